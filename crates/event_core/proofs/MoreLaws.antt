@@ -1,0 +1,93 @@
+-- The further laws of the relations.
+use Rattle.std.proofs.Common.{◌≡◌, ℕ, ◌<◌, ◌≤◌, List, refl, ap, subst, arith, ◌⊎◌, take}
+use Rattle.std.proofs.lemmas.Bool.{cases_order}
+use mathlib.Core.Logic.{inl, inr}
+use Rattle.event_core.specs.declared.ids.ThreadId.{ThreadId}
+use Rattle.event_core.specs.declared.ids.LockId.{LockId}
+use Rattle.event_core.specs.declared.events.Event.{Event}
+use Rattle.event_core.specs.declared.replies.Verdict.{Verdict}
+use Rattle.event_core.specs.declared.replies.Verdict.TheVariants.{Clear, Racy}
+use Rattle.event_core.specs.Verdict.{IsVerdict}
+use Rattle.event_core.specs.Log.{Of, depth, Section, InSection}
+use Rattle.event_core.specs.Order.{here, lock, Po, Hb}
+use Rattle.event_core.specs.Wcp.{Strict, rule_c_left, rule_c_right, Below}
+use Rattle.event_core.specs.Orderly.{Orderly}
+use Rattle.event_core.proofs.LogFacts.{of_does, of_one, sections_apart}
+use Rattle.event_core.proofs.Chains.{chain_trans, chain_one, hb_trans, hb_thread, po_thread, hb_forward, acquire_below, below_release}
+use Rattle.event_core.proofs.Main.{acquire_in, release_in}
+
+-- of a thread's events the earlier ones are below whatever a later one is below
+pub first_po : {log : List Event} {h i j : ℕ} (u : ThreadId) → Of log h u → Of log i u → h ≤ i → Po log i j → Po log h j
+first_po u a b le p = chain_trans (po_thread u a b le) p
+
+pub first_hb : {log : List Event} {h i j : ℕ} (u : ThreadId) → Of log h u → Of log i u → h ≤ i → Hb log i j → Hb log h j
+first_hb u a b le p = hb_trans (hb_thread u a b le) p
+
+pub first_strict : {log : List Event} {h i j : ℕ} (u : ThreadId) → Of log h u → Of log i u → h ≤ i → Strict log i j → Strict log h j
+first_strict u a b le p = rule_c_left (hb_thread u a b le) p
+
+pub first_below : {log : List Event} {h i j : ℕ} (u : ThreadId) → Of log h u → Of log i u → h ≤ i → Below log i j → Below log h j
+first_below u a b le (inl s) = inl (first_strict u a b le s)
+first_below u a b le (inr p) = inr (first_po u a b le p)
+
+-- of two sections on one lock, the release of the one is below the acquire of the other
+pub sections_ordered : {log : List Event} {u v : ThreadId} {l : LockId} {a r b s : ℕ}
+    → Orderly log → Section log u l a r → Section log v l b s → r < s → Hb log r b
+sections_ordered {u = u} {v = v} {l = l} w p q lt = chain_one (lock u v l (sections_apart w p q lt) p.closed q.inside.opened)
+
+-- a section's acquire is the only one
+pub one_acquire : {log : List Event} {u v : ThreadId} {l : LockId} {a b r : ℕ} → Section log u l a r → Section log v l b r → a ≡ b
+one_acquire {log = log} {u = u} {v = v} {l = l} {a = a} {b = b} {r = r} p q = go (cases_order a b)
+  where
+    same : v ≡ u
+    same = of_one q.inside.of p.inside.of
+
+    q' : Section log u l b r
+    q' = subst (λ x. Section log x l b r) same q
+
+    apart : (c d : ℕ) → Section log u l c r → Section log u l d r → c < d → ⊥
+    apart c d x y lt =
+        let h : 0 < depth (take d log) u l = x.inside.held d lt y.inside.from in
+        let z : depth (take d log) u l ≡ 0 = y.inside.opened.outer in
+        omega arith
+
+    go : (a ≡ b) ⊎ ((a < b) ⊎ (b < a)) → a ≡ b
+    go (inl e) = e
+    go (inr (inl lt)) = absurd (apart a b p q' lt)
+    go (inr (inr gt)) = absurd (apart b a q' p gt)
+
+-- the premise of rule (b), as one pair
+pub premise_from : {log : List Event} {u v : ThreadId} {l : LockId} {a r b s : ℕ} → Section log u l a r → Section log v l b s
+    → Strict log a s → (e : ℕ) × (f : ℕ) × InSection log l r e × InSection log l s f × Strict log e f
+premise_from {a = a} {s = s} x y d = (a, s, acquire_in x, release_in y, d)
+
+pub premise_is : {log : List Event} {u : ThreadId} {l : LockId} {a r s e f : ℕ} → Section log u l a r
+    → InSection log l r e → InSection log l s f → Strict log e f → Strict log a s
+premise_is {log = log} {s = s} x p q d =
+    let same : p.acquire ≡ _ = one_acquire p.section x in
+    subst (λ i. Strict log i s) same (rule_c_right (rule_c_left (acquire_below p) d) (below_release q))
+
+-- a section whose acquire is below the end of another on its lock ends below it
+pub ends_below : {log : List Event} {u v : ThreadId} {l : LockId} {a r b s : ℕ}
+    → Orderly log → Section log u l a r → Section log v l b s → Hb log a s → Hb log r s
+ends_below {log = log} {u = u} {v = v} {l = l} {a = a} {r = r} {b = b} {s = s} w p q h = go (cases_order r s)
+  where
+    go : (r ≡ s) ⊎ ((r < s) ⊎ (s < r)) → Hb log r s
+    go (inl e) = subst (λ x. Hb log r x) e here
+    go (inr (inl lt)) = hb_trans (sections_ordered w p q lt) (hb_thread v (of_does q.inside.opened.does) (of_does q.closed.does) q.inside.from)
+    go (inr (inr gt)) =
+        let apart : s < a = sections_apart w q p gt in
+        let le : a ≤ s = hb_forward h in
+        absurd (omega arith)
+
+-- an event has one verdict
+pub one_verdict : (log : List Event) (j : ℕ) (v w : Verdict) → IsVerdict log j v → IsVerdict log j w → v ≡ w
+one_verdict log j Clear Clear p q = refl
+one_verdict log j Clear (Racy i) p q = absurd (p i q.0)
+one_verdict log j (Racy i) Clear p q = absurd (q i p.0)
+one_verdict log j (Racy i) (Racy k) p q = go (cases_order i k)
+  where
+    go : (i ≡ k) ⊎ ((i < k) ⊎ (k < i)) → Racy i ≡ Racy k
+    go (inl e) = ap Racy e
+    go (inr (inl lt)) = absurd (p.1 k lt q.0)
+    go (inr (inr gt)) = absurd (q.1 i gt p.0)
