@@ -25,7 +25,8 @@ use Rattle.event_core.proofs.CountLaws.{own, brought_hb}
 use Rattle.event_core.proofs.MoreLaws.{sections_ordered}
 use Rattle.event_core.proofs.Legality.{legal_reasons, when_none, any_at}
 use Rattle.event_core.proofs.Growth.{well_formed_last}
-use Rattle.event_core.specs.Turn.{Turn, Accesses, Opens, Closes, Joins, Inner, Reads, Writes}
+use Rattle.event_core.specs.declared.events.AccessKind.TheVariants.{Read, Write}
+use Rattle.event_core.specs.Turn.{Turn, Accesses, Opens, Closes, Joins, Inner}
 use Rattle.event_core.specs.Rows.{Rows, with_row, to_child, to_lock, rows_after, Counted, RowsStand}
 use Rattle.event_core.proofs.Counting.{nat_eq_same, nat_eq_other, counted_same, counted_longer, last_of, last_does, is_last, last_thread, last_op}
 use Rattle.event_core.proofs.Turning.{Fits, accesses, opens, closes, forks, joins, again, inner, last_closes, closes_at_one}
@@ -152,8 +153,8 @@ module _ (m : Limits) (log : List Event) (e : Event) (w : WellFormed m (log ++ e
 
   child_row : (k : Turn) → Fits log e k → (t : ThreadId) (g : ℕ → ℕ) (f : ℕ → ℕ → ℕ) → e.op ≡ Fork t → to_child k g f t.0 ≡ g
   child_row _ (forks u o) t g f a = let q : Fork t ≡ Fork u = sym a ∙ o in let r : t ≡ u = cc in subst (λ (v : ThreadId). with_row u.0 g f v.0 ≡ g) (sym r) (row_same u.0 g f)
-  child_row _ (accesses x Reads o) t g f a = absurd (let q : Fork t ≡ Load x = sym a ∙ o in cc)
-  child_row _ (accesses x Writes o) t g f a = absurd (let q : Fork t ≡ Store x = sym a ∙ o in cc)
+  child_row _ (accesses x Read o) t g f a = absurd (let q : Fork t ≡ Load x = sym a ∙ o in cc)
+  child_row _ (accesses x Write o) t g f a = absurd (let q : Fork t ≡ Store x = sym a ∙ o in cc)
   child_row _ (opens l o d) t g f a = absurd (let q : Fork t ≡ Acquire l = sym a ∙ o in cc)
   child_row _ (closes l o d) t g f a = absurd (let q : Fork t ≡ Release l = sym a ∙ o in cc)
   child_row _ (joins u o) t g f a = absurd (let q : Fork t ≡ Join u = sym a ∙ o in cc)
@@ -244,8 +245,8 @@ module _ (m : Limits) (log : List Event) (e : Event) (w : WellFormed m (log ++ e
       go (inl q) = inl (subst (λ x. OuterRelease (log ++ e ∷ []) (length log) e.thread x) (sym q) (last_closes log e n o d), subst (λ (x : LockId). with_row n.0 g f x.0 ≡ g) (sym q) (row_same n.0 g f))
       go (inr ne) = inr (λ c. ne (let h : Release n ≡ Release l = sym o ∙ does_op (last_does log e) c.does in cc), row_other n.0 g f l.0 (λ q. ne (same_lock_id q)))
   closes_cases l _ (forks u o) g f = inr (λ c. absurd (let q : Release l ≡ Fork u = does_op c.does (last_does log e) ∙ o in cc), refl)
-  closes_cases l _ (accesses x Reads o) g f = inr (λ c. absurd (let q : Release l ≡ Load x = does_op c.does (last_does log e) ∙ o in cc), refl)
-  closes_cases l _ (accesses x Writes o) g f = inr (λ c. absurd (let q : Release l ≡ Store x = does_op c.does (last_does log e) ∙ o in cc), refl)
+  closes_cases l _ (accesses x Read o) g f = inr (λ c. absurd (let q : Release l ≡ Load x = does_op c.does (last_does log e) ∙ o in cc), refl)
+  closes_cases l _ (accesses x Write o) g f = inr (λ c. absurd (let q : Release l ≡ Store x = does_op c.does (last_does log e) ∙ o in cc), refl)
   closes_cases l _ (opens n o d) g f = inr (λ c. absurd (let q : Release l ≡ Acquire n = does_op c.does (last_does log e) ∙ o in cc), refl)
   closes_cases l _ (joins u o) g f = inr (λ c. absurd (let q : Release l ≡ Join u = does_op c.does (last_does log e) ∙ o in cc), refl)
   closes_cases l _ (again n o d) g f = inr (λ c. absurd (let q : Release l ≡ Acquire n = does_op c.does (last_does log e) ∙ o in cc), refl)

@@ -14,12 +14,14 @@ use Rattle.event_core.specs.Log.{Does, depth, acquires, releases, OuterAcquire, 
 use Rattle.event_core.specs.Orderly.{Orderly}
 use Rattle.event_core.proofs.Depth.{count_snoc, acquires_is}
 use Rattle.event_core.proofs.DepthLaws.{releases_is, does_release, depth_acquire}
-use Rattle.event_core.specs.Turn.{Kind, Reads, Writes, access_of, Turn, Accesses, Opens, Closes, Forks, Joins, Inner, turn_of}
+use Rattle.event_core.specs.declared.events.AccessKind.{AccessKind}
+use Rattle.event_core.specs.declared.events.AccessKind.TheVariants.{Read, Write}
+use Rattle.event_core.specs.Turn.{access_of, Turn, Accesses, Opens, Closes, Forks, Joins, Inner, turn_of}
 use Rattle.event_core.proofs.Counting.{nat_eq_other, last_does}
 
 -- the turn is that of the event after the log
 pub data Fits (log : List Event) (e : Event) : Turn → Type 0 where
-  accesses : (x : VarId) (k : Kind) → e.op ≡ access_of x k → Fits log e (Accesses x k)
+  accesses : (x : VarId) (k : AccessKind) → e.op ≡ access_of x k → Fits log e (Accesses x k)
   opens : (l : LockId) → e.op ≡ Acquire l → depth log e.thread l ≡ 0 → Fits log e (Opens l)
   closes : (l : LockId) → e.op ≡ Release l → depth log e.thread l ≡ 1 → Fits log e (Closes l)
   forks : (u : ThreadId) → e.op ≡ Fork u → Fits log e (Forks u)
@@ -31,8 +33,8 @@ pub fits : (log : List Event) (e : Event) (d : ℕ → ℕ) → ((l : LockId) �
 fits log e d is = go e.op refl
   where
     go : (o : Op) → e.op ≡ o → Fits log e (turn_of d o)
-    go (Load x) p = accesses x Reads p
-    go (Store x) p = accesses x Writes p
+    go (Load x) p = accesses x Read p
+    go (Store x) p = accesses x Write p
     go (Fork u) p = forks u p
     go (Join u) p = joins u p
     go (Acquire l) p = by (cases_eq (d l.0) 0)

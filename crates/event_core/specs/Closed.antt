@@ -8,7 +8,8 @@ use Rattle.event_core.specs.declared.events.Event.{Event}
 use Rattle.event_core.specs.Log.{Does, OuterAcquire, depth, Section}
 use Rattle.event_core.specs.Order.{Hb}
 use Rattle.event_core.specs.Count.{events_of}
-use Rattle.event_core.specs.Turn.{Kind, access_of}
+use Rattle.event_core.specs.declared.events.AccessKind.{AccessKind}
+use Rattle.event_core.specs.Turn.{access_of}
 use Rattle.event_core.specs.Rows.{no_clock, join, Counted}
 
 -- the section that u's outer acquire a opened is open at the log's end
@@ -17,7 +18,7 @@ pub record Open (log : List Event) (u : ThreadId) (l : LockId) (a : ℕ) : Type 
   pub held : (k : ℕ) → a < k → k ≤ length log → 0 < depth (take k log) u l
 
 -- the thread's open section on the lock has such an access
-pub record Noted (log : List Event) (t : ThreadId) (l : LockId) (x : VarId) (k : Kind) : Type 0 where
+pub record Noted (log : List Event) (t : ThreadId) (l : LockId) (x : VarId) (k : AccessKind) : Type 0 where
   pub acquire : ℕ
   pub is_open : Open log t l acquire
   pub access : ℕ
@@ -25,7 +26,7 @@ pub record Noted (log : List Event) (t : ThreadId) (l : LockId) (x : VarId) (k :
   pub does : Does log access t (access_of x k)
 
 -- i is below the release of another thread's section on the lock with such an access
-pub record Others (log : List Event) (l : LockId) (x : VarId) (k : Kind) (t : ThreadId) (i : ℕ) : Type 0 where
+pub record Others (log : List Event) (l : LockId) (x : VarId) (k : AccessKind) (t : ThreadId) (i : ℕ) : Type 0 where
   pub thread : ThreadId
   pub other : thread ≡ t → ⊥
   pub acquire : ℕ

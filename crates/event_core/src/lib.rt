@@ -10,7 +10,7 @@ mod replies;
 mod steps;
 
 pub use bounds::{LimitFault, Limits, MOST_EVENTS, MOST_LOCKS, MOST_THREADS, MOST_VARS, Roots};
-pub use events::{Act, Call, Event, Op};
+pub use events::{AccessKind, Act, Call, Event, Op};
 pub use ids::{LockId, SiteId, ThreadId, VarId};
 pub use logs::Log;
 pub use replies::{Done, OutOfMemory, Outcome, Refusal, Reply, SwapReply, Verdict};
