@@ -6,7 +6,8 @@ use Rattle.event_core.specs.declared.ids.ThreadId.{ThreadId}
 use Rattle.event_core.specs.declared.ids.LockId.{LockId}
 use Rattle.event_core.specs.declared.events.Event.{Event}
 use Rattle.event_core.specs.Log.{Of, InSection}
-use Rattle.event_core.specs.Order.{Chain, here, step, ProgramEdge, same_thread, fork_to_event, fork_to_join, event_to_join, HbEdge, program, lock, Po, Hb}
+use Rattle.event_core.specs.Order.{Chain, here, step, ProgramEdge, same_thread, fork_to_event, fork_to_join}
+use Rattle.event_core.specs.Order.{event_to_join, HbEdge, program, lock, Po, Hb}
 use Rattle.event_core.proofs.LogFacts.{of_does}
 
 pub chain_trans : {Edge : ℕ → ℕ → Type 0} {i g j : ℕ} → Chain Edge i g → Chain Edge g j → Chain Edge i j
@@ -16,9 +17,11 @@ chain_trans c (step d e) = step (chain_trans c d) e
 pub chain_one : {Edge : ℕ → ℕ → Type 0} {i j : ℕ} → Edge i j → Chain Edge i j
 chain_one e = step here e
 
-pub chain_forward : {Edge : ℕ → ℕ → Type 0} {i j : ℕ} → ((m n : ℕ) → Edge m n → m < n) → Chain Edge i j → i ≤ j
+pub chain_forward : {Edge : ℕ → ℕ → Type 0} {i j : ℕ} → ((m n : ℕ) → Edge m n → m < n) → Chain Edge i j
+    → i ≤ j
 chain_forward f here = omega arith
-chain_forward {j = j} f (step {g = g} c e) = let lt : g < j = f g j e in let le = chain_forward f c in omega arith
+chain_forward {j = j} f (step {g = g} c e) =
+    let lt : g < j = f g j e in let le = chain_forward f c in omega arith
 
 pub program_forward : {log : List Event} (i j : ℕ) → ProgramEdge log i j → i < j
 program_forward i j (same_thread u lt a b) = lt

@@ -19,7 +19,8 @@ use Rattle.event_core.proofs.CountLaws.{Brought, itself, own, by_join, by_lock, 
 pub data NewBelow (log : List Event) (e : Event) (i : ℕ) : Type 0 where
   by_thread : Past log (Hb log) e.thread i → NewBelow log e i
   by_joined : (u : ThreadId) → e.op ≡ Join u → Past log (Hb log) u i → NewBelow log e i
-  by_lock_of : (l : LockId) → e.op ≡ Acquire l → depth log e.thread l ≡ 0 → LockPast log (Hb log) l i → NewBelow log e i
+  by_lock_of : (l : LockId) → e.op ≡ Acquire l → depth log e.thread l ≡ 0 → LockPast log (Hb log) l i
+      → NewBelow log e i
 
 last_of : (log : List Event) (e : Event) → Of (log ++ e ∷ []) (length log) e.thread
 last_of log e = record { event = e; at = get_last log e; thread = refl }
@@ -27,23 +28,31 @@ last_of log e = record { event = e; at = get_last log e; thread = refl }
 is_last : (log : List Event) (e : Event) → Does (log ++ e ∷ []) (length log) e.thread e.op
 is_last log e = record { event = e; at = get_last log e; thread = refl; does = refl }
 
-pub step_to : (log : List Event) (e : Event) (i : ℕ) → Hb (log ++ e ∷ []) i (length log) → (i ≡ length log) ⊎ NewBelow log e i
+pub step_to : (log : List Event) (e : Event) (i : ℕ) → Hb (log ++ e ∷ []) i (length log)
+    → (i ≡ length log) ⊎ NewBelow log e i
 step_to log e i h = go (hb_brought (log ++ e ∷ []) e.thread i (length log) (last_of log e) h)
   where
     a : Agree (length log) (log ++ e ∷ []) log
     a = back (longer log (e ∷ []))
 
-    source : (t : ThreadId) (g : ℕ) → g < length log → (Of (log ++ e ∷ []) g t ⊎ ((v : ThreadId) × Does (log ++ e ∷ []) g v (Fork t))) → Of log g t ⊎ ((v : ThreadId) × Does log g v (Fork t))
+    source : (t : ThreadId) (g : ℕ) → g < length log
+        → (Of (log ++ e ∷ []) g t ⊎ ((v : ThreadId) × Does (log ++ e ∷ []) g v (Fork t)))
+        → Of log g t ⊎ ((v : ThreadId) × Does log g v (Fork t))
     source t g lt (inl o) = inl (of a lt o)
     source t g lt (inr d) = inr (d.0, does a lt d.1)
 
     go : Brought (log ++ e ∷ []) e.thread i (length log) → (i ≡ length log) ⊎ NewBelow log e i
     go (itself same) = inl same
     go (own g lt s c) = inr (by_thread (g, source e.thread g lt s, hb_too a lt c))
-    go (by_join u g lt d s c) = inr (by_joined u (does_op (is_last log e) d) (g, source u g lt s, hb_too a lt c))
-    go (by_lock l g lt d r c) = inr (by_lock_of l (does_op (is_last log e) d.does) (subst (λ xs. depth xs e.thread l ≡ 0) (take-append_seam log (e ∷ [])) d.outer) (g, (r.0, releases_it a lt r.1), hb_too a lt c))
+    go (by_join u g lt d s c) =
+        inr (by_joined u (does_op (is_last log e) d) (g, source u g lt s, hb_too a lt c))
+    go (by_lock l g lt d r c) =
+        inr (by_lock_of l (does_op (is_last log e) d.does)
+        (subst (λ xs. depth xs e.thread l ≡ 0) (take-append_seam log (e ∷ [])) d.outer)
+        (g, (r.0, releases_it a lt r.1), hb_too a lt c))
 
-within : (log : List Event) (g : ℕ) (t : ThreadId) → (Of log g t ⊎ ((v : ThreadId) × Does log g v (Fork t))) → g < length log
+within : (log : List Event) (g : ℕ) (t : ThreadId) → (Of log g t ⊎ ((v : ThreadId) × Does log g v (Fork t)))
+    → g < length log
 within log g t (inl o) = slice_get_within log g o.event o.at
 within log g t (inr d) = slice_get_within log g d.1.event d.1.at
 
@@ -53,17 +62,23 @@ step_from log e i n = brought_hb (log ++ e ∷ []) e.thread i (length log) (last
     a : Agree (length log) log (log ++ e ∷ [])
     a = longer log (e ∷ [])
 
-    source : (t : ThreadId) (g : ℕ) → (Of log g t ⊎ ((v : ThreadId) × Does log g v (Fork t))) → Of (log ++ e ∷ []) g t ⊎ ((v : ThreadId) × Does (log ++ e ∷ []) g v (Fork t))
+    source : (t : ThreadId) (g : ℕ) → (Of log g t ⊎ ((v : ThreadId) × Does log g v (Fork t)))
+        → Of (log ++ e ∷ []) g t ⊎ ((v : ThreadId) × Does (log ++ e ∷ []) g v (Fork t))
     source t g (inl o) = inl (of a (within log g t (inl o)) o)
     source t g (inr d) = inr (d.0, does a (within log g t (inr d)) d.1)
 
     go : NewBelow log e i → Brought (log ++ e ∷ []) e.thread i (length log)
-    go (by_thread p) = let lt = within log p.0 e.thread p.1 in own p.0 lt (source e.thread p.0 p.1) (hb_too a lt p.2)
+    go (by_thread p) =
+        let lt = within log p.0 e.thread p.1 in own p.0 lt (source e.thread p.0 p.1) (hb_too a lt p.2)
     go (by_joined u o p) =
         let lt = within log p.0 u p.1 in
-        by_join u p.0 lt (record { event = e; at = get_last log e; thread = refl; does = o }) (source u p.0 p.1) (hb_too a lt p.2)
+        by_join u p.0 lt (record { event = e; at = get_last log e; thread = refl; does = o })
+        (source u p.0 p.1) (hb_too a lt p.2)
     go (by_lock_of l o z p) =
         let lt : p.0 < length log = slice_get_within log p.0 p.1.1.does.event p.1.1.does.at in
         by_lock l p.0 lt
-        (record { does = record { event = e; at = get_last log e; thread = refl; does = o }; outer = subst (λ xs. depth xs e.thread l ≡ 0) (sym (take-append_seam log (e ∷ []))) z })
+        (record {
+          does = record { event = e; at = get_last log e; thread = refl; does = o };
+          outer = subst (λ xs. depth xs e.thread l ≡ 0) (sym (take-append_seam log (e ∷ []))) z;
+        })
         (p.1.0, releases_it a lt p.1.1) (hb_too a lt p.2)

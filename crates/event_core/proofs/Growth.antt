@@ -1,5 +1,6 @@
 -- A log is well formed when its beginning is and its last event is legal after it; a run has one answer.
-use Rattle.std.proofs.Common.{◌≡◌, ℕ, ◌<◌, ◌≤◌, ◌+◌, List, [], ◌∷◌, ◌++◌, length, refl, sym, ap, subst, ◌∙◌, arith, take, ◌⊎◌, slice_get, Some, None, length-append}
+use Rattle.std.proofs.Common.{◌≡◌, ℕ, ◌<◌, ◌≤◌, ◌+◌, List, [], ◌∷◌, ◌++◌, length, refl, sym, ap, subst, ◌∙◌}
+use Rattle.std.proofs.Common.{arith, take, ◌⊎◌, slice_get, Some, None, length-append}
 use Rattle.std.proofs.lemmas.Bool.{cases_lt}
 use Rattle.std.proofs.lemmas.List.{take-append-le}
 use Rattle.std.proofs.lemmas.Option.{slice_get_within}
@@ -26,43 +27,56 @@ well_formed_front m log more w = record { legal = legal }
     legal : (i : ℕ) (e : Event) → slice_get log i ≡ Some e → Legal m (take i log) e
     legal i e at =
         let lt : i < length log = slice_get_within log i e at in
-        subst (λ xs. Legal m xs e) (take-append-le i log more (omega arith)) (w.legal i e (sym ((longer log more).events i lt) ∙ at))
+        subst (λ xs. Legal m xs e) (take-append-le i log more (omega arith))
+        (w.legal i e (sym ((longer log more).events i lt) ∙ at))
 
-pub well_formed_last : (m : Limits) (log : List Event) (e : Event) → WellFormed m (log ++ e ∷ []) → Legal m log e
-well_formed_last m log e w = subst (λ xs. Legal m xs e) (take-append_seam log (e ∷ [])) (w.legal (length log) e (get_last log e))
+pub well_formed_last : (m : Limits) (log : List Event) (e : Event) → WellFormed m (log ++ e ∷ [])
+    → Legal m log e
+well_formed_last m log e w =
+    subst (λ xs. Legal m xs e) (take-append_seam log (e ∷ [])) (w.legal (length log) e (get_last log e))
 
-pub well_formed_grown : (m : Limits) (log : List Event) (e : Event) → WellFormed m log → Legal m log e → WellFormed m (log ++ e ∷ [])
+pub well_formed_grown : (m : Limits) (log : List Event) (e : Event) → WellFormed m log → Legal m log e
+    → WellFormed m (log ++ e ∷ [])
 well_formed_grown m log e w l = record { legal = λ i x at. go i x at (cases_lt i (length log)) }
   where
-    go : (i : ℕ) (x : Event) → slice_get (log ++ e ∷ []) i ≡ Some x → (i < length log) ⊎ (length log ≤ i) → Legal m (take i (log ++ e ∷ [])) x
-    go i x at (inl lt) = subst (λ xs. Legal m xs x) (sym (take-append-le i log (e ∷ []) (omega arith))) (w.legal i x ((longer log (e ∷ [])).events i lt ∙ at))
+    go : (i : ℕ) (x : Event) → slice_get (log ++ e ∷ []) i ≡ Some x → (i < length log) ⊎ (length log ≤ i)
+        → Legal m (take i (log ++ e ∷ [])) x
+    go i x at (inl lt) =
+        subst (λ xs. Legal m xs x) (sym (take-append-le i log (e ∷ []) (omega arith)))
+        (w.legal i x ((longer log (e ∷ [])).events i lt ∙ at))
     go i x at (inr ge) =
         let within : i < length (log ++ e ∷ []) = slice_get_within (log ++ e ∷ []) i x at in
         let long : length (log ++ e ∷ []) ≡ length log + 1 = length-append log (e ∷ []) in
         let is : length log ≡ i = omega arith in
         let here : Some e ≡ Some x = sym (get_last log e) ∙ ap (slice_get (log ++ e ∷ [])) is ∙ at in
         let same : e ≡ x = cc in
-        subst (λ y. Legal m (take i (log ++ e ∷ [])) y) same (subst (λ k. Legal m (take k (log ++ e ∷ [])) e) is (subst (λ xs. Legal m xs e) (sym (take-append_seam log (e ∷ []))) l))
+        subst (λ y. Legal m (take i (log ++ e ∷ [])) y) same
+        (subst (λ k. Legal m (take k (log ++ e ∷ [])) e) is
+        (subst (λ xs. Legal m xs e) (sym (take-append_seam log (e ∷ []))) l))
 
 same_reply : (a b : Reply) → a.index ≡ b.index → a.value ≡ b.value → a.verdict ≡ b.verdict → a ≡ b
 same_reply a b p q r = λ i. record { index = p i; value = q i; verdict = r i }
 
 -- a call has one outcome, and a run one list of them
-pub one_outcome : (m : Limits) (log : List Event) (c : Call) (a b : Outcome) → IsOutcome m log c a → IsOutcome m log c b → a ≡ b
+pub one_outcome : (m : Limits) (log : List Event) (c : Call) (a b : Outcome) → IsOutcome m log c a
+    → IsOutcome m log c b → a ≡ b
 one_outcome m log c (Refused r) (Refused s) p q = let same : Some r ≡ Some s = sym p ∙ q in cc
 one_outcome m log c (Refused r) (Accepted a) p q = absurd (let same : Some r ≡ None = sym p ∙ q.0 in cc)
 one_outcome m log c (Accepted a) (Refused s) p q = absurd (let same : Some s ≡ None = sym q ∙ p.0 in cc)
 one_outcome m log c (Accepted a) (Accepted b) p q =
     let index : a.index ≡ b.index = p.1 ∙ sym q.1 in
     let value : a.value ≡ b.value = p.2 ∙ sym q.2 in
-    let verdict : a.verdict ≡ b.verdict = one_verdict (log ++ event_of log c ∷ []) (length log) a.verdict b.verdict p.3 q.3 in
+    let verdict : a.verdict ≡ b.verdict
+    = one_verdict (log ++ event_of log c ∷ []) (length log) a.verdict b.verdict p.3 q.3 in
     ap Accepted (same_reply a b index value verdict)
 
-pub one_run : (m : Limits) (log : List Event) (cs : List Call) (os bs : List Outcome) (x y : List Event) → IsRun m log cs os x → IsRun m log cs bs y → (os ≡ bs) × (x ≡ y)
+pub one_run : (m : Limits) (log : List Event) (cs : List Call) (os bs : List Outcome) (x y : List Event)
+    → IsRun m log cs os x → IsRun m log cs bs y → (os ≡ bs) × (x ≡ y)
 one_run m log [] [] [] x y p q = (refl, p ∙ sym q)
 one_run m log (c ∷ cs) (a ∷ os') (b ∷ bs) x y p q =
     let same : a ≡ b = one_outcome m log c a b p.0 q.0 in
-    let q' : IsRun m (log_after log c a) cs bs y = subst (λ o. IsRun m (log_after log c o) cs bs y) (sym same) q.1 in
+    let q' : IsRun m (log_after log c a) cs bs y
+    = subst (λ o. IsRun m (log_after log c o) cs bs y) (sym same) q.1 in
     let rest = one_run m (log_after log c a) cs os' bs x y p.1 q' in
     let tails : os' ≡ bs = rest.0 in
     (let whole : a ∷ os' ≡ b ∷ bs = cc in whole, rest.1)

@@ -8,7 +8,11 @@ pub mod Legality
 pub mod Stable
 pub mod MoreLaws
 pub mod DepthLaws
-pub mod Rows
+pub mod SmallTests
+pub mod SmallLogs
+pub mod SmallOrders
+pub mod SmallSections
+pub mod SmallRuns
 pub mod Slots
 pub mod CountLaws
 pub mod StrictStep
@@ -20,3 +24,10 @@ pub mod PlainMeaning
 pub mod Counting
 pub mod Turning
 pub mod Growing
+pub mod EndedLaw
+pub mod Swaps
+pub mod RunFacts
+pub mod OwnCount
+pub mod NewestFacts
+pub mod StepLaws
+pub mod Members

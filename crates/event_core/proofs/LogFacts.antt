@@ -10,7 +10,8 @@ use Rattle.event_core.specs.declared.events.Op.TheVariants.{Acquire, Release}
 use Rattle.event_core.specs.Log.{Does, Of, depth, Inside, Section}
 use Rattle.event_core.specs.Orderly.{Orderly}
 
-pub does_thread : {log : List Event} {i : ℕ} {u v : ThreadId} {p q : Op} → Does log i u p → Does log i v q → u ≡ v
+pub does_thread : {log : List Event} {i : ℕ} {u v : ThreadId} {p q : Op} → Does log i u p → Does log i v q
+    → u ≡ v
 does_thread d e = let same : Some d.event ≡ Some e.event = sym d.at ∙ e.at in cc
 
 pub does_op : {log : List Event} {i : ℕ} {u v : ThreadId} {p q : Op} → Does log i u p → Does log i v q → p ≡ q
@@ -23,10 +24,12 @@ pub of_one : {log : List Event} {i : ℕ} {u v : ThreadId} → Of log i u → Of
 of_one d e = let same : Some d.event ≡ Some e.event = sym d.at ∙ e.at in cc
 
 -- an event does not acquire and release
-pub acquire_no_release : {log : List Event} {i : ℕ} {u v : ThreadId} {l m : LockId} → Does log i u (Acquire l) → Does log i v (Release m) → ⊥
+pub acquire_no_release : {log : List Event} {i : ℕ} {u v : ThreadId} {l m : LockId} → Does log i u (Acquire l)
+    → Does log i v (Release m) → ⊥
 acquire_no_release d e = let same : Acquire _ ≡ Release _ = does_op d e in cc
 
-pub release_lock : {log : List Event} {i : ℕ} {u v : ThreadId} {l m : LockId} → Does log i u (Release l) → Does log i v (Release m) → l ≡ m
+pub release_lock : {log : List Event} {i : ℕ} {u v : ThreadId} {l m : LockId} → Does log i u (Release l)
+    → Does log i v (Release m) → l ≡ m
 release_lock d e = let same : Release _ ≡ Release _ = does_op d e in cc
 
 -- the event that opens a section is in it
@@ -36,23 +39,28 @@ inside_opener h = of_does h.opened.does
 -- of two sections on one lock, the one that ends first ends before the other begins
 pub sections_apart : {log : List Event} {u v : ThreadId} {l : LockId} {a r b s : ℕ}
     → Orderly log → Section log u l a r → Section log v l b s → r < s → r < b
-sections_apart {log = log} {u = u} {v = v} {l = l} {a = a} {r = r} {b = b} {s = s} w p q lt = go (cases_lt r b)
+sections_apart {log = log} {u = u} {v = v} {l = l} {a = a} {r = r} {b = b} {s = s} w p q lt =
+    go (cases_lt r b)
   where
     b_not_r : b ≡ r → ⊥
-    b_not_r e = acquire_no_release (subst (λ x. Does log x v (Acquire l)) e q.inside.opened.does) p.closed.does
+    b_not_r e =
+        acquire_no_release (subst (λ x. Does log x v (Acquire l)) e q.inside.opened.does) p.closed.does
 
     a_not_r : a ≡ r → ⊥
-    a_not_r e = acquire_no_release (subst (λ x. Does log x u (Acquire l)) e p.inside.opened.does) p.closed.does
+    a_not_r e =
+        acquire_no_release (subst (λ x. Does log x u (Acquire l)) e p.inside.opened.does) p.closed.does
 
     below : (b < r) → ⊥
     below h =
-        let a_lt : a < r = (let from : a ≤ r = p.inside.from in let ne : a ≡ r → ⊥ = a_not_r in omega arith) in
+        let a_lt : a < r
+        = (let from : a ≤ r = p.inside.from in let ne : a ≡ r → ⊥ = a_not_r in omega arith) in
         let mine : 0 < depth (take r log) u l = p.inside.held r a_lt (omega arith) in
         let theirs : 0 < depth (take r log) v l = q.inside.held r h (omega arith) in
         let same : u ≡ v = w.one_holder r u v l mine theirs in
         let after : 0 < depth (take (suc r) log) v l = q.inside.held (suc r) (omega arith) (omega arith) in
         let none : depth (take (suc r) log) u l ≡ 0 = p.closed.outer in
-        let none' : depth (take (suc r) log) v l ≡ 0 = subst (λ x. depth (take (suc r) log) x l ≡ 0) same none in
+        let none' : depth (take (suc r) log) v l ≡ 0
+        = subst (λ x. depth (take (suc r) log) x l ≡ 0) same none in
         omega arith
 
     go : (r < b) ⊎ (b ≤ r) → r < b

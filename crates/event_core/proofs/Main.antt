@@ -27,16 +27,28 @@ strict_forward (rule_c_right s h) = let le = hb_forward h in let lt = strict_for
 -- every closed set of pairs contains them
 pub strict_least : {log : List Event} {i j : ℕ} (R : ℕ → ℕ → Type 0) → IsClosed log R → Strict log i j → R i j
 strict_least R c (rule_a {r = r} {j = j} m) = c.a r j m
-strict_least R c (rule_b {r = r} {s = s} {e = e} {f = f} l lt p q d) = c.b r s e f l lt p q (strict_least R c d)
+strict_least R c (rule_b {r = r} {s = s} {e = e} {f = f} l lt p q d) =
+    c.b r s e f l lt p q (strict_least R c d)
 strict_least R c (rule_c_left {i = i} {g = g} {j = j} h d) = c.left i g j h (strict_least R c d)
 strict_least R c (rule_c_right {i = i} {g = g} {j = j} d h) = c.right i g j (strict_least R c d) h
 
 -- a section's own ends are in it
-pub acquire_in : {log : List Event} {u : ThreadId} {l : LockId} {a r : ℕ} → Section log u l a r → InSection log l r a
-acquire_in {u = u} {a = a} s = record { thread = u; acquire = a; section = s; of = of_does s.inside.opened.does; from = omega arith; to = s.inside.from }
+pub acquire_in : {log : List Event} {u : ThreadId} {l : LockId} {a r : ℕ} → Section log u l a r
+    → InSection log l r a
+acquire_in {u = u} {a = a} s =
+    record {
+      thread = u;
+      acquire = a;
+      section = s;
+      of = of_does s.inside.opened.does;
+      from = omega arith;
+      to = s.inside.from;
+    }
 
-pub release_in : {log : List Event} {u : ThreadId} {l : LockId} {a r : ℕ} → Section log u l a r → InSection log l r r
-release_in {u = u} {a = a} s = record { thread = u; acquire = a; section = s; of = s.inside.of; from = s.inside.from; to = omega arith }
+pub release_in : {log : List Event} {u : ThreadId} {l : LockId} {a r : ℕ} → Section log u l a r
+    → InSection log l r r
+release_in {u = u} {a = a} s =
+    record { thread = u; acquire = a; section = s; of = s.inside.of; from = s.inside.from; to = omega arith }
 
 -- the recurrence gives strict pairs only
 pub pre_strict : {log : List Event} {i j : ℕ} → Orderly log → Pre log i j → Strict log i j
@@ -53,9 +65,11 @@ pre_left h (access k m) = access (hb_trans h k) m
 pre_left h (release u v l lt s o n p k) = release u v l lt s o n p (hb_trans h k)
 
 -- a member of an event is one of each event above it
-pub pre_right : (log : List Event) (bound i g j : ℕ) → Orderly log → j < bound → Pre log i g → Hb log g j → Pre log i j
+pub pre_right : (log : List Event) (bound i g j : ℕ) → Orderly log → j < bound → Pre log i g → Hb log g j
+    → Pre log i j
 pre_right log zero i g j w lt p h = absurd (omega arith)
-pre_right log (suc bound) i g j w lt p h = go (near_law log g j w h) (λ n m k. pre_right log bound i g n w m p k)
+pre_right log (suc bound) i g j w lt p h =
+    go (near_law log g j w h) (λ n m k. pre_right log bound i g n w m p k)
   where
     go : (g ≡ j) ⊎ Through log g j → ((n : ℕ) → n < bound → Hb log g n → Pre log i n) → Pre log i j
     go (inl e) ih = subst (λ x. Pre log i x) e p
@@ -65,8 +79,10 @@ pub pre_up : {log : List Event} {i g j : ℕ} → Orderly log → Pre log i g �
 pre_up {log = log} {i = i} {g = g} {j = j} w p h = pre_right log (suc j) i g j w (omega arith) p h
 
 -- a release is no access
-release_no_access : {log : List Event} {r j : ℕ} {v : ThreadId} {l : LockId} → Meets log r j → Does log j v (Release l) → ⊥
-release_no_access {log = log} {j = j} {v = v} {l = l} m d = go m.conflict.first m.conflict.second m.conflict.does_second m.conflict.ops
+release_no_access : {log : List Event} {r j : ℕ} {v : ThreadId} {l : LockId} → Meets log r j
+    → Does log j v (Release l) → ⊥
+release_no_access {log = log} {j = j} {v = v} {l = l} m d =
+    go m.conflict.first m.conflict.second m.conflict.does_second m.conflict.ops
   where
     go : (p q : Op) → Does log j m.conflict.other q → OpsConflict p q → ⊥
     go p q e o = by_op p q (does_op e d) o
@@ -78,10 +94,12 @@ release_no_access {log = log} {j = j} {v = v} {l = l} m d = go m.conflict.first 
         by_op _ _ same o = o
 
 -- rule (b): what is left to do once the earlier section's acquire is a member of the later release
-pub pre_b : {log : List Event} {u v : ThreadId} {l : LockId} {a r s : ℕ} → Orderly log → Section log u l a r → OuterRelease log s v l → r < s → Pre log a s → Pre log r s
+pub pre_b : {log : List Event} {u v : ThreadId} {l : LockId} {a r s : ℕ} → Orderly log → Section log u l a r
+    → OuterRelease log s v l → r < s → Pre log a s → Pre log r s
 pre_b w p o lt (old n q) = release _ _ _ lt p o n q here
 pre_b w p o lt (access h m) = absurd (release_no_access m o.does)
-pre_b {log = log} {u = u} {v = v} {l = l} {a = a} {r = r} {s = s} w p o lt (release {a = b} {r = t} u' v' l' lt' p' o' n q h) = go (cases_order r t)
+pre_b {log = log} {u = u} {v = v} {l = l} {a = a} {r = r} {s = s} w p o lt
+    (release {a = b} {r = t} u' v' l' lt' p' o' n q h) = go (cases_order r t)
   where
     same_lock : l' ≡ l
     same_lock = release_lock o'.does o.does
@@ -93,7 +111,9 @@ pre_b {log = log} {u = u} {v = v} {l = l} {a = a} {r = r} {s = s} w p o lt (rele
     go (inl e) = release u' v l lt' p'' o n q (subst (λ x. Hb log r x) e here)
     go (inr (inl early)) =
         let apart : r < b = sections_apart w p p'' early in
-        let up : Hb log a b = hb_trans (hb_thread u (of_does p.inside.opened.does) (of_does p.closed.does) p.inside.from) (chain_one (lock u u' l apart p.closed p''.inside.opened)) in
+        let up : Hb log a b
+        = hb_trans (hb_thread u (of_does p.inside.opened.does) (of_does p.closed.does) p.inside.from)
+        (chain_one (lock u u' l apart p.closed p''.inside.opened)) in
         release u v l lt p o n (pre_left up q) here
     go (inr (inr late)) =
         let apart : t < a = sections_apart w p'' p late in

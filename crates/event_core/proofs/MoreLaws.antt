@@ -13,30 +13,37 @@ use Rattle.event_core.specs.Order.{here, lock, Po, Hb}
 use Rattle.event_core.specs.Wcp.{Strict, rule_c_left, rule_c_right, Below}
 use Rattle.event_core.specs.Orderly.{Orderly}
 use Rattle.event_core.proofs.LogFacts.{of_does, of_one, sections_apart}
-use Rattle.event_core.proofs.Chains.{chain_trans, chain_one, hb_trans, hb_thread, po_thread, hb_forward, acquire_below, below_release}
+use Rattle.event_core.proofs.Chains.{chain_trans, chain_one, hb_trans, hb_thread, po_thread, hb_forward}
+use Rattle.event_core.proofs.Chains.{acquire_below, below_release}
 use Rattle.event_core.proofs.Main.{acquire_in, release_in}
 
 -- of a thread's events the earlier ones are below whatever a later one is below
-pub first_po : {log : List Event} {h i j : ℕ} (u : ThreadId) → Of log h u → Of log i u → h ≤ i → Po log i j → Po log h j
+pub first_po : {log : List Event} {h i j : ℕ} (u : ThreadId) → Of log h u → Of log i u → h ≤ i → Po log i j
+    → Po log h j
 first_po u a b le p = chain_trans (po_thread u a b le) p
 
-pub first_hb : {log : List Event} {h i j : ℕ} (u : ThreadId) → Of log h u → Of log i u → h ≤ i → Hb log i j → Hb log h j
+pub first_hb : {log : List Event} {h i j : ℕ} (u : ThreadId) → Of log h u → Of log i u → h ≤ i → Hb log i j
+    → Hb log h j
 first_hb u a b le p = hb_trans (hb_thread u a b le) p
 
-pub first_strict : {log : List Event} {h i j : ℕ} (u : ThreadId) → Of log h u → Of log i u → h ≤ i → Strict log i j → Strict log h j
+pub first_strict : {log : List Event} {h i j : ℕ} (u : ThreadId) → Of log h u → Of log i u → h ≤ i
+    → Strict log i j → Strict log h j
 first_strict u a b le p = rule_c_left (hb_thread u a b le) p
 
-pub first_below : {log : List Event} {h i j : ℕ} (u : ThreadId) → Of log h u → Of log i u → h ≤ i → Below log i j → Below log h j
+pub first_below : {log : List Event} {h i j : ℕ} (u : ThreadId) → Of log h u → Of log i u → h ≤ i
+    → Below log i j → Below log h j
 first_below u a b le (inl s) = inl (first_strict u a b le s)
 first_below u a b le (inr p) = inr (first_po u a b le p)
 
 -- of two sections on one lock, the release of the one is below the acquire of the other
 pub sections_ordered : {log : List Event} {u v : ThreadId} {l : LockId} {a r b s : ℕ}
     → Orderly log → Section log u l a r → Section log v l b s → r < s → Hb log r b
-sections_ordered {u = u} {v = v} {l = l} w p q lt = chain_one (lock u v l (sections_apart w p q lt) p.closed q.inside.opened)
+sections_ordered {u = u} {v = v} {l = l} w p q lt =
+    chain_one (lock u v l (sections_apart w p q lt) p.closed q.inside.opened)
 
 -- a section's acquire is the only one
-pub one_acquire : {log : List Event} {u v : ThreadId} {l : LockId} {a b r : ℕ} → Section log u l a r → Section log v l b r → a ≡ b
+pub one_acquire : {log : List Event} {u v : ThreadId} {l : LockId} {a b r : ℕ} → Section log u l a r
+    → Section log v l b r → a ≡ b
 one_acquire {log = log} {u = u} {v = v} {l = l} {a = a} {b = b} {r = r} p q = go (cases_order a b)
   where
     same : v ≡ u
@@ -57,7 +64,8 @@ one_acquire {log = log} {u = u} {v = v} {l = l} {a = a} {b = b} {r = r} p q = go
     go (inr (inr gt)) = absurd (apart b a q' p gt)
 
 -- the premise of rule (b), as one pair
-pub premise_from : {log : List Event} {u v : ThreadId} {l : LockId} {a r b s : ℕ} → Section log u l a r → Section log v l b s
+pub premise_from : {log : List Event} {u v : ThreadId} {l : LockId} {a r b s : ℕ} → Section log u l a r
+    → Section log v l b s
     → Strict log a s → (e : ℕ) × (f : ℕ) × InSection log l r e × InSection log l s f × Strict log e f
 premise_from {a = a} {s = s} x y d = (a, s, acquire_in x, release_in y, d)
 
@@ -74,7 +82,9 @@ ends_below {log = log} {u = u} {v = v} {l = l} {a = a} {r = r} {b = b} {s = s} w
   where
     go : (r ≡ s) ⊎ ((r < s) ⊎ (s < r)) → Hb log r s
     go (inl e) = subst (λ x. Hb log r x) e here
-    go (inr (inl lt)) = hb_trans (sections_ordered w p q lt) (hb_thread v (of_does q.inside.opened.does) (of_does q.closed.does) q.inside.from)
+    go (inr (inl lt)) =
+        hb_trans (sections_ordered w p q lt)
+        (hb_thread v (of_does q.inside.opened.does) (of_does q.closed.does) q.inside.from)
     go (inr (inr gt)) =
         let apart : s < a = sections_apart w q p gt in
         let le : a ≤ s = hb_forward h in

@@ -7,7 +7,8 @@ use Rattle.event_core.specs.declared.ids.LockId.{LockId}
 use Rattle.event_core.specs.declared.events.Event.{Event}
 use Rattle.event_core.specs.declared.events.Op.TheVariants.{Fork, Join}
 use Rattle.event_core.specs.Log.{Does, Of, OuterAcquire, OuterRelease}
-use Rattle.event_core.specs.Order.{here, step, same_thread, fork_to_event, fork_to_join, event_to_join, HbEdge, program, lock, Hb}
+use Rattle.event_core.specs.Order.{here, step, same_thread, fork_to_event, fork_to_join, event_to_join}
+use Rattle.event_core.specs.Order.{HbEdge, program, lock, Hb}
 use Rattle.event_core.specs.Recurrence.{Near, previous, forked, joined, joined_fork, released}
 use Rattle.event_core.specs.Orderly.{Orderly}
 use Rattle.event_core.proofs.LogFacts.{of_does, sections_apart}
@@ -36,7 +37,8 @@ near_before (joined_fork u v w lt a b) = lt
 near_before (released u v l lt a b none) = lt
 
 -- an edge from an earlier event of j's own thread
-through_thread : (log : List Event) (g j : ℕ) (u : ThreadId) → g < j → Of log g u → Of log j u → Through log g j
+through_thread : (log : List Event) (g j : ℕ) (u : ThreadId) → g < j → Of log g u → Of log j u
+    → Through log g j
 through_thread log g j u lt a b =
     let p : Latest (λ k. Of log k u) j = latest_of (λ k. Of log k u) (of_cases log u) g j lt a in
     record {
@@ -45,7 +47,8 @@ through_thread log g j u lt a b =
       above = hb_thread u a p.holds (at_most_latest p lt a);
     }
 
-through_join : (log : List Event) (g j : ℕ) (u w : ThreadId) → g < j → Of log g u → Does log j w (Join u) → Through log g j
+through_join : (log : List Event) (g j : ℕ) (u w : ThreadId) → g < j → Of log g u → Does log j w (Join u)
+    → Through log g j
 through_join log g j u w lt a b =
     let p : Latest (λ k. Of log k u) j = latest_of (λ k. Of log k u) (of_cases log u) g j lt a in
     record {
@@ -54,7 +57,8 @@ through_join log g j u w lt a b =
       above = hb_thread u a p.holds (at_most_latest p lt a);
     }
 
-through_fork : (log : List Event) (g j : ℕ) (u v : ThreadId) → Orderly log → g < j → Does log g v (Fork u) → Of log j u → Through log g j
+through_fork : (log : List Event) (g j : ℕ) (u v : ThreadId) → Orderly log → g < j → Does log g v (Fork u)
+    → Of log j u → Through log g j
 through_fork log g j u v w lt a b = go (latest (λ k. Of log k u) (of_cases log u) j)
   where
     go : Latest (λ k. Of log k u) j ⊎ ((k : ℕ) → k < j → Of log k u → ⊥) → Through log g j
@@ -65,7 +69,8 @@ through_fork log g j u v w lt a b = go (latest (λ k. Of log k u) (of_cases log 
     }
     go (inr none) = record { index = g; near = forked u v lt a b none; above = here }
 
-through_lock : (log : List Event) (g j : ℕ) (u v : ThreadId) (l : LockId) → Orderly log → g < j → OuterRelease log g u l → OuterAcquire log j v l → Through log g j
+through_lock : (log : List Event) (g j : ℕ) (u v : ThreadId) (l : LockId) → Orderly log → g < j
+    → OuterRelease log g u l → OuterAcquire log j v l → Through log g j
 through_lock log g j u v l w lt a b = go (cases_lt g p.index)
   where
     P : ℕ → Type 0
@@ -99,7 +104,8 @@ through_lock log g j u v l w lt a b = go (cases_lt g p.index)
 pub edge_through : (log : List Event) (g j : ℕ) → Orderly log → HbEdge log g j → Through log g j
 edge_through log g j w (program (same_thread u lt a b)) = through_thread log g j u lt a b
 edge_through log g j w (program (fork_to_event u v lt a b)) = through_fork log g j u v w lt a b
-edge_through log g j w (program (fork_to_join u v t lt a b)) = record { index = g; near = joined_fork u v t lt a b; above = here }
+edge_through log g j w (program (fork_to_join u v t lt a b)) =
+    record { index = g; near = joined_fork u v t lt a b; above = here }
 edge_through log g j w (program (event_to_join u t lt a b)) = through_join log g j u t lt a b
 edge_through log g j w (lock u v l lt a b) = through_lock log g j u v l w lt a b
 

@@ -1,4 +1,5 @@
--- Logs in which no lock is acquired again: the relations and verdicts of the rule for such logs are those of the re-entrant rule.
+-- Logs in which no lock is acquired again: the relations and verdicts of the rule for such logs are those of
+-- the re-entrant rule.
 use Rattle.std.proofs.Common.{◌≡◌, ℕ, ◌<◌, List, arith, take}
 use mathlib.Core.Logic.{inl, inr}
 use Rattle.event_core.specs.declared.ids.ThreadId.{ThreadId}
@@ -14,7 +15,9 @@ use Rattle.event_core.specs.Order.{here, step, HbEdge, program, lock, Hb}
 use Rattle.event_core.specs.Wcp.{Meets, Strict, rule_a, rule_b, rule_c_left, rule_c_right, Below}
 use Rattle.event_core.specs.Verdict.{Races, IsVerdict}
 use Rattle.event_core.specs.Plain.{PlainWellFormed}
-use Rattle.event_core.specs.PlainWcp.{PlainHbEdge, plain_program, plain_lock, PlainHb, PlainInside, PlainInSection, PlainMeets, PlainStrict, plain_a, plain_b, plain_c_left, plain_c_right, PlainBelow, PlainRaces, IsPlainVerdict}
+use Rattle.event_core.specs.PlainWcp.{PlainHbEdge, plain_program, plain_lock, PlainHb, PlainInside}
+use Rattle.event_core.specs.PlainWcp.{PlainInSection, PlainMeets, PlainStrict, plain_a, plain_b, plain_c_left}
+use Rattle.event_core.specs.PlainWcp.{plain_c_right, PlainBelow, PlainRaces, IsPlainVerdict}
 use Rattle.event_core.proofs.DepthLaws.{inside_from, inside_to}
 use Rattle.event_core.proofs.Legality.{orderly}
 use Rattle.event_core.proofs.PlainLaw.{well_formed_too, plain_acquire, plain_release}
@@ -50,10 +53,14 @@ hb_from here = here
 hb_from (step c e) = step (hb_from c) (edge_from e)
 
 -- sections
-inside_plain_to : {log : List Event} {u : ThreadId} {l : LockId} {a i : ℕ} → Outer log → PlainInside log u l a i → Inside log u l a i
-inside_plain_to {log = log} {u = u} {l = l} {a = a} {i = i} w h = inside_from log u l a i w.order (w.acquire a u l h.opened) h.of h.from (λ k lt lt' r. h.unreleased k lt lt' r.does)
+inside_plain_to : {log : List Event} {u : ThreadId} {l : LockId} {a i : ℕ} → Outer log
+    → PlainInside log u l a i → Inside log u l a i
+inside_plain_to {log = log} {u = u} {l = l} {a = a} {i = i} w h =
+    inside_from log u l a i w.order (w.acquire a u l h.opened) h.of h.from
+    (λ k lt lt' r. h.unreleased k lt lt' r.does)
 
-inside_plain_from : {log : List Event} {u : ThreadId} {l : LockId} {a i : ℕ} → Outer log → Inside log u l a i → PlainInside log u l a i
+inside_plain_from : {log : List Event} {u : ThreadId} {l : LockId} {a i : ℕ} → Outer log → Inside log u l a i
+    → PlainInside log u l a i
 inside_plain_from {log = log} {u = u} {l = l} {a = a} {i = i} w h = record {
   opened = h.opened.does;
   of = h.of;
@@ -65,7 +72,8 @@ inside_plain_from {log = log} {u = u} {l = l} {a = a} {i = i} w h = record {
   unreleased = λ k lt lt' d. inside_to log u l a i k h lt lt' (w.release k u l d);
 }
 
-in_section_to : {log : List Event} {l : LockId} {r i : ℕ} → Outer log → PlainInSection log l r i → InSection log l r i
+in_section_to : {log : List Event} {l : LockId} {r i : ℕ} → Outer log → PlainInSection log l r i
+    → InSection log l r i
 in_section_to {l = l} {r = r} w s = record {
   thread = s.thread;
   acquire = s.acquire;
@@ -75,7 +83,8 @@ in_section_to {l = l} {r = r} w s = record {
   to = s.to;
 }
 
-in_section_from : {log : List Event} {l : LockId} {r i : ℕ} → Outer log → InSection log l r i → PlainInSection log l r i
+in_section_from : {log : List Event} {l : LockId} {r i : ℕ} → Outer log → InSection log l r i
+    → PlainInSection log l r i
 in_section_from w s = record {
   thread = s.thread;
   acquire = s.acquire;
@@ -133,15 +142,19 @@ below_from w (inr p) = inr p
 
 -- races and verdicts
 races_to : {log : List Event} {i j : ℕ} → Outer log → PlainRaces log i j → Races log i j
-races_to w r = record { before = r.before; conflict = r.conflict; unordered = λ b. r.unordered (below_from w b) }
+races_to w r =
+    record { before = r.before; conflict = r.conflict; unordered = λ b. r.unordered (below_from w b) }
 
 races_from : {log : List Event} {i j : ℕ} → Outer log → Races log i j → PlainRaces log i j
-races_from w r = record { before = r.before; conflict = r.conflict; unordered = λ b. r.unordered (below_to w b) }
+races_from w r =
+    record { before = r.before; conflict = r.conflict; unordered = λ b. r.unordered (below_to w b) }
 
-pub verdict_to : {log : List Event} (j : ℕ) (v : Verdict) → Outer log → IsPlainVerdict log j v → IsVerdict log j v
+pub verdict_to : {log : List Event} (j : ℕ) (v : Verdict) → Outer log → IsPlainVerdict log j v
+    → IsVerdict log j v
 verdict_to j Clear w none = λ i r. none i (races_from w r)
 verdict_to j (Racy i) w v = (races_to w v.0, λ k b r. v.1 k b (races_from w r))
 
-pub verdict_from : {log : List Event} (j : ℕ) (v : Verdict) → Outer log → IsVerdict log j v → IsPlainVerdict log j v
+pub verdict_from : {log : List Event} (j : ℕ) (v : Verdict) → Outer log → IsVerdict log j v
+    → IsPlainVerdict log j v
 verdict_from j Clear w none = λ i r. none i (races_to w r)
 verdict_from j (Racy i) w v = (races_from w v.0, λ k b r. v.1 k b (races_to w r))

@@ -1,4 +1,7 @@
 -- Swaps, and the runs of lists of acts.
+--
+-- A swap is a load and then a store of one variable by one thread, with nothing between: both events are
+-- added to the log, or none. An act is a call or a swap.
 use Rattle.std.specs.Prelude.{◌≡◌, ℕ, ◌+◌, List, [], ◌∷◌, ◌++◌, Option, Some, None, nat_le, not, length}
 use Rattle.std.specs.List.{list_any}
 use Rattle.event_core.specs.declared.ids.ThreadId.{ThreadId}
@@ -11,14 +14,20 @@ use Rattle.event_core.specs.declared.events.Act.TheVariants.{One, Swap}
 use Rattle.event_core.specs.declared.events.Op.TheVariants.{Load, Store}
 use Rattle.event_core.specs.declared.bounds.Limits.{Limits}
 use Rattle.event_core.specs.declared.replies.Refusal.{Refusal}
-use Rattle.event_core.specs.declared.replies.Refusal.TheVariants.{ThreadRange, NotStarted, Ended, TargetRange, LogFull}
+use Rattle.event_core.specs.declared.replies.Refusal.TheVariants.{ThreadRange, NotStarted, Ended, TargetRange}
+use Rattle.event_core.specs.declared.replies.Refusal.TheVariants.{LogFull}
 use Rattle.event_core.specs.declared.replies.SwapReply.{SwapReply}
 use Rattle.event_core.specs.declared.replies.Done.{Done}
 use Rattle.event_core.specs.declared.replies.Done.TheVariants.{One as Accepted, Swap as Swapped, Refused}
-use Rattle.event_core.specs.Refusal.{refusal, held_depths, first_of, when, forked, joins, in_range, event_of, value_of, last_value}
+use Rattle.event_core.specs.Refusal.{refusal, held_depths, first_of, when, forked, joins, in_range, event_of}
+use Rattle.event_core.specs.Refusal.{value_of, last_value}
 use Rattle.event_core.specs.Verdict.{IsVerdict}
 
--- why a swap of the variable is refused after the log, if it is: as its load, but it needs two slots
+-- the call for the load of a swap
+abbrev pub load_call : ThreadId → VarId → SiteId → Call
+load_call u x site = record { thread = u; op = Load x; site = site; arg = 0 }
+
+-- why a swap of the variable is refused after the log, if it is: as its load would be, but it needs two slots
 unfoldable pub swap_refusal : Limits → List Event → ThreadId → VarId → Option Refusal
 swap_refusal m log u x = first_of (
     when (nat_le m.threads u.0) ThreadRange
@@ -29,25 +38,28 @@ swap_refusal m log u x = first_of (
     ∷ []
     )
 
--- the two events of an accepted swap
+-- the first event of an accepted swap, which reads the last value stored
 abbrev pub swap_load : List Event → ThreadId → VarId → SiteId → Event
 swap_load log u x site = record { thread = u; op = Load x; site = site; value = last_value log x }
 
+-- the second event of an accepted swap, which stores its argument
 abbrev pub swap_store : ThreadId → VarId → SiteId → ℕ → Event
 swap_store u x site arg = record { thread = u; op = Store x; site = site; value = arg }
 
+-- the log after an accepted swap
 abbrev pub log_after_swap : List Event → ThreadId → VarId → SiteId → ℕ → List Event
 log_after_swap log u x site arg = log ++ swap_load log u x site ∷ swap_store u x site arg ∷ []
 
--- the reply to an accepted swap
-pub record IsSwapReply (m : Limits) (log : List Event) (u : ThreadId) (x : VarId) (site : SiteId) (arg : ℕ) (reply : SwapReply) : Type 0 where
+-- the reply to an accepted swap: the index of its load, the value that was read, and a verdict on each event
+pub record IsSwapReply (m : Limits) (log : List Event) (u : ThreadId) (x : VarId) (site : SiteId) (arg : ℕ)
+    (reply : SwapReply) : Type 0 where
   pub allowed : swap_refusal m log u x ≡ None
   pub index : reply.index ≡ length log
   pub value : reply.value ≡ last_value log x
   pub load : IsVerdict (log_after_swap log u x site arg) (length log) reply.load
   pub store : IsVerdict (log_after_swap log u x site arg) (length log + 1) reply.store
 
--- what became of an act after the log
+-- what becomes of an act after the log
 abbrev pub IsDone : Limits → List Event → Act → Done → Type 0
 IsDone m log (One c) (Accepted a) =
     (refusal m log c ≡ None) × (a.index ≡ length log) × (a.value ≡ value_of log c.op c.arg)
@@ -57,13 +69,13 @@ IsDone m log (Swap u x site arg) (Swapped a) = IsSwapReply m log u x site arg a
 IsDone m log (Swap u x site arg) (Refused r) = swap_refusal m log u x ≡ Some r
 IsDone m log _ _ = ⊥
 
--- the log after it
+-- the log after the act: only an accepted one adds to it
 abbrev pub log_after_act : List Event → Act → Done → List Event
 log_after_act log (One c) (Accepted a) = log ++ event_of log c ∷ []
 log_after_act log (Swap u x site arg) (Swapped a) = log_after_swap log u x site arg
 log_after_act log _ _ = log
 
--- what became of the acts from the log on, and the log at the end
+-- the run of the acts from the log on: what becomes of them one after another, and the log at the end
 abbrev pub IsActRun : Limits → List Event → List Act → List Done → List Event → Type 0
 IsActRun m log [] [] end = end ≡ log
 IsActRun m log (a ∷ as') (d ∷ ds) end = IsDone m log a d × IsActRun m (log_after_act log a d) as' ds end

@@ -4,7 +4,8 @@ use Rattle.event_core.specs.declared.bounds.Roots.{Roots}
 use Rattle.event_core.specs.declared.bounds.LimitFault.{LimitFault}
 use Rattle.event_core.specs.declared.bounds.LimitFault.TheVariants.{Threads, Locks, Vars, Events}
 
--- what contracts see of limits
+-- what contracts see of limits: how many threads, locks, variables and events there may be, and which
+-- threads run from the beginning
 pub record Bounds : Type 0 where
   pub threads : ℕ
   pub locks : ℕ

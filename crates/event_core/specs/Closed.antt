@@ -1,4 +1,5 @@
--- Open and closed sections, as clocks see them.
+-- Sections as the clocks keep them: open ones, with the accesses that they have had, and closed ones, with
+-- the position of the acquire and the clock of the release.
 use Rattle.std.specs.Prelude.{ℕ, ◌≡◌, ◌+◌, ◌<◌, ◌≤◌, List, [], ◌∷◌, length, Bool, cond, nat_le}
 use Rattle.std.proofs.Math.ListN.{take}
 use Rattle.event_core.specs.declared.ids.ThreadId.{ThreadId}
@@ -25,8 +26,9 @@ pub record Noted (log : List Event) (t : ThreadId) (l : LockId) (x : VarId) (k :
   pub from : acquire ≤ access
   pub does : Does log access t (access_of x k)
 
--- i is below the release of another thread's section on the lock with such an access
-pub record Others (log : List Event) (l : LockId) (x : VarId) (k : AccessKind) (t : ThreadId) (i : ℕ) : Type 0 where
+-- i happens before the end of a section on the lock, by another thread than t, that has such an access
+pub record Others (log : List Event) (l : LockId) (x : VarId) (k : AccessKind) (t : ThreadId) (i : ℕ)
+    : Type 0 where
   pub thread : ThreadId
   pub other : thread ≡ t → ⊥
   pub acquire : ℕ
@@ -60,7 +62,8 @@ pub record IsClosed (log : List Event) (u : ThreadId) (l : LockId) (a r : ℕ) (
 pub record ClosedStand (log : List Event) (l : LockId) (qs : List Closed) : Type 0 where
   -- each entry is of a section, and each section has an entry
   pub sound : (q : Closed) → Has q qs → (u : ThreadId) × (a : ℕ) × (r : ℕ) × IsClosed log u l a r q
-  pub complete : (u : ThreadId) (a r : ℕ) → Section log u l a r → (q : Closed) × Has q qs × IsClosed log u l a r q
+  pub complete : (u : ThreadId) (a r : ℕ) → Section log u l a r
+      → (q : Closed) × Has q qs × IsClosed log u l a r q
 
 -- the clock counts the acquire of the section
 abbrev pub is_counted : (ℕ → ℕ) → Closed → Bool

@@ -1,18 +1,34 @@
+-- logs
 pub mod Log
+pub mod Refusal
+pub mod Orderly
+-- the relations
 pub mod Order
 pub mod Wcp
 pub mod Recurrence
-pub mod Orderly
-pub mod Refusal
+-- verdicts and runs
 pub mod Verdict
-pub mod Laws
-pub mod Count
-pub mod Plain
-pub mod PlainWcp
-pub mod Bounds
-pub mod Recorded
-pub mod Steps
 pub mod Acts
+pub mod Steps
+-- clocks
+pub mod Count
 pub mod Turn
 pub mod Rows
 pub mod Closed
+pub mod Newest
+-- the rule without re-entrance
+pub mod Plain
+pub mod PlainWcp
+-- what contracts see of limits and of a log that grows
+pub mod Bounds
+pub mod Recorded
+-- the laws
+pub mod Laws
+pub mod OrderLaws
+pub mod StrictLaws
+pub mod LogLaws
+pub mod RunLaws
+pub mod CountLaws
+pub mod PlainLaws
+-- small logs
+pub mod Examples

@@ -1,4 +1,6 @@
 -- Rows of clocks: a clock for each thread and each lock, what an event makes of them, and what they count.
+--
+-- A clock here is a function from a thread's number to how many of its events are in the clock's set.
 use Rattle.std.specs.Prelude.{ℕ, ◌+◌, max, cond, nat_eq, List}
 use Rattle.event_core.specs.declared.ids.ThreadId.{ThreadId}
 use Rattle.event_core.specs.declared.ids.LockId.{LockId}
@@ -6,18 +8,19 @@ use Rattle.event_core.specs.declared.events.Event.{Event}
 use Rattle.event_core.specs.Count.{Counts, Past, LockPast}
 use Rattle.event_core.specs.Turn.{Turn, Opens, Closes, Forks, Joins}
 
+-- the clock of the empty set
 abbrev pub no_clock : ℕ → ℕ
 no_clock _ = 0
 
--- the greater number of each thread
+-- at each thread the greater of the two numbers, which is the clock of the union
 abbrev pub join : (ℕ → ℕ) → (ℕ → ℕ) → ℕ → ℕ
 join f g u = max (f u) (g u)
 
--- one more at t
+-- the clock with one more at t
 abbrev pub bump : ℕ → (ℕ → ℕ) → ℕ → ℕ
 bump t f u = cond (nat_eq u t) (f u + 1) (f u)
 
--- f, with g at t
+-- the row f with g in place of what it has at t
 abbrev pub with_row : {A : Type 0} → ℕ → A → (ℕ → A) → ℕ → A
 with_row t g f a = cond (nat_eq a t) g (f a)
 
@@ -26,6 +29,7 @@ pub record Rows : Type 0 where
   pub thread : ℕ → ℕ → ℕ
   pub lock : ℕ → ℕ → ℕ
 
+-- no clock counts anything
 abbrev pub no_rows : Rows
 no_rows = record { thread = λ _ _. 0; lock = λ _ _. 0 }
 
@@ -53,7 +57,8 @@ brought _ r = no_clock
 abbrev pub Counted : List Event → (ℕ → Type 0) → (ℕ → ℕ) → Type 0
 Counted log P c = (u : ThreadId) → Counts log u P (c u.0)
 
--- each thread's clock counts what is R-below its latest event or its fork, and each lock's what is R-below its latest outer release
+-- each thread's clock counts what is R-below its latest event or its fork, and each lock's what is R-below
+-- its latest outer release
 pub record RowsStand (log : List Event) (R : ℕ → ℕ → Type 0) (r : Rows) : Type 0 where
   pub thread : (t : ThreadId) → Counted log (Past log R t) (r.thread t.0)
   pub lock : (l : LockId) → Counted log (LockPast log R l) (r.lock l.0)

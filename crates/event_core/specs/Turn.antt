@@ -13,6 +13,7 @@ abbrev pub access_of : VarId → AccessKind → Op
 access_of x Read = Load x
 access_of x Write = Store x
 
+-- what an event is to the clocks; inner acquires and releases are nothing to them
 pub data Turn : Type 0 where
   Accesses : VarId → AccessKind → Turn
   Opens : LockId → Turn
@@ -21,7 +22,7 @@ pub data Turn : Type 0 where
   Joins : ThreadId → Turn
   Inner : Turn
 
--- what the operation is, by how often the thread holds each lock
+-- what the operation is, by the depth to which its thread holds each lock
 abbrev pub turn_of : (ℕ → ℕ) → Op → Turn
 turn_of d (Load x) = Accesses x Read
 turn_of d (Store x) = Accesses x Write

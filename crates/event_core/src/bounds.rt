@@ -39,11 +39,23 @@ impl Model for Limits {
 
     ghost Value = { Bounds };
 
-    ghost view = { λ l. record { threads = l.threads; locks = l.locks; vars = l.vars; events = l.events; roots = l.roots } };
+    ghost view = { λ l. record {
+      threads = l.threads;
+      locks = l.locks;
+      vars = l.vars;
+      events = l.events;
+      roots = l.roots;
+    } };
 
     ghost invariant = { λ l. AreBounded l.threads l.locks l.vars l.events };
 
-    ghost inverse = { λ b. record { threads = b.threads; locks = b.locks; vars = b.vars; events = b.events; roots = b.roots } };
+    ghost inverse = { λ b. record {
+      threads = b.threads;
+      locks = b.locks;
+      vars = b.vars;
+      events = b.events;
+      roots = b.roots;
+    } };
 }
 
 /// The first number that is 0 or above its greatest.

@@ -1,0 +1,56 @@
+-- Members of lists.
+use Rattle.std.proofs.Common.{◌≡◌, List, [], ◌∷◌, ◌++◌, Bool, true, false, ◌||◌, map, refl, ap, ◌∙◌, ◌⊎◌}
+use Rattle.std.specs.List.{list_any}
+use mathlib.Core.Logic.{inl, inr}
+use Rattle.event_core.specs.Closed.{Has, first, later}
+
+pub none_in : {A : Type 0} {a : A} → Has a [] → ⊥
+none_in h = elim h [ ]
+
+-- members of a list that is changed element by element, and of one with an element more
+pub has_map : {A B : Type 0} (f : A → B) (a : A) (as' : List A) → Has a as' → Has (f a) (map f as')
+has_map f a _ (first b bs is) = first (f b) (map f bs) (ap f is)
+has_map f a _ (later b bs h) = later (f b) (map f bs) (has_map f a bs h)
+
+pub map_has : {A B : Type 0} (f : A → B) (b : B) (as' : List A) → Has b (map f as') → (a : A) × Has a as' × (b ≡ f a)
+map_has f b [] h = absurd (none_in h)
+map_has f b (a ∷ as') (first _ _ is) = (a, first a as' refl, is)
+map_has f b (a ∷ as') (later _ _ h) = let r = map_has f b as' h in (r.0, later a as' r.1, r.2)
+
+pub has_front : {A : Type 0} (a : A) (xs ys : List A) → Has a xs → Has a (xs ++ ys)
+has_front a _ ys (first b bs is) = first b (bs ++ ys) is
+has_front a _ ys (later b bs h) = later b (bs ++ ys) (has_front a bs ys h)
+
+pub has_last : {A : Type 0} (xs : List A) (a : A) → Has a (xs ++ a ∷ [])
+has_last [] a = first a [] refl
+has_last (x ∷ xs) a = later x (xs ++ a ∷ []) (has_last xs a)
+
+pub has_split : {A : Type 0} (a : A) (xs : List A) (y : A) → Has a (xs ++ y ∷ []) → Has a xs ⊎ (a ≡ y)
+has_split a [] y (first _ _ is) = inr is
+has_split a [] y (later _ _ h) = absurd (none_in h)
+has_split a (x ∷ xs) y (first _ _ is) = inl (first x xs is)
+has_split a (x ∷ xs) y (later _ _ h) = go (has_split a xs y h)
+  where
+    go : Has a xs ⊎ (a ≡ y) → Has a (x ∷ xs) ⊎ (a ≡ y)
+    go (inl h) = inl (later x xs h)
+    go (inr is) = inr is
+
+-- a test of a list's members
+any_or : {A : Type 0} (p : A → Bool) (x : A) (xs : List A) (b : Bool) → p x ≡ b → (b || list_any p xs) ≡ true
+    → (list_any p xs ≡ true → (a : A) × Has a xs × (p a ≡ true)) → (a : A) × Has a (x ∷ xs) × (p a ≡ true)
+any_or p x xs true px is rest = (x, first x xs refl, px)
+any_or p x xs false px is rest = let r = rest is in (r.0, later x xs r.1, r.2)
+
+pub any_has : {A : Type 0} (p : A → Bool) (xs : List A) → list_any p xs ≡ true → (a : A) × Has a xs × (p a ≡ true)
+any_has p [] is = absurd cc
+any_has p (x ∷ xs) is = any_or p x xs (p x) refl is (any_has p xs)
+
+none_or : {A : Type 0} (p : A → Bool) (a x : A) (xs : List A) (b : Bool) → p x ≡ b → (b || list_any p xs) ≡ false
+    → Has a (x ∷ xs) → (list_any p xs ≡ false → Has a xs → p a ≡ false) → p a ≡ false
+none_or p a x xs true px is h rest = absurd cc
+none_or p a x xs false px is (first _ _ e) rest = ap p e ∙ px
+none_or p a x xs false px is (later _ _ h) rest = rest is h
+
+pub none_has : {A : Type 0} (p : A → Bool) (a : A) (xs : List A) → list_any p xs ≡ false → Has a xs → p a ≡ false
+none_has p a [] is h = absurd (none_in h)
+none_has p a (x ∷ xs) is h = none_or p a x xs (p x) refl is h (none_has p a xs)

@@ -1,0 +1,114 @@
+-- Runs of calls and of acts: each has one, and it ends in a well-formed log.
+use Rattle.std.proofs.Common.{◌≡◌, List, [], ◌∷◌, ◌++◌, length, ◌+◌, refl, sym, ap, subst, ◌∙◌, Some, None}
+use Rattle.std.proofs.lemmas.List.{append-nil, append_assoc}
+use Rattle.event_core.specs.declared.events.Event.{Event}
+use Rattle.event_core.specs.declared.events.Call.{Call}
+use Rattle.event_core.specs.declared.events.Act.{Act}
+use Rattle.event_core.specs.declared.events.Act.TheVariants.{One, Swap}
+use Rattle.event_core.specs.declared.bounds.Limits.{Limits}
+use Rattle.event_core.specs.declared.replies.SwapReply.{SwapReply}
+use Rattle.event_core.specs.declared.replies.Outcome.{Outcome}
+use Rattle.event_core.specs.declared.replies.Outcome.TheVariants.{Accepted, Refused}
+use Rattle.event_core.specs.declared.replies.Done.{Done}
+use Rattle.event_core.specs.declared.replies.Done.TheVariants.{One as Did, Swap as Swapped}
+use Rattle.event_core.specs.declared.replies.Done.TheVariants.{Refused as Declined}
+use Rattle.event_core.specs.Refusal.{refusal, Legal, WellFormed, event_of}
+use Rattle.event_core.specs.Verdict.{IsOutcome, log_after, IsRun}
+use Rattle.event_core.specs.Steps.{MayFollow}
+use Rattle.event_core.specs.Acts.{log_after_swap, log_after_act, IsDone, IsActRun}
+use Rattle.event_core.proofs.MoreLaws.{one_verdict}
+use Rattle.event_core.proofs.Growth.{well_formed_grown, one_outcome}
+use Rattle.event_core.proofs.Swaps.{swap_legal}
+
+-- a log with legal events added is well formed
+pub may_follow : (m : Limits) (log es : List Event) → WellFormed m log → MayFollow m log es
+    → WellFormed m (log ++ es)
+may_follow m log [] w f = subst (λ xs. WellFormed m xs) (sym (append-nil log)) w
+may_follow m log (e ∷ es) w f =
+    subst (λ xs. WellFormed m xs) (append_assoc log (e ∷ []) es)
+    (may_follow m (log ++ e ∷ []) es (well_formed_grown m log e w f.0) f.1)
+
+pub allowed_legal : (m : Limits) (log : List Event) (c : Call) → refusal m log c ≡ None
+    → Legal m log (event_of log c)
+allowed_legal m log c h = record { call = c; allowed = h; is = refl }
+
+-- the log after a call
+after_call : (m : Limits) (log : List Event) (c : Call) (o : Outcome) → WellFormed m log → IsOutcome m log c o
+    → WellFormed m (log_after log c o)
+after_call m log c (Refused r) w p = w
+after_call m log c (Accepted a) w p = well_formed_grown m log (event_of log c) w (allowed_legal m log c p.0)
+
+pub run_keeps : (m : Limits) (log : List Event) (cs : List Call) (os : List Outcome) (end : List Event)
+    → WellFormed m log → IsRun m log cs os end → WellFormed m end
+run_keeps m log [] [] end w p = subst (λ xs. WellFormed m xs) (sym p) w
+run_keeps m log (c ∷ cs) (o ∷ os) end w p =
+    run_keeps m (log_after log c o) cs os end (after_call m log c o w p.0) p.1
+run_keeps m log [] (o ∷ os) end w p = absurd p
+run_keeps m log (c ∷ cs) [] end w p = absurd p
+
+-- the log after an act
+after_act : (m : Limits) (log : List Event) (a : Act) (d : Done) → WellFormed m log → IsDone m log a d
+    → WellFormed m (log_after_act log a d)
+after_act m log (One c) (Did a) w p = well_formed_grown m log (event_of log c) w (allowed_legal m log c p.0)
+after_act m log (One c) (Declined r) w p = w
+after_act m log (One c) (Swapped a) w p = absurd p
+after_act m log (Swap u x site arg) (Swapped a) w p =
+    may_follow m log _ w (swap_legal m log u x site arg w p.allowed)
+after_act m log (Swap u x site arg) (Declined r) w p = w
+after_act m log (Swap u x site arg) (Did a) w p = absurd p
+
+pub act_run_keeps : (m : Limits) (log : List Event) (acts : List Act) (ds : List Done) (end : List Event)
+    → WellFormed m log → IsActRun m log acts ds end → WellFormed m end
+act_run_keeps m log [] [] end w p = subst (λ xs. WellFormed m xs) (sym p) w
+act_run_keeps m log (a ∷ acts) (d ∷ ds) end w p =
+    act_run_keeps m (log_after_act log a d) acts ds end (after_act m log a d w p.0) p.1
+act_run_keeps m log [] (d ∷ ds) end w p = absurd p
+act_run_keeps m log (a ∷ acts) [] end w p = absurd p
+
+same_swap_reply : (a b : SwapReply) → a.index ≡ b.index → a.value ≡ b.value → a.load ≡ b.load
+    → a.store ≡ b.store → a ≡ b
+same_swap_reply a b p q r s = λ i. record { index = p i; value = q i; load = r i; store = s i }
+
+-- an act has one outcome
+pub one_done : (m : Limits) (log : List Event) (a : Act) (d e : Done) → IsDone m log a d → IsDone m log a e
+    → d ≡ e
+one_done m log (One c) (Did a) (Did b) p q =
+    let same : Accepted a ≡ Accepted b = one_outcome m log c (Accepted a) (Accepted b) p q in
+    let inner : a ≡ b = cc in
+    ap Did inner
+one_done m log (One c) (Declined r) (Declined s) p q = let same : Some r ≡ Some s = sym p ∙ q in cc
+one_done m log (One c) (Declined r) (Did a) p q = absurd (let same : Some r ≡ None = sym p ∙ q.0 in cc)
+one_done m log (One c) (Did a) (Declined s) p q = absurd (let same : Some s ≡ None = sym q ∙ p.0 in cc)
+one_done m log (One c) (Swapped a) e p q = absurd p
+one_done m log (One c) (Did a) (Swapped b) p q = absurd q
+one_done m log (One c) (Declined r) (Swapped b) p q = absurd q
+one_done m log (Swap u x site arg) (Swapped a) (Swapped b) p q =
+    let after = log_after_swap log u x site arg in
+    ap Swapped (same_swap_reply a b (p.index ∙ sym q.index) (p.value ∙ sym q.value)
+    (one_verdict after (length log) a.load b.load p.load q.load)
+    (one_verdict after (length log + 1) a.store b.store p.store q.store))
+one_done m log (Swap u x site arg) (Declined r) (Declined s) p q =
+    let same : Some r ≡ Some s = sym p ∙ q in cc
+one_done m log (Swap u x site arg) (Declined r) (Swapped b) p q =
+    absurd (let same : Some r ≡ None = sym p ∙ q.allowed in cc)
+one_done m log (Swap u x site arg) (Swapped a) (Declined s) p q =
+    absurd (let same : Some s ≡ None = sym q ∙ p.allowed in cc)
+one_done m log (Swap u x site arg) (Did a) e p q = absurd p
+one_done m log (Swap u x site arg) (Swapped a) (Did b) p q = absurd q
+one_done m log (Swap u x site arg) (Declined r) (Did b) p q = absurd q
+
+-- and a list of acts has one run
+pub one_act_run : (m : Limits) (log : List Event) (acts : List Act) (ds es : List Done) (x y : List Event)
+    → IsActRun m log acts ds x → IsActRun m log acts es y → (ds ≡ es) × (x ≡ y)
+one_act_run m log [] [] [] x y p q = (refl, p ∙ sym q)
+one_act_run m log (a ∷ acts) (d ∷ ds) (e ∷ es) x y p q =
+    let same : d ≡ e = one_done m log a d e p.0 q.0 in
+    let q' : IsActRun m (log_after_act log a d) acts es y
+    = subst (λ o. IsActRun m (log_after_act log a o) acts es y) (sym same) q.1 in
+    let rest = one_act_run m (log_after_act log a d) acts ds es x y p.1 q' in
+    let tails : ds ≡ es = rest.0 in
+    (let whole : d ∷ ds ≡ e ∷ es = cc in whole, rest.1)
+one_act_run m log [] [] (e ∷ es) x y p q = absurd q
+one_act_run m log [] (d ∷ ds) es x y p q = absurd p
+one_act_run m log (a ∷ acts) [] es x y p q = absurd p
+one_act_run m log (a ∷ acts) (d ∷ ds) [] x y p q = absurd q

@@ -1,0 +1,42 @@
+-- The runs of small lists of calls.
+use Rattle.std.proofs.Common.{refl}
+use Rattle.event_core.specs.Log.{depth}
+use Rattle.event_core.specs.Refusal.{refusal, holder, last_acquirer, held_depths, lock_depth, last_value}
+use Rattle.event_core.specs.Examples.{ASlotIsKeptForTheRelease, EachHoldKeepsASlot, TheFirstReasonIsTold}
+use Rattle.event_core.proofs.SmallTests.{clear_alone}
+
+pub slot_kept : ASlotIsKeptForTheRelease
+unfolding refusal depth holder last_acquirer held_depths lock_depth last_value
+slot_kept = (
+  (refl, refl, refl, clear_alone _ 0 refl),
+  (
+    (refl, refl, refl, clear_alone _ 1 refl),
+    (refl, ((refl, refl, refl, clear_alone _ 2 refl), (refl, (refl, refl)))),
+  ),
+)
+
+pub each_kept : EachHoldKeepsASlot
+unfolding refusal depth holder last_acquirer held_depths lock_depth last_value
+each_kept = (
+  (refl, refl, refl, clear_alone _ 0 refl),
+  (
+    (refl, refl, refl, clear_alone _ 1 refl),
+    (
+      refl,
+      (
+        refl,
+        (
+          (refl, refl, refl, clear_alone _ 2 refl),
+          (refl, ((refl, refl, refl, clear_alone _ 3 refl), (refl, refl))),
+        ),
+      ),
+    ),
+  ),
+)
+
+pub first_told : TheFirstReasonIsTold
+unfolding refusal depth holder last_acquirer held_depths lock_depth last_value
+first_told = (
+  (refl, refl, refl, clear_alone _ 0 refl),
+  (refl, (refl, (refl, (refl, (refl, (refl, refl)))))),
+)

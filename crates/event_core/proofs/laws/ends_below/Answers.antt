@@ -1,6 +1,0 @@
-use Rattle.event_core.proofs.MoreLaws.{ends_below}
-use Rattle.event_core.proofs.Legality.{orderly}
-use Rattle.event_core.proofs.laws.ends_below.Goals as goal
-
-pub returns : goal.returns
-returns c = λ m log u v l a r b s w p q h. ends_below (orderly m log w) p q h

@@ -1,5 +1,0 @@
-use Rattle.event_core.proofs.Chains.{hb_forward}
-use Rattle.event_core.proofs.laws.hb_goes_forward.Goals as goal
-
-pub returns : goal.returns
-returns c = λ log i j h. hb_forward h

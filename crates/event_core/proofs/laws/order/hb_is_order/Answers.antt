@@ -1,0 +1,6 @@
+use Rattle.event_core.proofs.Chains.{chain_trans}
+use Rattle.event_core.specs.Order.{here}
+use Rattle.event_core.proofs.laws.order.hb_is_order.Goals as goal
+
+pub returns : goal.returns
+returns c = λ log i g j. (here, λ a b. chain_trans a b)

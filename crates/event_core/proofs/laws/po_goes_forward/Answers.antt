@@ -1,5 +1,0 @@
-use Rattle.event_core.proofs.Chains.{po_forward}
-use Rattle.event_core.proofs.laws.po_goes_forward.Goals as goal
-
-pub returns : goal.returns
-returns c = λ log i j h. po_forward h

@@ -1,0 +1,10 @@
+use Rattle.event_core.proofs.Stable.{verdict_too, longer, back}
+use Rattle.event_core.proofs.laws.runs.verdicts_stay.Goals as goal
+
+pub returns : goal.returns
+returns c =
+    λ log more j v lt. (
+      λ x. verdict_too j v (longer log more) lt x,
+      λ x. verdict_too j v
+          (back (longer log more)) lt x,
+    )

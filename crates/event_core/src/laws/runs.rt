@@ -1,0 +1,81 @@
+//! The laws of verdicts, outcomes, runs and swaps.
+ghost use Rattle.event_core.specs.RunLaws.{
+  OneVerdict,
+  VerdictsStay,
+  OneOutcome,
+  OneRun,
+  RunsKeepLogsWellFormed,
+  OneDone,
+  OneActRun,
+  ActRunsKeepLogsWellFormed,
+  SwapIsRefusedAsItsLoad,
+  SwapNeedsTwoSlots,
+  SwapMeetsFullLog,
+  SwapsAreLegal,
+  SwapsKeepLogsWellFormed,
+};
+
+/// An event has one verdict.
+pub fn one_verdict()
+    ensures { OneVerdict }
+{}
+
+/// A verdict is the same in every longer log.
+pub fn verdicts_stay()
+    ensures { VerdictsStay }
+{}
+
+/// A call has one outcome.
+pub fn one_outcome()
+    ensures { OneOutcome }
+{}
+
+/// A list of calls has one run.
+pub fn one_run()
+    ensures { OneRun }
+{}
+
+/// The log at the end of a run is well formed.
+pub fn runs_keep_logs_well_formed()
+    ensures { RunsKeepLogsWellFormed }
+{}
+
+/// An act has one outcome.
+pub fn one_done()
+    ensures { OneDone }
+{}
+
+/// A list of acts has one run.
+pub fn one_act_run()
+    ensures { OneActRun }
+{}
+
+/// The log at the end of a run of acts is well formed.
+pub fn act_runs_keep_logs_well_formed()
+    ensures { ActRunsKeepLogsWellFormed }
+{}
+
+/// But for a full log, a swap is refused exactly as its load would be.
+pub fn swap_is_refused_as_its_load()
+    ensures { SwapIsRefusedAsItsLoad }
+{}
+
+/// A swap is not refused exactly when its load would not be and two slots are left.
+pub fn swap_needs_two_slots()
+    ensures { SwapNeedsTwoSlots }
+{}
+
+/// The log is full for a swap exactly when nothing else speaks against its load and two slots are not left.
+pub fn swap_meets_full_log()
+    ensures { SwapMeetsFullLog }
+{}
+
+/// The two events of an accepted swap are legal, one after the other.
+pub fn swaps_are_legal()
+    ensures { SwapsAreLegal }
+{}
+
+/// The log after an accepted swap is well formed.
+pub fn swaps_keep_logs_well_formed()
+    ensures { SwapsKeepLogsWellFormed }
+{}

@@ -1,0 +1,140 @@
+-- An event makes no number greater by more than one.
+use Rattle.std.proofs.Common.{◌≡◌, ℕ, ◌≤◌, ◌+◌, ◌-◌, max, Bool, true, false, cond, nat_eq, ap, subst, sym}
+use Rattle.std.proofs.Common.{◌∙◌, arith}
+use Rattle.event_core.specs.declared.ids.ThreadId.{ThreadId}
+use Rattle.event_core.specs.declared.ids.LockId.{LockId}
+use Rattle.event_core.specs.declared.events.Event.{Event}
+use Rattle.event_core.specs.declared.events.Op.{Op}
+use Rattle.event_core.specs.declared.events.Op.TheVariants.{Load, Store, Acquire, Release, Fork, Join}
+use Rattle.event_core.specs.Rows.{join, bump, with_row, Rows, to_child, to_lock, brought}
+use Rattle.event_core.specs.Turn.{Turn, Accesses, Opens, Closes, Forks, Joins, Inner}
+use Rattle.hb_clocks.specs.State.{HbState, empty, joins_of, turn, without_locks, clock_after, depth_after}
+use Rattle.hb_clocks.specs.State.{after}
+use Rattle.hb_clocks.specs.Stands.{IsAtMost, GrowsByOne}
+use Rattle.hb_clocks.proofs.TableSteps.{brought_few}
+
+-- a row that is written has few, where the row and the others do
+few_row : (most t : ℕ) (g : ℕ → ℕ) (f : ℕ → ℕ → ℕ) → ((u : ThreadId) → g u.0 ≤ most) → (a : ℕ)
+    → ((u : ThreadId) → f a u.0 ≤ most)
+    → (u : ThreadId) → with_row t g f a u.0 ≤ most
+few_row most t g f few a was u = go (nat_eq a t)
+  where
+    go : (b : Bool) → (cond b g (f a)) u.0 ≤ most
+    go true = few u
+    go false = was u
+
+few_child : (most : ℕ) (k : Turn) (g : ℕ → ℕ) (f : ℕ → ℕ → ℕ) → ((u : ThreadId) → g u.0 ≤ most) → (a : ℕ)
+    → ((u : ThreadId) → f a u.0 ≤ most)
+    → (u : ThreadId) → to_child k g f a u.0 ≤ most
+few_child most (Forks v) g f few a was u = few_row most v.0 g f few a was u
+few_child most (Joins v) g f few a was u = was u
+few_child most (Opens l) g f few a was u = was u
+few_child most (Closes l) g f few a was u = was u
+few_child most (Accesses x k) g f few a was u = was u
+few_child most Inner g f few a was u = was u
+
+few_lock : (most : ℕ) (k : Turn) (g : ℕ → ℕ) (f : ℕ → ℕ → ℕ) → ((u : ThreadId) → g u.0 ≤ most) → (a : ℕ)
+    → ((u : ThreadId) → f a u.0 ≤ most)
+    → (u : ThreadId) → to_lock k g f a u.0 ≤ most
+few_lock most (Closes l) g f few a was u = few_row most l.0 g f few a was u
+few_lock most (Joins v) g f few a was u = was u
+few_lock most (Opens l) g f few a was u = was u
+few_lock most (Forks v) g f few a was u = was u
+few_lock most (Accesses x k) g f few a was u = was u
+few_lock most Inner g f few a was u = was u
+
+-- the clock of the event
+few_clock : (most : ℕ) (t : ThreadId) (k : Turn) (r : Rows) → ((a u : ThreadId) → r.thread a.0 u.0 ≤ most)
+    → ((l : LockId) (u : ThreadId) → r.lock l.0 u.0 ≤ most)
+    → (u : ThreadId) → clock_after t k r u.0 ≤ most + 1
+few_clock most t k r threads locks u =
+    let a : r.thread t.0 u.0 ≤ most = threads t u in
+    let b : brought k r u.0 ≤ most = brought_few most r threads locks k u in
+    let c : join (r.thread t.0) (brought k r) u.0 ≤ most = omega arith in
+    go (nat_eq u.0 t.0) c
+  where
+    go : (b : Bool) → join (r.thread t.0) (brought k r) u.0 ≤ most
+        → cond b (join (r.thread t.0) (brought k r) u.0 + 1)
+        (join (r.thread t.0) (brought k r) u.0) ≤ most + 1
+    go true h = omega arith
+    go false h = omega arith
+
+few_cell : (most t l v : ℕ) (d : ℕ → ℕ → ℕ) → v ≤ most → (a b : ℕ) → d a b ≤ most → d t b ≤ most
+    → with_row t (with_row l v (d t)) d a b ≤ most
+few_cell most t l v d few a b was own = go (nat_eq a t) (nat_eq b l)
+  where
+    go : (p q : Bool) → (cond p (λ (c : ℕ). cond (nat_eq c l) v (d t c)) (d a)) b ≤ most
+    go true q = at (nat_eq b l)
+      where
+        at : (q : Bool) → cond q v (d t b) ≤ most
+        at true = few
+        at false = own
+    go false q = was
+
+few_depth : (most t : ℕ) (op : Op) (d : ℕ → ℕ → ℕ) → ((a : ThreadId) (l : LockId) → d a.0 l.0 ≤ most)
+    → (a : ThreadId) (l : LockId) → depth_after t op d a.0 l.0 ≤ most + 1
+few_depth most t op d few a l = go op
+  where
+    up : (x : ThreadId) (y : LockId) → d x.0 y.0 ≤ most + 1
+    up x y = let h = few x y in omega arith
+
+    own : ThreadId
+    own = record { 0 = t }
+
+    go : (o : Op) → depth_after t o d a.0 l.0 ≤ most + 1
+    go (Acquire n) = few_cell (most + 1) t n.0 (d t n.0 + 1) d
+        (let h = few (record { 0 = t }) n in omega arith) a.0 l.0 (up a l) (up (record { 0 = t }) l)
+    go (Release n) = few_cell (most + 1) t n.0 (d t n.0 - 1) d
+        (let h = few (record { 0 = t }) n in omega arith) a.0 l.0 (up a l) (up (record { 0 = t }) l)
+    go (Load x) = up a l
+    go (Store x) = up a l
+    go (Fork u) = up a l
+    go (Join u) = up a l
+
+pub grows_by_one : GrowsByOne
+grows_by_one most e s few = record {
+  po = λ a u. few_child (most + 1) (turn e s) po_clock (with_row e.thread.0 po_clock s.po) po_few a.0
+      (few_row (most + 1) e.thread.0 po_clock s.po po_few a.0 (λ v. let h = few.po a v in omega arith)) u;
+  hb = λ a u. few_child (most + 1) (turn e s) hb_clock (with_row e.thread.0 hb_clock s.hb.thread) hb_few a.0
+      (few_row (most + 1) e.thread.0 hb_clock s.hb.thread hb_few a.0
+      (λ v. let h = few.hb a v in omega arith)) u;
+  lock = λ l u. few_lock (most + 1) (turn e s) hb_clock s.hb.lock hb_few l.0
+      (λ v. let h = few.lock l v in omega arith) u;
+  depth = few_depth most e.thread.0 e.op s.depth few.depth;
+}
+  where
+    po_clock : ℕ → ℕ
+    po_clock = clock_after e.thread (turn e s) (without_locks s.po)
+
+    hb_clock : ℕ → ℕ
+    hb_clock = clock_after e.thread (turn e s) s.hb
+
+    po_few : (u : ThreadId) → clock_after e.thread (turn e s) (without_locks s.po) u.0 ≤ most + 1
+    po_few u = few_clock most e.thread (turn e s) (without_locks s.po) few.po (λ l v. omega arith) u
+
+    hb_few : (u : ThreadId) → clock_after e.thread (turn e s) s.hb u.0 ≤ most + 1
+    hb_few u = few_clock most e.thread (turn e s) s.hb few.hb few.lock u
+
+pub none_at_most : IsAtMost 0 empty
+none_at_most = record {
+  po = λ t u. omega arith;
+  hb = λ t u. omega arith;
+  lock = λ l u. omega arith;
+  depth = λ t l. omega arith;
+}
+
+pub at_most_more : (m n : ℕ) (s : HbState) → m ≤ n → IsAtMost m s → IsAtMost n s
+at_most_more m n s le few = record {
+  po = λ t u. (let h = few.po t u in omega arith);
+  hb = λ t u. (let h = few.hb t u in omega arith);
+  lock = λ l u. (let h = few.lock l u in omega arith);
+  depth = λ t l. (let h = few.depth t l in omega arith);
+}
+
+pub joins_few : (k : Turn) → joins_of k ≤ 2
+joins_few (Opens l) = omega arith
+joins_few (Joins u) = omega arith
+joins_few (Closes l) = omega arith
+joins_few (Forks u) = omega arith
+joins_few (Accesses x k) = omega arith
+joins_few Inner = omega arith

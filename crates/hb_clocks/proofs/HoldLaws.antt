@@ -1,0 +1,252 @@
+-- Who holds each lock after an operation, as how often each thread does.
+use Rattle.std.proofs.Common.{◌≤◌, ◌≡◌, ◌≢◌, ℕ, ◌<◌, ◌+◌, ◌-◌, List, Bool, true, false, ◌&&◌, length, set}
+use Rattle.std.proofs.Common.{cond, nat_eq, refl, sym, ap, subst, ◌∙◌, arith, inl, inr, ◌⊎◌}
+use Rattle.std.proofs.lemmas.Bool.{cases_eq, eq-eqb}
+use Rattle.std.proofs.lemmas.List.{get_or-set_same, get_or-set_other, get_or_past, length-set}
+use Rattle.event_core.specs.declared.ids.LockId.{LockId}
+use Rattle.event_core.specs.declared.events.Op.{Op}
+use Rattle.event_core.specs.declared.events.Op.TheVariants.{Load, Store, Acquire, Release, Fork, Join}
+use Rattle.event_core.specs.Rows.{with_row}
+use Rattle.event_core.specs.Turn.{turn_of, Opens, Closes, Inner}
+use Rattle.event_core.proofs.Counting.{nat_eq_same, nat_eq_other}
+use Rattle.hb_clocks.specs.declared.holds.Hold.{Hold}
+use Rattle.hb_clocks.specs.Holds.{hold_at, no_hold, depths_of, lowered, holds_after, is_outer, turn_by}
+use Rattle.hb_clocks.specs.Holds.{HasHold, Alone}
+use Rattle.hb_clocks.specs.State.{depth_after}
+use Rattle.hb_clocks.proofs.Depths.{cell_same, cell_other}
+
+-- no other thread holds the lock that is acquired
+abbrev pub AloneAt : List Hold → ℕ → Op → Type 0
+AloneAt holds t (Acquire l) = Alone holds t l.0
+AloneAt holds t _ = Unit {0}
+
+module _ (holds : List Hold) where
+  -- the holder's depth is the lock's
+  pub of_holder : (l : ℕ) → depths_of holds (hold_at holds l).holder l ≡ (hold_at holds l).depth
+  of_holder l = ap (λ (b : Bool). cond b (hold_at holds l).depth 0) (nat_eq_same (hold_at holds l).holder)
+
+  not_holder : (u l : ℕ) → (u ≡ (hold_at holds l).holder → ⊥) → depths_of holds u l ≡ 0
+  not_holder u l n = ap (λ (b : Bool). cond b (hold_at holds l).depth 0)
+      (nat_eq_other u (hold_at holds l).holder n)
+
+  is_holder : (u l : ℕ) → u ≡ (hold_at holds l).holder → depths_of holds u l ≡ (hold_at holds l).depth
+  is_holder u l e = ap (λ x. depths_of holds x l) e ∙ of_holder l
+
+  -- where no other holds the lock, its depth is the thread's
+  pub alone_depth : (t l : ℕ) → Alone holds t l → depths_of holds t l ≡ (hold_at holds l).depth
+  alone_depth t l alone = go (cases_eq t (hold_at holds l).holder)
+    where
+      go : (t ≡ (hold_at holds l).holder) ⊎ (t ≡ (hold_at holds l).holder → ⊥)
+          → depths_of holds t l ≡ (hold_at holds l).depth
+      go (inl e) = is_holder t l e
+      go (inr n) = not_holder t l n ∙ sym (alone (hold_at holds l).holder (λ e. n (sym e))) ∙ of_holder l
+
+  release_outer : (t l : ℕ) → nat_eq (depths_of holds t l) 1 ≡
+      (nat_eq (hold_at holds l).holder t && nat_eq (hold_at holds l).depth 1)
+  release_outer t l = go (cases_eq t (hold_at holds l).holder)
+    where
+      go : (t ≡ (hold_at holds l).holder) ⊎ (t ≡ (hold_at holds l).holder → ⊥)
+          → nat_eq (depths_of holds t l) 1 ≡
+          (nat_eq (hold_at holds l).holder t && nat_eq (hold_at holds l).depth 1)
+      go (inl e) = ap (λ n. nat_eq n 1) (is_holder t l e)
+          ∙ sym (ap (λ (b : Bool). b && nat_eq (hold_at holds l).depth 1)
+          (eq-eqb (hold_at holds l).holder t (sym e)))
+      go (inr n) = ap (λ k. nat_eq k 1) (not_holder t l n)
+          ∙ sym (ap (λ (b : Bool). b && nat_eq (hold_at holds l).depth 1)
+          (nat_eq_other (hold_at holds l).holder t (λ e. n (sym e))))
+
+  -- whether it is outer is what the depths say
+  pub outer_turn : (t : ℕ) (op : Op) → AloneAt holds t op
+      → turn_of (depths_of holds t) op ≡ turn_by op (is_outer t op holds)
+  outer_turn t (Acquire l) alone = ap (λ n. cond (nat_eq n 0) (Opens l) Inner) (alone_depth t l.0 alone)
+  outer_turn t (Release l) alone = ap (λ (b : Bool). cond b (Closes l) Inner) (release_outer t l.0)
+  outer_turn t (Load x) alone = refl
+  outer_turn t (Store x) alone = refl
+  outer_turn t (Fork u) alone = refl
+  outer_turn t (Join u) alone = refl
+
+  hold_same : (l : ℕ) (x : Hold) → l < length holds → hold_at (set holds l x) l ≡ x
+  hold_same l x lt = get_or-set_same holds l x no_hold lt
+
+  hold_other : (l k : ℕ) (x : Hold) → (k ≡ l → ⊥) → hold_at (set holds l x) k ≡ hold_at holds k
+  hold_other l k x n = get_or-set_other holds l k x no_hold n
+
+  -- one hold is written
+  written : (t l v : ℕ) (x : Hold) → l < length holds
+      → cond (nat_eq t x.holder) x.depth 0 ≡ v
+      → ((u : ℕ) → (u ≡ t → ⊥) → cond (nat_eq u x.holder) x.depth 0 ≡ depths_of holds u l)
+      → (u k : ℕ) → depths_of (set holds l x) u k ≡ with_row t (with_row l v (depths_of holds t))
+      (depths_of holds) u k
+  written t l v x lt mine others u k = go (cases_eq k l)
+    where
+      new : ℕ → ℕ → ℕ
+      new = with_row t (with_row l v (depths_of holds t)) (depths_of holds)
+
+      at_lock : (u ≡ t) ⊎ (u ≡ t → ⊥)
+          → cond (nat_eq u x.holder) x.depth 0 ≡ with_row t (with_row l v (depths_of holds t))
+          (depths_of holds) u l
+      at_lock (inl e) = subst (λ a. cond (nat_eq a x.holder) x.depth 0 ≡ new a l) (sym e) (mine
+          ∙ sym (cell_same t l v (depths_of holds)))
+      at_lock (inr n) = others u n ∙ sym (cell_other t l v (depths_of holds) u l (λ e q. n e))
+
+      go : (k ≡ l) ⊎ (k ≡ l → ⊥) → depths_of (set holds l x) u k ≡ with_row t
+          (with_row l v (depths_of holds t)) (depths_of holds) u k
+      go (inl e) = subst (λ b. depths_of (set holds l x) u b ≡ new u b) (sym e)
+          (ap (λ (h : Hold). cond (nat_eq u h.holder) h.depth 0) (hold_same l x lt) ∙ at_lock (cases_eq u t))
+      go (inr n) = ap (λ (h : Hold). cond (nat_eq u h.holder) h.depth 0) (hold_other l k x n)
+          ∙ sym (cell_other t l v (depths_of holds) u k (λ e q. n q))
+
+  acquired : (t l : ℕ) → l < length holds → Alone holds t l → (u k : ℕ)
+      → depths_of (set holds l (record { holder = t; depth = (hold_at holds l).depth + 1 })) u k
+      ≡ with_row t (with_row l (depths_of holds t l + 1) (depths_of holds t)) (depths_of holds) u k
+  acquired t l lt alone =
+      let x : Hold = record { holder = t; depth = (hold_at holds l).depth + 1 } in
+      written t l (depths_of holds t l + 1) x lt
+      (ap (λ (b : Bool). cond b ((hold_at holds l).depth + 1) 0) (nat_eq_same t)
+      ∙ ap (λ n. n + 1) (sym (alone_depth t l alone)))
+      (λ u n. ap (λ (b : Bool). cond b ((hold_at holds l).depth + 1) 0) (nat_eq_other u t n)
+      ∙ sym (alone u n))
+
+  released : (t l : ℕ) → l < length holds → (u k : ℕ)
+      → depths_of (set holds l (lowered t (hold_at holds l))) u k
+      ≡ with_row t (with_row l (depths_of holds t l - 1) (depths_of holds t)) (depths_of holds) u k
+  released t l lt = go (cases_eq (hold_at holds l).holder t)
+    where
+      h : Hold
+      h = hold_at holds l
+
+      low : Hold
+      low = record { holder = (hold_at holds l).holder; depth = (hold_at holds l).depth - 1 }
+
+      Goal : Hold → Type 0
+      Goal x = (u k : ℕ) → depths_of (set holds l x) u k ≡ with_row t
+          (with_row l (depths_of holds t l - 1) (depths_of holds t)) (depths_of holds) u k
+
+      go : ((hold_at holds l).holder ≡ t) ⊎ ((hold_at holds l).holder ≡ t → ⊥)
+          → Goal (lowered t (hold_at holds l))
+      go (inl e) = subst Goal (sym (ap (λ (b : Bool). cond b low (hold_at holds l))
+          (eq-eqb (hold_at holds l).holder t e)))
+          (written t l (depths_of holds t l - 1)
+          (record { holder = (hold_at holds l).holder; depth = (hold_at holds l).depth - 1 }) lt
+          (ap (λ (b : Bool). cond b ((hold_at holds l).depth - 1) 0)
+          (eq-eqb t (hold_at holds l).holder (sym e)) ∙ ap (λ n. n - 1) (sym (is_holder t l (sym e))))
+          (λ u n. ap (λ (b : Bool). cond b ((hold_at holds l).depth - 1) 0)
+          (nat_eq_other u (hold_at holds l).holder (λ q. n (q ∙ e)))
+          ∙ sym (not_holder u l (λ q. n (q ∙ e)))))
+      go (inr n) = subst Goal (sym (ap (λ (b : Bool). cond b low (hold_at holds l))
+          (nat_eq_other (hold_at holds l).holder t n)))
+          (written t l (depths_of holds t l - 1) (hold_at holds l) lt
+          (let z : depths_of holds t l ≡ 0 = not_holder t l (λ q. n (sym q)) in omega arith)
+          (λ u q. refl))
+
+  -- the holds after an operation are the depths after it
+  pub depths_after : (t : ℕ) (op : Op) → HasHold (length holds) op → AloneAt holds t op
+      → depths_of (holds_after t op holds) ≡ depth_after t op (depths_of holds)
+  depths_after t (Acquire l) room alone = λ i u k. acquired t l.0 room alone u k i
+  depths_after t (Release l) room alone = λ i u k. released t l.0 room u k i
+  depths_after t (Load x) room alone = refl
+  depths_after t (Store x) room alone = refl
+  depths_after t (Fork u) room alone = refl
+  depths_after t (Join u) room alone = refl
+
+  pub holds_length : (t : ℕ) (op : Op) → length (holds_after t op holds) ≡ length holds
+  holds_length t (Acquire l) = length-set holds l.0 _
+  holds_length t (Release l) = length-set holds l.0 _
+  holds_length t (Load x) = refl
+  holds_length t (Store x) = refl
+  holds_length t (Fork u) = refl
+  holds_length t (Join u) = refl
+
+  -- a lock that is held after an operation was held by that thread, or is acquired now
+  pub record WasHeld (h : Hold) (l : ℕ) : Type 0 where
+    pub held : 0 < (hold_at holds l).depth
+    pub holder : h.holder ≡ (hold_at holds l).holder
+
+  pub record IsAcquired (t : ℕ) (op : Op) (h : Hold) (l : ℕ) : Type 0 where
+    pub lock : LockId
+    pub op_is : op ≡ Acquire lock
+    pub lock_is : l ≡ lock.0
+    pub holder : h.holder ≡ t
+
+  pub held_after : (t : ℕ) (op : Op) (l : ℕ) → HasHold (length holds) op
+      → 0 < (hold_at (holds_after t op holds) l).depth
+      → WasHeld (hold_at (holds_after t op holds) l) l
+      ⊎ IsAcquired t op (hold_at (holds_after t op holds) l) l
+  held_after t (Acquire n) l room h = go (cases_eq l n.0)
+    where
+      x : Hold
+      x = record { holder = t; depth = (hold_at holds n.0).depth + 1 }
+
+      go : (l ≡ n.0) ⊎ (l ≡ n.0 → ⊥) → WasHeld (hold_at (holds_after t (Acquire n) holds) l) l
+          ⊎ IsAcquired t (Acquire n) (hold_at (holds_after t (Acquire n) holds) l) l
+      go (inl e) = inr (record {
+        lock = n;
+        op_is = refl;
+        lock_is = e;
+        holder = ap (λ k. (hold_at (holds_after t (Acquire n) holds) k).holder) e
+            ∙ ap (λ (y : Hold). y.holder) (hold_same n.0 _ room);
+      })
+      go (inr ne) =
+          let kept : hold_at (holds_after t (Acquire n) holds) l ≡ hold_at holds l = hold_other n.0 l _ ne in
+          inl (record {
+            held = subst (λ (y : Hold). 0 < y.depth) kept h;
+            holder =
+                ap (λ (y : Hold). y.holder) kept;
+          })
+  held_after t (Release n) l room h = go (cases_eq l n.0)
+    where
+      low : Hold
+      low = lowered t (hold_at holds n.0)
+
+      lower : (b : Bool) (y : Hold) → 0 <
+          (cond b (record { holder = y.holder; depth = y.depth - 1 }) y).depth → 0 < y.depth
+      lower true y p = omega arith
+      lower false y p = p
+
+      same_holder : (b : Bool) (y : Hold)
+          → (cond b (record { holder = y.holder; depth = y.depth - 1 }) y).holder ≡ y.holder
+      same_holder true y = refl
+      same_holder false y = refl
+
+      go : (l ≡ n.0) ⊎ (l ≡ n.0 → ⊥) → WasHeld (hold_at (holds_after t (Release n) holds) l) l
+          ⊎ IsAcquired t (Release n) (hold_at (holds_after t (Release n) holds) l) l
+      go (inl e) =
+          let now : hold_at (holds_after t (Release n) holds) l ≡ lowered t (hold_at holds n.0) =
+          ap (λ k. hold_at (holds_after t (Release n) holds) k) e ∙ hold_same n.0 _ room in
+          let b : Bool = nat_eq (hold_at holds n.0).holder t in
+          inl (record {
+            held = subst (λ k. 0 < (hold_at holds k).depth) (sym e)
+                (lower b (hold_at holds n.0) (subst (λ (y : Hold). 0 < y.depth) now h));
+            holder = ap (λ (y : Hold). y.holder) now ∙ same_holder b (hold_at holds n.0)
+                ∙ sym (ap (λ k. (hold_at holds k).holder) e);
+          })
+      go (inr ne) =
+          let kept : hold_at (holds_after t (Release n) holds) l ≡ hold_at holds l = hold_other n.0 l _ ne in
+          inl (record {
+            held = subst (λ (y : Hold). 0 < y.depth) kept h;
+            holder =
+                ap (λ (y : Hold). y.holder) kept;
+          })
+  held_after t (Load x) l room h = inl (record { held = h; holder = refl })
+  held_after t (Store x) l room h = inl (record { held = h; holder = refl })
+  held_after t (Fork u) l room h = inl (record { held = h; holder = refl })
+  held_after t (Join u) l room h = inl (record { held = h; holder = refl })
+
+-- nobody holds a lock that has no hold, or whose depth is 0
+pub alone_none : (holds : List Hold) (t l : ℕ) → (hold_at holds l).depth ≡ 0 → Alone holds t l
+alone_none holds t l none u n = go (nat_eq u (hold_at holds l).holder)
+  where
+    go : (b : Bool) → cond b (hold_at holds l).depth 0 ≡ 0
+    go true = none
+    go false = refl
+
+pub alone_past : (holds : List Hold) (t l : ℕ) → length holds ≤ l → Alone holds t l
+alone_past holds t l le = alone_none holds t l (ap (λ (x : Hold). x.depth) (get_or_past holds l no_hold le))
+
+pub alone_holder : (holds : List Hold) (t l : ℕ) → (hold_at holds l).holder ≡ t → Alone holds t l
+alone_holder holds t l is u n = not_holder holds u l (λ e. n (e ∙ is))
+
+-- another holder is in the way
+pub not_alone : (holds : List Hold) (t l : ℕ) → ((hold_at holds l).holder ≡ t → ⊥)
+    → ((hold_at holds l).depth ≡ 0 → ⊥) → Alone holds t l → ⊥
+not_alone holds t l other some alone = some (sym (of_holder holds l) ∙ alone (hold_at holds l).holder other)

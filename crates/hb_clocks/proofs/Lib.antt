@@ -1,0 +1,13 @@
+pub mod Brings
+pub mod Conditions
+pub mod Depths
+pub mod Growth
+pub mod HbSteps
+pub mod HoldLaws
+pub mod LegalSteps
+pub mod PoSteps
+pub mod Room
+pub mod RowLaws
+pub mod TableLaws
+pub mod TableSteps
+pub mod Unused

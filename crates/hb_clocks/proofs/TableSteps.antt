@@ -1,0 +1,226 @@
+-- The step of an event on the tables is the step of what they mean.
+use Rattle.std.proofs.Common.{◌≡◌, ℕ, ◌<◌, ◌≤◌, ◌+◌, ◌^◌, max, List, length, refl, sym, ap, ap₂, subst, ◌∙◌}
+use Rattle.std.proofs.Common.{arith, inl, inr, ◌⊎◌}
+use Rattle.std.proofs.lemmas.Bool.{cases_eq}
+use Rattle.event_core.specs.declared.ids.ThreadId.{ThreadId}
+use Rattle.event_core.specs.declared.ids.LockId.{LockId}
+use Rattle.event_core.specs.declared.events.Event.{Event}
+use Rattle.event_core.specs.declared.events.Op.{Op}
+use Rattle.event_core.specs.declared.events.Op.TheVariants.{Load, Store, Acquire, Release, Fork, Join}
+use Rattle.event_core.specs.Rows.{join, bump, with_row, Rows, to_child, to_lock, brought}
+use Rattle.event_core.specs.Turn.{Turn, Accesses, Opens, Closes, Forks, Joins, Inner}
+use Rattle.event_core.proofs.Growing.{row_same, row_other}
+use Rattle.hb_clocks.specs.declared.holds.Hold.{Hold}
+use Rattle.hb_clocks.specs.Holds.{hold_at, holds_after, is_outer, turn_by, HasHold}
+use Rattle.hb_clocks.specs.State.{HbState, turn, without_locks, clock_after, after}
+use Rattle.hb_clocks.specs.Stands.{IsFew, Admits, IsAlone}
+use Rattle.hb_clocks.specs.Tables.{Tables, rows_of, widths_of, hb_rows, state_from, IsMade, HasThread}
+use Rattle.hb_clocks.specs.Tables.{HasClocks, IsReady, KeepsRoom, ReleasesReady, AreTables}
+use Rattle.hb_clocks.proofs.HoldLaws.{AloneAt, of_holder, outer_turn, depths_after, holds_length, WasHeld}
+use Rattle.hb_clocks.proofs.HoldLaws.{IsAcquired, held_after}
+use Rattle.hb_clocks.proofs.TableLaws.{made_kept, wide_kept, releases_ready}
+
+-- a row that is written twice
+row_again : (t : ℕ) (g h : ℕ → ℕ) (f : ℕ → ℕ → ℕ) → with_row t g (with_row t h f) ≡ with_row t g f
+row_again t g h f i a = go a (cases_eq a t) i
+  where
+    go : (a : ℕ) → (a ≡ t) ⊎ (a ≡ t → ⊥) → with_row t g (with_row t h f) a ≡ with_row t g f a
+    go a (inl q) = subst (λ b. with_row t g (with_row t h f) b ≡ with_row t g f b) (sym q)
+        (row_same t g (with_row t h f) ∙ sym (row_same t g f))
+    go a (inr n) = row_other t g (with_row t h f) a n ∙ row_other t h f a n ∙ sym (row_other t g f a n)
+
+-- what is taken, then the event
+module _ (t : ℕ) (source : ℕ → ℕ) (f taken bumped : ℕ → ℕ → ℕ)
+    (takes : taken ≡ with_row t (join (f t) source) f)
+    (bumps : bumped ≡ with_row t (bump t (taken t)) taken) where
+  row : ℕ → ℕ
+  row = bump t (join (f t) source)
+
+  pub rows_bumped : bumped ≡ with_row t (bump t (join (f t) source)) f
+  rows_bumped =
+      bumps ∙ ap (λ (g : ℕ → ℕ → ℕ). with_row t (bump t (g t)) g) takes
+      ∙ row_again t (bump t (with_row t (join (f t) source) f t)) (join (f t) source) f
+      ∙ ap (λ (g : ℕ → ℕ). with_row t (bump t g) f) (row_same t (join (f t) source) f)
+
+  own_bumped : bumped t ≡ bump t (join (f t) source)
+  own_bumped = ap (λ (g : ℕ → ℕ → ℕ). g t) rows_bumped ∙ row_same t (bump t (join (f t) source)) f
+
+  pub child_step : (k : Turn) (given : ℕ → ℕ → ℕ) → given ≡ to_child k (bumped t) bumped
+      → given ≡ to_child k (bump t (join (f t) source)) (with_row t (bump t (join (f t) source)) f)
+  child_step k given gives = gives ∙ ap₂ (to_child k) own_bumped rows_bumped
+
+  pub lock_step : (k : Turn) (locks given : ℕ → ℕ → ℕ) → given ≡ to_lock k (bumped t) locks
+      → given ≡ to_lock k (bump t (join (f t) source)) locks
+  lock_step k locks given gives = gives ∙ ap (λ g. to_lock k g locks) own_bumped
+
+-- a thread's own number after what is taken
+pub own_few : (t most : ℕ) (source : ℕ → ℕ) (f taken : ℕ → ℕ → ℕ) → taken ≡ with_row t (join (f t) source) f
+    → f t t ≤ most → source t ≤ most → taken t t ≤ most
+own_few t most source f taken takes a b =
+    let e : taken t t ≡ max (f t t) (source t) =
+    ap (λ (g : ℕ → ℕ → ℕ). g t t) takes ∙ ap (λ (g : ℕ → ℕ). g t) (row_same t (join (f t) source) f) in
+    omega arith
+
+-- what is brought is as few as what it is brought from
+pub brought_few : (most : ℕ) (r : Rows) → ((t u : ThreadId) → r.thread t.0 u.0 ≤ most)
+    → ((l : LockId) (u : ThreadId) → r.lock l.0 u.0 ≤ most)
+    → (k : Turn) (u : ThreadId) → brought k r u.0 ≤ most
+brought_few most r a b (Joins v) u = a v u
+brought_few most r a b (Opens l) u = b l u
+brought_few most r a b (Accesses x k) u = omega arith
+brought_few most r a b (Closes l) u = omega arith
+brought_few most r a b (Forks v) u = omega arith
+brought_few most r a b Inner u = omega arith
+
+same_state : (a b : HbState) → a.po ≡ b.po → a.hb.thread ≡ b.hb.thread → a.hb.lock ≡ b.hb.lock
+    → a.depth ≡ b.depth → a ≡ b
+same_state a b p h l d i = record { po = p i; hb = record { thread = h i; lock = l i }; depth = d i }
+
+pub alone_at : (s : HbState) (holds : List Hold) (t : ThreadId) (op : Op)
+    → s.depth ≡ Rattle.hb_clocks.specs.Holds.depths_of holds → IsAlone s t op → AloneAt holds t.0 op
+alone_at s holds t (Acquire l) e a = λ u n. sym (ap (λ (f : ℕ → ℕ → ℕ). f u l.0) e) ∙ a (record { 0 = u }) n
+alone_at s holds t (Load x) e a = tt
+alone_at s holds t (Store x) e a = tt
+alone_at s holds t (Release l) e a = tt
+alone_at s holds t (Fork u) e a = tt
+alone_at s holds t (Join u) e a = tt
+
+module _ (po hb lock : List (List ℕ)) (holds : List Hold) (e : Event) where
+  abbrev old : HbState
+  old = state_from po hb lock holds
+
+  -- the turn as the code tells it
+  abbrev pub told : Turn
+  told = turn_by e.op (is_outer e.thread.0 e.op holds)
+
+  pub turn_told : Admits (state_from po hb lock holds) e.thread e.op
+      → turn e (state_from po hb lock holds) ≡ told
+  turn_told a = outer_turn holds e.thread.0 e.op (alone_at old holds e.thread e.op refl a.alone)
+
+  pub exact_step : (po' hb' lock' : List (List ℕ)) (holds' : List Hold) → HasHold (length holds) e.op
+      → Admits (state_from po hb lock holds) e.thread e.op
+      → rows_of po' ≡ to_child told (clock_after e.thread told (without_locks (rows_of po)))
+      (with_row e.thread.0 (clock_after e.thread told (without_locks (rows_of po))) (rows_of po))
+      → rows_of hb' ≡ to_child told (clock_after e.thread told (hb_rows hb lock))
+      (with_row e.thread.0 (clock_after e.thread told (hb_rows hb lock)) (rows_of hb))
+      → rows_of lock' ≡ to_lock told (clock_after e.thread told (hb_rows hb lock)) (rows_of lock)
+      → holds' ≡ holds_after e.thread.0 e.op holds
+      → state_from po' hb' lock' holds' ≡ after e (state_from po hb lock holds)
+  exact_step po' hb' lock' holds' room a p h l d =
+      let k : told ≡ turn e (state_from po hb lock holds) = sym (turn_told a) in
+      same_state (state_from po' hb' lock' holds') (after e (state_from po hb lock holds))
+      (p ∙ ap (λ k. to_child k (clock_after e.thread k (without_locks (rows_of po)))
+      (with_row e.thread.0 (clock_after e.thread k (without_locks (rows_of po))) (rows_of po))) k)
+      (h ∙ ap (λ k. to_child k (clock_after e.thread k (hb_rows hb lock))
+      (with_row e.thread.0 (clock_after e.thread k (hb_rows hb lock)) (rows_of hb))) k)
+      (l ∙ ap (λ k. to_lock k (clock_after e.thread k (hb_rows hb lock)) (rows_of lock)) k)
+      (ap Rattle.hb_clocks.specs.Holds.depths_of d
+      ∙ depths_after holds e.thread.0 e.op room (alone_at old holds e.thread e.op refl a.alone))
+
+-- no lock is held more often than the greatest number of events
+pub depth_few : (po hb lock : List (List ℕ)) (holds : List Hold) → IsFew (state_from po hb lock holds)
+    → (l : ℕ) → (hold_at holds l).depth + 1 < 2 ^ 64
+depth_few po hb lock holds few l =
+    let h = few.depth (record { 0 = (hold_at holds l).holder }) (record { 0 = l }) in
+    let e = of_holder holds l in
+    omega arith
+
+-- room that is kept by equal widths
+pub thread_kept : (w t : ℕ) (po hb po' hb' : List (List ℕ)) → widths_of po' ≡ widths_of po
+    → widths_of hb' ≡ widths_of hb
+    → HasThread w po hb t → HasThread w po' hb' t
+thread_kept w t po hb po' hb' p h r =
+    record {
+      within = r.within;
+      po_made = made_kept w t po po' p r.po_made;
+      hb_made =
+          made_kept w t hb hb' h r.hb_made;
+    }
+
+pub clocks_kept : (w : ℕ) (po hb lock po' hb' lock' : List (List ℕ)) (op : Op)
+    → widths_of po' ≡ widths_of po → widths_of hb' ≡ widths_of hb → widths_of lock' ≡ widths_of lock
+    → HasClocks w po hb lock op → HasClocks w po' hb' lock' op
+clocks_kept w po hb lock po' hb' lock' (Fork u) p h l r = thread_kept w u.0 po hb po' hb' p h r
+clocks_kept w po hb lock po' hb' lock' (Join u) p h l r = thread_kept w u.0 po hb po' hb' p h r
+clocks_kept w po hb lock po' hb' lock' (Acquire n) p h l r = made_kept w n.0 lock lock' l r
+clocks_kept w po hb lock po' hb' lock' (Release n) p h l r = made_kept w n.0 lock lock' l r
+clocks_kept w po hb lock po' hb' lock' (Load x) p h l r = tt
+clocks_kept w po hb lock po' hb' lock' (Store x) p h l r = tt
+
+pub hold_kept : (m n : ℕ) (op : Op) → m ≤ n → HasHold m op → HasHold n op
+hold_kept m n (Acquire l) le h = omega arith
+hold_kept m n (Release l) le h = omega arith
+hold_kept m n (Load x) le h = tt
+hold_kept m n (Store x) le h = tt
+hold_kept m n (Fork u) le h = tt
+hold_kept m n (Join u) le h = tt
+
+-- the tables after the step keep what tables keep
+pub tables_after : (w : ℕ) (zeros : List ℕ) (po hb lock po' hb' lock' : List (List ℕ)) (holds : List Hold)
+    (t : ThreadId) (op : Op)
+    → widths_of po' ≡ widths_of po → widths_of hb' ≡ widths_of hb → widths_of lock' ≡ widths_of lock
+    → HasThread w po hb t.0 → HasClocks w po hb lock op → HasHold (length holds) op
+    → AreTables w zeros po hb lock holds → AreTables w zeros po' hb' lock' (holds_after t.0 op holds)
+tables_after w zeros po hb lock po' hb' lock' holds t op p h l thread clocks room a = record {
+  some = a.some;
+  only_zeros = a.only_zeros;
+  po_wide = wide_kept w po po' p a.po_wide;
+  hb_wide = wide_kept w hb hb' h a.hb_wide;
+  lock_wide = wide_kept w lock lock' l a.lock_wide;
+  held_thread = λ n d. thread_kept w (hold_at (holds_after t.0 op holds) n).holder po hb po' hb' p h
+      (holder n (held_after holds t.0 op n room d));
+  held_lock = λ n d. made_kept w n lock lock' l (made n (held_after holds t.0 op n room d));
+}
+  where
+    new : ℕ → Hold
+    new n = hold_at (holds_after t.0 op holds) n
+
+    holder : (n : ℕ) → WasHeld holds (hold_at (holds_after t.0 op holds) n) n
+        ⊎ IsAcquired holds t.0 op (hold_at (holds_after t.0 op holds) n) n
+        → HasThread w po hb (hold_at (holds_after t.0 op holds) n).holder
+    holder n (inl x) = subst (HasThread w po hb) (sym x.holder) (a.held_thread n x.held)
+    holder n (inr x) = subst (HasThread w po hb) (sym x.holder) thread
+
+    made : (n : ℕ) → WasHeld holds (hold_at (holds_after t.0 op holds) n) n
+        ⊎ IsAcquired holds t.0 op (hold_at (holds_after t.0 op holds) n) n
+        → IsMade w lock n
+    made n (inl x) = a.held_lock n x.held
+    made n (inr x) = subst (IsMade w lock) (sym x.lock_is) (subst (HasClocks w po hb lock) x.op_is clocks)
+
+-- what was ready stays so
+pub ready_kept : (old new : Tables) → new.width ≡ old.width → widths_of new.po ≡ widths_of old.po
+    → widths_of new.hb ≡ widths_of old.hb
+    → widths_of new.lock ≡ widths_of old.lock → length new.holds ≡ length old.holds
+    → (t : ThreadId) (op : Op) → IsReady old t op → IsReady new t op
+ready_kept old new w p h l n t op r = record {
+  thread = subst (λ k. HasThread k new.po new.hb t.0) (sym w)
+      (thread_kept old.width t.0 old.po old.hb new.po new.hb p h r.thread);
+  clocks = subst (λ k. HasClocks k new.po new.hb new.lock op) (sym w)
+      (clocks_kept old.width old.po old.hb old.lock new.po new.hb new.lock op p h l r.clocks);
+  hold = hold_kept (length old.holds) (length new.holds) op (omega arith) r.hold;
+}
+
+-- what the step keeps of tables and their room
+pub record IsStepped (zeros : List ℕ) (old new : Tables) : Type 0 where
+  pub tables : AreTables new.width zeros new.po new.hb new.lock new.holds
+  pub kept : KeepsRoom old new
+  pub releases : ReleasesReady new
+
+pub stepped : (zeros : List ℕ) (old new : Tables) (t : ThreadId) (op : Op) → new.width ≡ old.width
+    → widths_of new.po ≡ widths_of old.po → widths_of new.hb ≡ widths_of old.hb
+    → widths_of new.lock ≡ widths_of old.lock
+    → new.holds ≡ holds_after t.0 op old.holds → IsReady old t op
+    → AreTables old.width zeros old.po old.hb old.lock old.holds
+    → IsStepped zeros old new
+stepped zeros old new t op w p h l d ready a =
+    let same : length new.holds ≡ length old.holds = ap length d ∙ holds_length old.holds t.0 op in
+    let tables : AreTables new.width zeros new.po new.hb new.lock new.holds =
+    subst (λ k. AreTables k zeros new.po new.hb new.lock new.holds) (sym w)
+    (subst (λ (xs : List Hold). AreTables old.width zeros new.po new.hb new.lock xs) (sym d)
+    (tables_after old.width zeros old.po old.hb old.lock new.po new.hb new.lock old.holds t op p h l
+    ready.thread ready.clocks ready.hold a)) in
+    record {
+      tables = tables;
+      kept = ready_kept old new w p h l same;
+      releases = releases_ready new zeros tables;
+    }

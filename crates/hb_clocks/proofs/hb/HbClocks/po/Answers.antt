@@ -1,0 +1,17 @@
+use Rattle.std.proofs.Common.{ap, sym, subst, ◌∙◌}
+use Rattle.event_core.specs.Order.{Po}
+use Rattle.event_core.specs.Rows.{Counted}
+use Rattle.hb_clocks.specs.Tables.{Tables, rows_of}
+use Rattle.hb_clocks.proofs.Conditions.{po_latest}
+use Rattle.hb_clocks.proofs.hb.HbClocks.po.Goals as goal
+
+pub returns-clause-exact : goal.returns-clause-exact
+returns-clause-exact c =
+    c.row_or.ensures.counts ∙ ap (λ xs. rows_of xs c.args.thread.0) c.deref.ensures.value
+    ∙ ap (λ (v : Tables). rows_of v.po c.args.thread.0) c.self.view_is
+
+pub returns-clause-latest : goal.returns-clause-latest
+returns-clause-latest c limits log j w st latest =
+    subst (Counted log (λ i. Po log i j)) (sym (returns-clause-exact c))
+    (po_latest limits log c.args.thread j (rows_of c.args.self.now.po c.args.thread.0) w latest
+    (st.po c.args.thread))

@@ -1,0 +1,35 @@
+use Rattle.std.proofs.Common.{◌<◌, length}
+use Rattle.hb_clocks.specs.Tables.{HasThread, IsMade, IsReady}
+use Rattle.hb_clocks.proofs.Room.{on_ok, on_both, thread_stays, ready_lock, ready_thread}
+use Rattle.hb_clocks.proofs.hb.HbClocks.prepare.Goals as goal
+
+pub returns-in-Acquire-clause-kept : goal.returns-in-Acquire-clause-kept
+returns-in-Acquire-clause-kept c t op ready =
+    c.make_lock.ensures.kept t op (c.in_ok-make_thread.ensures.kept t op ready)
+
+pub returns-in-Fork-clause-kept : goal.returns-in-Fork-clause-kept
+returns-in-Fork-clause-kept c t op ready =
+    c.make_thread-in-Fork.ensures.kept t op (c.in_ok-make_thread.ensures.kept t op ready)
+
+pub returns-in-Acquire-clause-ready : goal.returns-in-Acquire-clause-ready
+returns-in-Acquire-clause-ready c =
+    let new = c.make_lock.new.self in
+    let t = c.args.event.now.thread in
+    let l = c.in-Acquire.lock in
+    on_both c.make_lock.result (IsMade new.width new.lock l.0) (l.0 < length new.holds)
+    (IsReady new t c.args.event.now.op)
+    (ready_lock new t c.args.event.now.op l c.in-Acquire.is
+    (thread_stays c.make_thread.new.self new t c.make_lock.ensures.kept c.in_ok-make_thread.ensures.made))
+    c.make_lock.ensures.clock c.make_lock.ensures.hold
+
+pub returns-in-Fork-clause-ready : goal.returns-in-Fork-clause-ready
+returns-in-Fork-clause-ready c =
+    let new = c.make_thread-in-Fork.new.self in
+    let t = c.args.event.now.thread in
+    let u = c.in-Fork.child in
+    on_ok c.make_thread-in-Fork.result (HasThread new.width new.po new.hb u.0)
+    (IsReady new t c.args.event.now.op)
+    (ready_thread new t c.args.event.now.op u c.in-Fork.is
+    (thread_stays c.make_thread.new.self new t c.make_thread-in-Fork.ensures.kept
+    c.in_ok-make_thread.ensures.made))
+    c.make_thread-in-Fork.ensures.made

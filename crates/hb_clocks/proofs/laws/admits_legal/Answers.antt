@@ -1,0 +1,5 @@
+use Rattle.hb_clocks.proofs.Conditions.{admits_legal}
+use Rattle.hb_clocks.proofs.laws.admits_legal.Goals as goal
+
+pub returns : goal.returns
+returns c = admits_legal

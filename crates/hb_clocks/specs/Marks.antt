@@ -1,0 +1,23 @@
+-- Events named by their thread and their position.
+use Rattle.std.specs.Prelude.{◌≡◌, ℕ, ◌+◌, ◌<◌, List}
+use Rattle.std.proofs.Math.ListN.{take}
+use Rattle.event_core.specs.declared.ids.ThreadId.{ThreadId}
+use Rattle.event_core.specs.declared.events.Event.{Event}
+use Rattle.event_core.specs.Log.{Of}
+use Rattle.event_core.specs.Count.{events_of}
+
+-- a thread and the position of one of its events, the first of which has position 1
+pub record Named : Type 0 where
+  pub thread : ℕ
+  pub position : ℕ
+
+-- event j is the thread's latest
+pub record IsLatest (log : List Event) (t : ThreadId) (j : ℕ) : Type 0 where
+  pub of : Of log j t
+  pub last : (k : ℕ) → j < k → Of log k t → ⊥
+
+-- the mark is of event j of the thread
+pub record Names (log : List Event) (mark : Named) (t : ThreadId) (j : ℕ) : Type 0 where
+  pub of : Of log j t
+  pub thread : mark.thread ≡ t.0
+  pub position : mark.position ≡ events_of (take j log) t + 1

@@ -1,0 +1,104 @@
+-- The tables of clocks: what they mean, and the room in them.
+use Rattle.std.specs.Prelude.{◌≡◌, ℕ, ◌<◌, List, [], length, replicate, slice_index_or}
+use Rattle.event_core.specs.declared.ids.ThreadId.{ThreadId}
+use Rattle.event_core.specs.declared.events.Event.{Event}
+use Rattle.event_core.specs.declared.events.Op.{Op}
+use Rattle.event_core.specs.declared.events.Op.TheVariants.{Acquire, Release, Fork, Join}
+use Rattle.event_core.specs.Rows.{Rows}
+use Rattle.hb_clocks.specs.Counts.{counts_of}
+use Rattle.hb_clocks.specs.State.{HbState}
+use Rattle.hb_clocks.specs.Stands.{IsHeldRelease}
+use Rattle.hb_clocks.specs.Holds.{hold_at, depths_of, HasHold}
+use Rattle.hb_clocks.specs.declared.holds.Hold.{Hold}
+
+-- the clocks of threads and of locks, none of numbers where none was made, and who holds each lock
+pub record Tables : Type 0 where
+  pub width : ℕ
+  pub po : List (List ℕ)
+  pub hb : List (List ℕ)
+  pub lock : List (List ℕ)
+  pub holds : List Hold
+
+abbrev pub tables : ℕ → List (List ℕ) → List (List ℕ) → List (List ℕ) → List Hold → Tables
+tables width po hb lock holds = record { width = width; po = po; hb = hb; lock = lock; holds = holds }
+
+abbrev pub row_at : List (List ℕ) → ℕ → List ℕ
+row_at rows t = slice_index_or rows t []
+
+abbrev pub widths_of : List (List ℕ) → ℕ → ℕ
+widths_of rows t = length (row_at rows t)
+
+-- zeros where there is no clock
+abbrev pub rows_of : List (List ℕ) → ℕ → ℕ → ℕ
+rows_of rows t = counts_of (row_at rows t)
+
+abbrev pub hb_rows : List (List ℕ) → List (List ℕ) → Rows
+hb_rows hb lock = record { thread = rows_of hb; lock = rows_of lock }
+
+abbrev pub state_from : List (List ℕ) → List (List ℕ) → List (List ℕ) → List Hold → HbState
+state_from po hb lock holds = record {
+  po = rows_of po;
+  hb = hb_rows hb lock;
+  depth = depths_of holds;
+}
+
+-- what the tables mean
+abbrev pub state_of : Tables → HbState
+state_of t = state_from t.po t.hb t.lock t.holds
+
+-- the clock was made
+pub record IsMade (width : ℕ) (rows : List (List ℕ)) (t : ℕ) : Type 0 where
+  pub wide : widths_of rows t ≡ width
+
+-- a clock that has numbers has the width
+pub record AreWide (width : ℕ) (rows : List (List ℕ)) : Type 0 where
+  pub wide : (t : ℕ) → 0 < widths_of rows t → widths_of rows t ≡ width
+
+-- the thread is below the width, and both of its clocks were made
+pub record HasThread (width : ℕ) (po hb : List (List ℕ)) (t : ℕ) : Type 0 where
+  pub within : t < width
+  pub po_made : IsMade width po t
+  pub hb_made : IsMade width hb t
+
+-- the clocks that the operation names were made
+abbrev pub HasClocks : ℕ → List (List ℕ) → List (List ℕ) → List (List ℕ) → Op → Type 0
+HasClocks w po hb lock (Fork u) = HasThread w po hb u.0
+HasClocks w po hb lock (Join u) = HasThread w po hb u.0
+HasClocks w po hb lock (Acquire l) = IsMade w lock l.0
+HasClocks w po hb lock (Release l) = IsMade w lock l.0
+HasClocks w po hb lock _ = Unit {0}
+
+-- there is room for the thread's operation
+pub record IsReady (c : Tables) (t : ThreadId) (op : Op) : Type 0 where
+  pub thread : HasThread c.width c.po c.hb t.0
+  pub clocks : HasClocks c.width c.po c.hb c.lock op
+  pub hold : HasHold (length c.holds) op
+
+-- what was ready stays so
+abbrev pub KeepsRoom : Tables → Tables → Type 0
+KeepsRoom old new = (t : ThreadId) (op : Op) → IsReady old t op → IsReady new t op
+
+-- each release by a holder is ready
+abbrev pub ReleasesReady : Tables → Type 0
+ReleasesReady c = (t : ThreadId) (op : Op) → IsHeldRelease (state_of c) t op → IsReady c t op
+
+-- the threads that are named are below the width
+abbrev pub NamesWithin : ℕ → Op → Type 0
+NamesWithin w (Fork u) = u.0 < w
+NamesWithin w (Join u) = u.0 < w
+NamesWithin w _ = Unit {0}
+
+abbrev pub IsWithin : ℕ → Event → Type 0
+IsWithin w e = (e.thread.0 < w) × NamesWithin w e.op
+
+-- what the fields keep
+pub record AreTables (width : ℕ) (zeros : List ℕ) (po hb lock : List (List ℕ))
+    (holds : List Hold) : Type 0 where
+  pub some : 0 < width
+  pub only_zeros : zeros ≡ replicate width 0
+  pub po_wide : AreWide width po
+  pub hb_wide : AreWide width hb
+  pub lock_wide : AreWide width lock
+  -- a lock that is held has room, and so has its holder
+  pub held_thread : (l : ℕ) → 0 < (hold_at holds l).depth → HasThread width po hb (hold_at holds l).holder
+  pub held_lock : (l : ℕ) → 0 < (hold_at holds l).depth → IsMade width lock l

@@ -1,0 +1,140 @@
+//! Vector clocks of a fixed width.
+//!
+//! A clock keeps beside its numbers how far it is in use, so that a join and a copy go no further
+//! than the threads that there are, however many there may be.
+ghost use Rattle.std.specs.Prelude.{◌≡◌, ◌+◌, ◌<◌, ◌≤◌, ◌^◌, [], length, replicate, slice_set, IfOk};
+ghost use Rattle.event_core.specs.Rows.{join};
+ghost use Rattle.hb_clocks.specs.Counts.{counts_of, IsUnusedFrom};
+
+use crate::work::Work;
+use event_core::{OutOfMemory, ThreadId};
+use std::alloc::Global;
+use std::marker::Model;
+
+/// A number for each thread below the clock's width.
+#[derive(Drop)]
+pub struct Clock {
+    counts: Vec<u64>,
+    // From this thread on, each number is 0.
+    used: usize,
+}
+
+impl Model for Clock {
+    ghost use Rattle.std.specs.Prelude.{List, ℕ};
+    ghost use Rattle.hb_clocks.specs.Counts.{IsUnusedFrom};
+
+    ghost Value = { List ℕ };
+
+    ghost view = { λ c. c.counts.items };
+
+    ghost invariant = { λ c. IsUnusedFrom c.counts.items c.used };
+}
+
+impl Clock {
+    /// A clock of this width with zeros. It is the only call that takes memory.
+    pub fn new(alloc: Global, width: usize) -> Result<Clock, OutOfMemory>
+        ensures { IfOk result (λ clock. clock ≡ replicate width 0) }
+    {
+        let Ok(counts) = vec![in alloc; 0; width] else {
+            return Err(OutOfMemory);
+        };
+        Ok(Clock { counts, used: 0 })
+    }
+
+    /// The number of a thread.
+    pub fn at(&self, thread: ThreadId) -> u64
+        requires { thread.0 < length self.now }
+        ensures { result ≡ counts_of self.now thread.0 }
+    {
+        self.counts[thread.0 as usize]
+    }
+
+    /// Takes the greater number of each thread. It is one join.
+    pub fn join(&mut self, other: &Clock, work: &mut Work)
+        requires widths { length self.old ≡ length other.now }
+        requires few { work.old.joins < 2 ^ 63 }
+        ensures width { length self.new ≡ length self.old }
+        ensures greater { counts_of self.new ≡ join (counts_of self.old) (counts_of other.now) }
+        ensures work { work.new ≡ record work.old { joins = work.old.joins + 1 } }
+    {
+        work.add_join();
+        self.raise(other);
+    }
+
+    /// Takes the other clock's numbers.
+    pub fn copy_from(&mut self, other: &Clock)
+        requires widths { length self.old ≡ length other.now }
+        ensures { self.new ≡ other.now }
+    {
+        let used = if self.used < other.used {
+            other.used
+        } else {
+            self.used
+        };
+        copy_counts(&mut self.counts, &other.counts, used);
+        self.used = other.used;
+    }
+
+    // A clock that was not made: it has no numbers, and takes no memory.
+    pub(crate) fn unmade(alloc: Global) -> Clock
+        ensures { result ≡ [] }
+    {
+        Clock {
+            counts: Vec::new(alloc),
+            used: 0,
+        }
+    }
+
+    // How many threads it has numbers for.
+    pub(crate) fn width(&self) -> usize
+        ensures { result ≡ length self.now }
+    {
+        self.counts.len()
+    }
+
+    // Takes the greater number of each thread.
+    pub(crate) fn raise(&mut self, other: &Clock)
+        requires widths { length self.old ≡ length other.now }
+        ensures width { length self.new ≡ length self.old }
+        ensures greater { counts_of self.new ≡ join (counts_of self.old) (counts_of other.now) }
+    {
+        join_counts(&mut self.counts, &other.counts, other.used);
+        if self.used < other.used {
+            self.used = other.used;
+        }
+    }
+
+    // Sets the number of a thread.
+    pub(crate) fn set(&mut self, thread: ThreadId, count: u64)
+        requires { thread.0 < length self.old }
+        ensures { self.new ≡ slice_set self.old thread.0 count }
+    {
+        let at = thread.0 as usize;
+        self.counts[at] = count;
+        if self.used <= at {
+            self.used = at + 1;
+        }
+    }
+}
+
+// The greater of the numbers of the threads in use. The write is unconditional: a branch in its
+// place costs five to ten times as much.
+fn join_counts(mine: &mut [u64], theirs: &[u64], used: usize)
+    requires widths { length mine.old ≡ length theirs.now }
+    requires unused { IsUnusedFrom theirs.now used }
+    ensures { counts_of mine.new ≡ join (counts_of mine.old) (counts_of theirs.now) }
+{
+    for u in 0..used {
+        mine[u] = mine[u].max(theirs[u]);
+    }
+}
+
+// The numbers of the threads in use, beyond which both have zeros.
+fn copy_counts(mine: &mut [u64], theirs: &[u64], used: usize)
+    requires widths { length mine.old ≡ length theirs.now }
+    requires mine { IsUnusedFrom mine.old used }
+    requires theirs { IsUnusedFrom theirs.now used }
+    ensures { mine.new ≡ theirs.now }
+{
+    mine[..used].copy_from_slice(&theirs[..used]);
+}

@@ -1,0 +1,19 @@
+//! Clocks of program order and of happens-before: of each thread, how many events of each other
+//! thread are ordered before what it does next.
+#![tactic(auto)]
+
+mod clock;
+mod hb;
+mod holds;
+pub mod laws;
+mod mark;
+mod rows;
+mod step;
+#[cfg(test)]
+mod tests;
+mod work;
+
+pub use clock::Clock;
+pub use hb::HbClocks;
+pub use mark::Mark;
+pub use work::Work;

@@ -1,0 +1,64 @@
+use Rattle.std.proofs.Common.{◌≡◌, ℕ, ◌-◌, ◌<◌, length, ap, refl, sym, subst, ◌∙◌, List, Option, None, Bor}
+use Rattle.std.specs.Prelude.{MatchOption, IsSomeAnd}
+use Rattle.event_core.specs.Closed.{Closed, number_counted, below_closed}
+use Rattle.event_core.specs.Rows.{with_row, no_clock}
+use Rattle.event_core.proofs.Growing.{row_same}
+use Rattle.hb_clocks.specs.Counts.{counts_of}
+use Rattle.lock_queues.specs.Sections.{closed_at, latest_counted}
+use Rattle.lock_queues.specs.Queues.{Tables, closed_of, found_of}
+use Rattle.lock_queues.proofs.Answering.{match_option, if_some}
+use Rattle.lock_queues.proofs.queues.Queues.last_below.Goals as goal
+
+pub latest-requires : goal.latest-requires
+latest-requires c =
+    let IsEntered : (ℕ → ℕ → ℕ) → Type 0 = λ f. 0 < f c.args.thread.0 c.args.lock.0 in
+    record { entered = subst IsEntered (sym c.seek.ensures.found.opened) c.requires.entered }
+
+pub returns : goal.returns
+returns c =
+    let t = c.args.thread.0 in
+    let l = c.args.lock.0 in
+    let old : Tables = c.args.self.now in
+    let new : Tables = c.seek.new.self in
+    let clock : ℕ → ℕ = counts_of c.args.clock.now in
+    let qs : List Closed = closed_of old l in
+    let n : ℕ = number_counted clock qs in
+    let threads : ℕ = old.limits.threads in
+    let found : found_of new l t ≡ n
+    = ap (λ (f : ℕ → ℕ → ℕ). f l t) c.seek.ensures.found.found
+      ∙ ap (λ (f : ℕ → ℕ). f t) (row_same l (with_row t n (found_of old l)) (found_of old))
+      ∙ row_same t n (found_of old l) in
+    let closed : closed_of new l ≡ qs = ap (λ (f : ℕ → List Closed). f l) c.seek.ensures.found.closed in
+    let wide : new.limits.threads ≡ threads = ap (λ b. b.threads) c.seek.ensures.found.limits in
+    let Reads : ℕ → List Closed → ℕ → Bor (List ℕ) → Type 0
+    = λ k xs w r. (0 < k) × (counts_of r.now ≡ (closed_at xs (k - 1)).release) × (length r.now ≡ w) in
+    let known : MatchOption c.latest.result (n ≡ 0) (Reads n qs threads)
+    = subst (λ (w : ℕ). MatchOption c.latest.result (n ≡ 0) (Reads n qs w)) wide
+      (subst (λ (xs : List Closed). MatchOption c.latest.result (n ≡ 0) (Reads n xs new.limits.threads))
+          closed
+        (subst (λ (k : ℕ). MatchOption c.latest.result (k ≡ 0) (Reads k (closed_of new l) new.limits.threads))
+          found c.latest.ensures)) in
+    let answer = match_option c.latest.result (n ≡ 0) in
+    let before = c.seek.ensures.latest in
+    (
+      (refl, λ _. tt, c.seek.ensures.found),
+      record {
+        number = answer (n ≡ 0) (Reads n qs threads) (λ _. 0 < n) (λ z. z) (λ r h. h.0) known;
+        latest =
+          answer (latest_counted clock qs ≡ None) (Reads n qs threads)
+          (λ r. IsSomeAnd (latest_counted clock qs) (λ q. q.release ≡ counts_of r.now))
+              (λ z. before.none_latest z)
+          (λ r h. subst (λ (o : Option Closed). IsSomeAnd o (λ q. q.release ≡ counts_of r.now))
+            (sym (before.latest h.0)) (sym h.1))
+          known;
+        below =
+          answer (below_closed clock qs ≡ no_clock) (Reads n qs threads)
+          (λ r. counts_of r.now ≡ below_closed clock qs) (λ z. before.none_below z)
+          (λ r h. h.1 ∙ sym (before.below h.0)) known;
+        width = if_some c.latest.result (n ≡ 0) (Reads n qs threads) (λ r. length r.now ≡ threads)
+            (λ r h. h.2) known;
+        comparisons = c.seek.ensures.comparisons;
+        joins = c.seek.ensures.joins;
+        after = tt;
+      },
+    )

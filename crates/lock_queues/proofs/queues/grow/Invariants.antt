@@ -1,0 +1,14 @@
+use Rattle.std.proofs.Common.{◌-◌, ◌≤◌, length}
+use Rattle.lock_queues.specs.Queue.{AreAlike}
+use Rattle.lock_queues.specs.Queues.{AreWide}
+use Rattle.lock_queues.proofs.queues.grow.Given as goal
+
+abbrev pub invariant-growing : goal.invariant-growing
+invariant-growing l = record {
+  same : AreAlike l.initial.queues.items l.queues.items;
+  wide : AreWide l.width l.queues.items;
+  more : length l.initial.queues.items ≤ length l.queues.items;
+}
+
+abbrev pub decreases-growing : goal.decreases-growing
+decreases-growing l = l.count - length l.queues.items

@@ -1,0 +1,43 @@
+-- What is kept of all locks, and what it means.
+use Rattle.std.specs.Prelude.{ℕ, ◌≡◌, ◌<◌, List, length, map, slice_index, Bool}
+use Rattle.event_core.specs.Bounds.{Bounds}
+use Rattle.event_core.specs.Closed.{Closed, number_counted}
+use Rattle.hb_clocks.specs.Counts.{counts_of}
+use Rattle.lock_queues.specs.Sections.{closed_as}
+use Rattle.lock_queues.specs.Rooms.{opened_in, has_room_in}
+use Rattle.lock_queues.specs.Queue.{Kept, queue_at}
+
+pub record Tables : Type 0 where
+  pub limits : Bounds
+  pub queues : List Kept
+
+-- the closed sections on the lock, in the order of their releases
+abbrev pub closed_of : Tables → ℕ → List Closed
+closed_of v lock = map closed_as (queue_at v.queues lock).closed
+
+-- the position of the acquire of the thread's open section on the lock, 0 where there is none
+abbrev pub opened_of : Tables → ℕ → ℕ → ℕ
+opened_of v thread lock = opened_in (queue_at v.queues lock).rooms thread
+
+-- how many of the lock's closed sections the thread has found counted
+abbrev pub found_of : Tables → ℕ → ℕ → ℕ
+found_of v lock thread = slice_index (queue_at v.queues lock).found thread
+
+-- whether there is room for the thread's next section on the lock, or for its open one
+abbrev pub has_room : Tables → ℕ → ℕ → Bool
+has_room v thread lock = has_room_in (queue_at v.queues lock).rooms thread
+
+-- how many of the lock's closed sections the clock counts
+abbrev pub counted_of : Tables → ℕ → List ℕ → ℕ
+counted_of v lock clock = number_counted (counts_of clock) (closed_of v lock)
+
+-- each queue keeps clocks of the width
+abbrev pub AreWide : ℕ → List Kept → Type 0
+AreWide width queues = (l : ℕ) → l < length queues → (queue_at queues l).width ≡ width
+
+-- there may be other room, and all else is as it was
+pub record SameMeaning (old new : Tables) : Type 0 where
+  pub closed : closed_of new ≡ closed_of old
+  pub opened : opened_of new ≡ opened_of old
+  pub found : found_of new ≡ found_of old
+  pub limits : new.limits ≡ old.limits

@@ -1,0 +1,221 @@
+//! The closed sections of one lock, and how many of them each thread has found counted.
+//!
+//! What is kept of a lock grows with the threads that use it: a number for each thread up to the
+//! greatest, and a room for each that is in its section or about to enter it, mostly one. So a room
+//! is found by looking through them.
+ghost use Rattle.std.specs.Prelude.{◌≡◌, ◌≤◌, length, max, slice_index, OnOk};
+
+use crate::rooms::{Room, find};
+use crate::search::{Section, search};
+use event_core::{OutOfMemory, ThreadId};
+use hb_clocks::{Clock, Mark, Work};
+use std::alloc::Global;
+use std::marker::Model;
+
+#[derive(Drop)]
+pub(crate) struct Queue {
+    width: usize,
+    // In the order of their releases, whose clocks never go down. There is memory for one more of
+    // each room.
+    closed: Vec<Section>,
+    rooms: Vec<Room>,
+    // By the number of the thread, how many of the first closed sections it has found counted.
+    found: Vec<usize>,
+}
+
+impl Model for Queue {
+    ghost use Rattle.lock_queues.specs.Queue.{Kept, IsKept};
+
+    ghost Value = { Kept };
+
+    ghost view = {
+        λ q. record {
+            width = q.width;
+            closed = q.closed.items;
+            rooms = q.rooms.items;
+            found = q.found.items;
+            capacity = q.closed.cap
+        }
+    };
+
+    ghost invariant = { λ q. IsKept q.width q.closed.items q.rooms.items q.found.items q.closed.cap };
+}
+
+impl Queue {
+    ghost use Rattle.std.specs.Prelude.{◌≡◌, ℕ, ◌+◌, ◌-◌, ◌<◌, ◌≤◌, ◌^◌, ◌∷◌, ◌++◌, [], length, map};
+    ghost use Rattle.std.specs.Prelude.{true, false, MatchOption, IsTrue, OnOk, OnErr, slice_index};
+    ghost use Rattle.event_core.specs.Closed.{number_counted};
+    ghost use Rattle.event_core.specs.Rows.{with_row};
+    ghost use Rattle.hb_clocks.specs.Counts.{counts_of};
+    ghost use Rattle.lock_queues.specs.Rooms.{has_room_in, opened_in};
+    ghost use Rattle.lock_queues.specs.Sections.{closed_as, closed_at};
+    ghost use Rattle.lock_queues.specs.Searched.{CountsEarlier, IsAboveAll, IsLatestBefore};
+    ghost use Rattle.lock_queues.specs.Queue.{SameMeaning, no_queue};
+
+    // No sections.
+    pub(crate) fn new(alloc: Global, width: usize) -> Queue
+        ensures { result ≡ record no_queue { width = width } }
+    {
+        Queue {
+            width,
+            closed: Vec::new(alloc),
+            rooms: Vec::new(alloc),
+            found: Vec::new(alloc),
+        }
+    }
+
+    // Whether the thread has made room.
+    pub(crate) fn has_room(&self, thread: ThreadId) -> bool
+        ensures { result ≡ has_room_in self.now.rooms thread.0 }
+    {
+        find(&self.rooms, thread) < self.rooms.len()
+    }
+
+    // Makes room for a thread that has none.
+    pub(crate) fn make_room(&mut self, alloc: Global, thread: ThreadId) -> Result<(), OutOfMemory>
+        requires within { thread.0 < self.old.width }
+        requires none { has_room_in self.old.rooms thread.0 ≡ false }
+        ensures same { SameMeaning self.old self.new }
+        ensures ok {
+            OnOk result (has_room_in self.new.rooms ≡ with_row thread.0 true (has_room_in self.old.rooms))
+        }
+        ensures err { OnErr result (has_room_in self.new.rooms ≡ has_room_in self.old.rooms) }
+    {
+        self.reserve(thread)?;
+        let release = Clock::new(alloc, self.width)?;
+        let room = Room {
+            thread,
+            opened: None,
+            release,
+        };
+        let Ok(()) = self.rooms.push(room) else {
+            return Err(OutOfMemory);
+        };
+        Ok(())
+    }
+
+    // Memory for one room more, but for the room itself.
+    fn reserve(&mut self, thread: ThreadId) -> Result<(), OutOfMemory>
+        requires within { thread.0 < self.old.width }
+        ensures same { SameMeaning self.old self.new }
+        ensures rooms { self.new.rooms ≡ self.old.rooms }
+        ensures found { OnOk result (thread.0 < length self.new.found) }
+        ensures spare { OnOk result (length self.new.closed + length self.new.rooms + 1 ≤ self.new.capacity) }
+    {
+        grow(&mut self.found, thread.0 as usize + 1)?;
+        let Ok(()) = self.closed.reserve(self.rooms.len() + 1) else {
+            return Err(OutOfMemory);
+        };
+        Ok(())
+    }
+
+    // The thread's section is open from the event on.
+    pub(crate) fn enter(&mut self, thread: ThreadId, mark: Mark)
+        requires room { IsTrue (has_room_in self.old.rooms thread.0) }
+        requires own { mark.thread ≡ thread.0 }
+        ensures opened {
+            opened_in self.new.rooms ≡ with_row thread.0 mark.position (opened_in self.old.rooms)
+        }
+        ensures rooms { has_room_in self.new.rooms ≡ has_room_in self.old.rooms }
+        ensures closed { self.new.closed ≡ self.old.closed }
+        ensures found { self.new.found ≡ self.old.found }
+        ensures width { self.new.width ≡ self.old.width }
+    {
+        let at = find(&self.rooms, thread);
+        let room = &mut self.rooms[at];
+        room.opened = Some(mark);
+    }
+
+    // The thread's open section is closed with the clock.
+    pub(crate) fn leave(&mut self, thread: ThreadId, clock: &Clock)
+        requires entered { 0 < opened_in self.old.rooms thread.0 }
+        requires width { length clock.now ≡ self.old.width }
+        requires above { IsAboveAll (counts_of clock.now) (map closed_as self.old.closed) }
+        ensures closed {
+            map closed_as self.new.closed
+            ≡ map closed_as self.old.closed ++ record {
+                thread = thread.0;
+                position = opened_in self.old.rooms thread.0;
+                release = counts_of clock.now
+            } ∷ []
+        }
+        ensures opened { opened_in self.new.rooms ≡ with_row thread.0 0 (opened_in self.old.rooms) }
+        ensures rooms { has_room_in self.new.rooms ≡ with_row thread.0 false (has_room_in self.old.rooms) }
+        ensures found { self.new.found ≡ self.old.found }
+        ensures width { self.new.width ≡ self.old.width }
+    {
+        let at = find(&self.rooms, thread);
+        let room = self.rooms.remove(at);
+        let acquire = room.opened.unwrap();
+        let mut release = room.release;
+        release.copy_from(clock);
+        self.closed.push_reserved(Section { acquire, release });
+    }
+
+    // The thread finds how many of the sections the clock counts.
+    pub(crate) fn seek(&mut self, thread: ThreadId, clock: &Clock, work: &mut Work)
+        requires room { IsTrue (has_room_in self.old.rooms thread.0) }
+        requires width { length clock.now ≡ self.old.width }
+        requires before {
+            slice_index self.old.found thread.0
+            ≤ number_counted (counts_of clock.now) (map closed_as self.old.closed)
+        }
+        requires earlier { CountsEarlier (counts_of clock.now) (map closed_as self.old.closed) }
+        requires few { work.old.comparisons + length self.old.closed < 2 ^ 63 }
+        ensures found {
+            slice_index self.new.found
+            ≡ with_row thread.0 (number_counted (counts_of clock.now) (map closed_as self.old.closed))
+                (slice_index self.old.found)
+        }
+        ensures closed { self.new.closed ≡ self.old.closed }
+        ensures rooms { self.new.rooms ≡ self.old.rooms }
+        ensures width { self.new.width ≡ self.old.width }
+        ensures latest {
+            IsLatestBefore (counts_of clock.now) (map closed_as self.old.closed)
+            (number_counted (counts_of clock.now) (map closed_as self.old.closed))
+        }
+        ensures joins { work.new.joins ≡ work.old.joins }
+        ensures comparisons {
+            work.new.comparisons + slice_index self.old.found thread.0
+            ≤ work.old.comparisons + number_counted (counts_of clock.now) (map closed_as self.old.closed) + 1
+        }
+    {
+        let at = thread.0 as usize;
+        let more = search(&self.closed, self.found[at], clock, work);
+        self.found[at] = more;
+    }
+
+    // The release clock of the latest section that the thread has found.
+    pub(crate) fn latest(&self, thread: ThreadId) -> Option<&Clock>
+        requires room { IsTrue (has_room_in self.now.rooms thread.0) }
+        ensures {
+            MatchOption result (slice_index self.now.found thread.0 ≡ 0)
+            (λ answer. (0 < slice_index self.now.found thread.0)
+                × (counts_of answer.now
+                    ≡ (closed_at (map closed_as self.now.closed)
+                        (slice_index self.now.found thread.0 - 1)).release)
+                × (length answer.now ≡ self.now.width))
+        }
+    {
+        let number = self.found[thread.0 as usize];
+        if number == 0 {
+            return None;
+        }
+        Some(&self.closed[number - 1].release)
+    }
+}
+
+// Further threads have found none.
+fn grow(found: &mut Vec<usize>, count: usize) -> Result<(), OutOfMemory>
+    ensures same { slice_index found.new.items ≡ slice_index found.old.items }
+    ensures more { length found.old.items ≤ length found.new.items }
+    ensures most { length found.new.items ≤ max (length found.old.items) count }
+    ensures ok { OnOk result (count ≤ length found.new.items) }
+{
+    'growing: while found.len() < count {
+        let Ok(()) = found.push(0) else {
+            return Err(OutOfMemory);
+        };
+    }
+    Ok(())
+}

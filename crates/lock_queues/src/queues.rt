@@ -1,0 +1,262 @@
+//! The closed critical sections of all locks.
+//!
+//! Rule (b) of weak causal precedence asks, at a release, for the sections on the lock that the
+//! thread's strict clock reaches: of two sections on one lock, if some event of the first strictly
+//! precedes some event of the second, the first release strictly precedes the second (Kini, Mathur
+//! and Viswanathan, "Dynamic Race Prediction in Linear Time", PLDI 2017). Their algorithm keeps a
+//! queue for each lock and thread. Here one list a lock serves all threads, each with a cursor: the
+//! sections on one lock are ordered, so that a clock which counts one acquire counts all earlier
+//! ones, and the latest counted section brings what the others bring.
+ghost use Rattle.std.specs.Prelude.{◌≡◌, ℕ, ◌≤◌, length, OnOk};
+ghost use Rattle.lock_queues.specs.Queue.{AreAlike};
+ghost use Rattle.lock_queues.specs.Queues.{AreWide};
+
+use crate::queue::Queue;
+use event_core::{Limits, LockId, OutOfMemory, ThreadId};
+use hb_clocks::{Clock, Mark, Work};
+use std::alloc::Global;
+use std::marker::Model;
+
+/// Of each lock its closed critical sections in the order of their releases, and of each thread how
+/// many of them it has found counted.
+///
+/// A section runs from an outer acquire to the matching outer release. A thread's own sections are
+/// among those that it asks for.
+#[derive(Drop)]
+pub struct Queues {
+    alloc: Global,
+    limits: Limits,
+    // By the number of the lock, as far as room was made.
+    queues: Vec<Queue>,
+}
+
+impl Model for Queues {
+    ghost use Rattle.lock_queues.specs.Queues.{Tables, AreWide};
+
+    ghost Value = { Tables };
+
+    ghost view = { λ a. record { limits = a.limits; queues = a.queues.items } };
+
+    ghost invariant = { λ a. AreWide a.limits.threads a.queues.items };
+}
+
+impl Queues {
+    ghost use Rattle.std.specs.Prelude.{◌≡◌, ℕ, ◌+◌, ◌-◌, ◌<◌, ◌≤◌, ◌^◌, ◌∷◌, ◌++◌, [], length, true, false};
+    ghost use Rattle.std.specs.Prelude.{IfOk, OnOk, OnErr, IsOk, IfSome, IsTrue, IsSomeAnd, MatchOption};
+    ghost use Rattle.std.specs.Borrow.{sem};
+    ghost use Rattle.std.specs.Io.BufRead.{Rests};
+    ghost use Rattle.event_core.specs.Closed.{below_closed};
+    ghost use Rattle.event_core.specs.Rows.{no_clock, with_row};
+    ghost use Rattle.hb_clocks.specs.Counts.{counts_of};
+    ghost use Rattle.lock_queues.specs.Queues.{closed_of, opened_of, found_of, has_room, counted_of};
+    ghost use Rattle.lock_queues.specs.Queues.{SameMeaning};
+    ghost use Rattle.lock_queues.specs.Sections.{closed_at, latest_counted};
+    ghost use Rattle.lock_queues.specs.Searched.{CountsEarlier, FindsCounted, IsAboveAll, IsLatestBefore};
+    ghost use Rattle.lock_queues.specs.contracts.queues.Queues.{the_row};
+
+    /// No sections. It takes no memory.
+    pub fn new(alloc: Global, limits: &Limits) -> Result<Queues, OutOfMemory>
+        ensures made { IsOk result }
+        ensures limits { IfOk result (λ v. v.limits ≡ limits.now) }
+        ensures closed { IfOk result (λ v. closed_of v ≡ (λ _. [])) }
+        ensures opened { IfOk result (λ v. opened_of v ≡ (λ _ _. 0)) }
+        ensures found { IfOk result (λ v. found_of v ≡ (λ _ _. 0)) }
+        ensures rooms { IfOk result (λ v. has_room v ≡ (λ _ _. false)) }
+    {
+        Ok(Queues {
+            alloc,
+            limits: *limits,
+            queues: Vec::new(alloc),
+        })
+    }
+
+    /// Makes the room that the thread's next section on the lock needs: to enter it, to ask for the
+    /// section below it and to leave it. Where there is room already, nothing more is needed.
+    ///
+    /// After a refusal all is as it was, and the call can be made again.
+    pub fn make_room(&mut self, thread: ThreadId, lock: LockId) -> Result<(), OutOfMemory>
+        requires thread { thread.0 < self.old.limits.threads }
+        requires lock { lock.0 < self.old.limits.locks }
+        ensures same { SameMeaning self.old self.new }
+        ensures ok {
+            OnOk result (has_room self.new
+            ≡ with_row thread.0 (with_row lock.0 true (has_room self.old thread.0)) (has_room self.old))
+        }
+        ensures err { OnErr result (has_room self.new ≡ has_room self.old) }
+        ensures again { IsTrue (has_room self.old thread.0 lock.0) → IsOk result }
+    {
+        if self.has_room(thread, lock) {
+            return Ok(());
+        }
+        let at = lock.0 as usize;
+        let width = self.limits.threads() as usize;
+        grow(&mut self.queues, self.alloc, width, at + 1)?;
+        let queue = &mut self.queues[at];
+        queue.make_room(self.alloc, thread)
+    }
+
+    /// Whether there is room for the thread's next section on the lock, or for its open one.
+    pub fn has_room(&self, thread: ThreadId, lock: LockId) -> bool
+        ensures room { result ≡ has_room self.now thread.0 lock.0 }
+        ensures entered { 0 < opened_of self.now thread.0 lock.0 → IsTrue result }
+    {
+        let at = lock.0 as usize;
+        at < self.queues.len() && self.queues[at].has_room(thread)
+    }
+
+    /// The thread's section on the lock is open, from the event on that the mark names.
+    pub fn enter(&mut self, thread: ThreadId, lock: LockId, mark: Mark)
+        requires room { IsTrue (has_room self.old thread.0 lock.0) }
+        requires own { mark.thread ≡ thread.0 }
+        ensures opened {
+            opened_of self.new
+            ≡ with_row thread.0 (with_row lock.0 mark.position (opened_of self.old thread.0))
+                (opened_of self.old)
+        }
+        ensures closed { closed_of self.new ≡ closed_of self.old }
+        ensures found { found_of self.new ≡ found_of self.old }
+        ensures rooms { has_room self.new ≡ has_room self.old }
+        ensures limits { self.new.limits ≡ self.old.limits }
+    {
+        let queue = &mut self.queues[lock.0 as usize];
+        queue.enter(thread, mark);
+    }
+
+    /// The release clock of the latest closed section on the lock whose acquire the clock counts,
+    /// if there is one. It is asked at the release of the thread's open section, before `leave`.
+    ///
+    /// The search begins after the sections that the thread has found before, and stops at the first
+    /// that is not counted: at most one comparison more than the sections newly found.
+    pub fn last_below(
+        &mut self,
+        thread: ThreadId,
+        lock: LockId,
+        clock: &Clock,
+        work: &mut Work,
+    ) -> Option<&Clock>
+        requires entered { 0 < opened_of self.old thread.0 lock.0 }
+        requires width { length clock.now ≡ self.old.limits.threads }
+        requires before { found_of self.old lock.0 thread.0 ≤ counted_of self.old lock.0 clock.now }
+        requires earlier { CountsEarlier (counts_of clock.now) (closed_of self.old lock.0) }
+        requires few { work.old.comparisons + length (closed_of self.old lock.0) < 2 ^ 63 }
+
+        // The answer: the latest of the sections that the clock counts, and all that they bring.
+        ensures number {
+            MatchOption result (counted_of self.old lock.0 clock.now ≡ 0)
+            (λ _. 0 < counted_of self.old lock.0 clock.now)
+        }
+        ensures latest {
+            MatchOption result (latest_counted (counts_of clock.now) (closed_of self.old lock.0) ≡ None)
+            (λ answer. IsSomeAnd (latest_counted (counts_of clock.now) (closed_of self.old lock.0))
+                (λ section. section.release ≡ counts_of answer.now))
+        }
+        ensures below {
+            MatchOption result (below_closed (counts_of clock.now) (closed_of self.old lock.0) ≡ no_clock)
+            (λ answer. counts_of answer.now ≡ below_closed (counts_of clock.now) (closed_of self.old lock.0))
+        }
+        ensures width { IfSome result (λ answer. length answer.now ≡ self.old.limits.threads) }
+
+        // What it costs.
+        ensures comparisons {
+            work.new.comparisons + found_of self.old lock.0 thread.0
+            ≤ work.old.comparisons + counted_of self.old lock.0 clock.now + 1
+        }
+        ensures joins { work.new.joins ≡ work.old.joins }
+
+        // Once the answer is let go, the thread has found the counted sections.
+        ensures* after {
+            sem 𝓛 (Rests the_row self.entry (λ new.
+                FindsCounted self.old new thread.0 lock.0 (counted_of self.old lock.0 clock.now)))
+        }
+    {
+        self.seek(thread, lock, clock, work);
+        self.latest(thread, lock)
+    }
+
+    /// The thread's open section on the lock is closed, and the clock is that of its release.
+    pub fn leave(&mut self, thread: ThreadId, lock: LockId, clock: &Clock)
+        requires entered { 0 < opened_of self.old thread.0 lock.0 }
+        requires width { length clock.now ≡ self.old.limits.threads }
+        requires above { IsAboveAll (counts_of clock.now) (closed_of self.old lock.0) }
+        ensures closed {
+            closed_of self.new
+            ≡ with_row lock.0 (closed_of self.old lock.0 ++ record {
+                thread = thread.0;
+                position = opened_of self.old thread.0 lock.0;
+                release = counts_of clock.now
+            } ∷ []) (closed_of self.old)
+        }
+        ensures opened {
+            opened_of self.new
+            ≡ with_row thread.0 (with_row lock.0 0 (opened_of self.old thread.0)) (opened_of self.old)
+        }
+        ensures found { found_of self.new ≡ found_of self.old }
+        ensures rooms {
+            has_room self.new
+            ≡ with_row thread.0 (with_row lock.0 false (has_room self.old thread.0)) (has_room self.old)
+        }
+        ensures limits { self.new.limits ≡ self.old.limits }
+    {
+        let queue = &mut self.queues[lock.0 as usize];
+        queue.leave(thread, clock);
+    }
+
+    // The thread finds how many of the lock's sections the clock counts.
+    fn seek(&mut self, thread: ThreadId, lock: LockId, clock: &Clock, work: &mut Work)
+        requires entered { 0 < opened_of self.old thread.0 lock.0 }
+        requires width { length clock.now ≡ self.old.limits.threads }
+        requires before { found_of self.old lock.0 thread.0 ≤ counted_of self.old lock.0 clock.now }
+        requires earlier { CountsEarlier (counts_of clock.now) (closed_of self.old lock.0) }
+        requires few { work.old.comparisons + length (closed_of self.old lock.0) < 2 ^ 63 }
+        ensures found {
+            FindsCounted self.old self.new thread.0 lock.0 (counted_of self.old lock.0 clock.now)
+        }
+        ensures latest {
+            IsLatestBefore (counts_of clock.now) (closed_of self.old lock.0)
+            (counted_of self.old lock.0 clock.now)
+        }
+        ensures joins { work.new.joins ≡ work.old.joins }
+        ensures comparisons {
+            work.new.comparisons + found_of self.old lock.0 thread.0
+            ≤ work.old.comparisons + counted_of self.old lock.0 clock.now + 1
+        }
+    {
+        let queue = &mut self.queues[lock.0 as usize];
+        queue.seek(thread, clock, work);
+    }
+
+    // The release clock of the latest section that the thread has found.
+    fn latest(&self, thread: ThreadId, lock: LockId) -> Option<&Clock>
+        requires entered { 0 < opened_of self.now thread.0 lock.0 }
+        ensures {
+            MatchOption result (found_of self.now lock.0 thread.0 ≡ 0)
+            (λ answer. (0 < found_of self.now lock.0 thread.0)
+                × (counts_of answer.now
+                    ≡ (closed_at (closed_of self.now lock.0) (found_of self.now lock.0 thread.0 - 1)).release)
+                × (length answer.now ≡ self.now.limits.threads))
+        }
+    {
+        self.queues[lock.0 as usize].latest(thread)
+    }
+}
+
+// Further locks have no sections.
+fn grow(
+    queues: &mut Vec<Queue>,
+    alloc: Global,
+    width: usize,
+    count: usize,
+) -> Result<(), OutOfMemory>
+    requires wide { AreWide width queues.old.items }
+    ensures same { AreAlike queues.old.items queues.new.items }
+    ensures wide { AreWide width queues.new.items }
+    ensures more { length queues.old.items ≤ length queues.new.items }
+    ensures ok { OnOk result (count ≤ length queues.new.items) }
+{
+    'growing: while queues.len() < count {
+        let Ok(()) = queues.push(Queue::new(alloc, width)) else {
+            return Err(OutOfMemory);
+        };
+    }
+    Ok(())
+}

@@ -1,0 +1,6 @@
+pub mod Prefixes
+pub mod Totals
+pub mod Agreeing
+pub mod TableSteps
+pub mod Seats
+pub mod QuietLogs

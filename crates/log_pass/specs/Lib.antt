@@ -1,0 +1,5 @@
+pub mod Views
+pub mod Rule
+pub mod Kinds
+pub mod Seats
+pub mod Names

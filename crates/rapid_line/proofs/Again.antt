@@ -1,0 +1,228 @@
+-- What was spelled is read.
+use Rattle.std.proofs.Common.{
+  ◌≡◌,
+  ℕ,
+  zero,
+  suc,
+  ◌+◌,
+  ◌-◌,
+  ◌<◌,
+  ◌≤◌,
+  Bool,
+  true,
+  false,
+  cond,
+  List,
+  [],
+  ◌∷◌,
+  ◌++◌,
+  length,
+  get_or,
+  take,
+  drop,
+  Option,
+  Some,
+  None,
+  Result,
+  Ok,
+  Err,
+  refl,
+  sym,
+  ap,
+  subst,
+  ◌∙◌,
+  append_assoc,
+  arith,
+  rules,
+  zero-add,
+  inl,
+  inr,
+}
+use Rattle.std.specs.Prelude.{◌||◌, ◌==◌, nat_lt, option_map, IfSome, IfOk, IfErr, ◌⊎◌}
+use Rattle.std.proofs.lemmas.Bool.{
+  or_parts,
+  or_cases,
+  ltb-true,
+  ltb-false,
+  lt-ltb,
+  le-ltb,
+  eqb-true,
+  eqb-false,
+  eq-eqb,
+  ne_eqb,
+  or_from,
+  cases_Bool,
+  both_ways,
+}
+use Rattle.std.specs.Str.{bytes_eq}
+use Rattle.std.proofs.lemmas.Slice.Eq.{bytes_eq-Decides}
+use Rattle.std.proofs.lemmas.List.{length-append, take-append-drop}
+use Rattle.rapid_line.specs.declared.words.Word.{Word}
+use Rattle.rapid_line.specs.declared.words.Word.TheVariants.{Load, Store, Acquire, Release, Fork, Join}
+use Rattle.rapid_line.specs.declared.words.LineFault.{LineFault}
+use Rattle.rapid_line.specs.declared.words.LineFault.TheVariants.{
+  LineTooLong,
+  StrayCr,
+  FewFields,
+  ManyFields,
+  BadOp,
+  EmptyName,
+  LongName,
+}
+use Rattle.rapid_line.specs.declared.lines.NamedLine.{NamedLine}
+use Rattle.rapid_line.specs.Cut.{has, count, Lacks, cut, before_end}
+use Rattle.rapid_line.specs.Grammar.{
+  Named,
+  IsNamed,
+  IsWellFormed,
+  IsField,
+  IsName,
+  spelling,
+  operation,
+  content_of,
+}
+use Rattle.rapid_line.specs.Causes.{
+  HasFields,
+  HasParts,
+  HasBadOp,
+  HasEmptyName,
+  HasLongName,
+  IsFirstCause,
+  Applies,
+  rank,
+}
+use Rattle.rapid_line.specs.Reading.{
+  word_of,
+  or_fault,
+  unless,
+  and_then,
+  fields_of,
+  operation_of,
+  names_of,
+  line_of,
+  ok_named,
+  named_of,
+  Gives,
+}
+use Rattle.rapid_line.proofs.Cuts.{
+  cut_None,
+  Lacks-append,
+  Lacks-left,
+  Lacks-right,
+  cut_at,
+  cut_none,
+  IsCut,
+  IsCut-from,
+  before_end_at,
+  before_end-Some,
+}
+use Rattle.rapid_line.proofs.Steps.{ok_inj}
+
+spelling_lacks : (w : Word) → Lacks 40 (spelling w)
+spelling_lacks Load = refl
+spelling_lacks Store = refl
+spelling_lacks Acquire = refl
+spelling_lacks Release = refl
+spelling_lacks Fork = refl
+spelling_lacks Join = refl
+
+-- none of the words has a byte of the grammar's own
+pub spelling_plain : (w : Word)
+    → Lacks 124 (spelling w) × Lacks 13 (spelling w) × Lacks 10 (spelling w) × (length (spelling w) ≤ 4)
+spelling_plain Load = (refl, refl, refl, omega arith)
+spelling_plain Store = (refl, refl, refl, omega arith)
+spelling_plain Acquire = (refl, refl, refl, omega arith)
+spelling_plain Release = (refl, refl, refl, omega arith)
+spelling_plain Fork = (refl, refl, refl, omega arith)
+spelling_plain Join = (refl, refl, refl, omega arith)
+
+word_again : (w : Word) → word_of (spelling w) ≡ Some w
+unfolding word_of
+word_again Load = refl
+word_again Store = refl
+word_again Acquire = refl
+word_again Release = refl
+word_again Fork = refl
+word_again Join = refl
+
+pub operation_again : (w : Word) (argument : List ℕ)
+    → operation_of (operation w argument) ≡ Ok (w, argument)
+operation_again w argument =
+    rw (cut_at 40 (spelling w) (argument ++ 41 ∷ []) (spelling_lacks w))
+    (rw (before_end_at 41 argument) (rw (word_again w) refl))
+
+pub fields_again : (bytes t o l : List ℕ) → HasFields bytes t o l → fields_of bytes ≡ Ok (t, o, l)
+fields_again bytes t o l h =
+    rw h.is (rw (cut_at 124 t (o ++ 124 ∷ l) h.thread_bar)
+    (rw (cut_at 124 o l h.op_bar) (rw h.location_bar refl)))
+
+Lacks-operation : (b : ℕ) (w : Word) (argument : List ℕ) → Lacks b (spelling w) → (40 == b) ≡ false
+    → (41 == b) ≡ false → Lacks b argument → Lacks b (operation w argument)
+Lacks-operation b w argument s p q a =
+    Lacks-append b (spelling w) (40 ∷ (argument ++ 41 ∷ [])) s
+    (or_from (40 == b) (has b (argument ++ 41 ∷ [])) p
+    (Lacks-append b argument (41 ∷ []) a (or_from (41 == b) false q refl)))
+
+pub fields_of_event : (e : Named) → IsWellFormed e
+    → HasFields (content_of e) e.thread (operation e.word e.argument) e.location
+fields_of_event e h = record {
+  is = refl;
+  thread_bar = h.thread.field.bar;
+  op_bar = Lacks-operation 124 e.word e.argument (spelling_plain e.word).0 refl refl h.argument.field.bar;
+  location_bar = h.location.bar;
+}
+
+Lacks-content : (b : ℕ) (e : Named) → Lacks b (spelling e.word) → (40 == b) ≡ false → (41 == b) ≡ false
+    → (124 == b) ≡ false → Lacks b e.thread → Lacks b e.argument → Lacks b e.location
+    → Lacks b (content_of e)
+Lacks-content b e s p q r t a l =
+    Lacks-append b e.thread (124 ∷ (operation e.word e.argument ++ 124 ∷ e.location)) t
+    (or_from (124 == b) (has b (operation e.word e.argument ++ 124 ∷ e.location)) r
+    (Lacks-append b (operation e.word e.argument) (124 ∷ e.location)
+    (Lacks-operation b e.word e.argument s p q a) (or_from (124 == b) (has b e.location) r l)))
+
+pub content_no_cr : (e : Named) → IsWellFormed e → Lacks 13 (content_of e)
+content_no_cr e h = Lacks-content 13 e
+    (spelling_plain e.word).1 refl refl refl h.thread.field.cr h.argument.field.cr h.location.cr
+
+pub content_no_lf : (e : Named) → IsWellFormed e → Lacks 10 (content_of e)
+content_no_lf e h = Lacks-content 10 e
+    (spelling_plain e.word).2 refl refl refl h.thread.field.lf h.argument.field.lf h.location.lf
+
+pub content_short : (e : Named) → IsWellFormed e → length (content_of e) ≤ 773
+content_short e h =
+    let sp : length (spelling e.word) ≤ 4 = (spelling_plain e.word).3 in
+    let a = length-append e.argument (41 ∷ []) in
+    let o = length-append (spelling e.word) (40 ∷ (e.argument ++ 41 ∷ [])) in
+    let r = length-append (operation e.word e.argument) (124 ∷ e.location) in
+    let c = length-append e.thread (124 ∷ (operation e.word e.argument ++ 124 ∷ e.location)) in
+    omega (arith, a, o, r, c, h.thread.field.short, h.argument.field.short, h.location.short)
+
+pub read_again : (bytes : List ℕ) (e : Named) → IsNamed bytes e → line_of bytes ≡ ok_named e
+unfolding line_of
+read_again bytes e h =
+    let len = content_short e h.fits in
+    let short : nat_lt 1024 (length (content_of e)) ≡ false = le-ltb 1024 (length (content_of e))
+    (omega arith) in
+    let t : (length e.thread == 0) ≡ false = ne_eqb (length e.thread) 0
+    (λ z. omega (arith, h.fits.thread.some)) in
+    let a : (length e.argument == 0) ≡ false = ne_eqb (length e.argument) 0
+    (λ z. omega (arith, h.fits.argument.some)) in
+    let lt : nat_lt 255 (length e.thread) ≡ false = le-ltb 255
+    (length e.thread) h.fits.thread.field.short in
+    let la : nat_lt 255 (length e.argument) ≡ false = le-ltb 255
+    (length e.argument) h.fits.argument.field.short in
+    let ll : nat_lt 255 (length e.location) ≡ false = le-ltb 255
+    (length e.location) h.fits.location.short in
+    ap line_of h.is ∙
+    rw (short) (rw (content_no_cr e h.fits) (rw (fields_again (content_of e) e.thread
+    (operation e.word e.argument) e.location (fields_of_event e h.fits))
+    (rw (operation_again e.word e.argument) (rw (t, a, lt, la, ll) refl))))
+
+-- two named events never share a content
+pub one_event : (d e : Named) → IsWellFormed d → IsWellFormed e → content_of d ≡ content_of e → d ≡ e
+one_event d e p q same =
+    let x = read_again (content_of d) d (record { fits = p; is = refl }) in
+    let y = read_again (content_of e) e (record { fits = q; is = refl }) in
+    let z : ok_named d ≡ ok_named e = sym x ∙ ap line_of same ∙ y in
+    cc

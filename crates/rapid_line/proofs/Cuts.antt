@@ -1,0 +1,225 @@
+-- Lists of bytes, cut at a byte.
+use Rattle.std.proofs.Common.{
+  ◌≡◌,
+  ℕ,
+  zero,
+  suc,
+  ◌+◌,
+  ◌-◌,
+  ◌<◌,
+  ◌≤◌,
+  Bool,
+  true,
+  false,
+  cond,
+  List,
+  [],
+  ◌∷◌,
+  ◌++◌,
+  length,
+  get_or,
+  take,
+  drop,
+  Option,
+  Some,
+  None,
+  refl,
+  sym,
+  ap,
+  subst,
+  ◌∙◌,
+  append_assoc,
+  arith,
+  rules,
+  inl,
+  inr,
+  add-one,
+  eqb,
+}
+use Rattle.std.specs.Prelude.{◌||◌, ◌==◌, ◌&&◌, nat_lt, option_map, IfSome}
+use Rattle.std.proofs.lemmas.Bool.{
+  or_parts,
+  and_parts,
+  lt-ltb,
+  ltb-true,
+  eqb-true,
+  eqb-false,
+  eq-eqb,
+  ne_eqb,
+  or_from,
+  cases_Bool,
+  false_from_ne_true,
+}
+use Rattle.std.proofs.lemmas.List.{
+  take_more,
+  take_all,
+  take_rest,
+  take-append-drop,
+  length-append,
+  get_or_push,
+  take_at,
+  length_push,
+}
+use Rattle.rapid_line.specs.Cut.{has, Lacks, cut, before_end}
+
+pub has-append : (b : ℕ) (xs ys : List ℕ) → has b (xs ++ ys) ≡ (has b xs || has b ys)
+has-append b [] ys = refl
+has-append b (x ∷ xs) ys = elim (x == b) as (λ t. (t || has b (xs ++ ys)) ≡
+    ((t || has b xs) || has b ys)) [ true ↦ refl | false ↦ has-append b xs ys ]
+
+pub Lacks-append : (b : ℕ) (xs ys : List ℕ) → Lacks b xs → Lacks b ys → Lacks b (xs ++ ys)
+Lacks-append b xs ys p q = has-append b xs ys ∙ or_from (has b xs) (has b ys) p q
+
+pub Lacks-left : (b : ℕ) (xs ys : List ℕ) → Lacks b (xs ++ ys) → Lacks b xs
+Lacks-left b xs ys p = (or_parts (has b xs) (has b ys) (sym (has-append b xs ys) ∙ p)).0
+
+pub Lacks-right : (b : ℕ) (xs ys : List ℕ) → Lacks b (xs ++ ys) → Lacks b ys
+Lacks-right b xs ys p = (or_parts (has b xs) (has b ys) (sym (has-append b xs ys) ∙ p)).1
+
+-- one byte more
+pub lacks_more : (b : ℕ) (xs : List ℕ) (i : ℕ) → i < length xs → has b (take i xs) ≡ false
+    → (get_or xs i 0 ≡ b → ⊥) → has b (take (i + 1) xs) ≡ false
+lacks_more b xs i l h n = rw (take_more xs i 0 l)
+    (Lacks-append b (take i xs) (get_or xs i 0 ∷ []) h
+    (or_from (get_or xs i 0 == b) false (ne_eqb (get_or xs i 0) b n) refl))
+
+-- the byte was met
+pub has_here : (b : ℕ) (xs : List ℕ) (i : ℕ) → i < length xs → get_or xs i 0 ≡ b → has b xs ≡ true
+has_here b [] i l e = absurd (omega arith)
+has_here b (x ∷ xs) zero l e = rw (eq-eqb x b e) refl
+has_here b (x ∷ xs) (suc i) l e = elim (x == b) as
+    (λ t. (t || has b xs) ≡ true) [ true ↦ refl | false ↦ has_here b xs i (omega arith) e ]
+
+pub cut_first : (b : ℕ) (xs : List ℕ) (i : ℕ) → i < length xs → has b (take i xs) ≡ false
+    → get_or xs i 0 ≡ b → cut b xs ≡ Some (take i xs, drop (i + 1) xs)
+cut_first b [] i l h e = absurd (omega arith)
+cut_first b (x ∷ xs) zero l h e = rw (eq-eqb x b e) refl
+cut_first b (x ∷ xs) (suc i) l h e =
+    let parts = or_parts (x == b) (has b (take i xs)) h in
+    rw (parts.0, cut_first b xs i (omega arith) parts.1 e) (rw (add-one (suc i), add-one i) refl)
+
+pub cut_here : (b : ℕ) (xs : List ℕ) (i : ℕ) → i < length xs → has b (take i xs) ≡ false
+    → get_or xs i 0 ≡ b → cut b xs ≡ Some (take i xs, take (length xs - (i + 1)) (drop (i + 1) xs))
+cut_here b xs i l h e = rw (take_rest xs (i + 1)) (cut_first b xs i l h e)
+
+pub cut_none : (b : ℕ) (xs : List ℕ) → has b xs ≡ false → cut b xs ≡ None
+cut_none b [] h = refl
+cut_none b (x ∷ xs) h = let parts = or_parts (x == b) (has b xs) h in rw
+    (parts.0, cut_none b xs parts.1) refl
+
+pub lacks_all : (b : ℕ) (xs : List ℕ) (n : ℕ) → length xs ≤ n → has b (take n xs) ≡ false → has b xs ≡ false
+lacks_all b xs n l h = rw (take_all n xs l) at h
+
+pub cut_none_all : (b : ℕ) (xs : List ℕ) (n : ℕ) → length xs ≤ n → has b (take n xs) ≡ false
+    → cut b xs ≡ None
+cut_none_all b xs n l h = cut_none b xs (lacks_all b xs n l h)
+
+pub cut_at : (b : ℕ) (a c : List ℕ) → Lacks b a → cut b (a ++ b ∷ c) ≡ Some (a, c)
+cut_at b [] c h = rw (eq-eqb b b refl) refl
+cut_at b (x ∷ a) c h = let parts = or_parts (x == b) (has b a) h in rw (parts.0, cut_at b a c parts.1) refl
+
+-- what a cut says of the list
+pub record IsCut (b : ℕ) (xs a c : List ℕ) : Type 0 where
+  pub is : xs ≡ a ++ b ∷ c
+  pub lacks : Lacks b a
+
+onto : (b x : ℕ) (xs : List ℕ) (o : Option (List ℕ × List ℕ)) → (x == b) ≡ false
+    → IfSome o (λ p. IsCut b xs p.0 p.1)
+    → IfSome (option_map (λ (p : List ℕ × List ℕ). let q : List ℕ × List ℕ = (x ∷ p.0, p.1) in q) o)
+    (λ p. IsCut b (x ∷ xs) p.0 p.1)
+onto b x xs None differs h = tt
+onto b x xs (Some p) differs h = record {
+  is = ap (λ (ys : List ℕ). x ∷ ys) h.is;
+  lacks = or_from (x == b)
+      (has b p.0) differs h.lacks;
+}
+
+pub IsCut-from : (b : ℕ) (xs : List ℕ) → IfSome (cut b xs) (λ p. IsCut b xs p.0 p.1)
+IsCut-from b [] = tt
+IsCut-from b (x ∷ xs) =
+    elim (cases_Bool (x == b)) as (λ _. IfSome (cut b (x ∷ xs)) (λ p. IsCut b (x ∷ xs) p.0 p.1)) [
+      | inl same ↦ rw same (record { is = ap (λ (y : ℕ). y ∷ xs) (eqb-true x b same); lacks = refl })
+      | inr differs ↦ rw differs (onto b x xs (cut b xs) differs (IsCut-from b xs))
+    ]
+
+-- the byte at the end
+pub before_end_at : (b : ℕ) (a : List ℕ) → before_end b (a ++ b ∷ []) ≡ Some a
+before_end_at b a =
+    let len : length (a ++ b ∷ []) ≡ length a + 1 = length_push a b in
+    let less : length (a ++ b ∷ []) - 1 ≡ length a = omega arith in
+    let more : (nat_lt 0 (length (a ++ b ∷ []))) ≡ true = lt-ltb 0 (length (a ++ b ∷ [])) (omega arith) in
+    rw (
+      more,
+      less,
+      get_or_push a b 0 (length a) refl,
+      eq-eqb b b refl,
+      take_at a (b ∷ [])
+          (length a) refl,
+    ) refl
+
+pub before_end-Some : (b : ℕ) (xs a : List ℕ) → before_end b xs ≡ Some a → xs ≡ a ++ b ∷ []
+before_end-Some b xs a e =
+    elim (cases_Bool (nat_lt 0 (length xs) && (get_or xs (length xs - 1) 0 == b))) [
+      | inl holds ↦
+          let parts = and_parts (nat_lt 0 (length xs)) (get_or xs (length xs - 1) 0 == b) holds in
+          let some : Some (take (length xs - 1) xs) ≡ Some a = rw holds at e in
+          let front : take (length xs - 1) xs ≡ a = cc in
+          let pos : 0 < length xs = ltb-true 0 (length xs) parts.0 in
+          let len : length xs - 1 + 1 ≡ length xs = omega arith in
+          let more = take_more xs (length xs - 1) 0 (omega arith) in
+          let whole : take (length xs) xs ≡ xs = take_all (length xs) xs (omega arith) in
+          let same : get_or xs (length xs - 1) 0 ≡ b = eqb-true (get_or xs (length xs - 1) 0) b parts.1 in
+          let more' : take (length xs) xs ≡ take (length xs - 1) xs ++ get_or xs (length xs - 1) 0 ∷ [] =
+          rw len at more in
+          sym whole ∙ more' ∙ (rw (same, front) refl)
+      | inr fails ↦ let none : None ≡ Some a = rw fails at e in absurd cc
+    ]
+
+pub before_end_lacks : (b k : ℕ) (xs r : List ℕ) → Some r ≡ before_end k xs → Lacks b xs → Lacks b r
+before_end_lacks b k xs r e h =
+    let is : xs ≡ r ++ k ∷ [] = before_end-Some k xs r (sym e) in
+    Lacks-left b r (k ∷ []) (subst (λ (t : List ℕ). Lacks b t) is h)
+
+pub Lacks-take : (b n : ℕ) (xs : List ℕ) → Lacks b xs → Lacks b (take n xs)
+Lacks-take b n xs h = Lacks-left b (take n xs) (drop n xs) (rw (take-append-drop n xs) h)
+
+pub lacks_both : (b : ℕ) (xs ys : List ℕ) → Lacks b xs → Lacks b ys → Lacks b (xs ++ ys)
+lacks_both b xs ys p q = Lacks-append b xs ys p q
+
+pub lacks_below : (b : ℕ) (xs : List ℕ) (n : ℕ) → ((k : ℕ) → k < n → (get_or xs k 0 == b) ≡ true → ⊥)
+    → has b (take n xs) ≡ false
+lacks_below b xs zero h = refl
+lacks_below b [] (suc n) h = refl
+lacks_below b (x ∷ xs) (suc n) h =
+    or_from (x == b) (has b (take n xs)) (false_from_ne_true (x == b) (h 0 (omega arith)))
+    (lacks_below b xs n (λ k lt. h (suc k) (omega arith)))
+
+pub cut_first_byte : (b : ℕ) (xs : List ℕ) (i : ℕ) → i < length xs
+    → ((k : ℕ) → k < i → (get_or xs k 0 == b) ≡ true → ⊥) → (get_or xs i 0 == b) ≡ true
+    → cut b xs ≡ Some (take i xs, take (length xs - (i + 1)) (drop (i + 1) xs))
+cut_first_byte b xs i l before here = cut_here b xs i l (lacks_below b xs i before)
+    (eqb-true (get_or xs i 0) b here)
+
+pub cut_nowhere : (b : ℕ) (xs : List ℕ) → ((k : ℕ) → k < length xs → (get_or xs k 0 == b) ≡ true → ⊥)
+    → cut b xs ≡ None
+cut_nowhere b xs h = cut_none_all b xs (length xs) (omega arith) (lacks_below b xs (length xs) h)
+
+map_None : (x : ℕ) (o : Option (List ℕ × List ℕ))
+    → option_map (λ (p : List ℕ × List ℕ). let q : List ℕ × List ℕ = (x ∷ p.0, p.1) in q) o ≡ None
+    → o ≡ None
+map_None x None e = refl
+map_None x (Some p) e = absurd cc
+
+pub cut_None : (b : ℕ) (xs : List ℕ) → cut b xs ≡ None → has b xs ≡ false
+cut_None b [] e = refl
+cut_None b (x ∷ xs) e =
+    elim (cases_Bool (x == b)) [
+      | inl same ↦ let c : Some ([], xs) ≡ None = rw same at e in absurd cc
+      | inr differs ↦ or_from (x == b) (has b xs) differs
+          (cut_None b xs (map_None x (cut b xs) (rw differs at e)))
+    ]
+
+-- a loop that looks for a byte, and one that cuts at it
+pub ruleset scanning = (lacks_more, has_here, lacks_all)
+
+pub ruleset cutting = (lacks_more, cut_here, cut_none_all)

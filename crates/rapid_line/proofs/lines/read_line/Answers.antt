@@ -1,0 +1,19 @@
+use Rattle.std.proofs.Common.{◌≡◌, subst, Ok, Err, Result}
+use Rattle.rapid_line.specs.declared.words.LineFault.{LineFault}
+use Rattle.rapid_line.specs.Grammar.{Named, IsNamed}
+use Rattle.rapid_line.specs.Causes.{IsFirstCause}
+use Rattle.rapid_line.specs.Reading.{line_of, named_of, Gives, ok_named}
+use Rattle.rapid_line.proofs.Again.{read_again}
+use Rattle.rapid_line.proofs.First.{found_of, first_of}
+use Rattle.rapid_line.proofs.lines.read_line.Goals as goal
+
+pub returns-clause-found : goal.returns-clause-found
+returns-clause-found c = found_of c.args.bytes.now c.parts.result c.requires c.parts.ensures
+
+pub returns-clause-only : goal.returns-clause-only
+returns-clause-only c =
+    λ e h. subst (λ (r : Result Named LineFault). Gives named_of c.parts.result r)
+    (read_again c.args.bytes.now e h) c.parts.ensures
+
+pub returns-clause-first : goal.returns-clause-first
+returns-clause-first c = first_of c.args.bytes.now c.parts.result c.parts.ensures

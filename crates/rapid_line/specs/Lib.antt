@@ -1,0 +1,4 @@
+pub mod Cut
+pub mod Grammar
+pub mod Causes
+pub mod Reading

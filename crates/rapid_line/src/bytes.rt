@@ -1,0 +1,43 @@
+//! Bytes, cut at the first place of a byte.
+ghost use Rattle.std.specs.Prelude.{◌≡◌, option_map};
+ghost use Rattle.rapid_line.specs.Cut.{has, cut, before_end};
+
+/// Whether the byte stands in the bytes.
+#[tactic(auto, using(crate::proofs::Cuts::scanning))]
+pub fn contains(bytes: &[u8], byte: u8) -> bool
+    ensures { result ≡ has byte bytes.now }
+{
+    for x in bytes {
+        if *x == byte {
+            return true;
+        }
+    }
+    false
+}
+
+/// What stands before the first such byte, and what after it.
+#[tactic(auto, using(crate::proofs::Cuts::cutting))]
+pub fn cut_at(bytes: &[u8], byte: u8) -> Option<(&[u8], &[u8])>
+    ensures { option_map (λ p. (p.0.now, p.1.now)) result ≡ cut byte bytes.now }
+{
+    for (i, x) in bytes.iter().enumerate() {
+        if *x == byte {
+            return Some((&bytes[..i], &bytes[i + 1..]));
+        }
+    }
+    None
+}
+
+/// What stands before the byte at the end.
+pub fn strip_last(bytes: &[u8], byte: u8) -> Option<&[u8]>
+    ensures { option_map (λ p. p.now) result ≡ before_end byte bytes.now }
+{
+    let len = bytes.len();
+    if len == 0 {
+        return None;
+    }
+    if bytes[len - 1] != byte {
+        return None;
+    }
+    Some(&bytes[..len - 1])
+}

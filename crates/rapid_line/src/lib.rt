@@ -1,0 +1,13 @@
+//! One line of a RAPID STD trace: `thread|word(argument)|location`.
+//!
+//! The grammar says which content has which named event, and in which order the causes are looked at
+//! why a content has none. `read_line` reads a content from left to right and meets both.
+#![tactic(auto)]
+
+mod bytes;
+mod lines;
+mod words;
+
+pub use bytes::strip_last;
+pub use lines::{NamedLine, one_content, one_reading, read_line};
+pub use words::{LineFault, Word};

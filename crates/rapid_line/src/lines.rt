@@ -1,0 +1,131 @@
+//! A content, read from left to right: its length, a stray CR, the two bars, the operation between them,
+//! and the lengths of the names. So the first cause in the order of the causes is the first that is met.
+ghost use Rattle.std.specs.Prelude.{◌≡◌, ◌≢◌, ◌↔◌, ℕ, List, IfOk, IfErr, Ok, Err};
+ghost use Rattle.rapid_line.specs.declared.words.LineFault.{LineFault};
+ghost use Rattle.rapid_line.specs.Cut.{Lacks};
+ghost use Rattle.rapid_line.specs.Grammar.{Named, IsWellFormed, content_of, IsNamed};
+ghost use Rattle.rapid_line.specs.Causes.{IsFirstCause};
+ghost use Rattle.rapid_line.specs.Reading.{word_of, fields_of, operation_of, line_of, Gives, ok_named};
+ghost use Rattle.rapid_line.specs.Reading.{named_of};
+
+use crate::bytes::{contains, cut_at, strip_last};
+use crate::words::{LineFault, Word};
+
+/// A named event, in the bytes of its line.
+#[derive(Clone, Copy, Debug)]
+pub struct NamedLine<'a> {
+    pub thread: &'a [u8],
+    pub word: Word,
+    pub argument: &'a [u8],
+    pub location: &'a [u8],
+}
+
+#[tactic(auto, unfolding(crate::specs::Reading::word_of))]
+fn word_at(bytes: &[u8]) -> Option<Word>
+    ensures { result ≡ word_of bytes.now }
+{
+    if bytes == b"r".as_slice() {
+        Some(Word::Load)
+    } else if bytes == b"w".as_slice() {
+        Some(Word::Store)
+    } else if bytes == b"acq".as_slice() {
+        Some(Word::Acquire)
+    } else if bytes == b"rel".as_slice() {
+        Some(Word::Release)
+    } else if bytes == b"fork".as_slice() {
+        Some(Word::Fork)
+    } else if bytes == b"join".as_slice() {
+        Some(Word::Join)
+    } else {
+        None
+    }
+}
+
+/// The three fields.
+fn fields(bytes: &[u8]) -> Result<(&[u8], &[u8], &[u8]), LineFault>
+    ensures { Gives (λ f. (f.0.now, f.1.now, f.2.now)) result (fields_of bytes.now) }
+{
+    let Some((thread, rest)) = cut_at(bytes, b'|') else {
+        return Err(LineFault::FewFields);
+    };
+    let Some((field, location)) = cut_at(rest, b'|') else {
+        return Err(LineFault::FewFields);
+    };
+    if contains(location, b'|') {
+        return Err(LineFault::ManyFields);
+    }
+    Ok((thread, field, location))
+}
+
+/// The word and the argument of the field between the bars.
+fn operation(field: &[u8]) -> Result<(Word, &[u8]), LineFault>
+    ensures { Gives (λ o. (o.0, o.1.now)) result (operation_of field.now) }
+{
+    let Some((word, rest)) = cut_at(field, b'(') else {
+        return Err(LineFault::BadOp);
+    };
+    let Some(argument) = strip_last(rest, b')') else {
+        return Err(LineFault::BadOp);
+    };
+    let Some(word) = word_at(word) else {
+        return Err(LineFault::BadOp);
+    };
+    Ok((word, argument))
+}
+
+/// The parts of a content.
+#[tactic(auto, unfolding(crate::specs::Reading::line_of))]
+fn parts(bytes: &[u8]) -> Result<NamedLine<'_>, LineFault>
+    ensures { Gives named_of result (line_of bytes.now) }
+{
+    if bytes.len() > 1024 {
+        return Err(LineFault::LineTooLong);
+    }
+    if contains(bytes, b'\r') {
+        return Err(LineFault::StrayCr);
+    }
+    let (thread, field, location) = fields(bytes)?;
+    let (word, argument) = operation(field)?;
+    if thread.is_empty() || argument.is_empty() {
+        return Err(LineFault::EmptyName);
+    }
+    if thread.len() > 255 || argument.len() > 255 || location.len() > 255 {
+        return Err(LineFault::LongName);
+    }
+    Ok(NamedLine {
+        thread,
+        word,
+        argument,
+        location,
+    })
+}
+
+/// The named event of a content, which stands without its ending and so has no LF, or the first cause why
+/// it has none. An empty content has too few fields.
+pub fn read_line(bytes: &[u8]) -> Result<NamedLine<'_>, LineFault>
+    requires { Lacks 10 bytes.now }
+    // What is read is the named event of the content.
+    ensures found { IfOk result (λ line. IsNamed bytes.now (named_of line)) }
+    // A content that has a named event is read as it, and as no other.
+    ensures only { (e : Named) → IsNamed bytes.now e → Gives named_of result (ok_named e) }
+    // Which cause it is: the first in their order that applies.
+    ensures first { IfErr result (IsFirstCause bytes.now) }
+    // The same, as one value.
+    ensures exact { Gives named_of result (line_of bytes.now) }
+{
+    parts(bytes)
+}
+
+/// Two named events never share a content.
+pub fn one_content()
+    ensures { (d e : Named) → IsWellFormed d → IsWellFormed e → content_of d ≡ content_of e → d ≡ e }
+{}
+
+/// The reading from left to right answers a named event exactly for its content, and a cause exactly
+/// where it is the first.
+pub fn one_reading()
+    ensures named { (bytes : List ℕ) (e : Named) → Lacks 10 bytes →
+        (line_of bytes ≡ Ok e) ↔ IsNamed bytes e }
+    ensures cause { (bytes : List ℕ) (f : LineFault) → Lacks 10 bytes →
+        (line_of bytes ≡ Err f) ↔ IsFirstCause bytes f }
+{}

@@ -1,0 +1,9 @@
+pub mod SpaceLaws
+pub mod NameLaws
+pub mod Lines
+pub mod Pieces
+pub mod WindowLaws
+pub mod Outputs
+pub mod Pulls
+pub mod Written
+pub mod NameGrowth

@@ -1,0 +1,393 @@
+-- Names are only added, and the numbers of an event have the names that its line gave.
+use Rattle.std.proofs.Common.{
+  ◌≡◌,
+  ℕ,
+  zero,
+  suc,
+  ◌+◌,
+  ◌<◌,
+  ◌≤◌,
+  List,
+  [],
+  ◌∷◌,
+  ◌++◌,
+  length,
+  Option,
+  Some,
+  None,
+  Result,
+  Ok,
+  Err,
+  Bool,
+  true,
+  false,
+  cond,
+  refl,
+  sym,
+  ap,
+  subst,
+  ◌∙◌,
+  append-nil,
+  append_assoc,
+  arith,
+  inl,
+  inr,
+  add-suc,
+  zero-add,
+}
+use Rattle.std.specs.Prelude.{IfOk, OnErr, unwrap_or, slice_get, nat_lt, ◌⊎◌, ◌==◌, IfSome, not}
+use Rattle.std.specs.List.{position, prefix_len}
+use Rattle.std.specs.Str.{bytes_eq}
+use Rattle.std.proofs.lemmas.Slice.Eq.{bytes_eq-Decides}
+use Rattle.std.proofs.lemmas.Bool.{cases_Bool, ltb-true}
+use Rattle.std.proofs.lemmas.List.{length-append}
+use Rattle.std.proofs.lemmas.Option.{slice_get_within}
+use Rattle.event_core.specs.declared.events.Event.{Event}
+use Rattle.rapid_line.specs.declared.words.Word.{Word}
+use Rattle.rapid_line.specs.declared.words.Word.TheVariants as words
+use Rattle.rapid_line.specs.declared.words.LineFault.{LineFault}
+use Rattle.rapid_line.specs.Grammar.{Named}
+use Rattle.rapid_line.specs.Reading.{line_of}
+use Rattle.rapid_text.specs.declared.causes.Kind.{Kind}
+use Rattle.rapid_text.specs.declared.causes.Kind.TheVariants as kinds
+use Rattle.rapid_text.specs.declared.causes.Cause.{Cause}
+use Rattle.rapid_text.specs.declared.causes.NameFault.{NameFault}
+use Rattle.rapid_text.specs.Numbers.{Numbered, with_name, new_name, found_or, place_of, number_of, Grows}
+use Rattle.rapid_text.specs.Tables.{Tables, space, with_space, put_back, number_in, name_at, TablesGrow}
+use Rattle.rapid_text.specs.Events.{
+  kind_of,
+  op_of,
+  event_of,
+  number_or_fault,
+  next,
+  named_event,
+  some_event,
+  event_or,
+  reading,
+  word_of_op,
+  target_of,
+  named_by,
+  HasNames,
+  IsOfNames,
+}
+use Rattle.rapid_text.proofs.NameLaws.{Numbers, numbers, grows}
+
+-- ---- names are only added
+
+pub Grows-refl : (s : Numbered) → Grows s s
+Grows-refl s = record { more = []; names = sym (append-nil s.names); limit = refl }
+
+pub Grows-trans : (s t u : Numbered) → Grows s t → Grows t u → Grows s u
+Grows-trans s t u p q = record {
+  more = p.more ++ q.more;
+  names = q.names ∙ ap (λ (xs : List (List ℕ)). xs ++ q.more) p.names ∙ append_assoc s.names p.more q.more;
+  limit = q.limit ∙ p.limit;
+}
+
+pub TablesGrow-refl : (t : Tables) → TablesGrow t t
+TablesGrow-refl t = λ k. Grows-refl (space t k)
+
+pub TablesGrow-trans : (t u v : Tables) → TablesGrow t u → TablesGrow u v → TablesGrow t v
+TablesGrow-trans t u v p q = λ k. Grows-trans (space t k) (space u k) (space v k) (p k) (q k)
+
+pub TablesGrow-same : (t u : Tables) → u ≡ t → TablesGrow t u
+TablesGrow-same t u e = subst (λ (v : Tables). TablesGrow t v) (sym e) (TablesGrow-refl t)
+
+space_grows : (t : Tables) (kind : Kind) (s : Numbered) → Grows (space t kind) s
+    → TablesGrow t (with_space t kind s)
+space_grows t kinds.Thread s h kinds.Thread = h
+space_grows t kinds.Thread s h kinds.Lock = Grows-refl t.locks
+space_grows t kinds.Thread s h kinds.Variable = Grows-refl t.variables
+space_grows t kinds.Thread s h kinds.Site = Grows-refl t.sites
+space_grows t kinds.Lock s h kinds.Thread = Grows-refl t.threads
+space_grows t kinds.Lock s h kinds.Lock = h
+space_grows t kinds.Lock s h kinds.Variable = Grows-refl t.variables
+space_grows t kinds.Lock s h kinds.Site = Grows-refl t.sites
+space_grows t kinds.Variable s h kinds.Thread = Grows-refl t.threads
+space_grows t kinds.Variable s h kinds.Lock = Grows-refl t.locks
+space_grows t kinds.Variable s h kinds.Variable = h
+space_grows t kinds.Variable s h kinds.Site = Grows-refl t.sites
+space_grows t kinds.Site s h kinds.Thread = Grows-refl t.threads
+space_grows t kinds.Site s h kinds.Lock = Grows-refl t.locks
+space_grows t kinds.Site s h kinds.Variable = Grows-refl t.variables
+space_grows t kinds.Site s h kinds.Site = h
+
+-- ---- the number of a name is its place
+
+place_at : (name : List ℕ) (xs : List (List ℕ)) → prefix_len (λ n. not (bytes_eq name n)) xs < length xs
+    → slice_get xs (prefix_len (λ n. not (bytes_eq name n)) xs) ≡ Some name
+place_at name [] h = absurd (omega arith)
+place_at name (x ∷ xs) h =
+    elim (cases_Bool (bytes_eq name x)) [
+      | inl same ↦
+          let is : name ≡ x = (bytes_eq-Decides name x).0 same in
+          rw same (ap (λ (n : List ℕ). let o : Option (List ℕ) = Some n in o) (sym is))
+      | inr differs ↦
+          let k = prefix_len (λ n. not (bytes_eq name n)) xs in
+          let step : cond (not (bytes_eq name x)) (1 + k) 0 ≡ suc k = rw differs (omega arith) in
+          let within : suc k < length (x ∷ xs) = subst (λ (m : ℕ). m < length (x ∷ xs)) step h in
+          ap (slice_get (x ∷ xs)) step ∙ place_at name xs (omega (arith, within))
+    ]
+
+placed : (name : List ℕ) (xs : List (List ℕ)) (i : ℕ) → position (λ n. bytes_eq name n) xs ≡ Some i
+    → slice_get xs i ≡ Some name
+placed name xs i e =
+    let k = prefix_len (λ n. not (bytes_eq name n)) xs in
+    elim (cases_Bool (nat_lt k (length xs))) [
+      | inl within ↦
+          let some : Some k ≡ Some i = rw within at e in
+          let is : k ≡ i = cc in
+          subst (λ (m : ℕ). slice_get xs m ≡ Some name) is (place_at name xs (ltb-true k (length xs) within))
+      | inr past ↦ let none : None ≡ Some i = rw past at e in absurd cc
+    ]
+
+last_of : (xs : List (List ℕ)) (name : List ℕ) → slice_get (xs ++ name ∷ []) (length xs) ≡ Some name
+last_of [] name = refl
+last_of (x ∷ xs) name = last_of xs name
+
+new_placed : (b : Bool) (s : Numbered) (name : List ℕ) (i : ℕ) (t : Numbered)
+    → cond b (let o : Option (ℕ × Numbered) = Some (length s.names, with_name s name) in o) None ≡ Some
+    (i, t)
+    → slice_get t.names i ≡ Some name
+new_placed true s name i t e =
+    let number : length s.names ≡ i = ap (λ (o : Option (ℕ × Numbered)). (unwrap_or o (i, t)).0) e in
+    let names : with_name s name ≡ t = ap (λ (o : Option (ℕ × Numbered)). (unwrap_or o (i, t)).1) e in
+    subst (λ (m : ℕ). slice_get t.names m ≡ Some name) number
+    (subst (λ (u : Numbered). slice_get u.names (length s.names) ≡ Some name) names
+    (last_of s.names name))
+new_placed false s name i t e = absurd cc
+
+found_placed : (o : Option ℕ) (s : Numbered) (name : List ℕ) (i : ℕ) (t : Numbered) → place_of s name ≡ o
+    → found_or o s name ≡ Some (i, t) → slice_get t.names i ≡ Some name
+found_placed (Some j) s name i t p e =
+    let number : j ≡ i = ap (λ (o : Option (ℕ × Numbered)). (unwrap_or o (i, t)).0) e in
+    let names : s ≡ t = ap (λ (o : Option (ℕ × Numbered)). (unwrap_or o (i, t)).1) e in
+    subst (λ (m : ℕ). slice_get t.names m ≡ Some name) number
+    (subst (λ (u : Numbered). slice_get u.names j ≡ Some name) names (placed name s.names j p))
+found_placed None s name i t p e = new_placed (nat_lt (length s.names) s.limit) s name i t e
+
+pub number_placed : (s : Numbered) (name : List ℕ) (i : ℕ) (t : Numbered) → number_of s name ≡ Some (i, t)
+    → slice_get t.names i ≡ Some name
+unfolding number_of
+number_placed s name i t e = found_placed (place_of s name) s name i t refl e
+
+-- ---- in the four spaces
+
+-- the number has the name, and names were only added
+pub record Gives (t : Tables) (kind : Kind) (name : List ℕ) (n : ℕ) (u : Tables) : Type 0 where
+  pub placed : slice_get (space u kind).names n ≡ Some name
+  pub grows : TablesGrow t u
+
+with_space_of : (t : Tables) (kind : Kind) (s : Numbered) → space (with_space t kind s) kind ≡ s
+with_space_of t kinds.Thread s = refl
+with_space_of t kinds.Lock s = refl
+with_space_of t kinds.Variable s = refl
+with_space_of t kinds.Site s = refl
+
+gives_by : (t : Tables) (kind : Kind) (name : List ℕ) (n : ℕ) (u : Tables) (o : Option (ℕ × Numbered))
+    → number_of (space t kind) name ≡ o → put_back t kind o ≡ Some (n, u) → Gives t kind name n u
+gives_by t kind name n u None p e = absurd cc
+gives_by t kind name n u (Some q) p e =
+    let number : q.0 ≡ n = ap (λ (o : Option (ℕ × Tables)). (unwrap_or o (n, u)).0) e in
+    let tables : with_space t kind q.1 ≡ u = ap (λ (o : Option (ℕ × Tables)). (unwrap_or o (n, u)).1) e in
+    let here = number_placed (space t kind) name q.0 q.1 p in
+    let more = grows (space t kind) name q.1 (numbers (space t kind) name q.0 q.1 p) in
+    let named : slice_get (space (with_space t kind q.1) kind).names q.0 ≡ Some name =
+    ap (λ (s : Numbered). slice_get s.names q.0) (with_space_of t kind q.1) ∙ here in
+    let at_first : Gives t kind name q.0 (with_space t kind q.1) =
+    record { placed = named; grows = space_grows t kind q.1 more } in
+    subst (λ (m : ℕ). Gives t kind name m u) number
+    (subst (λ (v : Tables). Gives t kind name q.0 v) tables at_first)
+
+pub gives : (t : Tables) (kind : Kind) (name : List ℕ) (n : ℕ) (u : Tables)
+    → number_in t kind name ≡ Some (n, u) → Gives t kind name n u
+unfolding number_in
+gives t kind name n u e = gives_by t kind name n u (number_of (space t kind) name) refl e
+
+-- ---- an event's names
+
+slice_get_left : (xs more : List (List ℕ)) (i : ℕ) (x : List ℕ) → slice_get xs i ≡ Some x
+    → slice_get (xs ++ more) i ≡ Some x
+slice_get_left [] more i x e = absurd cc
+slice_get_left (y ∷ xs) more zero x e = e
+slice_get_left (y ∷ xs) more (suc i) x e = slice_get_left xs more i x e
+
+-- a name keeps its number
+pub kept_name : (t u : Tables) (kind : Kind) (n : ℕ) (name : List ℕ) → TablesGrow t u
+    → slice_get (space t kind).names n ≡ Some name
+    → slice_get (space u kind).names n ≡ Some name
+kept_name t u kind n name g e =
+    let h = g kind in
+    ap (λ (xs : List (List ℕ)). slice_get xs n) h.names ∙ slice_get_left
+    (space t kind).names h.more n name e
+
+-- an event keeps its names
+pub HasNames-kept : (t u : Tables) (e : Event) → TablesGrow t u → HasNames t e → HasNames u e
+HasNames-kept t u e g h =
+    let longer : (kind : Kind) → length (space t kind).names ≤ length (space u kind).names =
+    λ kind. let m = g kind in
+    let len = length-append (space t kind).names m.more in
+    let same = ap (λ (xs : List (List ℕ)). length xs) m.names in
+    omega (arith, len, same) in
+    let a = longer kinds.Thread in
+    let b = longer (kind_of (word_of_op e.op)) in
+    let c = longer kinds.Site in
+    record {
+      thread = omega (arith, a, h.thread);
+      target = omega (arith, b, h.target);
+      site = omega
+          (arith, c, h.site);
+    }
+
+word_of_op-op_of : (w : Word) (n : ℕ) → word_of_op (op_of w n) ≡ w
+word_of_op-op_of words.Load n = refl
+word_of_op-op_of words.Store n = refl
+word_of_op-op_of words.Acquire n = refl
+word_of_op-op_of words.Release n = refl
+word_of_op-op_of words.Fork n = refl
+word_of_op-op_of words.Join n = refl
+
+target_of-op_of : (w : Word) (n : ℕ) → target_of (op_of w n) ≡ n
+target_of-op_of words.Load n = refl
+target_of-op_of words.Store n = refl
+target_of-op_of words.Acquire n = refl
+target_of-op_of words.Release n = refl
+target_of-op_of words.Fork n = refl
+target_of-op_of words.Join n = refl
+
+name_of : (u : Tables) (kind : Kind) (n : ℕ) (name : List ℕ) → slice_get (space u kind).names n ≡ Some name
+    → name_at u kind n ≡ name
+name_of u kind n name e = ap (λ (o : Option (List ℕ)). unwrap_or o []) e
+
+-- the event's numbers have the names of the named event, and names were only added
+pub record Named_event (t : Tables) (d : Named) (e : Event) (u : Tables) : Type 0 where
+  pub named : named_by u e ≡ d
+  pub has : HasNames u e
+  pub value : e.value ≡ 0
+  pub grows : TablesGrow t u
+
+made : (t u : Tables) (d : Named) (n₁ n₂ n₃ : ℕ) → slice_get (space u kinds.Thread).names n₁ ≡ Some d.thread
+    → slice_get (space u (kind_of d.word)).names n₂ ≡ Some d.argument → slice_get
+    (space u kinds.Site).names n₃ ≡ Some d.location
+    → TablesGrow t u → Named_event t d (event_of d.word n₁ n₂ n₃) u
+made t u d n₁ n₂ n₃ a b c g =
+    let word = word_of_op-op_of d.word n₂ in
+    let target = target_of-op_of d.word n₂ in
+    let kind = ap kind_of word in
+    let argument : name_at u (kind_of (word_of_op (op_of d.word n₂))) (target_of (op_of d.word n₂))
+    ≡ d.argument =
+    ap (λ (k : Kind). name_at u k (target_of (op_of d.word n₂))) kind ∙ ap
+    (name_at u (kind_of d.word)) target
+    ∙ name_of u (kind_of d.word) n₂ d.argument b in
+    let thread = name_of u kinds.Thread n₁ d.thread a in
+    let location = name_of u kinds.Site n₃ d.location c in
+    let within : target_of (op_of d.word n₂) < length
+    (space u (kind_of (word_of_op (op_of d.word n₂)))).names =
+    subst (λ (k : Kind). target_of (op_of d.word n₂) < length (space u k).names) (sym kind)
+    (subst (λ (m : ℕ). m < length (space u (kind_of d.word)).names) (sym target)
+    (slice_get_within (space u (kind_of d.word)).names n₂ d.argument b)) in
+    record {
+      named = λ i. record {
+        thread = thread i;
+        word = word i;
+        argument = argument i;
+        location =
+            location i;
+      };
+      has = record {
+        thread = slice_get_within (space u kinds.Thread).names n₁ d.thread a;
+        target = within;
+        site = slice_get_within (space u kinds.Site).names n₃ d.location c;
+      };
+      value = refl;
+      grows = g;
+    }
+
+next_ok : {A B : Type 0} (r : Result A Cause) (go : A → Result B Cause) (y : B) → next r go ≡ Ok y
+    → (x : A) × (r ≡ Ok x) × (go x ≡ Ok y)
+next_ok (Err f) go y e = absurd cc
+next_ok (Ok x) go y e = (x, refl, e)
+
+numbered_ok : (kind : Kind) (o : Option (ℕ × Tables)) (p : ℕ × Tables) → number_or_fault kind o ≡ Ok p
+    → o ≡ Some p
+numbered_ok kind None p e = absurd cc
+numbered_ok kind (Some q) p e = let same : q ≡ p = cc in ap
+    (λ (x : ℕ × Tables). let o : Option (ℕ × Tables) = Some x in o) same
+
+abbrev from_ok : {A : Type 0} → A → Result A Cause → A
+from_ok d (Ok x) = x
+from_ok d (Err f) = d
+
+pub named_event_is : (t : Tables) (d : Named) (e : Event) (u : Tables) → named_event t d ≡ Ok (e, u)
+    → Named_event t d e u
+unfolding named_event
+named_event_is t d e u eq =
+    let p = next_ok (number_or_fault kinds.Thread (number_in t kinds.Thread d.thread)) _ (e, u) eq in
+    let q = next_ok (number_or_fault (kind_of d.word) (number_in p.0.1 (kind_of d.word) d.argument)) _
+    (e, u) p.2 in
+    let r = next_ok (number_or_fault kinds.Site (number_in q.0.1 kinds.Site d.location)) _ (e, u) q.2 in
+    let a = gives t kinds.Thread d.thread p.0.0 p.0.1
+    (numbered_ok kinds.Thread (number_in t kinds.Thread d.thread) p.0 p.1) in
+    let b = gives p.0.1 (kind_of d.word) d.argument q.0.0 q.0.1
+    (numbered_ok (kind_of d.word) (number_in p.0.1 (kind_of d.word) d.argument) q.0 q.1) in
+    let c = gives q.0.1 kinds.Site d.location r.0.0 r.0.1
+    (numbered_ok kinds.Site (number_in q.0.1 kinds.Site d.location) r.0 r.1) in
+    let bc = TablesGrow-trans p.0.1 q.0.1 r.0.1 b.grows c.grows in
+    let all = TablesGrow-trans t p.0.1 r.0.1 a.grows bc in
+    let here = made t r.0.1 d p.0.0 q.0.0 r.0.0
+    (kept_name p.0.1 r.0.1 kinds.Thread p.0.0 d.thread bc a.placed)
+    (kept_name q.0.1 r.0.1 (kind_of d.word) q.0.0 d.argument c.grows b.placed) c.placed all in
+    let event : event_of d.word p.0.0 q.0.0 r.0.0 ≡ e = ap
+    (λ (x : Result (Event × Tables) Cause). (from_ok (e, u) x).0) r.2 in
+    let tables : r.0.1 ≡ u = ap (λ (x : Result (Event × Tables) Cause). (from_ok (e, u) x).1) r.2 in
+    subst (λ (v : Tables). Named_event t d e v) tables
+    (subst (λ (x : Event). Named_event t d x r.0.1) event here)
+
+-- ---- a content's event
+
+some_event_ok : (r : Result (Event × Tables) Cause) (e : Event) (u : Tables)
+    → some_event r ≡ Ok (Some e, u) → r ≡ Ok (e, u)
+some_event_ok (Err f) e u eq = absurd cc
+some_event_ok (Ok p) e u eq =
+    let o : Option Event = Some p.0 in
+    let event : p.0 ≡ e = ap (λ (x : Result (Option Event × Tables) Cause). unwrap_or
+    (from_ok (o, u) x).0 e) eq in
+    let tables : p.1 ≡ u = ap (λ (x : Result (Option Event × Tables) Cause). (from_ok (o, u) x).1) eq in
+    λ i. Ok (event i, tables i)
+
+event_or_ok : (t : Tables) (r : Result Named LineFault) (e : Event) (u : Tables)
+    → event_or t r ≡ Ok (Some e, u)
+    → (d : Named) × (r ≡ Ok d) × Named_event t d e u
+event_or_ok t (Err f) e u eq = absurd cc
+event_or_ok t (Ok d) e u eq = (d, refl, named_event_is t d e u (some_event_ok (named_event t d) e u eq))
+
+-- what a content's event says
+pub reading_names : (t : Tables) (bytes : List ℕ) (e : Event) (u : Tables)
+    → reading t bytes ≡ Ok (Some e, u)
+    → (d : Named) × (line_of bytes ≡ Ok d) × Named_event t d e u
+unfolding reading
+reading_names t bytes e u eq =
+    elim (cases_Bool (length bytes == 0)) [
+      | inl empty ↦
+          let none = rw empty at eq in
+          let start : Option Event × Tables = (None, t) in
+          let nothing : Option Event = None in
+          let clash : nothing ≡ Some e = ap (λ (x : Result (Option Event × Tables) Cause).
+          (from_ok start x).0) none in
+          absurd cc
+      | inr some ↦ event_or_ok t (line_of bytes) e u (rw some at eq)
+    ]
+
+-- ---- what the code answers
+
+pub number_grows : (t u : Tables) (kind : Kind) (name : List ℕ) (r : Result ℕ NameFault)
+    → IfOk r (λ n. number_in t kind name ≡ Some (n, u))
+    → OnErr r (u ≡ t) → TablesGrow t u
+number_grows t u kind name (Ok n) ok err = (gives t kind name n u ok).grows
+number_grows t u kind name (Err f) ok err = TablesGrow-same t u err
+
+pub number_named : (t u : Tables) (kind : Kind) (name : List ℕ) (r : Result ℕ NameFault)
+    → IfOk r (λ n. number_in t kind name ≡ Some (n, u))
+    → IfOk r (λ n. slice_get (space u kind).names n ≡ Some name)
+number_named t u kind name (Ok n) ok = (gives t kind name n u ok).placed
+number_named t u kind name (Err f) ok = tt

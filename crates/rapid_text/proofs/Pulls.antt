@@ -1,0 +1,346 @@
+-- The steps of a loop of pulls.
+use Rattle.std.proofs.Common.{
+  ◌≡◌,
+  ℕ,
+  ◌+◌,
+  ◌*◌,
+  ◌-◌,
+  ◌<◌,
+  ◌≤◌,
+  List,
+  [],
+  ◌∷◌,
+  ◌++◌,
+  length,
+  drop,
+  Option,
+  Some,
+  None,
+  Bool,
+  true,
+  false,
+  refl,
+  sym,
+  ap,
+  subst,
+  ◌∙◌,
+  arith,
+  append_assoc,
+  append-nil,
+}
+use Rattle.std.specs.Prelude.{option_map, IfSome, ◌⊎◌}
+use Rattle.rapid_line.specs.Cut.{Lacks}
+use Rattle.std.proofs.lemmas.List.{drop_all, nil_from_length}
+use Rattle.std.specs.Io.KnownBytes.{Consumes, IsAtEnd, Keeps}
+use Rattle.event_core.specs.declared.events.Event.{Event}
+use Rattle.rapid_text.specs.declared.causes.Cause.{Cause}
+use Rattle.rapid_text.specs.declared.causes.Cause.TheVariants as causes
+use Rattle.rapid_text.specs.declared.causes.TextFault.{TextFault}
+use Rattle.rapid_text.specs.Tables.{Tables}
+use Rattle.rapid_text.specs.Texts.{Judgement, with_event, ended, judge, lines_of}
+use Rattle.rapid_text.specs.Cutting.{
+  Cutting,
+  judged,
+  most,
+  Pushes,
+  FailsAt,
+  Stops,
+  Closes,
+  ClosesAt,
+  Closed,
+}
+use Rattle.rapid_text.specs.Pulling.{
+  Pulling,
+  pulling_of,
+  rest_of,
+  to_judge,
+  Follows,
+  Tells,
+  Ends,
+  Answers,
+  StopsAt,
+  ReadFails,
+  NoAnswer,
+}
+
+-- what is still to be judged of what a cutter keeps, what waits and what is left
+abbrev text_of : Cutting → List ℕ → Option (List ℕ) → Option Judgement
+text_of c w left = option_map (λ l. judged c (w ++ l)) left
+
+to_judge-known : (c : Cutting) (w : List ℕ) (left : Option (List ℕ))
+    → option_map (λ l. judge (lines_of ((c.kept ++ w) ++ l)) c.names c.unfinished) left ≡ text_of c w left
+to_judge-known c w None = refl
+to_judge-known c w (Some l) =
+    ap (λ (t : List ℕ). let o : Option Judgement = Some (judge (lines_of t) c.names c.unfinished) in o)
+    (append_assoc c.kept w l)
+
+to_judge-pulling_of : (c : Cutting) (w : List ℕ) (turns : ℕ) (e : Bool) (left : Option (List ℕ))
+    → to_judge (pulling_of c w turns e) left ≡ text_of c w (rest_of e left)
+to_judge-pulling_of c w turns e left = to_judge-known c w (rest_of e left)
+
+-- ---- one step, for any text that it follows
+
+same_as : Judgement → Judgement
+same_as j = j
+
+follows_push : (x : Option Judgement) (c d : Cutting) (w : List ℕ) (used : ℕ) (left : Option (List ℕ))
+    (event : Option Event)
+    → Follows x (λ j. j) (text_of c w left) → Pushes c d w used event
+    → Follows x (with_event d.line event) (text_of d (drop used w) left)
+follows_push None c d w used left event h p = tt
+follows_push (Some j) c d w used None event h p = absurd h
+follows_push (Some j) c d w used (Some l) event h p = h ∙ p.sound l
+
+follows_fill : (x : Option Judgement) (c : Cutting) (w : List ℕ) (left rest : Option (List ℕ))
+    → Follows x (λ j. j) (text_of c [] left) → Consumes left rest w → Follows x (λ j. j) (text_of c w rest)
+follows_fill None c w left rest h k = tt
+follows_fill (Some j) c w None rest h k = absurd h
+follows_fill (Some j) c w (Some l) None h k = absurd k
+follows_fill (Some j) c w (Some l) (Some m) h k = h ∙ ap (λ (t : List ℕ). judged c t) k
+
+follows_keep : (x : Option Judgement) (c : Cutting) (w : List ℕ) (left rest : Option (List ℕ))
+    → Follows x (λ j. j) (text_of c w left) → Keeps left rest → Follows x (λ j. j) (text_of c w rest)
+follows_keep None c w left rest h k = tt
+follows_keep (Some j) c w None rest h k = absurd h
+follows_keep (Some j) c w (Some l) None h k = absurd k
+follows_keep (Some j) c w (Some l) (Some m) h k = h ∙ ap (λ (t : List ℕ). judged c (w ++ t)) (sym k)
+
+follows_event : (x : Option Judgement) (c d : Cutting) (left : Option (List ℕ)) (e : Event)
+    → Follows x (λ j. j) (text_of c [] left) → IsAtEnd left → Closes c d (Some e)
+    → Follows x (with_event d.line (Some e)) (text_of d [] (Some []))
+follows_event None c d left e h a k = tt
+follows_event (Some j) c d None e h a k = absurd h
+follows_event (Some j) c d (Some l) e h a k =
+    let none : judged d [] ≡ ended d.names = ap (λ (t : List ℕ). judge
+    (lines_of (t ++ [])) d.names d.unfinished) k.kept in
+    h ∙ ap (λ (t : List ℕ). judged c t) a ∙ k.sound ∙ ap (λ (y : Judgement). with_event d.line (Some e) y)
+    (sym none)
+
+follows_end : (x : Option Judgement) (c d : Cutting) (left : Option (List ℕ))
+    → Follows x (λ j. j) (text_of c [] left) → IsAtEnd left → Closes c d None → IfSome x
+    (λ j. j ≡ ended d.names)
+follows_end None c d left h a k = tt
+follows_end (Some j) c d None h a k = absurd h
+follows_end (Some j) c d (Some l) h a k = h ∙ ap (λ (t : List ℕ). judged c t) a ∙ k.sound
+
+follows_stop : (x : Option Judgement) (c : Cutting) (w : List ℕ) (left : Option (List ℕ)) (f : TextFault)
+    → Follows x (λ j. j) (text_of c w left) → Stops c w f → IfSome x
+    (λ j. (j.events ≡ []) × (j.fault ≡ Some (f.line, f.cause)))
+follows_stop None c w left f h s = tt
+follows_stop (Some j) c w None f h s = absurd h
+follows_stop (Some j) c w (Some l) f h s =
+    (ap (λ (y : Judgement). y.events) h ∙ (s l).0, ap (λ (y : Judgement). y.fault) h ∙ (s l).1)
+
+follows_closed : (x : Option Judgement) (c : Cutting) (left : Option (List ℕ)) (f : TextFault)
+    → Follows x (λ j. j) (text_of c [] left) → IsAtEnd left → Closed c f
+    → IfSome x (λ j. (j.events ≡ []) × (j.fault ≡ Some (f.line, f.cause)))
+follows_closed None c left f h a s = tt
+follows_closed (Some j) c None f h a s = absurd h
+follows_closed (Some j) c (Some l) f h a s =
+    let e = h ∙ ap (λ (t : List ℕ). judged c t) a in
+    (ap (λ (y : Judgement). y.events) e ∙ s.0, ap (λ (y : Judgement). y.fault) e ∙ s.1)
+
+-- ---- the loop
+
+-- what is still to be judged is the same as at the start
+pub record Running (start : Pulling) (from : Option (List ℕ)) (c : Cutting) (w : List ℕ) (turns : ℕ)
+    (left : Option (List ℕ)) : Type 0 where
+  pub same : Follows (to_judge start from) (λ j. j) (text_of c w left)
+  pub line : c.line ≡ start.line
+  pub live : c.failed ≡ None
+  pub room : c.taken + length w + 4096 * turns ≤ most
+  pub turns_left : turns ≤ start.turns
+
+follows_self : (x : Option Judgement) → Follows x (λ j. j) x
+follows_self None = tt
+follows_self (Some j) = refl
+
+pub runs : (c : Cutting) (w : List ℕ) (turns : ℕ) (left : Option (List ℕ)) → c.failed ≡ None
+    → c.taken + length w + 4096 * turns ≤ most
+    → Running (pulling_of c w turns false) left c w turns left
+runs c w turns left live room = record {
+  same = subst (λ (x : Option Judgement). Follows (to_judge (pulling_of c w turns false) left) (λ j. j) x)
+      (to_judge-pulling_of c w turns false left) (follows_self (to_judge (pulling_of c w turns false) left));
+  line = refl;
+  live = live;
+  room = room;
+  turns_left = omega arith;
+}
+
+-- no event, and the next piece came
+pub runs_on : (start : Pulling) (from : Option (List ℕ)) (c d : Cutting) (w v u : List ℕ) (turns used : ℕ)
+    (left rest : Option (List ℕ))
+    → Running start from c w turns left → Pushes c d w used None → u ≡ drop used w → 0 < turns
+    → Consumes left rest v → length v ≤ 4096 → Running start from d v (turns - 1) rest
+runs_on start from c d w v u turns used left rest r p is some k short =
+    let all = p.all_used refl in
+    let none : drop used w ≡ [] = drop_all used w (omega (arith, all)) in
+    let pushed = follows_push (to_judge start from) c d w used left None r.same p in
+    let empty = subst (λ (t : List ℕ). Follows (to_judge start from) (λ j. j)
+    (text_of d t left)) none pushed in
+    record {
+      same = follows_fill (to_judge start from) d v left rest empty k;
+      line = p.line refl ∙ r.line;
+      live = p.live.1;
+      room = omega (arith, p.taken, all, r.room, short, some);
+      turns_left = omega (arith, r.turns_left);
+    }
+
+-- ---- the answers
+
+to_left : (c : Cutting) (w : List ℕ) (turns : ℕ) (e : Bool) (left : Option (List ℕ)) (x : Option Judgement)
+    (make : Judgement → Judgement)
+    → Follows x make (text_of c w (rest_of e left)) → Follows x make
+    (to_judge (pulling_of c w turns e) left)
+to_left c w turns e left x make h = subst (λ (y : Option Judgement). Follows x make y)
+    (sym (to_judge-pulling_of c w turns e left)) h
+
+going : (c : Cutting) (w : List ℕ) (e : Bool) (left : Option (List ℕ)) (x : Option Judgement)
+    (make : Judgement → Judgement)
+    → e ≡ false → Follows x make (text_of c w left) → Follows x make (text_of c w (rest_of e left))
+going c w e left x make is h = subst (λ (b : Bool). Follows x make (text_of c w (rest_of b left)))
+    (sym is) h
+
+pub tells : (start : Pulling) (from : Option (List ℕ)) (c d : Cutting) (w u : List ℕ) (turns used : ℕ)
+    (left : Option (List ℕ)) (e : Bool) (event : Event)
+    → Running start from c w turns left → Pushes c d w used (Some event) → u ≡ drop used w → e ≡ false
+    → Answers start from (pulling_of d u turns e) left (Some event)
+tells start from c d w u turns used left e event r p is not =
+    let pushed = follows_push (to_judge start from) c d w used left (Some event) r.same p in
+    let here = subst (λ (t : List ℕ). Follows (to_judge start from) (with_event d.line (Some event))
+    (text_of d t left)) (sym is) pushed in
+    record {
+      text = to_left d u turns e left (to_judge start from) (with_event d.line (Some event))
+          (going d u e left (to_judge start from) (with_event d.line (Some event)) not here);
+    }
+
+-- after a push that took all, nothing waits
+pub after_push : (start : Pulling) (from : Option (List ℕ)) (c d : Cutting) (w : List ℕ) (turns used : ℕ)
+    (left : Option (List ℕ))
+    → Running start from c w turns left → Pushes c d w used None
+    → (drop used w ≡ []) × Follows (to_judge start from) (λ j. j) (text_of d [] left)
+after_push start from c d w turns used left r p =
+    let all = p.all_used refl in
+    let none : drop used w ≡ [] = drop_all used w (omega (arith, all)) in
+    let pushed = follows_push (to_judge start from) c d w used left None r.same p in
+    (none, subst (λ (t : List ℕ). Follows (to_judge start from) (λ j. j) (text_of d t left)) none pushed)
+
+answers_end : (start : Pulling) (from : Option (List ℕ)) (d : Cutting) (f : Cutting) (turns : ℕ)
+    (left : Option (List ℕ)) (event : Option Event)
+    → Follows (to_judge start from) (λ j. j) (text_of d [] left) → d.line
+    ≡ start.line → IsAtEnd left → Closes d f event
+    → Answers start from (pulling_of f [] turns true) left event
+answers_end start from d f turns left None h line a k =
+    record {
+      text = follows_end (to_judge start from) d f left h a k;
+      line = k.line refl ∙ line;
+      ended =
+          refl;
+    }
+answers_end start from d f turns left (Some e) h line a k =
+    record {
+      text = to_left f [] turns true left (to_judge start from) (with_event f.line (Some e))
+          (follows_event (to_judge start from) d f left e h a k);
+    }
+
+pub closes_text : (start : Pulling) (from : Option (List ℕ)) (c d f : Cutting) (w v : List ℕ)
+    (turns after used : ℕ) (left rest : Option (List ℕ)) (event : Option Event)
+    → Running start from c w turns left → Pushes c d w used None → Consumes left rest v → v
+    ≡ [] → IsAtEnd rest → Closes d f event
+    → Answers start from (pulling_of f v after true) rest event
+closes_text start from c d f w v turns after used left rest event r p k none a z =
+    let pushed = (after_push start from c d w turns used left r p).1 in
+    let came = follows_fill (to_judge start from) d v left rest pushed k in
+    let same = subst (λ (t : List ℕ). Follows (to_judge start from) (λ j. j)
+    (text_of d t rest)) none came in
+    subst (λ (t : List ℕ). Answers start from (pulling_of f t after true) rest event) (sym none)
+    (answers_end start from d f after rest event same (p.line refl ∙ r.line) a z)
+
+-- a fault of a push
+push_fault : (start new : Pulling) (from rest : Option (List ℕ)) (c : Cutting) (w : List ℕ) (turns : ℕ)
+    (left : Option (List ℕ)) (b : Bool) (f : TextFault) (k : Cause)
+    → Running start from c w turns left → FailsAt c w f k → f.cause ≡ k → NoAnswer start from new rest b f k
+push_fault start new from rest c w turns left b f causes.OutOfMemory r s is = tt
+push_fault start new from rest c w turns left b f causes.Read r s is = absurd (omega (arith, s.1, r.room))
+push_fault start new from rest c w turns left b f causes.Failed r s is = let clash : None ≡ Some f.line =
+    sym r.live ∙ s in absurd cc
+push_fault start new from rest c w turns left b f (causes.Line y) r s is = follows_stop
+    (to_judge start from) c w left f r.same s
+push_fault start new from rest c w turns left b f (causes.TooManyNames y) r s is = follows_stop
+    (to_judge start from) c w left f r.same s
+
+pub push_fails : (start new : Pulling) (from rest : Option (List ℕ)) (c : Cutting) (w : List ℕ) (turns : ℕ)
+    (left : Option (List ℕ)) (b : Bool) (f : TextFault)
+    → Running start from c w turns left → FailsAt c w f f.cause → NoAnswer start from new rest b f f.cause
+push_fails start new from rest c w turns left b f r s =
+    push_fault start new from rest c w turns left b f f.cause r s refl
+
+end_fault : (start new : Pulling) (from rest : Option (List ℕ)) (d : Cutting) (b : Bool) (f : TextFault)
+    (k : Cause)
+    → Follows (to_judge start from) (λ j. j) (text_of d [] rest) → d.failed
+    ≡ None → IsAtEnd rest → ClosesAt d f k → NoAnswer start from new rest b f k
+end_fault start new from rest d b f causes.OutOfMemory h live a s = tt
+end_fault start new from rest d b f causes.Read h live a s = absurd s
+end_fault start new from rest d b f causes.Failed h live a s = let clash : None ≡ Some f.line = sym live
+    ∙ s in absurd cc
+end_fault start new from rest d b f (causes.Line y) h live a s = follows_closed
+    (to_judge start from) d rest f h a s
+end_fault start new from rest d b f (causes.TooManyNames y) h live a s = follows_closed
+    (to_judge start from) d rest f h a s
+
+pub end_fails : (start new : Pulling) (from : Option (List ℕ)) (c d : Cutting) (w v : List ℕ)
+    (turns used : ℕ) (left rest : Option (List ℕ)) (b : Bool) (f : TextFault)
+    → Running start from c w turns left → Pushes c d w used None → Consumes left rest v → v
+    ≡ [] → IsAtEnd rest → ClosesAt d f f.cause
+    → NoAnswer start from new rest b f f.cause
+end_fails start new from c d w v turns used left rest b f r p k none a s =
+    let pushed = (after_push start from c d w turns used left r p).1 in
+    let came = follows_fill (to_judge start from) d v left rest pushed k in
+    let same = subst (λ (t : List ℕ). Follows (to_judge start from) (λ j. j)
+    (text_of d t rest)) none came in
+    end_fault start new from rest d b f f.cause same p.live.1 a s
+
+-- a read failed, or the turns are used up
+pub read_fails : (start : Pulling) (from : Option (List ℕ)) (c d e : Cutting) (w u : List ℕ)
+    (turns after used : ℕ) (left rest : Option (List ℕ)) (b x : Bool) (f : TextFault)
+    → Running start from c w turns left → Pushes c d w used None → u ≡ [] → Keeps left rest
+    → x ≡ false → (b ≡ true) ⊎ (after ≡ 0) → f ≡ record { line = d.unfinished; cause = causes.Read }
+    → e ≡ record d {
+      line = d.unfinished;
+      failed =
+          Some d.unfinished;
+    } → Lacks 10 d.kept → length d.kept ≤ 1025
+    → NoAnswer start from (pulling_of e u after x) rest b f f.cause
+read_fails start from c d e w u turns after used left rest b x f r p none k not why is now lf short =
+    let pushed = (after_push start from c d w turns used left r p).1 in
+    let kept = follows_keep (to_judge start from) d [] left rest pushed k in
+    let g : TextFault = record { line = d.unfinished; cause = causes.Read } in
+    let n : Cutting = record d { line = d.unfinished; failed = Some d.unfinished } in
+    let nil = append-nil d.kept in
+    let here : NoAnswer start from (pulling_of n [] after x) rest b g g.cause = record {
+      why = why;
+      at = refl;
+      text = to_left n [] after x rest (to_judge start from) (λ j. j)
+          (going n [] x rest (to_judge start from) (λ j. j) not kept);
+      unjudged = subst (λ (t : List ℕ). Lacks 10 t) (sym nil) lf;
+      short = subst (λ (t : List ℕ). length t ≤ 1025) (sym nil) short;
+    } in
+    let there = subst (λ (t : List ℕ). NoAnswer start from (pulling_of n t after x) rest b g g.cause)
+    (sym none) here in
+    let state = subst (λ (s : Cutting). NoAnswer start from (pulling_of s u after x) rest b g g.cause)
+    (sym now) there in
+    subst (λ (y : TextFault). NoAnswer start from (pulling_of e u after x) rest b y y.cause) (sym is) state
+
+-- after the end nothing is left
+pub ended_text : (p : Pulling) (left : Option (List ℕ)) → p.ended ≡ true → length p.came ≡ 0 → Ends p left p
+ended_text p left e n =
+    let none : p.came ≡ [] = nil_from_length p.came n in
+    let known = ap (λ (b : Bool). option_map (λ (l : List ℕ). judge
+    (lines_of (p.came ++ l)) p.names p.unfinished) (rest_of b left)) e in
+    let empty : judge (lines_of (p.came ++ [])) p.names p.unfinished ≡ ended p.names =
+    ap (λ (t : List ℕ). judge (lines_of (t ++ [])) p.names p.unfinished) none in
+    record {
+      text = subst (λ (x : Option Judgement). IfSome x (λ j. j ≡ ended p.names)) (sym known) empty;
+      line = refl;
+      ended = e;
+    }

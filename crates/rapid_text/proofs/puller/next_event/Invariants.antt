@@ -1,0 +1,18 @@
+use Rattle.std.proofs.Common.{◌≡◌, false}
+use Rattle.rapid_text.specs.Pulling.{pulling_of}
+use Rattle.rapid_text.specs.Tables.{TablesGrow}
+use Rattle.rapid_text.proofs.NameGrowth.{TablesGrow-refl, TablesGrow-trans, TablesGrow-same}
+use Rattle.rapid_text.proofs.Pulls.{Running}
+use Rattle.rapid_text.proofs.puller.next_event.Given as goal
+
+abbrev pub invariant-pulls : goal.invariant-pulls
+invariant-pulls g l = record {
+  running : Running (pulling_of l.fn.cutter l.fn.window l.fn.turns false) (g.I.Input.left l.fn.input)
+      l.cutter l.window l.turns (g.I.Input.left l.input);
+  healthy : g.I.Input.failed l.input ≡ g.I.Input.failed l.fn.input;
+  going : l.ended ≡ false;
+  grows : TablesGrow l.fn.cutter.names l.cutter.names;
+}
+
+abbrev pub decreases-pulls : goal.decreases-pulls
+decreases-pulls g l = l.turns

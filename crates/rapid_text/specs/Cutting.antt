@@ -1,0 +1,142 @@
+-- A text in pieces: what a cutter holds, and what a push and the end of the text do to it.
+use Rattle.std.specs.Prelude.{
+  ◌≡◌,
+  ℕ,
+  ◌+◌,
+  ◌≤◌,
+  ◌<◌,
+  List,
+  [],
+  ◌++◌,
+  length,
+  drop,
+  Option,
+  Some,
+  None,
+  Result,
+  Ok,
+  ◌⊎◌,
+  IfSome,
+}
+use Rattle.event_core.specs.declared.events.Event.{Event}
+use Rattle.event_core.specs.Bounds.{Bounds}
+use Rattle.rapid_line.specs.declared.words.LineFault.TheVariants.{LineTooLong}
+use Rattle.rapid_text.specs.declared.causes.Cause.{Cause}
+use Rattle.rapid_text.specs.declared.causes.Cause.TheVariants as causes
+use Rattle.rapid_text.specs.declared.causes.TextFault.{TextFault}
+use Rattle.rapid_line.specs.Cut.{Lacks}
+use Rattle.rapid_text.specs.Tables.{Tables, no_names}
+use Rattle.rapid_text.specs.Events.{content, reading, Fails}
+use Rattle.rapid_text.specs.Texts.{Judgement, judge, lines_of, with_event, ended}
+
+-- what a cutter holds: the names, the last answer's line, the number and the bytes of the line whose end was
+-- not seen, how many bytes came, and the line of the first fault
+pub record Cutting : Type 0 where
+  pub names : Tables
+  pub line : ℕ
+  pub unfinished : ℕ
+  pub kept : List ℕ
+  pub taken : ℕ
+  pub failed : Option ℕ
+
+-- a new cutter
+abbrev pub begun : Bounds → Cutting
+begun l = record { names = no_names l; line = 0; unfinished = 1; kept = []; taken = 0; failed = None }
+
+-- the text still to be judged is what is kept, followed by what is still to come
+abbrev pub judged : Cutting → List ℕ → Judgement
+judged s more = judge (lines_of (s.kept ++ more)) s.names s.unfinished
+
+-- the most bytes that a cutter takes, 2 ^ 60
+abbrev pub most : ℕ
+most = 1152921504606846976
+
+-- a push that took the bytes and gave the event, if there was one
+pub record Pushes (old new : Cutting) (piece : List ℕ) (used : ℕ) (event : Option Event) : Type 0 where
+  -- what is still to be judged is the same text, but for the event
+  pub sound : (more : List ℕ)
+      → judged old (piece ++ more) ≡ with_event new.line event (judged new (drop used piece ++ more))
+  pub used_within : used ≤ length piece
+  -- all bytes are taken where no line with an event ends
+  pub all_used : event ≡ None → used ≡ length piece
+  -- and else those up to the end of the line
+  pub up_to : IfSome event (λ _. new.kept ≡ [])
+  pub taken : new.taken ≡ old.taken + used
+  -- an answer without an event has no line
+  pub line : event ≡ None → new.line ≡ old.line
+  pub live : (old.failed ≡ None) × (new.failed ≡ None)
+
+-- the text stops with the fault, whatever follows the piece
+abbrev pub Stops : Cutting → List ℕ → TextFault → Type 0
+Stops s piece f = (more : List ℕ) →
+    ((judged s (piece ++ more)).events ≡ []) × ((judged s (piece ++ more)).fault ≡ Some (f.line, f.cause))
+
+-- why a push failed
+abbrev pub FailsAt : Cutting → List ℕ → TextFault → Cause → Type 0
+FailsAt s piece f causes.OutOfMemory = Unit {0}
+FailsAt s piece f causes.Read = (f.line ≡ s.unfinished) × (most < s.taken + length piece)
+FailsAt s piece f causes.Failed = s.failed ≡ Some f.line
+FailsAt s piece f (causes.Line c) = Stops s piece f
+FailsAt s piece f (causes.TooManyNames k) = Stops s piece f
+
+-- the end of the text: what was kept is judged as the last line
+pub record Closes (old new : Cutting) (event : Option Event) : Type 0 where
+  pub sound : judged old [] ≡ with_event new.line event (ended new.names)
+  pub kept : new.kept ≡ []
+  pub taken : new.taken ≡ old.taken
+  pub line : event ≡ None → new.line ≡ old.line
+  pub live : (old.failed ≡ None) × (new.failed ≡ None)
+
+-- the text stops with the fault, and nothing follows
+abbrev pub Closed : Cutting → TextFault → Type 0
+Closed s f = ((judged s []).events ≡ []) × ((judged s []).fault ≡ Some (f.line, f.cause))
+
+-- why the end of the text failed
+abbrev pub ClosesAt : Cutting → TextFault → Cause → Type 0
+ClosesAt s f causes.OutOfMemory = Unit {0}
+ClosesAt s f causes.Read = ⊥
+ClosesAt s f causes.Failed = s.failed ≡ Some f.line
+ClosesAt s f (causes.Line c) = Closed s f
+ClosesAt s f (causes.TooManyNames k) = Closed s f
+
+-- the answer after a fault
+abbrev pub failed_at : ℕ → TextFault
+failed_at n = record { line = n; cause = causes.Failed }
+
+-- ---- the steps of a push
+
+-- too long, unless memory ran out
+abbrev pub TooLongOrMemory : Cause → List ℕ → Type 0
+TooLongOrMemory f bytes = (f ≡ causes.OutOfMemory) ⊎ ((f ≡ causes.Line LineTooLong) × (1025 < length bytes))
+
+-- a line that ended was read
+pub record EndsLine (old new : Cutting) (line : List ℕ) (event : Option Event) : Type 0 where
+  pub read : reading old.names (content (old.kept ++ line)) ≡ Ok (event, new.names)
+  pub kept_lf : Lacks 10 old.kept
+  pub kept : new.kept ≡ []
+  pub unfinished : new.unfinished ≡ old.unfinished + 1
+  pub answered : IfSome event (λ _. new.line ≡ old.unfinished)
+  pub unanswered : event ≡ None → new.line ≡ old.line
+  pub taken : new.taken ≡ old.taken + length line + 1
+  pub live : new.failed ≡ None
+
+-- a line that ended has a fault
+pub record LineFails (old : Cutting) (line : List ℕ) (f : TextFault) : Type 0 where
+  pub at : f.line ≡ old.unfinished
+  pub kept_lf : Lacks 10 old.kept
+  pub cause : Fails f.cause (reading old.names (content (old.kept ++ line)))
+
+-- bytes were kept
+pub record Keeps (old new : Cutting) (bytes : List ℕ) : Type 0 where
+  pub kept : new.kept ≡ old.kept ++ bytes
+  pub names : new.names ≡ old.names
+  pub line : new.line ≡ old.line
+  pub unfinished : new.unfinished ≡ old.unfinished
+  pub taken : new.taken ≡ old.taken + length bytes
+  pub live : new.failed ≡ None
+
+-- bytes could not be kept
+pub record RestFails (old : Cutting) (bytes : List ℕ) (f : TextFault) : Type 0 where
+  pub at : f.line ≡ old.unfinished
+  pub kept_lf : Lacks 10 old.kept
+  pub cause : TooLongOrMemory f.cause (old.kept ++ bytes)

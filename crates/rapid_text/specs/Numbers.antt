@@ -1,0 +1,60 @@
+-- Names of one kind, numbered from 0 in the order of their first appearance.
+use Rattle.std.specs.Prelude.{
+  ◌≡◌,
+  ℕ,
+  ◌<◌,
+  ◌≤◌,
+  List,
+  [],
+  ◌∷◌,
+  ◌++◌,
+  length,
+  slice_get,
+  Option,
+  Some,
+  None,
+  nat_lt,
+  if◌then◌else◌,
+}
+use Rattle.std.specs.List.{position}
+use Rattle.std.specs.Str.{bytes_eq}
+use Rattle.rapid_line.specs.Grammar.{IsField, IsName}
+
+-- the names by their numbers, and how many there may be
+pub record Numbered : Type 0 where
+  pub limit : ℕ
+  pub names : List (List ℕ)
+
+-- the name has the next number
+abbrev pub with_name : Numbered → List ℕ → Numbered
+with_name s name = record { limit = s.limit; names = s.names ++ name ∷ [] }
+
+-- a new name gets the next number; none, where there are as many names as the limit
+abbrev pub new_name : Numbered → List ℕ → Option (ℕ × Numbered)
+new_name s name = if nat_lt (length s.names) s.limit then Some (length s.names, with_name s name) else None
+
+abbrev pub found_or : Option ℕ → Numbered → List ℕ → Option (ℕ × Numbered)
+found_or (Some i) s name = Some (i, s)
+found_or None s name = new_name s name
+
+-- where the name stands
+abbrev pub place_of : Numbered → List ℕ → Option ℕ
+place_of s name = position (λ n. bytes_eq name n) s.names
+
+-- the name's number, and the names after it
+unfoldable pub number_of : Numbered → List ℕ → Option (ℕ × Numbered)
+number_of s name = found_or (place_of s name) s name
+
+-- names were added at the end
+pub record Grows (old new : Numbered) : Type 0 where
+  pub more : List (List ℕ)
+  pub names : new.names ≡ old.names ++ more
+  pub limit : new.limit ≡ old.limit
+
+-- each of them is a name
+abbrev pub AreNames : List (List ℕ) → Type 0
+AreNames names = (i : ℕ) (name : List ℕ) → slice_get names i ≡ Some name → IsName name
+
+-- each of them is a field, which may be empty
+abbrev pub AreFields : List (List ℕ) → Type 0
+AreFields names = (i : ℕ) (name : List ℕ) → slice_get names i ≡ Some name → IsField name

@@ -1,0 +1,64 @@
+-- The meaning of a whole text: its events with their lines, up to the first fault, and its names.
+use Rattle.std.specs.Prelude.{
+  ◌≡◌,
+  ℕ,
+  ◌+◌,
+  ◌==◌,
+  List,
+  [],
+  ◌∷◌,
+  ◌++◌,
+  Option,
+  Some,
+  None,
+  Result,
+  Ok,
+  Err,
+  if◌then◌else◌,
+}
+use Rattle.event_core.specs.declared.events.Event.{Event}
+use Rattle.rapid_text.specs.declared.causes.Cause.{Cause}
+use Rattle.rapid_text.specs.Tables.{Tables}
+use Rattle.rapid_text.specs.Events.{content, reading}
+
+abbrev pub onto_first : ℕ → List (List ℕ) → List (List ℕ)
+onto_first b [] = (b ∷ []) ∷ []
+onto_first b (l ∷ ls) = (b ∷ l) ∷ ls
+
+-- the lines of a text, each without its LF; an empty rest after the last LF is no line
+abbrev pub lines_of : List ℕ → List (List ℕ)
+lines_of [] = []
+lines_of (b ∷ bs) = if b == 10 then [] ∷ lines_of bs else onto_first b (lines_of bs)
+
+-- what a text comes to: its events, each with the number of its line, the first fault, if there is one, with
+-- the number of its line, and the names of the lines before the fault
+pub record Judgement : Type 0 where
+  pub events : List (ℕ × Event)
+  pub fault : Option (ℕ × Cause)
+  pub names : Tables
+
+-- the text ended
+abbrev pub ended : Tables → Judgement
+ended t = record { events = []; fault = None; names = t }
+
+-- the text stopped with a fault at line n
+abbrev pub stopped : Tables → ℕ → Cause → Judgement
+stopped t n f = record { events = []; fault = Some (n, f); names = t }
+
+-- the event of line n, if it has one, comes before the others
+abbrev pub with_event : ℕ → Option Event → Judgement → Judgement
+with_event n None j = j
+with_event n (Some e) j = record { events = (n, e) ∷ j.events; fault = j.fault; names = j.names }
+
+abbrev pub after_line : Tables → ℕ → Result (Option Event × Tables) Cause → (Tables → Judgement) → Judgement
+after_line t n (Err f) go = stopped t n f
+after_line t n (Ok p) go = with_event n p.0 (go p.1)
+
+-- the lines from number n on, judged with the names of the lines before
+abbrev pub judge : List (List ℕ) → Tables → ℕ → Judgement
+judge [] t n = ended t
+judge (l ∷ ls) t n = after_line t n (reading t (content l)) (λ u. judge ls u (n + 1))
+
+-- the meaning of a whole text; lines are numbered from 1
+abbrev pub judgement : Tables → List ℕ → Judgement
+judgement names text = judge (lines_of text) names 1

@@ -1,0 +1,60 @@
+//! Why a text has a fault, and where.
+ghost use Rattle.std.specs.Prelude.{◌≡◌};
+ghost use Rattle.rapid_text.specs.Faults.{cause_word};
+
+use rapid_line::LineFault;
+
+/// What a name names.
+#[derive(Clone, Copy, Debug, PartialEq, Eq)]
+pub enum Kind {
+    Thread,
+    Lock,
+    Variable,
+    Site,
+}
+
+/// Why a name has no number.
+#[derive(Clone, Copy, Debug, PartialEq, Eq)]
+pub enum NameFault {
+    /// The name is new, and its kind has as many names as its limit.
+    TooMany,
+    /// A growth was refused.
+    OutOfMemory,
+}
+
+/// Why a text has a fault.
+#[derive(Clone, Copy, Debug, PartialEq, Eq)]
+pub enum Cause {
+    /// The line is no event.
+    Line(LineFault),
+    /// The line has a new name, and its kind has as many names as its limit.
+    TooManyNames(Kind),
+    /// A growth was refused.
+    OutOfMemory,
+    /// The reader failed, or the turns are used up.
+    Read,
+    /// A fault was answered before.
+    Failed,
+}
+
+impl Cause {
+    /// The cause's name, as a fault line prints it.
+    pub fn word(self) -> &'static str
+        ensures { result.now ≡ cause_word self }
+    {
+        match self {
+            Cause::Line(fault) => fault.word(),
+            Cause::TooManyNames(_) => "TooManyNames",
+            Cause::OutOfMemory => "OutOfMemory",
+            Cause::Read => "Read",
+            Cause::Failed => "Failed",
+        }
+    }
+}
+
+/// A cause, and the number of its line. Lines are numbered from 1.
+#[derive(Clone, Copy, Debug, PartialEq, Eq)]
+pub struct TextFault {
+    pub line: u64,
+    pub cause: Cause,
+}

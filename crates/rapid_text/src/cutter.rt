@@ -1,0 +1,322 @@
+//! A text in any pieces, cut into lines.
+//!
+//! A line that lies whole in a piece is judged in place. Of a line whose end was not seen at most 1,025 bytes
+//! are kept, and with one more byte the line is too long: a content of at most 1,024 bytes and a CR is
+//! shorter. So memory does not grow with the text but for new names.
+ghost use Rattle.std.specs.Prelude.{◌≡◌, ℕ, ◌+◌, ◌<◌, ◌≤◌, ◌⊎◌, ◌++◌, [], List, length, drop, IfOk};
+ghost use Rattle.std.specs.Prelude.{IfErr, OnOk, OnErr, Ok, None, Some, IfSome, option_map};
+ghost use Rattle.std.specs.Result.{IsErrOf};
+ghost use Rattle.event_core.specs.Bounds.{Bounds};
+ghost use Rattle.rapid_line.specs.Cut.{Lacks, cut};
+ghost use Rattle.rapid_text.specs.Tables.{no_names, TablesGrow};
+ghost use Rattle.rapid_text.specs.Events.{content, reading, Fails, IsOfNames};
+ghost use Rattle.rapid_text.specs.Cutting.{Cutting, judged, most, Pushes, FailsAt, Closes, begun};
+ghost use Rattle.rapid_text.specs.Cutting.{TooLongOrMemory, EndsLine, LineFails, Keeps, RestFails};
+ghost use Rattle.rapid_text.specs.Cutting.{ClosesAt, failed_at};
+ghost use Rattle.rapid_text.specs.declared.causes.Cause.TheVariants.{Read};
+
+use crate::causes::{Cause, TextFault};
+use crate::event_lines::line_event;
+use crate::names::Names;
+use event_core::{Event, Limits, OutOfMemory};
+use memchr::memchr;
+use rapid_line::LineFault;
+use std::alloc::Global;
+use std::marker::Model;
+
+/// The most bytes that a cutter takes, 2 to the 60th, so that no number of a line or of bytes overflows.
+const MOST_BYTES: u64 = 1152921504606846976;
+
+/// The most bytes of an unfinished line that may still end as a content of 1,024 bytes: those and a CR.
+const MOST_KEPT: usize = 1025;
+
+/// The bytes before the first LF, and those after it.
+fn cut_line(bytes: &[u8]) -> Option<(&[u8], &[u8])>
+    ensures { option_map (λ p. (p.0.now, p.1.now)) result ≡ cut 10 bytes.now }
+{
+    let at = memchr(b'\n', bytes)?;
+    Some((&bytes[..at], &bytes[at + 1..]))
+}
+
+/// Adds the bytes to the line whose end was not seen.
+#[tactic(auto, using(crate::proofs::Lines::lacks_both))]
+fn keep(kept: &mut Vec<u8>, bytes: &[u8]) -> Result<(), Cause>
+    requires kept_lf { Lacks 10 kept.old.items }
+    requires lf { Lacks 10 bytes.now }
+    requires short { length kept.old.items ≤ 1025 }
+    ensures ok { OnOk result (kept.new.items ≡ kept.old.items ++ bytes.now) }
+    ensures fault { IfErr result (λ f. TooLongOrMemory f (kept.old.items ++ bytes.now)) }
+    ensures kept_lf { Lacks 10 kept.new.items }
+    ensures short { length kept.new.items ≤ 1025 }
+    ensures err { OnErr result (kept.new.items ≡ kept.old.items) }
+{
+    if bytes.len() > MOST_KEPT - kept.len() {
+        return Err(Cause::Line(LineFault::LineTooLong));
+    }
+    if kept.extend_from_slice(bytes).is_err() {
+        return Err(Cause::OutOfMemory);
+    }
+    Ok(())
+}
+
+/// What the line comes to that is kept and ends with these bytes.
+fn whole_line(names: &mut Names, kept: &mut Vec<u8>, line: &[u8]) -> Result<Option<Event>, Cause>
+    requires kept_lf { Lacks 10 kept.old.items }
+    requires lf { Lacks 10 line.now }
+    requires short { length kept.old.items ≤ 1025 }
+    ensures ok { IfOk result (λ e.
+        reading names.old (content (kept.old.items ++ line.now)) ≡ Ok (e, names.new)) }
+    ensures empty { OnOk result (kept.new.items ≡ []) }
+    ensures fault { IfErr result (λ f. Fails f (reading names.old (content (kept.old.items ++ line.now)))) }
+    ensures kept_lf { Lacks 10 kept.new.items }
+    ensures short { length kept.new.items ≤ length kept.old.items }
+    ensures grows { TablesGrow names.old names.new }
+    ensures named { IfOk result (λ e. IfSome e (IsOfNames names.new)) }
+{
+    if kept.is_empty() {
+        return line_event(names, line);
+    }
+    keep(kept, line)?;
+    let event = line_event(names, kept.as_slice());
+    kept.clear();
+    event
+}
+
+/// The line of the last answer.
+fn line_told(event: &Option<Event>, now: u64, before: u64) -> u64
+    ensures some { IfSome event.now (λ _. result ≡ now) }
+    ensures none { event.now ≡ None → result ≡ before }
+{
+    if event.is_some() { now } else { before }
+}
+
+/// Cuts a text, which comes in pieces, into lines, and tells the event of each.
+#[derive(Drop)]
+pub struct Cutter {
+    names: Names,
+    /// The bytes of the line whose end was not seen.
+    kept: Vec<u8>,
+    /// The line of the last answer.
+    line: u64,
+    /// The number of the line whose end was not seen.
+    unfinished: u64,
+    /// How many bytes came.
+    taken: u64,
+    /// The line of the first fault.
+    failed: Option<u64>,
+}
+
+impl Model for Cutter {
+    ghost Value = { Cutting };
+
+    ghost view = { λ s. record {
+      names = s.names;
+      line = s.line;
+      unfinished = s.unfinished;
+      kept = s.kept.items;
+      taken = s.taken;
+      failed = s.failed;
+    } };
+
+    ghost invariant = { λ s. Lacks 10 s.kept.items × (length s.kept.items ≤ 1025) × (s.taken ≤ most) ×
+        (s.unfinished + length s.kept.items ≤ s.taken + 1) × ((n : ℕ) → s.failed ≡ Some n → s.line ≡ n) };
+}
+
+impl Cutter {
+    /// A cutter before the first byte of a text. The memory for an unfinished line is taken here.
+    pub fn new(alloc: Global, limits: Limits) -> Result<Cutter, OutOfMemory>
+        ensures { IfOk result (λ s. s ≡ begun limits) }
+    {
+        let Ok(kept) = Vec::with_capacity(alloc, MOST_KEPT) else {
+            return Err(OutOfMemory);
+        };
+        Ok(Cutter {
+            names: Names::new(alloc, limits),
+            kept,
+            line: 0,
+            unfinished: 1,
+            taken: 0,
+            failed: None,
+        })
+    }
+
+    /// Fails from now on.
+    fn fail(&mut self, cause: Cause) -> TextFault
+        ensures fault { result ≡ record { line = self.old.unfinished; cause = cause } }
+        ensures failed { self.new ≡ record self.old { line = self.old.unfinished; failed = Some self.old.unfinished } }
+        ensures kept { length self.new.kept ≤ 1025 }
+        ensures unfinished { Lacks 10 self.new.kept }
+    {
+        self.line = self.unfinished;
+        self.failed = Some(self.unfinished);
+        TextFault {
+            line: self.unfinished,
+            cause,
+        }
+    }
+
+    /// Judges the line that ends with these bytes, and an LF.
+    fn end_line(&mut self, line: &[u8]) -> Result<Option<Event>, TextFault>
+        requires lf { Lacks 10 line.now }
+        requires room { self.old.taken + length line.now < most }
+        requires live { self.old.failed ≡ None }
+        ensures ok { IfOk result (EndsLine self.old self.new line.now) }
+        ensures grows { TablesGrow self.old.names self.new.names }
+        ensures named { IfOk result (λ e. IfSome e (IsOfNames self.new.names)) }
+        ensures fault { IfErr result (LineFails self.old line.now) }
+        ensures failed { IfErr result (λ f. self.new.failed ≡ Some f.line) }
+        ensures line { IfErr result (λ f. self.new.line ≡ f.line) }
+        ensures kept { length self.new.kept ≤ 1025 }
+        ensures unfinished { Lacks 10 self.new.kept }
+    {
+        match whole_line(&mut self.names, &mut self.kept, line) {
+            Ok(event) => {
+                self.line = line_told(&event, self.unfinished, self.line);
+                self.unfinished += 1;
+                self.taken += line.len() as u64 + 1;
+                Ok(event)
+            }
+            Err(cause) => Err(self.fail(cause)),
+        }
+    }
+
+    /// Keeps the bytes, in which no line ends.
+    fn keep_rest(&mut self, bytes: &[u8]) -> Result<(), TextFault>
+        requires lf { Lacks 10 bytes.now }
+        requires room { self.old.taken + length bytes.now ≤ most }
+        requires live { self.old.failed ≡ None }
+        ensures ok { OnOk result (Keeps self.old self.new bytes.now) }
+        ensures grows { TablesGrow self.old.names self.new.names }
+        ensures fault { IfErr result (RestFails self.old bytes.now) }
+        ensures failed { IfErr result (λ f. self.new.failed ≡ Some f.line) }
+        ensures line { IfErr result (λ f. self.new.line ≡ f.line) }
+        ensures kept { length self.new.kept ≤ 1025 }
+        ensures unfinished { Lacks 10 self.new.kept }
+    {
+        match keep(&mut self.kept, bytes) {
+            Ok(()) => {
+                self.taken += bytes.len() as u64;
+                Ok(())
+            }
+            Err(cause) => Err(self.fail(cause)),
+        }
+    }
+
+    /// Takes bytes up to the end of the first line with an event, or all of them where no line with an event
+    /// ends, and says how many. A piece that would pass the most bytes is answered `Read`.
+    pub fn push(&mut self, piece: &[u8]) -> Result<(usize, Option<Event>), TextFault>
+        // What is still to be judged is the same text, but for the event.
+        ensures ok { IfOk result (λ r. Pushes self.old self.new piece.now r.0 r.1) }
+        // A fault is the one at which the text stops, whatever follows.
+        ensures fault { IfErr result (λ f. FailsAt self.old piece.now f f.cause) }
+        // After a fault it fails from then on, and nothing changes.
+        ensures again { (n : ℕ) → self.old.failed ≡ Some n →
+            IsErrOf result (failed_at n) × (self.new ≡ self.old) }
+        ensures failed { IfErr result (λ f. self.new.failed ≡ Some f.line) }
+        ensures line { IfErr result (λ f. self.new.line ≡ f.line) }
+        // Names were only added, and the event's numbers have names.
+        ensures grows { TablesGrow self.old.names self.new.names }
+        ensures named { IfOk result (λ r. IfSome r.1 (IsOfNames self.new.names)) }
+        // No more than this is kept of a line whose end was not seen, and no LF.
+        ensures kept { length self.new.kept ≤ 1025 }
+        ensures unfinished { Lacks 10 self.new.kept }
+    {
+        if let Some(line) = self.failed {
+            return Err(TextFault {
+                line,
+                cause: Cause::Failed,
+            });
+        }
+        if piece.len() as u64 > MOST_BYTES - self.taken {
+            return Err(self.fail(Cause::Read));
+        }
+        let mut used = 0;
+        'lines: while let Some((line, _)) = cut_line(&piece[used..]) {
+            used += line.len() + 1;
+            if let Some(event) = self.end_line(line)? {
+                return Ok((used, Some(event)));
+            }
+        }
+        self.keep_rest(&piece[used..])?;
+        Ok((piece.len(), None))
+    }
+
+    /// Judges what is left, as the last line.
+    pub fn finish(&mut self) -> Result<Option<Event>, TextFault>
+        ensures ok { IfOk result (Closes self.old self.new) }
+        ensures fault { IfErr result (λ f. ClosesAt self.old f f.cause) }
+        ensures again { (n : ℕ) → self.old.failed ≡ Some n →
+            IsErrOf result (failed_at n) × (self.new ≡ self.old) }
+        ensures failed { IfErr result (λ f. self.new.failed ≡ Some f.line) }
+        ensures line { IfErr result (λ f. self.new.line ≡ f.line) }
+        ensures grows { TablesGrow self.old.names self.new.names }
+        ensures named { IfOk result (λ e. IfSome e (IsOfNames self.new.names)) }
+        ensures kept { length self.new.kept ≤ 1025 }
+    {
+        if let Some(line) = self.failed {
+            return Err(TextFault {
+                line,
+                cause: Cause::Failed,
+            });
+        }
+        if self.kept.is_empty() {
+            return Ok(None);
+        }
+        match line_event(&mut self.names, self.kept.as_slice()) {
+            Ok(event) => {
+                self.line = line_told(&event, self.unfinished, self.line);
+                self.unfinished += 1;
+                self.kept.clear();
+                Ok(event)
+            }
+            Err(cause) => Err(self.fail(cause)),
+        }
+    }
+
+    /// What stands for a failure of the reader, at the line whose end was not seen.
+    pub fn read_failed(&mut self) -> TextFault
+        ensures fault { self.old.failed ≡ None →
+            result ≡ record { line = self.old.unfinished; cause = Read } }
+        ensures failed { self.old.failed ≡ None →
+            self.new ≡ record self.old { line = self.old.unfinished; failed = Some self.old.unfinished } }
+        ensures again { (n : ℕ) → self.old.failed ≡ Some n → (result ≡ failed_at n) × (self.new ≡ self.old) }
+    {
+        if let Some(line) = self.failed {
+            return TextFault {
+                line,
+                cause: Cause::Failed,
+            };
+        }
+        self.fail(Cause::Read)
+    }
+
+    /// The line of the first fault.
+    pub fn failed(&self) -> Option<u64>
+        ensures is { result ≡ self.now.failed }
+        ensures line { IfSome result (λ n. self.now.line ≡ n) }
+    {
+        self.failed
+    }
+
+    /// The number of the last answer's line: of the last event, or of the first fault once there is one;
+    /// 0 before the first answer. An answer without an event has no line.
+    pub fn line(&self) -> u64
+        ensures { result ≡ self.now.line }
+    {
+        self.line
+    }
+
+    /// The number of the line whose end was not seen.
+    pub fn unfinished(&self) -> u64
+        ensures { result ≡ self.now.unfinished }
+    {
+        self.unfinished
+    }
+
+    /// The names so far.
+    pub fn names(&self) -> &Names
+        ensures { result.now ≡ self.entry.now.names }
+    {
+        &self.names
+    }
+}

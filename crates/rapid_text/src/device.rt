@@ -1,0 +1,58 @@
+//! Any reader or writer of std as an input or an output.
+ghost use Rattle.std.specs.Prelude.{◌≡◌, false};
+
+use crate::input::{Input, ReadFailed};
+use crate::output::{Output, WriteFailed};
+use std::io::{Read, Write};
+
+/// A reader as an input, or a writer as an output. Each pull is one `read`, and each put one `write`.
+#[derive(Drop)]
+pub struct Device<T> {
+    inner: T,
+    failed: bool,
+}
+
+impl<T> Device<T> {
+    /// The device of a reader or a writer, which has not failed.
+    pub fn new(inner: T) -> Device<T>
+        ensures inner { result.inner ≡ inner }
+        ensures failed { result.failed ≡ false }
+    {
+        Device {
+            inner,
+            failed: false,
+        }
+    }
+}
+
+impl<T: Read> Input for Device<T> {
+    ghost left = { λ d. T.remaining d.inner };
+
+    ghost failed = { λ d. d.failed };
+
+    fn pull(&mut self, buf: &mut [u8]) -> Result<usize, ReadFailed> {
+        match self.inner.read(buf) {
+            Ok(n) => Ok(n),
+            Err(_) => {
+                self.failed = true;
+                Err(ReadFailed)
+            }
+        }
+    }
+}
+
+impl<T: Write> Output for Device<T> {
+    ghost written = { λ d. T.contents d.inner };
+
+    ghost failed = { λ d. d.failed };
+
+    fn put(&mut self, bytes: &[u8]) -> Result<usize, WriteFailed> {
+        match self.inner.write(bytes) {
+            Ok(n) if n > 0 || bytes.is_empty() => Ok(n),
+            _ => {
+                self.failed = true;
+                Err(WriteFailed)
+            }
+        }
+    }
+}

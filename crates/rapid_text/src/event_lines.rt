@@ -1,0 +1,105 @@
+//! What a line comes to: an event with its names numbered, or the cause why it has none.
+ghost use Rattle.std.specs.Prelude.{◌≡◌, IfOk, IfErr, IfSome, Ok};
+ghost use Rattle.rapid_line.specs.Cut.{Lacks};
+ghost use Rattle.rapid_line.specs.Grammar.{IsWellFormed};
+ghost use Rattle.rapid_line.specs.Reading.{named_of};
+ghost use Rattle.rapid_text.specs.Tables.{IsNameOf, TablesGrow, number_in};
+ghost use Rattle.rapid_text.specs.Events.{kind_of, op_of, number_or_fault, named_event, content, reading};
+ghost use Rattle.rapid_text.specs.Events.{Fails, IsOfNames};
+
+use crate::causes::{Cause, Kind, NameFault};
+use crate::names::Names;
+use event_core::{Event, LockId, Op, SiteId, ThreadId, VarId};
+use rapid_line::{NamedLine, Word, read_line, strip_last};
+
+/// What the argument of a word names.
+pub fn kind_at(word: Word) -> Kind
+    ensures { result ≡ kind_of word }
+{
+    match word {
+        Word::Load | Word::Store => Kind::Variable,
+        Word::Acquire | Word::Release => Kind::Lock,
+        Word::Fork | Word::Join => Kind::Thread,
+    }
+}
+
+fn op_at(word: Word, number: u32) -> Op
+    ensures { result ≡ op_of word number }
+{
+    match word {
+        Word::Load => Op::Load(VarId(number)),
+        Word::Store => Op::Store(VarId(number)),
+        Word::Acquire => Op::Acquire(LockId(number)),
+        Word::Release => Op::Release(LockId(number)),
+        Word::Fork => Op::Fork(ThreadId(number)),
+        Word::Join => Op::Join(ThreadId(number)),
+    }
+}
+
+/// The number of a name in a line.
+fn number_in_line(names: &mut Names, kind: Kind, name: &[u8]) -> Result<u32, Cause>
+    requires { IsNameOf kind name.now }
+    ensures ok { IfOk result (λ n.
+        number_or_fault kind (number_in names.old kind name.now) ≡ Ok (n, names.new)) }
+    ensures fault { IfErr result (λ f. Fails f (number_or_fault kind (number_in names.old kind name.now))) }
+    ensures grows { TablesGrow names.old names.new }
+{
+    match names.number(kind, name) {
+        Ok(number) => Ok(number),
+        Err(NameFault::TooMany) => Err(Cause::TooManyNames(kind)),
+        Err(NameFault::OutOfMemory) => Err(Cause::OutOfMemory),
+    }
+}
+
+/// The event of a named event. After an `Err` some of its names may have been numbered.
+#[tactic(auto, unfolding(crate::specs::Events::named_event))]
+fn number_line(names: &mut Names, line: &NamedLine<'_>) -> Result<Event, Cause>
+    requires { IsWellFormed (named_of line.now) }
+    ensures ok { IfOk result (λ e. named_event names.old (named_of line.now) ≡ Ok (e, names.new)) }
+    ensures fault { IfErr result (λ f. Fails f (named_event names.old (named_of line.now))) }
+    ensures grows { TablesGrow names.old names.new }
+{
+    let thread = number_in_line(names, Kind::Thread, line.thread)?;
+    let target = number_in_line(names, kind_at(line.word), line.argument)?;
+    let site = number_in_line(names, Kind::Site, line.location)?;
+    Ok(Event {
+        thread: ThreadId(thread),
+        op: op_at(line.word, target),
+        site: SiteId(site),
+        value: 0,
+    })
+}
+
+/// The line without the CR at its end.
+#[tactic(auto, using(crate::proofs::Lines::before_end_lacks))]
+fn without_cr(line: &[u8]) -> &[u8]
+    requires { Lacks 10 line.now }
+    ensures value { result.now ≡ content line.now }
+    ensures lf { Lacks 10 result.now }
+{
+    if let Some(front) = strip_last(line, b'\r') {
+        return front;
+    }
+    line
+}
+
+/// What a line comes to, which stands without its LF.
+#[tactic(auto, unfolding(crate::specs::Events::reading))]
+pub fn line_event(names: &mut Names, line: &[u8]) -> Result<Option<Event>, Cause>
+    requires { Lacks 10 line.now }
+    ensures ok { IfOk result (λ e. reading names.old (content line.now) ≡ Ok (e, names.new)) }
+    ensures fault { IfErr result (λ f. Fails f (reading names.old (content line.now))) }
+    ensures grows { TablesGrow names.old names.new }
+    ensures named { IfOk result (λ e. IfSome e (IsOfNames names.new)) }
+{
+    let bytes = without_cr(line);
+    if bytes.is_empty() {
+        return Ok(None);
+    }
+    let named = match read_line(bytes) {
+        Ok(named) => named,
+        Err(fault) => return Err(Cause::Line(fault)),
+    };
+    let event = number_line(names, &named)?;
+    Ok(Some(event))
+}

@@ -1,0 +1,28 @@
+//! RAPID STD traces: the events of a text with their names numbered, read in any pieces, and written again.
+#![tactic(auto)]
+
+mod causes;
+mod cutter;
+mod device;
+mod event_lines;
+mod input;
+mod names;
+mod output;
+mod puller;
+mod reader;
+mod spaces;
+#[cfg(test)]
+mod tests;
+mod window;
+mod writing;
+
+pub use causes::{Cause, Kind, NameFault, TextFault};
+pub use cutter::Cutter;
+pub use device::Device;
+pub use input::{Input, ReadFailed};
+pub use names::Names;
+pub use output::{Output, WriteFailed, WriteFault, write_all};
+pub use puller::Puller;
+pub use rapid_line::{LineFault, NamedLine, Word, one_content, one_reading, read_line};
+pub use reader::Reader;
+pub use writing::{write_event, write_fault};

@@ -1,0 +1,103 @@
+//! Names in four spaces, numbered from 0 in the order of their first appearance.
+ghost use Rattle.std.specs.Prelude.{◌≡◌, ℕ, ◌<◌, ◌≤◌, length, slice_get, Some, None, IfOk, OnErr};
+ghost use Rattle.std.specs.Result.{IsErrOf};
+ghost use Rattle.rapid_text.specs.Numbers.{number_of, place_of};
+ghost use Rattle.rapid_text.specs.Tables.{Tables, no_names, space, number_in, IsNameOf, TablesGrow};
+ghost use Rattle.rapid_text.specs.Tables.{AreNamed};
+
+use crate::causes::{Kind, NameFault};
+use crate::spaces::Space;
+use event_core::Limits;
+use std::alloc::Global;
+use std::marker::Model;
+
+/// The names of a text: of threads, locks, variables and locations.
+#[derive(Drop)]
+pub struct Names {
+    threads: Space,
+    locks: Space,
+    variables: Space,
+    sites: Space,
+}
+
+impl Model for Names {
+    ghost Value = { Tables };
+
+    ghost view = { λ n.
+        record { threads = n.threads; locks = n.locks; variables = n.variables; sites = n.sites } };
+
+    ghost invariant = { λ n. AreNamed
+        (record { threads = n.threads; locks = n.locks; variables = n.variables; sites = n.sites }) };
+}
+
+impl Names {
+    /// No names. The limits say how many there may be of each kind, and of locations there may be
+    /// 4,294,967,295.
+    pub fn new(alloc: Global, limits: Limits) -> Names
+        ensures { result ≡ no_names limits }
+    {
+        Names {
+            threads: Space::new(alloc, limits.threads()),
+            locks: Space::new(alloc, limits.locks()),
+            variables: Space::new(alloc, limits.vars()),
+            sites: Space::new(alloc, u32::MAX),
+        }
+    }
+
+    /// How many names of the kind there are.
+    pub fn count(&self, kind: Kind) -> u32
+        ensures is { result ≡ length (space self.now kind).names }
+        ensures within { result ≤ (space self.now kind).limit }
+    {
+        match kind {
+            Kind::Thread => self.threads.count(),
+            Kind::Lock => self.locks.count(),
+            Kind::Variable => self.variables.count(),
+            Kind::Site => self.sites.count(),
+        }
+    }
+
+    /// The number of the name in the space of its kind.
+    #[tactic(auto, unfolding(crate::specs::Tables::number_in))]
+    fn number_in_space(&mut self, kind: Kind, name: &[u8]) -> Result<u32, NameFault>
+        requires { IsNameOf kind name.now }
+        ensures ok { IfOk result (λ n. number_in self.old kind name.now ≡ Some (n, self.new)) }
+        ensures too_many { IsErrOf result NameFault.TooMany → number_in self.old kind name.now ≡ None }
+        ensures err { OnErr result (self.new ≡ self.old) }
+    {
+        match kind {
+            Kind::Thread => self.threads.number(name),
+            Kind::Lock => self.locks.number(name),
+            Kind::Variable => self.variables.number(name),
+            Kind::Site => self.sites.number(name),
+        }
+    }
+
+    /// The number of the name, which is the next one where the name is new. An `Err` changes nothing.
+    pub fn number(&mut self, kind: Kind, name: &[u8]) -> Result<u32, NameFault>
+        requires { IsNameOf kind name.now }
+        ensures ok { IfOk result (λ n. number_in self.old kind name.now ≡ Some (n, self.new)) }
+        // The name is new, and there are as many as the limit.
+        ensures too_many { IsErrOf result NameFault.TooMany → number_in self.old kind name.now ≡ None }
+        ensures err { OnErr result (self.new ≡ self.old) }
+        // The number has this name from now on, and names were only added.
+        ensures named { IfOk result (λ n. slice_get (space self.new kind).names n ≡ Some name.now) }
+        ensures grows { TablesGrow self.old self.new }
+    {
+        self.number_in_space(kind, name)
+    }
+
+    /// The name of a number, in the bytes that it had.
+    pub fn name(&self, kind: Kind, number: u32) -> &[u8]
+        requires { number < length (space self.now kind).names }
+        ensures is { slice_get (space self.entry.now kind).names number ≡ Some result.now }
+        ensures named { IsNameOf kind result.now }
+    {
+        match kind {
+            Kind::Thread => self.threads.name(number),
+            Kind::Lock => self.locks.name(number),
+            Kind::Variable => self.variables.name(number),
+            Kind::Site => self.sites.name(number),
+        }
+    }
+}

@@ -1,0 +1,95 @@
+//! The events of a text, read from an input of its own.
+ghost use Rattle.std.specs.Prelude.{◌≡◌, ℕ, ◌≤◌, IfOk, IfErr, IfSome, OnOk, Ok, None, Some, true, false};
+ghost use Rattle.std.specs.Result.{IsErrOf};
+ghost use Rattle.rapid_text.specs.Cutting.{failed_at};
+ghost use Rattle.rapid_text.specs.Tables.{TablesGrow};
+ghost use Rattle.rapid_text.specs.Events.{IsOfNames};
+ghost use Rattle.rapid_text.specs.Pulling.{unpulled, Answers, NoAnswer};
+ghost use Rattle.rapid_text.specs.Reading.{Reading};
+
+use crate::causes::TextFault;
+use crate::input::Input;
+use crate::names::Names;
+use crate::puller::Puller;
+use event_core::{Event, Limits, OutOfMemory};
+use std::alloc::Global;
+use std::marker::Model;
+
+/// Gives the events of a text, which it pulls from its input in pieces of 4,096 bytes.
+#[derive(Drop)]
+pub struct Reader<I: Input> {
+    input: I,
+    puller: Puller,
+}
+
+impl<I: Input> Model for Reader<I> {
+    ghost Value = { Reading };
+
+    ghost view = { λ r. record { text = r.puller; left = I.left r.input; read_failed = I.failed r.input } };
+}
+
+impl<I: Input> Reader<I> {
+    /// A reader before the first pull, with the memory for an unfinished line and one piece. Each pull takes
+    /// one turn.
+    pub fn new(
+        alloc: Global,
+        inner: I,
+        limits: Limits,
+        turns: u64,
+    ) -> Result<Reader<I>, OutOfMemory>
+    where
+        I: Drop,
+        requires turns { turns ≤ 17592186044416 }
+        requires works { I.failed inner ≡ false }
+        ensures { IfOk result (λ r.
+            r ≡ record { text = unpulled limits turns; left = I.left inner; read_failed = false }) }
+    {
+        let puller = Puller::new(alloc, limits, turns)?;
+        Ok(Reader {
+            input: inner,
+            puller,
+        })
+    }
+
+    /// The next event of the text, or that it ended. Events have the value 0.
+    pub fn next(&mut self) -> Result<Option<Event>, TextFault>
+        // The event is the next of the text that is still to be judged, or that text has none left.
+        ensures ok { IfOk result (Answers self.old.text self.old.left self.new.text self.new.left) }
+        // The fault is the one at which that text stops, or a read failed, the turns are used up or a growth
+        // was refused.
+        ensures fault { IfErr result (λ f.
+            NoAnswer self.old.text self.old.left self.new.text self.new.left self.new.read_failed f f.cause) }
+        // After a fault it fails from then on, and nothing changes.
+        ensures again { (n : ℕ) → self.old.text.failed ≡ Some n →
+            IsErrOf result (failed_at n) × (self.new ≡ self.old) }
+        ensures failed { IfErr result (λ f. self.new.text.failed ≡ Some f.line) }
+        ensures line { IfErr result (λ f. self.new.text.line ≡ f.line) }
+        ensures live { OnOk result (self.new.text.failed ≡ None) }
+        // A failure of the input is never passed over.
+        ensures healthy { OnOk result (self.new.read_failed ≡ self.old.read_failed) }
+        ensures turns { self.new.text.turns ≤ self.old.text.turns }
+        // Names were only added, and the event's numbers have names.
+        ensures grows { TablesGrow self.old.text.names self.new.text.names }
+        ensures named { IfOk result (λ e. IfSome e (IsOfNames self.new.text.names)) }
+        // After the end it stays at the end, and nothing is pulled.
+        ensures stays { self.old.text.failed ≡ None → self.old.text.ended ≡ true →
+            (result ≡ Ok None) × (self.new ≡ self.old) }
+    {
+        self.puller.next(&mut self.input)
+    }
+
+    /// The number of the last answer's line: of the last event, or of the first fault once there is one;
+    /// 0 before the first answer. The end of the text has no line.
+    pub fn line(&self) -> u64
+        ensures { result ≡ self.now.text.line }
+    {
+        self.puller.line()
+    }
+
+    /// The names so far.
+    pub fn names(&self) -> &Names
+        ensures { result.now ≡ self.entry.now.text.names }
+    {
+        self.puller.names()
+    }
+}

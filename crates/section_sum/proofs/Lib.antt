@@ -1,0 +1,7 @@
+mod Basics
+mod Closing
+mod Places
+mod Says
+mod Locks
+mod Meaning
+mod Sourcing

@@ -1,0 +1,12 @@
+use Rattle.std.proofs.Common.{◌≡◌, length}
+use Rattle.section_sum.specs.Cells.{Closing}
+use Rattle.section_sum.proofs.cell.close_cells.Given as goal
+
+abbrev pub invariant-closing : goal.invariant-closing
+invariant-closing l = record {
+  cells : Closing l.thread.0 l.clock l.fn.cells l.cells l.listed.items;
+  capacity : l.listed.cap ≡ l.fn.listed.cap;
+}
+
+abbrev pub decreases-closing : goal.decreases-closing
+decreases-closing l = length l.listed.items

@@ -1,0 +1,286 @@
+//! What sections on one lock read and wrote.
+//!
+//! A variable's place among those accessed under the lock is its cell's number. It is found by one hash, or
+//! by none where the variable is the one looked up before. The cells with an access in the open section
+//! are listed, so that its end goes over them alone and allocates nothing: a list never has more cells than
+//! there are, and room for all is made with each cell.
+ghost use Rattle.std.specs.Prelude.{◌≡◌, ℕ, ◌<◌, ◌≤◌, ◌||◌, ◌&&◌, ◌++◌, ◌∷◌, [], length, nat_eq, cond};
+ghost use Rattle.std.specs.Prelude.{max, not, true, false, if◌then◌else◌, OnOk, MatchOption, IfOk};
+ghost use Rattle.std.specs.Prelude.{IsTrue, is_ok, None, option_copied};
+ghost use Rattle.hb_clocks.specs.Counts.{counts_of};
+ghost use Rattle.section_sum.specs.Newest.{counts_in, has_slot, IsWideIn};
+ghost use Rattle.section_sum.specs.Cells.{closed, marked_as, no_cell, cell_at, side};
+ghost use Rattle.section_sum.specs.Entries.{noted_at, others_on, loads_on, room_at, place_of, cell_of};
+ghost use Rattle.section_sum.specs.Entries.{IsAlone, IsGrown, HasMore, HasGrown, HasNoted, HasClosed};
+ghost use Rattle.section_sum.specs.Entries.{AreUnique};
+ghost use Rattle.event_core.specs.declared.events.AccessKind.{AccessKind as Kind};
+ghost use Rattle.event_core.specs.declared.events.AccessKind.TheVariants.{Read, Write};
+
+use crate::cell::{Cell, close_cells, make_room_at, new_cell, note_cell};
+use crate::sources::Sources;
+use event_core::{AccessKind, OutOfMemory, ThreadId, VarId};
+use hb_clocks::Clock;
+use indexmap::IndexSet;
+use std::alloc::Global;
+use std::marker::Model;
+
+/// What sections on one lock read and wrote: a cell for each variable that was accessed, and the
+/// cells with an access in the open section, which is that of one thread.
+#[derive(Drop)]
+pub struct Table {
+    alloc: Global,
+    width: usize,
+    vars: IndexSet<u32>,
+    cells: Vec<Cell>,
+    by: ThreadId,
+    listed: Vec<usize>,
+    // Where the variable stands that was looked up last, if it is within.
+    last: usize,
+}
+
+impl Model for Table {
+    ghost use Rattle.section_sum.specs.Entries.{Entries, AreEntries};
+
+    ghost Value = { Entries };
+
+    ghost view = { λ a. record { width = a.width; vars = a.vars.keys; cells = a.cells.items; by = a.by.0 } };
+
+    ghost invariant = { λ a.
+        AreEntries a.width a.by.0 a.vars.keys a.cells.items a.listed.items a.listed.cap };
+}
+
+impl Table {
+    /// No sections. Takes no memory.
+    pub fn new(alloc: Global, width: usize) -> Table
+        ensures width { result.width ≡ width }
+        ensures none { (v : ℕ) → cell_of result v ≡ no_cell }
+    {
+        Table {
+            alloc,
+            width,
+            vars: IndexSet::new(alloc),
+            cells: Vec::new(alloc),
+            by: ThreadId(0),
+            listed: Vec::new(alloc),
+            last: 0,
+        }
+    }
+
+    fn find(&self, var: VarId) -> Option<usize>
+        ensures { MatchOption result (length self.now.cells ≤ place_of self.now.vars var.0)
+            (λ i. (i ≡ place_of self.now.vars var.0) × (i < length self.now.cells)) }
+    {
+        find_place(&self.vars, self.last, var)
+    }
+
+    // The thread's open section has such an access.
+    fn mark(&mut self, thread: ThreadId, var: VarId, kind: AccessKind)
+        requires room { room_at self.old thread.0 var.0 kind ≡ true }
+        requires alone { IsAlone self.old thread.0 }
+        ensures cells { (v : ℕ) → cell_of self.new v ≡ marked_as (nat_eq v var.0) kind (cell_of self.old v) }
+        ensures by { self.new.by ≡ thread.0 }
+        ensures width { self.new.width ≡ self.old.width }
+    {
+        if let Some(at) = self.find(var) {
+            note_cell(&mut self.cells, &mut self.listed, at, kind);
+            self.by = thread;
+            self.last = at;
+        }
+    }
+
+    // The open section ends with the clock.
+    fn close_listed(&mut self, clock: &Clock)
+        requires width { length clock.now ≡ self.old.width }
+        ensures cells { (v : ℕ) → cell_of self.new v ≡ closed self.old.by clock.now (cell_of self.old v) }
+        ensures by { self.new.by ≡ self.old.by }
+        ensures width { self.new.width ≡ self.old.width }
+    {
+        close_cells(&mut self.cells, &mut self.listed, self.by, clock);
+    }
+
+    /// The thread's open section has such an access.
+    #[tactic(auto, using(crate::proofs::Says::says_noted))]
+    pub fn note(&mut self, thread: ThreadId, var: VarId, kind: AccessKind)
+        requires room { room_at self.old thread.0 var.0 kind ≡ true }
+        requires alone { IsAlone self.old thread.0 }
+        ensures noted { HasNoted thread.0 var.0 kind self.old self.new }
+    {
+        self.mark(thread, var, kind);
+    }
+
+    /// The thread's section ends with the clock: the other threads' clocks of what it noted gain it.
+    #[tactic(auto, using(crate::proofs::Says::says_closed, crate::proofs::Says::says_other))]
+    pub fn close(&mut self, thread: ThreadId, clock: &Clock)
+        requires width { length clock.now ≡ self.old.width }
+        requires above { (v : ℕ) (k : Kind) (t u : ℕ) → others_on self.old v k t u ≤ counts_of clock.now u }
+        ensures closed { HasClosed thread.0 clock.now self.old self.new }
+    {
+        if self.by == thread {
+            self.close_listed(clock);
+        }
+    }
+
+    /// Makes room for such an access of the thread's section and for that section's end.
+    pub fn make_room(
+        &mut self,
+        thread: ThreadId,
+        var: VarId,
+        kind: AccessKind,
+    ) -> Result<(), OutOfMemory>
+        ensures grown { HasGrown self.old self.new }
+        ensures width { self.new.width ≡ self.old.width }
+        ensures room { OnOk result (room_at self.new thread.0 var.0 kind ≡ true) }
+    {
+        make_room_in(
+            &mut self.vars,
+            &mut self.cells,
+            &mut self.listed,
+            &mut self.last,
+            self.alloc,
+            self.width,
+            thread,
+            var,
+            kind,
+        )
+    }
+
+    /// Whether such an access of the thread's section, and that section's end, need no memory.
+    pub fn has_room(&self, thread: ThreadId, var: VarId, kind: AccessKind) -> bool
+        ensures { result ≡ room_at self.now thread.0 var.0 kind }
+    {
+        let Some(at) = self.find(var) else {
+            return false;
+        };
+        let cell = &self.cells[at];
+        match kind {
+            AccessKind::Read => cell.reads.newest.has_room(thread),
+            AccessKind::Write => cell.writes.newest.has_room(thread),
+        }
+    }
+
+    /// The clocks that such an access meets: of the other threads' sections with a store, and for a store
+    /// also of those with a load.
+    pub fn sources(&self, thread: ThreadId, var: VarId, kind: AccessKind) -> Sources<'_>
+        ensures first_width { IsWideIn self.now.width (option_copied result.first) }
+        ensures second_width { IsWideIn self.now.width (option_copied result.second) }
+        ensures stores { (u : ℕ) → counts_in (option_copied result.first) u
+            ≡ others_on self.now var.0 Write thread.0 u }
+        ensures loads { (u : ℕ) → counts_in (option_copied result.second) u
+            ≡ loads_on self.now var.0 kind thread.0 u }
+        ensures one { kind ≡ Read → option_copied result.second ≡ None }
+    {
+        let Some(at) = self.find(var) else {
+            return Sources {
+                first: None,
+                second: None,
+            };
+        };
+        let cell = &self.cells[at];
+        let stores = cell.writes.newest.source(thread);
+        match kind {
+            AccessKind::Read => Sources {
+                first: stores,
+                second: None,
+            },
+            AccessKind::Write => Sources {
+                first: stores,
+                second: cell.reads.newest.source(thread),
+            },
+        }
+    }
+}
+
+// Where the variable stands: mostly where the one before stood, and else by one hash.
+fn find_place(vars: &IndexSet<u32>, last: usize, var: VarId) -> Option<usize>
+    requires unique { AreUnique vars.now.keys }
+    ensures { MatchOption result (length vars.now.keys ≤ place_of vars.now.keys var.0)
+        (λ i. (i ≡ place_of vars.now.keys var.0) × (i < length vars.now.keys)) }
+{
+    if is_at(vars, last, var) {
+        return Some(last);
+    }
+    vars.get_index_of(&var.0)
+}
+
+#[tactic(auto, using(crate::proofs::Places::place_at))]
+fn is_at(vars: &IndexSet<u32>, place: usize, var: VarId) -> bool
+    requires unique { AreUnique vars.now.keys }
+    ensures { IsTrue result → (place ≡ place_of vars.now.keys var.0) × (place < length vars.now.keys) }
+{
+    match vars.get_index(place) {
+        Some(known) => *known == var.0,
+        None => false,
+    }
+}
+
+// Makes room for the end of the thread's section with such an access.
+#[tactic(auto, using(crate::proofs::Places::more_room, crate::proofs::Places::no_more_room))]
+fn make_room_in(
+    vars: &mut IndexSet<u32>,
+    cells: &mut Vec<Cell>,
+    listed: &mut Vec<usize>,
+    last: &mut usize,
+    alloc: Global,
+    width: usize,
+    thread: ThreadId,
+    var: VarId,
+    kind: AccessKind,
+) -> Result<(), OutOfMemory>
+    requires same { length cells.old.items ≡ length vars.old.keys }
+    requires unique { AreUnique vars.old.keys }
+    requires capacity { length cells.old.items ≤ listed.old.cap }
+    ensures more { HasMore width vars.old.keys cells.old.items vars.new.keys cells.new.items }
+    ensures room { OnOk result
+        (has_slot (side kind (cell_at cells.new.items (place_of vars.new.keys var.0))).newest thread.0
+        ≡ true) }
+    ensures listed { listed.new.items ≡ listed.old.items }
+    ensures capacity { length cells.new.items ≤ listed.new.cap }
+{
+    let at = make_cell(vars, cells, listed, *last, var)?;
+    *last = at;
+    make_room_at(cells, at, alloc, width, thread, kind)
+}
+
+// The variable has a cell. Answers its number.
+fn make_cell(
+    vars: &mut IndexSet<u32>,
+    cells: &mut Vec<Cell>,
+    listed: &mut Vec<usize>,
+    last: usize,
+    var: VarId,
+) -> Result<usize, OutOfMemory>
+    requires same { length cells.old.items ≡ length vars.old.keys }
+    requires unique { AreUnique vars.old.keys }
+    requires capacity { length cells.old.items ≤ listed.old.cap }
+    ensures grown { IsGrown vars.old.keys cells.old.items vars.new.keys cells.new.items }
+    ensures ok { IfOk result (λ at. (at ≡ place_of vars.new.keys var.0) × (at < length vars.new.keys)) }
+    ensures listed { listed.new.items ≡ listed.old.items }
+    ensures capacity { length cells.new.items ≤ listed.new.cap }
+{
+    if let Some(at) = find_place(vars, last, var) {
+        return Ok(at);
+    }
+    let at = cells.len();
+    if listed.reserve(at + 1).is_err() {
+        return Err(OutOfMemory);
+    }
+    add_cell(vars, cells, var)?;
+    Ok(at)
+}
+
+// The cell of a further variable joins the others.
+fn add_cell(vars: &mut IndexSet<u32>, cells: &mut Vec<Cell>, var: VarId) -> Result<(), OutOfMemory>
+    requires new { place_of vars.old.keys var.0 ≡ length vars.old.keys }
+    ensures vars { vars.new.keys ≡ (if is_ok result then vars.old.keys ++ var.0 ∷ [] else vars.old.keys) }
+    ensures cells { cells.new.items
+        ≡ (if is_ok result then cells.old.items ++ no_cell ∷ [] else cells.old.items) }
+{
+    if cells.reserve(1).is_err() {
+        return Err(OutOfMemory);
+    }
+    if vars.insert(var.0).is_err() {
+        return Err(OutOfMemory);
+    }
+    cells.push_reserved(new_cell());
+    Ok(())
+}

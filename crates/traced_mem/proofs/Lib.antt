@@ -1,0 +1,15 @@
+pub mod Growing
+pub mod Allowed
+pub mod Swaps
+pub mod SameRefusals
+pub mod Updates
+pub mod OneMore
+pub mod Depths
+pub mod LocksAfter
+pub mod CellsAfter
+pub mod HoldsAfter
+pub mod ThreadsAfter
+pub mod AfterLaw
+pub mod Without
+pub mod HeldLaw
+pub mod Stepping

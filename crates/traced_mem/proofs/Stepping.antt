@@ -1,0 +1,147 @@
+-- What a step leaves of the tables' room and of what the fields keep.
+use Rattle.std.proofs.Common.{◌≡◌, ℕ, suc, ◌-◌, ◌≤◌, Bool, true, false, List, ◌++◌, Some, None, Option}
+use Rattle.std.proofs.Common.{length, take, drop, append-nil, take_all, drop_of_length-le, nat_eq, ap, sym}
+use Rattle.std.proofs.Common.{◌∙◌, subst, if◌then◌else◌, arith}
+use Rattle.std.proofs.lemmas.Bool.{cases_eq, eq-eqb}
+use Rattle.std.proofs.lemmas.List.{length-append, length-take, length-drop}
+use Rattle.std.proofs.Math.Nat.{min-le_left, min-le_right}
+use Rattle.std.specs.List.{position}
+use mathlib.Core.Logic.{inl, inr}
+use Rattle.event_core.specs.declared.ids.ThreadId.{ThreadId}
+use Rattle.event_core.specs.declared.ids.LockId.{LockId}
+use Rattle.event_core.specs.declared.events.Op.{Op}
+use Rattle.event_core.specs.declared.events.Op.TheVariants.{Load, Store, Acquire, Release, Fork, Join}
+use Rattle.traced_mem.specs.declared.rows.ThreadRow.{ThreadRow}
+use Rattle.traced_mem.specs.declared.rows.LockRow.{LockRow}
+use Rattle.traced_mem.specs.Meaning.{Thread, Lock}
+use Rattle.traced_mem.specs.After.{updated, mentioned_again, now_forked, now_joined, gains, loses, without}
+use Rattle.traced_mem.specs.After.{without_at, threads_after}
+use Rattle.traced_mem.specs.Tables.{Tables, thread_at, threads_of}
+use Rattle.traced_mem.specs.Room.{IsReady, HasRoom, takes_place}
+use Rattle.traced_mem.proofs.Updates.{updated_same, updated_other}
+
+-- a write of all of a list
+pub refilled : {A : Type 0} (n : ℕ) (xs ys : List A) → length xs ≡ length ys → n ≡ length ys
+    → take n (xs ++ drop (length xs) ys) ≡ xs
+refilled n xs ys e f =
+    ap (λ rest. take n (xs ++ rest)) (drop_of_length-le ys (omega arith)) ∙ ap (take n) (append-nil xs)
+    ∙ take_all n xs (omega arith)
+
+-- how many locks a thread holds
+count : (ℕ → Thread) → ℕ → ℕ
+count f u = length (f u).held
+
+without_shorter : (l : LockId) (held : List LockId) → length (without l held) ≤ length held
+without_shorter l held = by_place (position (λ (h : LockId). nat_eq h.0 l.0) held)
+  where
+    by_place : (o : Option ℕ) → length (without_at o held) ≤ length held
+    by_place None = omega arith
+    by_place (Some i) =
+        let all = length-append (take i held) (drop (suc i) held) in
+        let front = length-take i held in
+        let back = length-drop (suc i) held in
+        let few = min-le_left i (length held) in
+        let most = min-le_right i (length held) in
+        omega arith
+
+loses_some : (l : LockId) (left : ℕ) (t : Thread) → length (loses l left t).held ≤ length t.held
+loses_some l left t = by_test (nat_eq left 0)
+  where
+    by_test : (b : Bool) → length (if b then without l t.held else t.held) ≤ length t.held
+    by_test true = without_shorter l t.held
+    by_test false = omega arith
+
+-- where one thread's row changes and its list does not grow, no list grows
+no_more : (k : ℕ) (t : Thread) (f : ℕ → Thread) → length t.held ≤ length (f k).held → (u : ℕ)
+    → length (updated k t f u).held ≤ length (f u).held
+no_more k t f le u = elim (cases_eq u k) [
+  | inl same ↦ subst (λ n. length (updated k t f n).held ≤ length (f n).held) (sym same)
+      (let e : length (updated k t f k).held ≡ length t.held
+      = ap (λ (r : Thread). length r.held) (updated_same k t f) in omega arith)
+  | inr other ↦ (let e : length (updated k t f u).held ≡ length (f u).held =
+      ap (λ (r : Thread). length r.held) (updated_other k t f u other) in omega arith)
+]
+
+-- the list of a thread that no acquire is of does not grow
+step_no_more : (c : ThreadId) (p : Op) (locks : ℕ → Lock) (f : ℕ → Thread) (u : ThreadId) (m : LockId)
+    → takes_place c p u (Acquire m) ≡ false
+    → length (threads_after c p locks (updated c.0 (mentioned_again (f c.0)) f) u.0).held ≤ length
+    (f u.0).held
+step_no_more c p locks f u m free = by_op p free
+  where
+    F : ℕ → Thread
+    F = updated c.0 (mentioned_again (f c.0)) f
+
+    first : (n : ℕ) → length (updated c.0 (mentioned_again (f c.0)) f n).held ≤ length (f n).held
+    first n = no_more c.0 (mentioned_again (f c.0)) f (omega arith) n
+
+    by_op : (p : Op) → takes_place c p u (Acquire m) ≡ false
+        → length (threads_after c p locks (updated c.0 (mentioned_again (f c.0)) f) u.0).held ≤ length
+        (f u.0).held
+    by_op (Load x) free = first u.0
+    by_op (Store x) free = first u.0
+    by_op (Fork v) free = let a = first u.0 in let b =
+        no_more v.0 (now_forked (updated c.0 (mentioned_again (f c.0)) f v.0))
+        (updated c.0 (mentioned_again (f c.0)) f) (omega arith) u.0 in omega arith
+    by_op (Join v) free = let a = first u.0 in let b =
+        no_more v.0 (now_joined (updated c.0 (mentioned_again (f c.0)) f v.0))
+        (updated c.0 (mentioned_again (f c.0)) f) (omega arith) u.0 in omega arith
+    by_op (Release l) free =
+        let a = first u.0 in
+        let b = no_more c.0 (loses l ((locks l.0).depth - 1) (updated c.0 (mentioned_again (f c.0)) f c.0))
+        (updated c.0 (mentioned_again (f c.0)) f)
+        (loses_some l ((locks l.0).depth - 1) (updated c.0 (mentioned_again (f c.0)) f c.0)) u.0 in
+        omega arith
+    by_op (Acquire l) free =
+        let other : u.0 ≡ c.0 → ⊥ = λ e. (let t : nat_eq c.0 u.0 ≡ true = eq-eqb c.0 u.0 (sym e) in cc) in
+        let a = first u.0 in
+        let b : length (updated c.0 (gains l (locks l.0).depth (updated c.0 (mentioned_again (f c.0)) f c.0))
+        (updated c.0 (mentioned_again (f c.0)) f) u.0).held
+        ≡ length (updated c.0 (mentioned_again (f c.0)) f u.0).held
+        = ap (λ (r : Thread). length r.held)
+        (updated_other c.0 (gains l (locks l.0).depth (updated c.0 (mentioned_again (f c.0)) f c.0))
+        (updated c.0 (mentioned_again (f c.0)) f) u.0 other) in
+        omega arith
+
+-- what stays ready over a step
+pub still_ready : (old new : Tables) (locks : ℕ → Lock) (c : ThreadId) (p : Op) (u : ThreadId) (o : Op)
+    → takes_place c p u o ≡ false
+    → length new.threads ≡ length old.threads → length new.locks ≡ length old.locks
+    → length new.cells ≡ length old.cells
+    → ((u : ℕ) → (thread_at new.threads u).held.capacity ≡ (thread_at old.threads u).held.capacity)
+    → threads_of new.threads ≡ threads_after c p locks
+    (updated c.0 (mentioned_again (threads_of old.threads c.0)) (threads_of old.threads))
+    → IsReady old u o → IsReady new u o
+still_ready old new locks c p u o free ts ls cs caps rows r =
+    record { caller = (let a = r.caller in omega arith); room = room o free r.room }
+  where
+    room : (o : Op) → takes_place c p u o ≡ false
+        → HasRoom old.threads (length old.locks) (length old.cells) u o
+        → HasRoom new.threads (length new.locks) (length new.cells) u o
+    room (Load x) free h = tt
+    room (Store x) free h = omega arith
+    room (Acquire l) free h = (
+      let a = h.0 in omega arith,
+      let a = h.1 in
+          let b = caps u.0 in
+          let e : length (thread_at new.threads u.0).held.items
+          ≡ length (threads_after c p locks
+          (updated c.0 (mentioned_again (threads_of old.threads c.0))
+          (threads_of old.threads)) u.0).held
+          = ap (λ (f : ℕ → Thread). length (f u.0).held) rows in
+          let n = step_no_more c p locks (threads_of old.threads) u l free in
+          omega arith,
+    )
+    room (Release l) free h = omega arith
+    room (Fork v) free h = omega arith
+    room (Join v) free h = omega arith
+
+-- readiness, of equal tables
+pub ready_of_parts : (t : Tables) (threads : List ThreadRow) (locks : List LockRow) (cells : List ℕ)
+    → threads ≡ t.threads → locks ≡ t.locks → cells ≡ t.cells
+    → (u : ThreadId) (o : Op) → IsReady t u o
+    → IsReady (record t { threads = threads; locks = locks; cells = cells }) u o
+ready_of_parts t threads locks cells a b c u o r =
+    let same : t ≡ record t { threads = threads; locks = locks; cells = cells }
+    = λ i. record t { threads = sym a i; locks = sym b i; cells = sym c i } in
+    subst (λ (s : Tables). IsReady s u o) same r

@@ -1,0 +1,80 @@
+-- A list without a lock, and what it has.
+use Rattle.std.proofs.Common.{◌≡◌, ℕ, suc, ◌+◌, ◌<◌, Bool, true, false, cond, Some, None, List, [], ◌∷◌, ◌++◌}
+use Rattle.std.proofs.Common.{length, not, nat_eq, nat_lt, ap, sym, refl, ◌∙◌, subst, ◌⊎◌, arith}
+use Rattle.std.proofs.lemmas.Bool.{cases_Bool, lt-ltb, ltb-true, eqb-true}
+use Rattle.std.specs.List.{prefix_len}
+use mathlib.Core.Logic.{inl, inr}
+use Rattle.event_core.specs.declared.ids.LockId.{LockId}
+use Rattle.event_core.proofs.Depth.{same_lock_id}
+use Rattle.traced_mem.specs.After.{without, without_at}
+use Rattle.traced_mem.specs.Held.{Has}
+
+-- a list without its first such lock
+is_lock : LockId → LockId → Bool
+is_lock l h = nat_eq h.0 l.0
+
+pub without_here : (l x : LockId) (xs : List LockId) → nat_eq x.0 l.0 ≡ true → without l (x ∷ xs) ≡ xs
+without_here l x xs t =
+    ap (λ b. without_at (cond
+    (nat_lt (cond (not b) (1 + prefix_len (λ (h : LockId). not (nat_eq h.0 l.0)) xs) 0) (suc (length xs)))
+    (Some (cond (not b) (1 + prefix_len (λ (h : LockId). not (nat_eq h.0 l.0)) xs) 0)) None) (x ∷ xs)) t
+    ∙ ap (λ b. without_at (cond b (Some 0) None) (x ∷ xs)) (lt-ltb 0 (suc (length xs)) (omega arith))
+
+lifted : (n len : ℕ) → nat_lt (suc n) (suc len) ≡ nat_lt n len
+lifted n len = go (cases_Bool (nat_lt n len)) (cases_Bool (nat_lt (suc n) (suc len)))
+  where
+    go : (nat_lt n len ≡ true) ⊎ (nat_lt n len ≡ false)
+        → (nat_lt (suc n) (suc len) ≡ true) ⊎ (nat_lt (suc n) (suc len) ≡ false)
+        → nat_lt (suc n) (suc len) ≡ nat_lt n len
+    go (inl t) s = (let a : n < len = ltb-true n len t in lt-ltb (suc n) (suc len) (omega arith)) ∙ sym t
+    go (inr f) (inr g) = g ∙ sym f
+    go (inr f) (inl t) = absurd (let a : suc n < suc len = ltb-true (suc n) (suc len) t in
+        let b : nat_lt n len ≡ true = lt-ltb n len (omega arith) in cc)
+
+next : (n len : ℕ) (x : LockId) (xs : List LockId)
+    → without_at (cond (nat_lt (1 + n) (suc len)) (Some (1 + n)) None) (x ∷ xs)
+    ≡ x ∷ without_at (cond (nat_lt n len) (Some n) None) xs
+next n len x xs =
+    let one : 1 + n ≡ suc n = omega arith in
+    ap (λ k. without_at (cond (nat_lt k (suc len)) (Some k) None) (x ∷ xs)) one
+    ∙ go (cases_Bool (nat_lt n len))
+  where
+    go : (nat_lt n len ≡ true) ⊎ (nat_lt n len ≡ false)
+        → without_at (cond (nat_lt (suc n) (suc len)) (Some (suc n)) None) (x ∷ xs)
+        ≡ x ∷ without_at (cond (nat_lt n len) (Some n) None) xs
+    go (inl t) = ap (λ b. without_at (cond b (Some (suc n)) None) (x ∷ xs)) (lifted n len ∙ t)
+        ∙ sym (ap (λ b. x ∷ without_at (cond b (Some n) None) xs) t)
+    go (inr f) = ap (λ b. without_at (cond b (Some (suc n)) None) (x ∷ xs)) (lifted n len ∙ f)
+        ∙ sym (ap (λ b. x ∷ without_at (cond b (Some n) None) xs) f)
+
+pub without_next : (l x : LockId) (xs : List LockId) → nat_eq x.0 l.0 ≡ false
+    → without l (x ∷ xs) ≡ x ∷ without l xs
+without_next l x xs f =
+    ap (λ b. without_at (cond
+    (nat_lt (cond (not b) (1 + prefix_len (λ (h : LockId). not (nat_eq h.0 l.0)) xs) 0) (suc (length xs)))
+    (Some (cond (not b) (1 + prefix_len (λ (h : LockId). not (nat_eq h.0 l.0)) xs) 0)) None) (x ∷ xs)) f
+    ∙ next (prefix_len (λ (h : LockId). not (nat_eq h.0 l.0)) xs) (length xs) x xs
+
+pub eqb_cases : (x l : LockId) → (nat_eq x.0 l.0 ≡ true) ⊎ (nat_eq x.0 l.0 ≡ false)
+eqb_cases x l = cases_Bool (nat_eq x.0 l.0)
+
+-- what a list has
+pub has_push : (l y : LockId) (xs : List LockId) → Has l xs → Has l (xs ++ y ∷ [])
+has_push l y [] h = absurd h
+has_push l y (x ∷ xs) (inl e) = inl e
+has_push l y (x ∷ xs) (inr h) = inr (has_push l y xs h)
+
+pub has_last : (l : LockId) (xs : List LockId) → Has l (xs ++ l ∷ [])
+has_last l [] = inl refl
+has_last l (x ∷ xs) = inr (has_last l xs)
+
+pub has_without : (l y : LockId) (xs : List LockId) → (l ≡ y → ⊥) → Has l xs → Has l (without y xs)
+has_without l y [] n h = absurd h
+has_without l y (x ∷ xs) n h = go (eqb_cases x y) h (λ k. has_without l y xs n k)
+  where
+    go : (nat_eq x.0 y.0 ≡ true) ⊎ (nat_eq x.0 y.0 ≡ false) → (x ≡ l) ⊎ Has l xs
+        → (Has l xs → Has l (without y xs)) → Has l (without y (x ∷ xs))
+    go (inl t) (inl e) ih = absurd (n (sym e ∙ same_lock_id (eqb-true x.0 y.0 t)))
+    go (inl t) (inr h) ih = subst (Has l) (sym (without_here y x xs t)) h
+    go (inr f) (inl e) ih = subst (Has l) (sym (without_next y x xs f)) (inl e)
+    go (inr f) (inr h) ih = subst (Has l) (sym (without_next y x xs f)) (inr (ih h))

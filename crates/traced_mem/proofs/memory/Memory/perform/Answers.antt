@@ -1,0 +1,95 @@
+use Rattle.std.proofs.Common.{◌≡◌, ◌+◌, ◌≤◌, List, ◌++◌, take, drop, length, ap, sym, subst, ◌∙◌, arith}
+use Rattle.traced_mem.specs.declared.rows.ThreadRow.{ThreadRow}
+use Rattle.traced_mem.specs.declared.rows.LockRow.{LockRow}
+use Rattle.traced_mem.specs.After.{holds_after}
+use Rattle.traced_mem.specs.Tables.{Tables, AreTables, HeldBelow, total, locks_of}
+use Rattle.traced_mem.specs.Room.{DepthFits, IsReady}
+use Rattle.traced_mem.proofs.Allowed.{fits_inside}
+use Rattle.traced_mem.proofs.Stepping.{refilled, still_ready, ready_of_parts}
+use Rattle.traced_mem.proofs.memory.Memory.perform.Goals as goal
+
+pub count_holds-holds-requires : goal.count_holds-holds-requires
+count_holds-holds-requires c =
+    let small : c.self.inside.limits.events ≤ 4294967296 = omega arith in
+    (fits_inside _ _ _ _ c.self.view_is c.self.invariant small c.requires.allowed).fits_holds
+
+pub apply_rows-requires-clause-fits : goal.apply_rows-requires-clause-fits
+apply_rows-requires-clause-fits c =
+    let small : c.self.inside.limits.events ≤ 4294967296 = omega arith in
+    subst (λ (ls : List LockRow). DepthFits ls c.args.call.now.op) (sym c.deref_mut-2.ensures.value)
+    (fits_inside _ _ _ _ c.self.view_is c.self.invariant small c.requires.allowed).depth
+
+pub invariant_of-self : goal.invariant_of-self
+invariant_of-self c =
+    let small : c.self.inside.limits.events ≤ 4294967296 = omega arith in
+    let kept = (fits_inside _ _ _ _ c.self.view_is c.self.invariant small c.requires.allowed).kept in
+    let all_threads = refilled c.self.inside.threads.len c.apply_rows.new.threads c.self.inside.threads.items
+    (c.apply_rows.ensures.same_threads ∙ ap length c.deref_mut.ensures.value)
+    (sym c.deref_mut.ensures.len ∙ ap length c.deref_mut.ensures.value) in
+    let all_locks = refilled c.self.inside.locks.len c.apply_rows.new.locks c.self.inside.locks.items
+    (c.apply_rows.ensures.same_locks ∙ ap length c.deref_mut-2.ensures.value)
+    (sym c.deref_mut-2.ensures.len ∙ ap length c.deref_mut-2.ensures.value) in
+    let holds = c.count_holds-holds.ensures in
+    let sum : c.count_holds-holds.result ≡ total c.apply_rows.new.locks
+    = c.count_holds-holds.ensures
+    ∙ ap (holds_after c.args.call.now.op) (c.self.invariant.sum ∙ ap total (sym c.deref_mut-2.ensures.value))
+    ∙ sym c.apply_rows.ensures.total in
+    let held : HeldBelow (length c.apply_rows.new.threads) c.apply_rows.new.locks
+    = c.apply_rows.ensures.below
+    (subst (λ (ts : List ThreadRow). HeldBelow (length ts) c.deref_mut-2.result.now)
+    (sym c.deref_mut.ensures.value)
+    (subst (λ (ls : List LockRow). HeldBelow (length c.self.inside.threads.items) ls)
+    (sym c.deref_mut-2.ensures.value) c.self.invariant.held)) in
+    let here : AreTables c.self.inside.limits (c.self.inside.length + 1) c.count_holds-holds.result
+    c.apply_rows.new.threads c.apply_rows.new.locks
+    = record { kept = omega arith; sum = sum; held = held } in
+    subst (λ (ts : List ThreadRow). AreTables c.self.inside.limits (c.self.inside.length + 1)
+    c.count_holds-holds.result ts (take c.self.inside.locks.len
+    (c.apply_rows.new.locks ++ drop (length c.apply_rows.new.locks) c.self.inside.locks.items)))
+    (sym all_threads)
+    (subst (λ (ls : List LockRow). AreTables c.self.inside.limits (c.self.inside.length + 1)
+    c.count_holds-holds.result c.apply_rows.new.threads ls)
+    (sym all_locks) here)
+
+pub returns-clause-kept : goal.returns-clause-kept
+returns-clause-kept c u o free r =
+    let old : Tables = record {
+      limits = c.self.inside.limits;
+      length = c.self.inside.length;
+      holds = c.self.inside.holds;
+      threads = c.self.inside.threads.items;
+      locks = c.self.inside.locks.items;
+      cells = c.self.inside.cells.items;
+    } in
+    let lent : Tables = record old {
+      threads = c.deref_mut.result.now;
+      locks = c.deref_mut-2.result.now;
+      cells = c.deref_mut-3.result.now;
+    } in
+    let next : Tables = record {
+      limits = c.self.inside.limits;
+      length = c.self.inside.length + 1;
+      holds = c.count_holds-holds.result;
+      threads = c.apply_rows.new.threads;
+      locks = c.apply_rows.new.locks;
+      cells = c.apply_rows.new.cells;
+    } in
+    let before : IsReady lent u o
+    = ready_of_parts old lent.threads lent.locks lent.cells
+    c.deref_mut.ensures.value c.deref_mut-2.ensures.value c.deref_mut-3.ensures.value u o
+    (subst (λ (s : Tables). IsReady s u o) (sym c.self.view_is) r) in
+    let after : IsReady next u o
+    = still_ready lent next (locks_of lent.locks) c.args.call.now.thread c.args.call.now.op u o free
+    c.apply_rows.ensures.same_threads c.apply_rows.ensures.same_locks c.apply_rows.ensures.same_cells
+    c.apply_rows.ensures.same_room c.apply_rows.ensures.threads before in
+    ready_of_parts next _ _ _
+    (refilled c.self.inside.threads.len c.apply_rows.new.threads c.self.inside.threads.items
+    (c.apply_rows.ensures.same_threads ∙ ap length c.deref_mut.ensures.value)
+    (sym c.deref_mut.ensures.len ∙ ap length c.deref_mut.ensures.value))
+    (refilled c.self.inside.locks.len c.apply_rows.new.locks c.self.inside.locks.items
+    (c.apply_rows.ensures.same_locks ∙ ap length c.deref_mut-2.ensures.value)
+    (sym c.deref_mut-2.ensures.len ∙ ap length c.deref_mut-2.ensures.value))
+    (refilled c.self.inside.cells.len c.apply_rows.new.cells c.self.inside.cells.items
+    (c.apply_rows.ensures.same_cells ∙ ap length c.deref_mut-3.ensures.value)
+    (sym c.deref_mut-3.ensures.len ∙ ap length c.deref_mut-3.ensures.value))
+    u o after

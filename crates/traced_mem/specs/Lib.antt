@@ -1,0 +1,7 @@
+pub mod Meaning
+pub mod Refusals
+pub mod After
+pub mod Tables
+pub mod Room
+pub mod OfLog
+pub mod Held

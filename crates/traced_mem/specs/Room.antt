@@ -1,0 +1,72 @@
+-- The room in a memory's tables.
+use Rattle.std.specs.Prelude.{◌≡◌, ℕ, ◌+◌, ◌^◌, ◌<◌, ◌≤◌, Bool, false, List, length, max, nat_eq}
+use Rattle.smallvec.specs.SmallVec.{HasRoomFor}
+use Rattle.event_core.specs.declared.ids.ThreadId.{ThreadId}
+use Rattle.event_core.specs.declared.ids.VarId.{VarId}
+use Rattle.event_core.specs.declared.events.Op.{Op}
+use Rattle.event_core.specs.declared.events.Op.TheVariants.{Load, Store, Acquire, Release, Fork, Join}
+use Rattle.traced_mem.specs.declared.rows.ThreadRow.{ThreadRow}
+use Rattle.traced_mem.specs.declared.rows.LockRow.{LockRow}
+use Rattle.traced_mem.specs.Tables.{Tables, thread_at, lock_at, threads_of}
+
+-- there are rows for what the operation names, and place for a lock that is acquired
+abbrev pub HasRoom : List ThreadRow → ℕ → ℕ → ThreadId → Op → Type 0
+HasRoom threads locks cells u (Load x) = Unit {0}
+HasRoom threads locks cells u (Store x) = x.0 < cells
+HasRoom threads locks cells u (Acquire l) = (l.0 < locks) × HasRoomFor (thread_at threads u.0).held 1
+HasRoom threads locks cells u (Release l) = l.0 < locks
+HasRoom threads locks cells u (Fork v) = v.0 < length threads
+HasRoom threads locks cells u (Join v) = v.0 < length threads
+
+-- there is room for the thread's operation
+pub record IsReady (t : Tables) (u : ThreadId) (o : Op) : Type 0 where
+  pub caller : u.0 < length t.threads
+  pub room : HasRoom t.threads (length t.locks) (length t.cells) u o
+
+-- there is room for both operations of a swap
+abbrev pub IsReadyToSwap : Tables → ThreadId → VarId → Type 0
+IsReadyToSwap t u x = IsReady t u (Load x) × IsReady t u (Store x)
+
+-- an acquire may use up the place that was made for another one by its thread
+abbrev pub takes_place : ThreadId → Op → ThreadId → Op → Bool
+takes_place u (Acquire l) v (Acquire m) = nat_eq u.0 v.0
+takes_place u _ v _ = false
+
+-- how many rows the operation needs in each table
+abbrev pub threads_for : ThreadId → Op → ℕ
+threads_for u (Fork v) = max (u.0 + 1) (v.0 + 1)
+threads_for u (Join v) = max (u.0 + 1) (v.0 + 1)
+threads_for u _ = u.0 + 1
+
+abbrev pub locks_for : Op → ℕ
+locks_for (Acquire l) = l.0 + 1
+locks_for (Release l) = l.0 + 1
+locks_for _ = 0
+
+abbrev pub cells_for : Op → ℕ
+cells_for (Store x) = x.0 + 1
+cells_for _ = 0
+
+-- no table has grown beyond the numbers that the operation names
+pub record GrownFor (old new : Tables) (u : ThreadId) (o : Op) : Type 0 where
+  pub threads : length new.threads ≤ max (length old.threads) (threads_for u o)
+  pub locks : length new.locks ≤ max (length old.locks) (locks_for o)
+  pub cells : length new.cells ≤ max (length old.cells) (cells_for o)
+
+-- more room, and the same meaning
+pub record Grown (old new : List ThreadRow) : Type 0 where
+  pub rows : threads_of new ≡ threads_of old
+  pub more : length old ≤ length new
+  pub capacity : (u : ℕ) → (thread_at old u).held.capacity ≤ (thread_at new u).held.capacity
+
+-- the depth that the operation changes stays a number
+abbrev pub DepthFits : List LockRow → Op → Type 0
+DepthFits locks (Acquire l) = (lock_at locks l.0).depth + 1 < 2 ^ 32
+DepthFits locks (Release l) = 0 < (lock_at locks l.0).depth
+DepthFits locks _ = Unit {0}
+
+-- so does the number of holds
+abbrev pub HoldsFit : ℕ → Op → Type 0
+HoldsFit holds (Acquire l) = holds + 1 < 2 ^ 64
+HoldsFit holds (Release l) = 0 < holds
+HoldsFit holds _ = Unit {0}

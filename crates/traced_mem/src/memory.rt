@@ -1,0 +1,162 @@
+//! The state of a traced program. Contracts see what it means, and for which calls there is room.
+ghost use Rattle.std.specs.Prelude.{◌≡◌, ℕ, ◌<◌, ◌≤◌, [], ◌∷◌, ◌++◌, false, IsOk, IfOk, OnOk, List};
+ghost use Rattle.event_core.specs.declared.events.Event.{Event};
+ghost use Rattle.event_core.specs.declared.events.Op.{Op as Operation};
+ghost use Rattle.event_core.specs.declared.ids.ThreadId.{ThreadId as Thread};
+ghost use Rattle.event_core.specs.Refusal.{value_of, event_of};
+ghost use Rattle.traced_mem.specs.Meaning.{nothing};
+ghost use Rattle.traced_mem.specs.After.{after, value_at};
+ghost use Rattle.traced_mem.specs.Tables.{meaning, Allows, AllowsSwap};
+ghost use Rattle.traced_mem.specs.Room.{IsReady, IsReadyToSwap, GrownFor, takes_place};
+ghost use Rattle.traced_mem.specs.OfLog.{StandsFor};
+
+mod permission;
+mod queries;
+
+use crate::growth::grow;
+use crate::rows::{LockRow, ThreadRow};
+use crate::step::{apply_rows, count_holds};
+use event_core::{Call, Limits, Op, OutOfMemory, ThreadId, VarId};
+use std::alloc::Global;
+use std::marker::Model;
+
+/// The state of a traced program: its threads, locks and variables, and how full its log is.
+#[derive(Drop)]
+pub struct Memory {
+    alloc: Global,
+    limits: Limits,
+    /// How many events there were.
+    length: u64,
+    /// How many acquires are still to be released: so many slots of the log are kept.
+    holds: u64,
+    /// By number, up to the greatest that was used. So are the locks and the cells.
+    threads: Vec<ThreadRow>,
+    locks: Vec<LockRow>,
+    cells: Vec<u64>,
+}
+
+impl Model for Memory {
+    ghost use Rattle.traced_mem.specs.Tables.{Tables, AreTables};
+
+    ghost Value = { Tables };
+
+    ghost view = { λ a. record {
+      limits = a.limits;
+      length = a.length;
+      holds = a.holds;
+      threads = a.threads.items;
+      locks = a.locks.items;
+      cells = a.cells.items;
+    } };
+
+    ghost invariant = { λ a. AreTables a.limits a.length a.holds a.threads.items a.locks.items };
+}
+
+impl Memory {
+    /// A memory before any event: no lock is held, and each variable has the value 0. It takes no
+    /// memory, and so succeeds.
+    pub fn new(alloc: Global, limits: Limits) -> Result<Memory, OutOfMemory>
+        ensures succeeds { IsOk result }
+        ensures limits { IfOk result (λ memory. memory.limits ≡ limits) }
+        ensures means { IfOk result (λ memory. meaning memory ≡ nothing) }
+        ensures stands { IfOk result (λ memory. StandsFor memory []) }
+    {
+        Ok(Memory {
+            alloc,
+            limits,
+            length: 0,
+            holds: 0,
+            threads: Vec::new(alloc),
+            locks: Vec::new(alloc),
+            cells: Vec::new(alloc),
+        })
+    }
+
+    /// Makes room for a call that is allowed. Nothing else changes.
+    pub fn prepare(&mut self, call: &Call) -> Result<(), OutOfMemory>
+        requires { Allows self.old call.now.thread call.now.op }
+        ensures same { meaning self.new ≡ meaning self.old }
+        ensures limits { self.new.limits ≡ self.old.limits }
+        ensures ready { OnOk result (IsReady self.new call.now.thread call.now.op) }
+        ensures kept { (u : Thread) (o : Operation) → IsReady self.old u o → IsReady self.new u o }
+        ensures grown { GrownFor self.old self.new call.now.thread call.now.op }
+        ensures stands { (log : List Event) → StandsFor self.old log → StandsFor self.new log }
+    {
+        self.make_room(call.thread, call.op)
+    }
+
+    /// Makes room for both calls of a swap that is allowed. Nothing else changes.
+    pub fn prepare_swap(&mut self, thread: ThreadId, var: VarId) -> Result<(), OutOfMemory>
+        requires { AllowsSwap self.old thread var }
+        ensures same { meaning self.new ≡ meaning self.old }
+        ensures limits { self.new.limits ≡ self.old.limits }
+        ensures ready { OnOk result (IsReadyToSwap self.new thread var) }
+        ensures kept { (u : Thread) (o : Operation) → IsReady self.old u o → IsReady self.new u o }
+        ensures grown { GrownFor self.old self.new thread (Operation.Store var) }
+        ensures stands { (log : List Event) → StandsFor self.old log → StandsFor self.new log }
+    {
+        self.make_room(thread, Op::Store(var))
+    }
+
+    fn make_room(&mut self, thread: ThreadId, op: Op) -> Result<(), OutOfMemory>
+        ensures same { meaning self.new ≡ meaning self.old }
+        ensures limits { self.new.limits ≡ self.old.limits }
+        ensures ready { OnOk result (IsReady self.new thread op) }
+        ensures kept { (u : Thread) (o : Operation) → IsReady self.old u o → IsReady self.new u o }
+        ensures grown { GrownFor self.old self.new thread op }
+    {
+        let grown = grow(
+            &mut self.threads,
+            &mut self.locks,
+            &mut self.cells,
+            self.alloc,
+            thread,
+            op,
+        );
+        if grown.is_ok() {
+            Ok(())
+        } else {
+            Err(OutOfMemory)
+        }
+    }
+
+    /// Performs the call, and answers its event's value. It takes no memory.
+    pub fn apply(&mut self, call: &Call) -> u64
+        requires allowed { Allows self.old call.now.thread call.now.op }
+        requires ready { IsReady self.old call.now.thread call.now.op }
+        ensures value { result ≡ value_at (meaning self.old) call.now.op call.now.arg }
+        ensures means { meaning self.new ≡ after call.now.thread call.now.op call.now.arg (meaning self.old) }
+        ensures limits { self.new.limits ≡ self.old.limits }
+        // an acquire may use up the place that was made for another one by its thread
+        ensures kept { (u : Thread) (o : Operation) → takes_place call.now.thread call.now.op u o ≡ false
+            → IsReady self.old u o → IsReady self.new u o }
+        ensures last { (log : List Event) → StandsFor self.old log
+            → result ≡ value_of log call.now.op call.now.arg }
+        ensures stands { (log : List Event) → StandsFor self.old log
+            → StandsFor self.new (log ++ event_of log call.now ∷ []) }
+    {
+        self.perform(call)
+    }
+
+    fn perform(&mut self, call: &Call) -> u64
+        requires allowed { Allows self.old call.now.thread call.now.op }
+        requires ready { IsReady self.old call.now.thread call.now.op }
+        ensures value { result ≡ value_at (meaning self.old) call.now.op call.now.arg }
+        ensures means { meaning self.new ≡ after call.now.thread call.now.op call.now.arg (meaning self.old) }
+        ensures limits { self.new.limits ≡ self.old.limits }
+        ensures kept { (u : Thread) (o : Operation) → takes_place call.now.thread call.now.op u o ≡ false
+            → IsReady self.old u o → IsReady self.new u o }
+    {
+        let _events = self.limits.events();
+        let value = match call.op {
+            Op::Load(var) => self.value(var),
+            Op::Store(_) => call.arg,
+            _ => 0,
+        };
+        let holds = count_holds(call.op, self.holds);
+        apply_rows(&mut self.threads, &mut self.locks, &mut self.cells, call);
+        self.holds = holds;
+        self.length += 1;
+        value
+    }
+}

@@ -1,0 +1,132 @@
+//! What is asked of a memory: values, holders, depths, the locks of a thread, and room.
+ghost use Rattle.std.specs.Prelude.{◌≡◌, ℕ, ◌↔◌, IsTrue, List};
+ghost use Rattle.event_core.specs.declared.events.Event.{Event};
+ghost use Rattle.event_core.specs.declared.events.Op.{Op as Operation};
+ghost use Rattle.event_core.specs.declared.ids.LockId.{LockId as Lock};
+ghost use Rattle.event_core.specs.Refusal.{last_value, lock_depth};
+ghost use Rattle.event_core.specs.Refusal.{holder as holder_of};
+ghost use Rattle.traced_mem.specs.Tables.{meaning, Allows};
+ghost use Rattle.traced_mem.specs.Room.{IsReady, IsReadyToSwap};
+ghost use Rattle.traced_mem.specs.OfLog.{StandsFor};
+ghost use Rattle.traced_mem.specs.Held.{AreHeld};
+
+use crate::memory::Memory;
+use event_core::{Call, LockId, Op, ThreadId, VarId};
+
+impl Memory {
+    /// The value of the variable's last store, and 0 before any.
+    pub fn value(&self, var: VarId) -> u64
+        ensures means { result ≡ (meaning self.now).cell var.0 }
+        ensures last { (log : List Event) → StandsFor self.now log → result ≡ last_value log var }
+    {
+        self.find_value(var)
+    }
+
+    /// Who holds the lock, if anyone does.
+    pub fn holder(&self, lock: LockId) -> Option<ThreadId>
+        ensures means { result ≡ ((meaning self.now).lock lock.0).holder }
+        ensures holds { (log : List Event) → StandsFor self.now log → result ≡ holder_of log lock }
+    {
+        self.find_holder(lock)
+    }
+
+    /// How many times its holder has acquired the lock and not released it: 0 where nobody holds it.
+    pub fn depth(&self, lock: LockId) -> u64
+        ensures means { result ≡ ((meaning self.now).lock lock.0).depth }
+        ensures depth { (log : List Event) → StandsFor self.now log → result ≡ lock_depth log lock }
+    {
+        self.find_depth(lock)
+    }
+
+    /// The locks that the thread holds, in the order of their outer acquires.
+    pub fn held(&self, thread: ThreadId) -> &[LockId]
+        ensures means { result.now ≡ ((meaning self.now).thread thread.0).held }
+        ensures held { (log : List Event) → StandsFor self.now log → AreHeld log thread result.now }
+    {
+        self.find_held(thread)
+    }
+
+    /// Whether there is room for the call. There is for each release that is allowed.
+    pub fn ready(&self, call: &Call) -> bool
+        ensures room { IsTrue result ↔ IsReady self.now call.now.thread call.now.op }
+        ensures release { (lock : Lock) → call.now.op ≡ Operation.Release lock
+            → Allows self.now call.now.thread call.now.op
+            → IsTrue result }
+    {
+        self.has_room(call.thread, call.op)
+    }
+
+    /// Whether there is room for both calls of a swap.
+    pub fn ready_swap(&self, thread: ThreadId, var: VarId) -> bool
+        ensures { IsTrue result ↔ IsReadyToSwap self.now thread var }
+    {
+        self.has_room(thread, Op::Store(var))
+    }
+
+    fn has_room(&self, thread: ThreadId, op: Op) -> bool
+        ensures room { IsTrue result ↔ IsReady self.now thread op }
+        ensures release { (lock : Lock) → op ≡ Operation.Release lock
+            → Allows self.now thread op → IsTrue result }
+    {
+        let threads = self.threads.len();
+        let at = thread.0 as usize;
+        at < threads
+            && match op {
+                Op::Load(_) => true,
+                Op::Store(var) => (var.0 as usize) < self.cells.len(),
+                Op::Acquire(lock) => (lock.0 as usize) < self.locks.len()
+                    && {
+                        let held = &self.threads[at].held;
+                        held.len() < held.capacity()
+                    },
+                Op::Release(lock) => (lock.0 as usize) < self.locks.len(),
+                Op::Fork(child) | Op::Join(child) => (child.0 as usize) < threads,
+            }
+    }
+
+    fn find_value(&self, var: VarId) -> u64
+        ensures { result ≡ (meaning self.now).cell var.0 }
+    {
+        let at = var.0 as usize;
+        if at < self.cells.len() {
+            self.cells[at]
+        } else {
+            0
+        }
+    }
+
+    fn find_holder(&self, lock: LockId) -> Option<ThreadId>
+        ensures { result ≡ ((meaning self.now).lock lock.0).holder }
+    {
+        let at = lock.0 as usize;
+        if at < self.locks.len() {
+            let row = self.locks[at];
+            if 0 < row.depth { Some(row.by) } else { None }
+        } else {
+            None
+        }
+    }
+
+    fn find_depth(&self, lock: LockId) -> u64
+        ensures { result ≡ ((meaning self.now).lock lock.0).depth }
+    {
+        let at = lock.0 as usize;
+        if at < self.locks.len() {
+            let row = self.locks[at];
+            row.depth as u64
+        } else {
+            0
+        }
+    }
+
+    fn find_held(&self, thread: ThreadId) -> &[LockId]
+        ensures { result.now ≡ ((meaning self.now).thread thread.0).held }
+    {
+        let at = thread.0 as usize;
+        if at < self.threads.len() {
+            self.threads[at].held.as_slice()
+        } else {
+            &[]
+        }
+    }
+}

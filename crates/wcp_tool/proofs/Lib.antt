@@ -1,0 +1,4 @@
+pub mod Refused
+pub mod Values
+pub mod Found
+pub mod Progress

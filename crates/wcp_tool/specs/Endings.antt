@@ -1,0 +1,36 @@
+-- How the program ends.
+use Rattle.std.specs.Prelude.{ℕ, Result, Ok, Err}
+use Rattle.event_core.specs.declared.replies.Refusal.{Refusal}
+use Rattle.event_core.specs.declared.replies.Refusal.TheVariants as refusals
+use Rattle.rapid_text.specs.declared.causes.Cause.{Cause}
+use Rattle.rapid_text.specs.declared.causes.Cause.TheVariants as causes
+use Rattle.wcp_tool.specs.declared.answers.Counts.{Counts}
+use Rattle.wcp_tool.specs.declared.answers.CheckFault.{CheckFault}
+use Rattle.wcp_tool.specs.declared.answers.CheckFault.TheVariants as faults
+use Rattle.wcp_tool.specs.declared.endings.Ending.{Ending}
+use Rattle.wcp_tool.specs.declared.endings.Ending.TheVariants.{Done, WrongUsage, Refused, ReadFault, WriteFault, OutOfMemory}
+
+-- the exit status
+abbrev pub status_of : Ending → ℕ
+status_of Done = 0
+status_of WrongUsage = 2
+status_of Refused = 3
+status_of ReadFault = 4
+status_of WriteFault = 4
+status_of OutOfMemory = 5
+
+abbrev pub cause_ending : Cause → Ending
+cause_ending causes.Read = ReadFault
+cause_ending causes.OutOfMemory = OutOfMemory
+cause_ending _ = Refused
+
+abbrev pub refusal_ending : Refusal → Ending
+refusal_ending refusals.OutOfMemory = OutOfMemory
+refusal_ending _ = Refused
+
+-- how a check with this answer ends
+abbrev pub ending_for : Result Counts CheckFault → Ending
+ending_for (Ok counts) = Done
+ending_for (Err (faults.Text f)) = cause_ending f.cause
+ending_for (Err (faults.Refused line r)) = refusal_ending r
+ending_for (Err faults.Write) = WriteFault

@@ -1,0 +1,77 @@
+//! How the program ends: its exit status, and what standard error says of it.
+ghost use Rattle.std.specs.Prelude.{◌≡◌};
+ghost use Rattle.wcp_tool.specs.Endings.{status_of, ending_for, cause_ending as for_cause};
+
+use crate::answers::{CheckFault, Counts};
+use event_core::Refusal;
+use rapid_text::Cause;
+
+/// How the program ends.
+#[derive(Clone, Copy, Debug, PartialEq, Eq)]
+pub(crate) enum Ending {
+    /// What was asked for stands on standard output.
+    Done,
+    /// The command line is wrong.
+    WrongUsage,
+    /// A line of the trace is refused.
+    Refused,
+    /// Standard input could not be read to its end.
+    ReadFault,
+    /// Standard output could not be written.
+    WriteFault,
+    /// A growth was refused.
+    OutOfMemory,
+}
+
+impl Ending {
+    /// The exit status.
+    pub(crate) fn status(self) -> u8
+        ensures { result ≡ status_of self }
+    {
+        match self {
+            Ending::Done => 0,
+            Ending::WrongUsage => 2,
+            Ending::Refused => 3,
+            Ending::ReadFault | Ending::WriteFault => 4,
+            Ending::OutOfMemory => 5,
+        }
+    }
+
+    /// What standard error says of it.
+    pub(crate) fn message(self) -> &'static str {
+        match self {
+            Ending::Done | Ending::WrongUsage | Ending::Refused => "",
+            Ending::ReadFault => "read fault\n",
+            Ending::WriteFault => "write fault\n",
+            Ending::OutOfMemory => "out of memory\n",
+        }
+    }
+}
+
+fn cause_ending(cause: Cause) -> Ending
+    ensures { result ≡ for_cause cause }
+{
+    match cause {
+        Cause::Read => Ending::ReadFault,
+        Cause::OutOfMemory => Ending::OutOfMemory,
+        Cause::Line(_) | Cause::TooManyNames(_) | Cause::Failed => Ending::Refused,
+    }
+}
+
+/// How a check with this answer ends.
+pub(crate) fn ending_of(answer: &Result<Counts, CheckFault>) -> Ending
+    ensures { result ≡ ending_for answer.now }
+{
+    match answer {
+        Ok(_) => Ending::Done,
+        Err(CheckFault::Text(fault)) => cause_ending(fault.cause),
+        Err(CheckFault::Refused { refusal, .. }) => {
+            if *refusal == Refusal::OutOfMemory {
+                Ending::OutOfMemory
+            } else {
+                Ending::Refused
+            }
+        }
+        Err(CheckFault::Write) => Ending::WriteFault,
+    }
+}

@@ -1,0 +1,32 @@
+//! What the program is asked to do.
+use thiserror::Error;
+
+/// What the program is to do.
+#[derive(Clone, Copy, Debug, PartialEq, Eq)]
+pub enum Command {
+    /// Judge the trace on standard input.
+    Check,
+}
+
+/// What the words of a command line ask for.
+#[derive(Debug, Drop, PartialEq, Eq)]
+pub struct Settings {
+    /// What to do.
+    pub command: Command,
+    /// How many threads a trace may name, from 1 to 1,024.
+    pub threads: u32,
+}
+
+/// Why the words of a command line ask for no run.
+#[derive(Debug, Drop, Error)]
+pub enum UsageFault {
+    /// They ask for help or for the version, and this is its text.
+    #[error("{0}")]
+    Help(String),
+    /// They are none that the program takes, and this says why.
+    #[error("{0}")]
+    Usage(String),
+    /// A growth was refused.
+    #[error("out of memory")]
+    OutOfMemory,
+}
