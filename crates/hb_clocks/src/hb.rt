@@ -187,7 +187,8 @@ impl HbClocks {
         requires within { thread.0 < self.now.width }
         requires widths { length clock.old ≡ self.now.width }
         ensures width { length clock.new ≡ length clock.old }
-        ensures greater { counts_of clock.new ≡ join (counts_of clock.old) ((state_of self.now).po thread.0) }
+        ensures greater { counts_of clock.new
+            ≡ join (counts_of clock.old) ((state_of self.now).po thread.0) }
     {
         clock.raise(self.po(thread));
     }
@@ -240,7 +241,8 @@ impl HbClocks {
     }
 
     fn has_lock(&self, lock: LockId) -> bool
-        ensures { IsTrue result ↔ ((lock.0 < length self.now.holds) × IsMade self.now.width self.now.lock lock.0) }
+        ensures { IsTrue result
+            ↔ ((lock.0 < length self.now.holds) × IsMade self.now.width self.now.lock lock.0) }
     {
         let at = lock.0 as usize;
         at < self.holds.len() && is_made(&self.locks, self.width, at)

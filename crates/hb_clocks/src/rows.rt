@@ -14,7 +14,8 @@ pub(crate) fn join_row(rows: &mut [Clock], at: usize, other: &Clock, work: &mut 
     requires room { at < length rows.old }
     requires wide { widths_of rows.old at ≡ length other.now }
     requires few { work.old.joins < 2 ^ 63 }
-    ensures rows { rows_of rows.new ≡ with_row at (join (rows_of rows.old at) (counts_of other.now)) (rows_of rows.old) }
+    ensures rows { rows_of rows.new
+        ≡ with_row at (join (rows_of rows.old at) (counts_of other.now)) (rows_of rows.old) }
     ensures widths { widths_of rows.new ≡ widths_of rows.old }
     ensures work { work.new ≡ record work.old { joins = work.old.joins + 1 } }
 {
@@ -75,7 +76,8 @@ pub(crate) fn bump_row(rows: &mut [Clock], thread: ThreadId)
     requires room { thread.0 < length rows.old }
     requires within { thread.0 < widths_of rows.old thread.0 }
     requires few { rows_of rows.old thread.0 thread.0 + 1 < 2 ^ 64 }
-    ensures rows { rows_of rows.new ≡ with_row thread.0 (bump thread.0 (rows_of rows.old thread.0)) (rows_of rows.old) }
+    ensures rows { rows_of rows.new
+        ≡ with_row thread.0 (bump thread.0 (rows_of rows.old thread.0)) (rows_of rows.old) }
     ensures widths { widths_of rows.new ≡ widths_of rows.old }
 {
     let row = &mut rows[thread.0 as usize];

@@ -4,6 +4,7 @@ ghost use Rattle.std.specs.Prelude.{◌≡◌, ◌+◌, ◌<◌, ◌^◌, length
 ghost use Rattle.event_core.specs.Rows.{join, with_row, brought, to_child, to_lock};
 ghost use Rattle.hb_clocks.specs.Holds.{turn_by, holds_after, HasHold};
 ghost use Rattle.hb_clocks.specs.State.{without_locks, joins_of, after, turn};
+ghost use Rattle.hb_clocks.specs.Work.{more_joins};
 ghost use Rattle.hb_clocks.specs.Stands.{Admits, IsApart, IsFew};
 ghost use Rattle.hb_clocks.specs.Tables.{rows_of, widths_of, hb_rows, state_from, HasThread, HasClocks};
 
@@ -36,7 +37,7 @@ fn take(
         (rows_of hb.old) }
     ensures po_widths { widths_of po.new ≡ widths_of po.old }
     ensures hb_widths { widths_of hb.new ≡ widths_of hb.old }
-    ensures work { work.new ≡ record work.old { joins = work.old.joins + joins_of (turn_by op outer) } }
+    ensures work { work.new ≡ more_joins (joins_of (turn_by op outer)) work.old }
 {
     let at = thread.0 as usize;
     match op {
@@ -68,7 +69,8 @@ fn give(
     requires apart { IsApart thread op }
     ensures po { rows_of po.new ≡ to_child (turn_by op outer) (rows_of po.old thread.0) (rows_of po.old) }
     ensures hb { rows_of hb.new ≡ to_child (turn_by op outer) (rows_of hb.old thread.0) (rows_of hb.old) }
-    ensures lock { rows_of locks.new ≡ to_lock (turn_by op outer) (rows_of hb.old thread.0) (rows_of locks.old) }
+    ensures lock { rows_of locks.new
+        ≡ to_lock (turn_by op outer) (rows_of hb.old thread.0) (rows_of locks.old) }
     ensures po_widths { widths_of po.new ≡ widths_of po.old }
     ensures hb_widths { widths_of hb.new ≡ widths_of hb.old }
     ensures lock_widths { widths_of locks.new ≡ widths_of locks.old }
@@ -110,10 +112,8 @@ pub(crate) fn advance_tables(
     ensures po_widths { widths_of po.new ≡ widths_of po.old }
     ensures hb_widths { widths_of hb.new ≡ widths_of hb.old }
     ensures lock_widths { widths_of locks.new ≡ widths_of locks.old }
-    ensures work { work.new ≡ record work.old {
-      joins =
-          work.old.joins + joins_of (turn event.now (state_from po.old hb.old locks.old holds.old));
-    } }
+    ensures work { work.new
+        ≡ more_joins (joins_of (turn event.now (state_from po.old hb.old locks.old holds.old))) work.old }
 {
     let outer = count_depth(holds, event.thread, event.op);
     take(po, hb, locks, event.thread, event.op, outer, work);

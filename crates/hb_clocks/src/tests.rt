@@ -7,7 +7,6 @@ ghost use Rattle.hb_clocks.specs.Tables.{state_of, NamesWithin};
 use crate::{Clock, HbClocks, Work};
 use event_core::{Event, Limits, LockId, Op, OutOfMemory, Roots, SiteId, ThreadId, VarId};
 use std::alloc::Global;
-use std::process::Abort;
 use std::test::Fail;
 
 const T0: ThreadId = ThreadId(0);
@@ -37,14 +36,14 @@ struct Run {
 }
 
 impl Run {
-    fn new(rt: &impl Abort, alloc: Global) -> Result<Run, Fail> {
-        let limits = Limits::new(3, 2, 2, 64, Roots::Free)?;
-        assert_eq!(rt; limits.threads(), 3);
-        let made = match HbClocks::new(alloc, &limits) {
-            Ok(made) => Ok(made),
-            Err(OutOfMemory) => HbClocks::new(alloc, &limits),
+    fn new(alloc: Global) -> Result<Run, OutOfMemory> {
+        let Ok(limits) = Limits::new(3, 2, 2, 64, Roots::Free) else {
+            return Err(OutOfMemory);
         };
-        let (clocks, work) = made?;
+        if limits.threads() != 3 {
+            return Err(OutOfMemory);
+        }
+        let (clocks, work) = HbClocks::new(alloc, &limits)?;
         Ok(Run {
             clocks,
             work,
@@ -52,24 +51,48 @@ impl Run {
         })
     }
 
-    fn step(&mut self, rt: &impl Abort, thread: ThreadId, op: Op) -> Result<(), OutOfMemory> {
-        assert!(rt; thread.0 < 3);
-        assert!(rt; names_within(op));
-        assert!(rt; self.count < 1000);
+    fn begin(alloc: Global) -> Result<Run, OutOfMemory> {
+        if let Ok(run) = Run::new(alloc) {
+            return Ok(run);
+        }
+        Run::new(alloc)
+    }
+
+    // Whether the event was taken.
+    fn step(&mut self, thread: ThreadId, op: Op) -> bool {
         let event = Event {
             thread,
             op,
             site: SiteId(0),
             value: 0,
         };
-        if self.clocks.prepare(&event).is_err() {
-            self.clocks.prepare(&event)?;
+        self.prepare(&event) && self.take(&event)
+    }
+
+    fn prepare(&mut self, event: &Event) -> bool {
+        if event.thread.0 >= 3 || !names_within(event.op) {
+            return false;
         }
-        assert!(rt; self.clocks.ready(&event));
-        assert!(rt; self.clocks.admits(&event));
-        self.clocks.advance(&event, &mut self.work);
+        if self.clocks.prepare(event).is_ok() {
+            return true;
+        }
+        self.clocks.prepare(event).is_ok()
+    }
+
+    #[tactic(auto, using(crate::proofs::Growth::at_most_more, crate::proofs::Growth::joins_few))]
+    fn take(&mut self, event: &Event) -> bool {
+        if self.count >= 1000 {
+            return false;
+        }
+        if !self.clocks.ready(event) {
+            return false;
+        }
+        if !self.clocks.admits(event) {
+            return false;
+        }
+        self.clocks.advance(event, &mut self.work);
         self.count += 1;
-        Ok(())
+        true
     }
 }
 
@@ -99,23 +122,23 @@ fn numbers(clock: &Clock) -> [u64; 3]
 
 #[test]
 fn numbers_of_nested_sections(rt: HostRuntime) -> Result<(), Fail> {
-    let mut run = Run::new(&rt, rt.alloc())?;
-    run.step(&rt, T0, Op::Fork(T1))?;
-    run.step(&rt, T0, Op::Acquire(L))?;
-    run.step(&rt, T0, Op::Acquire(M))?;
-    run.step(&rt, T0, Op::Store(X))?;
-    run.step(&rt, T0, Op::Release(M))?;
-    run.step(&rt, T0, Op::Store(Y))?;
-    run.step(&rt, T0, Op::Release(L))?;
-    run.step(&rt, T1, Op::Acquire(M))?;
+    let mut run = Run::begin(rt.alloc())?;
+    assert!(rt; run.step(T0, Op::Fork(T1)));
+    assert!(rt; run.step(T0, Op::Acquire(L)));
+    assert!(rt; run.step(T0, Op::Acquire(M)));
+    assert!(rt; run.step(T0, Op::Store(X)));
+    assert!(rt; run.step(T0, Op::Release(M)));
+    assert!(rt; run.step(T0, Op::Store(Y)));
+    assert!(rt; run.step(T0, Op::Release(L)));
+    assert!(rt; run.step(T1, Op::Acquire(M)));
     assert_eq!(rt; numbers(run.clocks.po(T1)), [1, 1, 0]);
     assert_eq!(rt; numbers(run.clocks.hb(T1)), [5, 1, 0]);
-    run.step(&rt, T1, Op::Load(X))?;
-    run.step(&rt, T1, Op::Release(M))?;
-    run.step(&rt, T1, Op::Acquire(L))?;
+    assert!(rt; run.step(T1, Op::Load(X)));
+    assert!(rt; run.step(T1, Op::Release(M)));
+    assert!(rt; run.step(T1, Op::Acquire(L)));
     assert_eq!(rt; numbers(run.clocks.hb(T1)), [7, 4, 0]);
-    run.step(&rt, T1, Op::Release(L))?;
-    run.step(&rt, T1, Op::Load(Y))?;
+    assert!(rt; run.step(T1, Op::Release(L)));
+    assert!(rt; run.step(T1, Op::Load(Y)));
     assert_eq!(rt; numbers(run.clocks.hb(T1)), [7, 6, 0]);
     assert_eq!(rt; numbers(run.clocks.po(T1)), [1, 6, 0]);
     Ok(())
@@ -123,12 +146,12 @@ fn numbers_of_nested_sections(rt: HostRuntime) -> Result<(), Fail> {
 
 #[test]
 fn the_fork_of_an_empty_child_is_below_its_join(rt: HostRuntime) -> Result<(), Fail> {
-    let mut run = Run::new(&rt, rt.alloc())?;
-    run.step(&rt, T0, Op::Store(X))?;
-    run.step(&rt, T0, Op::Fork(T1))?;
+    let mut run = Run::begin(rt.alloc())?;
+    assert!(rt; run.step(T0, Op::Store(X)));
+    assert!(rt; run.step(T0, Op::Fork(T1)));
     assert_eq!(rt; numbers(run.clocks.po(T1)), [2, 0, 0]);
     assert_eq!(rt; numbers(run.clocks.po(T2)), [0, 0, 0]);
-    run.step(&rt, T2, Op::Join(T1))?;
+    assert!(rt; run.step(T2, Op::Join(T1)));
     assert_eq!(rt; numbers(run.clocks.po(T2)), [2, 0, 1]);
     assert_eq!(rt; numbers(run.clocks.hb(T2)), [2, 0, 1]);
     Ok(())
@@ -136,12 +159,12 @@ fn the_fork_of_an_empty_child_is_below_its_join(rt: HostRuntime) -> Result<(), F
 
 #[test]
 fn an_inner_release_publishes_nothing(rt: HostRuntime) -> Result<(), Fail> {
-    let mut run = Run::new(&rt, rt.alloc())?;
-    run.step(&rt, T0, Op::Fork(T1))?;
-    run.step(&rt, T0, Op::Acquire(L))?;
-    run.step(&rt, T0, Op::Acquire(L))?;
+    let mut run = Run::begin(rt.alloc())?;
+    assert!(rt; run.step(T0, Op::Fork(T1)));
+    assert!(rt; run.step(T0, Op::Acquire(L)));
+    assert!(rt; run.step(T0, Op::Acquire(L)));
     assert_eq!(rt; run.clocks.depth(T0, L), 2);
-    run.step(&rt, T0, Op::Release(L))?;
+    assert!(rt; run.step(T0, Op::Release(L)));
     assert_eq!(rt; run.clocks.depth(T0, L), 1);
     let acquire = Event {
         thread: T1,
@@ -150,10 +173,10 @@ fn an_inner_release_publishes_nothing(rt: HostRuntime) -> Result<(), Fail> {
         value: 0,
     };
     assert!(rt; !run.clocks.admits(&acquire));
-    run.step(&rt, T0, Op::Store(X))?;
-    run.step(&rt, T0, Op::Release(L))?;
+    assert!(rt; run.step(T0, Op::Store(X)));
+    assert!(rt; run.step(T0, Op::Release(L)));
     assert_eq!(rt; run.clocks.depth(T0, L), 0);
-    run.step(&rt, T1, Op::Acquire(L))?;
+    assert!(rt; run.step(T1, Op::Acquire(L)));
     assert_eq!(rt; numbers(run.clocks.hb(T1)), [6, 1, 0]);
     assert_eq!(rt; numbers(run.clocks.po(T1)), [1, 1, 0]);
     Ok(())
@@ -161,15 +184,15 @@ fn an_inner_release_publishes_nothing(rt: HostRuntime) -> Result<(), Fail> {
 
 #[test]
 fn a_mark_is_counted_from_its_event_on(rt: HostRuntime) -> Result<(), Fail> {
-    let mut run = Run::new(&rt, rt.alloc())?;
+    let mut run = Run::begin(rt.alloc())?;
     let mut before = zeros(rt.alloc())?;
-    run.step(&rt, T0, Op::Acquire(L))?;
+    assert!(rt; run.step(T0, Op::Acquire(L)));
     assert_eq!(rt; run.clocks.po(T0).at(T0), 1);
     let acquired = run.clocks.mark(T0);
-    run.step(&rt, T1, Op::Store(X))?;
+    assert!(rt; run.step(T1, Op::Store(X)));
     before.copy_from(run.clocks.hb(T1));
-    run.step(&rt, T0, Op::Release(L))?;
-    run.step(&rt, T1, Op::Acquire(L))?;
+    assert!(rt; run.step(T0, Op::Release(L)));
+    assert!(rt; run.step(T1, Op::Acquire(L)));
     let Run {
         clocks,
         mut work,
@@ -184,10 +207,10 @@ fn a_mark_is_counted_from_its_event_on(rt: HostRuntime) -> Result<(), Fail> {
 
 #[test]
 fn clocks_take_the_greater_numbers(rt: HostRuntime) -> Result<(), Fail> {
-    let mut run = Run::new(&rt, rt.alloc())?;
-    run.step(&rt, T0, Op::Store(X))?;
-    run.step(&rt, T0, Op::Store(Y))?;
-    run.step(&rt, T2, Op::Store(X))?;
+    let mut run = Run::begin(rt.alloc())?;
+    assert!(rt; run.step(T0, Op::Store(X)));
+    assert!(rt; run.step(T0, Op::Store(Y)));
+    assert!(rt; run.step(T2, Op::Store(X)));
     let Run {
         clocks,
         mut work,

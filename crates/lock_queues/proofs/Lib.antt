@@ -6,3 +6,4 @@ pub mod Keeping
 pub mod Changes
 pub mod Lifting
 pub mod Answering
+pub mod Testing

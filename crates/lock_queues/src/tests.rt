@@ -1,20 +1,82 @@
-//! What no clause says: that there can be memory, and how much a section takes.
+//! What no clause says: that there can be memory, that the conditions can be met, and how much a
+//! section takes.
+ghost use Rattle.std.specs.Prelude.{◌≡◌, ◌<◌, ◌≤◌, ◌^◌, [], length, IfOk, OnOk};
+ghost use Rattle.hb_clocks.specs.Tables.{state_of};
+ghost use Rattle.lock_queues.specs.Queues.{closed_of, found_of};
+
 use crate::queues::Queues;
 use crate::search::Section;
-use event_core::{Event, Limits, LockId, Op, Roots, SiteId, ThreadId, VarId};
-use hb_clocks::{Clock, HbClocks};
+use event_core::{Event, Limits, LockId, Op, OutOfMemory, Roots, SiteId, ThreadId, VarId};
+use hb_clocks::{Clock, HbClocks, Work};
+use std::alloc::Global;
 use std::mem::size_of;
 use std::test::Fail;
 
 const LOCK: LockId = LockId(0);
 
-fn load(thread: ThreadId) -> Event {
-    Event {
+// Clocks that count the one event that there was, of the thread.
+fn count_one(
+    alloc: Global,
+    limits: &Limits,
+    thread: ThreadId,
+) -> Result<(HbClocks, Work), OutOfMemory>
+    requires { thread.0 < limits.now.threads }
+    ensures width { IfOk result (λ made. made.0.width ≡ limits.now.threads) }
+    ensures one { IfOk result (λ made. (state_of made.0).po thread.0 thread.0 ≡ 1) }
+    ensures work { IfOk result (λ made. made.1.comparisons ≡ 0) }
+{
+    let event = Event {
         thread,
         op: Op::Load(VarId(0)),
         site: SiteId(0),
         value: 0,
-    }
+    };
+    let (mut clocks, mut work) = HbClocks::new(alloc, limits)?;
+    clocks.prepare(&event)?;
+    clocks.advance(&event, &mut work);
+    Ok((clocks, work))
+}
+
+// The thread has the first section on the lock, which is closed with its clock.
+fn close_one(queues: &mut Queues, clocks: &HbClocks, thread: ThreadId) -> Result<(), OutOfMemory>
+    requires thread { thread.0 < queues.old.limits.threads }
+    requires lock { 0 < queues.old.limits.locks }
+    requires width { clocks.now.width ≡ queues.old.limits.threads }
+    requires marked { 0 < (state_of clocks.now).po thread.0 thread.0 }
+    requires none { closed_of queues.old 0 ≡ [] }
+    ensures one { OnOk result (length (closed_of queues.new 0) ≡ 1) }
+    ensures found { found_of queues.new ≡ found_of queues.old }
+    ensures limits { queues.new.limits ≡ queues.old.limits }
+{
+    queues.make_room(thread, LOCK)?;
+    queues.enter(thread, LOCK, clocks.mark(thread));
+    queues.leave(thread, LOCK, clocks.hb(thread));
+    Ok(())
+}
+
+// What a release of the thread finds of thread 0, where there is one section and its clock is the
+// one given.
+fn ask(
+    queues: &mut Queues,
+    clocks: &HbClocks,
+    thread: ThreadId,
+    clock: &Clock,
+    work: &mut Work,
+) -> Result<Option<u64>, OutOfMemory>
+    requires thread { thread.0 < queues.old.limits.threads }
+    requires lock { 0 < queues.old.limits.locks }
+    requires width { length clock.now ≡ queues.old.limits.threads }
+    requires marked { 0 < (state_of clocks.now).po thread.0 thread.0 }
+    requires one { length (closed_of queues.old 0) ≡ 1 }
+    requires found { found_of queues.old 0 thread.0 ≡ 0 }
+    requires few { work.old.comparisons ≤ 2 ^ 62 }
+{
+    queues.make_room(thread, LOCK)?;
+    queues.enter(thread, LOCK, clocks.mark(thread));
+    let Some(below) = queues.last_below(thread, LOCK, clock, work) else {
+        return Ok(None);
+    };
+    Ok(Some(below.at(ThreadId(0))))
 }
 
 #[test]
@@ -37,27 +99,19 @@ fn room_is_made_for_one_thread_and_lock(rt: HostRuntime) -> Result<(), Fail> {
 }
 
 #[test]
-fn a_counted_section_is_found_by_each_thread(rt: HostRuntime) -> Result<(), Fail> {
+fn another_thread_finds_the_section(rt: HostRuntime) -> Result<(), Fail> {
     let limits = Limits::new(2, 1, 1, 8, Roots::Free)?;
-    let (first, second) = (ThreadId(0), ThreadId(1));
     let mut queues = Queues::new(rt.alloc(), &limits)?;
-    let (mut clocks, mut work) = HbClocks::new(rt.alloc(), &limits)?;
-    clocks.prepare(&load(first))?;
-    clocks.advance(&load(first), &mut work);
-    let (mut others, mut other_work) = HbClocks::new(rt.alloc(), &limits)?;
-    others.prepare(&load(second))?;
-    others.advance(&load(second), &mut other_work);
-    queues.make_room(first, LOCK)?;
-    queues.enter(first, LOCK, clocks.mark(first));
-    assert!(rt; queues.last_below(first, LOCK, clocks.hb(first), &mut work).is_none());
-    queues.leave(first, LOCK, clocks.hb(first));
-    assert!(rt; !queues.has_room(first, LOCK));
-    queues.make_room(second, LOCK)?;
-    queues.enter(second, LOCK, others.mark(second));
-    assert!(rt; queues.last_below(second, LOCK, others.hb(second), &mut work).is_none());
-    let Some(below) = queues.last_below(second, LOCK, clocks.hb(first), &mut work) else {
-        return Err(Fail::from("none"));
-    };
-    assert_eq!(rt; below.at(first), 1);
+    let (first, mut work) = count_one(rt.alloc(), &limits, ThreadId(0))?;
+    let (second, _) = count_one(rt.alloc(), &limits, ThreadId(1))?;
+    close_one(&mut queues, &first, ThreadId(0))?;
+    let answer = ask(
+        &mut queues,
+        &second,
+        ThreadId(1),
+        first.hb(ThreadId(0)),
+        &mut work,
+    )?;
+    assert_eq!(rt; answer, Some(1));
     Ok(())
 }

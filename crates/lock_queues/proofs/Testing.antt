@@ -1,0 +1,52 @@
+-- What the tests meet the conditions by.
+use Rattle.std.proofs.Common.{◌≡◌, ℕ, ◌+◌, ◌<◌, ◌≤◌, Bool, true, cond, nat_eq, max, List, [], ◌∷◌, length, refl, sym, ap, subst, ◌∙◌, arith}
+use Rattle.std.proofs.lemmas.Bool.{eq-eqb}
+use Rattle.event_core.specs.declared.ids.ThreadId.{ThreadId}
+use Rattle.event_core.specs.declared.ids.VarId.{VarId}
+use Rattle.event_core.specs.declared.ids.SiteId.{SiteId}
+use Rattle.event_core.specs.declared.events.Event.{Event}
+use Rattle.event_core.specs.declared.events.Op.TheVariants.{Load}
+use Rattle.event_core.specs.Closed.{Closed, Has, first, later, is_counted}
+use Rattle.event_core.specs.Rows.{with_row, bump, join, no_clock}
+use Rattle.event_core.proofs.Growing.{row_same}
+use Rattle.hb_clocks.specs.State.{HbState, empty, after, po_row}
+use Rattle.hb_clocks.specs.Stands.{IsFew}
+use Rattle.lock_queues.specs.Searched.{CountsEarlier, IsAboveAll}
+
+pub few_empty : IsFew empty
+few_empty = record {
+  po = λ t u. omega arith;
+  hb = λ t u. omega arith;
+  lock = λ l u. omega arith;
+  depth = λ t l. omega arith;
+}
+
+-- the first event of a thread has position 1
+pub one_load : (t : ThreadId) (x : VarId) (s : SiteId) (v : ℕ)
+    → let e : Event = record { thread = t; op = Load x; site = s; value = v } in (after e empty).po t.0 t.0 ≡ 1
+one_load t x s v =
+    let e : Event = record { thread = t; op = Load x; site = s; value = v } in
+    let here : (after e empty).po t.0 ≡ po_row e empty = row_same t.0 (po_row e empty) empty.po in
+    ap (λ (f : ℕ → ℕ). f t.0) here ∙ ap (λ (b : Bool). cond {A = ℕ} b 1 0) (eq-eqb t.0 t.0 refl)
+
+-- a table that was written at a thread and a lock
+pub written : {A : Type 0} (f g : ℕ → ℕ → A) (t l : ℕ) (x : A) → f ≡ with_row t (with_row l x (g t)) g → f t l ≡ x
+written f g t l x e =
+    ap (λ h. h t l) e ∙ ap (λ h. h l) (row_same t (with_row l x (g t)) g) ∙ row_same l x (g t)
+
+-- no section is above a clock where there is none
+pub above_none : (c : ℕ → ℕ) (qs : List Closed) → qs ≡ [] → IsAboveAll c qs
+above_none c qs e q u h = none (subst (Has q) e h)
+  where
+    none : Has q [] → q.release u ≤ c u
+    none h = elim h [ ]
+
+-- one section is earlier than itself alone
+pub earlier_one : (c : ℕ → ℕ) (qs : List Closed) → length qs ≡ 1 → CountsEarlier c qs
+earlier_one c [] e p q hp hq le is = absurd (omega arith)
+earlier_one c (x ∷ y ∷ qs) e p q hp hq le is = absurd (omega arith)
+earlier_one c (x ∷ []) e p q hp hq le is = ap (is_counted c) (only p hp ∙ sym (only q hq)) ∙ is
+  where
+    only : (r : Closed) → Has r (x ∷ []) → r ≡ x
+    only r (first b bs same) = same
+    only r (later b bs h) = elim h [ ]
