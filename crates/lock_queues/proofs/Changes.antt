@@ -37,7 +37,7 @@ pub has_set : {rooms : List Room} {t i : ℕ} (s : Room) → Placed rooms t i �
 has_set {rooms = rooms} {t = t} s p own =
     ap (λ k. has_room_in (set rooms k s)) p.at
     ∙ (λ j u. looked_set (λ _. true) false rooms t s own p.has u j)
-      ∙ row_kept t true (has_room_in rooms) p.has
+    ∙ row_kept t true (has_room_in rooms) p.has
 
 -- a room joins
 pub opened_push : (rooms : List Room) (s : Room) → s.opened ≡ None → has_room_in rooms s.thread.0 ≡ false
@@ -45,7 +45,7 @@ pub opened_push : (rooms : List Room) (s : Room) → s.opened ≡ None → has_r
 opened_push rooms s shut none =
     (λ j u. looked_push (λ (r : Room). position_of r.opened) 0 rooms s none u j)
     ∙ row_kept s.thread.0 (position_of s.opened) (opened_in rooms)
-      (looked_past (λ (r : Room). position_of r.opened) 0 rooms s.thread.0 none ∙ sym (ap position_of shut))
+    (looked_past (λ (r : Room). position_of r.opened) 0 rooms s.thread.0 none ∙ sym (ap position_of shut))
 
 pub has_push : (rooms : List Room) (s : Room) → has_room_in rooms s.thread.0 ≡ false
     → has_room_in (rooms ++ s ∷ []) ≡ with_row s.thread.0 true (has_room_in rooms)

@@ -50,7 +50,7 @@ counts_before ss clock rising earlier k m le lt h =
     let x = section_at ss k in
     let y = section_at ss m in
     counted_at ss clock k (earlier (closed_as x) (closed_as y) (has_at ss k (omega arith)) (has_at ss m lt)
-      (λ u. rising k m u le lt) (is_counted_at ss clock m h))
+    (λ u. rising k m u le lt) (is_counted_at ss clock m h))
 
 pub rest_before : (s : Section) (ss : List Section) (clock : List ℕ) → CountsBefore (s ∷ ss) clock
     → CountsBefore ss clock
@@ -80,14 +80,14 @@ number_is [] clock f le counted stop before = omega arith
 number_is (s ∷ ss) clock zero le counted stop before =
     let rest : number clock ss ≡ 0
     = number_is ss clock 0 (omega arith) (λ k lt. absurd (omega arith))
-      (λ lt is. stop (omega arith) (before 0 1 (omega arith) (omega arith) is))
-          (rest_before s ss clock before) in
+    (λ lt is. stop (omega arith) (before 0 1 (omega arith) (omega arith) is))
+    (rest_before s ss clock before) in
     let head = skips_head s ss clock (not_counted s ss clock (stop (omega arith))) in
     omega arith
 number_is (s ∷ ss) clock (suc f) le counted stop before =
     let rest : number clock ss ≡ f
     = number_is ss clock f (omega arith) (λ k lt. counted (suc k) (omega arith))
-      (λ lt is. stop (omega arith) is) (rest_before s ss clock before) in
+    (λ lt is. stop (omega arith) is) (rest_before s ss clock before) in
     let head = counts_head s ss clock (is_counted_at (s ∷ ss) clock 0 (counted 0 (omega arith))) in
     omega arith
 

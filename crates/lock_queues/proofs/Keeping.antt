@@ -43,8 +43,8 @@ kept_entered {w = w} {rooms = rooms} {found = found} {t = t} {i = i} s kept p ow
       marked = kept.marked;
       rising = kept.rising;
       own =
-        subst (λ k. AreRooms w (length found) (set rooms k s)) (sym p.at)
-        (rooms_set w (length found) rooms t s own p.has room kept.own);
+          subst (λ k. AreRooms w (length found) (set rooms k s)) (sym p.at)
+          (rooms_set w (length found) rooms t s own p.has room kept.own);
       spare = omega arith;
     }
 
@@ -108,8 +108,8 @@ kept_left {w = w} {closed = closed} {rooms = rooms} {found = found} {t = t} {i =
       marked = each_pushed (λ (s : Section). s.acquire.thread < w) closed x kept.marked own;
       rising = rising_push closed x kept.rising above;
       own =
-        subst (λ k. AreRooms w (length found) (remove rooms k)) (sym p.at)
-        (rooms_remove w (length found) rooms t p.has kept.own);
+          subst (λ k. AreRooms w (length found) (remove rooms k)) (sym p.at)
+          (rooms_remove w (length found) rooms t p.has kept.own);
       spare = omega arith;
     }
 

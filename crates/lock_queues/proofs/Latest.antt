@@ -76,14 +76,14 @@ below_is (s ∷ ss) clock zero u lt before rising n =
     let head = counts_head s ss clock t in
     let e : below clock (s ∷ ss) u ≡ max (counts_of s.release u) 0
     = ap₂ (λ (b : Bool) (n : ℕ). max (cond b (counts_of s.release) no_clock u) n) t
-      (none_below ss clock u (omega arith)) in
+    (none_below ss clock u (omega arith)) in
     omega arith
 below_is (s ∷ ss) clock (suc f) u lt before rising n =
     let t = head_counted s ss clock before (omega arith) in
     let head = counts_head s ss clock t in
     let rest
     = below_is ss clock f u (omega arith) (rest_before s ss clock before) (rising_rest s ss rising)
-        (omega arith) in
+    (omega arith) in
     let e : below clock (s ∷ ss) u ≡ max (counts_of s.release u) (counts_of (section_at ss f).release u)
     = ap₂ (λ (b : Bool) (n : ℕ). max (cond b (counts_of s.release) no_clock u) n) t rest in
     let up : counts_of s.release u ≤ counts_of (section_at ss f).release u

@@ -162,7 +162,7 @@ looked_remove f d w n (r ∷ rs) t are has u =
     by_place (λ rooms k. at_room f d (remove rooms k) u ≡ with_row t d (at_room f d rooms) u) r rs t has
     (λ same. head same (cases_eq u t))
     (λ other h. behind f d d r rs (remove rs (place_in rs t)) t u other
-        (looked_remove f d w n rs t are.2 h u))
+    (looked_remove f d w n rs t are.2 h u))
   where
     head : t ≡ r.thread.0 → Whether u t → at_room f d rs u ≡ with_row t d (at_room f d (r ∷ rs)) u
     head same (inl is) =
@@ -182,7 +182,7 @@ rooms_more w n m (r ∷ rs) le are = (room_more w n m r le are.0, are.1, rooms_m
 
 pub rooms_set : (w n : ℕ) (rooms : List Room) (t : ℕ) (s : Room) → t ≡ s.thread.0
     → has_room_in rooms t ≡ true → IsRoom w n s → AreRooms w n rooms
-        → AreRooms w n (set rooms (place_in rooms t) s)
+    → AreRooms w n (set rooms (place_in rooms t) s)
 rooms_set w n [] t s own has is are = absurd (cc)
 rooms_set w n (r ∷ rs) t s own has is are =
     by_place (λ rooms k. AreRooms w n (set rooms k s)) r rs t has
@@ -201,8 +201,8 @@ rooms_push w n [] s none is are = (is, refl, tt)
 rooms_push w n (r ∷ rs) s none is are = (
   are.0,
   looked_push (λ _. true) false rs s (not_rest r rs s.thread.0 none) r.thread.0
-  ∙ row_other s.thread.0 true (has_room_in rs) r.thread.0 (λ q. not_head r rs s.thread.0 none (sym q))
-    ∙ are.1,
+      ∙ row_other s.thread.0 true (has_room_in rs) r.thread.0 (λ q. not_head r rs s.thread.0 none (sym q))
+      ∙ are.1,
   rooms_push w n rs s (not_rest r rs s.thread.0 none) is are.2,
 )
 

@@ -13,7 +13,7 @@ use Rattle.lock_queues.proofs.Lookup.{place_within, no_place, thread_at, room_is
 -- where a search for the thread stops
 pub place_is : (rooms : List Room) (t i : ℕ) → i ≤ length rooms
     → ((k : ℕ) → k < i → t ≡ (room_at rooms k).thread.0 → ⊥)
-        → (i < length rooms → t ≡ (room_at rooms i).thread.0)
+    → (i < length rooms → t ≡ (room_at rooms i).thread.0)
     → i ≡ place_in rooms t
 place_is [] t i le before at = omega arith
 place_is (r ∷ rs) t zero le before at =
@@ -79,8 +79,8 @@ room_read {w = w} {n = n} {rooms = rooms} {t = t} {i = i} x are p read =
     record {
       thread = thread;
       opened =
-        looked_up (λ (r : Room). position_of r.opened) 0 rooms t p.has
-        ∙ ap (λ (r : Room). position_of r.opened) is;
+          looked_up (λ (r : Room). position_of r.opened) 0 rooms t p.has
+          ∙ ap (λ (r : Room). position_of r.opened) is;
       within = omega arith;
       wide = room.wide;
       own = room.own;

@@ -28,15 +28,13 @@ impl Model for Queue {
 
     ghost Value = { Kept };
 
-    ghost view = {
-        λ q. record {
-            width = q.width;
-            closed = q.closed.items;
-            rooms = q.rooms.items;
-            found = q.found.items;
-            capacity = q.closed.cap
-        }
-    };
+    ghost view = { λ q. record {
+      width = q.width;
+      closed = q.closed.items;
+      rooms = q.rooms.items;
+      found = q.found.items;
+      capacity = q.closed.cap;
+    } };
 
     ghost invariant = { λ q. IsKept q.width q.closed.items q.rooms.items q.found.items q.closed.cap };
 }
@@ -76,9 +74,7 @@ impl Queue {
         requires within { thread.0 < self.old.width }
         requires none { has_room_in self.old.rooms thread.0 ≡ false }
         ensures same { SameMeaning self.old self.new }
-        ensures ok {
-            OnOk result (has_room_in self.new.rooms ≡ with_row thread.0 true (has_room_in self.old.rooms))
-        }
+        ensures ok { OnOk result (has_room_in self.new.rooms ≡ with_row thread.0 true (has_room_in self.old.rooms)) }
         ensures err { OnErr result (has_room_in self.new.rooms ≡ has_room_in self.old.rooms) }
     {
         self.reserve(thread)?;
@@ -113,9 +109,7 @@ impl Queue {
     pub(crate) fn enter(&mut self, thread: ThreadId, mark: Mark)
         requires room { IsTrue (has_room_in self.old.rooms thread.0) }
         requires own { mark.thread ≡ thread.0 }
-        ensures opened {
-            opened_in self.new.rooms ≡ with_row thread.0 mark.position (opened_in self.old.rooms)
-        }
+        ensures opened { opened_in self.new.rooms ≡ with_row thread.0 mark.position (opened_in self.old.rooms) }
         ensures rooms { has_room_in self.new.rooms ≡ has_room_in self.old.rooms }
         ensures closed { self.new.closed ≡ self.old.closed }
         ensures found { self.new.found ≡ self.old.found }
@@ -131,14 +125,12 @@ impl Queue {
         requires entered { 0 < opened_in self.old.rooms thread.0 }
         requires width { length clock.now ≡ self.old.width }
         requires above { IsAboveAll (counts_of clock.now) (map closed_as self.old.closed) }
-        ensures closed {
-            map closed_as self.new.closed
+        ensures closed { map closed_as self.new.closed
             ≡ map closed_as self.old.closed ++ record {
-                thread = thread.0;
-                position = opened_in self.old.rooms thread.0;
-                release = counts_of clock.now
-            } ∷ []
-        }
+              thread = thread.0;
+              position = opened_in self.old.rooms thread.0;
+              release = counts_of clock.now;
+            } ∷ [] }
         ensures opened { opened_in self.new.rooms ≡ with_row thread.0 0 (opened_in self.old.rooms) }
         ensures rooms { has_room_in self.new.rooms ≡ with_row thread.0 false (has_room_in self.old.rooms) }
         ensures found { self.new.found ≡ self.old.found }
@@ -156,29 +148,21 @@ impl Queue {
     pub(crate) fn seek(&mut self, thread: ThreadId, clock: &Clock, work: &mut Work)
         requires room { IsTrue (has_room_in self.old.rooms thread.0) }
         requires width { length clock.now ≡ self.old.width }
-        requires before {
-            slice_index self.old.found thread.0
-            ≤ number_counted (counts_of clock.now) (map closed_as self.old.closed)
-        }
+        requires before { slice_index self.old.found thread.0
+            ≤ number_counted (counts_of clock.now) (map closed_as self.old.closed) }
         requires earlier { CountsEarlier (counts_of clock.now) (map closed_as self.old.closed) }
         requires few { work.old.comparisons + length self.old.closed < 2 ^ 63 }
-        ensures found {
-            slice_index self.new.found
+        ensures found { slice_index self.new.found
             ≡ with_row thread.0 (number_counted (counts_of clock.now) (map closed_as self.old.closed))
-                (slice_index self.old.found)
-        }
+            (slice_index self.old.found) }
         ensures closed { self.new.closed ≡ self.old.closed }
         ensures rooms { self.new.rooms ≡ self.old.rooms }
         ensures width { self.new.width ≡ self.old.width }
-        ensures latest {
-            IsLatestBefore (counts_of clock.now) (map closed_as self.old.closed)
-            (number_counted (counts_of clock.now) (map closed_as self.old.closed))
-        }
+        ensures latest { IsLatestBefore (counts_of clock.now) (map closed_as self.old.closed)
+            (number_counted (counts_of clock.now) (map closed_as self.old.closed)) }
         ensures joins { work.new.joins ≡ work.old.joins }
-        ensures comparisons {
-            work.new.comparisons + slice_index self.old.found thread.0
-            ≤ work.old.comparisons + number_counted (counts_of clock.now) (map closed_as self.old.closed) + 1
-        }
+        ensures comparisons { work.new.comparisons + slice_index self.old.found thread.0
+            ≤ work.old.comparisons + number_counted (counts_of clock.now) (map closed_as self.old.closed) + 1 }
     {
         let at = thread.0 as usize;
         let more = search(&self.closed, self.found[at], clock, work);
@@ -188,14 +172,12 @@ impl Queue {
     // The release clock of the latest section that the thread has found.
     pub(crate) fn latest(&self, thread: ThreadId) -> Option<&Clock>
         requires room { IsTrue (has_room_in self.now.rooms thread.0) }
-        ensures {
-            MatchOption result (slice_index self.now.found thread.0 ≡ 0)
+        ensures { MatchOption result (slice_index self.now.found thread.0 ≡ 0)
             (λ answer. (0 < slice_index self.now.found thread.0)
-                × (counts_of answer.now
-                    ≡ (closed_at (map closed_as self.now.closed)
-                        (slice_index self.now.found thread.0 - 1)).release)
-                × (length answer.now ≡ self.now.width))
-        }
+            × (counts_of answer.now
+            ≡ (closed_at (map closed_as self.now.closed)
+            (slice_index self.now.found thread.0 - 1)).release)
+            × (length answer.now ≡ self.now.width)) }
     {
         let number = self.found[thread.0 as usize];
         if number == 0 {

@@ -78,10 +78,8 @@ impl Queues {
         requires thread { thread.0 < self.old.limits.threads }
         requires lock { lock.0 < self.old.limits.locks }
         ensures same { SameMeaning self.old self.new }
-        ensures ok {
-            OnOk result (has_room self.new
-            ≡ with_row thread.0 (with_row lock.0 true (has_room self.old thread.0)) (has_room self.old))
-        }
+        ensures ok { OnOk result (has_room self.new
+            ≡ with_row thread.0 (with_row lock.0 true (has_room self.old thread.0)) (has_room self.old)) }
         ensures err { OnErr result (has_room self.new ≡ has_room self.old) }
         ensures again { IsTrue (has_room self.old thread.0 lock.0) → IsOk result }
     {
@@ -108,11 +106,9 @@ impl Queues {
     pub fn enter(&mut self, thread: ThreadId, lock: LockId, mark: Mark)
         requires room { IsTrue (has_room self.old thread.0 lock.0) }
         requires own { mark.thread ≡ thread.0 }
-        ensures opened {
-            opened_of self.new
+        ensures opened { opened_of self.new
             ≡ with_row thread.0 (with_row lock.0 mark.position (opened_of self.old thread.0))
-                (opened_of self.old)
-        }
+            (opened_of self.old) }
         ensures closed { closed_of self.new ≡ closed_of self.old }
         ensures found { found_of self.new ≡ found_of self.old }
         ensures rooms { has_room self.new ≡ has_room self.old }
@@ -141,33 +137,23 @@ impl Queues {
         requires few { work.old.comparisons + length (closed_of self.old lock.0) < 2 ^ 63 }
 
         // The answer: the latest of the sections that the clock counts, and all that they bring.
-        ensures number {
-            MatchOption result (counted_of self.old lock.0 clock.now ≡ 0)
-            (λ _. 0 < counted_of self.old lock.0 clock.now)
-        }
-        ensures latest {
-            MatchOption result (latest_counted (counts_of clock.now) (closed_of self.old lock.0) ≡ None)
+        ensures number { MatchOption result (counted_of self.old lock.0 clock.now ≡ 0)
+            (λ _. 0 < counted_of self.old lock.0 clock.now) }
+        ensures latest { MatchOption result (latest_counted (counts_of clock.now) (closed_of self.old lock.0) ≡ None)
             (λ answer. IsSomeAnd (latest_counted (counts_of clock.now) (closed_of self.old lock.0))
-                (λ section. section.release ≡ counts_of answer.now))
-        }
-        ensures below {
-            MatchOption result (below_closed (counts_of clock.now) (closed_of self.old lock.0) ≡ no_clock)
-            (λ answer. counts_of answer.now ≡ below_closed (counts_of clock.now) (closed_of self.old lock.0))
-        }
+            (λ section. section.release ≡ counts_of answer.now)) }
+        ensures below { MatchOption result (below_closed (counts_of clock.now) (closed_of self.old lock.0) ≡ no_clock)
+            (λ answer. counts_of answer.now ≡ below_closed (counts_of clock.now) (closed_of self.old lock.0)) }
         ensures width { IfSome result (λ answer. length answer.now ≡ self.old.limits.threads) }
 
         // What it costs.
-        ensures comparisons {
-            work.new.comparisons + found_of self.old lock.0 thread.0
-            ≤ work.old.comparisons + counted_of self.old lock.0 clock.now + 1
-        }
+        ensures comparisons { work.new.comparisons + found_of self.old lock.0 thread.0
+            ≤ work.old.comparisons + counted_of self.old lock.0 clock.now + 1 }
         ensures joins { work.new.joins ≡ work.old.joins }
 
         // Once the answer is let go, the thread has found the counted sections.
-        ensures* after {
-            sem 𝓛 (Rests the_row self.entry (λ new.
-                FindsCounted self.old new thread.0 lock.0 (counted_of self.old lock.0 clock.now)))
-        }
+        ensures* after { sem 𝓛 (Rests the_row self.entry (λ new.
+            FindsCounted self.old new thread.0 lock.0 (counted_of self.old lock.0 clock.now))) }
     {
         self.seek(thread, lock, clock, work);
         self.latest(thread, lock)
@@ -178,23 +164,17 @@ impl Queues {
         requires entered { 0 < opened_of self.old thread.0 lock.0 }
         requires width { length clock.now ≡ self.old.limits.threads }
         requires above { IsAboveAll (counts_of clock.now) (closed_of self.old lock.0) }
-        ensures closed {
-            closed_of self.new
+        ensures closed { closed_of self.new
             ≡ with_row lock.0 (closed_of self.old lock.0 ++ record {
-                thread = thread.0;
-                position = opened_of self.old thread.0 lock.0;
-                release = counts_of clock.now
-            } ∷ []) (closed_of self.old)
-        }
-        ensures opened {
-            opened_of self.new
-            ≡ with_row thread.0 (with_row lock.0 0 (opened_of self.old thread.0)) (opened_of self.old)
-        }
+              thread = thread.0;
+              position = opened_of self.old thread.0 lock.0;
+              release = counts_of clock.now;
+            } ∷ []) (closed_of self.old) }
+        ensures opened { opened_of self.new
+            ≡ with_row thread.0 (with_row lock.0 0 (opened_of self.old thread.0)) (opened_of self.old) }
         ensures found { found_of self.new ≡ found_of self.old }
-        ensures rooms {
-            has_room self.new
-            ≡ with_row thread.0 (with_row lock.0 false (has_room self.old thread.0)) (has_room self.old)
-        }
+        ensures rooms { has_room self.new
+            ≡ with_row thread.0 (with_row lock.0 false (has_room self.old thread.0)) (has_room self.old) }
         ensures limits { self.new.limits ≡ self.old.limits }
     {
         let queue = &mut self.queues[lock.0 as usize];
@@ -208,18 +188,12 @@ impl Queues {
         requires before { found_of self.old lock.0 thread.0 ≤ counted_of self.old lock.0 clock.now }
         requires earlier { CountsEarlier (counts_of clock.now) (closed_of self.old lock.0) }
         requires few { work.old.comparisons + length (closed_of self.old lock.0) < 2 ^ 63 }
-        ensures found {
-            FindsCounted self.old self.new thread.0 lock.0 (counted_of self.old lock.0 clock.now)
-        }
-        ensures latest {
-            IsLatestBefore (counts_of clock.now) (closed_of self.old lock.0)
-            (counted_of self.old lock.0 clock.now)
-        }
+        ensures found { FindsCounted self.old self.new thread.0 lock.0 (counted_of self.old lock.0 clock.now) }
+        ensures latest { IsLatestBefore (counts_of clock.now) (closed_of self.old lock.0)
+            (counted_of self.old lock.0 clock.now) }
         ensures joins { work.new.joins ≡ work.old.joins }
-        ensures comparisons {
-            work.new.comparisons + found_of self.old lock.0 thread.0
-            ≤ work.old.comparisons + counted_of self.old lock.0 clock.now + 1
-        }
+        ensures comparisons { work.new.comparisons + found_of self.old lock.0 thread.0
+            ≤ work.old.comparisons + counted_of self.old lock.0 clock.now + 1 }
     {
         let queue = &mut self.queues[lock.0 as usize];
         queue.seek(thread, clock, work);
@@ -228,13 +202,11 @@ impl Queues {
     // The release clock of the latest section that the thread has found.
     fn latest(&self, thread: ThreadId, lock: LockId) -> Option<&Clock>
         requires entered { 0 < opened_of self.now thread.0 lock.0 }
-        ensures {
-            MatchOption result (found_of self.now lock.0 thread.0 ≡ 0)
+        ensures { MatchOption result (found_of self.now lock.0 thread.0 ≡ 0)
             (λ answer. (0 < found_of self.now lock.0 thread.0)
-                × (counts_of answer.now
-                    ≡ (closed_at (closed_of self.now lock.0) (found_of self.now lock.0 thread.0 - 1)).release)
-                × (length answer.now ≡ self.now.limits.threads))
-        }
+            × (counts_of answer.now
+            ≡ (closed_at (closed_of self.now lock.0) (found_of self.now lock.0 thread.0 - 1)).release)
+            × (length answer.now ≡ self.now.limits.threads)) }
     {
         self.queues[lock.0 as usize].latest(thread)
     }

@@ -70,6 +70,7 @@ found_legal m j c z = (forth, back)
         let h = ok_after (first_refused m j.events) (text_finding j j.fault) c e in
         let k = no_fault_in j j.fault c h.1 in
         record { no_fault = k.0; legal = (none_is_legal m j.events z).0 h.0; counts = k.1 }
+
     back : IsLegalTrace m j c → finding_in m j ≡ Ok c
     back t =
         ap (λ (o : Option (ℕ × Refusal)). finding_or o (text_finding j j.fault)) ((none_is_legal m j.events z).1 t.legal)
@@ -82,6 +83,7 @@ found_fault m j f z = (forth, back)
     forth e =
         let h = text_after (first_refused m j.events) (text_finding j j.fault) f e in
         record { fault = some_fault_in j j.fault f h.1; legal = (none_is_legal m j.events z).0 h.0 }
+
     back : IsFirstFault m j f → finding_in m j ≡ Err (Text f)
     back t =
         ap (λ (o : Option (ℕ × Refusal)). finding_or o (text_finding j j.fault)) ((none_is_legal m j.events z).1 t.legal)
@@ -93,6 +95,7 @@ found_refused m j n r z = (forth, back)
   where
     forth : finding_in m j ≡ Err (Refused n r) → IsFirstRefused m j.events n r
     forth e = (some_is_first m j.events n r z).0 (refused_now j (first_refused m j.events) n r e)
+
     back : IsFirstRefused m j.events n r → finding_in m j ≡ Err (Refused n r)
     back f = ap (λ (o : Option (ℕ × Refusal)). finding_or o (text_finding j j.fault)) ((some_is_first m j.events n r z).1 f)
 

@@ -98,9 +98,9 @@ pub is_refused : (m : Limits) (whole rest : Judgement) (log : List Event) (n : �
     → Progress m whole (with_event n (Some e) rest) log → refusal m log (call_of e) ≡ Some r → finding_in m whole ≡ Err (Refused n r)
 is_refused m whole rest log n e r z p x =
     let before : take (length p.lines) (log_of whole.events) ≡ log =
-      ap (λ (l : List (ℕ × Event)). take (length p.lines) (log_of l)) p.events
-      ∙ ap (take (length p.lines)) (log_of-append p.lines ((n, e) ∷ rest.events))
-      ∙ take-log_of p.lines (e ∷ log_of rest.events) ∙ sym p.log_is in
+    ap (λ (l : List (ℕ × Event)). take (length p.lines) (log_of l)) p.events
+    ∙ ap (take (length p.lines)) (log_of-append p.lines ((n, e) ∷ rest.events))
+    ∙ take-log_of p.lines (e ∷ log_of rest.events) ∙ sym p.log_is in
     (found_refused m whole n r z).1 (record {
       index = length p.lines;
       event = e;

@@ -107,11 +107,17 @@ some_first m [] log n r z zs w e = absurd (cc)
 some_first m (p ∷ ps) log n r z zs w e =
     elim (some_step (refusal m log (call_of p.1)) p.0 (refused_after m (log ++ p.1 ∷ []) ps) n r e) [
       | inl h ↦ later h (some_first m ps (log ++ p.1 ∷ []) n r (nothing_more log p.1 z zs.0) zs.1 (grown m log p.1 z zs.0 w h.0) h.1)
-      | inr h ↦ (0, (p.1, record {
-          at = ap (λ (k : ℕ). Some (k, p.1)) h.1;
-          before = subst (λ (l : List Event). WellFormed m l) (sym (append-nil log)) w;
-          refused = subst (λ (l : List Event). refusal m l (call_of p.1) ≡ Some r) (sym (append-nil log)) h.0;
-        }))
+      | inr h ↦ (
+        0,
+        (
+          p.1,
+          record {
+            at = ap (λ (k : ℕ). Some (k, p.1)) h.1;
+            before = subst (λ (l : List Event). WellFormed m l) (sym (append-nil log)) w;
+            refused = subst (λ (l : List Event). refusal m l (call_of p.1) ≡ Some r) (sym (append-nil log)) h.0;
+          },
+        ),
+      )
     ]
   where
     later : (refusal m log (call_of p.1) ≡ None) × (refused_after m (log ++ p.1 ∷ []) ps ≡ Some (n, r))
@@ -119,12 +125,17 @@ some_first m (p ∷ ps) log n r z zs w e =
     later h f =
         let k = f.0 in
         let x = f.1.1 in
-        let same : (log ++ p.1 ∷ []) ++ take k (log_of ps) ≡ log ++ p.1 ∷ take k (log_of ps) = append_assoc log (p.1 ∷ []) (take k (log_of ps)) in
-        (suc k, (f.1.0, record {
-          at = x.at;
-          before = subst (λ (l : List Event). WellFormed m l) same x.before;
-          refused = subst (λ (l : List Event). refusal m l (call_of f.1.0) ≡ Some r) same x.refused;
-        }))
+        let same : (log ++ p.1 ∷ []) ++ take k (log_of ps) ≡ log ++ p.1 ∷ take k (log_of ps) = append_assoc log (p.1 ∷ []) (take k (log_of ps)) in (
+          suc k,
+          (
+            f.1.0,
+            record {
+              at = x.at;
+              before = subst (λ (l : List Event). WellFormed m l) same x.before;
+              refused = subst (λ (l : List Event). refusal m l (call_of f.1.0) ≡ Some r) same x.refused;
+            },
+          ),
+        )
 
 now_some : (o : Option Refusal) (n : ℕ) (later : Option (ℕ × Refusal)) (r : Refusal) → o ≡ Some r → numbered_or n o later ≡ Some (n, r)
 now_some None n later r e = absurd (cc)
@@ -164,5 +175,6 @@ some_is_first m ps n r z = (forth, back)
     forth e =
         let f = some_first m ps [] n r tt z (empty_legal m) e in
         record { index = f.0; event = f.1.0; at = f.1.1.at; before = f.1.1.before; refused = f.1.1.refused }
+
     back : IsFirstRefused m ps n r → first_refused m ps ≡ Some (n, r)
     back f = first_some m ps [] n r f.index f.event (record { at = f.at; before = f.before; refused = f.refused })

@@ -11,12 +11,8 @@ use rapid_text::{Input, Output, WriteFault, write_all};
 use std::alloc::Global;
 
 /// Writes the line that tells an answer; nothing, where the answer says nothing of the text.
-fn tell<O: Output>(
-    writer: &mut O,
-    answer: &Result<Counts, CheckFault>,
-) -> Result<(), WriteFault>
-    ensures tells {
-      OnOk result
+fn tell<O: Output>(writer: &mut O, answer: &Result<Counts, CheckFault>) -> Result<(), WriteFault>
+    ensures tells { OnOk result
         (gives_up answer.now ≡ false
         → Appends (O.written writer.old) (O.written writer.new) (told answer.now)) }
     ensures quiet { gives_up answer.now ≡ true → IsOk result × (writer.new ≡ writer.old) }
@@ -45,20 +41,16 @@ pub fn check<I: Input, O: Output>(
     requires reads { I.failed reader.old ≡ false }
     requires writes { O.failed writer.old ≡ false }
     // The answer is what the whole text comes to, read or left unread.
-    ensures finds {
-      gives_up result ≡ false → IfSome (I.left reader.old) (λ text. result ≡ finding limits text) }
+    ensures finds { gives_up result ≡ false → IfSome (I.left reader.old) (λ text. result ≡ finding limits text) }
     // What is written is the line for the whole text, and nothing else.
-    ensures checks {
-      gives_up result ≡ false
-      → IfSome (I.left reader.old)
+    ensures checks { gives_up result ≡ false
+        → IfSome (I.left reader.old)
         (λ text. Appends (O.written writer.old) (O.written writer.new) (line_for limits text)) }
     // It tells the answer, also where the text is not known.
-    ensures tells {
-      gives_up result ≡ false
-      → Appends (O.written writer.old) (O.written writer.new) (told result) }
+    ensures tells { gives_up result ≡ false
+        → Appends (O.written writer.old) (O.written writer.new) (told result) }
     // Nothing is written where the answer says nothing of the text.
-    ensures quiet {
-      gives_up result ≡ true → result ≢ Err CheckFault.Write → writer.new ≡ writer.old }
+    ensures quiet { gives_up result ≡ true → result ≢ Err CheckFault.Write → writer.new ≡ writer.old }
     // No failure of the reader is passed over where there are counts.
     ensures read_whole { OnOk result (I.failed reader.new ≡ false) }
     // It is a fault of the writer exactly where the writer failed or took no byte.

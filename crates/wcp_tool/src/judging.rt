@@ -17,16 +17,13 @@ use traced_mem::Memory;
 /// Performs the call of an event, where it is allowed.
 fn accept(memory: &mut Memory, event: &Event) -> Result<(), Refusal>
     ensures limits { memory.new.limits ≡ memory.old.limits }
-    ensures allowed {
-      OnOk result
+    ensures allowed { OnOk result
         ((log : List Entry) → StandsFor memory.old log
         → refusal memory.old.limits log (call_of event.now) ≡ None) }
-    ensures stands {
-      OnOk result
+    ensures stands { OnOk result
         ((log : List Entry) → StandsFor memory.old log
         → StandsFor memory.new (log ++ event_of log (call_of event.now) ∷ [])) }
-    ensures refused {
-      IfErr result
+    ensures refused { IfErr result
         (λ r. (r ≡ Refusal.OutOfMemory)
         ⊎ ((log : List Entry) → StandsFor memory.old log
         → refusal memory.old.limits log (call_of event.now) ≡ Some r)) }
@@ -68,12 +65,10 @@ fn judge_lines<I: Input>(
     requires limits { memory.old.limits ≡ limits.now }
     requires begins { text.old.failed ≡ None }
     requires empty { StandsFor memory.old [] }
-    ensures finds {
-      gives_up result ≡ false
-      → IfSome (to_judge text.old (I.left reader.old))
+    ensures finds { gives_up result ≡ false
+        → IfSome (to_judge text.old (I.left reader.old))
         (λ whole. result ≡ finding_in memory.old.limits whole) }
-    ensures read {
-      is_short result ≡ true → (I.failed reader.new ≡ true) ⊎ (text.new.turns ≡ 0) }
+    ensures read { is_short result ≡ true → (I.failed reader.new ≡ true) ⊎ (text.new.turns ≡ 0) }
     ensures healthy { OnOk result (I.failed reader.new ≡ I.failed reader.old) }
     ensures unwritten { result ≢ Err CheckFault.Write }
 {
@@ -105,8 +100,7 @@ pub(crate) fn find<I: Input>(
     turns: u64,
 ) -> Result<Counts, CheckFault>
     requires turns { turns ≤ 17592186044416 }
-    ensures finds {
-      gives_up result ≡ false → IfSome (I.left reader.old) (λ text. result ≡ finding limits text) }
+    ensures finds { gives_up result ≡ false → IfSome (I.left reader.old) (λ text. result ≡ finding limits text) }
     ensures healthy { OnOk result (I.failed reader.new ≡ I.failed reader.old) }
     ensures unwritten { result ≢ Err CheckFault.Write }
 {

@@ -15,15 +15,11 @@ ghost use Rattle.wcp_tool.specs.Checked.{finding, IsLegalTrace, IsFirstFault};
 /// events before it make a well-formed log after which its call is refused. A fault is found exactly where
 /// the text stops with it and all events before it make a well-formed log.
 pub fn finding_is_the_first()
-    ensures counts {
-      (m : Limits) (text : List ℕ) (c : Counts)
-      → (finding m text ≡ Ok c) ↔ IsLegalTrace m (judgement (no_names m) text) c }
-    ensures refused {
-      (m : Limits) (text : List ℕ) (line : ℕ) (why : Why)
-      → (finding m text ≡ Err (Refused line why))
-      ↔ IsFirstRefused m (judgement (no_names m) text).events line why }
-    ensures fault {
-      (m : Limits) (text : List ℕ) (f : Fault)
-      → (finding m text ≡ Err (Text f)) ↔ IsFirstFault m (judgement (no_names m) text) f }
-{
-}
+    ensures counts { (m : Limits) (text : List ℕ) (c : Counts)
+        → (finding m text ≡ Ok c) ↔ IsLegalTrace m (judgement (no_names m) text) c }
+    ensures refused { (m : Limits) (text : List ℕ) (line : ℕ) (why : Why)
+        → (finding m text ≡ Err (Refused line why))
+        ↔ IsFirstRefused m (judgement (no_names m) text).events line why }
+    ensures fault { (m : Limits) (text : List ℕ) (f : Fault)
+        → (finding m text ≡ Err (Text f)) ↔ IsFirstFault m (judgement (no_names m) text) f }
+{}

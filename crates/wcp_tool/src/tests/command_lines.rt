@@ -38,7 +38,11 @@ fn gives_help_and_the_version(rt: HostRuntime) {
         let ran = run(&rt, words, Pieces::whole(b""));
         let text = str::from_utf8(ran.output.as_slice()).unwrap_or("");
         assert!(rt; text.contains(part), "{words:?}: {text}");
-        assert!(rt; ran.errors.is_empty() && ran.status == 0, "{words:?}: {}", ran.status);
+        assert!(rt;
+            ran.errors.is_empty() && ran.status == 0,
+            "{words:?}: {}",
+            ran.status
+        );
     }
 }
 
@@ -50,8 +54,14 @@ fn tells_what_is_wrong_with_a_command_line(rt: HostRuntime) {
         (nothing.as_slice(), "Usage: wcp <COMMAND>"),
         (["replay"].as_slice(), "'replay'"),
         (["run", "script"].as_slice(), "'run'"),
-        (["check", "--threads", "0"].as_slice(), "0 is not in 1..=1024"),
-        (["check", "--threads", "1025"].as_slice(), "1025 is not in 1..=1024"),
+        (
+            ["check", "--threads", "0"].as_slice(),
+            "0 is not in 1..=1024",
+        ),
+        (
+            ["check", "--threads", "1025"].as_slice(),
+            "1025 is not in 1..=1024",
+        ),
         (["check", "--threads", "x"].as_slice(), "'x'"),
         (["check", "--threads"].as_slice(), "a value is required"),
         (["check", "trace.txt"].as_slice(), "'trace.txt'"),
@@ -61,6 +71,10 @@ fn tells_what_is_wrong_with_a_command_line(rt: HostRuntime) {
         let ran = run(&rt, words, Pieces::whole(b"T0|w(x)|1"));
         let text = str::from_utf8(ran.errors.as_slice()).unwrap_or("");
         assert!(rt; text.contains(part), "{words:?}: {text}");
-        assert!(rt; ran.output.is_empty() && ran.status == 2, "{words:?}: {}", ran.status);
+        assert!(rt;
+            ran.output.is_empty() && ran.status == 2,
+            "{words:?}: {}",
+            ran.status
+        );
     }
 }

@@ -7,8 +7,16 @@ use std::process::Abort;
 use std::test::Fail;
 
 fn expect(rt: &impl Abort, ran: &Ran, output: &str, errors: &str, status: u8) {
-    assert!(rt; ran.output.as_slice() == output.as_bytes(), "{:?}", ran.output);
-    assert!(rt; ran.errors.as_slice() == errors.as_bytes(), "{:?}", ran.errors);
+    assert!(rt;
+        ran.output.as_slice() == output.as_bytes(),
+        "{:?}",
+        ran.output
+    );
+    assert!(rt;
+        ran.errors.as_slice() == errors.as_bytes(),
+        "{:?}",
+        ran.errors
+    );
     assert!(rt; ran.status == status, "status {}", ran.status);
 }
 
@@ -71,7 +79,10 @@ fn gives_up_an_endless_text_at_its_line(rt: HostRuntime) -> Result<(), Fail> {
     let answer = check(rt.alloc(), &mut reader, &mut writer, limits, 1000);
     match answer {
         Err(CheckFault::Text(fault)) => {
-            assert!(rt; fault.cause == Cause::Read && fault.line == 1001, "{answer:?}");
+            assert!(rt;
+                fault.cause == Cause::Read && fault.line == 1001,
+                "{answer:?}"
+            );
         }
         _ => assert!(rt; false, "{answer:?}"),
     }

@@ -7,48 +7,160 @@ use std::test::Fail;
 type Case = (&'static str, &'static str, &'static str);
 
 static LEGAL: [Case; 19] = [
-    ("an empty text", "", "events 0 threads 0 locks 0 variables 0\n"),
-    ("a store that no fork covers", "T0|fork(T1)|1\nT0|w(x)|2\nT1|w(x)|3\n", "events 3 threads 2 locks 0 variables 1\n"),
-    ("conflicting sections", "T0|fork(T1)|1\nT0|acq(l)|2\nT0|w(x)|3\nT0|rel(l)|4\nT1|acq(l)|5\nT1|w(x)|6\n", "events 6 threads 2 locks 1 variables 1\n"),
-    ("sections without a conflict", "T0|fork(T1)|1\nT0|w(y)|2\nT0|acq(l)|3\nT0|w(x)|4\nT0|rel(l)|5\nT1|acq(l)|6\nT1|rel(l)|7\nT1|r(y)|8\n", "events 8 threads 2 locks 1 variables 2\n"),
-    ("a load in the later section", "T0|fork(T1)|1\nT0|w(y)|2\nT0|acq(l)|3\nT0|w(x)|4\nT0|rel(l)|5\nT1|acq(l)|6\nT1|r(x)|7\nT1|rel(l)|8\nT1|r(y)|9\n", "events 9 threads 2 locks 1 variables 2\n"),
-    ("a load before the conflict", "T0|fork(T1)|1\nT0|w(y)|2\nT0|acq(l)|3\nT0|w(x)|4\nT0|rel(l)|5\nT1|acq(l)|6\nT1|r(y)|7\nT1|r(x)|8\nT1|rel(l)|9\n", "events 9 threads 2 locks 1 variables 2\n"),
-    ("nested sections", "T0|fork(T1)|1\nT0|acq(l)|2\nT0|acq(m)|3\nT0|w(x)|4\nT0|rel(m)|5\nT0|w(y)|6\nT0|rel(l)|7\nT1|acq(m)|8\nT1|r(x)|9\nT1|rel(m)|10\nT1|acq(l)|11\nT1|rel(l)|12\nT1|r(y)|13\n", "events 13 threads 2 locks 2 variables 2\n"),
-    ("a load before the outer section ends", "T0|fork(T1)|1\nT0|acq(l)|2\nT0|acq(m)|3\nT0|w(x)|4\nT0|rel(m)|5\nT0|w(y)|6\nT0|rel(l)|7\nT1|acq(m)|8\nT1|r(x)|9\nT1|rel(m)|10\nT1|r(y)|11\n", "events 11 threads 2 locks 2 variables 2\n"),
-    ("three threads and four locks", "T0|fork(T1)|1\nT0|fork(T2)|2\nT2|w(z)|3\nT2|acq(n)|4\nT2|rel(n)|5\nT0|acq(l)|6\nT0|acq(m)|7\nT0|w(x)|8\nT0|rel(m)|9\nT0|acq(n)|10\nT0|rel(n)|11\nT0|rel(l)|12\nT1|acq(m)|13\nT1|r(x)|14\nT1|rel(m)|15\nT1|acq(k)|16\nT1|rel(k)|17\nT0|acq(k)|18\nT0|rel(k)|19\nT0|acq(l)|20\nT0|rel(l)|21\nT0|r(z)|22\n", "events 22 threads 3 locks 4 variables 2\n"),
-    ("fork and join around a store", "T0|w(x)|1\nT0|fork(T1)|2\nT1|w(x)|3\nT0|join(T1)|4\nT0|w(x)|5\n", "events 5 threads 2 locks 0 variables 1\n"),
-    ("a thread that was never forked", "T0|fork(T1)|1\nT0|join(T1)|2\nT2|w(x)|3\nT0|r(x)|4\n", "events 4 threads 3 locks 0 variables 1\n"),
-    ("parentheses in a name", "T0|w(a(b))|\r\nT0|r(a(b))|9", "events 2 threads 1 locks 0 variables 1\n"),
-    ("a join of a thread without events", "T0|w(x)|1\nT0|fork(T1)|2\nT2|join(T1)|3\nT2|w(x)|4\n", "events 4 threads 3 locks 0 variables 1\n"),
-    ("sections that do not nest", "T0|fork(T1)|1\nT0|acq(l)|2\nT0|acq(m)|3\nT0|rel(l)|4\nT0|w(x)|5\nT0|rel(m)|6\nT1|acq(l)|7\nT1|w(x)|8\n", "events 8 threads 2 locks 2 variables 1\n"),
-    ("three stores", "T0|fork(T1)|1\nT0|fork(T2)|2\nT1|w(x)|3\nT2|w(x)|4\nT0|w(x)|5\n", "events 5 threads 3 locks 0 variables 1\n"),
-    ("a lock that is acquired twice", "T0|acq(l)|1\nT0|acq(l)|2", "events 2 threads 1 locks 1 variables 0\n"),
-    ("an inner release", "T0|fork(T1)|1\nT0|acq(l)|2\nT0|acq(l)|3\nT0|rel(l)|4\nT0|w(x)|5\nT0|rel(l)|6\nT1|acq(l)|7\nT1|w(x)|8\n", "events 8 threads 2 locks 1 variables 1\n"),
-    ("a load and a store at one place", "m|fork(a)|1\na|r(x)|2\na|w(x)|2\nm|join(a)|3\nm|r(x)|4\nm|w(x)|4\n", "events 6 threads 2 locks 0 variables 1\n"),
-    ("a CR at the end of the text", "T0|w(x)|1\r", "events 1 threads 1 locks 0 variables 1\n"),
+    (
+        "an empty text",
+        "",
+        "events 0 threads 0 locks 0 variables 0\n",
+    ),
+    (
+        "a store that no fork covers",
+        "T0|fork(T1)|1\nT0|w(x)|2\nT1|w(x)|3\n",
+        "events 3 threads 2 locks 0 variables 1\n",
+    ),
+    (
+        "conflicting sections",
+        "T0|fork(T1)|1\nT0|acq(l)|2\nT0|w(x)|3\nT0|rel(l)|4\nT1|acq(l)|5\nT1|w(x)|6\n",
+        "events 6 threads 2 locks 1 variables 1\n",
+    ),
+    (
+        "sections without a conflict",
+        "T0|fork(T1)|1\nT0|w(y)|2\nT0|acq(l)|3\nT0|w(x)|4\nT0|rel(l)|5\nT1|acq(l)|6\nT1|rel(l)|7\nT1|r(y)|8\n",
+        "events 8 threads 2 locks 1 variables 2\n",
+    ),
+    (
+        "a load in the later section",
+        "T0|fork(T1)|1\nT0|w(y)|2\nT0|acq(l)|3\nT0|w(x)|4\nT0|rel(l)|5\nT1|acq(l)|6\nT1|r(x)|7\nT1|rel(l)|8\nT1|r(y)|9\n",
+        "events 9 threads 2 locks 1 variables 2\n",
+    ),
+    (
+        "a load before the conflict",
+        "T0|fork(T1)|1\nT0|w(y)|2\nT0|acq(l)|3\nT0|w(x)|4\nT0|rel(l)|5\nT1|acq(l)|6\nT1|r(y)|7\nT1|r(x)|8\nT1|rel(l)|9\n",
+        "events 9 threads 2 locks 1 variables 2\n",
+    ),
+    (
+        "nested sections",
+        "T0|fork(T1)|1\nT0|acq(l)|2\nT0|acq(m)|3\nT0|w(x)|4\nT0|rel(m)|5\nT0|w(y)|6\nT0|rel(l)|7\nT1|acq(m)|8\nT1|r(x)|9\nT1|rel(m)|10\nT1|acq(l)|11\nT1|rel(l)|12\nT1|r(y)|13\n",
+        "events 13 threads 2 locks 2 variables 2\n",
+    ),
+    (
+        "a load before the outer section ends",
+        "T0|fork(T1)|1\nT0|acq(l)|2\nT0|acq(m)|3\nT0|w(x)|4\nT0|rel(m)|5\nT0|w(y)|6\nT0|rel(l)|7\nT1|acq(m)|8\nT1|r(x)|9\nT1|rel(m)|10\nT1|r(y)|11\n",
+        "events 11 threads 2 locks 2 variables 2\n",
+    ),
+    (
+        "three threads and four locks",
+        "T0|fork(T1)|1\nT0|fork(T2)|2\nT2|w(z)|3\nT2|acq(n)|4\nT2|rel(n)|5\nT0|acq(l)|6\nT0|acq(m)|7\nT0|w(x)|8\nT0|rel(m)|9\nT0|acq(n)|10\nT0|rel(n)|11\nT0|rel(l)|12\nT1|acq(m)|13\nT1|r(x)|14\nT1|rel(m)|15\nT1|acq(k)|16\nT1|rel(k)|17\nT0|acq(k)|18\nT0|rel(k)|19\nT0|acq(l)|20\nT0|rel(l)|21\nT0|r(z)|22\n",
+        "events 22 threads 3 locks 4 variables 2\n",
+    ),
+    (
+        "fork and join around a store",
+        "T0|w(x)|1\nT0|fork(T1)|2\nT1|w(x)|3\nT0|join(T1)|4\nT0|w(x)|5\n",
+        "events 5 threads 2 locks 0 variables 1\n",
+    ),
+    (
+        "a thread that was never forked",
+        "T0|fork(T1)|1\nT0|join(T1)|2\nT2|w(x)|3\nT0|r(x)|4\n",
+        "events 4 threads 3 locks 0 variables 1\n",
+    ),
+    (
+        "parentheses in a name",
+        "T0|w(a(b))|\r\nT0|r(a(b))|9",
+        "events 2 threads 1 locks 0 variables 1\n",
+    ),
+    (
+        "a join of a thread without events",
+        "T0|w(x)|1\nT0|fork(T1)|2\nT2|join(T1)|3\nT2|w(x)|4\n",
+        "events 4 threads 3 locks 0 variables 1\n",
+    ),
+    (
+        "sections that do not nest",
+        "T0|fork(T1)|1\nT0|acq(l)|2\nT0|acq(m)|3\nT0|rel(l)|4\nT0|w(x)|5\nT0|rel(m)|6\nT1|acq(l)|7\nT1|w(x)|8\n",
+        "events 8 threads 2 locks 2 variables 1\n",
+    ),
+    (
+        "three stores",
+        "T0|fork(T1)|1\nT0|fork(T2)|2\nT1|w(x)|3\nT2|w(x)|4\nT0|w(x)|5\n",
+        "events 5 threads 3 locks 0 variables 1\n",
+    ),
+    (
+        "a lock that is acquired twice",
+        "T0|acq(l)|1\nT0|acq(l)|2",
+        "events 2 threads 1 locks 1 variables 0\n",
+    ),
+    (
+        "an inner release",
+        "T0|fork(T1)|1\nT0|acq(l)|2\nT0|acq(l)|3\nT0|rel(l)|4\nT0|w(x)|5\nT0|rel(l)|6\nT1|acq(l)|7\nT1|w(x)|8\n",
+        "events 8 threads 2 locks 1 variables 1\n",
+    ),
+    (
+        "a load and a store at one place",
+        "m|fork(a)|1\na|r(x)|2\na|w(x)|2\nm|join(a)|3\nm|r(x)|4\nm|w(x)|4\n",
+        "events 6 threads 2 locks 0 variables 1\n",
+    ),
+    (
+        "a CR at the end of the text",
+        "T0|w(x)|1\r",
+        "events 1 threads 1 locks 0 variables 1\n",
+    ),
 ];
 
 static REFUSED: [Case; 16] = [
-    ("an unknown operation", "T0|w(x)|1\nT0|begin(x)|2\n", "line 2: BadOp\n"),
-    ("a release without an acquire", "T0|rel(l)|1\n", "line 1: NotHolder\n"),
+    (
+        "an unknown operation",
+        "T0|w(x)|1\nT0|begin(x)|2\n",
+        "line 2: BadOp\n",
+    ),
+    (
+        "a release without an acquire",
+        "T0|rel(l)|1\n",
+        "line 1: NotHolder\n",
+    ),
     ("a text that is cut off", "T0|acq(l", "line 1: FewFields\n"),
-    ("a fork of a thread that ran", "T1|w(x)|1\nT0|fork(T1)|2\n", "line 2: AlreadyStarted\n"),
-    ("an event after the join", "T0|fork(T1)|1\nT0|join(T1)|2\nT1|r(x)|3\n", "line 3: Ended\n"),
-    ("a release after the join", "T0|fork(T1)|1\nT1|acq(l)|2\nT0|join(T1)|3\nT1|rel(l)|4\n", "line 4: Ended\n"),
-    ("a lock that is still held", "T0|fork(T1)|1\nT0|acq(l)|2\nT0|acq(l)|3\nT0|rel(l)|4\nT1|acq(l)|5\n", "line 5: Held\n"),
+    (
+        "a fork of a thread that ran",
+        "T1|w(x)|1\nT0|fork(T1)|2\n",
+        "line 2: AlreadyStarted\n",
+    ),
+    (
+        "an event after the join",
+        "T0|fork(T1)|1\nT0|join(T1)|2\nT1|r(x)|3\n",
+        "line 3: Ended\n",
+    ),
+    (
+        "a release after the join",
+        "T0|fork(T1)|1\nT1|acq(l)|2\nT0|join(T1)|3\nT1|rel(l)|4\n",
+        "line 4: Ended\n",
+    ),
+    (
+        "a lock that is still held",
+        "T0|fork(T1)|1\nT0|acq(l)|2\nT0|acq(l)|3\nT0|rel(l)|4\nT1|acq(l)|5\n",
+        "line 5: Held\n",
+    ),
     ("three bars", "T0|w(x)|1|2", "line 1: ManyFields\n"),
     ("an empty thread", "|w(x)|1", "line 1: EmptyName\n"),
     ("an empty argument", "T0|w()|1", "line 1: EmptyName\n"),
     ("a word in capitals", "T0|W(x)|1", "line 1: BadOp\n"),
-    ("bytes after the parenthesis", "T0|w(x)y|1", "line 1: BadOp\n"),
+    (
+        "bytes after the parenthesis",
+        "T0|w(x)y|1",
+        "line 1: BadOp\n",
+    ),
     ("a CR within a line", "T0|w(x\ry)|1", "line 1: StrayCr\n"),
-    ("lines without content", "\n\r\nT0|w(x)", "line 3: FewFields\n"),
+    (
+        "lines without content",
+        "\n\r\nT0|w(x)",
+        "line 3: FewFields\n",
+    ),
     ("the first of two causes", "|begin()|1", "line 1: BadOp\n"),
     ("a fork of itself", "T0|fork(T0)|1", "line 1: SelfTarget\n"),
 ];
 
 fn expect(rt: &impl Abort, name: &str, ran: &Ran, line: &str, status: u8) {
-    assert!(rt; ran.output.as_slice() == line.as_bytes(), "{name}: {:?}", ran.output);
+    assert!(rt;
+        ran.output.as_slice() == line.as_bytes(),
+        "{name}: {:?}",
+        ran.output
+    );
     assert!(rt; ran.status == status, "{name}: status {}", ran.status);
     assert!(rt; ran.errors.is_empty(), "{name}: {:?}", ran.errors);
 }
@@ -112,10 +224,24 @@ fn bounds_names_and_lines(rt: HostRuntime) -> Result<(), Fail> {
 #[test]
 fn admits_as_many_threads_as_the_option_says(rt: HostRuntime) {
     let text = b"T0|fork(T1)|1".as_slice();
-    let one = run(&rt, ["check", "--threads", "1"].as_slice(), Pieces::whole(text));
+    let one = run(
+        &rt,
+        ["check", "--threads", "1"].as_slice(),
+        Pieces::whole(text),
+    );
     expect(&rt, "one", &one, "line 1: TooManyNames\n", 3);
-    let two = run(&rt, ["check", "--threads=2"].as_slice(), Pieces::whole(text));
-    expect(&rt, "two", &two, "events 1 threads 2 locks 0 variables 0\n", 0);
+    let two = run(
+        &rt,
+        ["check", "--threads=2"].as_slice(),
+        Pieces::whole(text),
+    );
+    expect(
+        &rt,
+        "two",
+        &two,
+        "events 1 threads 2 locks 0 variables 0\n",
+        0,
+    );
 }
 
 /// Where a text that is legal is cut off, its last line may have too few fields, and no other line is at fault.

@@ -29,9 +29,9 @@ pub returns-in_default-clause-finds : goal.returns-in_default-clause-finds
 returns-in_default-clause-finds g c h =
     let whole : Option Judgement = to_judge c.args.text.now (g.I.Input.left c.args.reader.now) in
     let end = tells_end c.lines.text c.next.new.self (g.I.Input.left c.lines.reader) (g.I.Input.left c.next.new.input) c.in-Ok.next
-      c.in_default.is c.in-Ok.ensures.ok in
+    c.in_default.is c.in-Ok.ensures.ok in
     let found = judging_ends c.args.memory.now.limits whole (to_judge c.lines.text (g.I.Input.left c.lines.reader)) c.lines.memory c.lines.events
-      c.next.new.self.names c.lines.invariant.judging end in
+    c.next.new.self.names c.lines.invariant.judging end in
     let is : c.counts.result ≡ counts_of c.lines.events c.next.new.self.names = c.counts.ensures ∙ ap (counts_of c.lines.events) c.names.ensures in
     subst (λ (x : Counts). IfSome whole (λ w. Ok x ≡ finding_in c.args.memory.now.limits w)) (sym is) found
 
@@ -41,18 +41,18 @@ returns-in-Err-accept-clause-finds g c h =
     (to_judge c.lines.text (g.I.Input.left c.lines.reader)) (to_judge c.next.new.self (g.I.Input.left c.next.new.input))
     c.lines.memory c.lines.events c.next.new.self.line c.line.result c.in-Some.event c.in-Err-accept.refusal c.lines.invariant.judging
     (tells_event c.lines.text c.next.new.self (g.I.Input.left c.lines.reader) (g.I.Input.left c.next.new.input) c.in-Ok.next c.in-Some.event
-      c.in-Some.is c.in-Ok.ensures.ok)
+    c.in-Some.is c.in-Ok.ensures.ok)
     c.in-Err-accept.ensures.refused c.line.ensures h
 
 -- the lines so far and one more
 grown : goal.lines-preserved
 grown g c = record {
   judging = judging_more c.args.memory.now.limits (to_judge c.args.text.now (g.I.Input.left c.args.reader.now))
-    (to_judge c.lines.text (g.I.Input.left c.lines.reader)) (to_judge c.next.new.self (g.I.Input.left c.next.new.input))
-    c.lines.memory c.accept.new.memory c.lines.events c.next.new.self.line c.in-Some.event c.lines.invariant.judging
-    (tells_event c.lines.text c.next.new.self (g.I.Input.left c.lines.reader) (g.I.Input.left c.next.new.input) c.in-Ok.next c.in-Some.event
+      (to_judge c.lines.text (g.I.Input.left c.lines.reader)) (to_judge c.next.new.self (g.I.Input.left c.next.new.input))
+      c.lines.memory c.accept.new.memory c.lines.events c.next.new.self.line c.in-Some.event c.lines.invariant.judging
+      (tells_event c.lines.text c.next.new.self (g.I.Input.left c.lines.reader) (g.I.Input.left c.next.new.input) c.in-Ok.next c.in-Some.event
       c.in-Some.is c.in-Ok.ensures.ok)
-    c.accept.ensures.limits c.in_default-accept.ensures.stands;
+      c.accept.ensures.limits c.in_default-accept.ensures.stands;
   live = c.in-Ok.ensures.live;
   healthy = c.in-Ok.ensures.healthy ∙ c.lines.invariant.healthy;
 }
@@ -63,7 +63,7 @@ lines-preserved g c = grown g c
 pub overflow_add-events : goal.overflow_add-events
 overflow_add-events g c =
     let within : c.lines.events ≤ c.args.memory.now.limits.events =
-      within_limits c.args.memory.now.limits _ _ c.lines.memory c.lines.events c.lines.invariant.judging in
+    within_limits c.args.memory.now.limits _ _ c.lines.memory c.lines.events c.lines.invariant.judging in
     let same : c.args.memory.now.limits.events ≡ c.args.limits.now.events = ap (λ (k : Limits). k.events) c.requires.limits in
     let is = c.events-most.ensures.is in
     let bounded = c.events-most.ensures.bounded in
@@ -72,5 +72,5 @@ overflow_add-events g c =
 pub lines-smaller : goal.lines-smaller
 lines-smaller g c =
     let within : c.lines.events + 1 ≤ c.args.memory.now.limits.events =
-      within_limits c.args.memory.now.limits _ _ c.accept.new.memory (c.lines.events + 1) (grown g c).judging in
+    within_limits c.args.memory.now.limits _ _ c.accept.new.memory (c.lines.events + 1) (grown g c).judging in
     omega arith

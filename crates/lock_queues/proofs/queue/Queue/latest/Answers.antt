@@ -41,13 +41,12 @@ returns c =
     let last = c.index-number.result.now - 1 in
     let within : last < length c.self.inside.closed.items = omega arith in
     let read : c.index.result.now ≡ section_at c.self.inside.closed.items last
-    = get_or_read c.self.inside.closed.items last c.index.result.now within c.index.ensures no_section in
-    (
+    = get_or_read c.self.inside.closed.items last c.index.result.now within c.index.ensures no_section in (
       omega arith,
       ap (λ (s : Section). counts_of s.release) read
-      ∙ ap (λ (q : Closed). q.release) (sym (closed_at_is c.self.inside.closed.items last))
-      ∙ ap (λ (k : Kept). (closed_at (map closed_as k.closed) last).release) c.self.view_is
-      ∙ ap (λ n. (closed_at (map closed_as c.args.self.now.closed) (n - 1)).release) is,
+          ∙ ap (λ (q : Closed). q.release) (sym (closed_at_is c.self.inside.closed.items last))
+          ∙ ap (λ (k : Kept). (closed_at (map closed_as k.closed) last).release) c.self.view_is
+          ∙ ap (λ n. (closed_at (map closed_as c.args.self.now.closed) (n - 1)).release) is,
       ap (λ (s : Section). length s.release) read ∙ c.self.invariant.wide last within
-      ∙ ap (λ (k : Kept). k.width) c.self.view_is,
+          ∙ ap (λ (k : Kept). k.width) c.self.view_is,
     )

@@ -55,20 +55,20 @@ invariant_of-self c =
     = ap length c.copy_from.ensures ∙ c.requires.width ∙ sym (ap (λ (k : Kept). k.width) c.self.view_is) in
     let above : IsAboveAll (counts_of x.release) (map closed_as closed)
     = subst (λ (ns : List ℕ). IsAboveAll (counts_of ns) (map closed_as closed)) (sym c.copy_from.ensures)
-      (subst (λ (k : Kept). IsAboveAll (counts_of c.args.clock.now) (map closed_as k.closed))
-          (sym c.self.view_is)
-        c.requires.above) in
+    (subst (λ (k : Kept). IsAboveAll (counts_of c.args.clock.now) (map closed_as k.closed))
+    (sym c.self.view_is)
+    c.requires.above) in
     let Keeps : List Section → List Room → ℕ → Type 0
     = λ ss rs cap. IsKept c.self.inside.width ss rs c.self.inside.found.items cap in
     let left : Keeps (closed ++ x ∷ []) (remove c.self.inside.rooms.items c.find-at.result)
-        c.self.inside.closed.cap
+    c.self.inside.closed.cap
     = kept_left x c.self.invariant p wide (omega arith) above in
     subst (λ cap. Keeps c.push_reserved.new.self.items c.remove-room.new.self.items cap)
     (sym c.push_reserved.ensures.capacity)
     (subst (λ rs. Keeps c.push_reserved.new.self.items rs c.self.inside.closed.cap)
-        (sym c.remove-room.ensures.items)
-      (subst (λ ss. Keeps ss (remove c.self.inside.rooms.items c.find-at.result) c.self.inside.closed.cap)
-        (sym c.push_reserved.ensures.items) left))
+    (sym c.remove-room.ensures.items)
+    (subst (λ ss. Keeps ss (remove c.self.inside.rooms.items c.find-at.result) c.self.inside.closed.cap)
+    (sym c.push_reserved.ensures.items) left))
 
 pub returns-clause-closed : goal.returns-clause-closed
 returns-clause-closed c =
@@ -77,7 +77,9 @@ returns-clause-closed c =
     let x : Section = record { acquire = c.unwrap-acquire.result; release = c.copy_from.new.self } in
     let entry : Closed
     = record {
-      thread = t; position = opened_in c.args.self.now.rooms t; release = counts_of c.args.clock.now
+      thread = t;
+      position = opened_in c.args.self.now.rooms t;
+      release = counts_of c.args.clock.now;
     } in
     let rooms_is = ap (λ (k : Kept). k.rooms) c.self.view_is in
     let p = placed_entered _ _ _ _ _ rooms_is c.deref.ensures.value c.find-at.ensures c.requires.entered in
@@ -86,7 +88,7 @@ returns-clause-closed c =
     = mark_of c.remove-room.result.opened x.acquire _ c.unwrap-acquire.ensures room.own ∙ sym room.thread in
     let position : x.acquire.position ≡ opened_in c.args.self.now.rooms t
     = sym (room.opened ∙ ap position_of c.unwrap-acquire.ensures)
-      ∙ ap (λ (k : Kept). opened_in k.rooms t) c.self.view_is in
+    ∙ ap (λ (k : Kept). opened_in k.rooms t) c.self.view_is in
     let release : counts_of x.release ≡ counts_of c.args.clock.now = ap counts_of c.copy_from.ensures in
     let read : closed_as x ≡ entry
     = λ i. record { thread = thread i; position = position i; release = release i } in

@@ -24,7 +24,7 @@ invariant_of-self-2 c =
     let room : IsRoom w (length found) s = record { within = omega arith; wide = wide; own = tt } in
     let spare
     = subst (λ (k : Kept). length k.closed + length k.rooms + 1 ≤ k.capacity) (sym c.self.view_is)
-      c.in_ok-reserve.ensures.spare in
+    c.in_ok-reserve.ensures.spare in
     subst (λ (xs : List Room). IsKept w c.self.inside.closed.items xs found c.self.inside.closed.cap)
     (sym c.in-Ok.ensures.items) (kept_pushed s c.self.invariant none room spare)
 
@@ -38,8 +38,8 @@ returns-clause-same c =
       width = ap (λ (k : Kept). k.width) c.self.view_is ∙ c.in_ok-reserve.ensures.same.width;
       closed = ap (λ (k : Kept). k.closed) c.self.view_is ∙ c.in_ok-reserve.ensures.same.closed;
       opened =
-        ap opened_in c.in-Ok.ensures.items ∙ opened_push c.self.inside.rooms.items s refl none
-            ∙ ap opened_in same;
+          ap opened_in c.in-Ok.ensures.items ∙ opened_push c.self.inside.rooms.items s refl none
+          ∙ ap opened_in same;
       found = ap (λ (k : Kept). slice_index k.found) c.self.view_is ∙ c.in_ok-reserve.ensures.same.found;
     }
 

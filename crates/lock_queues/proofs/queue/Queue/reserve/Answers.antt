@@ -18,7 +18,7 @@ invariant_of-self-2 c =
     let lt = c.requires.within in
     let width = ap (λ (k : Kept). k.width) c.self.view_is in
     kept_grown _ _ c.self.invariant c.reserve.ensures.items c.grow.ensures.same c.grow.ensures.more
-        (omega arith)
+    (omega arith)
     c.reserve.ensures.capacity
 
 pub invariant_of-self-in_default : goal.invariant_of-self-in_default
@@ -28,5 +28,5 @@ invariant_of-self-in_default c =
     let lt = c.requires.within in
     let width = ap (λ (k : Kept). k.width) c.self.view_is in
     kept_grown _ _ c.self.invariant c.reserve.ensures.items c.grow.ensures.same c.grow.ensures.more
-        (omega arith)
+    (omega arith)
     c.reserve.ensures.capacity

@@ -57,15 +57,15 @@ returns-clause-found c =
     let seen = c.deref.ensures.value ∙ ap (λ (k : Kept). k.closed) c.self.view_is in
     let more
     = number_seen _ _ c.args.clock.now _ seen c.search-more.ensures.within c.search-more.ensures.counted
-      c.search-more.ensures.stopped before in
+    c.search-more.ensures.stopped before in
     let same = ap (λ (k : Kept). has_room_in k.rooms c.args.thread.0) c.self.view_is in
     let lt = thread_within c.args.thread.0 c.self.invariant (same ∙ c.requires.room) in
     found_set c.self.inside.found.items c.args.thread.0 c.search-more.result lt
     ∙ ap (λ n. with_row c.args.thread.0 n (slice_index c.self.inside.found.items)) more
     ∙ ap (λ (k : Kept). with_row c.args.thread.0
-        (number_counted (counts_of c.args.clock.now) (map closed_as c.args.self.now.closed))
-            (slice_index k.found))
-      c.self.view_is
+    (number_counted (counts_of c.args.clock.now) (map closed_as c.args.self.now.closed))
+    (slice_index k.found))
+    c.self.view_is
 
 pub returns-clause-latest : goal.returns-clause-latest
 returns-clause-latest c =
@@ -80,7 +80,7 @@ returns-clause-comparisons c =
     let seen = c.deref.ensures.value ∙ ap (λ (k : Kept). k.closed) c.self.view_is in
     let more
     = number_seen _ _ c.args.clock.now _ seen c.search-more.ensures.within c.search-more.ensures.counted
-      c.search-more.ensures.stopped before in
+    c.search-more.ensures.stopped before in
     let same = ap (λ (k : Kept). has_room_in k.rooms c.args.thread.0) c.self.view_is in
     let lt = thread_within c.args.thread.0 c.self.invariant (same ∙ c.requires.room) in
     let here = get_or_read c.self.inside.found.items c.args.thread.0 _ lt c.index.ensures 0 in

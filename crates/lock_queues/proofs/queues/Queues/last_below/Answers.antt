@@ -26,35 +26,34 @@ returns c =
     let threads : ℕ = old.limits.threads in
     let found : found_of new l t ≡ n
     = ap (λ (f : ℕ → ℕ → ℕ). f l t) c.seek.ensures.found.found
-      ∙ ap (λ (f : ℕ → ℕ). f t) (row_same l (with_row t n (found_of old l)) (found_of old))
-      ∙ row_same t n (found_of old l) in
+    ∙ ap (λ (f : ℕ → ℕ). f t) (row_same l (with_row t n (found_of old l)) (found_of old))
+    ∙ row_same t n (found_of old l) in
     let closed : closed_of new l ≡ qs = ap (λ (f : ℕ → List Closed). f l) c.seek.ensures.found.closed in
     let wide : new.limits.threads ≡ threads = ap (λ b. b.threads) c.seek.ensures.found.limits in
     let Reads : ℕ → List Closed → ℕ → Bor (List ℕ) → Type 0
     = λ k xs w r. (0 < k) × (counts_of r.now ≡ (closed_at xs (k - 1)).release) × (length r.now ≡ w) in
     let known : MatchOption c.latest.result (n ≡ 0) (Reads n qs threads)
     = subst (λ (w : ℕ). MatchOption c.latest.result (n ≡ 0) (Reads n qs w)) wide
-      (subst (λ (xs : List Closed). MatchOption c.latest.result (n ≡ 0) (Reads n xs new.limits.threads))
-          closed
-        (subst (λ (k : ℕ). MatchOption c.latest.result (k ≡ 0) (Reads k (closed_of new l) new.limits.threads))
-          found c.latest.ensures)) in
+    (subst (λ (xs : List Closed). MatchOption c.latest.result (n ≡ 0) (Reads n xs new.limits.threads))
+    closed
+    (subst (λ (k : ℕ). MatchOption c.latest.result (k ≡ 0) (Reads k (closed_of new l) new.limits.threads))
+    found c.latest.ensures)) in
     let answer = match_option c.latest.result (n ≡ 0) in
-    let before = c.seek.ensures.latest in
-    (
+    let before = c.seek.ensures.latest in (
       (refl, λ _. tt, c.seek.ensures.found),
       record {
         number = answer (n ≡ 0) (Reads n qs threads) (λ _. 0 < n) (λ z. z) (λ r h. h.0) known;
         latest =
-          answer (latest_counted clock qs ≡ None) (Reads n qs threads)
-          (λ r. IsSomeAnd (latest_counted clock qs) (λ q. q.release ≡ counts_of r.now))
-              (λ z. before.none_latest z)
-          (λ r h. subst (λ (o : Option Closed). IsSomeAnd o (λ q. q.release ≡ counts_of r.now))
+            answer (latest_counted clock qs ≡ None) (Reads n qs threads)
+            (λ r. IsSomeAnd (latest_counted clock qs) (λ q. q.release ≡ counts_of r.now))
+            (λ z. before.none_latest z)
+            (λ r h. subst (λ (o : Option Closed). IsSomeAnd o (λ q. q.release ≡ counts_of r.now))
             (sym (before.latest h.0)) (sym h.1))
-          known;
+            known;
         below =
-          answer (below_closed clock qs ≡ no_clock) (Reads n qs threads)
-          (λ r. counts_of r.now ≡ below_closed clock qs) (λ z. before.none_below z)
-          (λ r h. h.1 ∙ sym (before.below h.0)) known;
+            answer (below_closed clock qs ≡ no_clock) (Reads n qs threads)
+            (λ r. counts_of r.now ≡ below_closed clock qs) (λ z. before.none_below z)
+            (λ r h. h.1 ∙ sym (before.below h.0)) known;
         width = if_some c.latest.result (n ≡ 0) (Reads n qs threads) (λ r. length r.now ≡ threads)
             (λ r h. h.2) known;
         comparisons = c.seek.ensures.comparisons;

@@ -25,14 +25,14 @@ returns-clause-same c =
     let found = same.found ∙ ap (λ (q : Kept). slice_index q.found) is in
     record {
       closed =
-        (λ i m. lifted_same (λ (q : Kept). map closed_as q.closed) qs l new lt closed m i)
-        ∙ (λ i m. map closed_as ((alike m).0 i)) ∙ ap closed_of c.self.view_is;
+          (λ i m. lifted_same (λ (q : Kept). map closed_as q.closed) qs l new lt closed m i)
+          ∙ (λ i m. map closed_as ((alike m).0 i)) ∙ ap closed_of c.self.view_is;
       opened =
-        (λ i v m. lifted_same (λ (q : Kept). opened_in q.rooms) qs l new lt opened m i v)
-        ∙ (λ i v m. opened_in ((alike m).1 i) v) ∙ ap opened_of c.self.view_is;
+          (λ i v m. lifted_same (λ (q : Kept). opened_in q.rooms) qs l new lt opened m i v)
+          ∙ (λ i v m. opened_in ((alike m).1 i) v) ∙ ap opened_of c.self.view_is;
       found =
-        (λ i m. lifted_same (λ (q : Kept). slice_index q.found) qs l new lt found m i)
-        ∙ (λ i m. slice_index ((alike m).2 i)) ∙ ap found_of c.self.view_is;
+          (λ i m. lifted_same (λ (q : Kept). slice_index q.found) qs l new lt found m i)
+          ∙ (λ i m. slice_index ((alike m).2 i)) ∙ ap found_of c.self.view_is;
       limits = ap (λ (v : Tables). v.limits) c.self.view_is;
     }
 
@@ -51,8 +51,8 @@ returns-clause-ok c =
     let row = λ (q : Kept). with_row t true (has_room_in q.rooms) in
     on_ok c.make_room.result (has_room_in new.rooms ≡ row c.index_mut-queue.result.now) _
     (λ here.
-        (λ i v m. lifted_cell (λ (q : Kept). has_room_in q.rooms) qs t l new true lt (here ∙ ap row is) v m i)
-        ∙ ap (λ (f : ℕ → ℕ → Bool). with_row t (with_row l true (f t)) f) was)
+    (λ i v m. lifted_cell (λ (q : Kept). has_room_in q.rooms) qs t l new true lt (here ∙ ap row is) v m i)
+    ∙ ap (λ (f : ℕ → ℕ → Bool). with_row t (with_row l true (f t)) f) was)
     c.make_room.ensures.ok
 
 pub returns-clause-err : goal.returns-clause-err
@@ -67,6 +67,6 @@ returns-clause-err c =
     let row = λ (q : Kept). has_room_in q.rooms in
     on_err c.make_room.result (has_room_in new.rooms ≡ row c.index_mut-queue.result.now) _
     (λ here.
-        (λ i v m. lifted_same row qs l new lt (here ∙ ap row is) m i v)
-        ∙ (λ i v m. has_room_in ((alike m).1 i) v) ∙ ap has_room c.self.view_is)
+    (λ i v m. lifted_same row qs l new lt (here ∙ ap row is) m i v)
+    ∙ (λ i v m. has_room_in ((alike m).1 i) v) ∙ ap has_room c.self.view_is)
     c.make_room.ensures.err

@@ -29,27 +29,27 @@ returns-clause-found c =
     let read = read_entered qs t l c.index_mut-queue.result.now entered c.index_mut-queue.ensures.value in
     let found
     = c.seek.ensures.found
-      ∙ ap (λ (q : Kept).
-          with_row t (number_counted (counts_of clock) (map closed_as q.closed)) (slice_index q.found)
-          ) read.is in
+    ∙ ap (λ (q : Kept).
+    with_row t (number_counted (counts_of clock) (map closed_as q.closed)) (slice_index q.found)
+    ) read.is in
     let closed = ap (map closed_as) c.seek.ensures.closed
-        ∙ ap (λ (q : Kept). map closed_as q.closed) read.is in
+    ∙ ap (λ (q : Kept). map closed_as q.closed) read.is in
     let opened = ap opened_in c.seek.ensures.rooms ∙ ap (λ (q : Kept). opened_in q.rooms) read.is in
     let rooms = ap has_room_in c.seek.ensures.rooms ∙ ap (λ (q : Kept). has_room_in q.rooms) read.is in
     let new = c.seek.new.self in
     record {
       found =
-        (λ i m. lifted (λ (q : Kept). slice_index q.found) _ l new _ read.within found m i)
-        ∙ ap (λ (v : Tables). with_row l (with_row t (counted_of v l clock) (found_of v l)) (found_of v))
+          (λ i m. lifted (λ (q : Kept). slice_index q.found) _ l new _ read.within found m i)
+          ∙ ap (λ (v : Tables). with_row l (with_row t (counted_of v l clock) (found_of v l)) (found_of v))
           c.self.view_is;
       closed =
-        (λ i m. lifted_same (λ (q : Kept). map closed_as q.closed) _ l new read.within closed m i)
-        ∙ ap closed_of c.self.view_is;
+          (λ i m. lifted_same (λ (q : Kept). map closed_as q.closed) _ l new read.within closed m i)
+          ∙ ap closed_of c.self.view_is;
       opened =
-        (λ i v m. lifted_same (λ (q : Kept). opened_in q.rooms) _ l new read.within opened m i v)
-        ∙ ap opened_of c.self.view_is;
+          (λ i v m. lifted_same (λ (q : Kept). opened_in q.rooms) _ l new read.within opened m i v)
+          ∙ ap opened_of c.self.view_is;
       rooms =
-        (λ i v m. lifted_same (λ (q : Kept). has_room_in q.rooms) _ l new read.within rooms m i v)
-        ∙ ap has_room c.self.view_is;
+          (λ i v m. lifted_same (λ (q : Kept). has_room_in q.rooms) _ l new read.within rooms m i v)
+          ∙ ap has_room c.self.view_is;
       limits = ap (λ (v : Tables). v.limits) c.self.view_is;
     }

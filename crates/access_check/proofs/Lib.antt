@@ -1,5 +1,0 @@
-pub mod InPlace
-pub mod Beginning
-pub mod Narrow
-pub mod Stepping
-pub mod Judging

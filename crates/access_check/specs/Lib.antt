@@ -1,4 +1,0 @@
-pub mod Touches
-pub mod TouchList
-pub mod Tables
-pub mod Standing
