@@ -1,5 +1,7 @@
 -- What the tests meet the conditions by.
-use Rattle.std.proofs.Common.{◌≡◌, ℕ, ◌+◌, ◌<◌, ◌≤◌, Bool, true, cond, nat_eq, max, List, [], ◌∷◌, length, refl, sym, ap, subst, ◌∙◌, arith}
+use Rattle.std.proofs.Common.{◌≡◌, ℕ, ◌≤◌, Bool, cond, List, [], ◌∷◌, ◌++◌}
+use Rattle.std.proofs.Common.{length}
+use Rattle.std.proofs.Common.{refl, sym, ap, subst, ◌∙◌, arith}
 use Rattle.std.proofs.lemmas.Bool.{eq-eqb}
 use Rattle.event_core.specs.declared.ids.ThreadId.{ThreadId}
 use Rattle.event_core.specs.declared.ids.VarId.{VarId}
@@ -7,9 +9,9 @@ use Rattle.event_core.specs.declared.ids.SiteId.{SiteId}
 use Rattle.event_core.specs.declared.events.Event.{Event}
 use Rattle.event_core.specs.declared.events.Op.TheVariants.{Load}
 use Rattle.event_core.specs.Closed.{Closed, Has, first, later, is_counted}
-use Rattle.event_core.specs.Rows.{with_row, bump, join, no_clock}
+use Rattle.event_core.specs.Rows.{with_row}
 use Rattle.event_core.proofs.Growing.{row_same}
-use Rattle.hb_clocks.specs.State.{HbState, empty, after, po_row}
+use Rattle.hb_clocks.specs.State.{empty, after, po_row}
 use Rattle.hb_clocks.specs.Stands.{IsFew}
 use Rattle.lock_queues.specs.Searched.{CountsEarlier, IsAboveAll}
 
@@ -23,14 +25,16 @@ few_empty = record {
 
 -- the first event of a thread has position 1
 pub one_load : (t : ThreadId) (x : VarId) (s : SiteId) (v : ℕ)
-    → let e : Event = record { thread = t; op = Load x; site = s; value = v } in (after e empty).po t.0 t.0 ≡ 1
+    → let e : Event = record { thread = t; op = Load x; site = s; value = v } in (after e empty).po t.0 t.0
+    ≡ 1
 one_load t x s v =
     let e : Event = record { thread = t; op = Load x; site = s; value = v } in
     let here : (after e empty).po t.0 ≡ po_row e empty = row_same t.0 (po_row e empty) empty.po in
     ap (λ (f : ℕ → ℕ). f t.0) here ∙ ap (λ (b : Bool). cond {A = ℕ} b 1 0) (eq-eqb t.0 t.0 refl)
 
 -- a table that was written at a thread and a lock
-pub written : {A : Type 0} (f g : ℕ → ℕ → A) (t l : ℕ) (x : A) → f ≡ with_row t (with_row l x (g t)) g → f t l ≡ x
+pub written : {A : Type 0} (f g : ℕ → ℕ → A) (t l : ℕ) (x : A) → f ≡ with_row t (with_row l x (g t)) g
+    → f t l ≡ x
 written f g t l x e =
     ap (λ h. h t l) e ∙ ap (λ h. h l) (row_same t (with_row l x (g t)) g) ∙ row_same l x (g t)
 
@@ -50,3 +54,10 @@ earlier_one c (x ∷ []) e p q hp hq le is = ap (is_counted c) (only p hp ∙ sy
     only : (r : Closed) → Has r (x ∷ []) → r ≡ x
     only r (first b bs same) = same
     only r (later b bs h) = elim h [ ]
+
+-- the first section that is closed is one
+pub one_closed : (f g : ℕ → List Closed) (q : Closed) → f ≡ with_row 0 (g 0 ++ q ∷ []) g → g 0 ≡ []
+    → length (f 0) ≡ 1
+one_closed f g q e none =
+    ap (λ (h : ℕ → List Closed). length (h 0)) e ∙ ap length (row_same 0 (g 0 ++ q ∷ []) g)
+    ∙ ap (λ qs. length (qs ++ q ∷ [])) none

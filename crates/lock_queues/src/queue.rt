@@ -74,7 +74,8 @@ impl Queue {
         requires within { thread.0 < self.old.width }
         requires none { has_room_in self.old.rooms thread.0 ≡ false }
         ensures same { SameMeaning self.old self.new }
-        ensures ok { OnOk result (has_room_in self.new.rooms ≡ with_row thread.0 true (has_room_in self.old.rooms)) }
+        ensures ok { OnOk result
+            (has_room_in self.new.rooms ≡ with_row thread.0 true (has_room_in self.old.rooms)) }
         ensures err { OnErr result (has_room_in self.new.rooms ≡ has_room_in self.old.rooms) }
     {
         self.reserve(thread)?;
@@ -109,7 +110,8 @@ impl Queue {
     pub(crate) fn enter(&mut self, thread: ThreadId, mark: Mark)
         requires room { IsTrue (has_room_in self.old.rooms thread.0) }
         requires own { mark.thread ≡ thread.0 }
-        ensures opened { opened_in self.new.rooms ≡ with_row thread.0 mark.position (opened_in self.old.rooms) }
+        ensures opened { opened_in self.new.rooms
+            ≡ with_row thread.0 mark.position (opened_in self.old.rooms) }
         ensures rooms { has_room_in self.new.rooms ≡ has_room_in self.old.rooms }
         ensures closed { self.new.closed ≡ self.old.closed }
         ensures found { self.new.found ≡ self.old.found }
@@ -162,7 +164,8 @@ impl Queue {
             (number_counted (counts_of clock.now) (map closed_as self.old.closed)) }
         ensures joins { work.new.joins ≡ work.old.joins }
         ensures comparisons { work.new.comparisons + slice_index self.old.found thread.0
-            ≤ work.old.comparisons + number_counted (counts_of clock.now) (map closed_as self.old.closed) + 1 }
+            ≤ work.old.comparisons
+            + number_counted (counts_of clock.now) (map closed_as self.old.closed) + 1 }
     {
         let at = thread.0 as usize;
         let more = search(&self.closed, self.found[at], clock, work);

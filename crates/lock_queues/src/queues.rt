@@ -139,11 +139,14 @@ impl Queues {
         // The answer: the latest of the sections that the clock counts, and all that they bring.
         ensures number { MatchOption result (counted_of self.old lock.0 clock.now ≡ 0)
             (λ _. 0 < counted_of self.old lock.0 clock.now) }
-        ensures latest { MatchOption result (latest_counted (counts_of clock.now) (closed_of self.old lock.0) ≡ None)
+        ensures latest { MatchOption result
+            (latest_counted (counts_of clock.now) (closed_of self.old lock.0) ≡ None)
             (λ answer. IsSomeAnd (latest_counted (counts_of clock.now) (closed_of self.old lock.0))
             (λ section. section.release ≡ counts_of answer.now)) }
-        ensures below { MatchOption result (below_closed (counts_of clock.now) (closed_of self.old lock.0) ≡ no_clock)
-            (λ answer. counts_of answer.now ≡ below_closed (counts_of clock.now) (closed_of self.old lock.0)) }
+        ensures below { MatchOption result
+            (below_closed (counts_of clock.now) (closed_of self.old lock.0) ≡ no_clock)
+            (λ answer. counts_of answer.now
+            ≡ below_closed (counts_of clock.now) (closed_of self.old lock.0)) }
         ensures width { IfSome result (λ answer. length answer.now ≡ self.old.limits.threads) }
 
         // What it costs.
@@ -188,7 +191,8 @@ impl Queues {
         requires before { found_of self.old lock.0 thread.0 ≤ counted_of self.old lock.0 clock.now }
         requires earlier { CountsEarlier (counts_of clock.now) (closed_of self.old lock.0) }
         requires few { work.old.comparisons + length (closed_of self.old lock.0) < 2 ^ 63 }
-        ensures found { FindsCounted self.old self.new thread.0 lock.0 (counted_of self.old lock.0 clock.now) }
+        ensures found { FindsCounted self.old self.new thread.0 lock.0
+            (counted_of self.old lock.0 clock.now) }
         ensures latest { IsLatestBefore (counts_of clock.now) (closed_of self.old lock.0)
             (counted_of self.old lock.0 clock.now) }
         ensures joins { work.new.joins ≡ work.old.joins }

@@ -15,7 +15,8 @@ pub(crate) struct Section {
 // to be. The first of the others that is not counted ends the search.
 pub(crate) fn search(sections: &[Section], known: usize, clock: &Clock, work: &mut Work) -> usize
     requires within { known ≤ length sections.now }
-    requires widths { (k : ℕ) → k < length sections.now → (section_at sections.now k).acquire.thread < length clock.now }
+    requires widths { (k : ℕ) → k < length sections.now
+        → (section_at sections.now k).acquire.thread < length clock.now }
     requires few { work.old.comparisons + length sections.now < 2 ^ 63 }
     requires before { (k : ℕ) → k < known → IsCounted sections.now clock.now k }
     ensures counted { (k : ℕ) → k < result → IsCounted sections.now clock.now k }

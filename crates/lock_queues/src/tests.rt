@@ -90,7 +90,11 @@ fn room_is_made_for_one_thread_and_lock(rt: HostRuntime) -> Result<(), Fail> {
     let mut queues = Queues::new(rt.alloc(), &limits)?;
     let thread = ThreadId(1);
     assert!(rt; !queues.has_room(thread, LOCK));
-    queues.make_room(thread, LOCK)?;
+    if queues.make_room(thread, LOCK).is_err() {
+        // With one allocation refused the same call succeeds when it is made again.
+        assert!(rt; !queues.has_room(thread, LOCK));
+        queues.make_room(thread, LOCK)?;
+    }
     assert!(rt; queues.has_room(thread, LOCK));
     assert!(rt; !queues.has_room(ThreadId(0), LOCK));
     assert!(rt; !queues.has_room(thread, LockId(1)));

@@ -1,20 +1,31 @@
-use Rattle.std.proofs.Common.{◌≡◌, ℕ, ◌<◌, length, List, ap, sym, subst, ◌∙◌, arith}
+use Rattle.std.proofs.Common.{ℕ, List, true, ap, ◌∙◌, arith}
 use Rattle.event_core.specs.Closed.{Closed}
-use Rattle.lock_queues.specs.Queues.{Tables, closed_of, opened_of, has_room}
-use Rattle.lock_queues.proofs.Testing.{written, above_none}
+use Rattle.lock_queues.specs.Queues.{closed_of, opened_of, has_room}
+use Rattle.lock_queues.proofs.Testing.{written, above_none, one_closed}
 use Rattle.lock_queues.proofs.tests.close_one.Goals as goal
 
 pub enter-requires-clause-room : goal.enter-requires-clause-room
-enter-requires-clause-room c = written _ _ _ _ _ c.in_ok-make_room.ensures.ok
+enter-requires-clause-room c =
+    written (has_room c.make_room.new.self) (has_room c.args.queues.now) c.args.thread.0 0 true
+    c.in_ok-make_room.ensures.ok
 
 pub leave-requires-clause-entered : goal.leave-requires-clause-entered
 leave-requires-clause-entered c =
-    let opened = written _ _ _ _ _ c.enter.ensures.opened in
+    let opened
+    = written (opened_of c.enter.new.self) (opened_of c.make_room.new.self) c.args.thread.0 0
+    c.mark.result.position
+    c.enter.ensures.opened in
     let position = ap (λ m. m.position) c.mark.ensures.exact in
     let marked = c.requires.marked in
     omega arith
 
 pub leave-requires-clause-above : goal.leave-requires-clause-above
 leave-requires-clause-above c =
-    above_none _ _
-    (ap (λ (f : ℕ → List Closed). f 0) (c.enter.ensures.closed ∙ c.in_ok-make_room.ensures.same.closed) ∙ c.requires.none)
+    let same = c.enter.ensures.closed ∙ c.in_ok-make_room.ensures.same.closed in
+    above_none _ _ (ap (λ (f : ℕ → List Closed). f 0) same ∙ c.requires.none)
+
+pub returns-clause-one : goal.returns-clause-one
+returns-clause-one c =
+    let same = c.enter.ensures.closed ∙ c.in_ok-make_room.ensures.same.closed in
+    one_closed (closed_of c.leave.new.self) (closed_of c.enter.new.self) _ c.leave.ensures.closed
+    (ap (λ (f : ℕ → List Closed). f 0) same ∙ c.requires.none)
