@@ -7,7 +7,7 @@ mod hb;
 mod holds;
 pub mod laws;
 mod mark;
-mod rows;
+pub mod rows;
 mod step;
 mod work;
 

@@ -9,8 +9,8 @@ use crate::work::Work;
 use event_core::{OutOfMemory, ThreadId};
 use std::alloc::Global;
 
-// The row takes the greater numbers.
-pub(crate) fn join_row(rows: &mut [Clock], at: usize, other: &Clock, work: &mut Work)
+/// The row takes the greater numbers of the other clock, counted as one join.
+pub fn join_row(rows: &mut [Clock], at: usize, other: &Clock, work: &mut Work)
     requires room { at < length rows.old }
     requires wide { widths_of rows.old at ≡ length other.now }
     requires few { work.old.joins < 2 ^ 63 }
@@ -22,8 +22,8 @@ pub(crate) fn join_row(rows: &mut [Clock], at: usize, other: &Clock, work: &mut 
     rows[at].join(other, work);
 }
 
-// The row becomes the clock.
-pub(crate) fn copy_row(rows: &mut [Clock], at: usize, other: &Clock)
+/// The row becomes the clock, uncounted.
+pub fn copy_row(rows: &mut [Clock], at: usize, other: &Clock)
     requires room { at < length rows.old }
     requires wide { widths_of rows.old at ≡ length other.now }
     ensures rows { rows_of rows.new ≡ with_row at (counts_of other.now) (rows_of rows.old) }
@@ -32,8 +32,8 @@ pub(crate) fn copy_row(rows: &mut [Clock], at: usize, other: &Clock)
     rows[at].copy_from(other);
 }
 
-// One row takes the greater numbers of another.
-pub(crate) fn join_rows(rows: &mut [Clock], to: usize, from: usize, work: &mut Work)
+/// One row takes the greater numbers of another, counted as one join.
+pub fn join_rows(rows: &mut [Clock], to: usize, from: usize, work: &mut Work)
     requires to { to < length rows.old }
     requires from { from < length rows.old }
     requires apart { from ≢ to }
@@ -53,8 +53,8 @@ pub(crate) fn join_rows(rows: &mut [Clock], to: usize, from: usize, work: &mut W
     }
 }
 
-// One row becomes as another.
-pub(crate) fn copy_rows(rows: &mut [Clock], to: usize, from: usize)
+/// One row becomes as another, uncounted.
+pub fn copy_rows(rows: &mut [Clock], to: usize, from: usize)
     requires to { to < length rows.old }
     requires from { from < length rows.old }
     requires apart { from ≢ to }
@@ -71,8 +71,8 @@ pub(crate) fn copy_rows(rows: &mut [Clock], to: usize, from: usize)
     }
 }
 
-// A thread's own number grows by one.
-pub(crate) fn bump_row(rows: &mut [Clock], thread: ThreadId)
+/// A thread's own number grows by one.
+pub fn bump_row(rows: &mut [Clock], thread: ThreadId)
     requires room { thread.0 < length rows.old }
     requires within { thread.0 < widths_of rows.old thread.0 }
     requires few { rows_of rows.old thread.0 thread.0 + 1 < 2 ^ 64 }
@@ -85,16 +85,16 @@ pub(crate) fn bump_row(rows: &mut [Clock], thread: ThreadId)
     row.set(thread, count + 1);
 }
 
-// Whether the row's clock was made.
-pub(crate) fn is_made(rows: &[Clock], width: usize, at: usize) -> bool
+/// Whether the row's clock was made.
+pub fn is_made(rows: &[Clock], width: usize, at: usize) -> bool
     requires { 0 < width }
     ensures { IsTrue result ↔ IsMade width rows.now at }
 {
     at < rows.len() && rows[at].width() == width
 }
 
-// The row's clock, or else that of zeros.
-pub(crate) fn row_or<'a>(rows: &'a [Clock], at: usize, zeros: &'a Clock) -> &'a Clock
+/// The row's clock, or else that of zeros, which have its width.
+pub fn row_or<'a>(rows: &'a [Clock], at: usize, zeros: &'a Clock) -> &'a Clock
     requires wide { AreWide (length zeros.now) rows.now }
     requires zeros { zeros.now ≡ replicate (length zeros.now) 0 }
     ensures width { length result.now ≡ length zeros.now }
@@ -110,8 +110,9 @@ pub(crate) fn row_or<'a>(rows: &'a [Clock], at: usize, zeros: &'a Clock) -> &'a 
     row
 }
 
-// Makes the row's clock, with zeros, where it was not made.
-pub(crate) fn make_row(
+/// Makes the row's clock, with zeros, where it was not made. A refused growth is answered by
+/// `OutOfMemory`, and changes no number.
+pub fn make_row(
     rows: &mut Vec<Clock>,
     alloc: Global,
     width: usize,

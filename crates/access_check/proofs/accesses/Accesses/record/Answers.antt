@@ -1,0 +1,29 @@
+use Rattle.std.proofs.Common.{◌≡◌, ◌<◌, ◌≤◌, List, ◌++◌, ℕ, length, take, drop, sym, ap, subst, ◌∙◌, arith}
+use Rattle.std.proofs.Math.Seq.{take-append_seam}
+use Rattle.access_check.specs.Touches.{AreNarrow}
+use Rattle.access_check.specs.Tables.{Tables, touches_at}
+use Rattle.access_check.proofs.accesses.Accesses.record.Goals as goal
+
+written : {A : Type 0} (n : ℕ) (xs ys : List A) → n ≡ length xs → take n (xs ++ ys) ≡ xs
+written n xs ys is = ap (λ k. take k (xs ++ ys)) is ∙ take-append_seam xs ys
+
+pub invariant_of-self : goal.invariant_of-self
+invariant_of-self c =
+    let counts : take c.self.inside.counts.len (c.count_event-position.new.counts
+    ++ drop (length c.count_event-position.new.counts) c.self.inside.counts.items)
+    ≡ c.count_event-position.new.counts
+    = written _ _ _ (omega arith) in
+    let vars : take c.self.inside.vars.len (c.note_access.new.vars
+    ++ drop (length c.note_access.new.vars) c.self.inside.vars.items) ≡ c.note_access.new.vars
+    = written _ _ _ (omega arith) in
+    let few : length c.self.inside.counts.items ≤ c.self.inside.limits.threads = c.self.invariant.few in
+    let same : length c.self.inside.counts.items ≡ length c.args.self.now.counts
+    = ap (λ (t : Tables). length t.counts) c.self.view_is in
+    let within : c.args.event.now.thread.0 < length c.args.self.now.counts = c.requires.room.thread in
+    rw (counts, vars) (record {
+      few = omega arith;
+      narrow = c.note_access.ensures.narrow c.self.inside.limits.threads (omega arith)
+          (λ y. subst (λ ls. AreNarrow c.self.inside.limits.threads (touches_at ls y))
+          (sym c.deref_mut-2.ensures.value)
+          (c.self.invariant.narrow y));
+    })

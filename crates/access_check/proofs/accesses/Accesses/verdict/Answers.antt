@@ -1,0 +1,10 @@
+use Rattle.std.proofs.Common.{◌∷◌, [], ◌++◌, length, sym, subst}
+use Rattle.event_core.specs.Verdict.{IsVerdict}
+use Rattle.hb_clocks.specs.Counts.{counts_of}
+use Rattle.access_check.proofs.Judging.{verdict_stands}
+use Rattle.access_check.proofs.accesses.Accesses.verdict.Goals as goal
+
+pub returns-clause-verdict : goal.returns-clause-verdict
+returns-clause-verdict c = λ log stands counted.
+    subst (IsVerdict (log ++ c.args.event.now ∷ []) (length log)) (sym c.find.ensures)
+    (verdict_stands log c.args.event.now c.args.self.now (counts_of c.args.clock.now) stands counted)

@@ -1,0 +1,4 @@
+pub mod Touches
+pub mod TouchList
+pub mod Tables
+pub mod Standing

@@ -1,0 +1,135 @@
+-- The clocks of an event, and the rows of clocks after it.
+use Rattle.std.proofs.Common.{◌≡◌, ℕ, ◌<◌, ◌+◌, List, [], ◌∷◌, ◌++◌, length, sym, ap, subst, ◌∙◌, arith}
+use Rattle.std.proofs.Common.{◌⊎◌, ◌↔◌}
+use mathlib.Core.Logic.{inl, inr}
+use Rattle.event_core.specs.declared.bounds.Limits.{Limits}
+use Rattle.event_core.specs.declared.events.Event.{Event}
+use Rattle.event_core.specs.declared.events.Op.TheVariants.{Fork}
+use Rattle.event_core.specs.declared.ids.ThreadId.{ThreadId}
+use Rattle.event_core.specs.Count.{events_of, Past, LockPast}
+use Rattle.event_core.specs.Order.{Hb, here}
+use Rattle.event_core.specs.Orderly.{Orderly}
+use Rattle.event_core.specs.Refusal.{WellFormed}
+use Rattle.event_core.specs.Rows.{Counted, RowsStand, rows_after}
+use Rattle.event_core.specs.Turn.{Turn, Accesses, Opens, Closes, Forks, Joins, Inner}
+use Rattle.event_core.specs.Wcp.{Strict, rule_c_right}
+use Rattle.event_core.proofs.Chains.{hb_forward, hb_trans}
+use Rattle.event_core.proofs.Counting.{counted_join, counted_longer, events_own, events_other}
+use Rattle.event_core.proofs.Growing.{Leads, leads_cases, rows_stand, led_row, other_row}
+use Rattle.event_core.proofs.Legality.{orderly}
+use Rattle.event_core.proofs.Main.{strict_forward}
+use Rattle.event_core.proofs.Stable.{longer, back, hb_too, strict_too}
+use Rattle.event_core.proofs.Turning.{Fits, fits}
+use Rattle.hb_clocks.proofs.Brings.{clock_counted, own_row, forked_none}
+use Rattle.hb_clocks.proofs.HbSteps.{hb_to, hb_from}
+use Rattle.wcp_laws.specs.Standing.{Stands}
+use Rattle.wcp_laws.specs.State.{State}
+use Rattle.wcp_laws.specs.Step.{turn, extra, hb_row, strict_row}
+use Rattle.wcp_laws.proofs.Brings.{counted_brought}
+use Rattle.wcp_laws.proofs.ClosedSections.{counted_behind}
+use Rattle.wcp_laws.proofs.Sources.{counted_under}
+use Rattle.wcp_laws.proofs.StrictSteps.{Adds, strict_to, strict_from}
+
+pub turn_fits : (log : List Event) (e : Event) (s : State) → Stands log s → Fits log e (turn e s)
+turn_fits log e s st = fits log e (s.depth e.thread.0) (λ l. st.depths e.thread l)
+
+-- what an event adds to the strict clock of its thread is counted
+counted_adds : (log : List Event) (s : State) → Stands log s → (t : ThreadId) (k : Turn)
+    → Counted log (Adds log t k) (extra t k s)
+counted_adds log s st t (Accesses x k) = counted_under log s st x k t
+counted_adds log s st t (Closes l) = counted_behind log s st t l
+counted_adds log s st t (Opens l) = counted_brought log (Strict log) s.strict st.strict (Opens l)
+counted_adds log s st t (Joins u) = counted_brought log (Strict log) s.strict st.strict (Joins u)
+counted_adds log s st t (Forks u) = counted_brought log (Strict log) s.strict st.strict (Forks u)
+counted_adds log s st t Inner = counted_brought log (Strict log) s.strict st.strict Inner
+
+module _ (log : List Event) (e : Event) (s : State) (st : Stands log s) where
+  fit : Fits log e (turn e s)
+  fit = turn_fits log e s st
+
+  -- the event's clock of happens-before counts what is below it
+  pub hb_counted : Counted (log ++ e ∷ []) (λ i. Hb (log ++ e ∷ []) i (length log)) (hb_row e s)
+  hb_counted = clock_counted log (Hb log) (LockPast log (Hb log)) s.hb st.hb.thread st.hb.lock st.own e
+      (turn e s) (Hb (log ++ e ∷ []))
+      (λ i. here) here (hb_to log e (turn e s) fit) (hb_from log e (turn e s) fit)
+
+  -- its own number is that of its thread's events
+  pub own_clock : hb_row e s e.thread.0 ≡ events_of log e.thread + 1
+  own_clock = own_row log (Hb log) (LockPast log (Hb log)) s.hb st.hb.thread st.hb.lock st.own e.thread
+      (turn e s)
+
+  -- of a thread that it forks there is no event
+  pub forked_clock : Orderly (log ++ e ∷ []) → (t : ThreadId) → e.op ≡ Fork t
+      → hb_row e s t.0 ≡ events_of (log ++ e ∷ []) t
+  forked_clock ord t o =
+      forked_none log (Hb log) (LockPast log (Hb log)) s.hb st.hb.thread st.hb.lock st.own e (turn e s)
+      (Hb (log ++ e ∷ []))
+      (λ i. here) here (hb_to log e (turn e s) fit) (hb_from log e (turn e s) fit) ord t o
+
+module _ (limits : Limits) (log : List Event) (e : Event) (s : State)
+    (w : WellFormed limits (log ++ e ∷ []))
+    (st : Stands log s) where
+  ord : Orderly (log ++ e ∷ [])
+  ord = orderly limits (log ++ e ∷ []) w
+
+  same_hb : (i j : ℕ) → j < length log → Hb log i j ↔ Hb (log ++ e ∷ []) i j
+  same_hb i j lt = (hb_too (longer log (e ∷ [])) lt, hb_too (back (longer log (e ∷ []))) lt)
+
+  same_strict : (i j : ℕ) → j < length log → Strict log i j ↔ Strict (log ++ e ∷ []) i j
+  same_strict i j lt = (strict_too (longer log (e ∷ [])) lt, strict_too (back (longer log (e ∷ []))) lt)
+
+  -- the event's strict clock counts what strictly precedes it
+  strict_counted : Counted (log ++ e ∷ []) (λ i. Strict (log ++ e ∷ []) i (length log)) (strict_row e s)
+  strict_counted =
+      counted_longer log e (λ i. Past log (Strict log) e.thread i ⊎ Adds log e.thread (turn e s) i)
+      (λ i. Strict (log ++ e ∷ []) i (length log)) (strict_row e s)
+      (strict_from log e ord (turn e s) (turn_fits log e s st))
+      (λ i lt p. strict_to log e ord (turn e s) (turn_fits log e s st) i p) (λ i p. strict_forward p)
+      (counted_join log (Past log (Strict log) e.thread) (Adds log e.thread (turn e s))
+      (s.strict.thread e.thread.0) (extra e.thread (turn e s) s)
+      (st.strict.thread e.thread) (counted_adds log s st e.thread (turn e s)))
+
+  pub hb_stands : RowsStand (log ++ e ∷ []) (Hb (log ++ e ∷ []))
+      (rows_after e.thread (turn e s) (hb_row e s) s.hb)
+  hb_stands =
+      rows_stand limits log e w ord (Hb log) (Hb (log ++ e ∷ [])) same_hb (λ i j h. hb_forward h)
+      (λ i g j a b. hb_trans a b) (turn e s) (turn_fits log e s st) (hb_row e s) s.hb st.hb
+      (hb_counted log e s st)
+
+  pub strict_stands : RowsStand (log ++ e ∷ []) (Strict (log ++ e ∷ []))
+      (rows_after e.thread (turn e s) (strict_row e s) s.strict)
+  strict_stands =
+      rows_stand limits log e w ord (Strict log) (Strict (log ++ e ∷ [])) same_strict
+      (λ i j h. (let lt : i < j = strict_forward h in omega arith))
+      (λ i g j a b. rule_c_right a b) (turn e s) (turn_fits log e s st) (strict_row e s) s.strict st.strict
+      strict_counted
+
+  -- a thread's own number is that of its events
+  module _ (t : ThreadId) where
+    led : Leads e t → (rows_after e.thread (turn e s) (hb_row e s) s.hb).thread t.0 ≡ hb_row e s
+    led = led_row limits log e w ord (Hb log) (Hb (log ++ e ∷ [])) same_hb (λ i j h. hb_forward h)
+        (λ i g j a b. hb_trans a b) (turn e s) (turn_fits log e s st) t (hb_row e s) s.hb.thread
+
+    other : (Leads e t → ⊥)
+        → (rows_after e.thread (turn e s) (hb_row e s) s.hb).thread t.0 ≡ s.hb.thread t.0
+    other = other_row limits log e w ord (Hb log) (Hb (log ++ e ∷ [])) same_hb (λ i j h. hb_forward h)
+        (λ i g j a b. hb_trans a b) (turn e s) (turn_fits log e s st) t (hb_row e s) s.hb.thread
+
+    pub own_stands : (rows_after e.thread (turn e s) (hb_row e s) s.hb).thread t.0 t.0
+        ≡ events_of (log ++ e ∷ []) t
+    unfolding Leads
+    own_stands = go (leads_cases e t)
+      where
+        mine : hb_row e s e.thread.0 ≡ events_of (log ++ e ∷ []) e.thread
+        mine = own_clock log e s st ∙ sym (events_own log e)
+
+        go : Leads e t ⊎ (Leads e t → ⊥)
+            → (rows_after e.thread (turn e s) (hb_row e s) s.hb).thread t.0 t.0
+            ≡ events_of (log ++ e ∷ []) t
+        go (inl (inl a)) =
+            ap (λ (row : ℕ → ℕ). row t.0) (led (inl a))
+            ∙ subst (λ (v : ThreadId). hb_row e s v.0 ≡ events_of (log ++ e ∷ []) v) a mine
+        go (inl (inr o)) =
+            ap (λ (row : ℕ → ℕ). row t.0) (led (inr o)) ∙ forked_clock log e s st ord t o
+        go (inr n) =
+            ap (λ (row : ℕ → ℕ). row t.0) (other n) ∙ st.own t ∙ sym (events_other log e t (λ a. n (inl a)))

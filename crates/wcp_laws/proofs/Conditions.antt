@@ -1,0 +1,53 @@
+-- At each legal event the numbers are as the step asks, with no log.
+use Rattle.std.proofs.Common.{◌≡◌, ◌<◌, ◌≤◌, ◌+◌, List, [], ◌∷◌, ◌++◌, arith, take}
+use Rattle.event_core.specs.declared.bounds.Limits.{Limits}
+use Rattle.event_core.specs.declared.events.Event.{Event}
+use Rattle.event_core.specs.declared.ids.LockId.{LockId}
+use Rattle.event_core.specs.Count.{events_of}
+use Rattle.event_core.specs.Log.{depth}
+use Rattle.event_core.specs.Refusal.{WellFormed}
+use Rattle.event_core.specs.Turn.{Closes}
+use Rattle.event_core.proofs.Growth.{well_formed_front}
+use Rattle.event_core.proofs.Legality.{orderly}
+use Rattle.wcp_laws.specs.Conditions.{OwnIsEvents, SoundWhereLegal}
+use Rattle.wcp_laws.specs.Standing.{Stands}
+use Rattle.wcp_laws.specs.State.{State}
+use Rattle.wcp_laws.specs.Step.{turn}
+use Rattle.wcp_laws.proofs.Clocks.{turn_fits}
+use Rattle.wcp_laws.proofs.OpenSections.{closes_at, open_by_depth}
+use Rattle.wcp_laws.proofs.Ordering.{counted_earlier, releases_above}
+
+pub own_is_events : OwnIsEvents
+own_is_events log s t st = st.own t
+
+-- the section that an event closes was opened
+opened_before : (limits : Limits) (log : List Event) (e : Event) (s : State)
+    → WellFormed limits (log ++ e ∷ []) → Stands log s
+    → (l : LockId) → turn e s ≡ Closes l → 0 < s.opened e.thread.0 l.0
+opened_before limits log e s w st l is =
+    let ord = orderly limits (log ++ e ∷ []) w in
+    let closed = closes_at log e ord (turn e s) (turn_fits log e s st) l is in
+    let one : depth log e.thread l ≡ 1 = closed.1 in
+    let section = open_by_depth log e ord e.thread l (omega arith) in
+    let at : s.opened e.thread.0 l.0 ≡ events_of (take section.0 log) e.thread + 1
+    = st.opened e.thread l section.0 section.1 in
+    omega arith
+
+-- a thread's strict clock counts no more of its events than there are
+own_within : (log : List Event) (e : Event) (s : State) → Stands log s
+    → s.strict.thread e.thread.0 e.thread.0 ≤ s.hb.thread e.thread.0 e.thread.0
+own_within log e s st =
+    let own : s.hb.thread e.thread.0 e.thread.0 ≡ events_of log e.thread = st.own e.thread in
+    let within : s.strict.thread e.thread.0 e.thread.0 ≤ events_of log e.thread
+    = (st.strict.thread e.thread e.thread).within in
+    omega arith
+
+pub sound_where_legal : SoundWhereLegal
+sound_where_legal limits log e s w st = record {
+  above_closed = λ l q u is h. (releases_above limits log e s l w st is).0 q u h;
+  above_others = λ l x k t u is. (releases_above limits log e s l w st is).1 x k t u;
+  earlier =
+      λ l p q. counted_earlier limits log s l e.thread p q (well_formed_front limits log (e ∷ []) w) st;
+  own_strict = own_within log e s st;
+  opened = opened_before limits log e s w st;
+}

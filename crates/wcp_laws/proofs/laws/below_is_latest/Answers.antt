@@ -1,0 +1,5 @@
+use Rattle.wcp_laws.proofs.Ordering.{below_is_latest}
+use Rattle.wcp_laws.proofs.laws.below_is_latest.Goals as goal
+
+pub returns : goal.returns
+returns c = below_is_latest

@@ -1,0 +1,7 @@
+pub mod Conditions
+pub mod Examples
+pub mod Found
+pub mod Replay
+pub mod Standing
+pub mod State
+pub mod Step
