@@ -1,15 +1,12 @@
 -- An event makes no number greater by more than one.
-use Rattle.std.proofs.Common.{◌≡◌, ℕ, ◌≤◌, ◌+◌, ◌-◌, max, Bool, true, false, cond, nat_eq, ap, subst, sym}
-use Rattle.std.proofs.Common.{◌∙◌, arith}
+use Rattle.std.proofs.Common.{ℕ, ◌≤◌, ◌+◌, ◌-◌, Bool, true, false, cond, nat_eq, arith}
 use Rattle.event_core.specs.declared.ids.ThreadId.{ThreadId}
 use Rattle.event_core.specs.declared.ids.LockId.{LockId}
-use Rattle.event_core.specs.declared.events.Event.{Event}
 use Rattle.event_core.specs.declared.events.Op.{Op}
 use Rattle.event_core.specs.declared.events.Op.TheVariants.{Load, Store, Acquire, Release, Fork, Join}
-use Rattle.event_core.specs.Rows.{join, bump, with_row, Rows, to_child, to_lock, brought}
+use Rattle.event_core.specs.Rows.{join, with_row, Rows, to_child, to_lock, brought}
 use Rattle.event_core.specs.Turn.{Turn, Accesses, Opens, Closes, Forks, Joins, Inner}
 use Rattle.hb_clocks.specs.State.{HbState, empty, joins_of, turn, without_locks, clock_after, depth_after}
-use Rattle.hb_clocks.specs.State.{after}
 use Rattle.hb_clocks.specs.Stands.{IsAtMost, GrowsByOne}
 use Rattle.hb_clocks.proofs.TableSteps.{brought_few}
 

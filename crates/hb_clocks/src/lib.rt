@@ -9,6 +9,8 @@ pub mod laws;
 mod mark;
 pub mod rows;
 mod step;
+#[cfg(test)]
+mod tests;
 mod work;
 
 pub use clock::Clock;

@@ -1,4 +1,4 @@
-use Rattle.std.proofs.Common.{◌≡◌, nat_eq, inl, inr, ◌⊎◌}
+use Rattle.std.proofs.Common.{inl, inr}
 use Rattle.std.proofs.lemmas.Bool.{cases_eq, eq-eqb, eqb-true}
 use Rattle.hb_clocks.specs.Holds.{hold_at}
 use Rattle.hb_clocks.proofs.HoldLaws.{alone_holder, not_alone}
