@@ -4,6 +4,7 @@ pub mod Lines
 pub mod Pieces
 pub mod WindowLaws
 pub mod Outputs
+pub mod Turns
 pub mod Pulls
 pub mod Written
 pub mod NameGrowth

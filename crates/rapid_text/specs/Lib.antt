@@ -4,5 +4,6 @@ pub mod Faults
 pub mod Events
 pub mod Texts
 pub mod Cutting
+pub mod Turns
 pub mod Pulling
 pub mod Reading

@@ -143,7 +143,8 @@ impl Cutter {
     /// Fails from now on.
     fn fail(&mut self, cause: Cause) -> TextFault
         ensures fault { result ≡ record { line = self.old.unfinished; cause = cause } }
-        ensures failed { self.new ≡ record self.old { line = self.old.unfinished; failed = Some self.old.unfinished } }
+        ensures failed { self.new ≡
+            record self.old { line = self.old.unfinished; failed = Some self.old.unfinished } }
         ensures kept { length self.new.kept ≤ 1025 }
         ensures unfinished { Lacks 10 self.new.kept }
     {

@@ -9,6 +9,7 @@ ghost use Rattle.std.specs.Result.{IsErrOf};
 ghost use Rattle.rapid_text.specs.Cutting.{Cutting, most, failed_at};
 ghost use Rattle.rapid_text.specs.Tables.{TablesGrow};
 ghost use Rattle.rapid_text.specs.Events.{IsOfNames};
+ghost use Rattle.rapid_text.specs.Turns.{TakeBytes};
 ghost use Rattle.rapid_text.specs.Pulling.{Pulling, unpulled, Answers, NoAnswer, pulling_of};
 
 use crate::causes::{Cause, TextFault};
@@ -44,6 +45,10 @@ fn next_event<I: Input>(
     ensures healthy { OnOk result (I.failed input.new ≡ I.failed input.old) }
     ensures room { OnOk result (cutter.new.taken + length window.new + 4096 * turns.new ≤ most) }
     ensures turns { turns.new ≤ turns.old }
+    ensures bytes { OnOk result (ended.new ≡ false
+        → TakeBytes turns.old (I.left input.old) turns.new (I.left input.new)) }
+    ensures read { IfErr result (λ f. f.cause ≡ Cause.Read → I.failed input.new ≡ false
+        → TakeBytes turns.old (I.left input.old) turns.new (I.left input.new)) }
     ensures grows { TablesGrow cutter.old.names cutter.new.names }
     ensures named { IfOk result (λ e. IfSome e (IsOfNames cutter.new.names)) }
     ensures empty { ended.new ≡ true → length cutter.new.kept + length window.new ≡ 0 }
@@ -123,6 +128,11 @@ impl Puller {
         // A failure of the input is never passed over.
         ensures healthy { OnOk result (I.failed input.new ≡ I.failed input.old) }
         ensures turns { self.new.turns ≤ self.old.turns }
+        // Each turn took a byte, but for the one that found the end of the text or a failure.
+        ensures bytes { OnOk result (self.new.ended ≡ false
+            → TakeBytes self.old.turns (I.left input.old) self.new.turns (I.left input.new)) }
+        ensures read { IfErr result (λ f. f.cause ≡ Cause.Read → I.failed input.new ≡ false
+            → TakeBytes self.old.turns (I.left input.old) self.new.turns (I.left input.new)) }
         // Names were only added, and the event's numbers have names.
         ensures grows { TablesGrow self.old.names self.new.names }
         ensures named { IfOk result (λ e. IfSome e (IsOfNames self.new.names)) }

@@ -4,10 +4,11 @@ ghost use Rattle.std.specs.Result.{IsErrOf};
 ghost use Rattle.rapid_text.specs.Cutting.{failed_at};
 ghost use Rattle.rapid_text.specs.Tables.{TablesGrow};
 ghost use Rattle.rapid_text.specs.Events.{IsOfNames};
+ghost use Rattle.rapid_text.specs.Turns.{TakeBytes};
 ghost use Rattle.rapid_text.specs.Pulling.{unpulled, Answers, NoAnswer};
 ghost use Rattle.rapid_text.specs.Reading.{Reading};
 
-use crate::causes::TextFault;
+use crate::causes::{Cause, TextFault};
 use crate::input::Input;
 use crate::names::Names;
 use crate::puller::Puller;
@@ -68,6 +69,11 @@ impl<I: Input> Reader<I> {
         // A failure of the input is never passed over.
         ensures healthy { OnOk result (self.new.read_failed ≡ self.old.read_failed) }
         ensures turns { self.new.text.turns ≤ self.old.text.turns }
+        // Each turn took a byte, but for the one that found the end of the text or a failure.
+        ensures bytes { OnOk result (self.new.text.ended ≡ false
+            → TakeBytes self.old.text.turns self.old.left self.new.text.turns self.new.left) }
+        ensures read { IfErr result (λ f. f.cause ≡ Cause.Read → self.new.read_failed ≡ false
+            → TakeBytes self.old.text.turns self.old.left self.new.text.turns self.new.left) }
         // Names were only added, and the event's numbers have names.
         ensures grows { TablesGrow self.old.text.names self.new.text.names }
         ensures named { IfOk result (λ e. IfSome e (IsOfNames self.new.text.names)) }

@@ -62,6 +62,7 @@ impl Window {
         requires { self.old ≡ [] }
         ensures bytes { IfOk result (λ n. Consumes (I.left input.old) (I.left input.new) self.new) }
         ensures end { IfOk result (λ n. n ≡ 0 → IsAtEnd (I.left input.new) × (self.new ≡ [])) }
+        ensures len { IfOk result (λ n. length self.new ≡ n) }
         ensures short { length self.new ≤ 4096 }
         ensures kept { OnErr result (Keeps (I.left input.old) (I.left input.new)) }
         ensures none { OnErr result (self.new ≡ []) }

@@ -1,26 +1,17 @@
 -- How far a text is judged: the lines that were taken make a well-formed log.
-use Rattle.std.proofs.Common.{◌≡◌, ℕ, zero, suc, List, [], ◌∷◌, ◌++◌, Option, Some, None, Result, Ok, Err, length, map, take, slice_get, refl, sym, ap, ap₂, subst, ◌∙◌, append_assoc, append-nil, length-append, ◌+◌, ◌≤◌, arith, ◌⊎◌, inl, inr, Bool, true, false, option_map, IfSome}
+use Rattle.std.proofs.Common.{◌≡◌, ℕ, suc, List, [], ◌∷◌, ◌++◌, Some, Ok, Err, length, take, slice_get}
+use Rattle.std.proofs.Common.{refl, sym, ap, ap₂, subst, ◌∙◌, append_assoc, append-nil}
 use Rattle.event_core.specs.declared.bounds.Limits.{Limits}
 use Rattle.event_core.specs.declared.events.Event.{Event}
 use Rattle.event_core.specs.declared.replies.Refusal.{Refusal}
-use Rattle.event_core.specs.declared.replies.Refusal.TheVariants.{OutOfMemory}
-use Rattle.event_core.specs.Refusal.{refusal, WellFormed, event_of, open_acquires}
-use Rattle.event_core.proofs.Slots.{slots}
+use Rattle.event_core.specs.Refusal.{refusal, WellFormed, event_of}
 use Rattle.rapid_text.specs.declared.causes.TextFault.{TextFault}
 use Rattle.rapid_text.specs.Tables.{Tables}
-use Rattle.rapid_text.specs.Texts.{Judgement, judge, lines_of, with_event, ended}
-use Rattle.rapid_text.specs.Pulling.{Pulling, to_judge, rest_of, unpulled, Answers, Follows, NoAnswer, StopsAt}
-use Rattle.rapid_text.specs.declared.causes.Cause.{Cause}
-use Rattle.rapid_text.specs.declared.causes.Cause.TheVariants as causes
-use Rattle.traced_mem.specs.Tables.{Tables as Memory}
-use Rattle.traced_mem.specs.OfLog.{StandsFor}
-use Rattle.wcp_tool.specs.declared.answers.Counts.{Counts}
-use Rattle.wcp_tool.specs.declared.answers.CheckFault.{CheckFault}
+use Rattle.rapid_text.specs.Texts.{Judgement, with_event, ended}
 use Rattle.wcp_tool.specs.declared.answers.CheckFault.TheVariants.{Text, Refused}
 use Rattle.wcp_tool.specs.Refused.{log_of, call_of, StoreNothing}
-use Rattle.wcp_tool.specs.Checked.{finding, finding_in, counts_of, cause_gives_up, refusal_gives_up, is_read}
+use Rattle.wcp_tool.specs.Checked.{finding_in, counts_of}
 use Rattle.wcp_tool.proofs.Refused.{event_is}
-use Rattle.wcp_tool.proofs.Values.{judged_nothing}
 use Rattle.wcp_tool.proofs.Found.{found_legal, found_fault, found_refused}
 
 -- of a text's judgement the front lines are taken, which make the log, and the rest is still to come
@@ -44,7 +35,8 @@ take-log_of : (xs : List (ℕ × Event)) (ys : List Event) → take (length xs) 
 take-log_of [] ys = refl
 take-log_of (x ∷ xs) ys = ap (λ (l : List Event). x.1 ∷ l) (take-log_of xs ys)
 
-get_after : (xs : List (ℕ × Event)) (y : ℕ × Event) (ys : List (ℕ × Event)) → slice_get (xs ++ y ∷ ys) (length xs) ≡ Some y
+get_after : (xs : List (ℕ × Event)) (y : ℕ × Event) (ys : List (ℕ × Event))
+    → slice_get (xs ++ y ∷ ys) (length xs) ≡ Some y
 get_after [] y ys = refl
 get_after (x ∷ xs) y ys = get_after xs y ys
 
@@ -60,28 +52,36 @@ pub begins : (m : Limits) (j : Judgement) → WellFormed m [] → Progress m j j
 begins m j w = record { lines = []; events = refl; fault = refl; names = refl; log_is = refl; legal = w }
 
 -- the log of the whole text, as its front and its rest
-split_log : (m : Limits) (whole rest : Judgement) (log : List Event) → Progress m whole rest log → log_of whole.events ≡ log ++ log_of rest.events
+split_log : (m : Limits) (whole rest : Judgement) (log : List Event) → Progress m whole rest log
+    → log_of whole.events ≡ log ++ log_of rest.events
 split_log m whole rest log p =
-    ap log_of p.events ∙ log_of-append p.lines rest.events ∙ ap (λ (l : List Event). l ++ log_of rest.events) (sym p.log_is)
+    ap log_of p.events ∙ log_of-append p.lines rest.events
+    ∙ ap (λ (l : List Event). l ++ log_of rest.events) (sym p.log_is)
 
 -- a line more
-pub goes_on : (m : Limits) (whole rest : Judgement) (log : List Event) (n : ℕ) (e : Event) → StoreNothing (log_of whole.events)
+pub goes_on : (m : Limits) (whole rest : Judgement) (log : List Event) (n : ℕ) (e : Event)
+    → StoreNothing (log_of whole.events)
     → Progress m whole (with_event n (Some e) rest) log → WellFormed m (log ++ event_of log (call_of e) ∷ [])
     → Progress m whole rest (log ++ event_of log (call_of e) ∷ [])
 goes_on m whole rest log n e z p w =
-    let parts : StoreNothing (log ++ e ∷ log_of rest.events) = subst StoreNothing (split_log m whole (with_event n (Some e) rest) log p) z in
-    let same : event_of log (call_of e) ≡ e = event_is log e (nothing_front log (e ∷ log_of rest.events) parts) (nothing_at log e (log_of rest.events) parts) in
+    let parts : StoreNothing (log ++ e ∷ log_of rest.events) =
+    subst StoreNothing (split_log m whole (with_event n (Some e) rest) log p) z in
+    let same : event_of log (call_of e) ≡ e =
+    event_is log e (nothing_front log (e ∷ log_of rest.events) parts)
+    (nothing_at log e (log_of rest.events) parts) in
     record {
       lines = p.lines ++ (n, e) ∷ [];
       events = p.events ∙ sym (append_assoc p.lines ((n, e) ∷ []) rest.events);
       fault = p.fault;
       names = p.names;
-      log_is = ap₂ (λ (l : List Event) (x : Event). l ++ x ∷ []) p.log_is same ∙ sym (log_of-append p.lines ((n, e) ∷ []));
+      log_is = ap₂ (λ (l : List Event) (x : Event). l ++ x ∷ []) p.log_is same
+          ∙ sym (log_of-append p.lines ((n, e) ∷ []));
       legal = w;
     }
 
 -- all lines were taken
-pub comes_to_end : (m : Limits) (whole : Judgement) (log : List Event) (t : Tables) → StoreNothing (log_of whole.events)
+pub comes_to_end : (m : Limits) (whole : Judgement) (log : List Event) (t : Tables)
+    → StoreNothing (log_of whole.events)
     → Progress m whole (ended t) log → finding_in m whole ≡ Ok (counts_of (length log) t)
 comes_to_end m whole log t z p =
     let all : whole.events ≡ p.lines = p.events ∙ append-nil p.lines in
@@ -94,8 +94,10 @@ comes_to_end m whole log t z p =
     })
 
 -- the next line is refused
-pub is_refused : (m : Limits) (whole rest : Judgement) (log : List Event) (n : ℕ) (e : Event) (r : Refusal) → StoreNothing (log_of whole.events)
-    → Progress m whole (with_event n (Some e) rest) log → refusal m log (call_of e) ≡ Some r → finding_in m whole ≡ Err (Refused n r)
+pub is_refused : (m : Limits) (whole rest : Judgement) (log : List Event) (n : ℕ) (e : Event) (r : Refusal)
+    → StoreNothing (log_of whole.events) → Progress m whole (with_event n (Some e) rest) log
+    → refusal m log (call_of e) ≡ Some r
+    → finding_in m whole ≡ Err (Refused n r)
 is_refused m whole rest log n e r z p x =
     let before : take (length p.lines) (log_of whole.events) ≡ log =
     ap (λ (l : List (ℕ × Event)). take (length p.lines) (log_of l)) p.events
@@ -104,176 +106,21 @@ is_refused m whole rest log n e r z p x =
     (found_refused m whole n r z).1 (record {
       index = length p.lines;
       event = e;
-      at = ap (λ (l : List (ℕ × Event)). slice_get l (length p.lines)) p.events ∙ get_after p.lines (n, e) rest.events;
+      at = ap (λ (l : List (ℕ × Event)). slice_get l (length p.lines)) p.events
+          ∙ get_after p.lines (n, e) rest.events;
       before = subst (λ (l : List Event). WellFormed m l) (sym before) p.legal;
       refused = subst (λ (l : List Event). refusal m l (call_of e) ≡ Some r) (sym before) x;
     })
 
 -- the text stops with a fault
-pub has_fault : (m : Limits) (whole rest : Judgement) (log : List Event) (f : TextFault) → StoreNothing (log_of whole.events)
-    → Progress m whole rest log → rest.events ≡ [] → rest.fault ≡ Some (f.line, f.cause) → finding_in m whole ≡ Err (Text f)
+pub has_fault : (m : Limits) (whole rest : Judgement) (log : List Event) (f : TextFault)
+    → StoreNothing (log_of whole.events) → Progress m whole rest log → rest.events ≡ []
+    → rest.fault ≡ Some (f.line, f.cause)
+    → finding_in m whole ≡ Err (Text f)
 has_fault m whole rest log f z p none is =
-    let all : whole.events ≡ p.lines = p.events ∙ ap (λ (l : List (ℕ × Event)). p.lines ++ l) none ∙ append-nil p.lines in
+    let all : whole.events ≡ p.lines =
+    p.events ∙ ap (λ (l : List (ℕ × Event)). p.lines ++ l) none ∙ append-nil p.lines in
     (found_fault m whole f z).1 (record {
       fault = p.fault ∙ is;
       legal = subst (λ (l : List Event). WellFormed m l) (p.log_is ∙ sym (ap log_of all)) p.legal;
     })
-
--- ---- while a text is read
-
--- where the text is known, so is how far it is judged
-abbrev pub KnownProgress : Limits → Option Judgement → Option Judgement → List Event → Type 0
-KnownProgress m None rest log = Unit {0}
-KnownProgress m (Some whole) None log = ⊥
-KnownProgress m (Some whole) (Some rest) log = StoreNothing (log_of whole.events) × Progress m whole rest log
-
--- the memory stands for the log of so many lines that were taken
-pub record Judging (m : Limits) (whole rest : Option Judgement) (memory : Memory) (events : ℕ) : Type 0 where
-  pub limits : memory.limits ≡ m
-  pub log : List Event
-  pub stands : StandsFor memory log
-  pub count : events ≡ length log
-  pub progress : KnownProgress m whole rest log
-
--- the log has no more events than the limits admit
-pub within_limits : (m : Limits) (whole rest : Option Judgement) (memory : Memory) (events : ℕ) → Judging m whole rest memory events → events ≤ m.events
-within_limits m whole rest memory events j =
-    let legal : WellFormed m j.log = subst (λ (k : Limits). WellFormed k j.log) j.limits j.stands.well_formed in
-    let room : length j.log + open_acquires (take (length j.log) j.log) ≤ m.events = slots m j.log legal (length j.log) (omega arith) in
-    let count = j.count in
-    omega arith
-
-known_begin : (m : Limits) (p : Pulling) (o : Option (List ℕ)) → WellFormed m []
-    → KnownProgress m (option_map (λ l. judge (lines_of (p.came ++ l)) p.names p.unfinished) o) (option_map (λ l. judge (lines_of (p.came ++ l)) p.names p.unfinished) o) []
-known_begin m p None w = tt
-known_begin m p (Some l) w =
-    (judged_nothing (lines_of (p.came ++ l)) p.names p.unfinished, begins m (judge (lines_of (p.came ++ l)) p.names p.unfinished) w)
-
-pub judging_begins : (p : Pulling) (left : Option (List ℕ)) (memory : Memory) → StandsFor memory []
-    → Judging memory.limits (to_judge p left) (to_judge p left) memory 0
-judging_begins p left memory s = record {
-  limits = refl;
-  log = [];
-  stands = s;
-  count = refl;
-  progress = known_begin memory.limits p (rest_of p.ended left) s.well_formed;
-}
-
-known_more : (m : Limits) (whole old new : Option Judgement) (log : List Event) (n : ℕ) (e : Event) → KnownProgress m whole old log
-    → Follows old (with_event n (Some e)) new → WellFormed m (log ++ event_of log (call_of e) ∷ [])
-    → KnownProgress m whole new (log ++ event_of log (call_of e) ∷ [])
-known_more m None old new log n e k f w = tt
-known_more m (Some whole) None new log n e k f w = absurd k
-known_more m (Some whole) (Some r) None log n e k f w = absurd f
-known_more m (Some whole) (Some r) (Some s) log n e k f w =
-    (k.0, goes_on m whole s log n e k.0 (subst (λ (j : Judgement). Progress m whole j log) f k.1) w)
-
-pub judging_more : (m : Limits) (whole old new : Option Judgement) (memory after : Memory) (events n : ℕ) (e : Event)
-    → Judging m whole old memory events → Follows old (with_event n (Some e)) new → after.limits ≡ memory.limits
-    → ((log : List Event) → StandsFor memory log → StandsFor after (log ++ event_of log (call_of e) ∷ []))
-    → Judging m whole new after (events + 1)
-judging_more m whole old new memory after events n e j f same step =
-    let log : List Event = j.log ++ event_of j.log (call_of e) ∷ [] in
-    let stands : StandsFor after log = step j.log j.stands in
-    let limits : after.limits ≡ m = same ∙ j.limits in
-    let long : length log ≡ length j.log + 1 = length-append j.log (event_of j.log (call_of e) ∷ []) in
-    let count = j.count in
-    record {
-      limits = limits;
-      log = log;
-      stands = stands;
-      count = omega arith;
-      progress = known_more m whole old new j.log n e j.progress f (subst (λ (k : Limits). WellFormed k log) limits stands.well_formed);
-    }
-
-known_end : (m : Limits) (whole rest : Option Judgement) (log : List Event) (t : Tables) → KnownProgress m whole rest log
-    → IfSome rest (λ j. j ≡ ended t) → IfSome whole (λ w. finding_in m w ≡ Ok (counts_of (length log) t))
-known_end m None rest log t k e = tt
-known_end m (Some whole) None log t k e = absurd k
-known_end m (Some whole) (Some r) log t k e = comes_to_end m whole log t k.0 (subst (λ (j : Judgement). Progress m whole j log) e k.1)
-
-turn_round : {A B : Type 0} (o : Option A) (f : A → B) (x y : B) → x ≡ y → IfSome o (λ a. f a ≡ x) → IfSome o (λ a. y ≡ f a)
-turn_round None f x y e h = tt
-turn_round (Some a) f x y e h = sym e ∙ sym h
-
-pub judging_ends : (m : Limits) (whole rest : Option Judgement) (memory : Memory) (events : ℕ) (t : Tables)
-    → Judging m whole rest memory events → IfSome rest (λ j. j ≡ ended t) → IfSome whole (λ w. Ok (counts_of events t) ≡ finding_in m w)
-judging_ends m whole rest memory events t j e =
-    turn_round whole (finding_in m) (Ok (counts_of (length j.log) t)) (Ok (counts_of events t)) (ap (λ (n : ℕ). Ok (counts_of n t)) (sym j.count))
-    (known_end m whole rest j.log t j.progress e)
-
-known_refused : (m : Limits) (whole old new : Option Judgement) (log : List Event) (n : ℕ) (e : Event) (r : Refusal) → KnownProgress m whole old log
-    → Follows old (with_event n (Some e)) new → refusal m log (call_of e) ≡ Some r → IfSome whole (λ w. finding_in m w ≡ Err (Refused n r))
-known_refused m None old new log n e r k f x = tt
-known_refused m (Some whole) None new log n e r k f x = absurd k
-known_refused m (Some whole) (Some o) None log n e r k f x = absurd f
-known_refused m (Some whole) (Some o) (Some s) log n e r k f x =
-    is_refused m whole s log n e r k.0 (subst (λ (j : Judgement). Progress m whole j log) f k.1) x
-
--- why an event was not accepted
-abbrev pub WasRefused : Memory → Event → Refusal → Type 0
-WasRefused memory e r = (r ≡ OutOfMemory) ⊎ ((log : List Event) → StandsFor memory log → refusal memory.limits log (call_of e) ≡ Some r)
-
-pub judging_refused : (m : Limits) (whole old new : Option Judgement) (memory : Memory) (events n k : ℕ) (e : Event) (r : Refusal)
-    → Judging m whole old memory events → Follows old (with_event n (Some e)) new → WasRefused memory e r → k ≡ n
-    → refusal_gives_up r ≡ false → IfSome whole (λ w. Err (Refused k r) ≡ finding_in m w)
-judging_refused m whole old new memory events n k e r j f (inl memory_ran_out) same g =
-    absurd (let bad : true ≡ false = sym (ap refusal_gives_up memory_ran_out) ∙ g in cc)
-judging_refused m whole old new memory events n k e r j f (inr x) same g =
-    let here : refusal m j.log (call_of e) ≡ Some r = subst (λ (l : Limits). refusal l j.log (call_of e) ≡ Some r) j.limits (x j.log j.stands) in
-    turn_round whole (finding_in m) (Err (Refused n r)) (Err (Refused k r)) (ap (λ (i : ℕ). Err (Refused i r)) (sym same))
-    (known_refused m whole old new j.log n e r j.progress f here)
-
-stops : (old new : Pulling) (left rest : Option (List ℕ)) (failed : Bool) (f : TextFault) (c : Cause) → old.failed ≡ None
-    → NoAnswer old left new rest failed f c → cause_gives_up c ≡ false → StopsAt old left f
-stops old new left rest failed f (causes.Line x) live n g = n
-stops old new left rest failed f (causes.TooManyNames k) live n g = n
-stops old new left rest failed f causes.OutOfMemory live n g = absurd (cc)
-stops old new left rest failed f causes.Read live n g = absurd (cc)
-stops old new left rest failed f causes.Failed live n g = absurd (let bad : None ≡ Some f.line = sym live ∙ n in cc)
-
-known_fault : (m : Limits) (whole rest : Option Judgement) (log : List Event) (f : TextFault) → KnownProgress m whole rest log
-    → IfSome rest (λ j. (j.events ≡ []) × (j.fault ≡ Some (f.line, f.cause))) → IfSome whole (λ w. finding_in m w ≡ Err (Text f))
-known_fault m None rest log f k s = tt
-known_fault m (Some whole) None log f k s = absurd k
-known_fault m (Some whole) (Some r) log f k s = has_fault m whole r log f k.0 k.1 s.0 s.1
-
-pub judging_stops : (m : Limits) (whole : Option Judgement) (old new : Pulling) (left rest : Option (List ℕ)) (failed : Bool) (f : TextFault) (memory : Memory) (events : ℕ)
-    → Judging m whole (to_judge old left) memory events → old.failed ≡ None → NoAnswer old left new rest failed f f.cause
-    → cause_gives_up f.cause ≡ false → IfSome whole (λ w. Err (Text f) ≡ finding_in m w)
-judging_stops m whole old new left rest failed f memory events j live n g =
-    turn_round whole (finding_in m) (Err (Text f)) (Err (Text f)) refl
-    (known_fault m whole (to_judge old left) j.log f j.progress (stops old new left rest failed f f.cause live n g))
-
-pub was_short : (old new : Pulling) (left rest : Option (List ℕ)) (failed : Bool) (f : TextFault) (c : Cause)
-    → NoAnswer old left new rest failed f c → is_read c ≡ true → (failed ≡ true) ⊎ (new.turns ≡ 0)
-was_short old new left rest failed f (causes.Line x) n g = absurd (cc)
-was_short old new left rest failed f (causes.TooManyNames k) n g = absurd (cc)
-was_short old new left rest failed f causes.OutOfMemory n g = absurd (cc)
-was_short old new left rest failed f causes.Read n g = n.why
-was_short old new left rest failed f causes.Failed n g = absurd (cc)
-
--- an answer is of an event, or of the end
-pub tells_event : (old new : Pulling) (left rest : Option (List ℕ)) (o : Option Event) (e : Event) → o ≡ Some e
-    → Answers old left new rest o → Follows (to_judge old left) (with_event new.line (Some e)) (to_judge new rest)
-tells_event old new left rest o e is a =
-    let t : Answers old left new rest (Some e) = subst (λ (x : Option Event). Answers old left new rest x) is a in
-    t.text
-
-pub tells_end : (old new : Pulling) (left rest : Option (List ℕ)) (o : Option Event) → o ≡ None
-    → Answers old left new rest o → IfSome (to_judge old left) (λ j. j ≡ ended new.names)
-tells_end old new left rest o is a =
-    let t : Answers old left new rest None = subst (λ (x : Option Event). Answers old left new rest x) is a in
-    t.text
-
--- the finding of a text is that of its judgement
-pub finding_is : (m k : Limits) (turns : ℕ) (p : Pulling) (left : Option (List ℕ)) (x : Result Counts CheckFault) → p ≡ unpulled m turns → k ≡ m
-    → IfSome (to_judge p left) (λ w. x ≡ finding_in k w) → IfSome left (λ text. x ≡ finding m text)
-unfolding finding
-finding_is m k turns p left x is same h =
-    first left (subst (λ (l : Limits). IfSome (to_judge (unpulled m turns) left) (λ w. x ≡ finding_in l w)) same
-    (subst (λ (q : Pulling). IfSome (to_judge q left) (λ w. x ≡ finding_in k w)) is h))
-  where
-    first : (o : Option (List ℕ)) → IfSome (to_judge (unpulled m turns) o) (λ w. x ≡ finding_in m w) → IfSome o (λ text. x ≡ finding m text)
-    first None f = tt
-    first (Some text) f = f

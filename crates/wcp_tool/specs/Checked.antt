@@ -1,5 +1,6 @@
 -- What a check finds in a text, and what it prints.
-use Rattle.std.specs.Prelude.{◌≡◌, ℕ, List, [], ◌∷◌, ◌++◌, Bool, true, false, Option, Some, None, Result, Ok, Err, length}
+use Rattle.std.specs.Prelude.{◌≡◌, ℕ, List, [], Bool, true, false, Option, Some, None, Result}
+use Rattle.std.specs.Prelude.{Ok, Err, length}
 use Rattle.event_core.specs.declared.bounds.Limits.{Limits}
 use Rattle.event_core.specs.declared.replies.Refusal.{Refusal}
 use Rattle.event_core.specs.declared.replies.Refusal.TheVariants.{OutOfMemory}
@@ -38,7 +39,7 @@ finding_or (Some p) later = Err (Refused p.0 p.1)
 abbrev pub finding_in : Limits → Judgement → Result Counts CheckFault
 finding_in m j = finding_or (first_refused m j.events) (text_finding j j.fault)
 
--- what a text comes to: the counts of a legal trace, or the first line that has a fault or whose event is refused
+-- what a text comes to: the counts of a legal trace, or its first line that has a fault or is refused
 unfoldable pub finding : Limits → List ℕ → Result Counts CheckFault
 finding m text = finding_in m (judgement (no_names m) text)
 

@@ -8,7 +8,8 @@ use Rattle.wcp_tool.specs.declared.answers.Counts.{Counts}
 use Rattle.wcp_tool.specs.declared.answers.CheckFault.{CheckFault}
 use Rattle.wcp_tool.specs.declared.answers.CheckFault.TheVariants as faults
 use Rattle.wcp_tool.specs.declared.endings.Ending.{Ending}
-use Rattle.wcp_tool.specs.declared.endings.Ending.TheVariants.{Done, WrongUsage, Refused, ReadFault, WriteFault, OutOfMemory}
+use Rattle.wcp_tool.specs.declared.endings.Ending.TheVariants.{Done, WrongUsage, Refused, ReadFault}
+use Rattle.wcp_tool.specs.declared.endings.Ending.TheVariants.{WriteFault, OutOfMemory}
 
 -- the exit status
 abbrev pub status_of : Ending → ℕ

@@ -1,7 +1,10 @@
 -- The lines that the program prints.
 use Rattle.std.specs.Prelude.{ℕ, List, [], ◌∷◌, ◌++◌, codes, decimal}
 use Rattle.event_core.specs.declared.replies.Refusal.{Refusal}
-use Rattle.event_core.specs.declared.replies.Refusal.TheVariants.{ThreadRange, NotStarted, Ended, TargetRange, Held, NotHolder, SelfTarget, AlreadyStarted, TargetNotStarted, LogFull, OutOfMemory}
+use Rattle.event_core.specs.declared.replies.Refusal.TheVariants.{ThreadRange, NotStarted, Ended}
+use Rattle.event_core.specs.declared.replies.Refusal.TheVariants.{TargetRange, Held, NotHolder, SelfTarget}
+use Rattle.event_core.specs.declared.replies.Refusal.TheVariants.{AlreadyStarted, TargetNotStarted, LogFull}
+use Rattle.event_core.specs.declared.replies.Refusal.TheVariants.{OutOfMemory}
 use Rattle.wcp_tool.specs.declared.answers.Counts.{Counts}
 
 -- a label and a number

@@ -21,7 +21,8 @@ numbered_or n (Some r) later = Some (n, r)
 
 abbrev pub refused_after : Limits → List Event → List (ℕ × Event) → Option (ℕ × Refusal)
 refused_after m log [] = None
-refused_after m log (p ∷ ps) = numbered_or p.0 (refusal m log (call_of p.1)) (refused_after m (log ++ p.1 ∷ []) ps)
+refused_after m log (p ∷ ps) =
+    numbered_or p.0 (refusal m log (call_of p.1)) (refused_after m (log ++ p.1 ∷ []) ps)
 
 -- the first event that is refused after those before it: the number of its line, and why
 abbrev pub first_refused : Limits → List (ℕ × Event) → Option (ℕ × Refusal)

@@ -1,7 +1,8 @@
 //! The judgement of a trace, from the bytes of a reader to the line of a writer.
-ghost use Rattle.std.specs.Prelude.{◌≡◌, ◌≢◌, ◌≤◌, ℕ, Err, true, false, OnOk, OnErr, IsOk, IfSome};
+ghost use Rattle.std.specs.Prelude.{◌≡◌, ◌≢◌, ◌≤◌, ◌⊎◌, ℕ, Err, true, false, length, OnOk, OnErr, IsOk};
+ghost use Rattle.std.specs.Prelude.{IfSome};
 ghost use Rattle.std.specs.Io.KnownBytes.{Appends};
-ghost use Rattle.wcp_tool.specs.Checked.{finding, gives_up, told, checked as line_for};
+ghost use Rattle.wcp_tool.specs.Checked.{finding, gives_up, is_short, told, checked as line_for};
 
 use crate::answers::{CheckFault, Counts};
 use crate::judging::find;
@@ -41,7 +42,8 @@ pub fn check<I: Input, O: Output>(
     requires reads { I.failed reader.old ≡ false }
     requires writes { O.failed writer.old ≡ false }
     // The answer is what the whole text comes to, read or left unread.
-    ensures finds { gives_up result ≡ false → IfSome (I.left reader.old) (λ text. result ≡ finding limits text) }
+    ensures finds { gives_up result ≡ false
+        → IfSome (I.left reader.old) (λ text. result ≡ finding limits text) }
     // What is written is the line for the whole text, and nothing else.
     ensures checks { gives_up result ≡ false
         → IfSome (I.left reader.old)
@@ -51,6 +53,9 @@ pub fn check<I: Input, O: Output>(
         → Appends (O.written writer.old) (O.written writer.new) (told result) }
     // Nothing is written where the answer says nothing of the text.
     ensures quiet { gives_up result ≡ true → result ≢ Err CheckFault.Write → writer.new ≡ writer.old }
+    // The text was not read to its end only where a read failed, or there were no more reads than bytes.
+    ensures read { is_short result ≡ true
+        → (I.failed reader.new ≡ true) ⊎ IfSome (I.left reader.old) (λ text. turns ≤ length text) }
     // No failure of the reader is passed over where there are counts.
     ensures read_whole { OnOk result (I.failed reader.new ≡ false) }
     // It is a fault of the writer exactly where the writer failed or took no byte.

@@ -27,7 +27,7 @@ const THREADS: NumberOption = NumberOption {
 
 const STATUSES: &str = "\
 Exit status:
-  0  The trace is legal, or help was asked for
+  0  The trace is legal, or help or the version was asked for
   2  The command line is wrong
   3  A line of the trace is refused
   4  Standard input could not be read, or standard output could not be written
@@ -62,7 +62,8 @@ fn command_line<'a>(alloc: Global) -> Result<clap::Command<'a>, AllocError>
     ensures needs_command { IfOk result (λ c. (out-Command c).subcommand_required ≡ true) }
 {
     let check = clap::Command::new(alloc, "check")
-        .about("Says whether standard input is a legal trace, or which line is not and why")
+        .about("Says whether the trace on standard input is legal, or which line is not and why")
+        .override_usage("wcp check [OPTIONS] < TRACE")
         .after_help(CHECK_TEXTS)
         .arg(number_option(alloc, &THREADS))?;
     let wcp = clap::Command::new(alloc, "wcp")

@@ -1,11 +1,13 @@
 //! The judgement of a trace, line by line, with the memory of one step at a time: the lines before are known
 //! by the memory alone, and no log is kept.
-ghost use Rattle.std.specs.Prelude.{◌≡◌, ◌≢◌, ◌⊎◌, ℕ, ◌≤◌, ◌<◌, List, [], ◌∷◌, ◌++◌, None, Some, Ok, Err, true, false, OnOk, IfErr, IfSome};
+ghost use Rattle.std.specs.Prelude.{◌≡◌, ◌≢◌, ◌⊎◌, ℕ, ◌≤◌, ◌<◌, List, [], ◌∷◌, ◌++◌, None, Some, Ok, Err};
+ghost use Rattle.std.specs.Prelude.{true, false, length, OnOk, IfErr, IfSome};
 ghost use Rattle.event_core.specs.declared.events.Event.{Event as Entry};
 ghost use Rattle.event_core.specs.Refusal.{refusal, event_of};
 ghost use Rattle.traced_mem.specs.OfLog.{StandsFor};
 ghost use Rattle.wcp_tool.specs.Refused.{call_of};
 ghost use Rattle.rapid_text.specs.Pulling.{to_judge};
+ghost use Rattle.rapid_text.specs.Turns.{TakeBytes};
 ghost use Rattle.wcp_tool.specs.Checked.{finding, finding_in, gives_up, is_short, counts_of};
 
 use crate::answers::{CheckFault, Counts};
@@ -68,10 +70,12 @@ fn judge_lines<I: Input>(
     ensures finds { gives_up result ≡ false
         → IfSome (to_judge text.old (I.left reader.old))
         (λ whole. result ≡ finding_in memory.old.limits whole) }
-    ensures read { is_short result ≡ true → (I.failed reader.new ≡ true) ⊎ (text.new.turns ≡ 0) }
+    ensures read { is_short result ≡ true → (I.failed reader.new ≡ true)
+        ⊎ TakeBytes text.old.turns (I.left reader.old) 0 (I.left reader.new) }
     ensures healthy { OnOk result (I.failed reader.new ≡ I.failed reader.old) }
     ensures unwritten { result ≢ Err CheckFault.Write }
 {
+    // No log has more events than this, so the count below is within its range.
     let _most = limits.events();
     let mut events: u64 = 0;
     'lines: loop {
@@ -100,7 +104,10 @@ pub(crate) fn find<I: Input>(
     turns: u64,
 ) -> Result<Counts, CheckFault>
     requires turns { turns ≤ 17592186044416 }
-    ensures finds { gives_up result ≡ false → IfSome (I.left reader.old) (λ text. result ≡ finding limits text) }
+    ensures finds { gives_up result ≡ false
+        → IfSome (I.left reader.old) (λ text. result ≡ finding limits text) }
+    ensures read { is_short result ≡ true
+        → (I.failed reader.new ≡ true) ⊎ IfSome (I.left reader.old) (λ text. turns ≤ length text) }
     ensures healthy { OnOk result (I.failed reader.new ≡ I.failed reader.old) }
     ensures unwritten { result ≢ Err CheckFault.Write }
 {

@@ -2,7 +2,8 @@
 ghost use Rattle.std.specs.Prelude.{◌≡◌, ◌+◌, ◌≤◌, ◌↔◌, ◌++◌, true, length, IfSome, IsNone};
 ghost use Rattle.arrayvec.specs.ArrayString.{array_string_len};
 ghost use Rattle.rapid_text.specs.Faults.{cause_word as word_of_cause, fault_line as line_of_fault};
-ghost use Rattle.wcp_tool.specs.Printed.{counts_line as line_of_counts, labelled, refusal_word as word_of_refusal};
+ghost use Rattle.wcp_tool.specs.Printed.{counts_line as line_of_counts, labelled};
+ghost use Rattle.wcp_tool.specs.Printed.{refusal_word as word_of_refusal};
 ghost use Rattle.wcp_tool.specs.Checked.{told, gives_up, cause_gives_up, refusal_gives_up};
 
 use crate::answers::{CheckFault, Counts};

@@ -26,13 +26,17 @@ fn takes_check_with_its_option(rt: HostRuntime) -> Result<(), Fail> {
 /// Help and the version stand on standard output, with status 0.
 #[test]
 fn gives_help_and_the_version(rt: HostRuntime) {
-    let asked: [(&[&str], &str); 6] = [
+    let asked: [(&[&str], &str); 7] = [
         (["--help"].as_slice(), "Usage: wcp <COMMAND>"),
         (["-h"].as_slice(), "Exit status:"),
         (["help"].as_slice(), "check"),
-        (["check", "--help"].as_slice(), "Usage: wcp check [OPTIONS]"),
+        (
+            ["check", "--help"].as_slice(),
+            "Usage: wcp check [OPTIONS] < TRACE",
+        ),
         (["help", "check"].as_slice(), "TooManyNames"),
-        (["--version"].as_slice(), "wcp 0.1.0"),
+        (["--version"].as_slice(), "wcp 0.1.0\n"),
+        (["-V"].as_slice(), "wcp 0.1.0\n"),
     ];
     for (words, part) in asked {
         let ran = run(&rt, words, Pieces::whole(b""));
@@ -64,7 +68,10 @@ fn tells_what_is_wrong_with_a_command_line(rt: HostRuntime) {
         ),
         (["check", "--threads", "x"].as_slice(), "'x'"),
         (["check", "--threads"].as_slice(), "a value is required"),
-        (["check", "trace.txt"].as_slice(), "'trace.txt'"),
+        (
+            ["check", "trace.txt"].as_slice(),
+            "Usage: wcp check [OPTIONS] < TRACE",
+        ),
         (["--threads", "2", "check"].as_slice(), "'--threads'"),
     ];
     for (words, part) in wrong {

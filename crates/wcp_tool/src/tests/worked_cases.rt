@@ -24,32 +24,41 @@ static LEGAL: [Case; 19] = [
     ),
     (
         "sections without a conflict",
-        "T0|fork(T1)|1\nT0|w(y)|2\nT0|acq(l)|3\nT0|w(x)|4\nT0|rel(l)|5\nT1|acq(l)|6\nT1|rel(l)|7\nT1|r(y)|8\n",
+        "T0|fork(T1)|1\nT0|w(y)|2\nT0|acq(l)|3\nT0|w(x)|4\nT0|rel(l)|5\nT1|acq(l)|6\n\
+         T1|rel(l)|7\nT1|r(y)|8\n",
         "events 8 threads 2 locks 1 variables 2\n",
     ),
     (
         "a load in the later section",
-        "T0|fork(T1)|1\nT0|w(y)|2\nT0|acq(l)|3\nT0|w(x)|4\nT0|rel(l)|5\nT1|acq(l)|6\nT1|r(x)|7\nT1|rel(l)|8\nT1|r(y)|9\n",
+        "T0|fork(T1)|1\nT0|w(y)|2\nT0|acq(l)|3\nT0|w(x)|4\nT0|rel(l)|5\nT1|acq(l)|6\nT1|r(x)|7\n\
+         T1|rel(l)|8\nT1|r(y)|9\n",
         "events 9 threads 2 locks 1 variables 2\n",
     ),
     (
         "a load before the conflict",
-        "T0|fork(T1)|1\nT0|w(y)|2\nT0|acq(l)|3\nT0|w(x)|4\nT0|rel(l)|5\nT1|acq(l)|6\nT1|r(y)|7\nT1|r(x)|8\nT1|rel(l)|9\n",
+        "T0|fork(T1)|1\nT0|w(y)|2\nT0|acq(l)|3\nT0|w(x)|4\nT0|rel(l)|5\nT1|acq(l)|6\nT1|r(y)|7\n\
+         T1|r(x)|8\nT1|rel(l)|9\n",
         "events 9 threads 2 locks 1 variables 2\n",
     ),
     (
         "nested sections",
-        "T0|fork(T1)|1\nT0|acq(l)|2\nT0|acq(m)|3\nT0|w(x)|4\nT0|rel(m)|5\nT0|w(y)|6\nT0|rel(l)|7\nT1|acq(m)|8\nT1|r(x)|9\nT1|rel(m)|10\nT1|acq(l)|11\nT1|rel(l)|12\nT1|r(y)|13\n",
+        "T0|fork(T1)|1\nT0|acq(l)|2\nT0|acq(m)|3\nT0|w(x)|4\nT0|rel(m)|5\nT0|w(y)|6\n\
+         T0|rel(l)|7\nT1|acq(m)|8\nT1|r(x)|9\nT1|rel(m)|10\nT1|acq(l)|11\nT1|rel(l)|12\n\
+         T1|r(y)|13\n",
         "events 13 threads 2 locks 2 variables 2\n",
     ),
     (
         "a load before the outer section ends",
-        "T0|fork(T1)|1\nT0|acq(l)|2\nT0|acq(m)|3\nT0|w(x)|4\nT0|rel(m)|5\nT0|w(y)|6\nT0|rel(l)|7\nT1|acq(m)|8\nT1|r(x)|9\nT1|rel(m)|10\nT1|r(y)|11\n",
+        "T0|fork(T1)|1\nT0|acq(l)|2\nT0|acq(m)|3\nT0|w(x)|4\nT0|rel(m)|5\nT0|w(y)|6\n\
+         T0|rel(l)|7\nT1|acq(m)|8\nT1|r(x)|9\nT1|rel(m)|10\nT1|r(y)|11\n",
         "events 11 threads 2 locks 2 variables 2\n",
     ),
     (
         "three threads and four locks",
-        "T0|fork(T1)|1\nT0|fork(T2)|2\nT2|w(z)|3\nT2|acq(n)|4\nT2|rel(n)|5\nT0|acq(l)|6\nT0|acq(m)|7\nT0|w(x)|8\nT0|rel(m)|9\nT0|acq(n)|10\nT0|rel(n)|11\nT0|rel(l)|12\nT1|acq(m)|13\nT1|r(x)|14\nT1|rel(m)|15\nT1|acq(k)|16\nT1|rel(k)|17\nT0|acq(k)|18\nT0|rel(k)|19\nT0|acq(l)|20\nT0|rel(l)|21\nT0|r(z)|22\n",
+        "T0|fork(T1)|1\nT0|fork(T2)|2\nT2|w(z)|3\nT2|acq(n)|4\nT2|rel(n)|5\nT0|acq(l)|6\n\
+         T0|acq(m)|7\nT0|w(x)|8\nT0|rel(m)|9\nT0|acq(n)|10\nT0|rel(n)|11\nT0|rel(l)|12\n\
+         T1|acq(m)|13\nT1|r(x)|14\nT1|rel(m)|15\nT1|acq(k)|16\nT1|rel(k)|17\nT0|acq(k)|18\n\
+         T0|rel(k)|19\nT0|acq(l)|20\nT0|rel(l)|21\nT0|r(z)|22\n",
         "events 22 threads 3 locks 4 variables 2\n",
     ),
     (
@@ -74,7 +83,8 @@ static LEGAL: [Case; 19] = [
     ),
     (
         "sections that do not nest",
-        "T0|fork(T1)|1\nT0|acq(l)|2\nT0|acq(m)|3\nT0|rel(l)|4\nT0|w(x)|5\nT0|rel(m)|6\nT1|acq(l)|7\nT1|w(x)|8\n",
+        "T0|fork(T1)|1\nT0|acq(l)|2\nT0|acq(m)|3\nT0|rel(l)|4\nT0|w(x)|5\nT0|rel(m)|6\n\
+         T1|acq(l)|7\nT1|w(x)|8\n",
         "events 8 threads 2 locks 2 variables 1\n",
     ),
     (
@@ -89,7 +99,8 @@ static LEGAL: [Case; 19] = [
     ),
     (
         "an inner release",
-        "T0|fork(T1)|1\nT0|acq(l)|2\nT0|acq(l)|3\nT0|rel(l)|4\nT0|w(x)|5\nT0|rel(l)|6\nT1|acq(l)|7\nT1|w(x)|8\n",
+        "T0|fork(T1)|1\nT0|acq(l)|2\nT0|acq(l)|3\nT0|rel(l)|4\nT0|w(x)|5\nT0|rel(l)|6\n\
+         T1|acq(l)|7\nT1|w(x)|8\n",
         "events 8 threads 2 locks 1 variables 1\n",
     ),
     (
@@ -244,7 +255,7 @@ fn admits_as_many_threads_as_the_option_says(rt: HostRuntime) {
     );
 }
 
-/// Where a text that is legal is cut off, its last line may have too few fields, and no other line is at fault.
+/// Where a legal text is cut off, its last line may have too few fields, and no other line is at fault.
 #[test]
 fn judges_each_beginning_of_a_legal_trace(rt: HostRuntime) -> Result<(), Fail> {
     let (name, text, _) = LEGAL[6];
