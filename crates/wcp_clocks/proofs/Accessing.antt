@@ -1,0 +1,117 @@
+-- The step of an access, from what its parts do.
+use Rattle.std.proofs.Common.{◌≡◌, ℕ, ◌+◌, ◌*◌, ◌<◌, ◌≤◌, ◌||◌, List, length, max, refl, sym, ap, ap₂, subst, ◌∙◌, ◌↔◌, arith}
+use Rattle.std.proofs.lemmas.List.{length-map}
+use Rattle.event_core.specs.declared.ids.LockId.{LockId}
+use Rattle.event_core.specs.declared.ids.VarId.{VarId}
+use Rattle.event_core.specs.declared.events.Event.{Event}
+use Rattle.event_core.specs.declared.events.AccessKind.{AccessKind}
+use Rattle.event_core.specs.declared.events.AccessKind.TheVariants.{Read, Write}
+use Rattle.event_core.specs.declared.events.Op.{Op}
+use Rattle.event_core.specs.declared.events.Op.TheVariants.{Load, Store, Acquire, Release, Fork, Join}
+use Rattle.event_core.specs.Closed.{Has}
+use Rattle.event_core.specs.Rows.{join, bump, with_row, no_clock}
+use Rattle.event_core.specs.Turn.{Turn, Accesses}
+use Rattle.event_core.proofs.Growing.{row_same}
+use Rattle.hb_clocks.specs.State as hb
+use Rattle.hb_clocks.specs.Tables as hb_tables
+use Rattle.hb_clocks.specs.Work.{Done, more_joins}
+use Rattle.section_sum.specs.Sums.{Sums, width_of, noted_of, sources_of, is_access, SameOthers}
+use Rattle.section_sum.specs.Sums.{KeepsRoom as sum_rooms}
+use Rattle.wcp_laws.specs.Step.{turn, join_all, sources}
+use Rattle.wcp_clocks.specs.declared.parts.Parts.{Parts}
+use Rattle.wcp_clocks.specs.HeldLists.{list_at, numbers_of, held_of}
+use Rattle.wcp_clocks.specs.StrictRows.{StrictTables, strict_of, below_of, KeepsRoom}
+use Rattle.wcp_clocks.specs.Parts.{hb_of, state_of, Fits, HasNamed, KeepsReady}
+use Rattle.wcp_clocks.specs.Stepping.{IsStepBy, strict_clock, below_clock}
+use Rattle.wcp_clocks.proofs.Taking.{room_then}
+use Rattle.wcp_clocks.proofs.TurnWords.{same_sources, same_noted, same_others}
+
+module _ (e : Event) (x : VarId) (k : AccessKind) (old : Parts) (told : turn e (state_of old) ≡ Accesses x k)
+    (fits : Fits e old) where
+  abbrev t : ℕ
+  t = e.thread.0
+
+  -- what the strict clock takes
+  pub taken_row : (locks : List LockId) (rows : StrictTables) → locks ≡ (list_at old.held t).locks
+      → (strict_of rows).thread ≡ with_row t
+      (join ((strict_of old.rows).thread t) (join_all (λ l. sources_of old.sums l x.0 k t) (numbers_of locks)))
+      (strict_of old.rows).thread
+      → (strict_of rows).thread ≡ with_row t (strict_clock e (Accesses x k) old) (strict_of old.rows).thread
+  taken_row locks rows of taken =
+      taken
+      ∙ ap₂ (λ (f : ℕ → ℕ → ℕ) (ns : List ℕ). with_row t (join ((strict_of old.rows).thread t) (join_all f ns))
+      (strict_of old.rows).thread)
+      (same_sources old.sums (state_of old) x k e.thread refl) (ap numbers_of of)
+
+  pub own_taken : (locks : List LockId) (rows : StrictTables) → locks ≡ (list_at old.held t).locks
+      → (strict_of rows).thread ≡ with_row t
+      (join ((strict_of old.rows).thread t) (join_all (λ l. sources_of old.sums l x.0 k t) (numbers_of locks)))
+      (strict_of old.rows).thread
+      → (strict_of rows).thread t ≡ strict_clock e (Accesses x k) old
+  own_taken locks rows of taken =
+      ap (λ (f : ℕ → ℕ → ℕ). f t) (taken_row locks rows of taken)
+      ∙ row_same t (strict_clock e (Accesses x k) old) (strict_of old.rows).thread
+
+  pub access_step : (locks : List LockId) (taken rows : StrictTables) (tables : hb_tables.Tables) (sums : Sums)
+      (joined work : Done) → locks ≡ (list_at old.held t).locks
+      → (strict_of taken).thread ≡ with_row t
+      (join ((strict_of old.rows).thread t) (join_all (λ l. sources_of old.sums l x.0 k t) (numbers_of locks)))
+      (strict_of old.rows).thread
+      → (strict_of taken).lock ≡ (strict_of old.rows).lock → KeepsRoom old.rows taken
+      → joined.joins ≤ old.work.joins + 2 * length locks → joined.comparisons ≡ old.work.comparisons
+      → ((v l y : ℕ) (j : AccessKind) → noted_of sums v l y j
+      ≡ (noted_of old.sums v l y j || is_access t locks x.0 k v l y j))
+      → SameOthers old.sums sums → width_of sums ≡ width_of old.sums
+      → hb_tables.state_of tables ≡ hb.after e (hb_of old) → tables.width ≡ old.hb.width
+      → work ≡ more_joins (hb.joins_of (hb.turn e (hb_of old))) joined
+      → strict_of rows ≡ strict_of taken
+      → below_of rows ≡ with_row t (below_clock e (Accesses x k) old) (below_of old.rows)
+      → KeepsRoom taken rows
+      → IsStepBy e (Accesses x k) old
+      (record { hb = tables; rows = rows; sums = sums; queues = old.queues; held = old.held; work = work })
+  access_step locks taken rows tables sums joined work of threads lock room joins comparisons noted others wide
+      exact width done strict below kept =
+      record {
+        hb = exact;
+        threads = ap (λ r. r.thread) strict ∙ taken_row locks taken of threads;
+        locks = ap (λ r. r.lock) strict ∙ lock;
+        below = below;
+        opened = refl;
+        held = refl;
+        noted = same_noted old.sums sums (hb_of old).depth e.thread locks x k
+            (λ l. subst (λ ls. Has l.0 (numbers_of ls) ↔ (0 < (hb_of old).depth t l.0))
+            (sym of) (fits.held l)) noted;
+        others = same_others old.sums sums others;
+        closed = refl;
+        found = refl;
+        joins = (let w : work.joins ≡ joined.joins + 0 = ap (λ (d : Done). d.joins) done
+            ∙ ap (λ k. joined.joins + hb.joins_of k) told in
+            let n : length (held_of old.held t) ≡ length locks =
+            length-map (list_at old.held t).locks (λ (l : LockId). l.0)
+            ∙ ap (λ (ls : List LockId). length ls) (sym of) in
+            omega arith);
+        comparisons = ap (λ (d : Done). d.comparisons) done ∙ comparisons;
+        room = room_then old.rows taken rows room kept;
+        limits = record { width = width; limits = refl };
+        sums = wide;
+      }
+
+-- what was ready stays so
+pub access_keeps : (old : Parts) (rows : StrictTables) (tables : hb_tables.Tables) (sums : Sums) (work : Done)
+    → hb_tables.KeepsRoom old.hb tables → KeepsRoom old.rows rows → sum_rooms old.sums sums
+    → KeepsReady old (record { hb = tables; rows = rows; sums = sums; queues = old.queues; held = old.held; work = work })
+access_keeps old rows tables sums work hb kept rooms e ready = record {
+  hb = hb e.thread e.op ready.hb;
+  thread = kept.thread e.thread.0 ready.thread;
+  named = named e.op ready.named;
+}
+  where
+    named : (op : Op) → HasNamed old e.thread op
+        → HasNamed (record { hb = tables; rows = rows; sums = sums; queues = old.queues; held = old.held; work = work })
+        e.thread op
+    named (Load x) room = λ l h. rooms e.thread.0 l x.0 Read (room l h)
+    named (Store x) room = λ l h. rooms e.thread.0 l x.0 Write (room l h)
+    named (Acquire l) room = (kept.lock l.0 room.0, room.1, room.2)
+    named (Release l) room = kept.lock l.0 room
+    named (Fork u) room = kept.thread u.0 room
+    named (Join u) room = kept.thread u.0 room

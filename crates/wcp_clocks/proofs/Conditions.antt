@@ -1,0 +1,133 @@
+-- A legal event finds the numbers as the step asks.
+use Rattle.std.proofs.Common.{◌≡◌, ℕ, ◌<◌, ◌≤◌, ◌+◌, List, [], ◌∷◌, ◌++◌, length, Bool, true, false, nat_eq}
+use Rattle.std.proofs.Common.{sym, ap, subst, ◌∙◌, inl, inr, ◌⊎◌, ◌↔◌, arith, take}
+use Rattle.std.specs.List.{list_any}
+use Rattle.std.proofs.lemmas.Bool.{cases_Bool, cases_eq, eqb-true}
+use Rattle.std.proofs.lemmas.Option.{slice_get_within}
+use Rattle.std.proofs.Math.Seq.{take-length}
+use Rattle.event_core.specs.declared.bounds.Limits.{Limits}
+use Rattle.event_core.specs.declared.events.AccessKind.{AccessKind}
+use Rattle.event_core.specs.declared.events.Event.{Event}
+use Rattle.event_core.specs.declared.ids.LockId.{LockId}
+use Rattle.event_core.specs.declared.ids.ThreadId.{ThreadId}
+use Rattle.event_core.specs.declared.ids.VarId.{VarId}
+use Rattle.event_core.specs.Closed.{Has, Noted}
+use Rattle.event_core.specs.Log.{depth}
+use Rattle.event_core.specs.Refusal.{WellFormed, held_depths}
+use Rattle.event_core.specs.Rows.{with_row, to_child}
+use Rattle.event_core.specs.Turn.{Turn, Accesses, Opens, Closes, Forks, Joins, Inner}
+use Rattle.event_core.proofs.Growing.{row_same, row_other}
+use Rattle.event_core.proofs.Growth.{well_formed_front}
+use Rattle.event_core.proofs.Legality.{orderly}
+use Rattle.event_core.proofs.Members.{any_has}
+use Rattle.event_core.proofs.Counting.{grown_length}
+use Rattle.event_core.proofs.Slots.{slots}
+use Rattle.event_core.specs.Refusal.{open_acquires}
+use Rattle.hb_clocks.specs.State.{HbState, turn, hb_row, po_row, after}
+use Rattle.hb_clocks.specs.Stands.{Stands as OrderStands}
+use Rattle.hb_clocks.proofs.LegalSteps.{step_stands}
+use Rattle.hb_clocks.proofs.Conditions.{admits_legal, few_in_log}
+use Rattle.section_sum.specs.Sums.{IsAlone, is_held, noted_of}
+use Rattle.wcp_laws.specs.Standing.{Stands}
+use Rattle.wcp_laws.proofs.Conditions.{sound_where_legal}
+use Rattle.wcp_clocks.specs.declared.parts.Parts.{Parts}
+use Rattle.wcp_clocks.specs.HeldLists.{list_at, held_of, numbers_of}
+use Rattle.wcp_clocks.specs.Parts.{hb_of, state_of}
+use Rattle.wcp_clocks.specs.StandsFor.{StandsFor, FitsWhereLegal, IsBounded}
+use Rattle.wcp_clocks.proofs.Growth.{held_numbers}
+
+-- a well-formed log has no more events than there may be
+pub log_within : (limits : Limits) (log : List Event) → WellFormed limits log → length log ≤ limits.events
+log_within limits log w =
+    let room : length log + open_acquires (take (length log) log) ≤ limits.events
+    = slots limits log w (length log) (omega arith) in
+    omega arith
+
+-- a lock of the thread's list is held by no other thread, so no other has an access noted under it
+alone : (limits : Limits) (log : List Event) (p : Parts) (t : ThreadId) → WellFormed limits log
+    → StandsFor log p → IsAlone p.sums t.0 (list_at p.held t.0).locks
+alone limits log p t w st l u v k is other = go (cases_Bool (noted_of p.sums u l v k))
+  where
+    lock : LockId
+    lock = record { 0 = l }
+
+    thread : ThreadId
+    thread = record { 0 = u }
+
+    var : VarId
+    var = record { 0 = v }
+
+    all : take (length log) log ≡ log
+    all = take-length log
+
+    has : Has l (held_of p.held t.0)
+    has =
+        let member = any_has (nat_eq l) (held_of p.held t.0)
+        (sym (held_numbers (list_at p.held t.0).locks l) ∙ is) in
+        let same : l ≡ member.0 = eqb-true l member.0 member.2 in
+        subst (λ n. Has n (held_of p.held t.0)) (sym same) member.1
+
+    mine : 0 < depth (take (length log) log) t lock
+    mine = subst (λ xs. 0 < depth xs t lock) (sym all) ((st.strict.held t lock).0 has)
+
+    theirs : Noted log thread lock var k → 0 < depth (take (length log) log) thread lock
+    theirs n =
+        n.is_open.held (length log) (slice_get_within log n.acquire n.is_open.opened.does.event
+        n.is_open.opened.does.at) (omega arith)
+
+    go : (noted_of p.sums u l v k ≡ true) ⊎ (noted_of p.sums u l v k ≡ false) → noted_of p.sums u l v k ≡ false
+    go (inr none) = none
+    go (inl some) =
+        let noted : Noted log thread lock var k = (st.strict.noted thread lock var k).0 some in
+        let one : thread ≡ t
+        = (orderly limits log w).one_holder (length log) thread t lock (theirs noted) mine in
+        absurd (other (ap (λ (x : ThreadId). x.0) one))
+
+-- the event's clock is its thread's next one
+own_row : (k : Turn) (t : ℕ) (g : ℕ → ℕ) (f : ℕ → ℕ → ℕ) → to_child k g (with_row t g f) t ≡ g
+own_row (Forks u) t g f = go (cases_eq t u.0)
+  where
+    go : (t ≡ u.0) ⊎ (t ≡ u.0 → ⊥) → with_row u.0 g (with_row t g f) t ≡ g
+    go (inl same) = ap (with_row u.0 g (with_row t g f)) same ∙ row_same u.0 g (with_row t g f)
+    go (inr other) = row_other u.0 g (with_row t g f) t other ∙ row_same t g f
+own_row (Accesses x k) t g f = row_same t g f
+own_row (Opens l) t g f = row_same t g f
+own_row (Closes l) t g f = row_same t g f
+own_row (Joins u) t g f = row_same t g f
+own_row Inner t g f = row_same t g f
+
+-- after the event too its thread's own numbers are both that of its events
+own_next : (limits : Limits) (log : List Event) (e : Event) (s : HbState) → WellFormed limits (log ++ e ∷ [])
+    → OrderStands log s → hb_row e s e.thread.0 ≡ po_row e s e.thread.0
+own_next limits log e s w st =
+    let next : OrderStands (log ++ e ∷ []) (after e s) = step_stands limits log e s w st in
+    let hb : (after e s).hb.thread e.thread.0 ≡ hb_row e s
+    = own_row (turn e s) e.thread.0 (hb_row e s) s.hb.thread in
+    let po : (after e s).po e.thread.0 ≡ po_row e s
+    = own_row (turn e s) e.thread.0 (po_row e s) s.po in
+    ap (λ (f : ℕ → ℕ). f e.thread.0) (sym hb) ∙ next.hb_own e.thread ∙ sym (next.po_own e.thread)
+    ∙ ap (λ (f : ℕ → ℕ). f e.thread.0) po
+
+pub fits_where_legal : FitsWhereLegal
+fits_where_legal limits log e p bounds w st little =
+    let front : WellFormed limits log = well_formed_front limits log (e ∷ []) w in
+    let within : length log ≤ limits.events = log_within limits log front in
+    let most : limits.events ≤ 4294967296 = bounds.most_events in
+    record {
+      admits = admits_legal limits log e (hb_of p) w st.hb;
+      few = few_in_log log (hb_of p) (omega arith) st.hb;
+      sound = sound_where_legal limits log e (state_of p) w st.strict;
+      own = st.hb.hb_own e.thread ∙ sym (st.hb.po_own e.thread);
+      own_next = own_next limits log e (hb_of p) w st.hb;
+      alone = alone limits log p e.thread front st;
+      held = λ l. held l;
+      cursors = st.found.counted;
+      joins = little.joins;
+      comparisons = little.comparisons;
+    }
+  where
+    held : (l : LockId) → Has l.0 (held_of p.held e.thread.0) ↔ (0 < (hb_of p).depth e.thread.0 l.0)
+    held l = (
+          λ has. subst (λ n. 0 < n) (sym (st.hb.depths e.thread l)) ((st.strict.held e.thread l).0 has),
+          λ up. (st.strict.held e.thread l).1 (subst (λ n. 0 < n) (st.hb.depths e.thread l) up),
+        )

@@ -1,0 +1,183 @@
+-- Parts that have more room are as before in all else.
+use Rattle.std.proofs.Common.{◌≡◌, ℕ, ◌<◌, ◌≤◌, List, [], ◌∷◌, Bool, true, ◌||◌, nat_eq, refl, sym, ap, subst, ◌∙◌, IsTrue, arith}
+use Rattle.std.proofs.Common.{inl, inr, ◌⊎◌, Result, Ok, Err, OnOk, OnErr}
+use Rattle.std.proofs.lemmas.Bool.{cases_eq}
+use Rattle.event_core.specs.declared.replies.OutOfMemory.{OutOfMemory}
+use Rattle.event_core.proofs.Growing.{row_same, row_other}
+use Rattle.std.specs.List.{list_any}
+use Rattle.event_core.specs.declared.ids.ThreadId.{ThreadId}
+use Rattle.event_core.specs.declared.ids.LockId.{LockId}
+use Rattle.event_core.specs.declared.events.Op.{Op}
+use Rattle.event_core.specs.declared.events.Op.TheVariants.{Load, Store, Acquire, Release, Fork, Join}
+use Rattle.event_core.specs.declared.events.AccessKind.{AccessKind}
+use Rattle.event_core.specs.declared.events.AccessKind.TheVariants.{Read, Write}
+use Rattle.event_core.specs.declared.events.Event.{Event}
+use Rattle.event_core.specs.Bounds.{Bounds}
+use Rattle.event_core.specs.Rows.{Rows, join, with_row, no_rows, no_clock}
+use Rattle.hb_clocks.specs.State.{HbState, empty as hb_empty}
+use Rattle.section_sum.specs.Sums.{HasRoom, is_held, width_of}
+use Rattle.lock_queues.specs.Queues.{Tables as Queues, SameMeaning, has_room}
+use Rattle.wcp_clocks.specs.declared.parts.Parts.{Parts}
+use Rattle.wcp_clocks.specs.HeldLists.{list_at, numbers_of}
+use Rattle.wcp_clocks.specs.StrictRows.{strict_of, below_of}
+use Rattle.wcp_clocks.specs.Parts.{hb_of, state_of, IsReady, HasNamed, KeepsReady, SameLimits, SameNumbers, AreParts}
+use Rattle.wcp_clocks.specs.Growth.{HasGrown}
+
+pub grown_then : (a b c : Parts) → HasGrown a b → HasGrown b c → HasGrown a c
+grown_then a b c p q = record {
+  order = q.order ∙ p.order;
+  order_width = q.order_width ∙ p.order_width;
+  order_room = λ t op r. q.order_room t op (p.order_room t op r);
+  rows = record { strict = q.rows.strict ∙ p.rows.strict; below = q.rows.below ∙ p.rows.below };
+  rows_room = record {
+    width = q.rows_room.width ∙ p.rows_room.width;
+    thread = λ t r. q.rows_room.thread t (p.rows_room.thread t r);
+    lock = λ l r. q.rows_room.lock l (p.rows_room.lock l r);
+  };
+  sums_width = q.sums_width ∙ p.sums_width;
+  noted = λ t l v k. q.noted t l v k ∙ p.noted t l v k;
+  others = λ l v k t u. q.others l v k t u ∙ p.others l v k t u;
+  sums_room = λ t l v k r. q.sums_room t l v k (p.sums_room t l v k r);
+  queues = record {
+    closed = q.queues.closed ∙ p.queues.closed;
+    opened = q.queues.opened ∙ p.queues.opened;
+    found = q.queues.found ∙ p.queues.found;
+    limits = q.queues.limits ∙ p.queues.limits;
+  };
+  queues_room = λ t l r. q.queues_room t l (p.queues_room t l r);
+  held = q.held ∙ p.held;
+  held_room = λ t r. q.held_room t (p.held_room t r);
+  work = q.work ∙ p.work;
+}
+
+pub grown_numbers : (old new : Parts) → HasGrown old new → SameNumbers old new
+grown_numbers old new g = record {
+  state = λ i. record {
+    hb = (g.order i).hb;
+    strict = g.rows.strict i;
+    depth = (g.order i).depth;
+    opened = g.queues.opened i;
+    held = g.held i;
+    noted = λ t l v k. g.noted t l v k i;
+    others = λ l v k t u. g.others l v k t u i;
+    closed = g.queues.closed i;
+  };
+  hb = g.order;
+  found = g.queues.found;
+  work = g.work;
+}
+
+pub grown_limits : (old new : Parts) → HasGrown old new → SameLimits old new
+grown_limits old new g = record { width = g.order_width; limits = g.queues.limits }
+
+-- a lock is one of a list where its number is
+pub held_numbers : (held : List LockId) (l : ℕ) → is_held held l ≡ list_any (nat_eq l) (numbers_of held)
+held_numbers [] l = refl
+held_numbers (m ∷ ms) l = ap (λ b. nat_eq l m.0 || b) (held_numbers ms l)
+
+pub named_kept : (old new : Parts) (t : ThreadId) (op : Op) → HasGrown old new → HasNamed old t op
+    → HasNamed new t op
+named_kept old new t op g = go op
+  where
+    access : (v : ℕ) (k : AccessKind) → HasRoom old.sums t.0 (list_at old.held t.0).locks v k
+        → HasRoom new.sums t.0 (list_at new.held t.0).locks v k
+    access v k room l is =
+        g.sums_room t.0 l v k (room l (held_numbers (list_at old.held t.0).locks l
+        ∙ ap (λ (f : ℕ → List ℕ). list_any (nat_eq l) (f t.0)) (sym g.held)
+        ∙ sym (held_numbers (list_at new.held t.0).locks l) ∙ is))
+
+    go : (op : Op) → HasNamed old t op → HasNamed new t op
+    go (Load x) r = access x.0 Read r
+    go (Store x) r = access x.0 Write r
+    go (Acquire l) r = (g.rows_room.lock l.0 r.0, g.queues_room t.0 l.0 r.1, g.held_room t.0 r.2)
+    go (Release l) r = g.rows_room.lock l.0 r
+    go (Fork u) r = g.rows_room.thread u.0 r
+    go (Join u) r = g.rows_room.thread u.0 r
+
+pub grown_ready : (old new : Parts) → HasGrown old new → KeepsReady old new
+grown_ready old new g e r = record {
+  hb = g.order_room e.thread e.op r.hb;
+  thread = g.rows_room.thread e.thread.0 r.thread;
+  named = named_kept old new e.thread e.op g r.named;
+}
+
+pub grown_parts : (old new : Parts) → HasGrown old new → AreParts old → AreParts new
+grown_parts old new g a = record {
+  rows = g.rows_room.width ∙ a.rows ∙ sym g.order_width;
+  sums = g.sums_width ∙ a.sums ∙ sym g.order_width;
+  queues = ap (λ (b : Bounds). b.threads) g.queues.limits ∙ a.queues ∙ sym g.order_width;
+  below = λ t. ap (λ (f : ℕ → ℕ → ℕ). f t) g.rows.below ∙ a.below t
+      ∙ ap (λ (r : Rows). join (r.thread t) ((hb_of old).po t)) (sym g.rows.strict)
+      ∙ ap (λ (s : HbState). join ((strict_of new.rows).thread t) (s.po t)) (sym g.order);
+  held_thread = λ t l up. g.rows_room.thread t
+      (a.held_thread t l (subst (λ (s : HbState). 0 < s.depth t l) g.order up));
+  held_lock = λ t l up. g.rows_room.lock l
+      (a.held_lock t l (subst (λ (s : HbState). 0 < s.depth t l) g.order up));
+}
+
+-- a table with one place more that is true
+row_true : (t l : ℕ) (f : ℕ → ℕ → Bool) (u m : ℕ) → f u m ≡ true
+    → with_row t (with_row l true (f t)) f u m ≡ true
+row_true t l f u m is = go (cases_eq u t) (cases_eq m l)
+  where
+    go : (u ≡ t) ⊎ (u ≡ t → ⊥) → (m ≡ l) ⊎ (m ≡ l → ⊥) → with_row t (with_row l true (f t)) f u m ≡ true
+    go (inr n) q = ap (λ (g : ℕ → Bool). g m) (row_other t (with_row l true (f t)) f u n) ∙ is
+    go (inl e) q = subst (λ v. f v m ≡ true → with_row t (with_row l true (f t)) f v m ≡ true) (sym e)
+        (λ was. ap (λ (g : ℕ → Bool). g m) (row_same t (with_row l true (f t)) f) ∙ at was q) is
+      where
+        at : f t m ≡ true → (m ≡ l) ⊎ (m ≡ l → ⊥) → with_row l true (f t) m ≡ true
+        at was (inl s) = subst (λ n. with_row l true (f t) n ≡ true) (sym s) (row_same l true (f t))
+        at was (inr n) = row_other l true (f t) m n ∙ was
+
+-- room is made in the queues of a lock, or none is
+pub queues_kept : (r : Result (Unit {0}) OutOfMemory) (t l : ℕ) (old new : ℕ → ℕ → Bool)
+    → OnOk r (new ≡ with_row t (with_row l true (old t)) old) → OnErr r (new ≡ old)
+    → (u m : ℕ) → IsTrue (old u m) → IsTrue (new u m)
+queues_kept (Ok x) t l old new ok err u m is =
+    ap (λ (f : ℕ → ℕ → Bool). f u m) ok ∙ row_true t l old u m is
+queues_kept (Err x) t l old new ok err u m is = ap (λ (f : ℕ → ℕ → Bool). f u m) err ∙ is
+
+pub queue_made : (r : Result (Unit {0}) OutOfMemory) (t l : ℕ) (old new : ℕ → ℕ → Bool)
+    → OnOk r (new ≡ with_row t (with_row l true (old t)) old) → OnOk r (IsTrue (new t l))
+queue_made (Ok x) t l old new ok =
+    ap (λ (f : ℕ → ℕ → Bool). f t l) ok
+    ∙ ap (λ (g : ℕ → Bool). g l) (row_same t (with_row l true (old t)) old) ∙ row_same l true (old t)
+queue_made (Err x) t l old new ok = tt
+
+pub queues_grown : (old : Parts) (new : Queues) → SameMeaning old.queues new
+    → ((t l : ℕ) → IsTrue (has_room old.queues t l) → IsTrue (has_room new t l))
+    → HasGrown old (record old { queues = new })
+queues_grown old new same kept = record {
+  order = refl;
+  order_width = refl;
+  order_room = λ t op r. r;
+  rows = record { strict = refl; below = refl };
+  rows_room = record { width = refl; thread = λ t r. r; lock = λ l r. r };
+  sums_width = refl;
+  noted = λ t l v k. refl;
+  others = λ l v k t u. refl;
+  sums_room = λ t l v k r. r;
+  queues = same;
+  queues_room = kept;
+  held = refl;
+  held_room = λ t r. r;
+  work = refl;
+}
+
+-- parts of one width, without numbers
+pub are_parts : (p : Parts) (width : ℕ) → p.hb.width ≡ width → hb_of p ≡ hb_empty
+    → p.rows.width ≡ width → strict_of p.rows ≡ no_rows → below_of p.rows ≡ (λ _. no_clock)
+    → width_of p.sums ≡ width → p.queues.limits.threads ≡ width → AreParts p
+are_parts p width hb_width hb rows_width strict below sums queues = record {
+  rows = rows_width ∙ sym hb_width;
+  sums = sums ∙ sym hb_width;
+  queues = queues ∙ sym hb_width;
+  below = λ t. ap (λ (f : ℕ → ℕ → ℕ). f t) below
+      ∙ ap (λ (r : Rows). join (r.thread t) no_clock) (sym strict)
+      ∙ ap (λ (s : HbState). join ((strict_of p.rows).thread t) (s.po t)) (sym hb);
+  held_thread = λ t l up. absurd (none t l up);
+  held_lock = λ t l up. absurd (none t l up);
+}
+  where
+    none : (t l : ℕ) → 0 < (hb_of p).depth t l → ⊥
+    none t l up = let z : (hb_of p).depth t l ≡ 0 = ap (λ (s : HbState). s.depth t l) hb in omega arith

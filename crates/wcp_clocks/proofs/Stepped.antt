@@ -1,0 +1,162 @@
+-- The step of an event, from its step part by part.
+use Rattle.std.proofs.Common.{◌≡◌, ℕ, ◌+◌, ◌-◌, ◌*◌, ◌<◌, ◌≤◌, List, length, max, refl, sym, ap, ap₂, subst, ◌∙◌, arith, inl, inr, ◌⊎◌, cond}
+use Rattle.std.proofs.lemmas.Bool.{cases_eq, eq-eqb, ne_eqb}
+use Rattle.event_core.specs.declared.ids.LockId.{LockId}
+use Rattle.event_core.specs.declared.ids.ThreadId.{ThreadId}
+use Rattle.event_core.specs.declared.events.Event.{Event}
+use Rattle.event_core.specs.declared.events.Op.{Op}
+use Rattle.event_core.specs.declared.events.Op.TheVariants.{Load, Store, Acquire, Release, Fork, Join}
+use Rattle.event_core.specs.Rows.{join, with_row, to_child, to_lock}
+use Rattle.event_core.specs.Turn.{Turn, Accesses, Opens, Closes, Forks, Joins, Inner, turn_of}
+use Rattle.event_core.proofs.Growing.{row_same, row_other}
+use Rattle.hb_clocks.specs.State as hb
+use Rattle.section_sum.specs.Sums.{width_of}
+use Rattle.wcp_laws.specs.Step.{turn, after, hb_row, opened_after, held_after, noted_after, others_after, closed_after}
+use Rattle.wcp_laws.specs.Conditions.{found_at}
+use Rattle.wcp_clocks.specs.declared.parts.Parts.{Parts}
+use Rattle.wcp_clocks.specs.HeldLists.{held_of}
+use Rattle.wcp_clocks.specs.StrictRows.{strict_of, below_of, HasThread, HasLock}
+use Rattle.wcp_clocks.specs.Parts.{hb_of, state_of, found_in, AreParts, IsReady, HasNamed, most_joins}
+use Rattle.wcp_clocks.specs.Parts.{FewComparisons, IsAccess, KeepsReady}
+use Rattle.wcp_clocks.specs.Stepping.{IsStep, IsStepBy, strict_clock, below_clock}
+
+-- rows that are each the join of two are so where both are written
+row_join : (t : ℕ) (a b : ℕ → ℕ) (f g h : ℕ → ℕ → ℕ) → ((x : ℕ) → h x ≡ join (f x) (g x))
+    → (x : ℕ) → with_row t (join a b) h x ≡ join (with_row t a f x) (with_row t b g x)
+row_join t a b f g h is x = go (cases_eq x t)
+  where
+    go : (x ≡ t) ⊎ (x ≡ t → ⊥) → with_row t (join a b) h x ≡ join (with_row t a f x) (with_row t b g x)
+    go (inl q) = subst (λ y. with_row t (join a b) h y ≡ join (with_row t a f y) (with_row t b g y)) (sym q)
+        (row_same t (join a b) h ∙ ap₂ join (sym (row_same t a f)) (sym (row_same t b g)))
+    go (inr n) = row_other t (join a b) h x n ∙ is x
+        ∙ ap₂ join (sym (row_other t a f x n)) (sym (row_other t b g x n))
+
+child_join : (k : Turn) (t : ℕ) (a b : ℕ → ℕ) (f g h : ℕ → ℕ → ℕ) → ((x : ℕ) → h x ≡ join (f x) (g x))
+    → (x : ℕ) → to_child k (join a b) (with_row t (join a b) h) x
+    ≡ join (to_child k a (with_row t a f) x) (to_child k b (with_row t b g) x)
+child_join (Forks u) t a b f g h is x =
+    row_join u.0 a b (with_row t a f) (with_row t b g) (with_row t (join a b) h) (row_join t a b f g h is) x
+child_join (Accesses y k) t a b f g h is x = row_join t a b f g h is x
+child_join (Opens l) t a b f g h is x = row_join t a b f g h is x
+child_join (Closes l) t a b f g h is x = row_join t a b f g h is x
+child_join (Joins u) t a b f g h is x = row_join t a b f g h is x
+child_join Inner t a b f g h is x = row_join t a b f g h is x
+
+-- a lock that is held after the operation was held before it, or is the one that it acquires
+abbrev IsTaken : ℕ → Op → ℕ → ℕ → Type 0
+IsTaken t op u l = (u ≡ t) × (m : LockId) × (op ≡ Acquire m) × (l ≡ m.0)
+
+held_before : (t : ℕ) (op : Op) (d : ℕ → ℕ → ℕ) (u l : ℕ) → 0 < hb.depth_after t op d u l
+    → (0 < d u l) ⊎ IsTaken t op u l
+held_before t (Acquire m) d u l h = go (cases_eq u t) (cases_eq l m.0)
+  where
+    row : ℕ → ℕ
+    row = with_row m.0 (d t m.0 + 1) (d t)
+
+    go : (u ≡ t) ⊎ (u ≡ t → ⊥) → (l ≡ m.0) ⊎ (l ≡ m.0 → ⊥) → (0 < d u l) ⊎ IsTaken t (Acquire m) u l
+    go (inl q) (inl p) = inr (q, m, refl, p)
+    go (inl q) (inr n) =
+        let e : with_row t row d u l ≡ d t l =
+        ap (λ x. with_row t row d x l) q ∙ ap (λ (f : ℕ → ℕ). f l) (row_same t row d)
+        ∙ row_other m.0 (d t m.0 + 1) (d t) l n in
+        inl (subst (λ x. 0 < d x l) (sym q) (subst (λ x. 0 < x) e h))
+    go (inr n) _ = inl (subst (λ x. 0 < x) (ap (λ (f : ℕ → ℕ). f l) (row_other t row d u n)) h)
+held_before t (Release m) d u l h = go (cases_eq u t) (cases_eq l m.0)
+  where
+    row : ℕ → ℕ
+    row = with_row m.0 (d t m.0 - 1) (d t)
+
+    go : (u ≡ t) ⊎ (u ≡ t → ⊥) → (l ≡ m.0) ⊎ (l ≡ m.0 → ⊥) → (0 < d u l) ⊎ IsTaken t (Release m) u l
+    go (inl q) (inl p) =
+        let e : with_row t row d u l ≡ d t m.0 - 1 =
+        ap₂ (λ x y. with_row t row d x y) q p ∙ ap (λ (f : ℕ → ℕ). f m.0) (row_same t row d)
+        ∙ row_same m.0 (d t m.0 - 1) (d t) in
+        let was : d u l ≡ d t m.0 = ap₂ d q p in
+        inl (omega arith)
+    go (inl q) (inr n) =
+        let e : with_row t row d u l ≡ d t l =
+        ap (λ x. with_row t row d x l) q ∙ ap (λ (f : ℕ → ℕ). f l) (row_same t row d)
+        ∙ row_other m.0 (d t m.0 - 1) (d t) l n in
+        inl (subst (λ x. 0 < d x l) (sym q) (subst (λ x. 0 < x) e h))
+    go (inr n) _ = inl (subst (λ x. 0 < x) (ap (λ (f : ℕ → ℕ). f l) (row_other t row d u n)) h)
+held_before t (Load x) d u l h = inl h
+held_before t (Store x) d u l h = inl h
+held_before t (Fork v) d u l h = inl h
+held_before t (Join v) d u l h = inl h
+
+module _ (e : Event) (k : Turn) (old new : Parts) (told : turn e (state_of old) ≡ k) (by : IsStepBy e k old new) where
+  exact : state_of new ≡ after e (state_of old)
+  exact i = record {
+    hb = ap (λ (s : hb.HbState). s.hb) by.hb i;
+    strict = record {
+      thread = (by.threads ∙ ap (λ k. to_child k (strict_clock e k old)
+          (with_row e.thread.0 (strict_clock e k old) (strict_of old.rows).thread)) (sym told)) i;
+      lock = (by.locks ∙ ap (λ k. to_lock k (strict_clock e k old) (strict_of old.rows).lock) (sym told)) i;
+    };
+    depth = ap (λ (s : hb.HbState). s.depth) by.hb i;
+    opened = (by.opened ∙ ap (λ k. opened_after e.thread.0 k (hb_row e (state_of old) e.thread.0) (state_of old).opened)
+        (sym told)) i;
+    held = (by.held ∙ ap (λ k. held_after e.thread.0 k (state_of old).held) (sym told)) i;
+    noted = (by.noted ∙ ap (λ k. noted_after e.thread.0 k (state_of old).depth (state_of old).noted) (sym told)) i;
+    others = (by.others ∙ ap (λ k. others_after e.thread.0 k (hb_row e (state_of old)) (state_of old)) (sym told)) i;
+    closed = (by.closed ∙ ap (λ k. closed_after e.thread.0 k (hb_row e (state_of old)) (state_of old)) (sym told)) i;
+  }
+
+  below : AreParts old → (t : ℕ) → below_of new.rows t ≡ join ((strict_of new.rows).thread t) ((hb_of new).po t)
+  below parts t =
+      ap (λ (f : ℕ → ℕ → ℕ). f t) by.below
+      ∙ child_join k e.thread.0 (strict_clock e k old) (hb.po_row e (hb_of old)) (strict_of old.rows).thread
+      (hb_of old).po (below_of old.rows) parts.below t
+      ∙ ap₂ join (sym (ap (λ (f : ℕ → ℕ → ℕ). f t) by.threads)) (sym (ap (λ (f : ℕ → ℕ → ℕ). f t) po))
+    where
+      po : (hb_of new).po ≡ to_child k (hb.po_row e (hb_of old)) (with_row e.thread.0 (hb.po_row e (hb_of old)) (hb_of old).po)
+      po = ap (λ (s : hb.HbState). s.po) by.hb
+          ∙ ap (λ k. to_child k (hb.po_row e (hb_of old)) (with_row e.thread.0 (hb.po_row e (hb_of old)) (hb_of old).po)) told
+
+  kept_parts : AreParts old → IsReady old e → AreParts new
+  kept_parts parts ready = record {
+    rows = by.room.width ∙ parts.rows ∙ sym by.limits.width;
+    sums = by.sums ∙ parts.sums ∙ sym by.limits.width;
+    queues = ap (λ b. b.threads) by.limits.limits ∙ parts.queues ∙ sym by.limits.width;
+    below = below parts;
+    held_thread = λ t l h. thread l t (held_before e.thread.0 e.op (hb_of old).depth t l (was t l h));
+    held_lock = λ t l h. lock l t (held_before e.thread.0 e.op (hb_of old).depth t l (was t l h));
+  }
+    where
+      was : (t l : ℕ) → 0 < (hb_of new).depth t l → 0 < hb.depth_after e.thread.0 e.op (hb_of old).depth t l
+      was t l h = subst (λ (s : hb.HbState). 0 < s.depth t l) by.hb h
+
+      thread : (l t : ℕ) → (0 < (hb_of old).depth t l) ⊎ IsTaken e.thread.0 e.op t l → HasThread new.rows t
+      thread l t (inl h) = by.room.thread t (parts.held_thread t l h)
+      thread l t (inr p) = by.room.thread t (subst (λ u. HasThread old.rows u) (sym p.0) ready.thread)
+
+      lock : (l t : ℕ) → (0 < (hb_of old).depth t l) ⊎ IsTaken e.thread.0 e.op t l → HasLock new.rows l
+      lock l t (inl h) = by.room.lock l (parts.held_lock t l h)
+      lock l t (inr p) = by.room.lock l (subst (λ m. HasLock old.rows m) (sym p.3)
+          (subst (λ (op : Op). HasNamed old e.thread op) p.2 ready.named).0)
+
+  pub stepped : AreParts old → IsReady old e → (IsAccess e.op → KeepsReady old new) → IsStep e old new
+  stepped parts ready kept = record {
+    exact = exact;
+    hb = by.hb;
+    found = by.found ∙ ap (λ k. found_at e.thread k (state_of old) (found_in old)) (sym told);
+    joins = subst (λ k. new.work.joins ≤ old.work.joins + most_joins k (length (held_of old.held e.thread.0)))
+        (sym told) by.joins;
+    comparisons = subst (λ k. FewComparisons e.thread k old new) (sym told) by.comparisons;
+    limits = by.limits;
+    parts = kept_parts parts ready;
+    kept = kept;
+  }
+
+-- the turn of an acquire and of a release, by the depth that the thread holds the lock to
+pub outer_acquire : (d : ℕ → ℕ) (l : LockId) → d l.0 ≡ 0 → turn_of d (Acquire l) ≡ Opens l
+outer_acquire d l e = ap (λ b. cond b (Opens l) Inner) (eq-eqb (d l.0) 0 e)
+
+pub inner_acquire : (d : ℕ → ℕ) (l : LockId) → (d l.0 ≡ 0 → ⊥) → turn_of d (Acquire l) ≡ Inner
+inner_acquire d l n = ap (λ b. cond b (Opens l) Inner) (ne_eqb (d l.0) 0 n)
+
+pub outer_release : (d : ℕ → ℕ) (l : LockId) → d l.0 ≡ 1 → turn_of d (Release l) ≡ Closes l
+outer_release d l e = ap (λ b. cond b (Closes l) Inner) (eq-eqb (d l.0) 1 e)
+
+pub inner_release : (d : ℕ → ℕ) (l : LockId) → (d l.0 ≡ 1 → ⊥) → turn_of d (Release l) ≡ Inner
+inner_release d l n = ap (λ b. cond b (Closes l) Inner) (ne_eqb (d l.0) 1 n)

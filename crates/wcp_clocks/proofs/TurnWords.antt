@@ -1,0 +1,140 @@
+-- What a turn does to the clocks, in the words of the step.
+use Rattle.std.proofs.Common.{◌≡◌, ℕ, ◌+◌, ◌≤◌, ◌<◌, max, Bool, true, false, nat_eq, nat_lt, not, ◌&&◌, ◌||◌, cond, List, [], ◌∷◌}
+use Rattle.std.proofs.Common.{sym, ap, ap₂, subst, ◌∙◌, refl, arith, inl, inr, ◌⊎◌, ◌↔◌, length}
+use Rattle.std.proofs.lemmas.Bool.{cases_eq, cases_Bool, eqb-true, eq-eqb, ltb_from_iff}
+use Rattle.event_core.specs.declared.ids.LockId.{LockId}
+use Rattle.event_core.specs.declared.ids.VarId.{VarId}
+use Rattle.event_core.specs.declared.ids.ThreadId.{ThreadId}
+use Rattle.event_core.specs.declared.events.Event.{Event}
+use Rattle.event_core.specs.declared.events.AccessKind.{AccessKind}
+use Rattle.event_core.specs.declared.events.AccessKind.TheVariants.{Read, Write}
+use Rattle.event_core.specs.Closed.{Has, first, later}
+use Rattle.event_core.specs.Rows.{no_clock, join, bump, with_row, to_child, brought}
+use Rattle.event_core.specs.Turn.{Turn, Accesses, Opens, Closes, Forks, Joins, Inner}
+use Rattle.event_core.proofs.Growing.{row_same, row_other}
+use Rattle.hb_clocks.specs.State as hb
+use Rattle.section_sum.specs.Cells.{is_kind}
+use Rattle.section_sum.specs.Sums.{Sums, noted_of, others_of, sources_of, is_held, is_access, SameNoted, SameOthers}
+use Rattle.wcp_laws.specs.State.{State}
+use Rattle.wcp_laws.specs.Step.{sources, kind_eq, noted_after, others_after}
+use Rattle.wcp_clocks.specs.HeldLists.{numbers_of}
+use Rattle.wcp_clocks.proofs.Rows.{own_row, bump_join}
+
+-- the thread's clock of program order after its event
+pub own_program_order : (e : Event) (old new : hb.HbState) → new ≡ hb.after e old
+    → new.po e.thread.0 ≡ hb.po_row e old
+own_program_order e old new is =
+    ap (λ (s : hb.HbState). s.po e.thread.0) is
+    ∙ own_row (hb.turn e old) e.thread.0 (hb.po_row e old) old.po
+
+-- an event to which nothing is brought
+pub plain_row : (e : Event) (s : hb.HbState) (k : Turn) → hb.turn e s ≡ k
+    → brought k (hb.without_locks s.po) ≡ no_clock
+    → hb.po_row e s ≡ bump e.thread.0 (join (s.po e.thread.0) no_clock)
+plain_row e s k is none =
+    ap (λ (b : ℕ → ℕ). bump e.thread.0 (join (s.po e.thread.0) b))
+    (ap (λ k. brought k (hb.without_locks s.po)) is ∙ none)
+
+-- the sources under a lock are those of the rule
+pub same_sources : (sums : Sums) (s : State) (x : VarId) (k : AccessKind) (t : ThreadId) → s.others ≡ others_of sums
+    → (λ l. sources_of sums l x.0 k t.0) ≡ sources s x k t
+unfolding sources_of
+same_sources sums s x Read t e i l = sym (ap (λ f. f l x.0 Write t.0) e) i
+same_sources sums s x Write t e i l =
+    sym (ap (λ (f : ℕ → ℕ → AccessKind → ℕ → ℕ → ℕ). join (f l x.0 Read t.0) (f l x.0 Write t.0)) e) i
+
+-- a lock is held where its number is one of the list's
+held_has : (locks : List LockId) (l : ℕ) → is_held locks l ≡ true → Has l (numbers_of locks)
+held_has [] l e = absurd (cc e)
+held_has (m ∷ ms) l e = go (held_has ms l) (cases_Bool (nat_eq l m.0)) e
+  where
+    go : (is_held ms l ≡ true → Has l (numbers_of ms)) → (nat_eq l m.0 ≡ true) ⊎ (nat_eq l m.0 ≡ false)
+        → (nat_eq l m.0 || is_held ms l) ≡ true → Has l (numbers_of (m ∷ ms))
+    go rest (inl q) e = first m.0 (numbers_of ms) (eqb-true l m.0 q)
+    go rest (inr n) e = later m.0 (numbers_of ms) (rest (sym (ap (λ b. b || is_held ms l) n) ∙ e))
+
+has_held : (locks : List LockId) (l : ℕ) → Has l (numbers_of locks) → is_held locks l ≡ true
+has_held [] l h = elim h [ ]
+has_held (m ∷ ms) l (first _ _ q) = ap (λ b. b || is_held ms l) (eq-eqb l m.0 q)
+has_held (m ∷ ms) l (later _ _ h) = go (nat_eq l m.0) (has_held ms l h)
+  where
+    go : (b : Bool) → is_held ms l ≡ true → (b || is_held ms l) ≡ true
+    go true e = refl
+    go false e = e
+
+pub held_is : (locks : List LockId) (d l : ℕ) → (Has l (numbers_of locks) ↔ (0 < d)) → is_held locks l ≡ nat_lt 0 d
+held_is locks d l iff = ltb_from_iff (λ e. iff.0 (held_has locks l e), λ h. has_held locks l (iff.1 h))
+
+kinds : (j k : AccessKind) → is_kind j k ≡ kind_eq j k
+kinds Read Read = refl
+kinds Read Write = refl
+kinds Write Read = refl
+kinds Write Write = refl
+
+-- an access that is noted, in the words of the step
+pub same_noted : (old new : Sums) (d : ℕ → ℕ → ℕ) (t : ThreadId) (locks : List LockId) (x : VarId) (k : AccessKind)
+    → ((l : LockId) → Has l.0 (numbers_of locks) ↔ (0 < d t.0 l.0))
+    → ((v l y : ℕ) (j : AccessKind) → noted_of new v l y j
+    ≡ (noted_of old v l y j || is_access t.0 locks x.0 k v l y j))
+    → noted_of new ≡ noted_after t.0 (Accesses x k) d (noted_of old)
+same_noted old new d t locks x k held noted i v l y j =
+    (noted v l y j
+    ∙ ap (λ (b : Bool). noted_of old v l y j || (nat_eq v t.0 && b))
+    (ap₂ (λ (h : Bool) (m : Bool). h && (nat_eq y x.0 && m))
+    (held_is locks (d t.0 l) l (held (record { 0 = l }))) (kinds j k))) i
+
+pub same_others : (old new : Sums) → SameOthers old new → others_of new ≡ others_of old
+same_others old new same i l v k t u = same l v k t u i
+
+-- after its event the thread counts itself
+pub own_counted : (e : Event) (old new : hb.HbState) → new ≡ hb.after e old → 0 < new.po e.thread.0 e.thread.0
+own_counted e old new is = subst (λ n. 0 < n) (sym (at ∙ bumped)) (omega arith)
+  where
+    t : ℕ
+    t = e.thread.0
+
+    f : ℕ → ℕ
+    f = join (old.po t) (brought (hb.turn e old) (hb.without_locks old.po))
+
+    at : new.po t t ≡ hb.po_row e old t
+    at = ap (λ (g : ℕ → ℕ). g t) (own_program_order e old new is)
+
+    bumped : bump t f t ≡ f t + 1
+    bumped = ap (λ b. cond b (f t + 1) (f t)) (eq-eqb t t refl)
+
+-- the thread's clock of happens-before after its event
+pub own_happens_before : (e : Event) (old new : hb.HbState) → new ≡ hb.after e old
+    → new.hb.thread e.thread.0 ≡ hb.hb_row e old
+own_happens_before e old new is =
+    ap (λ (s : hb.HbState). s.hb.thread e.thread.0) is
+    ∙ own_row (hb.turn e old) e.thread.0 (hb.hb_row e old) old.hb.thread
+
+-- what a closing release forgets, in the words of the step
+pub closed_noted : (old new : Sums) (d : ℕ → ℕ → ℕ) (t : ThreadId) (m : LockId)
+    → ((v l y : ℕ) (j : AccessKind) → noted_of new v l y j
+    ≡ (noted_of old v l y j && not (nat_eq v t.0 && nat_eq l m.0)))
+    → noted_of new ≡ noted_after t.0 (Closes m) d (noted_of old)
+closed_noted old new d t m noted i v l y j = noted v l y j i
+
+-- what it joins to the clocks of the others
+pub closed_others : (old new : Sums) (g clock : ℕ → ℕ) (s : State) (t : ThreadId) (m : LockId)
+    → s.others ≡ others_of old → s.noted ≡ noted_of old → clock ≡ g
+    → ((l v : ℕ) (k : AccessKind) (w u : ℕ) → others_of new l v k w u
+    ≡ cond (nat_eq l m.0 && (not (nat_eq w t.0) && noted_of old t.0 l v k))
+    (join (others_of old l v k w) clock u) (others_of old l v k w u))
+    → others_of new ≡ others_after t.0 (Closes m) g s
+closed_others old new g clock s t m others noted same is i l v k w u = all i
+  where
+    b : Bool
+    b = nat_eq l m.0 && (not (nat_eq w t.0) && s.noted t.0 l v k)
+
+    at : (b : Bool) → cond b (join (s.others l v k w) g u) (s.others l v k w u)
+        ≡ cond b (join (s.others l v k w) g) (s.others l v k w) u
+    at true = refl
+    at false = refl
+
+    all : others_of new l v k w u ≡ others_after t.0 (Closes m) g s l v k w u
+    all = is l v k w u
+        ∙ (λ j. cond (nat_eq l m.0 && (not (nat_eq w t.0) && sym noted j t.0 l v k))
+        (join (sym others j l v k w) (same j) u) (sym others j l v k w u))
+        ∙ at b

@@ -1,0 +1,6 @@
+use Rattle.std.proofs.Common.{◌≡◌, ◌≤◌, ◌-◌, ap, arith, vec_len, vec_capacity}
+use Rattle.wcp_clocks.specs.HeldLists.{HeldList}
+use Rattle.wcp_clocks.proofs.holdings.Holding.remove.Goals as goal
+
+pub returns-clause-room : goal.returns-clause-room
+returns-clause-room c = rw (← c.self.view_is) c.take_out.ensures.room

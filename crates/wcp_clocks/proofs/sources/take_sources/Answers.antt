@@ -1,0 +1,47 @@
+use Rattle.std.proofs.Common.{◌≡◌, ◌<◌, ◌≤◌, ℕ, List, Bool, true, false, ◌||◌, length, take, get_or, sym, ap, subst, ◌∙◌, arith, refl}
+use Rattle.std.proofs.Common.{inl, inr, ◌⊎◌}
+use Rattle.std.proofs.lemmas.Bool.{cases_Bool}
+use Rattle.std.proofs.lemmas.List.{map_more, length-map, length-take-le}
+use Rattle.event_core.specs.declared.ids.LockId.{LockId}
+use Rattle.section_sum.specs.Sums.{sources_of}
+use Rattle.wcp_clocks.specs.HeldLists.{numbers_of}
+use Rattle.wcp_clocks.proofs.Taking.{HasTaken, taken_begins, taken_on}
+use Rattle.wcp_clocks.proofs.sources.take_sources.Goals as goal
+
+pub loop-lock-init : goal.loop-lock-init
+loop-lock-init c = taken_begins _ _ _ _ _
+
+pub take_under-taken-requires-clause-room : goal.take_under-taken-requires-clause-room
+take_under-taken-requires-clause-room c = c.loop-lock.invariant.kept.thread c.args.thread.0 c.requires.room
+
+pub take_under-taken-requires-clause-wide : goal.take_under-taken-requires-clause-wide
+take_under-taken-requires-clause-wide c = c.requires.wide ∙ sym c.loop-lock.invariant.kept.width
+
+pub take_under-taken-requires-clause-few : goal.take_under-taken-requires-clause-few
+take_under-taken-requires-clause-few c =
+    let i : ℕ = c.loop-lock.lock-index in
+    let n : length (numbers_of (take i c.args.held.now)) ≡ length (take i c.args.held.now) =
+    length-map (take i c.args.held.now) (λ (l : LockId). l.0) in
+    let m = length-take-le i c.args.held.now (let test = c.loop-lock-test.true in omega arith) in
+    let test = c.loop-lock-test.true in
+    let j = c.loop-lock.invariant.joins in
+    let few = c.requires.few in omega arith
+
+both_false : (a b : Bool) → (a || b) ≡ false → (a ≡ false) × (b ≡ false)
+both_false false b e = (refl, e)
+both_false true b e = absurd (cc e)
+
+pub loop-lock-preserved : goal.loop-lock-preserved
+loop-lock-preserved c =
+    let l : LockId = get_or c.args.held.now c.loop-lock.lock-index (record { 0 = 0 }) in
+    let t : ℕ = c.args.thread.0 in
+    let source : ℕ → ℕ → ℕ = λ m. sources_of c.args.sums.now m c.args.var.0 c.args.kind t in
+    let e = c.take_under-taken.ensures in
+    subst (λ ns. HasTaken t source c.args.rows.now c.take_under-taken.new.rows c.args.work.now
+    c.take_under-taken.new.work ns (c.loop-lock.taken || c.take_under-taken.result))
+    (sym (map_more (λ (m : LockId). m.0) c.args.held.now c.loop-lock.lock-index (record { 0 = 0 }) c.loop-lock-test.true))
+    (taken_on t source c.args.rows.now c.loop-lock.rows c.take_under-taken.new.rows c.args.work.now
+    c.loop-lock.work c.take_under-taken.new.work (numbers_of (take c.loop-lock.lock-index c.args.held.now)) l.0
+    c.loop-lock.taken c.take_under-taken.result (c.loop-lock.taken || c.take_under-taken.result)
+    c.loop-lock.invariant e.threads e.locks e.below e.kept e.none (both_false c.loop-lock.taken c.take_under-taken.result)
+    e.joins e.comparisons)

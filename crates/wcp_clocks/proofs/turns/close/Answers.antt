@@ -1,0 +1,87 @@
+use Rattle.std.proofs.Common.{◌≡◌, ℕ, ◌+◌, ◌≤◌, ◌<◌, ◌++◌, ◌∷◌, [], List, ap, ap₂, sym, subst, ◌∙◌, arith, refl}
+use Rattle.event_core.specs.Closed.{Closed, Has}
+use Rattle.event_core.specs.Rows.{with_row}
+use Rattle.event_core.specs.Turn.{Turn, Closes}
+use Rattle.event_core.proofs.Growing.{row_same}
+use Rattle.hb_clocks.specs.Counts.{counts_of}
+use Rattle.hb_clocks.specs.Work.{Done}
+use Rattle.section_sum.specs.Sums.{others_of}
+use Rattle.lock_queues.specs.Queues.{closed_of, opened_of, found_of}
+use Rattle.wcp_laws.specs.Step.{hb_row, others_after, noted_after}
+use Rattle.wcp_clocks.specs.Parts.{hb_of, state_of}
+use Rattle.wcp_clocks.specs.StrictRows.{strict_of}
+use Rattle.wcp_clocks.specs.Stepping.{strict_clock}
+use Rattle.wcp_clocks.proofs.Taking.{room_then}
+use Rattle.wcp_clocks.proofs.OwnClocks.{followed_below}
+use Rattle.wcp_clocks.proofs.TurnWords.{own_happens_before, closed_others, closed_noted}
+use Rattle.wcp_clocks.proofs.Passing.{own_written, joins_told}
+use Rattle.wcp_clocks.proofs.turns.close.Goals as goal
+
+pub close-requires-clause-above : goal.close-requires-clause-above
+close-requires-clause-above c v k t u =
+    subst (λ (g : ℕ → ℕ). others_of c.args.parts.now.sums c.args.lock.0 v k t u ≤ g u)
+    (sym (c.hb-clock.ensures.exact
+    ∙ own_happens_before c.args.event.now (hb_of c.args.parts.now) _ c.advance.ensures.exact))
+    (c.requires.fits.sound.above_others c.args.lock (record { 0 = v }) k (record { 0 = t }) (record { 0 = u })
+    c.requires.turn)
+
+pub leave-requires-clause-entered : goal.leave-requires-clause-entered
+leave-requires-clause-entered c =
+    subst (λ (f : ℕ → ℕ → ℕ). 0 < f c.args.event.now.thread.0 c.args.lock.0)
+    (sym c.take_closed.ensures.found.opened) (c.requires.fits.sound.opened c.args.lock c.requires.turn)
+
+pub leave-requires-clause-above : goal.leave-requires-clause-above
+leave-requires-clause-above c q u has =
+    subst (λ (g : ℕ → ℕ). q.release u ≤ g u)
+    (sym (c.hb-clock.ensures.exact
+    ∙ own_happens_before c.args.event.now (hb_of c.args.parts.now) _ c.advance.ensures.exact))
+    (c.requires.fits.sound.above_closed c.args.lock q (record { 0 = u }) c.requires.turn
+    (subst (λ (f : ℕ → List Closed). Has q (f c.args.lock.0))
+    c.take_closed.ensures.found.closed has))
+
+pub returns : goal.returns
+returns c =
+    let e = c.args.event.now in
+    let old = c.args.parts.now in
+    let k : Turn = Closes c.args.lock in
+    let t : ℕ = e.thread.0 in
+    let l : ℕ = c.args.lock.0 in
+    let taken = c.take_closed in
+    let left = c.leave.ensures in
+    let strict = c.follow.ensures.strict in
+    let own = own_written e k old taken.new.rows taken.ensures.threads in
+    let g = c.hb-clock.ensures.exact ∙ own_happens_before e (hb_of old) _ c.advance.ensures.exact in
+    record {
+      hb = c.advance.ensures.exact;
+      threads = c.give_lock.ensures.threads ∙ ap (λ r. r.thread) strict ∙ taken.ensures.threads;
+      locks = c.give_lock.ensures.locks
+          ∙ ap₂ (λ (a : ℕ → ℕ) (f : ℕ → ℕ → ℕ). with_row l a f)
+          (ap (λ r. r.thread t) strict ∙ own) (ap (λ r. r.lock) strict ∙ taken.ensures.locks);
+      below = c.give_lock.ensures.below ∙ c.follow.ensures.below
+          ∙ followed_below e k old taken.new.rows c.advance.new.self own c.advance.ensures.exact taken.ensures.below;
+      opened = left.opened
+          ∙ ap (λ (f : ℕ → ℕ → ℕ). with_row t (with_row l 0 (f t)) f) taken.ensures.found.opened;
+      held = c.remove.ensures.held;
+      noted = closed_noted old.sums c.close.new.self (hb_of old).depth e.thread c.args.lock c.close.ensures.noted;
+      others = closed_others old.sums c.close.new.self (hb_row e (state_of old)) (counts_of c.hb-clock.result.now)
+          (state_of old) e.thread c.args.lock refl refl g c.close.ensures.others;
+      closed = left.closed
+          ∙ ap₂ (λ (f : ℕ → List Closed) (q : Closed). with_row l (f l ++ q ∷ []) f) taken.ensures.found.closed
+          (ap₂ (λ (n : ℕ) (a : ℕ → ℕ). record { thread = t; position = n; release = a })
+          (ap (λ (f : ℕ → ℕ → ℕ). f t l) taken.ensures.found.opened) g);
+      found = left.found ∙ taken.ensures.found.found;
+      joins = (let w = taken.ensures.joins in
+          let j = joins_told e k old taken.new.work c.advance.new.work c.requires.turn c.advance.ensures.work in
+          omega arith);
+      comparisons = (let w = taken.ensures.comparisons in
+          let d = ap (λ (d : Done). d.comparisons) c.advance.ensures.work in
+          let n = ap (λ (f : ℕ → ℕ → ℕ). f l t) (left.found ∙ taken.ensures.found.found)
+          ∙ ap (λ (f : ℕ → ℕ). f t) (row_same l _ (found_of old.queues))
+          ∙ row_same t _ (found_of old.queues l) in
+          omega arith);
+      room = room_then old.rows taken.new.rows c.give_lock.new.self taken.ensures.kept
+          (room_then taken.new.rows c.follow.new.self c.give_lock.new.self c.follow.ensures.kept
+          c.give_lock.ensures.kept);
+      limits = record { width = c.advance.ensures.width; limits = left.limits ∙ taken.ensures.found.limits };
+      sums = c.close.ensures.width;
+    }

@@ -1,0 +1,57 @@
+use Rattle.std.proofs.Common.{◌≡◌, ℕ, ◌+◌, ◌≤◌, ◌<◌, max, ap, ap₂, sym, subst, ◌∙◌, arith, refl}
+use Rattle.event_core.specs.Rows.{with_row}
+use Rattle.event_core.specs.Turn.{Turn, Opens}
+use Rattle.hb_clocks.specs.State as hb
+use Rattle.hb_clocks.specs.Work.{Done}
+use Rattle.lock_queues.specs.Queues.{opened_of}
+use Rattle.wcp_laws.specs.Step.{hb_row}
+use Rattle.wcp_clocks.specs.Parts.{hb_of, state_of}
+use Rattle.wcp_clocks.proofs.Taking.{room_then}
+use Rattle.wcp_clocks.proofs.OwnClocks.{followed_below}
+use Rattle.wcp_clocks.proofs.TurnWords.{own_program_order, own_counted}
+use Rattle.wcp_clocks.proofs.Passing.{own_written, joins_told}
+use Rattle.wcp_clocks.proofs.turns.open.Goals as goal
+
+pub advance-requires-clause-work : goal.advance-requires-clause-work
+advance-requires-clause-work c =
+    let w = ap (λ (d : Done). d.joins) c.take_lock.ensures.work in
+    let few = c.requires.fits.joins in omega arith
+
+pub mark-requires : goal.mark-requires
+mark-requires c = own_counted c.args.event.now (hb_of c.args.parts.now) _ c.advance.ensures.exact
+
+pub returns : goal.returns
+returns c =
+    let e = c.args.event.now in
+    let old = c.args.parts.now in
+    let k : Turn = Opens c.args.lock in
+    let t : ℕ = e.thread.0 in
+    let taken = c.take_lock in
+    let strict = c.follow.ensures.strict in
+    let position : c.mark.result.position ≡ hb_row e (state_of old) t =
+    ap (λ m. m.position) c.mark.ensures.exact
+    ∙ ap (λ (f : ℕ → ℕ). f t) (own_program_order e (hb_of old) _ c.advance.ensures.exact)
+    ∙ sym c.requires.fits.own_next in
+    record {
+      hb = c.advance.ensures.exact;
+      threads = ap (λ r. r.thread) strict ∙ taken.ensures.threads;
+      locks = ap (λ r. r.lock) strict ∙ taken.ensures.locks;
+      below = c.follow.ensures.below ∙ followed_below e k old taken.new.self c.advance.new.self
+          (own_written e k old taken.new.self taken.ensures.threads) c.advance.ensures.exact taken.ensures.below;
+      opened = c.enter.ensures.opened
+          ∙ ap (λ (n : ℕ). with_row t (with_row c.args.lock.0 n (opened_of old.queues t)) (opened_of old.queues))
+          position;
+      held = c.add.ensures;
+      noted = refl;
+      others = refl;
+      closed = c.enter.ensures.closed;
+      found = c.enter.ensures.found;
+      joins = (let w = ap (λ (d : Done). d.joins) taken.ensures.work in
+          let j = joins_told e k old taken.new.work c.advance.new.work c.requires.turn c.advance.ensures.work in
+          omega arith);
+      comparisons = ap (λ (d : Done). d.comparisons) c.advance.ensures.work
+          ∙ ap (λ (d : Done). d.comparisons) taken.ensures.work;
+      room = room_then old.rows taken.new.self c.follow.new.self taken.ensures.kept c.follow.ensures.kept;
+      limits = record { width = c.advance.ensures.width; limits = c.enter.ensures.limits };
+      sums = refl;
+    }

@@ -1,0 +1,35 @@
+-- The locks that threads hold, and for how many more there is room.
+use Rattle.std.specs.Prelude.{ℕ, ◌<◌, List, [], map, filter, not, nat_eq, slice_index_or}
+use Rattle.event_core.specs.declared.ids.LockId.{LockId}
+
+-- the locks of one thread
+pub record HeldList : Type 0 where
+  pub locks : List LockId
+  pub room : ℕ
+
+abbrev pub nothing_held : HeldList
+nothing_held = record { locks = []; room = 0 }
+
+-- the locks' numbers
+abbrev pub numbers_of : List LockId → List ℕ
+numbers_of held = map (λ (l : LockId). l.0) held
+
+-- all but the lock
+abbrev pub without_lock : LockId → List LockId → List LockId
+without_lock lock held = filter (λ (l : LockId). not (nat_eq l.0 lock.0)) held
+
+-- past the table's end nothing is held
+abbrev pub list_at : List HeldList → ℕ → HeldList
+list_at lists t = slice_index_or lists t nothing_held
+
+-- the numbers of the locks that each thread holds
+abbrev pub held_of : List HeldList → ℕ → List ℕ
+held_of lists t = numbers_of (list_at lists t).locks
+
+-- for how many more locks of the thread there is room
+abbrev pub room_at : List HeldList → ℕ → ℕ
+room_at lists t = (list_at lists t).room
+
+-- there is no less room
+abbrev pub KeepsPlaces : List HeldList → List HeldList → Type 0
+KeepsPlaces old new = (t : ℕ) → 0 < room_at old t → 0 < room_at new t

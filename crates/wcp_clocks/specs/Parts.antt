@@ -1,0 +1,128 @@
+-- What the parts of the clocks mean together.
+use Rattle.std.specs.Prelude.{◌≡◌, ℕ, ◌+◌, ◌*◌, ◌<◌, ◌≤◌, ◌↔◌, List, length, IsTrue}
+use Rattle.event_core.specs.declared.ids.ThreadId.{ThreadId}
+use Rattle.event_core.specs.declared.ids.LockId.{LockId}
+use Rattle.event_core.specs.declared.events.AccessKind.TheVariants.{Read, Write}
+use Rattle.event_core.specs.declared.events.Op.{Op}
+use Rattle.event_core.specs.declared.events.Op.TheVariants.{Load, Store, Acquire, Release, Fork, Join}
+use Rattle.event_core.specs.declared.events.Event.{Event}
+use Rattle.event_core.specs.Rows.{join}
+use Rattle.event_core.specs.Closed.{Has}
+use Rattle.event_core.specs.Turn.{Turn, Accesses, Opens, Closes, Forks, Joins, Inner}
+use Rattle.hb_clocks.specs.State.{HbState, po_row}
+use Rattle.hb_clocks.specs.Stands.{Admits, IsFew, IsHeldRelease}
+use Rattle.hb_clocks.specs.Tables as hb
+use Rattle.section_sum.specs.Sums.{width_of, noted_of, others_of, HasRoom, IsAlone}
+use Rattle.lock_queues.specs.Queues.{closed_of, opened_of, found_of, has_room}
+use Rattle.wcp_laws.specs.State.{State}
+use Rattle.wcp_laws.specs.Step.{turn, hb_row}
+use Rattle.wcp_laws.specs.Conditions.{IsSound, CursorsStand}
+use Rattle.wcp_clocks.specs.declared.parts.Parts.{Parts}
+use Rattle.wcp_clocks.specs.HeldLists.{list_at, held_of, room_at}
+use Rattle.wcp_clocks.specs.StrictRows.{strict_of, below_of, HasThread, HasLock}
+
+-- program order, happens-before and the depths of locks
+abbrev pub hb_of : Parts → HbState
+hb_of p = hb.state_of p.hb
+
+-- the numbers of the step of an event
+abbrev pub state_of : Parts → State
+state_of p = record {
+  hb = (hb_of p).hb;
+  strict = strict_of p.rows;
+  depth = (hb_of p).depth;
+  opened = opened_of p.queues;
+  held = held_of p.held;
+  noted = noted_of p.sums;
+  others = others_of p.sums;
+  closed = closed_of p.queues;
+}
+
+-- how many of each lock's closed sections each thread has found counted
+abbrev pub found_in : Parts → ℕ → ℕ → ℕ
+found_in p = found_of p.queues
+
+-- the room that the operation needs beside that of happens-before and of its thread's clocks
+abbrev pub HasNamed : Parts → ThreadId → Op → Type 0
+HasNamed p t (Load x) = HasRoom p.sums t.0 (list_at p.held t.0).locks x.0 Read
+HasNamed p t (Store x) = HasRoom p.sums t.0 (list_at p.held t.0).locks x.0 Write
+HasNamed p t (Acquire l) = HasLock p.rows l.0 × IsTrue (has_room p.queues t.0 l.0) × (0 < room_at p.held t.0)
+HasNamed p t (Release l) = HasLock p.rows l.0
+HasNamed p t (Fork u) = HasThread p.rows u.0
+HasNamed p t (Join u) = HasThread p.rows u.0
+
+-- there is room for the event
+pub record IsReady (p : Parts) (e : Event) : Type 0 where
+  pub hb : hb.IsReady p.hb e.thread e.op
+  pub thread : HasThread p.rows e.thread.0
+  pub named : HasNamed p e.thread e.op
+
+-- what is asked of the numbers at the event, with no log
+pub record Fits (e : Event) (p : Parts) : Type 0 where
+  pub admits : Admits (hb_of p) e.thread e.op
+  pub few : IsFew (hb_of p)
+  pub sound : IsSound e (state_of p)
+  -- the thread's own number is the same in happens-before and in program order
+  pub own : (hb_of p).hb.thread e.thread.0 e.thread.0 ≡ (hb_of p).po e.thread.0 e.thread.0
+  -- and so it is after the event
+  pub own_next : hb_row e (state_of p) e.thread.0 ≡ po_row e (hb_of p) e.thread.0
+  -- no other thread has an access in an open section on a lock that the thread holds
+  pub alone : IsAlone p.sums e.thread.0 (list_at p.held e.thread.0).locks
+  pub held : (l : LockId) → Has l.0 (held_of p.held e.thread.0) ↔ (0 < (hb_of p).depth e.thread.0 l.0)
+  pub cursors : CursorsStand (state_of p) (found_in p)
+  -- the work is far below what is counted
+  pub joins : p.work.joins + 2 * length (held_of p.held e.thread.0) < 2305843009213693952
+  pub comparisons : (l : LockId) → p.work.comparisons + length (closed_of p.queues l.0) < 9223372036854775808
+
+-- what the parts keep between them
+pub record AreParts (p : Parts) : Type 0 where
+  pub rows : p.rows.width ≡ p.hb.width
+  pub sums : width_of p.sums ≡ p.hb.width
+  pub queues : p.queues.limits.threads ≡ p.hb.width
+  pub below : (t : ℕ) → below_of p.rows t ≡ join ((strict_of p.rows).thread t) ((hb_of p).po t)
+  -- a lock that is held has its clock, and so has its holder
+  pub held_thread : (t l : ℕ) → 0 < (hb_of p).depth t l → HasThread p.rows t
+  pub held_lock : (t l : ℕ) → 0 < (hb_of p).depth t l → HasLock p.rows l
+
+-- what was ready stays so
+abbrev pub KeepsReady : Parts → Parts → Type 0
+KeepsReady old new = (e : Event) → IsReady old e → IsReady new e
+
+-- the same limits
+pub record SameLimits (old new : Parts) : Type 0 where
+  pub width : new.hb.width ≡ old.hb.width
+  pub limits : new.queues.limits ≡ old.queues.limits
+
+-- how many joins an event takes at most, where its thread holds so many locks
+abbrev pub most_joins : Turn → ℕ → ℕ
+most_joins (Accesses x k) held = 2 * held
+most_joins _ held = 3
+
+-- a closing release makes one comparison more than it finds sections, at most, and nothing else makes one
+abbrev pub FewComparisons : ThreadId → Turn → Parts → Parts → Type 0
+FewComparisons t (Closes l) old new = new.work.comparisons + found_in old l.0 t.0
+    ≤ old.work.comparisons + found_in new l.0 t.0 + 1
+FewComparisons t _ old new = new.work.comparisons ≡ old.work.comparisons
+
+-- the numbers that the event names are within the limits
+abbrev pub NamesWithin : Parts → Op → Type 0
+NamesWithin p (Fork u) = u.0 < p.hb.width
+NamesWithin p (Join u) = u.0 < p.hb.width
+NamesWithin p (Acquire l) = l.0 < p.queues.limits.locks
+NamesWithin p (Release l) = l.0 < p.queues.limits.locks
+NamesWithin p _ = Unit {0}
+
+abbrev pub IsWithin : Parts → Event → Type 0
+IsWithin p e = (e.thread.0 < p.hb.width) × NamesWithin p e.op
+
+abbrev pub IsAccess : Op → Type 0
+IsAccess (Load x) = Unit {0}
+IsAccess (Store x) = Unit {0}
+IsAccess _ = ⊥
+
+-- there may be other room, and all numbers are as they were
+pub record SameNumbers (old new : Parts) : Type 0 where
+  pub state : state_of new ≡ state_of old
+  pub hb : hb_of new ≡ hb_of old
+  pub found : found_in new ≡ found_in old
+  pub work : new.work ≡ old.work

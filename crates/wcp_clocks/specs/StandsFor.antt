@@ -1,0 +1,57 @@
+-- When the clocks stand for a log.
+use Rattle.std.specs.Prelude.{◌≡◌, ℕ, ◌+◌, ◌*◌, ◌<◌, ◌≤◌, List, [], ◌∷◌, ◌++◌, length, nat_eq}
+use Rattle.std.specs.List.{IsDistinct}
+use Rattle.event_core.specs.declared.ids.ThreadId.{ThreadId}
+use Rattle.event_core.specs.declared.ids.LockId.{LockId}
+use Rattle.event_core.specs.declared.events.Event.{Event}
+use Rattle.event_core.specs.declared.bounds.Limits.{Limits}
+use Rattle.event_core.specs.Bounds.{AreBounded}
+use Rattle.event_core.specs.Refusal.{WellFormed}
+use Rattle.hb_clocks.specs.State as hb
+use Rattle.hb_clocks.specs.Stands as hb_stands
+use Rattle.wcp_laws.specs.State.{empty}
+use Rattle.wcp_laws.specs.Standing.{Stands}
+use Rattle.wcp_laws.specs.Found.{FoundFits}
+use Rattle.wcp_clocks.specs.declared.parts.Parts.{Parts}
+use Rattle.wcp_clocks.specs.Parts.{hb_of, state_of, found_in, Fits, SameNumbers}
+
+-- no lock stands twice in the list of a thread
+abbrev pub AreDistinct : (ℕ → List ℕ) → Type 0
+AreDistinct held = (t : ThreadId) → IsDistinct nat_eq (held t.0)
+
+-- the numbers of program order and of happens-before, those of the strict relation, and what was found of
+-- the closed sections
+pub record StandsFor (log : List Event) (p : Parts) : Type 0 where
+  pub hb : hb_stands.Stands log (hb_of p)
+  pub strict : Stands log (state_of p)
+  pub found : FoundFits log (state_of p) (found_in p)
+  pub distinct : AreDistinct (state_of p).held
+
+-- parts without numbers stand for the empty log
+abbrev pub EmptyStands : Type 0
+EmptyStands = (p : Parts) → state_of p ≡ empty → hb_of p ≡ hb.empty → found_in p ≡ (λ _ _. 0)
+    → StandsFor [] p
+
+-- parts with the same numbers stand for the same log
+abbrev pub SameStand : Type 0
+SameStand = (log : List Event) (old new : Parts) → SameNumbers old new → StandsFor log old
+    → StandsFor log new
+
+-- the work that has been done leaves room to count that of one event more
+pub record HasLittleWork (e : Event) (p : Parts) : Type 0 where
+  pub joins : p.work.joins + 2 * length ((state_of p).held e.thread.0) < 2305843009213693952
+  pub comparisons : (l : LockId) → p.work.comparisons + length ((state_of p).closed l.0) < 9223372036854775808
+
+-- the limits are within the greatest ones
+abbrev pub IsBounded : Limits → Type 0
+IsBounded m = AreBounded m.threads m.locks m.vars m.events
+
+-- a legal event finds the numbers as the step asks
+abbrev pub FitsWhereLegal : Type 0
+FitsWhereLegal = (limits : Limits) (log : List Event) (e : Event) (p : Parts)
+    → IsBounded limits → WellFormed limits (log ++ e ∷ []) → StandsFor log p → HasLittleWork e p → Fits e p
+
+-- a thread holds no more locks than there may be
+abbrev pub HeldWithin : Type 0
+HeldWithin = (limits : Limits) (log : List Event) (p : Parts) (t : ThreadId)
+    → WellFormed limits log → StandsFor log p → length ((state_of p).held t.0) ≤ limits.locks

@@ -1,0 +1,55 @@
+-- What the step of an event does to the parts.
+use Rattle.std.specs.Prelude.{◌≡◌, ℕ, ◌+◌, ◌≤◌, length}
+use Rattle.event_core.specs.declared.events.Event.{Event}
+use Rattle.event_core.specs.Rows.{join, with_row, to_child, to_lock}
+use Rattle.event_core.specs.Turn.{Turn}
+use Rattle.hb_clocks.specs.State as hb
+use Rattle.section_sum.specs.Sums.{width_of, noted_of, others_of}
+use Rattle.lock_queues.specs.Queues.{closed_of, opened_of}
+use Rattle.wcp_laws.specs.Step.{turn, after, hb_row, extra, opened_after, held_after, noted_after, others_after, closed_after}
+use Rattle.wcp_laws.specs.Conditions.{found_at}
+use Rattle.wcp_clocks.specs.declared.parts.Parts.{Parts}
+use Rattle.wcp_clocks.specs.HeldLists.{held_of}
+use Rattle.wcp_clocks.specs.StrictRows.{strict_of, below_of, KeepsRoom}
+use Rattle.wcp_clocks.specs.Parts.{hb_of, state_of, found_in, AreParts, SameLimits, most_joins, FewComparisons, IsAccess, KeepsReady}
+
+-- the step of the event
+pub record IsStep (e : Event) (old new : Parts) : Type 0 where
+  pub exact : state_of new ≡ after e (state_of old)
+  pub hb : hb_of new ≡ hb.after e (hb_of old)
+  pub found : found_in new ≡ found_at e.thread (turn e (state_of old)) (state_of old) (found_in old)
+  pub joins : new.work.joins
+      ≤ old.work.joins + most_joins (turn e (state_of old)) (length (held_of old.held e.thread.0))
+  pub comparisons : FewComparisons e.thread (turn e (state_of old)) old new
+  pub limits : SameLimits old new
+  pub parts : AreParts new
+  pub kept : IsAccess e.op → KeepsReady old new
+
+-- the event's strict clock, where the turn is k
+abbrev pub strict_clock : Event → Turn → Parts → ℕ → ℕ
+strict_clock e k p = join ((strict_of p.rows).thread e.thread.0) (extra e.thread k (state_of p))
+
+-- the event's clock that counts program order too
+abbrev pub below_clock : Event → Turn → Parts → ℕ → ℕ
+below_clock e k p = join (strict_clock e k p) (hb.po_row e (hb_of p))
+
+-- the step part by part, where the turn is k
+pub record IsStepBy (e : Event) (k : Turn) (old new : Parts) : Type 0 where
+  pub hb : hb_of new ≡ hb.after e (hb_of old)
+  pub threads : (strict_of new.rows).thread ≡ to_child k (strict_clock e k old)
+      (with_row e.thread.0 (strict_clock e k old) (strict_of old.rows).thread)
+  pub locks : (strict_of new.rows).lock ≡ to_lock k (strict_clock e k old) (strict_of old.rows).lock
+  pub below : below_of new.rows ≡ to_child k (below_clock e k old)
+      (with_row e.thread.0 (below_clock e k old) (below_of old.rows))
+  pub opened : opened_of new.queues
+      ≡ opened_after e.thread.0 k (hb_row e (state_of old) e.thread.0) (opened_of old.queues)
+  pub held : held_of new.held ≡ held_after e.thread.0 k (held_of old.held)
+  pub noted : noted_of new.sums ≡ noted_after e.thread.0 k (hb_of old).depth (noted_of old.sums)
+  pub others : others_of new.sums ≡ others_after e.thread.0 k (hb_row e (state_of old)) (state_of old)
+  pub closed : closed_of new.queues ≡ closed_after e.thread.0 k (hb_row e (state_of old)) (state_of old)
+  pub found : found_in new ≡ found_at e.thread k (state_of old) (found_in old)
+  pub joins : new.work.joins ≤ old.work.joins + most_joins k (length (held_of old.held e.thread.0))
+  pub comparisons : FewComparisons e.thread k old new
+  pub room : KeepsRoom old.rows new.rows
+  pub limits : SameLimits old new
+  pub sums : width_of new.sums ≡ width_of old.sums

@@ -1,0 +1,148 @@
+//! The clocks of weak causal precedence (Kini, Mathur and Viswanathan, "Dynamic Race Prediction in
+//! Linear Time", PLDI 2017): after each event, of each thread how many events of each other thread
+//! strictly precede what it does next.
+//!
+//! An access takes, by rule (a), the releases of other threads' sections with an access in conflict,
+//! under each lock that its thread holds. A release takes, by rule (b), that of the latest section on
+//! its lock whose acquire is strictly below it. All else is handed on as happens-before is: by forks and
+//! joins, and from a release to a later acquire. The log itself is not kept.
+ghost use Rattle.std.specs.Prelude.{◌≡◌, ℕ, ◌<◌, ◌≤◌, ◌+◌, ◌↔◌, List, [], ◌∷◌, ◌++◌, length, max, IfOk, OnOk, IsTrue};
+ghost use Rattle.event_core.specs.declared.events.Event.{Event as AnEvent};
+ghost use Rattle.event_core.specs.declared.ids.ThreadId.{ThreadId as AThread};
+ghost use Rattle.event_core.specs.declared.bounds.Limits.{Limits as Bounds};
+ghost use Rattle.event_core.specs.Refusal.{WellFormed};
+ghost use Rattle.event_core.specs.Count.{Counts};
+ghost use Rattle.event_core.specs.Rows.{Counted, join};
+ghost use Rattle.event_core.specs.Wcp.{Strict, Below};
+ghost use Rattle.hb_clocks.specs.Counts.{counts_of};
+ghost use Rattle.hb_clocks.specs.Marks.{IsLatest};
+ghost use Rattle.hb_clocks.specs.State.{empty as hb_empty, after as hb_after};
+ghost use Rattle.hb_clocks.specs.Stands.{IsHeldRelease};
+ghost use Rattle.wcp_laws.specs.State.{empty};
+ghost use Rattle.wcp_laws.specs.Step.{after, turn};
+ghost use Rattle.wcp_laws.specs.Conditions.{found_at};
+ghost use Rattle.wcp_clocks.specs.Parts.{hb_of, state_of, found_in, IsReady, Fits, KeepsReady, SameLimits};
+ghost use Rattle.wcp_clocks.specs.Parts.{most_joins, FewComparisons, IsWithin, IsAccess, SameNumbers};
+ghost use Rattle.wcp_clocks.specs.StandsFor.{StandsFor};
+
+use crate::parts::Parts;
+use crate::room::{are_ready, new_parts, prepare_parts};
+use crate::turns::step;
+use event_core::{Event, Limits, OutOfMemory, ThreadId};
+use hb_clocks::Clock;
+use std::alloc::Global;
+use std::marker::Model;
+
+/// The clocks of the strict relation, and of all that it stands on.
+///
+/// Each call but `new` and `prepare` takes no memory.
+#[derive(Drop)]
+pub struct WcpClocks {
+    parts: Parts,
+}
+
+impl Model for WcpClocks {
+    ghost use Rattle.wcp_clocks.specs.declared.parts.Parts.{Parts};
+    ghost use Rattle.wcp_clocks.specs.Parts.{AreParts};
+
+    ghost Value = { Parts };
+
+    ghost view = { λ c. c.parts };
+
+    ghost invariant = { λ c. AreParts c.parts };
+}
+
+impl WcpClocks {
+    /// The clocks of the empty log. A refused growth is answered by `OutOfMemory`.
+    pub fn new(alloc: Global, limits: &Limits) -> Result<WcpClocks, OutOfMemory>
+        ensures width { IfOk result (λ made. made.hb.width ≡ limits.now.threads) }
+        ensures limits { IfOk result (λ made. made.queues.limits ≡ limits.now) }
+        ensures empty { IfOk result (λ made. state_of made ≡ empty) }
+        ensures stands { IfOk result (λ made. StandsFor [] made) }
+        ensures no_work { IfOk result (λ made. made.work ≡ record { comparisons = 0; joins = 0 }) }
+    {
+        Ok(WcpClocks {
+            parts: new_parts(alloc, limits)?,
+        })
+    }
+
+    /// Makes room for the event, whose numbers are within the limits. No number changes, whether there
+    /// is memory or not.
+    pub fn prepare(&mut self, event: &Event) -> Result<(), OutOfMemory>
+        requires { IsWithin self.old event.now }
+        ensures same { SameNumbers self.old self.new }
+        ensures ready { OnOk result (IsReady self.new event.now) }
+        ensures kept { KeepsReady self.old self.new }
+        ensures limits { SameLimits self.old self.new }
+    {
+        prepare_parts(&mut self.parts, event)
+    }
+
+    /// Whether there is room for the event. There is for each release by a holder.
+    pub fn ready(&self, event: &Event) -> bool
+        ensures ready { IsTrue result ↔ IsReady self.now event.now }
+        ensures releases { IsHeldRelease (hb_of self.now) event.now.thread event.now.op → IsTrue result }
+    {
+        are_ready(&self.parts, event)
+    }
+
+    /// The event joins the log that the clocks stand for.
+    ///
+    /// It takes at most three joins of clocks, or at an access two for each lock that its thread holds. A
+    /// release that ends a section makes at most one comparison more than the sections that it newly
+    /// finds below it, and nothing else makes one.
+    pub fn advance(&mut self, event: &Event)
+        requires ready { IsReady self.old event.now }
+        requires fits { Fits event.now self.old }
+        ensures exact { state_of self.new ≡ after event.now (state_of self.old) }
+        ensures happens_before { hb_of self.new ≡ hb_after event.now (hb_of self.old) }
+        ensures found { found_in self.new ≡ found_at event.now.thread (turn event.now (state_of self.old))
+            (state_of self.old) (found_in self.old) }
+        ensures stands { (limits : Bounds) (log : List AnEvent) → WellFormed limits (log ++ event.now ∷ [])
+            → StandsFor log self.old → StandsFor (log ++ event.now ∷ []) self.new }
+        ensures joins { self.new.work.joins ≤ self.old.work.joins
+            + most_joins (turn event.now (state_of self.old))
+            (length ((state_of self.old).held event.now.thread.0)) }
+        ensures comparisons { FewComparisons event.now.thread (turn event.now (state_of self.old)) self.old
+            self.new }
+        ensures kept { IsAccess event.now.op → KeepsReady self.old self.new }
+        ensures limits { SameLimits self.old self.new }
+    {
+        step(&mut self.parts, event);
+    }
+
+    /// How many events of `other` strictly precede the thread's latest event.
+    pub fn strict(&self, thread: ThreadId, other: ThreadId) -> u64
+        requires { other.0 < self.now.hb.width }
+        ensures exact { result ≡ (state_of self.now).strict.thread thread.0 other.0 }
+        ensures latest { (limits : Bounds) (log : List AnEvent) (j : ℕ) → WellFormed limits log
+            → StandsFor log self.now → IsLatest log thread j
+            → Counts log other (λ i. Strict log i j) result }
+    {
+        self.parts.rows.strict(thread).at(other)
+    }
+
+    /// How many events of `other` are below the thread's latest event: strictly, or by program order.
+    pub fn below(&self, thread: ThreadId, other: ThreadId) -> u64
+        requires { other.0 < self.now.hb.width }
+        ensures exact { result
+            ≡ max ((state_of self.now).strict.thread thread.0 other.0) ((hb_of self.now).po thread.0 other.0) }
+        ensures latest { (limits : Bounds) (log : List AnEvent) (j : ℕ) → WellFormed limits log
+            → StandsFor log self.now → IsLatest log thread j
+            → Counts log other (λ i. Below log i j) result }
+    {
+        self.parts.rows.below(thread).at(other)
+    }
+
+    /// The thread's clock, which counts the events that are below its latest one.
+    pub fn clock(&self, thread: ThreadId) -> &Clock
+        ensures width { length result.now ≡ self.now.hb.width }
+        ensures exact { counts_of result.now
+            ≡ join ((state_of self.now).strict.thread thread.0) ((hb_of self.now).po thread.0) }
+        ensures latest { (limits : Bounds) (log : List AnEvent) (j : ℕ) → WellFormed limits log
+            → StandsFor log self.now → IsLatest log thread j
+            → Counted log (λ i. Below log i j) (counts_of result.now) }
+    {
+        self.parts.rows.below(thread)
+    }
+}

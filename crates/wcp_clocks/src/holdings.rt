@@ -1,0 +1,204 @@
+//! The locks that each thread holds, in the order of their outer acquires.
+ghost use Rattle.std.specs.Prelude.{◌≡◌, ℕ, ◌+◌, ◌-◌, ◌<◌, ◌≤◌, ◌↔◌, ◌∷◌, ◌++◌, [], length, OnOk, IsTrue, vec_capacity, vec_len};
+ghost use Rattle.event_core.specs.Rows.{with_row};
+ghost use Rattle.wcp_laws.specs.Step.{without};
+ghost use Rattle.wcp_clocks.specs.HeldLists.{list_at, held_of, room_at, numbers_of, without_lock, KeepsPlaces};
+
+use event_core::{LockId, OutOfMemory, ThreadId};
+use std::alloc::Global;
+use std::marker::Model;
+
+// The lock is taken out of the list.
+fn take_out(locks: &mut Vec<LockId>, lock: LockId)
+    ensures locks { locks.new.items ≡ without_lock lock locks.old.items }
+    ensures room { vec_capacity locks.old - vec_len locks.old ≤ vec_capacity locks.new - vec_len locks.new }
+{
+    locks.retain(|held| *held != lock);
+}
+
+/// The locks that one thread holds. Contracts see them, and for how many more there is room.
+#[derive(Drop)]
+pub struct Holding {
+    locks: Vec<LockId>,
+}
+
+impl Model for Holding {
+    ghost use Rattle.std.specs.Prelude.{◌-◌, vec_len, vec_capacity};
+    ghost use Rattle.wcp_clocks.specs.HeldLists.{HeldList};
+
+    ghost Value = { HeldList };
+
+    ghost view = { λ h. record { locks = h.locks.items; room = vec_capacity h.locks - vec_len h.locks } };
+}
+
+impl Holding {
+    ghost use Rattle.std.specs.Prelude.{◌≡◌, ◌+◌, ◌<◌, ◌≤◌, ◌∷◌, ◌++◌, [], nat_lt, OnOk};
+    ghost use Rattle.wcp_clocks.specs.HeldLists.{nothing_held, without_lock};
+
+    fn new(alloc: Global) -> Holding
+        ensures { result ≡ nothing_held }
+    {
+        Holding {
+            locks: Vec::new(alloc),
+        }
+    }
+
+    fn locks(&self) -> &[LockId]
+        ensures { result.now ≡ self.now.locks }
+    {
+        &self.locks
+    }
+
+    // Makes room for one lock more.
+    fn make_room(&mut self) -> Result<(), OutOfMemory>
+        ensures same { self.new.locks ≡ self.old.locks }
+        ensures more { self.old.room ≤ self.new.room }
+        ensures room { OnOk result (0 < self.new.room) }
+    {
+        match self.locks.reserve(1) {
+            Ok(()) => Ok(()),
+            Err(_) => Err(OutOfMemory),
+        }
+    }
+
+    fn has_room(&self) -> bool
+        ensures { result ≡ nat_lt 0 self.now.room }
+    {
+        self.locks.len() < self.locks.capacity()
+    }
+
+    // One lock more.
+    fn add(&mut self, lock: LockId)
+        requires { 0 < self.old.room }
+        ensures { self.new.locks ≡ self.old.locks ++ lock ∷ [] }
+    {
+        self.locks.push_reserved(lock);
+    }
+
+    // The lock is no longer held.
+    fn remove(&mut self, lock: LockId)
+        ensures locks { self.new.locks ≡ without_lock lock self.old.locks }
+        ensures room { self.old.room ≤ self.new.room }
+    {
+        take_out(&mut self.locks, lock);
+    }
+}
+
+/// The locks that each thread holds.
+#[derive(Drop)]
+pub struct Holdings {
+    alloc: Global,
+    lists: Vec<Holding>,
+}
+
+impl Model for Holdings {
+    ghost use Rattle.std.specs.Prelude.{List};
+    ghost use Rattle.wcp_clocks.specs.HeldLists.{HeldList};
+
+    ghost Value = { List HeldList };
+
+    ghost view = { λ h. h.lists.items };
+}
+
+impl Holdings {
+    // No thread holds a lock.
+    pub(crate) fn new(alloc: Global) -> Holdings
+        ensures { result ≡ [] }
+    {
+        Holdings {
+            alloc,
+            lists: Vec::new(alloc),
+        }
+    }
+
+    // The locks that the thread holds.
+    pub(crate) fn of(&self, thread: ThreadId) -> &[LockId]
+        ensures { result.now ≡ (list_at self.now thread.0).locks }
+    {
+        let at = thread.0 as usize;
+        if self.lists.len() <= at {
+            return &[];
+        }
+        self.lists[at].locks()
+    }
+
+    // Makes room for one lock more of the thread.
+    pub(crate) fn make_room(&mut self, thread: ThreadId) -> Result<(), OutOfMemory>
+        ensures same { held_of self.new ≡ held_of self.old }
+        ensures kept { KeepsPlaces self.old self.new }
+        ensures room { OnOk result (0 < room_at self.new thread.0) }
+    {
+        let at = thread.0 as usize;
+        grow(&mut self.lists, self.alloc, at + 1)?;
+        make_room_at(&mut self.lists, at)
+    }
+
+    // Whether there is room for one lock more of the thread.
+    pub(crate) fn has_room(&self, thread: ThreadId) -> bool
+        ensures { IsTrue result ↔ (0 < room_at self.now thread.0) }
+    {
+        let at = thread.0 as usize;
+        at < self.lists.len() && self.lists[at].has_room()
+    }
+
+    // The thread holds one lock more.
+    pub(crate) fn add(&mut self, thread: ThreadId, lock: LockId)
+        requires { 0 < room_at self.old thread.0 }
+        ensures { held_of self.new
+            ≡ with_row thread.0 (held_of self.old thread.0 ++ lock.0 ∷ []) (held_of self.old) }
+    {
+        add_at(&mut self.lists, thread.0 as usize, lock);
+    }
+
+    // The thread no longer holds the lock.
+    pub(crate) fn remove(&mut self, thread: ThreadId, lock: LockId)
+        ensures held { held_of self.new
+            ≡ with_row thread.0 (without lock.0 (held_of self.old thread.0)) (held_of self.old) }
+        ensures kept { KeepsPlaces self.old self.new }
+    {
+        remove_at(&mut self.lists, thread.0 as usize, lock);
+    }
+}
+
+// So many threads have a list.
+fn grow(lists: &mut Vec<Holding>, alloc: Global, threads: usize) -> Result<(), OutOfMemory>
+    ensures same { (t : ℕ) → list_at lists.new.items t ≡ list_at lists.old.items t }
+    ensures more { length lists.old.items ≤ length lists.new.items }
+    ensures ok { OnOk result (threads ≤ length lists.new.items) }
+{
+    'growing: while lists.len() < threads {
+        if lists.push(Holding::new(alloc)).is_err() {
+            return Err(OutOfMemory);
+        }
+    }
+    Ok(())
+}
+
+fn make_room_at(lists: &mut [Holding], at: usize) -> Result<(), OutOfMemory>
+    requires { at < length lists.old }
+    ensures same { held_of lists.new ≡ held_of lists.old }
+    ensures kept { KeepsPlaces lists.old lists.new }
+    ensures ok { OnOk result (0 < room_at lists.new at) }
+{
+    let list = &mut lists[at];
+    list.make_room()
+}
+
+fn add_at(lists: &mut [Holding], at: usize, lock: LockId)
+    requires room { 0 < room_at lists.old at }
+    ensures { held_of lists.new ≡ with_row at (held_of lists.old at ++ lock.0 ∷ []) (held_of lists.old) }
+{
+    let list = &mut lists[at];
+    list.add(lock);
+}
+
+fn remove_at(lists: &mut [Holding], at: usize, lock: LockId)
+    ensures held { held_of lists.new ≡ with_row at (without lock.0 (held_of lists.old at)) (held_of lists.old) }
+    ensures kept { KeepsPlaces lists.old lists.new }
+{
+    if lists.len() <= at {
+        return;
+    }
+    let list = &mut lists[at];
+    list.remove(lock);
+}

@@ -1,0 +1,48 @@
+//! Laws of the clocks, each a contract of a function without a body.
+ghost use Rattle.wcp_clocks.specs.StandsFor.{EmptyStands, SameStand, FitsWhereLegal, HeldWithin};
+ghost use Rattle.wcp_clocks.specs.WorkWithin.{NoWork, SameWork, WorkStep, LittleWork, FewComparisonsInAll};
+
+/// Clocks without numbers stand for the empty log.
+pub fn empty_stands()
+    ensures { EmptyStands }
+{}
+
+/// Clocks with the same numbers stand for the same log.
+pub fn same_stand()
+    ensures { SameStand }
+{}
+
+/// A legal event finds the numbers as `advance` asks.
+pub fn fits_where_legal()
+    ensures { FitsWhereLegal }
+{}
+
+/// A thread holds no more locks than there may be.
+pub fn held_within()
+    ensures { HeldWithin }
+{}
+
+/// Clocks that have done no work are within the bounds of the empty log.
+pub fn no_work()
+    ensures { NoWork }
+{}
+
+/// Clocks that have done the same work are within the same bounds.
+pub fn same_work()
+    ensures { SameWork }
+{}
+
+/// A legal event keeps the work within its bounds.
+pub fn work_step()
+    ensures { WorkStep }
+{}
+
+/// Within those bounds the work is little at each legal event.
+pub fn little_work()
+    ensures { LittleWork }
+{}
+
+/// A log of n events by k threads takes at most n * k + n comparisons.
+pub fn few_comparisons()
+    ensures { FewComparisonsInAll }
+{}

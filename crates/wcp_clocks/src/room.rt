@@ -1,0 +1,182 @@
+//! Room for an event, part by part.
+ghost use Rattle.std.specs.Prelude.{◌≡◌, ◌<◌, ◌↔◌, IfOk, OnOk, IsTrue};
+ghost use Rattle.event_core.specs.declared.events.AccessKind.{AccessKind as Kind};
+ghost use Rattle.hb_clocks.specs.State.{empty as hb_empty};
+ghost use Rattle.hb_clocks.specs.Stands.{IsHeldRelease};
+ghost use Rattle.hb_clocks.specs.Tables as hb;
+ghost use Rattle.section_sum.specs.Sums.{HasRoom};
+ghost use Rattle.lock_queues.specs.Queues.{has_room};
+ghost use Rattle.wcp_laws.specs.State.{empty};
+ghost use Rattle.wcp_clocks.specs.HeldLists.{list_at, room_at};
+ghost use Rattle.wcp_clocks.specs.StrictRows.{HasThread, HasLock};
+ghost use Rattle.wcp_clocks.specs.Parts.{hb_of, state_of, found_in, IsReady, HasNamed, IsWithin, AreParts};
+ghost use Rattle.wcp_clocks.specs.Growth.{HasGrown};
+
+use crate::holdings::Holdings;
+use crate::parts::Parts;
+use crate::strict::StrictRows;
+use event_core::{AccessKind, Event, Limits, LockId, Op, OutOfMemory, ThreadId, VarId};
+use hb_clocks::HbClocks;
+use lock_queues::Queues;
+use section_sum::Summaries;
+use std::alloc::Global;
+
+// The parts of the empty log.
+pub(crate) fn new_parts(alloc: Global, limits: &Limits) -> Result<Parts, OutOfMemory>
+    ensures parts { IfOk result AreParts }
+    ensures width { IfOk result (λ made. made.hb.width ≡ limits.now.threads) }
+    ensures limits { IfOk result (λ made. made.queues.limits ≡ limits.now) }
+    ensures state { IfOk result (λ made. state_of made ≡ empty) }
+    ensures hb { IfOk result (λ made. hb_of made ≡ hb_empty) }
+    ensures found { IfOk result (λ made. found_in made ≡ (λ _ _. 0)) }
+    ensures no_work { IfOk result (λ made. made.work ≡ record { comparisons = 0; joins = 0 }) }
+{
+    let (hb, work) = HbClocks::new(alloc, limits)?;
+    let rows = StrictRows::new(alloc, limits.threads() as usize)?;
+    let sums = Summaries::new(alloc, limits)?;
+    let queues = Queues::new(alloc, limits)?;
+    let held = Holdings::new(alloc);
+    Ok(Parts {
+        hb,
+        rows,
+        sums,
+        queues,
+        held,
+        work,
+    })
+}
+
+// Makes room for the event.
+#[tactic(auto, using(crate::proofs::Growth::grown_then))]
+pub(crate) fn prepare_parts(parts: &mut Parts, event: &Event) -> Result<(), OutOfMemory>
+    requires parts { AreParts parts.old }
+    requires within { IsWithin parts.old event.now }
+    ensures grown { HasGrown parts.old parts.new }
+    ensures ready { OnOk result (IsReady parts.new event.now) }
+{
+    let thread = event.thread;
+    make_order(parts, event)?;
+    make_thread(parts, thread)?;
+    match event.op {
+        Op::Load(var) => make_access(parts, thread, var, AccessKind::Read),
+        Op::Store(var) => make_access(parts, thread, var, AccessKind::Write),
+        Op::Acquire(lock) => make_section(parts, thread, lock),
+        Op::Release(lock) => make_lock(parts, lock),
+        Op::Fork(child) | Op::Join(child) => make_thread(parts, child),
+    }
+}
+
+// Whether there is room for the event.
+pub(crate) fn are_ready(parts: &Parts, event: &Event) -> bool
+    ensures ready { IsTrue result ↔ IsReady parts.now event.now }
+    ensures releases { AreParts parts.now → IsHeldRelease (hb_of parts.now) event.now.thread event.now.op
+        → IsTrue result }
+{
+    parts.hb.ready(event)
+        && parts.rows.has_thread(event.thread)
+        && has_named(parts, event.thread, event.op)
+}
+
+// Whether there is room for what the operation names.
+fn has_named(parts: &Parts, thread: ThreadId, op: Op) -> bool
+    ensures { IsTrue result ↔ HasNamed parts.now thread op }
+{
+    match op {
+        Op::Load(var) => has_access(parts, thread, var, AccessKind::Read),
+        Op::Store(var) => has_access(parts, thread, var, AccessKind::Write),
+        Op::Acquire(lock) => has_section(parts, thread, lock),
+        Op::Release(lock) => parts.rows.has_lock(lock),
+        Op::Fork(child) | Op::Join(child) => parts.rows.has_thread(child),
+    }
+}
+
+// Whether there is room for the access in each section that is open at it.
+fn has_access(parts: &Parts, thread: ThreadId, var: VarId, kind: AccessKind) -> bool
+    ensures { IsTrue result
+        ↔ HasRoom parts.now.sums thread.0 (list_at parts.now.held thread.0).locks var.0 kind }
+{
+    let held = parts.held.of(thread);
+    parts.sums.is_ready(thread, held, var, kind)
+}
+
+// Whether there is room for a section on the lock.
+fn has_section(parts: &Parts, thread: ThreadId, lock: LockId) -> bool
+    ensures { IsTrue result ↔ (HasLock parts.now.rows lock.0
+        × IsTrue (has_room parts.now.queues thread.0 lock.0) × (0 < room_at parts.now.held thread.0)) }
+{
+    parts.rows.has_lock(lock)
+        && parts.queues.has_room(thread, lock)
+        && parts.held.has_room(thread)
+}
+
+// Makes the clocks of program order and of happens-before.
+fn make_order(parts: &mut Parts, event: &Event) -> Result<(), OutOfMemory>
+    requires { hb.IsWithin parts.old.hb.width event.now }
+    ensures grown { HasGrown parts.old parts.new }
+    ensures made { OnOk result (hb.IsReady parts.new.hb event.now.thread event.now.op) }
+{
+    parts.hb.prepare(event)
+}
+
+// Makes the thread's strict clocks.
+fn make_thread(parts: &mut Parts, thread: ThreadId) -> Result<(), OutOfMemory>
+    ensures grown { HasGrown parts.old parts.new }
+    ensures made { OnOk result (HasThread parts.new.rows thread.0) }
+{
+    parts.rows.make_thread(thread)
+}
+
+// Makes the lock's strict clock.
+fn make_lock(parts: &mut Parts, lock: LockId) -> Result<(), OutOfMemory>
+    ensures grown { HasGrown parts.old parts.new }
+    ensures made { OnOk result (HasLock parts.new.rows lock.0) }
+{
+    parts.rows.make_lock(lock)
+}
+
+// Makes room for the access in each section that is open at it, and for those sections' ends.
+fn make_access(
+    parts: &mut Parts,
+    thread: ThreadId,
+    var: VarId,
+    kind: AccessKind,
+) -> Result<(), OutOfMemory>
+    ensures grown { HasGrown parts.old parts.new }
+    ensures made { OnOk result
+        (HasRoom parts.new.sums thread.0 (list_at parts.new.held thread.0).locks var.0 kind) }
+{
+    let held = parts.held.of(thread);
+    parts.sums.make_room(thread, held, var, kind)
+}
+
+// Makes room for a section of the thread on the lock.
+#[tactic(auto, using(crate::proofs::Growth::grown_then))]
+fn make_section(parts: &mut Parts, thread: ThreadId, lock: LockId) -> Result<(), OutOfMemory>
+    requires thread { thread.0 < parts.old.queues.limits.threads }
+    requires lock { lock.0 < parts.old.queues.limits.locks }
+    ensures grown { HasGrown parts.old parts.new }
+    ensures made { OnOk result (HasLock parts.new.rows lock.0
+        × IsTrue (has_room parts.new.queues thread.0 lock.0) × (0 < room_at parts.new.held thread.0)) }
+{
+    make_lock(parts, lock)?;
+    make_queue(parts, thread, lock)?;
+    make_place(parts, thread)
+}
+
+// Makes room for the section in its lock's queue.
+fn make_queue(parts: &mut Parts, thread: ThreadId, lock: LockId) -> Result<(), OutOfMemory>
+    requires thread { thread.0 < parts.old.queues.limits.threads }
+    requires lock { lock.0 < parts.old.queues.limits.locks }
+    ensures grown { HasGrown parts.old parts.new }
+    ensures made { OnOk result (IsTrue (has_room parts.new.queues thread.0 lock.0)) }
+{
+    parts.queues.make_room(thread, lock)
+}
+
+// Makes room for one lock more that the thread holds.
+fn make_place(parts: &mut Parts, thread: ThreadId) -> Result<(), OutOfMemory>
+    ensures grown { HasGrown parts.old parts.new }
+    ensures made { OnOk result (0 < room_at parts.new.held thread.0) }
+{
+    parts.held.make_room(thread)
+}

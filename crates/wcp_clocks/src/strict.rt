@@ -1,0 +1,250 @@
+//! The clocks of the strict relation: a row for each thread and each lock, and beside each thread's
+//! row the clock that counts program order too.
+ghost use Rattle.std.specs.Prelude.{◌≡◌, ◌≢◌, ℕ, ◌+◌, ◌*◌, ◌<◌, ◌≤◌, ◌^◌, ◌↔◌, length, IfOk, OnOk, IsTrue};
+ghost use Rattle.event_core.specs.Rows.{join, bump, with_row, no_rows, no_clock};
+ghost use Rattle.hb_clocks.specs.Counts.{counts_of};
+ghost use Rattle.hb_clocks.specs.State.{HbState};
+ghost use Rattle.hb_clocks.specs.Tables.{state_of as hb_state, rows_of, widths_of};
+ghost use Rattle.wcp_clocks.specs.StrictRows.{strict_of, below_of, HasThread, HasLock, KeepsRoom, SameClocks};
+
+use event_core::{LockId, OutOfMemory, ThreadId};
+use hb_clocks::rows::{
+    bump_row, copy_row, copy_rows, is_made, join_row, join_rows, make_row, row_or,
+};
+use hb_clocks::{Clock, HbClocks, Work};
+use std::alloc::Global;
+use std::marker::Model;
+
+/// The clocks of the strict relation. Only `new` and the calls that make room take memory.
+#[derive(Drop)]
+pub(crate) struct StrictRows {
+    width: usize,
+    alloc: Global,
+    // Lent for a thread whose clocks were not made.
+    zeros: Clock,
+    // What strictly precedes the thread's latest event.
+    threads: Vec<Clock>,
+    // The same with program order.
+    below: Vec<Clock>,
+    // What strictly precedes the lock's latest outer release.
+    locks: Vec<Clock>,
+}
+
+impl Model for StrictRows {
+    ghost use Rattle.wcp_clocks.specs.StrictRows.{StrictTables, AreTables};
+
+    ghost Value = { StrictTables };
+
+    ghost view = { λ c. record {
+      width = c.width;
+      thread = c.threads.items;
+      below = c.below.items;
+      lock = c.locks.items;
+    } };
+
+    ghost invariant = { λ c. AreTables c.width c.zeros c.threads.items c.below.items c.locks.items };
+}
+
+impl StrictRows {
+    // No clock counts anything.
+    pub(crate) fn new(alloc: Global, width: usize) -> Result<StrictRows, OutOfMemory>
+        requires { 0 < width }
+        ensures width { IfOk result (λ made. made.width ≡ width) }
+        ensures strict { IfOk result (λ made. strict_of made ≡ no_rows) }
+        ensures below { IfOk result (λ made. below_of made ≡ (λ _. no_clock)) }
+    {
+        let zeros = Clock::new(alloc, width)?;
+        Ok(StrictRows {
+            width,
+            alloc,
+            zeros,
+            threads: Vec::new(alloc),
+            below: Vec::new(alloc),
+            locks: Vec::new(alloc),
+        })
+    }
+
+    // Makes both clocks of the thread.
+    pub(crate) fn make_thread(&mut self, thread: ThreadId) -> Result<(), OutOfMemory>
+        ensures same { SameClocks self.old self.new }
+        ensures kept { KeepsRoom self.old self.new }
+        ensures made { OnOk result (HasThread self.new thread.0) }
+    {
+        let at = thread.0 as usize;
+        make_row(&mut self.threads, self.alloc, self.width, at)?;
+        make_row(&mut self.below, self.alloc, self.width, at)
+    }
+
+    // Makes the clock of the lock.
+    pub(crate) fn make_lock(&mut self, lock: LockId) -> Result<(), OutOfMemory>
+        ensures same { SameClocks self.old self.new }
+        ensures kept { KeepsRoom self.old self.new }
+        ensures made { OnOk result (HasLock self.new lock.0) }
+    {
+        make_row(&mut self.locks, self.alloc, self.width, lock.0 as usize)
+    }
+
+    // Whether both clocks of the thread were made.
+    pub(crate) fn has_thread(&self, thread: ThreadId) -> bool
+        ensures { IsTrue result ↔ HasThread self.now thread.0 }
+    {
+        let at = thread.0 as usize;
+        is_made(&self.threads, self.width, at) && is_made(&self.below, self.width, at)
+    }
+
+    // Whether the clock of the lock was made.
+    pub(crate) fn has_lock(&self, lock: LockId) -> bool
+        ensures { IsTrue result ↔ HasLock self.now lock.0 }
+    {
+        is_made(&self.locks, self.width, lock.0 as usize)
+    }
+
+    // The thread's strict clock.
+    pub(crate) fn strict(&self, thread: ThreadId) -> &Clock
+        ensures width { length result.now ≡ self.now.width }
+        ensures counts { counts_of result.now ≡ (strict_of self.now).thread thread.0 }
+    {
+        row_or(&self.threads, thread.0 as usize, &self.zeros)
+    }
+
+    // The thread's clock that counts program order too.
+    pub(crate) fn below(&self, thread: ThreadId) -> &Clock
+        ensures width { length result.now ≡ self.now.width }
+        ensures counts { counts_of result.now ≡ below_of self.now thread.0 }
+    {
+        row_or(&self.below, thread.0 as usize, &self.zeros)
+    }
+
+    // The thread's strict clock takes the greater numbers of the clock. It is one join.
+    pub(crate) fn take_clock(&mut self, thread: ThreadId, clock: &Clock, work: &mut Work)
+        requires room { HasThread self.old thread.0 }
+        requires wide { length clock.now ≡ self.old.width }
+        requires few { work.old.joins < 2 ^ 63 }
+        ensures threads { (strict_of self.new).thread ≡ with_row thread.0
+            (join ((strict_of self.old).thread thread.0) (counts_of clock.now)) (strict_of self.old).thread }
+        ensures locks { (strict_of self.new).lock ≡ (strict_of self.old).lock }
+        ensures below { below_of self.new ≡ below_of self.old }
+        ensures kept { KeepsRoom self.old self.new }
+        ensures work { work.new ≡ record work.old { joins = work.old.joins + 1 } }
+    {
+        join_row(&mut self.threads, thread.0 as usize, clock, work);
+    }
+
+    // The thread's strict clock takes the greater numbers of the lock's. It is one join.
+    pub(crate) fn take_lock(&mut self, thread: ThreadId, lock: LockId, work: &mut Work)
+        requires room { HasThread self.old thread.0 }
+        requires lock_room { HasLock self.old lock.0 }
+        requires few { work.old.joins < 2 ^ 63 }
+        ensures threads { (strict_of self.new).thread ≡ with_row thread.0
+            (join ((strict_of self.old).thread thread.0) ((strict_of self.old).lock lock.0))
+            (strict_of self.old).thread }
+        ensures locks { (strict_of self.new).lock ≡ (strict_of self.old).lock }
+        ensures below { below_of self.new ≡ below_of self.old }
+        ensures kept { KeepsRoom self.old self.new }
+        ensures work { work.new ≡ record work.old { joins = work.old.joins + 1 } }
+    {
+        join_row(
+            &mut self.threads,
+            thread.0 as usize,
+            &self.locks[lock.0 as usize],
+            work,
+        );
+    }
+
+    // The thread's strict clock takes the greater numbers of another thread's. It is one join.
+    pub(crate) fn take_thread(&mut self, thread: ThreadId, other: ThreadId, work: &mut Work)
+        requires room { HasThread self.old thread.0 }
+        requires other_room { HasThread self.old other.0 }
+        requires apart { other.0 ≢ thread.0 }
+        requires few { work.old.joins < 2 ^ 63 }
+        ensures threads { (strict_of self.new).thread ≡ with_row thread.0
+            (join ((strict_of self.old).thread thread.0) ((strict_of self.old).thread other.0))
+            (strict_of self.old).thread }
+        ensures locks { (strict_of self.new).lock ≡ (strict_of self.old).lock }
+        ensures below { below_of self.new ≡ below_of self.old }
+        ensures kept { KeepsRoom self.old self.new }
+        ensures work { work.new ≡ record work.old { joins = work.old.joins + 1 } }
+    {
+        join_rows(&mut self.threads, thread.0 as usize, other.0 as usize, work);
+    }
+
+    // A forked thread has the clocks of the thread that forked it.
+    pub(crate) fn give_thread(&mut self, thread: ThreadId, child: ThreadId)
+        requires room { HasThread self.old thread.0 }
+        requires child_room { HasThread self.old child.0 }
+        requires apart { thread.0 ≢ child.0 }
+        ensures threads { (strict_of self.new).thread ≡ with_row child.0
+            ((strict_of self.old).thread thread.0) (strict_of self.old).thread }
+        ensures locks { (strict_of self.new).lock ≡ (strict_of self.old).lock }
+        ensures below { below_of self.new ≡ with_row child.0 (below_of self.old thread.0)
+            (below_of self.old) }
+        ensures kept { KeepsRoom self.old self.new }
+    {
+        let from = thread.0 as usize;
+        let to = child.0 as usize;
+        copy_rows(&mut self.threads, to, from);
+        copy_rows(&mut self.below, to, from);
+    }
+
+    // The lock has the strict clock of the thread that released it.
+    pub(crate) fn give_lock(&mut self, thread: ThreadId, lock: LockId)
+        requires room { HasThread self.old thread.0 }
+        requires lock_room { HasLock self.old lock.0 }
+        ensures threads { (strict_of self.new).thread ≡ (strict_of self.old).thread }
+        ensures locks { (strict_of self.new).lock ≡ with_row lock.0 ((strict_of self.old).thread thread.0)
+            (strict_of self.old).lock }
+        ensures below { below_of self.new ≡ below_of self.old }
+        ensures kept { KeepsRoom self.old self.new }
+    {
+        copy_row(
+            &mut self.locks,
+            lock.0 as usize,
+            &self.threads[thread.0 as usize],
+        );
+    }
+
+    // The thread's clock with program order, made again from its strict clock.
+    pub(crate) fn follow(&mut self, thread: ThreadId, hb: &HbClocks)
+        requires room { HasThread self.old thread.0 }
+        requires within { thread.0 < self.old.width }
+        requires wide { hb.now.width ≡ self.old.width }
+        ensures strict { strict_of self.new ≡ strict_of self.old }
+        ensures below { below_of self.new ≡ with_row thread.0
+            (join ((strict_of self.old).thread thread.0) ((hb_state hb.now).po thread.0))
+            (below_of self.old) }
+        ensures kept { KeepsRoom self.old self.new }
+    {
+        let at = thread.0 as usize;
+        follow_row(&mut self.below, at, &self.threads[at], thread, hb);
+    }
+
+    // The thread's clock with program order, where its strict clock has not changed: its own event.
+    pub(crate) fn count_own(&mut self, thread: ThreadId)
+        requires room { HasThread self.old thread.0 }
+        requires within { thread.0 < self.old.width }
+        requires few { below_of self.old thread.0 thread.0 + 1 < 2 ^ 64 }
+        ensures strict { strict_of self.new ≡ strict_of self.old }
+        ensures below { below_of self.new ≡ with_row thread.0
+            (bump thread.0 (below_of self.old thread.0)) (below_of self.old) }
+        ensures kept { KeepsRoom self.old self.new }
+    {
+        bump_row(&mut self.below, thread);
+    }
+}
+
+// The row becomes the strict clock, and takes the greater numbers of the thread's program order.
+fn follow_row(rows: &mut [Clock], at: usize, strict: &Clock, thread: ThreadId, hb: &HbClocks)
+    requires room { at < length rows.old }
+    requires wide { widths_of rows.old at ≡ length strict.now }
+    requires within { thread.0 < hb.now.width }
+    requires widths { length strict.now ≡ hb.now.width }
+    ensures rows { rows_of rows.new ≡ with_row at
+        (join (counts_of strict.now) ((hb_state hb.now).po thread.0))
+        (rows_of rows.old) }
+    ensures widths { widths_of rows.new
+        ≡ widths_of rows.old }
+{
+    let row = &mut rows[at];
+    row.copy_from(strict);
+    hb.raise(thread, row);
+}
