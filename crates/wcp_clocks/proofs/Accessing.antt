@@ -1,5 +1,6 @@
 -- The step of an access, from what its parts do.
-use Rattle.std.proofs.Common.{◌≡◌, ℕ, ◌+◌, ◌*◌, ◌<◌, ◌≤◌, ◌||◌, List, length, max, refl, sym, ap, ap₂, subst, ◌∙◌, ◌↔◌, arith}
+use Rattle.std.proofs.Common.{◌≡◌, ℕ, ◌+◌, ◌*◌, ◌<◌, ◌≤◌, ◌||◌, List, length, refl, sym, ap, ap₂, subst, ◌∙◌}
+use Rattle.std.proofs.Common.{◌↔◌, arith}
 use Rattle.std.proofs.lemmas.List.{length-map}
 use Rattle.event_core.specs.declared.ids.LockId.{LockId}
 use Rattle.event_core.specs.declared.ids.VarId.{VarId}
@@ -9,15 +10,15 @@ use Rattle.event_core.specs.declared.events.AccessKind.TheVariants.{Read, Write}
 use Rattle.event_core.specs.declared.events.Op.{Op}
 use Rattle.event_core.specs.declared.events.Op.TheVariants.{Load, Store, Acquire, Release, Fork, Join}
 use Rattle.event_core.specs.Closed.{Has}
-use Rattle.event_core.specs.Rows.{join, bump, with_row, no_clock}
-use Rattle.event_core.specs.Turn.{Turn, Accesses}
+use Rattle.event_core.specs.Rows.{join, with_row}
+use Rattle.event_core.specs.Turn.{Accesses}
 use Rattle.event_core.proofs.Growing.{row_same}
 use Rattle.hb_clocks.specs.State as hb
 use Rattle.hb_clocks.specs.Tables as hb_tables
 use Rattle.hb_clocks.specs.Work.{Done, more_joins}
 use Rattle.section_sum.specs.Sums.{Sums, width_of, noted_of, sources_of, is_access, SameOthers}
 use Rattle.section_sum.specs.Sums.{KeepsRoom as sum_rooms}
-use Rattle.wcp_laws.specs.Step.{turn, join_all, sources}
+use Rattle.wcp_laws.specs.Step.{turn, join_all}
 use Rattle.wcp_clocks.specs.declared.parts.Parts.{Parts}
 use Rattle.wcp_clocks.specs.HeldLists.{list_at, numbers_of, held_of}
 use Rattle.wcp_clocks.specs.StrictRows.{StrictTables, strict_of, below_of, KeepsRoom}
@@ -34,28 +35,33 @@ module _ (e : Event) (x : VarId) (k : AccessKind) (old : Parts) (told : turn e (
   -- what the strict clock takes
   pub taken_row : (locks : List LockId) (rows : StrictTables) → locks ≡ (list_at old.held t).locks
       → (strict_of rows).thread ≡ with_row t
-      (join ((strict_of old.rows).thread t) (join_all (λ l. sources_of old.sums l x.0 k t) (numbers_of locks)))
+      (join ((strict_of old.rows).thread t) (join_all (λ l. sources_of old.sums l x.0 k t)
+      (numbers_of locks)))
       (strict_of old.rows).thread
       → (strict_of rows).thread ≡ with_row t (strict_clock e (Accesses x k) old) (strict_of old.rows).thread
   taken_row locks rows of taken =
       taken
-      ∙ ap₂ (λ (f : ℕ → ℕ → ℕ) (ns : List ℕ). with_row t (join ((strict_of old.rows).thread t) (join_all f ns))
+      ∙ ap₂ (λ (f : ℕ → ℕ → ℕ) (ns : List ℕ). with_row t (join ((strict_of old.rows).thread t)
+      (join_all f ns))
       (strict_of old.rows).thread)
       (same_sources old.sums (state_of old) x k e.thread refl) (ap numbers_of of)
 
   pub own_taken : (locks : List LockId) (rows : StrictTables) → locks ≡ (list_at old.held t).locks
       → (strict_of rows).thread ≡ with_row t
-      (join ((strict_of old.rows).thread t) (join_all (λ l. sources_of old.sums l x.0 k t) (numbers_of locks)))
+      (join ((strict_of old.rows).thread t) (join_all (λ l. sources_of old.sums l x.0 k t)
+      (numbers_of locks)))
       (strict_of old.rows).thread
       → (strict_of rows).thread t ≡ strict_clock e (Accesses x k) old
   own_taken locks rows of taken =
       ap (λ (f : ℕ → ℕ → ℕ). f t) (taken_row locks rows of taken)
       ∙ row_same t (strict_clock e (Accesses x k) old) (strict_of old.rows).thread
 
-  pub access_step : (locks : List LockId) (taken rows : StrictTables) (tables : hb_tables.Tables) (sums : Sums)
+  pub access_step : (locks : List LockId) (taken rows : StrictTables) (tables : hb_tables.Tables)
+      (sums : Sums)
       (joined work : Done) → locks ≡ (list_at old.held t).locks
       → (strict_of taken).thread ≡ with_row t
-      (join ((strict_of old.rows).thread t) (join_all (λ l. sources_of old.sums l x.0 k t) (numbers_of locks)))
+      (join ((strict_of old.rows).thread t) (join_all (λ l. sources_of old.sums l x.0 k t)
+      (numbers_of locks)))
       (strict_of old.rows).thread
       → (strict_of taken).lock ≡ (strict_of old.rows).lock → KeepsRoom old.rows taken
       → joined.joins ≤ old.work.joins + 2 * length locks → joined.comparisons ≡ old.work.comparisons
@@ -69,7 +75,8 @@ module _ (e : Event) (x : VarId) (k : AccessKind) (old : Parts) (told : turn e (
       → KeepsRoom taken rows
       → IsStepBy e (Accesses x k) old
       (record { hb = tables; rows = rows; sums = sums; queues = old.queues; held = old.held; work = work })
-  access_step locks taken rows tables sums joined work of threads lock room joins comparisons noted others wide
+  access_step locks taken rows tables sums joined work of threads lock room joins comparisons noted others
+      wide
       exact width done strict below kept =
       record {
         hb = exact;
@@ -99,7 +106,14 @@ module _ (e : Event) (x : VarId) (k : AccessKind) (old : Parts) (told : turn e (
 -- what was ready stays so
 pub access_keeps : (old : Parts) (rows : StrictTables) (tables : hb_tables.Tables) (sums : Sums) (work : Done)
     → hb_tables.KeepsRoom old.hb tables → KeepsRoom old.rows rows → sum_rooms old.sums sums
-    → KeepsReady old (record { hb = tables; rows = rows; sums = sums; queues = old.queues; held = old.held; work = work })
+    → KeepsReady old (record {
+      hb = tables;
+      rows = rows;
+      sums = sums;
+      queues = old.queues;
+      held = old.held;
+      work = work;
+    })
 access_keeps old rows tables sums work hb kept rooms e ready = record {
   hb = hb e.thread e.op ready.hb;
   thread = kept.thread e.thread.0 ready.thread;
@@ -107,7 +121,15 @@ access_keeps old rows tables sums work hb kept rooms e ready = record {
 }
   where
     named : (op : Op) → HasNamed old e.thread op
-        → HasNamed (record { hb = tables; rows = rows; sums = sums; queues = old.queues; held = old.held; work = work })
+        → HasNamed (record {
+          hb = tables;
+          rows = rows;
+          sums = sums;
+          queues = old.queues;
+          held = old.held;
+          work
+              = work;
+        })
         e.thread op
     named (Load x) room = λ l h. rooms e.thread.0 l x.0 Read (room l h)
     named (Store x) room = λ l h. rooms e.thread.0 l x.0 Write (room l h)

@@ -1,40 +1,34 @@
 -- A legal event finds the numbers as the step asks.
-use Rattle.std.proofs.Common.{◌≡◌, ℕ, ◌<◌, ◌≤◌, ◌+◌, List, [], ◌∷◌, ◌++◌, length, Bool, true, false, nat_eq}
+use Rattle.std.proofs.Common.{◌≡◌, ℕ, ◌<◌, ◌≤◌, ◌+◌, List, [], ◌∷◌, ◌++◌, length, true, false, nat_eq}
 use Rattle.std.proofs.Common.{sym, ap, subst, ◌∙◌, inl, inr, ◌⊎◌, ◌↔◌, arith, take}
-use Rattle.std.specs.List.{list_any}
-use Rattle.std.proofs.lemmas.Bool.{cases_Bool, cases_eq, eqb-true}
+use Rattle.std.proofs.lemmas.Bool.{cases_Bool, eqb-true}
 use Rattle.std.proofs.lemmas.Option.{slice_get_within}
 use Rattle.std.proofs.Math.Seq.{take-length}
 use Rattle.event_core.specs.declared.bounds.Limits.{Limits}
-use Rattle.event_core.specs.declared.events.AccessKind.{AccessKind}
 use Rattle.event_core.specs.declared.events.Event.{Event}
 use Rattle.event_core.specs.declared.ids.LockId.{LockId}
 use Rattle.event_core.specs.declared.ids.ThreadId.{ThreadId}
 use Rattle.event_core.specs.declared.ids.VarId.{VarId}
 use Rattle.event_core.specs.Closed.{Has, Noted}
 use Rattle.event_core.specs.Log.{depth}
-use Rattle.event_core.specs.Refusal.{WellFormed, held_depths}
-use Rattle.event_core.specs.Rows.{with_row, to_child}
-use Rattle.event_core.specs.Turn.{Turn, Accesses, Opens, Closes, Forks, Joins, Inner}
-use Rattle.event_core.proofs.Growing.{row_same, row_other}
+use Rattle.event_core.specs.Refusal.{WellFormed}
 use Rattle.event_core.proofs.Growth.{well_formed_front}
 use Rattle.event_core.proofs.Legality.{orderly}
 use Rattle.event_core.proofs.Members.{any_has}
-use Rattle.event_core.proofs.Counting.{grown_length}
 use Rattle.event_core.proofs.Slots.{slots}
 use Rattle.event_core.specs.Refusal.{open_acquires}
 use Rattle.hb_clocks.specs.State.{HbState, turn, hb_row, po_row, after}
 use Rattle.hb_clocks.specs.Stands.{Stands as OrderStands}
 use Rattle.hb_clocks.proofs.LegalSteps.{step_stands}
 use Rattle.hb_clocks.proofs.Conditions.{admits_legal, few_in_log}
-use Rattle.section_sum.specs.Sums.{IsAlone, is_held, noted_of}
-use Rattle.wcp_laws.specs.Standing.{Stands}
+use Rattle.section_sum.specs.Sums.{IsAlone, noted_of}
 use Rattle.wcp_laws.proofs.Conditions.{sound_where_legal}
 use Rattle.wcp_clocks.specs.declared.parts.Parts.{Parts}
-use Rattle.wcp_clocks.specs.HeldLists.{list_at, held_of, numbers_of}
+use Rattle.wcp_clocks.specs.HeldLists.{list_at, held_of}
 use Rattle.wcp_clocks.specs.Parts.{hb_of, state_of}
-use Rattle.wcp_clocks.specs.StandsFor.{StandsFor, FitsWhereLegal, IsBounded}
+use Rattle.wcp_clocks.specs.StandsFor.{StandsFor, FitsWhereLegal}
 use Rattle.wcp_clocks.proofs.Growth.{held_numbers}
+use Rattle.wcp_clocks.proofs.Rows.{own_row}
 
 -- a well-formed log has no more events than there may be
 pub log_within : (limits : Limits) (log : List Event) → WellFormed limits log → length log ≤ limits.events
@@ -75,26 +69,14 @@ alone limits log p t w st l u v k is other = go (cases_Bool (noted_of p.sums u l
         n.is_open.held (length log) (slice_get_within log n.acquire n.is_open.opened.does.event
         n.is_open.opened.does.at) (omega arith)
 
-    go : (noted_of p.sums u l v k ≡ true) ⊎ (noted_of p.sums u l v k ≡ false) → noted_of p.sums u l v k ≡ false
+    go : (noted_of p.sums u l v k ≡ true) ⊎ (noted_of p.sums u l v k ≡ false)
+        → noted_of p.sums u l v k ≡ false
     go (inr none) = none
     go (inl some) =
         let noted : Noted log thread lock var k = (st.strict.noted thread lock var k).0 some in
         let one : thread ≡ t
         = (orderly limits log w).one_holder (length log) thread t lock (theirs noted) mine in
         absurd (other (ap (λ (x : ThreadId). x.0) one))
-
--- the event's clock is its thread's next one
-own_row : (k : Turn) (t : ℕ) (g : ℕ → ℕ) (f : ℕ → ℕ → ℕ) → to_child k g (with_row t g f) t ≡ g
-own_row (Forks u) t g f = go (cases_eq t u.0)
-  where
-    go : (t ≡ u.0) ⊎ (t ≡ u.0 → ⊥) → with_row u.0 g (with_row t g f) t ≡ g
-    go (inl same) = ap (with_row u.0 g (with_row t g f)) same ∙ row_same u.0 g (with_row t g f)
-    go (inr other) = row_other u.0 g (with_row t g f) t other ∙ row_same t g f
-own_row (Accesses x k) t g f = row_same t g f
-own_row (Opens l) t g f = row_same t g f
-own_row (Closes l) t g f = row_same t g f
-own_row (Joins u) t g f = row_same t g f
-own_row Inner t g f = row_same t g f
 
 -- after the event too its thread's own numbers are both that of its events
 own_next : (limits : Limits) (log : List Event) (e : Event) (s : HbState) → WellFormed limits (log ++ e ∷ [])
@@ -128,6 +110,6 @@ fits_where_legal limits log e p bounds w st little =
   where
     held : (l : LockId) → Has l.0 (held_of p.held e.thread.0) ↔ (0 < (hb_of p).depth e.thread.0 l.0)
     held l = (
-          λ has. subst (λ n. 0 < n) (sym (st.hb.depths e.thread l)) ((st.strict.held e.thread l).0 has),
-          λ up. (st.strict.held e.thread l).1 (subst (λ n. 0 < n) (st.hb.depths e.thread l) up),
-        )
+      λ has. subst (λ n. 0 < n) (sym (st.hb.depths e.thread l)) ((st.strict.held e.thread l).0 has),
+      λ up. (st.strict.held e.thread l).1 (subst (λ n. 0 < n) (st.hb.depths e.thread l) up),
+    )

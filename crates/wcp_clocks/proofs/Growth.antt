@@ -1,5 +1,6 @@
 -- Parts that have more room are as before in all else.
-use Rattle.std.proofs.Common.{◌≡◌, ℕ, ◌<◌, ◌≤◌, List, [], ◌∷◌, Bool, true, ◌||◌, nat_eq, refl, sym, ap, subst, ◌∙◌, IsTrue, arith}
+use Rattle.std.proofs.Common.{◌≡◌, ℕ, ◌<◌, List, [], ◌∷◌, Bool, true, ◌||◌, nat_eq, refl, sym, ap, subst, ◌∙◌}
+use Rattle.std.proofs.Common.{IsTrue, arith}
 use Rattle.std.proofs.Common.{inl, inr, ◌⊎◌, Result, Ok, Err, OnOk, OnErr}
 use Rattle.std.proofs.lemmas.Bool.{cases_eq}
 use Rattle.event_core.specs.declared.replies.OutOfMemory.{OutOfMemory}
@@ -11,7 +12,6 @@ use Rattle.event_core.specs.declared.events.Op.{Op}
 use Rattle.event_core.specs.declared.events.Op.TheVariants.{Load, Store, Acquire, Release, Fork, Join}
 use Rattle.event_core.specs.declared.events.AccessKind.{AccessKind}
 use Rattle.event_core.specs.declared.events.AccessKind.TheVariants.{Read, Write}
-use Rattle.event_core.specs.declared.events.Event.{Event}
 use Rattle.event_core.specs.Bounds.{Bounds}
 use Rattle.event_core.specs.Rows.{Rows, join, with_row, no_rows, no_clock}
 use Rattle.hb_clocks.specs.State.{HbState, empty as hb_empty}
@@ -20,7 +20,7 @@ use Rattle.lock_queues.specs.Queues.{Tables as Queues, SameMeaning, has_room}
 use Rattle.wcp_clocks.specs.declared.parts.Parts.{Parts}
 use Rattle.wcp_clocks.specs.HeldLists.{list_at, numbers_of}
 use Rattle.wcp_clocks.specs.StrictRows.{strict_of, below_of}
-use Rattle.wcp_clocks.specs.Parts.{hb_of, state_of, IsReady, HasNamed, KeepsReady, SameLimits, SameNumbers, AreParts}
+use Rattle.wcp_clocks.specs.Parts.{hb_of, HasNamed, KeepsReady, SameLimits, SameNumbers, AreParts}
 use Rattle.wcp_clocks.specs.Growth.{HasGrown}
 
 pub grown_then : (a b c : Parts) → HasGrown a b → HasGrown b c → HasGrown a c

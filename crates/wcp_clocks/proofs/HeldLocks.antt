@@ -1,5 +1,6 @@
 -- The lists of held locks: no lock stands twice in one, and none is longer than there are locks.
-use Rattle.std.proofs.Common.{◌≡◌, ℕ, ◌<◌, ◌≤◌, List, [], ◌∷◌, ◌++◌, length, Bool, true, false, cond, nat_eq, nat_lt, not}
+use Rattle.std.proofs.Common.{◌≡◌, ℕ, ◌<◌, ◌≤◌, List, [], ◌∷◌, ◌++◌, length, Bool, true, false, cond, nat_eq}
+use Rattle.std.proofs.Common.{nat_lt, not}
 use Rattle.std.proofs.Common.{refl, sym, ap, subst, ◌∙◌, inl, inr, ◌⊎◌, arith, take}
 use Rattle.std.specs.List.{IsDistinct, AllByRecursion, list_any}
 use Rattle.std.proofs.lemmas.Bool.{cases_eq, cases_lt, eqb-true, le-ltb}
@@ -50,18 +51,20 @@ distinct_without n (m ∷ ms) d = go (nat_eq m n) (distinct_without n ms d.1)
     go false rest = (all_without (λ y. nat_eq m y ≡ false) n ms d.0, rest)
 
 -- a property of one number more
-all_more : (P : ℕ → Type 0) (xs : List ℕ) (n : ℕ) → AllByRecursion P xs → P n → AllByRecursion P (xs ++ n ∷ [])
+all_more : (P : ℕ → Type 0) (xs : List ℕ) (n : ℕ) → AllByRecursion P xs → P n
+    → AllByRecursion P (xs ++ n ∷ [])
 all_more P [] n all last = (last, tt)
 all_more P (m ∷ ms) n all last = (all.0, all_more P ms n all.1 last)
 
 -- a lock joins a list that does not have it
-distinct_more : (xs : List ℕ) (n : ℕ) → IsDistinct nat_eq xs → (Has n xs → ⊥) → IsDistinct nat_eq (xs ++ n ∷ [])
+distinct_more : (xs : List ℕ) (n : ℕ) → IsDistinct nat_eq xs → (Has n xs → ⊥)
+    → IsDistinct nat_eq (xs ++ n ∷ [])
 unfolding IsDistinct
 distinct_more [] n d new = (tt, tt)
 distinct_more (m ∷ ms) n d new = (
-      all_more (λ y. nat_eq m y ≡ false) ms n d.0 (nat_eq_other m n (λ e. new (first m ms (sym e)))),
-      distinct_more ms n d.1 (λ h. new (later m ms h)),
-    )
+  all_more (λ y. nat_eq m y ≡ false) ms n d.0 (nat_eq_other m n (λ e. new (first m ms (sym e)))),
+  distinct_more ms n d.1 (λ h. new (later m ms h)),
+)
 
 -- a row that is written is distinct where the new list is
 distinct_row : (t : ℕ) (xs : List ℕ) (h : ℕ → List ℕ) → AreDistinct h → IsDistinct nat_eq xs

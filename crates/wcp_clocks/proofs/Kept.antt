@@ -1,8 +1,8 @@
 -- Tables whose clocks keep their widths.
-use Rattle.std.proofs.Common.{◌≡◌, ℕ, List, sym, ap, ◌∙◌, refl, ◌++◌, length, subst}
-use Rattle.hb_clocks.specs.Tables.{widths_of, IsMade, AreWide}
+use Rattle.std.proofs.Common.{◌≡◌, ℕ, List, sym, subst}
+use Rattle.hb_clocks.specs.Tables.{widths_of, IsMade}
 use Rattle.hb_clocks.proofs.TableLaws.{made_kept, wide_kept}
-use Rattle.wcp_clocks.specs.StrictRows.{StrictTables, HasThread, HasLock, KeepsRoom, AreTables}
+use Rattle.wcp_clocks.specs.StrictRows.{StrictTables, KeepsRoom, AreTables}
 
 -- the clocks have the widths that they had
 pub record SameWidths (old new : StrictTables) : Type 0 where

@@ -1,5 +1,5 @@
 -- The clock of an event's own thread that counts program order too.
-use Rattle.std.proofs.Common.{◌≡◌, ℕ, ◌+◌, ◌<◌, ◌≤◌, max, sym, ap, ap₂, subst, ◌∙◌, arith, refl}
+use Rattle.std.proofs.Common.{◌≡◌, ℕ, ◌+◌, ◌<◌, ◌≤◌, max, sym, ap, ap₂, ◌∙◌, arith}
 use Rattle.event_core.specs.declared.events.Event.{Event}
 use Rattle.event_core.specs.Rows.{join, bump, with_row, no_clock, brought}
 use Rattle.event_core.specs.Turn.{Turn}
@@ -29,7 +29,8 @@ few_below e old fits parts rows same =
 pub followed_below : (e : Event) (k : Turn) (old : Parts) (rows : StrictTables) (tables : hb_tables.Tables)
     → (strict_of rows).thread e.thread.0 ≡ strict_clock e k old
     → hb_tables.state_of tables ≡ hb.after e (hb_of old) → below_of rows ≡ below_of old.rows
-    → with_row e.thread.0 (join ((strict_of rows).thread e.thread.0) ((hb_tables.state_of tables).po e.thread.0))
+    → with_row e.thread.0 (join ((strict_of rows).thread e.thread.0)
+    ((hb_tables.state_of tables).po e.thread.0))
     (below_of rows) ≡ with_row e.thread.0 (below_clock e k old) (below_of old.rows)
 followed_below e k old rows tables own exact same =
     ap₂ (λ (c : ℕ → ℕ) (f : ℕ → ℕ → ℕ). with_row e.thread.0 c f)

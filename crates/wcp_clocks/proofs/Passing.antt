@@ -1,18 +1,16 @@
 -- The steps of inner events, forks and joins, and of an outer acquire, from what their parts do.
-use Rattle.std.proofs.Common.{◌≡◌, ℕ, ◌+◌, ◌*◌, ◌<◌, ◌≤◌, List, length, max, refl, sym, ap, ap₂, subst, ◌∙◌, arith}
-use Rattle.event_core.specs.declared.ids.ThreadId.{ThreadId}
-use Rattle.event_core.specs.declared.ids.LockId.{LockId}
+use Rattle.std.proofs.Common.{◌≡◌, ℕ, ◌+◌, sym, ap, ◌∙◌}
 use Rattle.event_core.specs.declared.events.Event.{Event}
 use Rattle.event_core.specs.Rows.{join, no_clock, with_row}
-use Rattle.event_core.specs.Turn.{Turn, Opens, Forks, Joins, Inner}
+use Rattle.event_core.specs.Turn.{Turn}
 use Rattle.event_core.proofs.Growing.{row_same}
 use Rattle.hb_clocks.specs.State as hb
 use Rattle.hb_clocks.specs.Work.{Done, more_joins}
 use Rattle.wcp_laws.specs.Step.{turn, extra}
 use Rattle.wcp_clocks.specs.declared.parts.Parts.{Parts}
-use Rattle.wcp_clocks.specs.StrictRows.{StrictTables, strict_of, below_of}
+use Rattle.wcp_clocks.specs.StrictRows.{StrictTables, strict_of}
 use Rattle.wcp_clocks.specs.Parts.{hb_of, state_of}
-use Rattle.wcp_clocks.specs.Stepping.{strict_clock, below_clock}
+use Rattle.wcp_clocks.specs.Stepping.{strict_clock}
 use Rattle.wcp_clocks.proofs.Rows.{row_kept, join_nothing}
 
 -- where the event adds nothing, the strict clock is as it was

@@ -1,8 +1,8 @@
 -- The step of an event, from its step part by part.
-use Rattle.std.proofs.Common.{◌≡◌, ℕ, ◌+◌, ◌-◌, ◌*◌, ◌<◌, ◌≤◌, List, length, max, refl, sym, ap, ap₂, subst, ◌∙◌, arith, inl, inr, ◌⊎◌, cond}
+use Rattle.std.proofs.Common.{◌≡◌, ℕ, ◌+◌, ◌-◌, ◌<◌, ◌≤◌, length, refl, sym, ap, ap₂, subst, ◌∙◌, arith, inl}
+use Rattle.std.proofs.Common.{inr, ◌⊎◌, cond}
 use Rattle.std.proofs.lemmas.Bool.{cases_eq, eq-eqb, ne_eqb}
 use Rattle.event_core.specs.declared.ids.LockId.{LockId}
-use Rattle.event_core.specs.declared.ids.ThreadId.{ThreadId}
 use Rattle.event_core.specs.declared.events.Event.{Event}
 use Rattle.event_core.specs.declared.events.Op.{Op}
 use Rattle.event_core.specs.declared.events.Op.TheVariants.{Load, Store, Acquire, Release, Fork, Join}
@@ -10,15 +10,15 @@ use Rattle.event_core.specs.Rows.{join, with_row, to_child, to_lock}
 use Rattle.event_core.specs.Turn.{Turn, Accesses, Opens, Closes, Forks, Joins, Inner, turn_of}
 use Rattle.event_core.proofs.Growing.{row_same, row_other}
 use Rattle.hb_clocks.specs.State as hb
-use Rattle.section_sum.specs.Sums.{width_of}
-use Rattle.wcp_laws.specs.Step.{turn, after, hb_row, opened_after, held_after, noted_after, others_after, closed_after}
+use Rattle.wcp_laws.specs.Step.{turn, after, hb_row, opened_after, held_after, noted_after, others_after}
+use Rattle.wcp_laws.specs.Step.{closed_after}
 use Rattle.wcp_laws.specs.Conditions.{found_at}
 use Rattle.wcp_clocks.specs.declared.parts.Parts.{Parts}
 use Rattle.wcp_clocks.specs.HeldLists.{held_of}
 use Rattle.wcp_clocks.specs.StrictRows.{strict_of, below_of, HasThread, HasLock}
 use Rattle.wcp_clocks.specs.Parts.{hb_of, state_of, found_in, AreParts, IsReady, HasNamed, most_joins}
 use Rattle.wcp_clocks.specs.Parts.{FewComparisons, IsAccess, KeepsReady}
-use Rattle.wcp_clocks.specs.Stepping.{IsStep, IsStepBy, strict_clock, below_clock}
+use Rattle.wcp_clocks.specs.Stepping.{IsStep, IsStepBy, strict_clock}
 
 -- rows that are each the join of two are so where both are written
 row_join : (t : ℕ) (a b : ℕ → ℕ) (f g h : ℕ → ℕ → ℕ) → ((x : ℕ) → h x ≡ join (f x) (g x))
@@ -84,7 +84,8 @@ held_before t (Store x) d u l h = inl h
 held_before t (Fork v) d u l h = inl h
 held_before t (Join v) d u l h = inl h
 
-module _ (e : Event) (k : Turn) (old new : Parts) (told : turn e (state_of old) ≡ k) (by : IsStepBy e k old new) where
+module _ (e : Event) (k : Turn) (old new : Parts) (told : turn e (state_of old)
+    ≡ k) (by : IsStepBy e k old new) where
   exact : state_of new ≡ after e (state_of old)
   exact i = record {
     hb = ap (λ (s : hb.HbState). s.hb) by.hb i;
@@ -94,24 +95,31 @@ module _ (e : Event) (k : Turn) (old new : Parts) (told : turn e (state_of old) 
       lock = (by.locks ∙ ap (λ k. to_lock k (strict_clock e k old) (strict_of old.rows).lock) (sym told)) i;
     };
     depth = ap (λ (s : hb.HbState). s.depth) by.hb i;
-    opened = (by.opened ∙ ap (λ k. opened_after e.thread.0 k (hb_row e (state_of old) e.thread.0) (state_of old).opened)
+    opened = (by.opened ∙ ap (λ k. opened_after e.thread.0 k (hb_row e (state_of old) e.thread.0)
+        (state_of old).opened)
         (sym told)) i;
     held = (by.held ∙ ap (λ k. held_after e.thread.0 k (state_of old).held) (sym told)) i;
-    noted = (by.noted ∙ ap (λ k. noted_after e.thread.0 k (state_of old).depth (state_of old).noted) (sym told)) i;
-    others = (by.others ∙ ap (λ k. others_after e.thread.0 k (hb_row e (state_of old)) (state_of old)) (sym told)) i;
-    closed = (by.closed ∙ ap (λ k. closed_after e.thread.0 k (hb_row e (state_of old)) (state_of old)) (sym told)) i;
+    noted = (by.noted ∙ ap (λ k. noted_after e.thread.0 k (state_of old).depth (state_of old).noted)
+        (sym told)) i;
+    others = (by.others ∙ ap (λ k. others_after e.thread.0 k (hb_row e (state_of old)) (state_of old))
+        (sym told)) i;
+    closed = (by.closed ∙ ap (λ k. closed_after e.thread.0 k (hb_row e (state_of old)) (state_of old))
+        (sym told)) i;
   }
 
-  below : AreParts old → (t : ℕ) → below_of new.rows t ≡ join ((strict_of new.rows).thread t) ((hb_of new).po t)
+  below : AreParts old → (t : ℕ) → below_of new.rows t ≡ join ((strict_of new.rows).thread t)
+      ((hb_of new).po t)
   below parts t =
       ap (λ (f : ℕ → ℕ → ℕ). f t) by.below
       ∙ child_join k e.thread.0 (strict_clock e k old) (hb.po_row e (hb_of old)) (strict_of old.rows).thread
       (hb_of old).po (below_of old.rows) parts.below t
       ∙ ap₂ join (sym (ap (λ (f : ℕ → ℕ → ℕ). f t) by.threads)) (sym (ap (λ (f : ℕ → ℕ → ℕ). f t) po))
     where
-      po : (hb_of new).po ≡ to_child k (hb.po_row e (hb_of old)) (with_row e.thread.0 (hb.po_row e (hb_of old)) (hb_of old).po)
+      po : (hb_of new).po ≡ to_child k (hb.po_row e (hb_of old)) (with_row e.thread.0 (hb.po_row e
+          (hb_of old)) (hb_of old).po)
       po = ap (λ (s : hb.HbState). s.po) by.hb
-          ∙ ap (λ k. to_child k (hb.po_row e (hb_of old)) (with_row e.thread.0 (hb.po_row e (hb_of old)) (hb_of old).po)) told
+          ∙ ap (λ k. to_child k (hb.po_row e (hb_of old)) (with_row e.thread.0 (hb.po_row e (hb_of old))
+          (hb_of old).po)) told
 
   kept_parts : AreParts old → IsReady old e → AreParts new
   kept_parts parts ready = record {

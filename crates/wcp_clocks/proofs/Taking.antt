@@ -1,10 +1,9 @@
 -- A thread's strict clock takes one clock after another.
-use Rattle.std.proofs.Common.{◌≡◌, ℕ, ◌+◌, ◌*◌, ◌≤◌, ◌<◌, List, [], ◌∷◌, ◌++◌, length, Bool, true, false, All, max}
-use Rattle.std.proofs.Common.{refl, sym, ap, ap₂, subst, ◌∙◌, arith, inl, inr, ◌⊎◌}
-use Rattle.std.proofs.lemmas.Bool.{cases_eq}
+use Rattle.std.proofs.Common.{◌≡◌, ℕ, ◌+◌, ◌*◌, ◌≤◌, List, [], ◌∷◌, ◌++◌, length, Bool, true, false, All, max}
+use Rattle.std.proofs.Common.{refl, sym, ap, ap₂, ◌∙◌, arith}
 use Rattle.std.proofs.lemmas.List.{length_push}
-use Rattle.std.proofs.lemmas.List.Elements.{All-head, All-tail}
-use Rattle.event_core.specs.Rows.{join, no_clock, with_row}
+use Rattle.std.proofs.lemmas.List.Elements.{All-tail}
+use Rattle.event_core.specs.Rows.{join, with_row}
 use Rattle.event_core.proofs.Growing.{row_same}
 use Rattle.hb_clocks.specs.Counts.{counts_of}
 use Rattle.hb_clocks.specs.Tables.{rows_of}
@@ -12,7 +11,7 @@ use Rattle.hb_clocks.specs.Work.{Done}
 use Rattle.section_sum.specs.Sources.{joined_all}
 use Rattle.wcp_laws.specs.Step.{join_all}
 use Rattle.wcp_clocks.proofs.Rows.{row_kept, row_again, join_nothing}
-use Rattle.wcp_clocks.specs.StrictRows.{StrictTables, strict_of, below_of, KeepsRoom}
+use Rattle.wcp_clocks.specs.StrictRows.{StrictTables, below_of, KeepsRoom}
 
 pub room_same : (c : StrictTables) → KeepsRoom c c
 room_same c = record { width = refl; thread = λ t r. r; lock = λ l r. r }
@@ -37,7 +36,8 @@ pub record IsTaking (t : ℕ) (source : ℕ → ℕ) (old now : StrictTables) (b
   pub joins : after.joins + length rest ≤ before.joins + 2
   pub comparisons : after.comparisons ≡ before.comparisons
 
-pub taking_begins : (t : ℕ) (source : ℕ → ℕ) (old : StrictTables) (before : Done) (rest : List (List ℕ)) (taken : Bool)
+pub taking_begins : (t : ℕ) (source : ℕ → ℕ) (old : StrictTables) (before : Done) (rest : List (List ℕ))
+    (taken : Bool)
     → ((u : ℕ) → joined_all (rows_of old.thread t) rest u ≡ join (rows_of old.thread t) source u)
     → All (λ (c : List ℕ). length c ≡ old.width) rest → length rest ≤ 2
     → IsTaking t source old old before before rest taken
@@ -63,7 +63,8 @@ pub taking_on : (t : ℕ) (source : ℕ → ℕ) (old now new : StrictTables) (b
 taking_on t source old now new before after done c rest taken is threads lock below kept work =
     record {
       shape = threads ∙ ap (with_row t (join (rows_of now.thread t) (counts_of c))) is.shape
-          ∙ row_again t (join (rows_of now.thread t) (counts_of c)) (rows_of now.thread t) (rows_of old.thread)
+          ∙ row_again t (join (rows_of now.thread t) (counts_of c)) (rows_of now.thread t)
+          (rows_of old.thread)
           ∙ ap (λ g. with_row t g (rows_of old.thread)) (sym own);
       joined = λ u. ap (λ (g : ℕ → ℕ). joined_all g rest u) own ∙ is.joined u;
       lock = lock ∙ is.lock;
@@ -79,7 +80,8 @@ taking_on t source old now new before after done c rest taken is threads lock be
     own = ap (λ (f : ℕ → ℕ → ℕ). f t) threads
         ∙ row_same t (join (rows_of now.thread t) (counts_of c)) (rows_of now.thread)
 
-pub taking_ends : (t : ℕ) (source : ℕ → ℕ) (old now : StrictTables) (before after : Done) (rest : List (List ℕ)) (taken : Bool)
+pub taking_ends : (t : ℕ) (source : ℕ → ℕ) (old now : StrictTables) (before after : Done) (rest : List
+    (List ℕ)) (taken : Bool)
     → IsTaking t source old now before after rest taken → rest ≡ []
     → rows_of now.thread ≡ with_row t (join (rows_of old.thread t) source) (rows_of old.thread)
 taking_ends t source old now before after rest taken is none =
@@ -113,7 +115,8 @@ join_all_more source f locks l i u = go f locks u i
 pub taken_begins : (t : ℕ) (source : ℕ → ℕ → ℕ) (old : StrictTables) (before : Done) (taken : Bool)
     → HasTaken t source old old before before [] taken
 taken_begins t source old before taken = record {
-  threads = row_kept t (rows_of old.thread) ∙ ap (λ g. with_row t g (rows_of old.thread)) (sym (join_nothing (rows_of old.thread t)));
+  threads = row_kept t (rows_of old.thread) ∙ ap (λ g. with_row t g (rows_of old.thread)) (sym (join_nothing
+      (rows_of old.thread t)));
   lock = refl;
   below = refl;
   none = λ e. refl;
@@ -131,11 +134,13 @@ pub taken_on : (t : ℕ) (source : ℕ → ℕ → ℕ) (old now new : StrictTab
     → (both ≡ false → (taken ≡ false) × (one ≡ false))
     → done.joins ≤ after.joins + 2 → done.comparisons ≡ after.comparisons
     → HasTaken t source old new before done (locks ++ l ∷ []) both
-taken_on t source old now new before after done locks l taken one both is threads lock below kept none parts joins comparisons =
+taken_on t source old now new before after done locks l taken one both is threads lock below kept none parts
+    joins comparisons =
     record {
       threads = threads ∙ ap₂ (λ g f. with_row t g f) own is.threads
           ∙ row_again t _ _ (rows_of old.thread)
-          ∙ ap (λ g. with_row t g (rows_of old.thread)) (sym (join_all_more source (rows_of old.thread t) locks l));
+          ∙ ap (λ g. with_row t g (rows_of old.thread)) (sym (join_all_more source
+          (rows_of old.thread t) locks l));
       lock = lock ∙ is.lock;
       below = below ∙ is.below;
       none = λ e. none (parts e).1 ∙ is.none (parts e).0;

@@ -1,7 +1,8 @@
 -- What a turn does to the clocks, in the words of the step.
-use Rattle.std.proofs.Common.{◌≡◌, ℕ, ◌+◌, ◌≤◌, ◌<◌, max, Bool, true, false, nat_eq, nat_lt, not, ◌&&◌, ◌||◌, cond, List, [], ◌∷◌}
-use Rattle.std.proofs.Common.{sym, ap, ap₂, subst, ◌∙◌, refl, arith, inl, inr, ◌⊎◌, ◌↔◌, length}
-use Rattle.std.proofs.lemmas.Bool.{cases_eq, cases_Bool, eqb-true, eq-eqb, ltb_from_iff}
+use Rattle.std.proofs.Common.{◌≡◌, ℕ, ◌+◌, ◌<◌, Bool, true, false, nat_eq, nat_lt, not, ◌&&◌, ◌||◌, cond}
+use Rattle.std.proofs.Common.{List, [], ◌∷◌}
+use Rattle.std.proofs.Common.{sym, ap, ap₂, subst, ◌∙◌, refl, arith, inl, inr, ◌⊎◌, ◌↔◌}
+use Rattle.std.proofs.lemmas.Bool.{cases_Bool, eqb-true, eq-eqb, ltb_from_iff}
 use Rattle.event_core.specs.declared.ids.LockId.{LockId}
 use Rattle.event_core.specs.declared.ids.VarId.{VarId}
 use Rattle.event_core.specs.declared.ids.ThreadId.{ThreadId}
@@ -9,16 +10,15 @@ use Rattle.event_core.specs.declared.events.Event.{Event}
 use Rattle.event_core.specs.declared.events.AccessKind.{AccessKind}
 use Rattle.event_core.specs.declared.events.AccessKind.TheVariants.{Read, Write}
 use Rattle.event_core.specs.Closed.{Has, first, later}
-use Rattle.event_core.specs.Rows.{no_clock, join, bump, with_row, to_child, brought}
-use Rattle.event_core.specs.Turn.{Turn, Accesses, Opens, Closes, Forks, Joins, Inner}
-use Rattle.event_core.proofs.Growing.{row_same, row_other}
+use Rattle.event_core.specs.Rows.{no_clock, join, bump, brought}
+use Rattle.event_core.specs.Turn.{Turn, Accesses, Closes}
 use Rattle.hb_clocks.specs.State as hb
 use Rattle.section_sum.specs.Cells.{is_kind}
-use Rattle.section_sum.specs.Sums.{Sums, noted_of, others_of, sources_of, is_held, is_access, SameNoted, SameOthers}
+use Rattle.section_sum.specs.Sums.{Sums, noted_of, others_of, sources_of, is_held, is_access, SameOthers}
 use Rattle.wcp_laws.specs.State.{State}
 use Rattle.wcp_laws.specs.Step.{sources, kind_eq, noted_after, others_after}
 use Rattle.wcp_clocks.specs.HeldLists.{numbers_of}
-use Rattle.wcp_clocks.proofs.Rows.{own_row, bump_join}
+use Rattle.wcp_clocks.proofs.Rows.{own_row}
 
 -- the thread's clock of program order after its event
 pub own_program_order : (e : Event) (old new : hb.HbState) → new ≡ hb.after e old
@@ -36,7 +36,8 @@ plain_row e s k is none =
     (ap (λ k. brought k (hb.without_locks s.po)) is ∙ none)
 
 -- the sources under a lock are those of the rule
-pub same_sources : (sums : Sums) (s : State) (x : VarId) (k : AccessKind) (t : ThreadId) → s.others ≡ others_of sums
+pub same_sources : (sums : Sums) (s : State) (x : VarId) (k : AccessKind) (t : ThreadId)
+    → s.others ≡ others_of sums
     → (λ l. sources_of sums l x.0 k t.0) ≡ sources s x k t
 unfolding sources_of
 same_sources sums s x Read t e i l = sym (ap (λ f. f l x.0 Write t.0) e) i
@@ -62,7 +63,8 @@ has_held (m ∷ ms) l (later _ _ h) = go (nat_eq l m.0) (has_held ms l h)
     go true e = refl
     go false e = e
 
-pub held_is : (locks : List LockId) (d l : ℕ) → (Has l (numbers_of locks) ↔ (0 < d)) → is_held locks l ≡ nat_lt 0 d
+pub held_is : (locks : List LockId) (d l : ℕ) → (Has l (numbers_of locks) ↔ (0 < d))
+    → is_held locks l ≡ nat_lt 0 d
 held_is locks d l iff = ltb_from_iff (λ e. iff.0 (held_has locks l e), λ h. has_held locks l (iff.1 h))
 
 kinds : (j k : AccessKind) → is_kind j k ≡ kind_eq j k
@@ -72,7 +74,8 @@ kinds Write Read = refl
 kinds Write Write = refl
 
 -- an access that is noted, in the words of the step
-pub same_noted : (old new : Sums) (d : ℕ → ℕ → ℕ) (t : ThreadId) (locks : List LockId) (x : VarId) (k : AccessKind)
+pub same_noted : (old new : Sums) (d : ℕ → ℕ → ℕ) (t : ThreadId) (locks : List LockId) (x : VarId)
+    (k : AccessKind)
     → ((l : LockId) → Has l.0 (numbers_of locks) ↔ (0 < d t.0 l.0))
     → ((v l y : ℕ) (j : AccessKind) → noted_of new v l y j
     ≡ (noted_of old v l y j || is_access t.0 locks x.0 k v l y j))

@@ -2,7 +2,7 @@
 use Rattle.std.proofs.Common.{◌≡◌, ℕ, zero, suc, ◌<◌, ◌≤◌, ◌+◌, ◌*◌, List, [], ◌∷◌, ◌++◌, length}
 use Rattle.std.proofs.Common.{refl, sym, ap, subst, ◌∙◌, inl, inr, ◌⊎◌, arith}
 use Rattle.std.proofs.lemmas.Bool.{cases_lt}
-use Rattle.std.proofs.Math.Nat.{mul-le-mul_right, mul-le-mul_left, add-mul, mul_comm}
+use Rattle.std.proofs.Math.Nat.{mul-le-mul_left, add-mul, mul_comm}
 use Rattle.event_core.specs.declared.bounds.Limits.{Limits}
 use Rattle.event_core.specs.declared.events.Event.{Event}
 use Rattle.event_core.specs.declared.ids.LockId.{LockId}
@@ -16,13 +16,13 @@ use Rattle.event_core.proofs.Growing.{row_same}
 use Rattle.event_core.proofs.Growth.{well_formed_front}
 use Rattle.hb_clocks.specs.Work.{Done}
 use Rattle.wcp_laws.specs.Conditions.{found_at}
-use Rattle.wcp_laws.specs.Found.{sum_below, total_found, total_closed, threads_in}
+use Rattle.wcp_laws.specs.Found.{sum_below, total_found, threads_in}
 use Rattle.wcp_laws.specs.Step.{turn}
 use Rattle.wcp_laws.proofs.FoundLaws.{found_at_close, found_at_most, threads_within}
 use Rattle.wcp_clocks.specs.declared.parts.Parts.{Parts}
 use Rattle.wcp_clocks.specs.Parts.{state_of, found_in, most_joins, FewComparisons}
 use Rattle.wcp_clocks.specs.StandsFor.{StandsFor}
-use Rattle.wcp_clocks.specs.WorkWithin.{WorkWithin, IsWorkOf, NoWork, SameWork, WorkStep, LittleWork}
+use Rattle.wcp_clocks.specs.WorkWithin.{NoWork, SameWork, WorkStep, LittleWork}
 use Rattle.wcp_clocks.specs.WorkWithin.{FewComparisonsInAll}
 use Rattle.wcp_clocks.proofs.Conditions.{log_within}
 use Rattle.wcp_clocks.proofs.HeldLocks.{held_within}
@@ -87,7 +87,8 @@ pub same_work : SameWork
 same_work limits log old new same was = record {
   joins = subst (λ (d : Done). d.joins ≤ length log * (2 * limits.locks + 3)) (sym same.work) was.joins;
   comparisons =
-      subst (λ (d : Done). d.comparisons ≤ total_found limits.locks limits.threads (found_in new) + length log)
+      subst (λ (d : Done). d.comparisons ≤ total_found limits.locks limits.threads
+      (found_in new) + length log)
       (sym same.work)
       (subst (λ f. old.work.comparisons ≤ total_found limits.locks limits.threads f + length log)
       (sym same.found) was.comparisons);

@@ -1,21 +1,22 @@
 -- What the parts of the clocks mean together.
-use Rattle.std.specs.Prelude.{◌≡◌, ℕ, ◌+◌, ◌*◌, ◌<◌, ◌≤◌, ◌↔◌, List, length, IsTrue}
+use Rattle.std.specs.Prelude.{◌≡◌, ℕ, ◌+◌, ◌*◌, ◌<◌, ◌≤◌, ◌↔◌, length, IsTrue}
 use Rattle.event_core.specs.declared.ids.ThreadId.{ThreadId}
 use Rattle.event_core.specs.declared.ids.LockId.{LockId}
+use Rattle.event_core.specs.declared.ids.VarId.{VarId}
 use Rattle.event_core.specs.declared.events.AccessKind.TheVariants.{Read, Write}
 use Rattle.event_core.specs.declared.events.Op.{Op}
 use Rattle.event_core.specs.declared.events.Op.TheVariants.{Load, Store, Acquire, Release, Fork, Join}
 use Rattle.event_core.specs.declared.events.Event.{Event}
 use Rattle.event_core.specs.Rows.{join}
 use Rattle.event_core.specs.Closed.{Has}
-use Rattle.event_core.specs.Turn.{Turn, Accesses, Opens, Closes, Forks, Joins, Inner}
+use Rattle.event_core.specs.Turn.{Turn, Accesses, Closes}
 use Rattle.hb_clocks.specs.State.{HbState, po_row}
-use Rattle.hb_clocks.specs.Stands.{Admits, IsFew, IsHeldRelease}
+use Rattle.hb_clocks.specs.Stands.{Admits, IsFew}
 use Rattle.hb_clocks.specs.Tables as hb
 use Rattle.section_sum.specs.Sums.{width_of, noted_of, others_of, HasRoom, IsAlone}
 use Rattle.lock_queues.specs.Queues.{closed_of, opened_of, found_of, has_room}
 use Rattle.wcp_laws.specs.State.{State}
-use Rattle.wcp_laws.specs.Step.{turn, hb_row}
+use Rattle.wcp_laws.specs.Step.{hb_row}
 use Rattle.wcp_laws.specs.Conditions.{IsSound, CursorsStand}
 use Rattle.wcp_clocks.specs.declared.parts.Parts.{Parts}
 use Rattle.wcp_clocks.specs.HeldLists.{list_at, held_of, room_at}
@@ -56,6 +57,14 @@ pub record IsReady (p : Parts) (e : Event) : Type 0 where
   pub hb : hb.IsReady p.hb e.thread e.op
   pub thread : HasThread p.rows e.thread.0
   pub named : HasNamed p e.thread e.op
+
+-- an event of the thread with the operation: room does not depend on its site and its value
+abbrev pub event_by : ThreadId → Op → Event
+event_by t op = record { thread = t; op = op; site = record { 0 = 0 }; value = 0 }
+
+-- there is room for both events of a swap
+abbrev pub IsReadyToSwap : Parts → ThreadId → VarId → Type 0
+IsReadyToSwap p t x = IsReady p (event_by t (Load x)) × IsReady p (event_by t (Store x))
 
 -- what is asked of the numbers at the event, with no log
 pub record Fits (e : Event) (p : Parts) : Type 0 where

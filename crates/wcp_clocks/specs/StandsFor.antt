@@ -13,7 +13,7 @@ use Rattle.wcp_laws.specs.State.{empty}
 use Rattle.wcp_laws.specs.Standing.{Stands}
 use Rattle.wcp_laws.specs.Found.{FoundFits}
 use Rattle.wcp_clocks.specs.declared.parts.Parts.{Parts}
-use Rattle.wcp_clocks.specs.Parts.{hb_of, state_of, found_in, Fits, SameNumbers}
+use Rattle.wcp_clocks.specs.Parts.{hb_of, state_of, found_in, Fits, IsWithin, SameNumbers}
 
 -- no lock stands twice in the list of a thread
 abbrev pub AreDistinct : (ℕ → List ℕ) → Type 0
@@ -55,3 +55,9 @@ FitsWhereLegal = (limits : Limits) (log : List Event) (e : Event) (p : Parts)
 abbrev pub HeldWithin : Type 0
 HeldWithin = (limits : Limits) (log : List Event) (p : Parts) (t : ThreadId)
     → WellFormed limits log → StandsFor log p → length ((state_of p).held t.0) ≤ limits.locks
+
+-- a legal event names numbers within the limits of the clocks
+abbrev pub WithinWhereLegal : Type 0
+WithinWhereLegal = (limits : Limits) (log : List Event) (e : Event) (p : Parts)
+    → WellFormed limits (log ++ e ∷ []) → p.hb.width ≡ limits.threads → p.queues.limits ≡ limits
+    → IsWithin p e

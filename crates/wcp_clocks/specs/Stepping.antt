@@ -6,12 +6,14 @@ use Rattle.event_core.specs.Turn.{Turn}
 use Rattle.hb_clocks.specs.State as hb
 use Rattle.section_sum.specs.Sums.{width_of, noted_of, others_of}
 use Rattle.lock_queues.specs.Queues.{closed_of, opened_of}
-use Rattle.wcp_laws.specs.Step.{turn, after, hb_row, extra, opened_after, held_after, noted_after, others_after, closed_after}
+use Rattle.wcp_laws.specs.Step.{turn, after, hb_row, extra, opened_after, held_after, noted_after}
+use Rattle.wcp_laws.specs.Step.{others_after, closed_after}
 use Rattle.wcp_laws.specs.Conditions.{found_at}
 use Rattle.wcp_clocks.specs.declared.parts.Parts.{Parts}
 use Rattle.wcp_clocks.specs.HeldLists.{held_of}
 use Rattle.wcp_clocks.specs.StrictRows.{strict_of, below_of, KeepsRoom}
-use Rattle.wcp_clocks.specs.Parts.{hb_of, state_of, found_in, AreParts, SameLimits, most_joins, FewComparisons, IsAccess, KeepsReady}
+use Rattle.wcp_clocks.specs.Parts.{hb_of, state_of, found_in, AreParts, SameLimits, most_joins}
+use Rattle.wcp_clocks.specs.Parts.{FewComparisons, IsAccess, KeepsReady}
 
 -- the step of the event
 pub record IsStep (e : Event) (old new : Parts) : Type 0 where

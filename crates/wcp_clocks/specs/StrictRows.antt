@@ -1,5 +1,5 @@
 -- The tables of strict clocks: what they mean, and the room in them.
-use Rattle.std.specs.Prelude.{◌≡◌, ℕ, ◌<◌, List, length, replicate}
+use Rattle.std.specs.Prelude.{◌≡◌, ℕ, ◌<◌, List, replicate}
 use Rattle.event_core.specs.Rows.{Rows}
 use Rattle.hb_clocks.specs.Tables.{rows_of, IsMade, AreWide}
 

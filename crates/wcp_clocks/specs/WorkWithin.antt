@@ -1,5 +1,5 @@
 -- How much work the events of a log take at most.
-use Rattle.std.specs.Prelude.{◌≡◌, ℕ, ◌+◌, ◌*◌, ◌≤◌, List, [], ◌∷◌, ◌++◌, length}
+use Rattle.std.specs.Prelude.{◌≡◌, ◌+◌, ◌*◌, ◌≤◌, List, [], ◌∷◌, ◌++◌, length}
 use Rattle.event_core.specs.declared.events.Event.{Event}
 use Rattle.event_core.specs.declared.bounds.Limits.{Limits}
 use Rattle.event_core.specs.Refusal.{WellFormed}
@@ -26,7 +26,8 @@ pub record IsWorkOf (e : Event) (old new : Parts) : Type 0 where
 
 -- no work is within the bounds of the empty log
 abbrev pub NoWork : Type 0
-NoWork = (limits : Limits) (p : Parts) → p.work ≡ record { comparisons = 0; joins = 0 } → WorkWithin limits [] p
+NoWork = (limits : Limits) (p : Parts) → p.work ≡ record { comparisons = 0; joins = 0 }
+    → WorkWithin limits [] p
 
 -- and the same work is within the same bounds
 abbrev pub SameWork : Type 0

@@ -6,7 +6,8 @@
 //! under each lock that its thread holds. A release takes, by rule (b), that of the latest section on
 //! its lock whose acquire is strictly below it. All else is handed on as happens-before is: by forks and
 //! joins, and from a release to a later acquire. The log itself is not kept.
-ghost use Rattle.std.specs.Prelude.{◌≡◌, ℕ, ◌<◌, ◌≤◌, ◌+◌, ◌↔◌, List, [], ◌∷◌, ◌++◌, length, max, IfOk, OnOk, IsTrue};
+ghost use Rattle.std.specs.Prelude.{◌≡◌, ℕ, ◌<◌, ◌≤◌, ◌+◌, ◌↔◌, List, [], ◌∷◌, ◌++◌, length, max, IfOk};
+ghost use Rattle.std.specs.Prelude.{OnOk, IsTrue};
 ghost use Rattle.event_core.specs.declared.events.Event.{Event as AnEvent};
 ghost use Rattle.event_core.specs.declared.ids.ThreadId.{ThreadId as AThread};
 ghost use Rattle.event_core.specs.declared.bounds.Limits.{Limits as Bounds};
@@ -23,12 +24,13 @@ ghost use Rattle.wcp_laws.specs.Step.{after, turn};
 ghost use Rattle.wcp_laws.specs.Conditions.{found_at};
 ghost use Rattle.wcp_clocks.specs.Parts.{hb_of, state_of, found_in, IsReady, Fits, KeepsReady, SameLimits};
 ghost use Rattle.wcp_clocks.specs.Parts.{most_joins, FewComparisons, IsWithin, IsAccess, SameNumbers};
+ghost use Rattle.wcp_clocks.specs.Parts.{IsReadyToSwap};
 ghost use Rattle.wcp_clocks.specs.StandsFor.{StandsFor};
 
 use crate::parts::Parts;
-use crate::room::{are_ready, new_parts, prepare_parts};
+use crate::room::{are_both_ready, are_ready, new_parts, prepare_both, prepare_parts};
 use crate::turns::step;
-use event_core::{Event, Limits, OutOfMemory, ThreadId};
+use event_core::{Event, Limits, OutOfMemory, ThreadId, VarId};
 use hb_clocks::Clock;
 use std::alloc::Global;
 use std::marker::Model;
@@ -86,6 +88,25 @@ impl WcpClocks {
         are_ready(&self.parts, event)
     }
 
+    /// Makes room for both events of a swap, a load and then a store of the variable. No number changes,
+    /// whether there is memory or not.
+    pub fn prepare_swap(&mut self, thread: ThreadId, var: VarId) -> Result<(), OutOfMemory>
+        requires { thread.0 < self.old.hb.width }
+        ensures same { SameNumbers self.old self.new }
+        ensures ready { OnOk result (IsReadyToSwap self.new thread var) }
+        ensures kept { KeepsReady self.old self.new }
+        ensures limits { SameLimits self.old self.new }
+    {
+        prepare_both(&mut self.parts, thread, var)
+    }
+
+    /// Whether there is room for both events of a swap.
+    pub fn ready_swap(&self, thread: ThreadId, var: VarId) -> bool
+        ensures { IsTrue result ↔ IsReadyToSwap self.now thread var }
+    {
+        are_both_ready(&self.parts, thread, var)
+    }
+
     /// The event joins the log that the clocks stand for.
     ///
     /// It takes at most three joins of clocks, or at an access two for each lock that its thread holds. A
@@ -126,7 +147,8 @@ impl WcpClocks {
     pub fn below(&self, thread: ThreadId, other: ThreadId) -> u64
         requires { other.0 < self.now.hb.width }
         ensures exact { result
-            ≡ max ((state_of self.now).strict.thread thread.0 other.0) ((hb_of self.now).po thread.0 other.0) }
+            ≡ max ((state_of self.now).strict.thread thread.0 other.0)
+            ((hb_of self.now).po thread.0 other.0) }
         ensures latest { (limits : Bounds) (log : List AnEvent) (j : ℕ) → WellFormed limits log
             → StandsFor log self.now → IsLatest log thread j
             → Counts log other (λ i. Below log i j) result }

@@ -1,8 +1,10 @@
 //! The locks that each thread holds, in the order of their outer acquires.
-ghost use Rattle.std.specs.Prelude.{◌≡◌, ℕ, ◌+◌, ◌-◌, ◌<◌, ◌≤◌, ◌↔◌, ◌∷◌, ◌++◌, [], length, OnOk, IsTrue, vec_capacity, vec_len};
+ghost use Rattle.std.specs.Prelude.{◌≡◌, ℕ, ◌+◌, ◌-◌, ◌<◌, ◌≤◌, ◌↔◌, ◌∷◌, ◌++◌, [], length, OnOk, IsTrue};
+ghost use Rattle.std.specs.Prelude.{vec_capacity, vec_len};
 ghost use Rattle.event_core.specs.Rows.{with_row};
 ghost use Rattle.wcp_laws.specs.Step.{without};
-ghost use Rattle.wcp_clocks.specs.HeldLists.{list_at, held_of, room_at, numbers_of, without_lock, KeepsPlaces};
+ghost use Rattle.wcp_clocks.specs.HeldLists.{list_at, held_of, room_at, numbers_of, without_lock};
+ghost use Rattle.wcp_clocks.specs.HeldLists.{KeepsPlaces};
 
 use event_core::{LockId, OutOfMemory, ThreadId};
 use std::alloc::Global;
@@ -193,7 +195,8 @@ fn add_at(lists: &mut [Holding], at: usize, lock: LockId)
 }
 
 fn remove_at(lists: &mut [Holding], at: usize, lock: LockId)
-    ensures held { held_of lists.new ≡ with_row at (without lock.0 (held_of lists.old at)) (held_of lists.old) }
+    ensures held { held_of lists.new
+        ≡ with_row at (without lock.0 (held_of lists.old at)) (held_of lists.old) }
     ensures kept { KeepsPlaces lists.old lists.new }
 {
     if lists.len() <= at {

@@ -10,12 +10,13 @@ ghost use Rattle.wcp_laws.specs.State.{empty};
 ghost use Rattle.wcp_clocks.specs.HeldLists.{list_at, room_at};
 ghost use Rattle.wcp_clocks.specs.StrictRows.{HasThread, HasLock};
 ghost use Rattle.wcp_clocks.specs.Parts.{hb_of, state_of, found_in, IsReady, HasNamed, IsWithin, AreParts};
+ghost use Rattle.wcp_clocks.specs.Parts.{event_by, IsReadyToSwap};
 ghost use Rattle.wcp_clocks.specs.Growth.{HasGrown};
 
 use crate::holdings::Holdings;
 use crate::parts::Parts;
 use crate::strict::StrictRows;
-use event_core::{AccessKind, Event, Limits, LockId, Op, OutOfMemory, ThreadId, VarId};
+use event_core::{AccessKind, Event, Limits, LockId, Op, OutOfMemory, SiteId, ThreadId, VarId};
 use hb_clocks::HbClocks;
 use lock_queues::Queues;
 use section_sum::Summaries;
@@ -77,6 +78,42 @@ pub(crate) fn are_ready(parts: &Parts, event: &Event) -> bool
         && has_named(parts, event.thread, event.op)
 }
 
+// An event by the thread. Room does not depend on its site and its value.
+fn event_by(thread: ThreadId, op: Op) -> Event
+    ensures { result ≡ event_by thread op }
+{
+    Event {
+        thread,
+        op,
+        site: SiteId(0),
+        value: 0,
+    }
+}
+
+// Makes room for both events of a swap.
+#[tactic(auto, using(crate::proofs::Growth::grown_then))]
+pub(crate) fn prepare_both(
+    parts: &mut Parts,
+    thread: ThreadId,
+    var: VarId,
+) -> Result<(), OutOfMemory>
+    requires parts { AreParts parts.old }
+    requires within { thread.0 < parts.old.hb.width }
+    ensures grown { HasGrown parts.old parts.new }
+    ensures ready { OnOk result (IsReadyToSwap parts.new thread var) }
+{
+    prepare_parts(parts, &event_by(thread, Op::Load(var)))?;
+    prepare_parts(parts, &event_by(thread, Op::Store(var)))
+}
+
+// Whether there is room for both events of a swap.
+pub(crate) fn are_both_ready(parts: &Parts, thread: ThreadId, var: VarId) -> bool
+    ensures { IsTrue result ↔ IsReadyToSwap parts.now thread var }
+{
+    are_ready(parts, &event_by(thread, Op::Load(var)))
+        && are_ready(parts, &event_by(thread, Op::Store(var)))
+}
+
 // Whether there is room for what the operation names.
 fn has_named(parts: &Parts, thread: ThreadId, op: Op) -> bool
     ensures { IsTrue result ↔ HasNamed parts.now thread op }
@@ -104,9 +141,7 @@ fn has_section(parts: &Parts, thread: ThreadId, lock: LockId) -> bool
     ensures { IsTrue result ↔ (HasLock parts.now.rows lock.0
         × IsTrue (has_room parts.now.queues thread.0 lock.0) × (0 < room_at parts.now.held thread.0)) }
 {
-    parts.rows.has_lock(lock)
-        && parts.queues.has_room(thread, lock)
-        && parts.held.has_room(thread)
+    parts.rows.has_lock(lock) && parts.queues.has_room(thread, lock) && parts.held.has_room(thread)
 }
 
 // Makes the clocks of program order and of happens-before.

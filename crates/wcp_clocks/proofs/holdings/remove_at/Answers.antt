@@ -1,8 +1,7 @@
-use Rattle.std.proofs.Common.{◌≡◌, ℕ, List, ap, ◌∙◌}
+use Rattle.std.proofs.Common.{ℕ, List, ap, ◌∙◌}
 use Rattle.std.proofs.lemmas.List.{get_or_default}
 use Rattle.event_core.specs.declared.ids.LockId.{LockId}
 use Rattle.event_core.specs.Rows.{with_row}
-use Rattle.wcp_laws.specs.Step.{without}
 use Rattle.wcp_clocks.specs.HeldLists.{HeldList, nothing_held, numbers_of, held_of}
 use Rattle.wcp_clocks.proofs.Lists.{held_set, numbers_without}
 use Rattle.wcp_clocks.proofs.holdings.remove_at.Goals as goal
@@ -15,5 +14,6 @@ returns-clause-held c =
     held_set lists c.args.at c.remove.new.self within
     ∙ ap (λ (ns : List ℕ). with_row c.args.at ns (held_of lists))
     (ap (λ (ls : List LockId). numbers_of ls) c.remove.ensures.locks
-    ∙ ap (λ (h : HeldList). numbers_of (Rattle.wcp_clocks.specs.HeldLists.without_lock c.args.lock h.locks)) read
+    ∙ ap (λ (h : HeldList). numbers_of (Rattle.wcp_clocks.specs.HeldLists.without_lock c.args.lock h.locks))
+    read
     ∙ numbers_without c.args.lock (Rattle.wcp_clocks.specs.HeldLists.list_at lists c.args.at).locks)

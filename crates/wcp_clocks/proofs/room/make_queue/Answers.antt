@@ -1,4 +1,3 @@
-use Rattle.std.proofs.Common.{refl}
 use Rattle.lock_queues.specs.Queues.{has_room}
 use Rattle.wcp_clocks.proofs.Growth.{queues_grown, queues_kept, queue_made}
 use Rattle.wcp_clocks.proofs.room.make_queue.Goals as goal

@@ -1,6 +1,5 @@
 use Rattle.std.proofs.Common.{◌∙◌, ap}
 use Rattle.event_core.specs.Bounds.{Bounds}
-use Rattle.wcp_clocks.specs.declared.parts.Parts.{Parts}
 use Rattle.wcp_clocks.proofs.Growth.{are_parts}
 use Rattle.wcp_clocks.proofs.room.new_parts.Goals as goal
 

@@ -1,6 +1,5 @@
-use Rattle.std.proofs.Common.{◌≡◌, ◌<◌, ◌≤◌, ℕ, List, Bool, true, false, ◌||◌, length, take, get_or, sym, ap, subst, ◌∙◌, arith, refl}
-use Rattle.std.proofs.Common.{inl, inr, ◌⊎◌}
-use Rattle.std.proofs.lemmas.Bool.{cases_Bool}
+use Rattle.std.proofs.Common.{◌≡◌, ℕ, Bool, true, false, ◌||◌, length, take, get_or, sym, subst, ◌∙◌, arith}
+use Rattle.std.proofs.Common.{refl}
 use Rattle.std.proofs.lemmas.List.{map_more, length-map, length-take-le}
 use Rattle.event_core.specs.declared.ids.LockId.{LockId}
 use Rattle.section_sum.specs.Sums.{sources_of}
@@ -39,9 +38,12 @@ loop-lock-preserved c =
     let e = c.take_under-taken.ensures in
     subst (λ ns. HasTaken t source c.args.rows.now c.take_under-taken.new.rows c.args.work.now
     c.take_under-taken.new.work ns (c.loop-lock.taken || c.take_under-taken.result))
-    (sym (map_more (λ (m : LockId). m.0) c.args.held.now c.loop-lock.lock-index (record { 0 = 0 }) c.loop-lock-test.true))
+    (sym (map_more (λ (m : LockId). m.0) c.args.held.now c.loop-lock.lock-index
+    (record { 0 = 0 }) c.loop-lock-test.true))
     (taken_on t source c.args.rows.now c.loop-lock.rows c.take_under-taken.new.rows c.args.work.now
-    c.loop-lock.work c.take_under-taken.new.work (numbers_of (take c.loop-lock.lock-index c.args.held.now)) l.0
+    c.loop-lock.work c.take_under-taken.new.work (numbers_of
+    (take c.loop-lock.lock-index c.args.held.now)) l.0
     c.loop-lock.taken c.take_under-taken.result (c.loop-lock.taken || c.take_under-taken.result)
-    c.loop-lock.invariant e.threads e.locks e.below e.kept e.none (both_false c.loop-lock.taken c.take_under-taken.result)
+    c.loop-lock.invariant e.threads e.locks e.below e.kept e.none
+    (both_false c.loop-lock.taken c.take_under-taken.result)
     e.joins e.comparisons)

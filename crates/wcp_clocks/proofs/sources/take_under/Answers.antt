@@ -1,4 +1,4 @@
-use Rattle.std.proofs.Common.{◌≡◌, ◌≤◌, ℕ, List, All, false, length, arith, ap, sym, subst, ◌∙◌}
+use Rattle.std.proofs.Common.{◌≡◌, ◌≤◌, ℕ, List, All, false, length, arith, sym, subst, ◌∙◌}
 use Rattle.std.proofs.lemmas.List.Elements.{All-head}
 use Rattle.event_core.specs.declared.events.AccessKind.{AccessKind}
 use Rattle.event_core.specs.declared.events.AccessKind.TheVariants.{Read, Write}
@@ -18,7 +18,8 @@ loop-clock-init c =
     let t : ℕ = c.args.thread.0 in
     let source = sources_of c.args.sums.now c.args.lock.0 c.args.var.0 c.args.kind t in
     let s = c.sources-clock-items in
-    subst (λ (r : Sources). IsTaking t source c.args.rows.now c.args.rows.now c.args.work.now c.args.work.now (left r) false)
+    subst (λ (r : Sources). IsTaking t source c.args.rows.now c.args.rows.now c.args.work.now c.args.work.now
+    (left r) false)
     (sym c.into_iter-clock-iterator.ensures.into_iter_gives)
     (taking_begins t source c.args.rows.now c.args.work.now (left s.result) false
     (λ u. s.ensures.joins (rows_of c.args.rows.now.thread t) u)
@@ -44,7 +45,8 @@ loop-clock-preserved c =
     let t : ℕ = c.args.thread.0 in
     let source = sources_of c.args.sums.now c.args.lock.0 c.args.var.0 c.args.kind t in
     let e = c.take_clock.ensures in
-    taking_on t source c.args.rows.now c.loop-clock.rows c.take_clock.new.self c.args.work.now c.loop-clock.work
+    taking_on t source c.args.rows.now c.loop-clock.rows c.take_clock.new.self c.args.work.now
+    c.loop-clock.work
     c.take_clock.new.work c.in-Some.clock.now (left c.next.new.self) c.loop-clock.taken
     (subst (λ r. IsTaking t source c.args.rows.now c.loop-clock.rows c.args.work.now c.loop-clock.work r
     c.loop-clock.taken) c.in-Some.ensures.steps c.loop-clock.invariant)

@@ -1,11 +1,5 @@
-use Rattle.std.proofs.Common.{◌≡◌, ℕ, ◌+◌, ◌<◌, ◌≤◌, max, sym, ap, ap₂, subst, ◌∙◌, arith, refl}
-use Rattle.event_core.specs.Rows.{join, bump, with_row, no_clock}
-use Rattle.event_core.specs.Turn.{Turn, Accesses}
-use Rattle.event_core.proofs.Growing.{row_same}
-use Rattle.hb_clocks.specs.State as hb
-use Rattle.wcp_clocks.specs.StrictRows.{strict_of, below_of}
-use Rattle.wcp_clocks.specs.Parts.{hb_of, state_of}
-use Rattle.wcp_clocks.specs.Stepping.{strict_clock, below_clock}
+use Rattle.std.proofs.Common.{ℕ, sym, ap, ◌∙◌, refl}
+use Rattle.event_core.specs.Turn.{Accesses}
 use Rattle.wcp_clocks.proofs.Accessing.{own_taken, access_step, access_keeps}
 use Rattle.wcp_clocks.proofs.Taking.{room_then}
 use Rattle.wcp_clocks.proofs.OwnClocks.{few_below, counted_below, followed_below}
@@ -23,10 +17,12 @@ returns-then-taken-clause-step c =
     let s = c.take_sources-taken in
     access_step e c.args.var c.args.kind old c.requires.turn c.requires.fits c.of-held.result.now s.new.rows
     c.follow.new.self c.advance.new.self c.note.new.self s.new.work c.advance.new.work c.of-held.ensures
-    s.ensures.threads s.ensures.locks s.ensures.kept s.ensures.joins s.ensures.comparisons c.note.ensures.noted
+    s.ensures.threads s.ensures.locks s.ensures.kept s.ensures.joins s.ensures.comparisons
+    c.note.ensures.noted
     c.note.ensures.others c.note.ensures.width c.advance.ensures.exact c.advance.ensures.width
     c.advance.ensures.work c.follow.ensures.strict
-    (c.follow.ensures.below ∙ followed_below e (Accesses c.args.var c.args.kind) old s.new.rows c.advance.new.self
+    (c.follow.ensures.below ∙ followed_below e (Accesses c.args.var c.args.kind) old s.new.rows
+    c.advance.new.self
     (own_taken e c.args.var c.args.kind old c.requires.turn c.requires.fits c.of-held.result.now s.new.rows
     c.of-held.ensures s.ensures.threads) c.advance.ensures.exact s.ensures.below)
     c.follow.ensures.kept
@@ -38,12 +34,15 @@ returns-else-taken-clause-step c =
     let s = c.take_sources-taken in
     access_step e c.args.var c.args.kind old c.requires.turn c.requires.fits c.of-held.result.now s.new.rows
     c.count_own.new.self c.advance.new.self c.note.new.self s.new.work c.advance.new.work c.of-held.ensures
-    s.ensures.threads s.ensures.locks s.ensures.kept s.ensures.joins s.ensures.comparisons c.note.ensures.noted
+    s.ensures.threads s.ensures.locks s.ensures.kept s.ensures.joins s.ensures.comparisons
+    c.note.ensures.noted
     c.note.ensures.others c.note.ensures.width c.advance.ensures.exact c.advance.ensures.width
     c.advance.ensures.work c.count_own.ensures.strict
-    (c.count_own.ensures.below ∙ counted_below e (Accesses c.args.var c.args.kind) old s.new.rows c.requires.turn
+    (c.count_own.ensures.below ∙ counted_below e (Accesses c.args.var c.args.kind) old s.new.rows
+    c.requires.turn
     refl (sym (own_taken e c.args.var c.args.kind old c.requires.turn c.requires.fits c.of-held.result.now
-    s.new.rows c.of-held.ensures s.ensures.threads) ∙ ap (λ (f : ℕ → ℕ → ℕ). f e.thread.0) (s.ensures.none c.if-taken.false))
+    s.new.rows c.of-held.ensures s.ensures.threads) ∙ ap (λ (f : ℕ → ℕ
+    → ℕ). f e.thread.0) (s.ensures.none c.if-taken.false))
     c.requires.fits c.requires.parts s.ensures.below)
     c.count_own.ensures.kept
 
@@ -51,12 +50,14 @@ pub returns-then-taken-clause-kept : goal.returns-then-taken-clause-kept
 returns-then-taken-clause-kept c =
     let s = c.take_sources-taken in
     access_keeps c.args.parts.now c.follow.new.self c.advance.new.self c.note.new.self c.advance.new.work
-    c.advance.ensures.kept (room_then c.args.parts.now.rows s.new.rows c.follow.new.self s.ensures.kept c.follow.ensures.kept)
+    c.advance.ensures.kept (room_then c.args.parts.now.rows s.new.rows c.follow.new.self s.ensures.kept
+    c.follow.ensures.kept)
     c.note.ensures.kept
 
 pub returns-else-taken-clause-kept : goal.returns-else-taken-clause-kept
 returns-else-taken-clause-kept c =
     let s = c.take_sources-taken in
     access_keeps c.args.parts.now c.count_own.new.self c.advance.new.self c.note.new.self c.advance.new.work
-    c.advance.ensures.kept (room_then c.args.parts.now.rows s.new.rows c.count_own.new.self s.ensures.kept c.count_own.ensures.kept)
+    c.advance.ensures.kept (room_then c.args.parts.now.rows s.new.rows c.count_own.new.self s.ensures.kept
+    c.count_own.ensures.kept)
     c.note.ensures.kept

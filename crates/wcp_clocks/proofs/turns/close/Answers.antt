@@ -1,4 +1,4 @@
-use Rattle.std.proofs.Common.{◌≡◌, ℕ, ◌+◌, ◌≤◌, ◌<◌, ◌++◌, ◌∷◌, [], List, ap, ap₂, sym, subst, ◌∙◌, arith, refl}
+use Rattle.std.proofs.Common.{ℕ, ◌≤◌, ◌<◌, ◌++◌, ◌∷◌, [], List, ap, ap₂, sym, subst, ◌∙◌, arith, refl}
 use Rattle.event_core.specs.Closed.{Closed, Has}
 use Rattle.event_core.specs.Rows.{with_row}
 use Rattle.event_core.specs.Turn.{Turn, Closes}
@@ -6,11 +6,9 @@ use Rattle.event_core.proofs.Growing.{row_same}
 use Rattle.hb_clocks.specs.Counts.{counts_of}
 use Rattle.hb_clocks.specs.Work.{Done}
 use Rattle.section_sum.specs.Sums.{others_of}
-use Rattle.lock_queues.specs.Queues.{closed_of, opened_of, found_of}
-use Rattle.wcp_laws.specs.Step.{hb_row, others_after, noted_after}
+use Rattle.lock_queues.specs.Queues.{found_of}
+use Rattle.wcp_laws.specs.Step.{hb_row}
 use Rattle.wcp_clocks.specs.Parts.{hb_of, state_of}
-use Rattle.wcp_clocks.specs.StrictRows.{strict_of}
-use Rattle.wcp_clocks.specs.Stepping.{strict_clock}
 use Rattle.wcp_clocks.proofs.Taking.{room_then}
 use Rattle.wcp_clocks.proofs.OwnClocks.{followed_below}
 use Rattle.wcp_clocks.proofs.TurnWords.{own_happens_before, closed_others, closed_noted}
@@ -58,20 +56,25 @@ returns c =
           ∙ ap₂ (λ (a : ℕ → ℕ) (f : ℕ → ℕ → ℕ). with_row l a f)
           (ap (λ r. r.thread t) strict ∙ own) (ap (λ r. r.lock) strict ∙ taken.ensures.locks);
       below = c.give_lock.ensures.below ∙ c.follow.ensures.below
-          ∙ followed_below e k old taken.new.rows c.advance.new.self own c.advance.ensures.exact taken.ensures.below;
+          ∙ followed_below e k old taken.new.rows c.advance.new.self own c.advance.ensures.exact
+          taken.ensures.below;
       opened = left.opened
           ∙ ap (λ (f : ℕ → ℕ → ℕ). with_row t (with_row l 0 (f t)) f) taken.ensures.found.opened;
       held = c.remove.ensures.held;
-      noted = closed_noted old.sums c.close.new.self (hb_of old).depth e.thread c.args.lock c.close.ensures.noted;
-      others = closed_others old.sums c.close.new.self (hb_row e (state_of old)) (counts_of c.hb-clock.result.now)
+      noted = closed_noted old.sums c.close.new.self (hb_of old).depth e.thread c.args.lock
+          c.close.ensures.noted;
+      others = closed_others old.sums c.close.new.self (hb_row e (state_of old))
+          (counts_of c.hb-clock.result.now)
           (state_of old) e.thread c.args.lock refl refl g c.close.ensures.others;
       closed = left.closed
-          ∙ ap₂ (λ (f : ℕ → List Closed) (q : Closed). with_row l (f l ++ q ∷ []) f) taken.ensures.found.closed
+          ∙ ap₂ (λ (f : ℕ → List Closed) (q : Closed). with_row l
+          (f l ++ q ∷ []) f) taken.ensures.found.closed
           (ap₂ (λ (n : ℕ) (a : ℕ → ℕ). record { thread = t; position = n; release = a })
           (ap (λ (f : ℕ → ℕ → ℕ). f t l) taken.ensures.found.opened) g);
       found = left.found ∙ taken.ensures.found.found;
       joins = (let w = taken.ensures.joins in
-          let j = joins_told e k old taken.new.work c.advance.new.work c.requires.turn c.advance.ensures.work in
+          let j = joins_told e k old taken.new.work c.advance.new.work c.requires.turn c.advance.ensures.work
+          in
           omega arith);
       comparisons = (let w = taken.ensures.comparisons in
           let d = ap (λ (d : Done). d.comparisons) c.advance.ensures.work in

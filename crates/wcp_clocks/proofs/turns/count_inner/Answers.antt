@@ -1,5 +1,5 @@
-use Rattle.std.proofs.Common.{◌≡◌, ℕ, ◌+◌, ◌≤◌, ◌<◌, ap, ◌∙◌, arith, refl}
-use Rattle.event_core.specs.Turn.{Turn, Inner}
+use Rattle.std.proofs.Common.{ap, ◌∙◌, arith, refl}
+use Rattle.event_core.specs.Turn.{Inner}
 use Rattle.hb_clocks.specs.Work.{Done}
 use Rattle.wcp_clocks.proofs.OwnClocks.{few_below, counted_below}
 use Rattle.wcp_clocks.proofs.Passing.{plain_strict, plain_threads, joins_told}
@@ -25,7 +25,8 @@ returns c =
       others = refl;
       closed = refl;
       found = refl;
-      joins = (let j = joins_told e Inner old old.work c.advance.new.work c.requires.turn c.advance.ensures.work in
+      joins = (let j = joins_told e Inner old old.work c.advance.new.work c.requires.turn
+          c.advance.ensures.work in
           omega arith);
       comparisons = ap (λ (d : Done). d.comparisons) c.advance.ensures.work;
       room = c.count_own.ensures.kept;

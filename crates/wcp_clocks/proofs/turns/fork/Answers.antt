@@ -1,10 +1,10 @@
-use Rattle.std.proofs.Common.{◌≡◌, ℕ, ◌+◌, ◌≤◌, ◌<◌, ap, ap₂, sym, ◌∙◌, arith, refl}
+use Rattle.std.proofs.Common.{ℕ, ap, ap₂, sym, ◌∙◌, arith, refl}
 use Rattle.event_core.specs.Rows.{with_row}
 use Rattle.event_core.specs.Turn.{Turn, Forks}
 use Rattle.event_core.proofs.Growing.{row_same}
 use Rattle.hb_clocks.specs.Work.{Done}
-use Rattle.wcp_clocks.specs.StrictRows.{strict_of, below_of}
-use Rattle.wcp_clocks.specs.Stepping.{strict_clock, below_clock}
+use Rattle.wcp_clocks.specs.StrictRows.{below_of}
+use Rattle.wcp_clocks.specs.Stepping.{below_clock}
 use Rattle.wcp_clocks.proofs.Taking.{room_then}
 use Rattle.wcp_clocks.proofs.OwnClocks.{few_below, counted_below}
 use Rattle.wcp_clocks.proofs.Passing.{plain_strict, plain_threads, joins_told}
@@ -34,14 +34,16 @@ returns c =
       locks = give.locks ∙ ap (λ r. r.lock) mine.ensures.strict;
       below = give.below
           ∙ ap₂ (λ (g : ℕ → ℕ) (f : ℕ → ℕ → ℕ). with_row c.args.child.0 g f)
-          (ap (λ (f : ℕ → ℕ → ℕ). f t) counted ∙ row_same t (below_clock e k old) (below_of old.rows)) counted;
+          (ap (λ (f : ℕ → ℕ → ℕ). f t) counted ∙ row_same t (below_clock e k old)
+          (below_of old.rows)) counted;
       opened = refl;
       held = refl;
       noted = refl;
       others = refl;
       closed = refl;
       found = refl;
-      joins = (let j = joins_told e k old old.work c.advance.new.work c.requires.turn c.advance.ensures.work in
+      joins = (let j = joins_told e k old old.work c.advance.new.work c.requires.turn c.advance.ensures.work
+          in
           omega arith);
       comparisons = ap (λ (d : Done). d.comparisons) c.advance.ensures.work;
       room = room_then old.rows mine.new.self c.give_thread.new.self mine.ensures.kept give.kept;

@@ -1,4 +1,4 @@
-use Rattle.std.proofs.Common.{◌≡◌, ℕ, ◌+◌, ◌≤◌, ◌<◌, ap, sym, ◌∙◌, arith, refl}
+use Rattle.std.proofs.Common.{ap, ◌∙◌, arith, refl}
 use Rattle.event_core.specs.Turn.{Turn, Joins}
 use Rattle.hb_clocks.specs.Work.{Done}
 use Rattle.wcp_clocks.proofs.Taking.{room_then}
@@ -23,7 +23,8 @@ returns c =
       threads = ap (λ r. r.thread) strict ∙ taken.ensures.threads;
       locks = ap (λ r. r.lock) strict ∙ taken.ensures.locks;
       below = c.follow.ensures.below ∙ followed_below e k old taken.new.self c.advance.new.self
-          (own_written e k old taken.new.self taken.ensures.threads) c.advance.ensures.exact taken.ensures.below;
+          (own_written e k old taken.new.self taken.ensures.threads) c.advance.ensures.exact
+          taken.ensures.below;
       opened = refl;
       held = refl;
       noted = refl;
@@ -31,7 +32,8 @@ returns c =
       closed = refl;
       found = refl;
       joins = (let w = ap (λ (d : Done). d.joins) taken.ensures.work in
-          let j = joins_told e k old taken.new.work c.advance.new.work c.requires.turn c.advance.ensures.work in
+          let j = joins_told e k old taken.new.work c.advance.new.work c.requires.turn c.advance.ensures.work
+          in
           omega arith);
       comparisons = ap (λ (d : Done). d.comparisons) c.advance.ensures.work
           ∙ ap (λ (d : Done). d.comparisons) taken.ensures.work;

@@ -1,7 +1,6 @@
-use Rattle.std.proofs.Common.{◌≡◌, ℕ, ◌+◌, ◌≤◌, ◌<◌, max, ap, ap₂, sym, subst, ◌∙◌, arith, refl}
+use Rattle.std.proofs.Common.{◌≡◌, ℕ, ap, sym, ◌∙◌, arith, refl}
 use Rattle.event_core.specs.Rows.{with_row}
 use Rattle.event_core.specs.Turn.{Turn, Opens}
-use Rattle.hb_clocks.specs.State as hb
 use Rattle.hb_clocks.specs.Work.{Done}
 use Rattle.lock_queues.specs.Queues.{opened_of}
 use Rattle.wcp_laws.specs.Step.{hb_row}
@@ -37,9 +36,11 @@ returns c =
       threads = ap (λ r. r.thread) strict ∙ taken.ensures.threads;
       locks = ap (λ r. r.lock) strict ∙ taken.ensures.locks;
       below = c.follow.ensures.below ∙ followed_below e k old taken.new.self c.advance.new.self
-          (own_written e k old taken.new.self taken.ensures.threads) c.advance.ensures.exact taken.ensures.below;
+          (own_written e k old taken.new.self taken.ensures.threads) c.advance.ensures.exact
+          taken.ensures.below;
       opened = c.enter.ensures.opened
-          ∙ ap (λ (n : ℕ). with_row t (with_row c.args.lock.0 n (opened_of old.queues t)) (opened_of old.queues))
+          ∙ ap (λ (n : ℕ). with_row t (with_row c.args.lock.0 n (opened_of old.queues t))
+          (opened_of old.queues))
           position;
       held = c.add.ensures;
       noted = refl;
@@ -47,7 +48,8 @@ returns c =
       closed = c.enter.ensures.closed;
       found = c.enter.ensures.found;
       joins = (let w = ap (λ (d : Done). d.joins) taken.ensures.work in
-          let j = joins_told e k old taken.new.work c.advance.new.work c.requires.turn c.advance.ensures.work in
+          let j = joins_told e k old taken.new.work c.advance.new.work c.requires.turn c.advance.ensures.work
+          in
           omega arith);
       comparisons = ap (λ (d : Done). d.comparisons) c.advance.ensures.work
           ∙ ap (λ (d : Done). d.comparisons) taken.ensures.work;

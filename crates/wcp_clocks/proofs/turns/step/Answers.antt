@@ -1,7 +1,6 @@
-use Rattle.std.proofs.Common.{◌≡◌, ℕ, ap, sym, subst, ◌∙◌, arith}
+use Rattle.std.proofs.Common.{ℕ, ap, sym, subst, ◌∙◌}
 use Rattle.event_core.specs.declared.events.AccessKind.TheVariants.{Read, Write}
-use Rattle.event_core.specs.declared.events.Op.{Op}
-use Rattle.event_core.specs.Turn.{Turn, Accesses, Opens, Closes, Forks, Joins, Inner, turn_of}
+use Rattle.event_core.specs.Turn.{Accesses, Opens, Closes, Forks, Joins, Inner, turn_of}
 use Rattle.wcp_clocks.specs.Parts.{hb_of, IsAccess}
 use Rattle.wcp_clocks.proofs.Stepped.{stepped, outer_acquire, inner_acquire, outer_release, inner_release}
 use Rattle.wcp_clocks.proofs.turns.step.Goals as goal
@@ -48,7 +47,8 @@ returns-else-depth-eq1 c =
     stepped c.args.event.now Inner c.args.parts.now c.count_inner-else-depth-eq1.new.parts
     (ap (turn_of d) c.in-Release.is
     ∙ inner_release d c.in-Release.lock (λ e. c.if-depth-eq1.false (c.depth-in-Release.ensures ∙ e)))
-    c.count_inner-else-depth-eq1.ensures c.requires.parts c.requires.ready (λ a. absurd (subst IsAccess c.in-Release.is a))
+    c.count_inner-else-depth-eq1.ensures c.requires.parts c.requires.ready (λ a. absurd
+    (subst IsAccess c.in-Release.is a))
 
 pub returns-in-Fork : goal.returns-in-Fork
 returns-in-Fork c =

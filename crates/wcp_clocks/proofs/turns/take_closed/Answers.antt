@@ -9,7 +9,8 @@ use Rattle.wcp_clocks.proofs.turns.take_closed.Goals as goal
 
 pub last_below-latest-requires-clause-earlier : goal.last_below-latest-requires-clause-earlier
 last_below-latest-requires-clause-earlier c =
-    subst (λ (f : ℕ → ℕ). CountsEarlier f (closed_of c.args.queues.now c.args.lock.0)) (sym c.strict.ensures.counts)
+    subst (λ (f : ℕ → ℕ). CountsEarlier f (closed_of c.args.queues.now c.args.lock.0))
+    (sym c.strict.ensures.counts)
     c.requires.earlier
 
 pub returns-in-Some-clause-threads : goal.returns-in-Some-clause-threads

@@ -1,4 +1,4 @@
-use Rattle.std.proofs.Common.{ℕ, ap, sym, subst, ◌∙◌}
+use Rattle.std.proofs.Common.{ap, sym, subst, ◌∙◌}
 use Rattle.event_core.specs.Rows.{Counted, join}
 use Rattle.event_core.specs.Wcp.{Below}
 use Rattle.wcp_clocks.specs.declared.parts.Parts.{Parts}

@@ -1,5 +1,3 @@
-use Rattle.std.proofs.Common.{◌≡◌, ◌≤◌, ◌-◌, ap, arith, vec_len, vec_capacity}
-use Rattle.wcp_clocks.specs.HeldLists.{HeldList}
 use Rattle.wcp_clocks.proofs.holdings.Holding.remove.Goals as goal
 
 pub returns-clause-room : goal.returns-clause-room

@@ -1,4 +1,4 @@
-use Rattle.std.proofs.Common.{◌≡◌, ℕ, List, ap, ◌∙◌}
+use Rattle.std.proofs.Common.{ap, ◌∙◌}
 use Rattle.std.proofs.lemmas.List.{with_items_is}
 use Rattle.wcp_clocks.specs.HeldLists.{HeldList, numbers_of, held_of}
 use Rattle.wcp_clocks.proofs.holdings.Holdings.make_room.Goals as goal

@@ -1,0 +1,14 @@
+use Rattle.std.proofs.Common.{sym, subst}
+use Rattle.wcp_clocks.specs.declared.parts.Parts.{Parts}
+use Rattle.wcp_clocks.specs.Parts.{IsReady}
+use Rattle.wcp_clocks.proofs.Growth.{grown_parts, grown_ready}
+use Rattle.wcp_clocks.proofs.clocks.WcpClocks.prepare_swap.Goals as goal
+
+pub invariant_of-self : goal.invariant_of-self
+invariant_of-self c =
+    grown_parts c.self.inside.parts c.prepare_both.new.parts c.prepare_both.ensures.grown c.self.invariant
+
+pub returns-clause-kept : goal.returns-clause-kept
+returns-clause-kept c e ready =
+    grown_ready c.self.inside.parts c.prepare_both.new.parts c.prepare_both.ensures.grown e
+    (subst (λ (p : Parts). IsReady p e) (sym c.self.view_is) ready)
