@@ -153,7 +153,7 @@ impl WcpClocks {
             → StandsFor log self.now → IsLatest log thread j
             → Counts log other (λ i. Below log i j) result }
     {
-        self.parts.rows.below(thread).at(other)
+        self.clock(thread).at(other)
     }
 
     /// The thread's clock, which counts the events that are below its latest one.
