@@ -2,63 +2,26 @@
 use Rattle.std.proofs.Common.{
   ◌≡◌,
   ℕ,
-  zero,
-  suc,
-  ◌+◌,
-  ◌-◌,
   ◌<◌,
   ◌≤◌,
-  Bool,
   true,
   false,
-  cond,
   List,
-  [],
-  ◌∷◌,
-  ◌++◌,
   length,
-  get_or,
-  take,
-  drop,
-  Option,
-  Some,
-  None,
   Result,
   Ok,
   Err,
-  refl,
   sym,
   ap,
   subst,
   ◌∙◌,
-  append_assoc,
   arith,
-  rules,
-  zero-add,
   inl,
   inr,
 }
-use Rattle.std.specs.Prelude.{◌||◌, ◌==◌, nat_lt, option_map, IfSome, IfOk, IfErr, ◌⊎◌}
-use Rattle.std.proofs.lemmas.Bool.{
-  or_parts,
-  or_cases,
-  ltb-true,
-  ltb-false,
-  lt-ltb,
-  le-ltb,
-  eqb-true,
-  eqb-false,
-  eq-eqb,
-  ne_eqb,
-  or_from,
-  cases_Bool,
-  both_ways,
-}
-use Rattle.std.specs.Str.{bytes_eq}
-use Rattle.std.proofs.lemmas.Slice.Eq.{bytes_eq-Decides}
-use Rattle.std.proofs.lemmas.List.{length-append, take-append-drop}
+use Rattle.std.specs.Prelude.{◌||◌, ◌==◌, nat_lt, IfOk, IfErr}
+use Rattle.std.proofs.lemmas.Bool.{or_parts, or_cases, ltb-true, ltb-false, eqb-true, both_ways}
 use Rattle.rapid_line.specs.declared.words.Word.{Word}
-use Rattle.rapid_line.specs.declared.words.Word.TheVariants.{Load, Store, Acquire, Release, Fork, Join}
 use Rattle.rapid_line.specs.declared.words.LineFault.{LineFault}
 use Rattle.rapid_line.specs.declared.words.LineFault.TheVariants.{
   LineTooLong,
@@ -70,160 +33,22 @@ use Rattle.rapid_line.specs.declared.words.LineFault.TheVariants.{
   LongName,
 }
 use Rattle.rapid_line.specs.declared.lines.NamedLine.{NamedLine}
-use Rattle.rapid_line.specs.Cut.{has, count, Lacks, cut, before_end}
-use Rattle.rapid_line.specs.Grammar.{
-  Named,
-  IsNamed,
-  IsWellFormed,
-  IsField,
-  IsName,
-  spelling,
-  operation,
-  content_of,
-}
-use Rattle.rapid_line.specs.Causes.{
-  HasFields,
-  HasParts,
-  HasBadOp,
-  HasEmptyName,
-  HasLongName,
-  IsFirstCause,
-  Applies,
-  rank,
-}
+use Rattle.rapid_line.specs.Cut.{has, count, Lacks}
+use Rattle.rapid_line.specs.Grammar.{Named, IsNamed, operation}
+use Rattle.rapid_line.specs.Causes.{HasFields, HasParts, IsFirstCause, Applies, rank}
 use Rattle.rapid_line.specs.Reading.{
-  word_of,
-  or_fault,
-  unless,
   and_then,
   fields_of,
   operation_of,
   names_of,
   line_of,
-  ok_named,
   named_of,
   Gives,
 }
-use Rattle.rapid_line.proofs.Cuts.{
-  cut_None,
-  Lacks-append,
-  Lacks-left,
-  Lacks-right,
-  cut_at,
-  cut_none,
-  IsCut,
-  IsCut-from,
-  before_end_at,
-  before_end-Some,
-}
-use Rattle.rapid_line.proofs.Steps.{
-  unless_ok,
-  unless_err,
-  or_fault_ok,
-  or_fault_err,
-  and_then_ok,
-  and_then_err,
-  ok_inj,
-  positive,
-}
-use Rattle.rapid_line.proofs.Again.{
-  fields_again,
-  operation_again,
-  content_no_cr,
-  content_short,
-  fields_of_event,
-}
-use Rattle.rapid_line.proofs.Found.{IsCut-at, fields_found, operation_found, read_found}
-
-bars-append : (xs ys : List ℕ) → count 124 (xs ++ ys) ≡ count 124 xs + count 124 ys
-bars-append [] ys = sym (zero-add (count 124 ys))
-bars-append (x ∷ xs) ys = let e = bars-append xs ys in omega (arith, e)
-
-bars-lacks : (xs : List ℕ) → Lacks 124 xs → count 124 xs ≡ 0
-bars-lacks [] h = refl
-bars-lacks (x ∷ xs) h = let parts = or_parts (x == 124) (has 124 xs) h in rw
-    (parts.0, bars-lacks xs parts.1) refl
-
-bars-has : (xs : List ℕ) → has 124 xs ≡ true → 0 < count 124 xs
-bars-has [] h = absurd cc
-bars-has (x ∷ xs) h =
-    elim (cases_Bool (x == 124)) [
-      | inl same ↦ rw same (omega arith)
-      | inr differs ↦
-          let rest : has 124 xs ≡ true = rw differs at h in
-          let more : 0 < count 124 xs = bars-has xs rest in
-          rw differs (omega arith)
-    ]
-
--- the bars of a text with a bar at each of two cuts
-bars_cut : (xs a c : List ℕ) → IsCut 124 xs a c → count 124 xs ≡ 1 + count 124 c
-bars_cut xs a c h =
-    let x : count 124 (124 ∷ c) ≡ 1 + count 124 c = refl in
-    let y = bars-append a (124 ∷ c) in
-    let z = bars-lacks a h.lacks in
-    let w = ap (count 124) h.is in
-    omega (arith, w, y, z, x)
-
--- why there are not three fields
-fields_err : (bytes : List ℕ) (f : LineFault) → fields_of bytes ≡ Err f
-    → ((f ≡ FewFields) × (count 124 bytes < 2)) ⊎ ((f ≡ ManyFields) × (2 < count 124 bytes))
-fields_err bytes f e =
-    elim (or_fault_err FewFields (cut 124 bytes) (λ p. or_fault FewFields (cut 124 p.1)
-    (λ q. unless ManyFields (has 124 q.1) (let r : List ℕ × List ℕ × List ℕ = (p.0, q.0, q.1) in
-    Ok r))) f e) [
-      | inl few ↦ let z = bars-lacks bytes (cut_None 124 bytes few.0) in inl (sym few.1, omega (arith, z))
-      | inr p ↦
-          let c = IsCut-at 124 bytes p.0 p.1 in
-          let n = bars_cut bytes p.0.0 p.0.1 c in
-          elim (or_fault_err FewFields (cut 124 p.0.1)
-          (λ q. unless ManyFields (has 124 q.1) (let r : List ℕ × List ℕ × List ℕ = (p.0.0, q.0, q.1) in
-          Ok r)) f p.2) [
-            | inl few ↦ let z = bars-lacks p.0.1 (cut_None 124 p.0.1 few.0) in inl
-                (sym few.1, omega (arith, n, z))
-            | inr q ↦
-                let d = IsCut-at 124 p.0.1 q.0 q.1 in
-                let m = bars_cut p.0.1 q.0.0 q.0.1 d in
-                elim (unless_err ManyFields (has 124 q.0.1)
-                (let r : Result (List ℕ × List ℕ × List ℕ) LineFault = Ok (p.0.0, q.0.0, q.0.1) in r) f q.2) [
-                  | inl many ↦ let z = bars-has q.0.1 many.0 in inr (sym many.1, omega (arith, n, m, z))
-                  | inr fine ↦ absurd cc
-                ]
-          ]
-    ]
-
-two_bars : (bytes t o l : List ℕ) → HasFields bytes t o l → count 124 bytes ≡ 2
-two_bars bytes t o l h =
-    let n = bars_cut bytes t (o ++ 124 ∷ l) (record { is = h.is; lacks = h.thread_bar }) in
-    let m = bars_cut (o ++ 124 ∷ l) o l (record { is = refl; lacks = h.op_bar }) in
-    let z = bars-lacks l h.location_bar in
-    omega (arith, n, m, z)
-
-operation_err : (field : List ℕ) (f : LineFault) → operation_of field ≡ Err f → f ≡ BadOp
-operation_err field f e =
-    elim (or_fault_err BadOp (cut 40 field) (λ p. or_fault BadOp (before_end 41 p.1)
-    (λ argument. or_fault BadOp (word_of p.0) (λ w. let r : Word × List ℕ = (w, argument) in
-    Ok r))) f e) [
-      | inl h ↦ sym h.1
-      | inr p ↦ elim (or_fault_err BadOp (before_end 41 p.0.1)
-          (λ argument. or_fault BadOp (word_of p.0.0)
-          (λ w. let r : Word × List ℕ = (w, argument) in Ok r)) f p.2) [
-            | inl h ↦ sym h.1
-            | inr q ↦ elim (or_fault_err BadOp (word_of p.0.0)
-                (λ w. let r : Result (Word × List ℕ) LineFault = Ok (w, q.0) in r) f q.2) [
-                  | inl h ↦ sym h.1
-                  | inr r ↦ absurd cc
-                ]
-          ]
-    ]
-
--- the decomposition is the one
-one_split : (bytes t o l : List ℕ) (f : List ℕ × List ℕ × List ℕ) → fields_of bytes ≡ Ok f
-    → HasFields bytes t o l → f ≡ (t, o, l)
-one_split bytes t o l f e h = ok_inj f (t, o, l) (sym e ∙ fields_again bytes t o l h)
-
-one_operation : (field : List ℕ) (w : Word) (a : List ℕ) (o : Word × List ℕ) → operation_of field ≡ Ok o
-    → field ≡ operation w a → o ≡ (w, a)
-one_operation field w a o e h = ok_inj o (w, a) (sym e ∙ ap operation_of h ∙ operation_again w a)
+use Rattle.rapid_line.proofs.Steps.{unless_err, and_then_err, positive}
+use Rattle.rapid_line.proofs.Again.{operation_again}
+use Rattle.rapid_line.proofs.Found.{fields_found, operation_found, read_found}
+use Rattle.rapid_line.proofs.Split.{fields_err, two_bars, operation_err, one_split, one_operation}
 
 rank_most : (f : LineFault) → rank f ≤ 7
 rank_most LineTooLong = omega arith
@@ -246,10 +71,10 @@ first_by bytes f BadOp p₁ p₂ p₃ p₄ p₅ p₆ lt = p₅ lt
 first_by bytes f EmptyName p₁ p₂ p₃ p₄ p₅ p₆ lt = p₆ lt
 first_by bytes f LongName p₁ p₂ p₃ p₄ p₅ p₆ lt = absurd (omega (arith, rank_most f))
 
-not_long : (bytes : List ℕ) → nat_lt 1024 (length bytes) ≡ false → Applies bytes LineTooLong → ⊥
+pub not_long : (bytes : List ℕ) → nat_lt 1024 (length bytes) ≡ false → Applies bytes LineTooLong → ⊥
 not_long bytes e h = let le = ltb-false 1024 (length bytes) e in omega (arith, le, h)
 
-not_cr : (bytes : List ℕ) → has 13 bytes ≡ false → Applies bytes StrayCr → ⊥
+pub not_cr : (bytes : List ℕ) → has 13 bytes ≡ false → Applies bytes StrayCr → ⊥
 not_cr bytes e h = both_ways (has 13 bytes) e h
 
 long_first : (bytes : List ℕ) → nat_lt 1024 (length bytes) ≡ true → IsFirstCause bytes LineTooLong
@@ -288,16 +113,18 @@ many_first bytes a b h = record {
 }
 
 -- a reading that reached the three fields
-record Reached (bytes : List ℕ) (f : List ℕ × List ℕ × List ℕ) : Type 0 where
-  short : nat_lt 1024 (length bytes) ≡ false
-  no_cr : has 13 bytes ≡ false
-  fields : fields_of bytes ≡ Ok f
+pub record Reached (bytes : List ℕ) (f : List ℕ × List ℕ × List ℕ) : Type 0 where
+  pub short : nat_lt 1024 (length bytes) ≡ false
+  pub no_cr : has 13 bytes ≡ false
+  pub fields : fields_of bytes ≡ Ok f
 
-not_few : (bytes : List ℕ) (f : List ℕ × List ℕ × List ℕ) → Reached bytes f → Applies bytes FewFields → ⊥
+pub not_few : (bytes : List ℕ) (f : List ℕ × List ℕ × List ℕ) → Reached bytes f
+    → Applies bytes FewFields → ⊥
 not_few bytes f r h = let two = two_bars bytes f.0 f.1 f.2 (fields_found bytes f r.fields) in omega
     (arith, two, h)
 
-not_many : (bytes : List ℕ) (f : List ℕ × List ℕ × List ℕ) → Reached bytes f → Applies bytes ManyFields → ⊥
+pub not_many : (bytes : List ℕ) (f : List ℕ × List ℕ × List ℕ) → Reached bytes f
+    → Applies bytes ManyFields → ⊥
 not_many bytes f r h = let two = two_bars bytes f.0 f.1 f.2 (fields_found bytes f r.fields) in omega
     (arith, two, h)
 
@@ -319,11 +146,11 @@ op_first bytes f r e = record {
 }
 
 -- and the word and the argument
-record Parted (bytes : List ℕ) (f : List ℕ × List ℕ × List ℕ) (o : Word × List ℕ) : Type 0 where
-  reached : Reached bytes f
-  op : operation_of f.1 ≡ Ok o
+pub record Parted (bytes : List ℕ) (f : List ℕ × List ℕ × List ℕ) (o : Word × List ℕ) : Type 0 where
+  pub reached : Reached bytes f
+  pub op : operation_of f.1 ≡ Ok o
 
-not_bad : (bytes : List ℕ) (f : List ℕ × List ℕ × List ℕ) (o : Word × List ℕ) → Parted bytes f o
+pub not_bad : (bytes : List ℕ) (f : List ℕ × List ℕ × List ℕ) (o : Word × List ℕ) → Parted bytes f o
     → Applies bytes BadOp → ⊥
 not_bad bytes f o p h =
     let same : f ≡ (h.thread, h.op, h.location) =
@@ -372,7 +199,7 @@ empty_first bytes f o p e = record {
       (λ l. not_bad bytes f o p) (λ l. absurd (omega arith));
 }
 
-not_empty : (bytes : List ℕ) (f : List ℕ × List ℕ × List ℕ) (o : Word × List ℕ) → Parted bytes f o
+pub not_empty : (bytes : List ℕ) (f : List ℕ × List ℕ × List ℕ) (o : Word × List ℕ) → Parted bytes f o
     → (length f.0 == 0 || length o.1 == 0) ≡ false → Applies bytes EmptyName → ⊥
 not_empty bytes f o p e h =
     let m = or_parts (length f.0 == 0) (length o.1 == 0) e in
@@ -406,7 +233,7 @@ name_first bytes f o p n e = record {
       (λ l. not_bad bytes f o p) (λ l. not_empty bytes f o p n);
 }
 
-not_name : (bytes : List ℕ) (f : List ℕ × List ℕ × List ℕ) (o : Word × List ℕ) → Parted bytes f o
+pub not_name : (bytes : List ℕ) (f : List ℕ × List ℕ × List ℕ) (o : Word × List ℕ) → Parted bytes f o
     → (nat_lt 255 (length f.0) || nat_lt 255 (length o.1) || nat_lt 255 (length f.2))
     ≡ false → Applies bytes LongName → ⊥
 not_name bytes f o p e h =
@@ -476,65 +303,3 @@ pub first_of : (bytes : List ℕ) (r : Result NamedLine LineFault) → Gives nam
     → IfErr r (IsFirstCause bytes)
 first_of bytes (Ok line) g = tt
 first_of bytes (Err f) g = read_first bytes f g
-
--- ---- and a first cause is answered
-
--- the tests that a content passes which has a named event
-none_by : (bytes : List ℕ) (f : List ℕ × List ℕ × List ℕ) (o : Word × List ℕ) → Parted bytes f o
-    → (length f.0 == 0 || length o.1 == 0) ≡ false
-    → (nat_lt 255 (length f.0) || nat_lt 255 (length o.1) || nat_lt 255 (length f.2)) ≡ false
-    → (g : LineFault) → Applies bytes g → ⊥
-none_by bytes f o p m n LineTooLong h = not_long bytes p.reached.short h
-none_by bytes f o p m n StrayCr h = not_cr bytes p.reached.no_cr h
-none_by bytes f o p m n FewFields h = not_few bytes f p.reached h
-none_by bytes f o p m n ManyFields h = not_many bytes f p.reached h
-none_by bytes f o p m n BadOp h = not_bad bytes f o p h
-none_by bytes f o p m n EmptyName h = not_empty bytes f o p m h
-none_by bytes f o p m n LongName h = not_name bytes f o p n h
-
-none_applies : (bytes : List ℕ) (e : Named) → line_of bytes ≡ ok_named e → (g : LineFault)
-    → Applies bytes g → ⊥
-unfolding line_of
-none_applies bytes e eq =
-    let a = unless_ok LineTooLong (nat_lt 1024 (length bytes)) _ e eq in
-    let b = unless_ok StrayCr (has 13 bytes) _ e a.1 in
-    let f = and_then_ok (fields_of bytes) _ e b.1 in
-    let o = and_then_ok (operation_of f.0.1) _ e f.2 in
-    let m = unless_ok EmptyName (length f.0.0 == 0 || length o.0.1 == 0) _ e o.2 in
-    let n = unless_ok LongName (nat_lt 255 (length f.0.0) || nat_lt 255 (length o.0.1) || nat_lt 255
-    (length f.0.2)) _ e m.1 in
-    let reached : Reached bytes f.0 = record { short = a.0; no_cr = b.0; fields = f.1 } in
-    none_by bytes f.0 o.0 (record { reached = reached; op = o.1 }) m.0 n.0
-
--- the cause with this rank
-fault_at : ℕ → LineFault
-fault_at n =
-    cond (n == 1) LineTooLong (cond (n == 2) StrayCr (cond (n == 3) FewFields
-    (cond (n == 4) ManyFields (cond (n == 5) BadOp (cond (n == 6) EmptyName LongName)))))
-
-fault_at-rank : (f : LineFault) → fault_at (rank f) ≡ f
-unfolding fault_at
-fault_at-rank LineTooLong = refl
-fault_at-rank StrayCr = refl
-fault_at-rank FewFields = refl
-fault_at-rank ManyFields = refl
-fault_at-rank BadOp = refl
-fault_at-rank EmptyName = refl
-fault_at-rank LongName = refl
-
-one_first : (bytes : List ℕ) (f g : LineFault) → IsFirstCause bytes f → IsFirstCause bytes g → f ≡ g
-one_first bytes f g p q =
-    let below : rank f < rank g → ⊥ = λ lt. q.first f lt p.applies in
-    let above : rank g < rank f → ⊥ = λ lt. p.first g lt q.applies in
-    let same : rank f ≡ rank g = omega arith in
-    sym (fault_at-rank f) ∙ ap fault_at same ∙ fault_at-rank g
-
-answered_by : (bytes : List ℕ) (f : LineFault) (r : Result Named LineFault) → line_of bytes ≡ r
-    → IsFirstCause bytes f → r ≡ Err f
-answered_by bytes f (Ok e) eq h = absurd (none_applies bytes e eq f h.applies)
-answered_by bytes f (Err g) eq h =
-    let same = one_first bytes g f (read_first bytes g eq) h in
-    ap (λ (x : LineFault). let r : Result Named LineFault = Err x in r) same
-
-pub first_answered : (bytes : List ℕ) (f : LineFault) → IsFirstCause bytes f → line_of bytes ≡ Err f
-first_answered bytes f h = answered_by bytes f (line_of bytes) refl h

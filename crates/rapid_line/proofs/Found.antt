@@ -2,64 +2,30 @@
 use Rattle.std.proofs.Common.{
   ◌≡◌,
   ℕ,
-  zero,
-  suc,
-  ◌+◌,
-  ◌-◌,
-  ◌<◌,
-  ◌≤◌,
-  Bool,
-  true,
-  false,
   cond,
   List,
   [],
   ◌∷◌,
   ◌++◌,
   length,
-  get_or,
-  take,
-  drop,
   Option,
   Some,
   None,
-  Result,
   Ok,
-  Err,
   refl,
   sym,
   ap,
   subst,
   ◌∙◌,
-  append_assoc,
-  arith,
-  rules,
-  zero-add,
   inl,
   inr,
 }
-use Rattle.std.specs.Prelude.{◌||◌, ◌==◌, nat_lt, option_map, IfSome, IfOk, IfErr, ◌⊎◌}
-use Rattle.std.proofs.lemmas.Bool.{
-  or_parts,
-  or_cases,
-  ltb-true,
-  ltb-false,
-  lt-ltb,
-  le-ltb,
-  eqb-true,
-  eqb-false,
-  eq-eqb,
-  ne_eqb,
-  or_from,
-  cases_Bool,
-  both_ways,
-}
+use Rattle.std.specs.Prelude.{◌||◌, ◌==◌, nat_lt, IfSome}
+use Rattle.std.proofs.lemmas.Bool.{or_parts, ltb-false, cases_Bool}
 use Rattle.std.specs.Str.{bytes_eq}
 use Rattle.std.proofs.lemmas.Slice.Eq.{bytes_eq-Decides}
-use Rattle.std.proofs.lemmas.List.{length-append, take-append-drop}
 use Rattle.rapid_line.specs.declared.words.Word.{Word}
 use Rattle.rapid_line.specs.declared.words.Word.TheVariants.{Load, Store, Acquire, Release, Fork, Join}
-use Rattle.rapid_line.specs.declared.words.LineFault.{LineFault}
 use Rattle.rapid_line.specs.declared.words.LineFault.TheVariants.{
   LineTooLong,
   StrayCr,
@@ -69,63 +35,20 @@ use Rattle.rapid_line.specs.declared.words.LineFault.TheVariants.{
   EmptyName,
   LongName,
 }
-use Rattle.rapid_line.specs.declared.lines.NamedLine.{NamedLine}
-use Rattle.rapid_line.specs.Cut.{has, count, Lacks, cut, before_end}
-use Rattle.rapid_line.specs.Grammar.{
-  Named,
-  IsNamed,
-  IsWellFormed,
-  IsField,
-  IsName,
-  spelling,
-  operation,
-  content_of,
-}
-use Rattle.rapid_line.specs.Causes.{
-  HasFields,
-  HasParts,
-  HasBadOp,
-  HasEmptyName,
-  HasLongName,
-  IsFirstCause,
-  Applies,
-  rank,
-}
+use Rattle.rapid_line.specs.Cut.{has, Lacks, cut, before_end}
+use Rattle.rapid_line.specs.Grammar.{Named, IsNamed, spelling, operation, content_of}
+use Rattle.rapid_line.specs.Causes.{HasFields}
 use Rattle.rapid_line.specs.Reading.{
   word_of,
   or_fault,
   unless,
-  and_then,
   fields_of,
   operation_of,
-  names_of,
   line_of,
   ok_named,
-  named_of,
-  Gives,
 }
-use Rattle.rapid_line.proofs.Cuts.{
-  cut_None,
-  Lacks-append,
-  Lacks-left,
-  Lacks-right,
-  cut_at,
-  cut_none,
-  IsCut,
-  IsCut-from,
-  before_end_at,
-  before_end-Some,
-}
-use Rattle.rapid_line.proofs.Steps.{
-  unless_ok,
-  unless_err,
-  or_fault_ok,
-  or_fault_err,
-  and_then_ok,
-  and_then_err,
-  ok_inj,
-  positive,
-}
+use Rattle.rapid_line.proofs.Cuts.{Lacks-left, Lacks-right, IsCut, IsCut-from, before_end-Some}
+use Rattle.rapid_line.proofs.Steps.{unless_ok, or_fault_ok, and_then_ok, ok_inj, positive}
 
 test_word : (bytes text : List ℕ) (v : Word) (rest o : Option Word) (w : Word) → o ≡ Some w
     → o ≡ cond (bytes_eq bytes text) (Some v) rest → text ≡ spelling v

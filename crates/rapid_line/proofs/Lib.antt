@@ -2,4 +2,6 @@ pub mod Cuts
 pub mod Steps
 pub mod Again
 pub mod Found
+pub mod Split
 pub mod First
+pub mod Answered

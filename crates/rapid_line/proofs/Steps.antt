@@ -2,24 +2,10 @@
 use Rattle.std.proofs.Common.{
   ◌≡◌,
   ℕ,
-  zero,
-  suc,
-  ◌+◌,
-  ◌-◌,
   ◌<◌,
-  ◌≤◌,
   Bool,
   true,
   false,
-  cond,
-  List,
-  [],
-  ◌∷◌,
-  ◌++◌,
-  length,
-  get_or,
-  take,
-  drop,
   Option,
   Some,
   None,
@@ -27,83 +13,14 @@ use Rattle.std.proofs.Common.{
   Ok,
   Err,
   refl,
-  sym,
-  ap,
-  subst,
-  ◌∙◌,
-  append_assoc,
   arith,
-  rules,
-  zero-add,
   inl,
   inr,
 }
-use Rattle.std.specs.Prelude.{◌||◌, ◌==◌, nat_lt, option_map, IfSome, IfOk, IfErr, ◌⊎◌}
-use Rattle.std.proofs.lemmas.Bool.{
-  or_parts,
-  or_cases,
-  ltb-true,
-  ltb-false,
-  lt-ltb,
-  le-ltb,
-  eqb-true,
-  eqb-false,
-  eq-eqb,
-  ne_eqb,
-  or_from,
-  cases_Bool,
-  both_ways,
-}
-use Rattle.std.specs.Str.{bytes_eq}
-use Rattle.std.proofs.lemmas.Slice.Eq.{bytes_eq-Decides}
-use Rattle.std.proofs.lemmas.List.{length-append, take-append-drop}
-use Rattle.rapid_line.specs.declared.words.Word.{Word}
-use Rattle.rapid_line.specs.declared.words.Word.TheVariants.{Load, Store, Acquire, Release, Fork, Join}
+use Rattle.std.specs.Prelude.{◌==◌, ◌⊎◌}
+use Rattle.std.proofs.lemmas.Bool.{eqb-false}
 use Rattle.rapid_line.specs.declared.words.LineFault.{LineFault}
-use Rattle.rapid_line.specs.declared.words.LineFault.TheVariants.{
-  LineTooLong,
-  StrayCr,
-  FewFields,
-  ManyFields,
-  BadOp,
-  EmptyName,
-  LongName,
-}
-use Rattle.rapid_line.specs.declared.lines.NamedLine.{NamedLine}
-use Rattle.rapid_line.specs.Cut.{has, count, Lacks, cut, before_end}
-use Rattle.rapid_line.specs.Grammar.{
-  Named,
-  IsNamed,
-  IsWellFormed,
-  IsField,
-  IsName,
-  spelling,
-  operation,
-  content_of,
-}
-use Rattle.rapid_line.specs.Causes.{
-  HasFields,
-  HasParts,
-  HasBadOp,
-  HasEmptyName,
-  HasLongName,
-  IsFirstCause,
-  Applies,
-  rank,
-}
-use Rattle.rapid_line.specs.Reading.{
-  word_of,
-  or_fault,
-  unless,
-  and_then,
-  fields_of,
-  operation_of,
-  names_of,
-  line_of,
-  ok_named,
-  named_of,
-  Gives,
-}
+use Rattle.rapid_line.specs.Reading.{or_fault, unless, and_then}
 
 pub unless_ok : {B : Type 0} (f : LineFault) (b : Bool) (r : Result B LineFault) (x : B)
     → unless f b r ≡ Ok x → (b ≡ false) × (r ≡ Ok x)

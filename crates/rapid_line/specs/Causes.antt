@@ -1,5 +1,5 @@
 -- Why a content has no named event: each cause by itself, and their order.
-use Rattle.std.specs.Prelude.{◌≡◌, ℕ, ◌<◌, true, List, [], ◌∷◌, ◌++◌, length, ◌⊎◌, codes}
+use Rattle.std.specs.Prelude.{◌≡◌, ℕ, ◌<◌, true, List, ◌∷◌, ◌++◌, length, ◌⊎◌, codes}
 use Rattle.rapid_line.specs.declared.words.Word.{Word}
 use Rattle.rapid_line.specs.declared.words.LineFault.{LineFault}
 use Rattle.rapid_line.specs.declared.words.LineFault.TheVariants.{
@@ -12,7 +12,7 @@ use Rattle.rapid_line.specs.declared.words.LineFault.TheVariants.{
   LongName,
 }
 use Rattle.rapid_line.specs.Cut.{has, count, Lacks}
-use Rattle.rapid_line.specs.Grammar.{Named, operation, content_of}
+use Rattle.rapid_line.specs.Grammar.{Named, operation}
 
 -- the content is three fields between two bars
 pub record HasFields (bytes thread op location : List ℕ) : Type 0 where

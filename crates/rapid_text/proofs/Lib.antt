@@ -8,3 +8,4 @@ pub mod Turns
 pub mod Pulls
 pub mod Written
 pub mod NameGrowth
+pub mod Joined

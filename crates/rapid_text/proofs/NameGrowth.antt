@@ -32,10 +32,8 @@ use Rattle.std.proofs.Common.{
   arith,
   inl,
   inr,
-  add-suc,
-  zero-add,
 }
-use Rattle.std.specs.Prelude.{IfOk, OnErr, unwrap_or, slice_get, nat_lt, ◌⊎◌, ◌==◌, IfSome, not}
+use Rattle.std.specs.Prelude.{IfOk, OnErr, unwrap_or, slice_get, nat_lt, ◌==◌, not}
 use Rattle.std.specs.List.{position, prefix_len}
 use Rattle.std.specs.Str.{bytes_eq}
 use Rattle.std.proofs.lemmas.Slice.Eq.{bytes_eq-Decides}
@@ -52,7 +50,7 @@ use Rattle.rapid_text.specs.declared.causes.Kind.{Kind}
 use Rattle.rapid_text.specs.declared.causes.Kind.TheVariants as kinds
 use Rattle.rapid_text.specs.declared.causes.Cause.{Cause}
 use Rattle.rapid_text.specs.declared.causes.NameFault.{NameFault}
-use Rattle.rapid_text.specs.Numbers.{Numbered, with_name, new_name, found_or, place_of, number_of, Grows}
+use Rattle.rapid_text.specs.Numbers.{Numbered, with_name, found_or, place_of, number_of, Grows}
 use Rattle.rapid_text.specs.Tables.{Tables, space, with_space, put_back, number_in, name_at, TablesGrow}
 use Rattle.rapid_text.specs.Events.{
   kind_of,
@@ -68,9 +66,8 @@ use Rattle.rapid_text.specs.Events.{
   target_of,
   named_by,
   HasNames,
-  IsOfNames,
 }
-use Rattle.rapid_text.proofs.NameLaws.{Numbers, numbers, grows}
+use Rattle.rapid_text.proofs.NameLaws.{numbers, grows}
 
 -- ---- names are only added
 

@@ -4,9 +4,6 @@ use Rattle.std.proofs.Common.{
   ℕ,
   zero,
   suc,
-  ◌+◌,
-  ◌<◌,
-  ◌≤◌,
   List,
   [],
   ◌∷◌,
@@ -28,18 +25,15 @@ use Rattle.std.proofs.Common.{
   subst,
   ◌∙◌,
   append-nil,
-  arith,
   inl,
   inr,
 }
-use Rattle.std.specs.Prelude.{unwrap_or, slice_get, nat_lt, IfOk, OnErr, IfSome, ◌⊎◌}
-use Rattle.std.proofs.lemmas.Bool.{cases_Bool, ltb-true}
+use Rattle.std.specs.Prelude.{unwrap_or, slice_get, nat_lt, IfOk, OnErr, ◌⊎◌}
 use Rattle.rapid_line.specs.Grammar.{IsField, IsName}
 use Rattle.rapid_text.specs.declared.causes.NameFault.{NameFault}
 use Rattle.rapid_text.specs.Numbers.{
   Numbered,
   with_name,
-  new_name,
   found_or,
   place_of,
   number_of,

@@ -2,16 +2,12 @@
 use Rattle.std.proofs.Common.{
   ◌≡◌,
   ℕ,
-  zero,
-  suc,
   ◌+◌,
   ◌-◌,
   ◌<◌,
   ◌≤◌,
   Bool,
-  true,
   false,
-  cond,
   List,
   [],
   ◌∷◌,
@@ -33,23 +29,12 @@ use Rattle.std.proofs.Common.{
   ◌∙◌,
   append_assoc,
   arith,
-  rules,
   inl,
   inr,
   min,
 }
-use Rattle.std.specs.Prelude.{◌||◌, ◌&&◌, ◌==◌, nat_lt, unwrap_or, IfSome, ◌⊎◌}
-use Rattle.std.proofs.lemmas.Bool.{
-  or_parts,
-  ltb-true,
-  ltb-false,
-  lt-ltb,
-  le-ltb,
-  eqb-false,
-  eq-eqb,
-  ne_eqb,
-  cases_Bool,
-}
+use Rattle.std.specs.Prelude.{◌&&◌, ◌==◌, nat_lt, IfSome}
+use Rattle.std.proofs.lemmas.Bool.{or_parts, lt-ltb, eqb-false, ne_eqb, cases_Bool}
 use Rattle.std.proofs.lemmas.List.{
   length-append,
   length-take,
@@ -60,16 +45,15 @@ use Rattle.std.proofs.lemmas.List.{
   drop-drop,
 }
 use Rattle.event_core.specs.declared.events.Event.{Event}
-use Rattle.rapid_line.specs.declared.words.LineFault.{LineFault}
 use Rattle.rapid_line.specs.declared.words.LineFault.TheVariants.{LineTooLong}
 use Rattle.rapid_text.specs.declared.causes.Cause.{Cause}
 use Rattle.rapid_text.specs.declared.causes.Cause.TheVariants as causes
 use Rattle.rapid_text.specs.declared.causes.TextFault.{TextFault}
-use Rattle.rapid_line.specs.Cut.{has, Lacks, cut, before_end}
-use Rattle.rapid_line.specs.Reading.{unless, line_of}
+use Rattle.rapid_line.specs.Cut.{has, Lacks, cut}
+use Rattle.rapid_line.specs.Reading.{line_of}
 use Rattle.rapid_text.specs.Tables.{Tables, TablesGrow}
-use Rattle.rapid_text.proofs.NameGrowth.{TablesGrow-refl, TablesGrow-trans, TablesGrow-same}
-use Rattle.rapid_text.specs.Events.{content, reading, event_or, Fails}
+use Rattle.rapid_text.proofs.NameGrowth.{TablesGrow-trans}
+use Rattle.rapid_text.specs.Events.{content, reading, Fails}
 use Rattle.rapid_text.specs.Texts.{
   onto_first,
   lines_of,
@@ -88,7 +72,6 @@ use Rattle.rapid_text.specs.Cutting.{
   Pushes,
   FailsAt,
   TooLongOrMemory,
-  Closes,
   ClosesAt,
   Closed,
   EndsLine,
@@ -96,7 +79,7 @@ use Rattle.rapid_text.specs.Cutting.{
   Keeps,
   RestFails,
 }
-use Rattle.rapid_line.proofs.Cuts.{Lacks-append, Lacks-left, Lacks-right, IsCut, IsCut-from}
+use Rattle.rapid_line.proofs.Cuts.{Lacks-append, IsCut, IsCut-from}
 
 -- ---- a line that is too long
 

@@ -9,7 +9,6 @@ use Rattle.std.proofs.Common.{
   ◌≤◌,
   List,
   [],
-  ◌∷◌,
   ◌++◌,
   length,
   drop,
@@ -36,7 +35,6 @@ use Rattle.event_core.specs.declared.events.Event.{Event}
 use Rattle.rapid_text.specs.declared.causes.Cause.{Cause}
 use Rattle.rapid_text.specs.declared.causes.Cause.TheVariants as causes
 use Rattle.rapid_text.specs.declared.causes.TextFault.{TextFault}
-use Rattle.rapid_text.specs.Tables.{Tables}
 use Rattle.rapid_text.specs.Texts.{Judgement, with_event, ended, judge, lines_of}
 use Rattle.rapid_text.specs.Cutting.{
   Cutting,
@@ -55,11 +53,8 @@ use Rattle.rapid_text.specs.Pulling.{
   rest_of,
   to_judge,
   Follows,
-  Tells,
   Ends,
   Answers,
-  StopsAt,
-  ReadFails,
   NoAnswer,
 }
 

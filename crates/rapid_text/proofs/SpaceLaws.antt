@@ -2,7 +2,6 @@
 use Rattle.std.proofs.Common.{
   ◌≡◌,
   ℕ,
-  ◌+◌,
   ◌<◌,
   ◌≤◌,
   ◌++◌,
@@ -23,10 +22,8 @@ use Rattle.std.proofs.Common.{
   sym,
   ◌∙◌,
   ap,
-  rules,
   arith,
   refl,
-  add-suc,
   zero,
   suc,
   subst,
@@ -35,11 +32,11 @@ use Rattle.std.specs.Prelude.{not, nat_lt, slice_get}
 use Rattle.std.specs.List.{AllByRecursion, IsDistinct}
 use Rattle.std.proofs.lemmas.Option.{slice_get_within}
 use Rattle.std.proofs.lemmas.Slice.Eq.{bytes_eq-Decides}
-use Rattle.std.specs.List.{position, list_any, position_or_len, prefix_len}
+use Rattle.std.specs.List.{position, list_any, prefix_len}
 use Rattle.std.specs.Str.{bytes_eq}
 use Rattle.std.proofs.lemmas.List.{length-map, map-append}
-use Rattle.std.proofs.lemmas.Bool.{cases_Bool, lt-ltb, le-ltb, false_from_ne_true, both_ways}
-use Rattle.rapid_text.specs.Numbers.{Numbered, with_name, new_name, found_or, place_of, number_of}
+use Rattle.std.proofs.lemmas.Bool.{lt-ltb, le-ltb, false_from_ne_true, both_ways}
+use Rattle.rapid_text.specs.Numbers.{Numbered, found_or, number_of}
 
 prefix_len-map : {X Y : Type 0} (f : X → Y) (p : Y → Bool) (xs : List X)
     → prefix_len p (map f xs) ≡ prefix_len (λ x. p (f x)) xs

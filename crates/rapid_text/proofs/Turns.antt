@@ -1,21 +1,5 @@
 -- Turns that take bytes.
-use Rattle.std.proofs.Common.{
-  ◌≡◌,
-  ℕ,
-  ◌+◌,
-  ◌-◌,
-  ◌<◌,
-  ◌≤◌,
-  List,
-  ◌++◌,
-  length,
-  Option,
-  Some,
-  None,
-  ap,
-  arith,
-  length-append,
-}
+use Rattle.std.proofs.Common.{ℕ, ◌-◌, ◌<◌, List, length, Option, Some, None, ap, arith, length-append}
 use Rattle.std.specs.Io.KnownBytes.{Consumes}
 use Rattle.rapid_text.specs.Turns.{TakeBytes}
 

@@ -1,6 +1,6 @@
 -- What waits in a window.
-use Rattle.std.proofs.Common.{◌≡◌, ℕ, ◌+◌, ◌-◌, ◌≤◌, List, length, take, drop, sym, ap, ◌∙◌, arith, min}
-use Rattle.std.proofs.lemmas.List.{drop-take, drop-drop, length-take, length-drop}
+use Rattle.std.proofs.Common.{◌≡◌, ℕ, ◌+◌, ◌-◌, ◌≤◌, List, length, take, drop, sym, ap, ◌∙◌, arith}
+use Rattle.std.proofs.lemmas.List.{drop-take, drop-drop, length-take}
 
 pub skipped : (xs : List ℕ) (a b n : ℕ) → n ≤ length (take (b - a) (drop a xs))
     → take (b - (a + n)) (drop (a + n) xs) ≡ drop n (take (b - a) (drop a xs))

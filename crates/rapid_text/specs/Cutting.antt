@@ -13,7 +13,6 @@ use Rattle.std.specs.Prelude.{
   Option,
   Some,
   None,
-  Result,
   Ok,
   ◌⊎◌,
   IfSome,

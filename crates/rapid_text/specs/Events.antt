@@ -5,7 +5,6 @@ use Rattle.std.specs.Prelude.{
   ◌<◌,
   ◌==◌,
   List,
-  [],
   length,
   Option,
   Some,
@@ -16,7 +15,6 @@ use Rattle.std.specs.Prelude.{
   unwrap_or,
   if◌then◌else◌,
 }
-use Rattle.event_core.specs.declared.ids.ThreadId.{ThreadId}
 use Rattle.event_core.specs.declared.events.Op.{Op}
 use Rattle.event_core.specs.declared.events.Op.TheVariants as ops
 use Rattle.event_core.specs.declared.events.Event.{Event}

@@ -5,5 +5,6 @@ pub mod Events
 pub mod Texts
 pub mod Cutting
 pub mod Turns
+pub mod Pushing
 pub mod Pulling
 pub mod Reading

@@ -2,8 +2,6 @@
 use Rattle.std.specs.Prelude.{
   ◌≡◌,
   ℕ,
-  ◌<◌,
-  ◌≤◌,
   List,
   [],
   ◌∷◌,

@@ -1,10 +1,10 @@
 -- The names of a text, in four spaces: threads, locks, variables and locations.
-use Rattle.std.specs.Prelude.{◌≡◌, ℕ, ◌<◌, ◌≤◌, List, [], length, slice_get, Option, Some, None, unwrap_or}
+use Rattle.std.specs.Prelude.{ℕ, List, [], slice_get, Option, Some, None, unwrap_or}
 use Rattle.event_core.specs.Bounds.{Bounds}
 use Rattle.rapid_text.specs.declared.causes.Kind.{Kind}
 use Rattle.rapid_text.specs.declared.causes.Kind.TheVariants as kinds
 use Rattle.rapid_line.specs.Grammar.{IsField, IsName}
-use Rattle.rapid_text.specs.Numbers.{Numbered, number_of, place_of, Grows, AreNames, AreFields}
+use Rattle.rapid_text.specs.Numbers.{Numbered, number_of, Grows, AreNames, AreFields}
 
 -- the names of the four kinds
 pub record Tables : Type 0 where

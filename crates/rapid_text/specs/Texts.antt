@@ -1,13 +1,11 @@
 -- The meaning of a whole text: its events with their lines, up to the first fault, and its names.
 use Rattle.std.specs.Prelude.{
-  ◌≡◌,
   ℕ,
   ◌+◌,
   ◌==◌,
   List,
   [],
   ◌∷◌,
-  ◌++◌,
   Option,
   Some,
   None,

@@ -6,11 +6,14 @@ mod cutter;
 mod device;
 mod event_lines;
 mod input;
+mod laws;
 mod names;
 mod output;
 mod puller;
 mod reader;
 mod spaces;
+#[cfg(test)]
+mod tests;
 mod window;
 mod writing;
 
@@ -18,6 +21,7 @@ pub use causes::{Cause, Kind, NameFault, TextFault};
 pub use cutter::Cutter;
 pub use device::Device;
 pub use input::{Input, ReadFailed};
+pub use laws::pieces_are_one_text;
 pub use names::Names;
 pub use output::{Output, WriteFailed, WriteFault, write_all};
 pub use puller::Puller;

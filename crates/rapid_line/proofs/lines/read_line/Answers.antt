@@ -1,8 +1,7 @@
-use Rattle.std.proofs.Common.{◌≡◌, subst, Ok, Err, Result}
+use Rattle.std.proofs.Common.{subst, Result}
 use Rattle.rapid_line.specs.declared.words.LineFault.{LineFault}
-use Rattle.rapid_line.specs.Grammar.{Named, IsNamed}
-use Rattle.rapid_line.specs.Causes.{IsFirstCause}
-use Rattle.rapid_line.specs.Reading.{line_of, named_of, Gives, ok_named}
+use Rattle.rapid_line.specs.Grammar.{Named}
+use Rattle.rapid_line.specs.Reading.{named_of, Gives}
 use Rattle.rapid_line.proofs.Again.{read_again}
 use Rattle.rapid_line.proofs.First.{found_of, first_of}
 use Rattle.rapid_line.proofs.lines.read_line.Goals as goal

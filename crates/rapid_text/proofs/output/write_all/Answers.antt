@@ -1,6 +1,6 @@
-use Rattle.std.proofs.Common.{◌≡◌, ◌∙◌, ℕ, List, Option, sym, subst, refl, true, false}
+use Rattle.std.proofs.Common.{◌∙◌, ℕ, List, sym, subst, refl}
 use Rattle.std.proofs.lemmas.List.{take_rest}
-use Rattle.rapid_text.proofs.Outputs.{Written, nothing_yet, wrote_more, wrote_all, or_false}
+use Rattle.rapid_text.proofs.Outputs.{Written, nothing_yet, wrote_more, or_false}
 use Rattle.rapid_text.proofs.output.write_all.Goals as goal
 
 pub puts-init : goal.puts-init

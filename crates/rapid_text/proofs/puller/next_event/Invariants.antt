@@ -2,7 +2,6 @@ use Rattle.std.proofs.Common.{◌≡◌, false}
 use Rattle.rapid_text.specs.Pulling.{pulling_of}
 use Rattle.rapid_text.specs.Turns.{TakeBytes}
 use Rattle.rapid_text.specs.Tables.{TablesGrow}
-use Rattle.rapid_text.proofs.NameGrowth.{TablesGrow-refl, TablesGrow-trans, TablesGrow-same}
 use Rattle.rapid_text.proofs.Pulls.{Running}
 use Rattle.rapid_text.proofs.puller.next_event.Given as goal
 

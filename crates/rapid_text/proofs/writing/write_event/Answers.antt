@@ -1,9 +1,8 @@
-use Rattle.std.proofs.Common.{◌≡◌, ◌∙◌, ap, sym, subst, ℕ, List, [], Option}
+use Rattle.std.proofs.Common.{◌≡◌, ◌∙◌, ap, sym, ℕ, List, [], Option}
 use Rattle.std.specs.Prelude.{unwrap_or}
-use Rattle.rapid_line.specs.Grammar.{Named, spelling}
-use Rattle.rapid_line.specs.declared.words.Word.{Word}
+use Rattle.rapid_line.specs.Grammar.{spelling}
 use Rattle.rapid_text.specs.declared.causes.Kind.{Kind}
-use Rattle.rapid_text.specs.Tables.{name_at, space}
+use Rattle.rapid_text.specs.Tables.{name_at}
 use Rattle.rapid_text.specs.Events.{named_by, kind_of, word_of_op}
 use Rattle.rapid_text.proofs.Written.{parts, line_written}
 use Rattle.rapid_text.proofs.writing.write_event.Goals as goal

@@ -1,28 +1,6 @@
-use Rattle.std.proofs.Common.{
-  ◌≡◌,
-  ◌∙◌,
-  ◌+◌,
-  ◌<◌,
-  ap,
-  sym,
-  subst,
-  refl,
-  arith,
-  Some,
-  None,
-  List,
-  ℕ,
-  Option,
-  length,
-  Result,
-  Ok,
-  Err,
-}
-use Rattle.event_core.specs.declared.events.Event.{Event}
-use Rattle.rapid_text.specs.declared.causes.Cause.{Cause}
+use Rattle.std.proofs.Common.{◌≡◌, ◌∙◌, ◌+◌, ◌<◌, ap, sym, subst, refl, arith, List, ℕ, length, Ok}
 use Rattle.rapid_text.specs.declared.causes.TextFault.{TextFault}
 use Rattle.rapid_text.specs.Cutting.{Cutting, ClosesAt}
-use Rattle.rapid_text.specs.Tables.{Tables}
 use Rattle.rapid_text.specs.Events.{reading, content, Fails}
 use Rattle.rapid_text.proofs.Pieces.{closes, closes_at, filled}
 use Rattle.rapid_text.proofs.cutter.Cutter.finish.Goals as goal

@@ -1,27 +1,10 @@
-use Rattle.std.proofs.Common.{
-  ◌≡◌,
-  ◌∙◌,
-  ap,
-  sym,
-  subst,
-  arith,
-  Some,
-  None,
-  List,
-  ℕ,
-  Option,
-  ◌-◌,
-  drop,
-  take,
-  length,
-  rules,
-}
+use Rattle.std.proofs.Common.{◌∙◌, ap, sym, subst, List, ℕ, ◌-◌, drop, take, length}
 use Rattle.std.proofs.lemmas.Result.{err_from_is_err_and}
 use Rattle.std.proofs.lemmas.List.{take_rest}
-use Rattle.rapid_line.specs.Cut.{cut, Lacks}
+use Rattle.rapid_line.specs.Cut.{cut}
 use Rattle.rapid_line.proofs.Cuts.{cut_None}
-use Rattle.rapid_text.proofs.Pieces.{goes_on, gives, line_room, line_lf, keeps, line_fails, rest_fails}
-use Rattle.rapid_text.specs.Cutting.{Keeps, RestFails}
+use Rattle.rapid_text.proofs.Pieces.{goes_on, gives, line_room, line_lf, line_fails, rest_fails}
+use Rattle.rapid_text.specs.Cutting.{RestFails}
 use Rattle.rapid_text.proofs.cutter.Cutter.push.Goals as goal
 
 pub end_line-requires-clause-lf : goal.end_line-requires-clause-lf

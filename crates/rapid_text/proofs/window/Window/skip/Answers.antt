@@ -1,4 +1,4 @@
-use Rattle.std.proofs.Common.{◌≡◌, ◌∙◌, ap, subst, sym, drop, length, ◌≤◌, take, ◌-◌, List, ℕ}
+use Rattle.std.proofs.Common.{◌∙◌, ap, subst, sym, drop, length, ◌≤◌, take, ◌-◌, List, ℕ}
 use Rattle.rapid_text.proofs.WindowLaws.{skipped}
 use Rattle.rapid_text.proofs.window.Window.skip.Goals as goal
 
