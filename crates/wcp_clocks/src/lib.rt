@@ -8,6 +8,8 @@ mod parts;
 mod room;
 mod sources;
 mod strict;
+#[cfg(test)]
+mod tests;
 mod turns;
 
 pub use clocks::WcpClocks;

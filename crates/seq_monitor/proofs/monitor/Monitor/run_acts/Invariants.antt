@@ -1,0 +1,12 @@
+use Rattle.std.proofs.Common.{◌≡◌, ◌+◌, ◌-◌, ◌≤◌, length, take, vec_len}
+use Rattle.std.specs.Prelude.{vec_capacity}
+use Rattle.seq_monitor.specs.RunAnswers.{ActsRan}
+use Rattle.seq_monitor.proofs.monitor.Monitor.run_acts.Given as goal
+
+abbrev pub invariant-loop-act : goal.invariant-loop-act
+invariant-loop-act l = record {
+  ran : ActsRan l.fn.self.limits l.fn.self.log (take l.act-index l.acts) l.fn.answers.items l.answers.items
+      l.self.log;
+  limits : l.self.limits ≡ l.fn.self.limits;
+  room : length l.acts ≤ l.act-index + (vec_capacity l.answers - vec_len l.answers);
+}

@@ -1,0 +1,3 @@
+pub mod Monitored
+pub mod Answers
+pub mod RunAnswers

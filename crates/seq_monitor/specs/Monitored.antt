@@ -1,0 +1,111 @@
+-- What contracts see of a monitor: its log, and the parts in which there is room.
+use Rattle.std.specs.Prelude.{◌≡◌, ℕ, ◌+◌, ◌*◌, ◌≤◌, List, Some, None, length, slice_get}
+use Rattle.event_core.specs.declared.ids.ThreadId.{ThreadId}
+use Rattle.event_core.specs.declared.ids.VarId.{VarId}
+use Rattle.event_core.specs.declared.events.Event.{Event}
+use Rattle.event_core.specs.declared.events.Call.{Call}
+use Rattle.event_core.specs.declared.events.Op.{Op}
+use Rattle.event_core.specs.declared.events.Op.TheVariants.{Load, Store, Acquire, Release}
+use Rattle.event_core.specs.declared.bounds.Limits.{Limits}
+use Rattle.event_core.specs.Bounds.{AreBounded}
+use Rattle.event_core.specs.declared.replies.Verdict.{Verdict}
+use Rattle.event_core.specs.Refusal.{refusal, open_acquires}
+use Rattle.event_core.specs.Verdict.{IsVerdict}
+use Rattle.traced_mem.specs.Tables.{Tables as MemoryTables}
+use Rattle.traced_mem.specs.Room.{IsReady as MemoryIsReady}
+use Rattle.traced_mem.specs.OfLog.{StandsFor}
+use Rattle.access_check.specs.Tables.{Tables as AccessTables, HasRoom as AccessHasRoom}
+use Rattle.access_check.specs.Standing.{Stands as AccessesStand}
+use Rattle.wcp_laws.specs.Found.{threads_in}
+use Rattle.wcp_clocks.specs.declared.parts.Parts.{Parts as Clocks}
+use Rattle.wcp_clocks.specs.Parts.{IsReady as ClocksIsReady}
+use Rattle.wcp_clocks.specs.StandsFor.{StandsFor as ClocksStandFor}
+use Rattle.wcp_clocks.specs.WorkWithin.{WorkWithin}
+
+-- the parts beside the log, and for how many more events and verdicts there is room
+pub record Parts : Type 0 where
+  pub memory : MemoryTables
+  pub clocks : Clocks
+  pub accesses : AccessTables
+  pub events : ℕ
+  pub verdicts : ℕ
+
+abbrev pub parts_of : MemoryTables → Clocks → AccessTables → ℕ → ℕ → Parts
+parts_of memory clocks accesses events verdicts = record {
+  memory = memory;
+  clocks = clocks;
+  accesses = accesses;
+  events = events;
+  verdicts = verdicts;
+}
+
+pub record Monitored : Type 0 where
+  pub limits : Limits
+  pub log : List Event
+  pub parts : Parts
+
+-- the limits and the log are the same, and so is all that they determine
+pub record IsSame (old new : Monitored) : Type 0 where
+  pub limits : new.limits ≡ old.limits
+  pub log : new.log ≡ old.log
+
+-- the slots that are taken where an event follows so many acquires that are not yet released: its own, and
+-- one for each release that is still to come
+abbrev pub slots_for : ℕ → Op → ℕ
+slots_for open' (Acquire l) = open' + 2
+slots_for open' (Release l) = open'
+slots_for open' o = open' + 1
+
+-- an event of the thread with the operation; room does not depend on its site and its value
+abbrev pub event_by : ThreadId → Op → Event
+event_by t o = record { thread = t; op = o; site = record { 0 = 0 }; value = 0 }
+
+-- there is room for the thread's operation
+pub record HasRoom (m : Monitored) (t : ThreadId) (o : Op) : Type 0 where
+  pub memory : MemoryIsReady m.parts.memory t o
+  pub clocks : ClocksIsReady m.parts.clocks (event_by t o)
+  pub accesses : AccessHasRoom m.parts.accesses t o
+  pub events : slots_for (open_acquires m.log) o ≤ m.parts.events
+  pub verdicts : slots_for (open_acquires m.log) o ≤ m.parts.verdicts
+
+-- there is room for both events of a swap
+pub record HasRoomToSwap (m : Monitored) (t : ThreadId) (x : VarId) : Type 0 where
+  pub load : HasRoom m t (Load x)
+  pub store : HasRoom m t (Store x)
+  pub both_events : open_acquires m.log + 2 ≤ m.parts.events
+  pub both_verdicts : open_acquires m.log + 2 ≤ m.parts.verdicts
+
+-- the call is refused, or there is room for it
+abbrev pub IsReady : Monitored → Call → Type 0
+IsReady m c = refusal m.limits m.log c ≡ None → HasRoom m c.thread c.op
+
+-- each verdict is that on its event
+pub record AreVerdicts (log : List Event) (verdicts : List Verdict) : Type 0 where
+  pub all : length verdicts ≡ length log
+  pub each : (j : ℕ) (v : Verdict) → slice_get verdicts j ≡ Some v → IsVerdict log j v
+
+-- the clocks stand for the log, and their work is within its bounds
+pub record IsClocksReplay (limits : Limits) (log : List Event) (clocks : Clocks) : Type 0 where
+  pub stands : ClocksStandFor log clocks
+  pub width : clocks.hb.width ≡ limits.threads
+  pub limits_of : clocks.queues.limits ≡ limits
+  pub work : WorkWithin limits log clocks
+
+-- the parts stand for the log, which is well formed, and the slots of all releases to come are kept
+pub record IsReplay (limits : Limits) (log : List Event) (parts : Parts) (verdicts : List Verdict) (holds : ℕ)
+    : Type 0 where
+  pub bounds : AreBounded limits.threads limits.locks limits.vars limits.events
+  pub memory : StandsFor parts.memory log
+  pub memory_limits : parts.memory.limits ≡ limits
+  pub clocks : IsClocksReplay limits log parts.clocks
+  pub accesses : AccessesStand log parts.accesses
+  pub access_limits : parts.accesses.limits ≡ limits
+  pub judged : AreVerdicts log verdicts
+  pub open_holds : holds ≡ open_acquires log
+  pub event_slots : holds ≤ parts.events
+  pub verdict_slots : holds ≤ parts.verdicts
+
+-- n events by k threads took at most n * k + n comparisons of an acquire with a clock
+abbrev pub HasFewComparisons : Monitored → Type 0
+HasFewComparisons m =
+    m.parts.clocks.work.comparisons ≤ length m.log * threads_in m.limits.threads m.log + length m.log

@@ -1,0 +1,196 @@
+//! What is made of the parts of a monitor beside its log.
+ghost use Rattle.std.specs.Prelude.{◌≡◌, ℕ, ◌+◌, ◌-◌, ◌<◌, ◌≤◌, List, OnOk, vec_len, vec_capacity};
+ghost use Rattle.event_core.specs.declared.events.Event.{Event as AnEvent};
+ghost use Rattle.traced_mem.specs.After.{holds_after};
+ghost use Rattle.traced_mem.specs.OfLog.{StandsFor};
+ghost use Rattle.traced_mem.specs.Room.{HoldsFit};
+ghost use Rattle.traced_mem.specs.Room.{IsReady as MemoryIsReady};
+ghost use Rattle.traced_mem.specs.Room.{IsReadyToSwap as MemoryIsReadyToSwap};
+ghost use Rattle.traced_mem.specs.Tables.{Allows, AllowsSwap, meaning};
+ghost use Rattle.access_check.specs.Tables.{Grown, IsWithin};
+ghost use Rattle.access_check.specs.Tables.{HasRoom as AccessesHaveRoom};
+ghost use Rattle.access_check.specs.Tables.{HasRoomToSwap as AccessesHaveRoomToSwap};
+ghost use Rattle.event_core.specs.declared.events.Op.{Op as Operation};
+ghost use Rattle.wcp_clocks.specs.Parts.{SameNumbers, SameLimits};
+ghost use Rattle.wcp_clocks.specs.Parts.{IsWithin as ClocksAreWithin};
+ghost use Rattle.wcp_clocks.specs.Parts.{IsReady as ClocksAreReady};
+ghost use Rattle.seq_monitor.specs.Monitored.{slots_for};
+ghost use Rattle.seq_monitor.specs.Monitored.{event_by as an_event_by};
+
+use access_check::Accesses;
+use event_core::{Call, Event, Log, Op, OutOfMemory, SiteId, ThreadId, VarId, Verdict};
+use traced_mem::Memory;
+use wcp_clocks::WcpClocks;
+
+/// The event of the call, with the value that it has.
+pub(crate) fn event_with(call: &Call, value: u64) -> Event
+    ensures { result ≡ record {
+      thread = call.now.thread;
+      op = call.now.op;
+      site = call.now.site;
+      value = value;
+    } }
+{
+    Event {
+        thread: call.thread,
+        op: call.op,
+        site: call.site,
+        value,
+    }
+}
+
+/// An event of the call's thread with its operation, for which room is asked.
+pub(crate) fn event_by(call: &Call) -> Event
+    ensures { result ≡ an_event_by call.now.thread call.now.op }
+{
+    Event {
+        thread: call.thread,
+        op: call.op,
+        site: SiteId(0),
+        value: 0,
+    }
+}
+
+/// How many acquires are still to be released after the operation.
+pub(crate) fn count_holds(holds: u64, op: Op) -> u64
+    requires few { holds ≤ 4294967296 }
+    requires some { HoldsFit holds op }
+    ensures { result ≡ holds_after op holds }
+{
+    match op {
+        Op::Acquire(_) => holds + 1,
+        Op::Release(_) => holds - 1,
+        _ => holds,
+    }
+}
+
+/// How many slots are to be there for the operation and for all releases to come.
+pub(crate) fn count_slots(holds: u64, op: Op) -> usize
+    requires { holds ≤ 4294967296 }
+    ensures { result ≡ slots_for holds op }
+{
+    let holds = holds as usize;
+    match op {
+        Op::Acquire(_) => holds + 2,
+        Op::Release(_) => holds,
+        _ => holds + 1,
+    }
+}
+
+// Makes room for so many more verdicts.
+fn reserve(verdicts: &mut Vec<Verdict>, additional: usize) -> Result<(), OutOfMemory>
+    ensures same { verdicts.new.items ≡ verdicts.old.items }
+    ensures more { vec_capacity verdicts.old - vec_len verdicts.old
+        ≤ vec_capacity verdicts.new - vec_len verdicts.new }
+    ensures room { OnOk result (additional ≤ vec_capacity verdicts.new - vec_len verdicts.new) }
+{
+    match verdicts.reserve(additional) {
+        Ok(()) => Ok(()),
+        Err(_) => Err(OutOfMemory),
+    }
+}
+
+/// Makes room in all parts for a call that is allowed, and in the lists for so many more events. Nothing else
+/// changes.
+pub(crate) fn grow(
+    memory: &mut Memory,
+    clocks: &mut WcpClocks,
+    accesses: &mut Accesses,
+    log: &mut Log,
+    verdicts: &mut Vec<Verdict>,
+    call: &Call,
+    slots: usize,
+) -> Result<(), OutOfMemory>
+    requires allowed { Allows memory.old call.now.thread call.now.op }
+    requires clocks { ClocksAreWithin clocks.old (an_event_by call.now.thread call.now.op) }
+    requires accesses { IsWithin accesses.old.limits call.now.thread call.now.op }
+    ensures memory { meaning memory.new ≡ meaning memory.old }
+    ensures memory_limits { memory.new.limits ≡ memory.old.limits }
+    ensures memory_stands { (past : List AnEvent) → StandsFor memory.old past → StandsFor memory.new past }
+    ensures memory_ready { OnOk result (MemoryIsReady memory.new call.now.thread call.now.op) }
+    ensures numbers { SameNumbers clocks.old clocks.new }
+    ensures clock_limits { SameLimits clocks.old clocks.new }
+    ensures clocks_ready { OnOk result (ClocksAreReady clocks.new (an_event_by call.now.thread call.now.op)) }
+    ensures accesses_same { Grown accesses.old accesses.new }
+    ensures accesses_ready { OnOk result (AccessesHaveRoom accesses.new call.now.thread call.now.op) }
+    ensures events { log.new.events ≡ log.old.events }
+    ensures event_slots { log.old.room ≤ log.new.room }
+    ensures event_room { OnOk result (slots ≤ log.new.room) }
+    ensures judged { verdicts.new.items ≡ verdicts.old.items }
+    ensures verdict_slots { vec_capacity verdicts.old - vec_len verdicts.old
+        ≤ vec_capacity verdicts.new - vec_len verdicts.new }
+    ensures verdict_room { OnOk result (slots ≤ vec_capacity verdicts.new - vec_len verdicts.new) }
+{
+    let event = event_by(call);
+    memory.prepare(call)?;
+    clocks.prepare(&event)?;
+    accesses.make_room(&event)?;
+    log.reserve(slots)?;
+    reserve(verdicts, slots)
+}
+
+/// Makes room in all parts for a swap that is allowed, and in the lists for so many more events. Nothing else
+/// changes.
+pub(crate) fn grow_for_swap(
+    memory: &mut Memory,
+    clocks: &mut WcpClocks,
+    accesses: &mut Accesses,
+    log: &mut Log,
+    verdicts: &mut Vec<Verdict>,
+    thread: ThreadId,
+    var: VarId,
+    slots: usize,
+) -> Result<(), OutOfMemory>
+    requires allowed { AllowsSwap memory.old thread var }
+    requires clocks { thread.0 < clocks.old.hb.width }
+    requires accesses { IsWithin accesses.old.limits thread (Operation.Load var) }
+    ensures memory { meaning memory.new ≡ meaning memory.old }
+    ensures memory_limits { memory.new.limits ≡ memory.old.limits }
+    ensures memory_stands { (past : List AnEvent) → StandsFor memory.old past → StandsFor memory.new past }
+    ensures memory_ready { OnOk result (MemoryIsReadyToSwap memory.new thread var) }
+    ensures numbers { SameNumbers clocks.old clocks.new }
+    ensures clock_limits { SameLimits clocks.old clocks.new }
+    ensures ready_to_load { OnOk result
+        (ClocksAreReady clocks.new (an_event_by thread (Operation.Load var))) }
+    ensures ready_to_store { OnOk result
+        (ClocksAreReady clocks.new (an_event_by thread (Operation.Store var))) }
+    ensures accesses_same { Grown accesses.old accesses.new }
+    ensures accesses_ready { OnOk result (AccessesHaveRoomToSwap accesses.new thread var) }
+    ensures events { log.new.events ≡ log.old.events }
+    ensures event_slots { log.old.room ≤ log.new.room }
+    ensures event_room { OnOk result (slots ≤ log.new.room) }
+    ensures judged { verdicts.new.items ≡ verdicts.old.items }
+    ensures verdict_slots { vec_capacity verdicts.old - vec_len verdicts.old
+        ≤ vec_capacity verdicts.new - vec_len verdicts.new }
+    ensures verdict_room { OnOk result (slots ≤ vec_capacity verdicts.new - vec_len verdicts.new) }
+{
+    memory.prepare_swap(thread, var)?;
+    prepare_clocks(clocks, thread, var)?;
+    accesses.make_room_swap(thread, var)?;
+    log.reserve(slots)?;
+    reserve(verdicts, slots)
+}
+
+// Makes room for both events of a swap in the clocks.
+fn prepare_clocks(clocks: &mut WcpClocks, thread: ThreadId, var: VarId) -> Result<(), OutOfMemory>
+    requires { thread.0 < clocks.old.hb.width }
+    ensures numbers { SameNumbers clocks.old clocks.new }
+    ensures limits { SameLimits clocks.old clocks.new }
+    ensures ready_to_load { OnOk result
+        (ClocksAreReady clocks.new (an_event_by thread (Operation.Load var))) }
+    ensures ready_to_store { OnOk result
+        (ClocksAreReady clocks.new (an_event_by thread (Operation.Store var))) }
+{
+    clocks.prepare(&Event {
+        thread,
+        op: Op::Load(var),
+        site: SiteId(0),
+        value: 0,
+    })?;
+    clocks.prepare(&Event {
+        thread,
+        op: Op::Store(var),
+        site: SiteId(0),
+        value: 0,
+    })
+}
