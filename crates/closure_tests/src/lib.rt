@@ -1,0 +1,26 @@
+//! Weak causal precedence by its rules, compared with the sequential monitor.
+//!
+//! The crate has tests alone. They close the relation of a whole log slowly, as a set of pairs of events, by
+//! the three rules as they are written (Kini, Mathur, Viswanathan, "Dynamic Race Prediction in Linear Time",
+//! PLDI 2017), and look for each event's race among all earlier events. Nothing is shared with the monitor
+//! but the words of events. Each verdict has to be the one that the monitor's `step` answered.
+#![tactic(auto)]
+
+#[cfg(test)]
+mod calls;
+#[cfg(test)]
+mod closure;
+#[cfg(test)]
+mod generator;
+#[cfg(test)]
+mod judged;
+#[cfg(test)]
+mod orders;
+#[cfg(test)]
+mod pairs;
+#[cfg(test)]
+mod random_logs;
+#[cfg(test)]
+mod sections;
+#[cfg(test)]
+mod worked_logs;

@@ -1,0 +1,26 @@
+-- A log whose numbers have names, and one event more.
+use Rattle.std.proofs.Common.{zero, suc, List, [], ◌∷◌, ◌++◌, Option, subst, ap, unwrap_or}
+use Rattle.event_core.specs.declared.events.Event.{Event}
+use Rattle.rapid_text.specs.Tables.{Tables, TablesGrow}
+use Rattle.rapid_text.specs.Events.{HasNames, IsOfNames}
+use Rattle.rapid_text.proofs.NameGrowth.{HasNames-kept}
+use Rattle.trace_report.specs.Reports.{AreNamed}
+
+-- names that were added change nothing
+pub named_kept : (t u : Tables) (log : List Event) → TablesGrow t u → AreNamed t log → AreNamed u log
+named_kept t u log g h j e at = HasNames-kept t u e g (h j e at)
+
+pub named_push : (t : Tables) (log : List Event) (e : Event) → AreNamed t log → HasNames t e
+    → AreNamed t (log ++ e ∷ [])
+named_push t [] e h k zero x at =
+    subst (λ (y : Event). HasNames t y) (ap (λ (o : Option Event). unwrap_or o e) at) k
+named_push t [] e h k (suc j) x at = absurd (cc)
+named_push t (y ∷ ys) e h k zero x at = h zero x at
+named_push t (y ∷ ys) e h k (suc j) x at = named_push t ys e (λ i z is. h (suc i) z is) k j x at
+
+pub named_more : (t u : Tables) (log : List Event) (e : Event) → TablesGrow t u → AreNamed t log
+    → IsOfNames u e → AreNamed u (log ++ e ∷ [])
+named_more t u log e g h k = named_push u log e (named_kept t u log g h) k.names
+
+pub nothing_named : (t : Tables) → AreNamed t []
+nothing_named t j e at = absurd (cc)

@@ -1,0 +1,4 @@
+pub mod Words
+pub mod Pages
+pub mod Races
+pub mod Reports

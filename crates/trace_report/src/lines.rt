@@ -1,0 +1,122 @@
+//! The lines of a report, put on a page.
+ghost use Rattle.std.specs.Prelude.{◌≡◌, ℕ, ◌<◌, ◌++◌, ◌∷◌, [], length, OnOk, OnErr, true};
+ghost use Rattle.event_core.specs.declared.replies.Verdict.TheVariants.{Racy};
+ghost use Rattle.rapid_text.specs.Events.{word_of_op, kind_of, target_of};
+ghost use Rattle.trace_report.specs.Pages.{Puts};
+ghost use Rattle.trace_report.specs.Reports.{labelled, summary_line, event_at, race_line, AreNamed};
+
+use crate::page::Page;
+use crate::summary::Summary;
+use event_core::{LockId, Log, Op, ThreadId, VarId, Verdict};
+use itoa::Buffer;
+use rapid_text::{Kind, Names, Output, Word, WriteFault};
+
+/// Puts a label and a number.
+fn put_count<W: Output>(
+    page: &mut Page,
+    writer: &mut W,
+    label: &str,
+    number: u64,
+) -> Result<(), WriteFault>
+    ensures ok { OnOk result (Puts (W.written writer.old) page.old (W.written writer.new) page.new
+        (labelled label.now number)) }
+    ensures healthy { OnOk result (W.failed writer.new ≡ W.failed writer.old) }
+    ensures failed { OnErr result (W.failed writer.new ≡ true) }
+{
+    let mut digits = Buffer::new();
+    page.put(writer, label.as_bytes())?;
+    page.put(writer, digits.format(number).as_bytes())
+}
+
+/// Puts the line of counts.
+pub fn put_summary<W: Output>(
+    page: &mut Page,
+    writer: &mut W,
+    summary: &Summary,
+) -> Result<(), WriteFault>
+    ensures ok { OnOk result (Puts (W.written writer.old) page.old (W.written writer.new) page.new
+        (summary_line summary.now)) }
+    ensures healthy { OnOk result (W.failed writer.new ≡ W.failed writer.old) }
+    ensures failed { OnErr result (W.failed writer.new ≡ true) }
+{
+    put_count(page, writer, "events ", summary.events)?;
+    put_count(page, writer, " threads ", u64::from(summary.threads))?;
+    put_count(page, writer, " locks ", u64::from(summary.locks))?;
+    put_count(page, writer, " variables ", u64::from(summary.vars))?;
+    put_count(page, writer, " races ", summary.races)?;
+    page.put(writer, b"\n")
+}
+
+/// The word of an operation, what its argument names, and the number of that.
+fn parts_of(op: Op) -> (Word, Kind, u32)
+    ensures word { result.0 ≡ word_of_op op }
+    ensures kind { result.1 ≡ kind_of (word_of_op op) }
+    ensures number { result.2 ≡ target_of op }
+{
+    match op {
+        Op::Load(VarId(n)) => (Word::Load, Kind::Variable, n),
+        Op::Store(VarId(n)) => (Word::Store, Kind::Variable, n),
+        Op::Acquire(LockId(n)) => (Word::Acquire, Kind::Lock, n),
+        Op::Release(LockId(n)) => (Word::Release, Kind::Lock, n),
+        Op::Fork(ThreadId(n)) => (Word::Fork, Kind::Thread, n),
+        Op::Join(ThreadId(n)) => (Word::Join, Kind::Thread, n),
+    }
+}
+
+/// Puts the number of an event, counted from 1, and its line without an ending.
+fn put_event<W: Output>(
+    page: &mut Page,
+    writer: &mut W,
+    log: &Log,
+    names: &Names,
+    index: u64,
+) -> Result<(), WriteFault>
+    requires within { index < length log.now.events }
+    requires named { AreNamed names.now log.now.events }
+    ensures ok { OnOk result (Puts (W.written writer.old) page.old (W.written writer.new) page.new
+        (event_at names.now log.now.events index)) }
+    ensures healthy { OnOk result (W.failed writer.new ≡ W.failed writer.old) }
+    ensures failed { OnErr result (W.failed writer.new ≡ true) }
+{
+    let most = log.len();
+    let Some(event) = log.get(index) else {
+        return Ok(());
+    };
+    let (word, kind, number) = parts_of(event.op);
+    let mut digits = Buffer::new();
+    page.put(writer, digits.format(index + 1).as_bytes())?;
+    page.put(writer, b"|")?;
+    page.put(writer, names.name(Kind::Thread, event.thread.0))?;
+    page.put(writer, b"|")?;
+    page.put(writer, word.spelled())?;
+    page.put(writer, b"(")?;
+    page.put(writer, names.name(kind, number))?;
+    page.put(writer, b")|")?;
+    page.put(writer, names.name(Kind::Site, event.site.0))
+}
+
+/// Puts the line of an event that races with an earlier one, and nothing for any other.
+pub fn put_race<W: Output>(
+    page: &mut Page,
+    writer: &mut W,
+    log: &Log,
+    names: &Names,
+    index: u64,
+    verdict: Verdict,
+) -> Result<(), WriteFault>
+    requires within { index < length log.now.events }
+    requires earlier { (i : ℕ) → verdict ≡ Racy i → i < length log.now.events }
+    requires named { AreNamed names.now log.now.events }
+    ensures ok { OnOk result (Puts (W.written writer.old) page.old (W.written writer.new) page.new
+        (race_line names.now log.now.events index verdict)) }
+    ensures healthy { OnOk result (W.failed writer.new ≡ W.failed writer.old) }
+    ensures failed { OnErr result (W.failed writer.new ≡ true) }
+{
+    let Verdict::Racy(earlier) = verdict else {
+        return Ok(());
+    };
+    put_event(page, writer, log, names, index)?;
+    page.put(writer, b" with ")?;
+    put_event(page, writer, log, names, earlier)?;
+    page.put(writer, b"\n")
+}
