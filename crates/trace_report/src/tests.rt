@@ -1,10 +1,10 @@
 //! Reports of small traces, with the verdicts that a person found.
-ghost use Rattle.std.specs.Prelude.{◌≡◌, IsTrue, None, false};
+ghost use Rattle.std.specs.Prelude.{◌≡◌, ◌≤◌, IsTrue, None, false};
 ghost use Rattle.trace_report.specs.Reports.{AreNamed, AreWithin};
 
-use crate::{Summary, refusal_word, report};
+use crate::{ReplayFault, Replayer, Summary, refusal_word, replay, report};
 use event_core::{Limits, Log, Refusal, Roots, ThreadId, Verdict};
-use rapid_text::{Cutter, Output, WriteFailed, WriteFault};
+use rapid_text::{Cause, Cutter, Input, Output, ReadFailed, WriteFailed, WriteFault};
 use std::alloc::Global;
 use std::process::Abort;
 use std::test::Fail;
@@ -278,4 +278,137 @@ fn names_each_refusal(rt: HostRuntime) {
     ] {
         assert_eq!(rt; refusal_word(refusal), word);
     }
+}
+
+/// Gives a text in pieces of so many bytes. At its end it says so, or it fails.
+#[derive(Drop)]
+struct Pieces<'a> {
+    text: &'a [u8],
+    most: usize,
+    fails: bool,
+    failed: bool,
+}
+
+impl Input for Pieces<'_> {
+    ghost left = { λ _. None };
+
+    ghost failed = { λ p. p.failed };
+
+    fn pull(&mut self, buf: &mut [u8]) -> Result<usize, ReadFailed> {
+        let n = self.most.min(self.text.len()).min(buf.len());
+        if n == 0 && self.fails {
+            self.failed = true;
+            return Err(ReadFailed);
+        }
+        buf[..n].copy_from_slice(&self.text[..n]);
+        self.text = &self.text[n..];
+        Ok(n)
+    }
+}
+
+/// What a replay answers and writes.
+#[derive(Drop)]
+struct Replayed {
+    answer: Result<Summary, ReplayFault>,
+    output: Vec<u8>,
+}
+
+fn replay_pieces(
+    alloc: Global,
+    text: &[u8],
+    most: usize,
+    fails: bool,
+    turns: u64,
+) -> Result<Replayed, Fail>
+    requires { turns ≤ 17592186044416 }
+{
+    let limits = Limits::new(8, 8, 8, 64, Roots::Free)?;
+    let mut reader = Pieces {
+        text,
+        most,
+        fails,
+        failed: false,
+    };
+    let mut paper = Paper {
+        bytes: Vec::with_capacity(alloc, 16384)?,
+        most: usize::MAX,
+        puts: usize::MAX,
+        failed: false,
+    };
+    let answer = replay(alloc, &mut reader, &mut paper, limits, turns);
+    Ok(Replayed {
+        answer,
+        output: paper.bytes,
+    })
+}
+
+#[test]
+fn replays_a_text_however_it_is_cut(rt: HostRuntime) -> Result<(), Fail> {
+    for (text, output) in [
+        ("", "events 0 threads 0 locks 0 variables 0 races 0\n"),
+        (
+            "T0|fork(T1)|1\nT0|w(x)|2\nT1|w(x)|3\n",
+            "events 3 threads 2 locks 0 variables 1 races 1\n3|T1|w(x)|3 with 2|T0|w(x)|2\n",
+        ),
+        ("T0|w(x)|1\nT0|begin(x)|2\n", "line 2: BadOp\n"),
+        ("T0|rel(l)|1\n", "line 1: NotHolder\n"),
+        ("T0|acq(l", "line 1: FewFields\n"),
+    ] {
+        for most in [1, 2, 5, usize::MAX] {
+            let got = replay_pieces(rt.alloc(), text.as_bytes(), most, false, 4096)?;
+            assert!(rt;
+                got.output.as_slice() == output.as_bytes(),
+                "{text} by {most}"
+            );
+        }
+    }
+    Ok(())
+}
+
+/// Whole lines that came before the failure are judged first.
+#[test]
+fn judges_what_came_before_a_failure(rt: HostRuntime) -> Result<(), Fail> {
+    let got = replay_pieces(rt.alloc(), b"T0|rel(l)|1\n", usize::MAX, true, 4096)?;
+    assert!(rt; got.output.as_slice() == b"line 1: NotHolder\n".as_slice());
+    let short = replay_pieces(rt.alloc(), b"T0|w(x)|1\n", usize::MAX, true, 4096)?;
+    assert!(rt; short.output.is_empty());
+    let is_read = match short.answer {
+        Err(ReplayFault::Text(fault)) => fault.cause == Cause::Read && fault.line == 2,
+        _ => false,
+    };
+    assert!(rt; is_read, "{:?}", short.answer);
+    Ok(())
+}
+
+/// Each read takes a turn, the one that finds the end too.
+#[test]
+fn reads_no_more_often_than_the_turns(rt: HostRuntime) -> Result<(), Fail> {
+    for (turns, ends) in [(10, false), (11, true)] {
+        let got = replay_pieces(rt.alloc(), b"T0|w(x)|1\n", 1, false, turns)?;
+        assert!(rt; got.answer.is_ok() == ends, "{turns} turns");
+        assert!(rt; got.output.is_empty() != ends, "{turns} turns");
+    }
+    Ok(())
+}
+
+#[test]
+fn takes_nothing_after_a_fault(rt: HostRuntime) -> Result<(), Fail> {
+    let limits = Limits::new(8, 8, 8, 64, Roots::Free)?;
+    let mut replayer = Replayer::new(rt.alloc(), limits)?;
+    assert!(rt; replayer.feed(b"T0|w(x)|1"));
+    assert!(rt; replayer.feed(b""));
+    replayer.read_failed();
+    assert!(rt; !replayer.feed(b"\n"));
+    let mut paper = Paper {
+        bytes: Vec::with_capacity(rt.alloc(), 4096)?,
+        most: usize::MAX,
+        puts: usize::MAX,
+        failed: false,
+    };
+    let is_read = match replayer.finish(&mut paper) {
+        Err(ReplayFault::Text(fault)) => fault.cause == Cause::Read && fault.line == 1,
+        _ => false,
+    };
+    assert!(rt; is_read && paper.bytes.is_empty());
+    Ok(())
 }

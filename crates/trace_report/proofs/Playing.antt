@@ -1,0 +1,149 @@
+-- What a text comes to, line by line.
+use Rattle.std.proofs.Common.{◌≡◌, ℕ, ◌+◌, ◌≤◌, ◌<◌, List, [], ◌∷◌, ◌++◌, true, false, Option, Some, None, Ok}
+use Rattle.std.proofs.Common.{Err, length, take, drop, refl, sym, ap, ap₂, ◌∙◌, inl, inr, arith}
+use Rattle.std.proofs.Math.Seq.{drop-length}
+use Rattle.event_core.specs.declared.bounds.Limits.{Limits}
+use Rattle.event_core.specs.declared.events.Event.{Event}
+use Rattle.event_core.specs.declared.replies.Refusal.{Refusal}
+use Rattle.event_core.specs.Refusal.{refusal, event_of, WellFormed, open_acquires}
+use Rattle.event_core.proofs.Growth.{well_formed_grown}
+use Rattle.event_core.proofs.Slots.{slots}
+use Rattle.rapid_text.specs.declared.causes.Cause.{Cause}
+use Rattle.rapid_text.specs.declared.causes.Cause.TheVariants as causes
+use Rattle.rapid_text.specs.declared.causes.TextFault.{TextFault}
+use Rattle.rapid_text.specs.Texts.{Judgement, with_event, ended}
+use Rattle.rapid_text.specs.Cutting.{Cutting, judged, most, Pushes, FailsAt, Closes, ClosesAt}
+use Rattle.trace_report.specs.declared.faults.ReplayFault.TheVariants.{Text, Refused}
+use Rattle.trace_report.specs.Replayed.{call_of, ended_with, refused_or, played, finding_after}
+use Rattle.trace_report.specs.Replayed.{cause_gives_up, refusal_gives_up}
+use Rattle.trace_report.specs.Feeding.{Declines, is_read}
+
+-- ---- a judgement after a log
+
+-- the log with the event of a line
+abbrev pub with_line : List Event → Event → List Event
+with_line log e = log ++ event_of log (call_of e) ∷ []
+
+goes_on : (m : Limits) (log : List Event) (n : ℕ) (e : Event) (j : Judgement)
+    → refusal m log (call_of e) ≡ None
+    → finding_after m log (with_event n (Some e) j) ≡ finding_after m (with_line log e) j
+goes_on m log n e j a = ap (λ (o : Option Refusal). refused_or n o (finding_after m (with_line log e) j)) a
+
+is_refused : (m : Limits) (log : List Event) (n : ℕ) (e : Event) (r : Refusal) (j : Judgement)
+    → refusal m log (call_of e) ≡ Some r → finding_after m log (with_event n (Some e) j) ≡ Err (Refused n r)
+is_refused m log n e r j a = ap (λ (o : Option Refusal). refused_or n o (finding_after m
+    (with_line log e) j)) a
+
+stops_with : (m : Limits) (log : List Event) (j : Judgement) (f : TextFault) → j.events ≡ []
+    → j.fault ≡ Some (f.line, f.cause) → finding_after m log j ≡ Err (Text f)
+stops_with m log j f p q =
+    ap₂ (λ (lines : List (ℕ × Event)) (o : Option (ℕ × Cause)).
+    played m log lines (λ end. ended_with j.names end o)) p q
+
+-- ---- a push
+
+pub pushed_event : (m : Limits) (log : List Event) (s t : Cutting) (piece : List ℕ) (used : ℕ)
+    (o : Option Event)
+    (e : Event) → Pushes s t piece used o → o ≡ Some e → refusal m log (call_of e) ≡ None → (more : List ℕ)
+    → finding_after m log (judged s (piece ++ more))
+    ≡ finding_after m (with_line log e) (judged t (drop used piece ++ more))
+pushed_event m log s t piece used o e p is a more =
+    let rest : Judgement = judged t (drop used piece ++ more) in
+    ap (finding_after m log) (p.sound more ∙ ap (λ (x : Option Event). with_event t.line x rest) is)
+    ∙ goes_on m log t.line e rest a
+
+pub pushed_refused : (m : Limits) (log : List Event) (s t : Cutting) (piece : List ℕ) (used : ℕ)
+    (o : Option Event)
+    (e : Event) (r : Refusal) (line : ℕ) → Pushes s t piece used o → o ≡ Some e → Declines m log e r
+    → line ≡ t.line
+    → refusal_gives_up r ≡ false → (more : List ℕ)
+    → finding_after m log (judged s (piece ++ more)) ≡ Err (Refused line r)
+pushed_refused m log s t piece used o e r line p is (inr ran_out) at g more =
+    absurd (let bad : true ≡ false = sym (ap refusal_gives_up ran_out) ∙ g in cc)
+pushed_refused m log s t piece used o e r line p is (inl a) at g more =
+    let rest : Judgement = judged t (drop used piece ++ more) in
+    ap (finding_after m log) (p.sound more ∙ ap (λ (x : Option Event). with_event t.line x rest) is)
+    ∙ is_refused m log t.line e r rest a ∙ ap (λ (n : ℕ). Err (Refused n r)) (sym at)
+
+pub pushed_nothing : (m : Limits) (log : List Event) (s t : Cutting) (piece : List ℕ) (used : ℕ)
+    (o : Option Event)
+    → Pushes s t piece used o → o ≡ None → (more : List ℕ)
+    → finding_after m log (judged s (piece ++ more)) ≡ finding_after m log (judged t more)
+pushed_nothing m log s t piece used o p is more =
+    let none : drop used piece ≡ [] = ap (λ (n : ℕ). drop n piece) (p.all_used is) ∙ drop-length piece in
+    ap (finding_after m log) (p.sound more
+    ∙ ap₂ (λ (x : Option Event) (rest : List ℕ). with_event t.line x (judged t (rest ++ more))) is none)
+
+pub push_stops : (m : Limits) (log : List Event) (s : Cutting) (piece : List ℕ) (f : TextFault) (c : Cause)
+    → s.failed ≡ None → FailsAt s piece f c → cause_gives_up c ≡ false → (more : List ℕ)
+    → finding_after m log (judged s (piece ++ more)) ≡ Err (Text f)
+push_stops m log s piece f (causes.Line x) live h g more =
+    stops_with m log (judged s (piece ++ more)) f (h more).0 (h more).1
+push_stops m log s piece f (causes.TooManyNames k) live h g more =
+    stops_with m log (judged s (piece ++ more)) f (h more).0 (h more).1
+push_stops m log s piece f causes.OutOfMemory live h g more = absurd (cc)
+push_stops m log s piece f causes.Read live h g more = absurd (cc)
+push_stops m log s piece f causes.Failed live h g more =
+    absurd (let bad : None ≡ Some f.line = sym live ∙ h in cc)
+
+pub push_read : (s : Cutting) (piece : List ℕ) (f : TextFault) (c : Cause) → FailsAt s piece f c
+    → is_read c ≡ true → most < s.taken + length piece
+push_read s piece f (causes.Line x) h e = absurd (cc)
+push_read s piece f (causes.TooManyNames k) h e = absurd (cc)
+push_read s piece f causes.OutOfMemory h e = absurd (cc)
+push_read s piece f causes.Read h e = h.1
+push_read s piece f causes.Failed h e = absurd (cc)
+
+-- ---- the end of the text
+
+pub closed_event : (m : Limits) (log : List Event) (s t : Cutting) (o : Option Event) (e : Event)
+    → Closes s t o
+    → o ≡ Some e → refusal m log (call_of e) ≡ None
+    → finding_after m log (judged s []) ≡ Ok (record { names = t.names; log = with_line log e })
+closed_event m log s t o e p is a =
+    ap (finding_after m log) (p.sound ∙ ap (λ (x : Option Event). with_event t.line x (ended t.names)) is)
+    ∙ goes_on m log t.line e (ended t.names) a
+
+pub closed_refused : (m : Limits) (log : List Event) (s t : Cutting) (o : Option Event) (e : Event)
+    (r : Refusal)
+    (line : ℕ) → Closes s t o → o ≡ Some e → Declines m log e r → line ≡ t.line → refusal_gives_up r ≡ false
+    → finding_after m log (judged s []) ≡ Err (Refused line r)
+closed_refused m log s t o e r line p is (inr ran_out) at g =
+    absurd (let bad : true ≡ false = sym (ap refusal_gives_up ran_out) ∙ g in cc)
+closed_refused m log s t o e r line p is (inl a) at g =
+    ap (finding_after m log) (p.sound ∙ ap (λ (x : Option Event). with_event t.line x (ended t.names)) is)
+    ∙ is_refused m log t.line e r (ended t.names) a ∙ ap (λ (n : ℕ). Err (Refused n r)) (sym at)
+
+pub closed_nothing : (m : Limits) (log : List Event) (s t : Cutting) (o : Option Event) → Closes s t o
+    → o ≡ None
+    → finding_after m log (judged s []) ≡ Ok (record { names = t.names; log = log })
+closed_nothing m log s t o p is =
+    ap (finding_after m log) (p.sound ∙ ap (λ (x : Option Event). with_event t.line x (ended t.names)) is)
+
+pub close_stops : (m : Limits) (log : List Event) (s : Cutting) (f : TextFault) (c : Cause) → s.failed ≡ None
+    → ClosesAt s f c → cause_gives_up c ≡ false → finding_after m log (judged s []) ≡ Err (Text f)
+close_stops m log s f (causes.Line x) live h g = stops_with m log (judged s []) f h.0 h.1
+close_stops m log s f (causes.TooManyNames k) live h g = stops_with m log (judged s []) f h.0 h.1
+close_stops m log s f causes.OutOfMemory live h g = absurd (cc)
+close_stops m log s f causes.Read live h g = absurd (cc)
+close_stops m log s f causes.Failed live h g = absurd (let bad : None ≡ Some f.line = sym live ∙ h in cc)
+
+pub close_whole : (s : Cutting) (f : TextFault) (c : Cause) → ClosesAt s f c → is_read c ≡ false
+close_whole s f (causes.Line x) h = refl
+close_whole s f (causes.TooManyNames k) h = refl
+close_whole s f causes.OutOfMemory h = refl
+close_whole s f causes.Read h = absurd h
+close_whole s f causes.Failed h = refl
+
+-- ---- the log
+
+pub line_is_legal : (m : Limits) (log : List Event) (e : Event) → WellFormed m log
+    → refusal m log (call_of e) ≡ None → WellFormed m (with_line log e)
+line_is_legal m log e w a =
+    well_formed_grown m log (event_of log (call_of e)) w (record { call = call_of e; allowed = a; is = refl })
+
+pub within_limits : (m : Limits) (log : List Event) → WellFormed m log → length log ≤ m.events
+within_limits m log w =
+    let room : length log + open_acquires (take (length log) log) ≤ m.events = slots m log w (length log)
+    (omega arith) in
+    omega arith

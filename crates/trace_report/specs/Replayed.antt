@@ -1,0 +1,125 @@
+-- What a text comes to when it is replayed: a legal trace with its report, or the first line that is none.
+use Rattle.std.specs.Prelude.{
+  ◌≡◌,
+  ℕ,
+  List,
+  [],
+  ◌∷◌,
+  ◌++◌,
+  Bool,
+  true,
+  false,
+  Option,
+  Some,
+  None,
+  Result,
+  Ok,
+  Err,
+}
+use Rattle.std.specs.Io.KnownBytes.{Appends}
+use Rattle.event_core.specs.declared.bounds.Limits.{Limits}
+use Rattle.event_core.specs.declared.events.Call.{Call}
+use Rattle.event_core.specs.declared.events.Event.{Event}
+use Rattle.event_core.specs.declared.replies.Refusal.{Refusal}
+use Rattle.event_core.specs.declared.replies.Refusal.TheVariants as refusals
+use Rattle.event_core.specs.declared.replies.Verdict.{Verdict}
+use Rattle.event_core.specs.Refusal.{refusal, event_of}
+use Rattle.rapid_text.specs.declared.causes.Cause.{Cause}
+use Rattle.rapid_text.specs.declared.causes.Cause.TheVariants as causes
+use Rattle.rapid_text.specs.Faults.{cause_word, fault_line}
+use Rattle.rapid_text.specs.Tables.{Tables, no_names}
+use Rattle.rapid_text.specs.Texts.{Judgement, judgement}
+use Rattle.seq_monitor.specs.Monitored.{AreVerdicts}
+use Rattle.trace_report.specs.declared.faults.ReplayFault.{ReplayFault}
+use Rattle.trace_report.specs.declared.faults.ReplayFault.TheVariants.{Text, Refused, Write}
+use Rattle.trace_report.specs.declared.summary.Summary.{Summary}
+use Rattle.trace_report.specs.Reports.{report_of, summary_of}
+use Rattle.trace_report.specs.Words.{refusal_word}
+
+-- ---- what a text comes to
+
+-- the call that a line asks for; what a trace stores is 0
+abbrev pub call_of : Event → Call
+call_of e = record { thread = e.thread; op = e.op; site = e.site; arg = 0 }
+
+-- a legal trace: its log, and the names of its numbers
+pub record Trace : Type 0 where
+  pub names : Tables
+  pub log : List Event
+
+-- a fault of the text is found where no event before it is refused
+abbrev pub ended_with : Tables → List Event → Option (ℕ × Cause) → Result Trace ReplayFault
+ended_with names log None = Ok (record { names = names; log = log })
+ended_with names log (Some f) = Err (Text (record { line = f.0; cause = f.1 }))
+
+abbrev pub refused_or : ℕ → Option Refusal → Result Trace ReplayFault → Result Trace ReplayFault
+refused_or line None later = later
+refused_or line (Some r) later = Err (Refused line r)
+
+-- the calls of the lines are made one after another, from this log on; the first that is refused ends it
+abbrev pub played : Limits → List Event → List (ℕ × Event) → (List Event → Result Trace ReplayFault)
+    → Result Trace ReplayFault
+played m log [] end = end log
+played m log (p ∷ ps) end =
+    refused_or p.0 (refusal m log (call_of p.1)) (played m (log ++ event_of log (call_of p.1) ∷ []) ps end)
+
+-- what a judged text comes to after this log: its first event that is refused, else its fault, else its trace
+abbrev pub finding_after : Limits → List Event → Judgement → Result Trace ReplayFault
+finding_after m log j = played m log j.events (λ end. ended_with j.names end j.fault)
+
+-- what a whole text comes to
+unfoldable pub finding : Limits → List ℕ → Result Trace ReplayFault
+finding m text = finding_after m [] (judgement (no_names m) text)
+
+-- ---- what is written
+
+-- the text is the report of the trace, with the verdicts of weak causal precedence, and this is its summary
+pub record IsReport (t : Trace) (text : List ℕ) (s : Summary) : Type 0 where
+  pub verdicts : List Verdict
+  pub are : AreVerdicts t.log verdicts
+  pub text_is : text ≡ report_of t.names t.log verdicts
+  pub summary : s ≡ summary_of t.names t.log verdicts
+
+-- the one line that tells a fault
+abbrev pub fault_text : ReplayFault → List ℕ
+fault_text (Text f) = fault_line f.line (cause_word f.cause)
+fault_text (Refused line r) = fault_line line (refusal_word r)
+fault_text Write = []
+
+-- the answer and what was written tell the finding: the report of a legal trace, or the line of the fault
+abbrev pub Tells : Result Trace ReplayFault → Result Summary ReplayFault → List ℕ → Type 0
+Tells (Ok t) (Ok s) text = IsReport t text s
+Tells (Err f) (Err g) text = (f ≡ g) × (text ≡ fault_text g)
+Tells _ _ text = ⊥
+
+-- something was written, which tells the finding together with the answer
+pub record Told (old new : Option (List ℕ)) (found : Result Trace ReplayFault)
+    (answer : Result Summary ReplayFault) : Type 0 where
+  pub text : List ℕ
+  pub tells : Tells found answer text
+  pub written : Appends old new text
+
+-- ---- faults that say nothing of the text
+
+abbrev pub cause_gives_up : Cause → Bool
+cause_gives_up causes.Read = true
+cause_gives_up causes.OutOfMemory = true
+cause_gives_up _ = false
+
+abbrev pub refusal_gives_up : Refusal → Bool
+refusal_gives_up refusals.OutOfMemory = true
+refusal_gives_up _ = false
+
+-- a read failed or the turns are used up, a growth was refused, or a write failed
+abbrev pub gives_up : ReplayFault → Bool
+gives_up (Text f) = cause_gives_up f.cause
+gives_up (Refused line r) = refusal_gives_up r
+gives_up Write = true
+
+abbrev pub fault_gives_up : Option ReplayFault → Bool
+fault_gives_up None = false
+fault_gives_up (Some f) = gives_up f
+
+abbrev pub answer_gives_up : Result Summary ReplayFault → Bool
+answer_gives_up (Ok s) = false
+answer_gives_up (Err f) = gives_up f

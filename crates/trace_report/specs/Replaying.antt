@@ -1,0 +1,26 @@
+-- A text that is replayed in pieces: what a replayer holds, and what its text would come to.
+use Rattle.std.specs.Prelude.{ℕ, List, [], Option, Some, None, Result, Err}
+use Rattle.event_core.specs.declared.bounds.Limits.{Limits}
+use Rattle.event_core.specs.declared.events.Event.{Event}
+use Rattle.rapid_text.specs.Cutting.{Cutting, begun, judged}
+use Rattle.trace_report.specs.declared.faults.ReplayFault.{ReplayFault}
+use Rattle.trace_report.specs.Replayed.{Trace, finding_after}
+
+-- the names, the unfinished line and its number, the log, and the first fault
+pub record Replaying : Type 0 where
+  pub text : Cutting
+  pub limits : Limits
+  pub log : List Event
+  pub fault : Option ReplayFault
+
+-- before the first byte
+abbrev pub unfed : Limits → Replaying
+unfed m = record { text = begun m; limits = m; log = []; fault = None }
+
+abbrev pub fault_or : Option ReplayFault → Result Trace ReplayFault → Result Trace ReplayFault
+fault_or None later = later
+fault_or (Some f) later = Err f
+
+-- what the text comes to if these bytes follow, and then no more
+abbrev pub after : Replaying → List ℕ → Result Trace ReplayFault
+after r more = fault_or r.fault (finding_after r.limits r.log (judged r.text more))

@@ -1,0 +1,39 @@
+//! Why a text has no report.
+use crate::words::refusal_word;
+use event_core::Refusal;
+use rapid_text::{Cause, TextFault};
+
+/// Why a text has no report.
+#[derive(Clone, Copy, Debug, PartialEq, Eq)]
+pub enum ReplayFault {
+    /// A line is no event, a read failed, or the turns were used up.
+    Text(TextFault),
+    /// The event of the line is refused.
+    Refused { line: u64, refusal: Refusal },
+    /// A write failed.
+    Write,
+}
+
+impl ReplayFault {
+    ghost use Rattle.std.specs.Prelude.{◌≡◌, ◌↔◌, true, IsNone, IfSome};
+    ghost use Rattle.rapid_text.specs.Faults.{fault_line};
+    ghost use Rattle.trace_report.specs.Replayed.{gives_up, fault_text};
+
+    /// Its line and its name; none, where it says nothing of the text.
+    pub(crate) fn line_and_word(self) -> Option<(u64, &'static str)>
+        ensures none { IsNone result ↔ (gives_up self ≡ true) }
+        ensures some { IfSome result (λ told. fault_line told.0 told.1.now ≡ fault_text self) }
+    {
+        match self {
+            ReplayFault::Text(fault) => match fault.cause {
+                Cause::Read | Cause::OutOfMemory => None,
+                cause => Some((fault.line, cause.word())),
+            },
+            ReplayFault::Refused { line, refusal } => match refusal {
+                Refusal::OutOfMemory => None,
+                refusal => Some((line, refusal_word(refusal))),
+            },
+            ReplayFault::Write => None,
+        }
+    }
+}
