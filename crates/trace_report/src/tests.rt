@@ -412,3 +412,23 @@ fn takes_nothing_after_a_fault(rt: HostRuntime) -> Result<(), Fail> {
     assert!(rt; is_read && paper.bytes.is_empty());
     Ok(())
 }
+
+#[test]
+fn takes_empty_pieces_between_any_two_bytes(rt: HostRuntime) -> Result<(), Fail> {
+    let limits = Limits::new(8, 8, 8, 64, Roots::Free)?;
+    let mut replayer = Replayer::new(rt.alloc(), limits)?;
+    for byte in b"T0|w(x)|1\r\n" {
+        assert!(rt; replayer.feed(&[]));
+        assert!(rt; replayer.feed(&[*byte]));
+    }
+    let mut paper = Paper {
+        bytes: Vec::with_capacity(rt.alloc(), 4096)?,
+        most: usize::MAX,
+        puts: usize::MAX,
+        failed: false,
+    };
+    assert!(rt; replayer.finish(&mut paper).is_ok());
+    let output = b"events 1 threads 1 locks 0 variables 1 races 0\n";
+    assert!(rt; paper.bytes.as_slice() == output.as_slice());
+    Ok(())
+}
