@@ -39,6 +39,11 @@ pub record AtLeast (n : ℕ) (o : Option ℕ) : Type 0 where
   pub is : o ≡ Some index
   pub above : n ≤ index
 
+-- what brings none leaves what was found
+pub later_none : (n : Option ℕ) → later n None ≡ n
+later_none None = refl
+later_none (Some m) = refl
+
 later_left : (m : ℕ) (o : Option ℕ) → AtLeast m (later (Some m) o)
 later_left m None = record { index = m; is = refl; above = omega arith }
 later_left m (Some n) = go (nat_lt m n) refl

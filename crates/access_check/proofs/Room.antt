@@ -13,11 +13,11 @@ use Rattle.access_check.specs.TouchList.{TouchList, has_room}
 use Rattle.access_check.proofs.Narrow.{thread_kept, first_thread}
 
 -- setting an access keeps the threads
-any_set : (t : ThreadId) (k : AccessKind) (a : Access) (ps : List Touch)
-    → list_any (is_of t) (map (set_if t k a) ps) ≡ list_any (is_of t) ps
-any_set t k a [] = refl
-any_set t k a (p ∷ ps) =
-    ap₂ ◌||◌ (ap (λ (u : ThreadId). nat_eq u.0 t.0) (thread_kept t k a p)) (any_set t k a ps)
+pub any_set : (u t : ThreadId) (k : AccessKind) (a : Access) (ps : List Touch)
+    → list_any (is_of u) (map (set_if t k a) ps) ≡ list_any (is_of u) ps
+any_set u t k a [] = refl
+any_set u t k a (p ∷ ps) =
+    ap₂ ◌||◌ (ap (λ (v : ThreadId). nat_eq v.0 u.0) (thread_kept t k a p)) (any_set u t k a ps)
 
 first_is_of : (t : ThreadId) (k : AccessKind) (a : Access) → is_of t (first_touch t k a) ≡ true
 first_is_of t k a = ap (λ (u : ThreadId). nat_eq u.0 t.0) (first_thread t k a) ∙ nat_eq_same t.0
@@ -29,7 +29,7 @@ any_noted t k a ps = go (list_any (is_of t) ps) refl
   where
     go : (b : Bool) → list_any (is_of t) ps ≡ b
         → list_any (is_of t) (cond b (map (set_if t k a) ps) (ps ++ first_touch t k a ∷ [])) ≡ true
-    go true any = any_set t k a ps ∙ any
+    go true any = any_set t t k a ps ∙ any
     go false none =
         list_any-append (is_of t) ps (first_touch t k a ∷ [])
         ∙ (ap (λ (b : Bool). b || (is_of t (first_touch t k a) || false)) none

@@ -1,7 +1,7 @@
 -- The last accesses of a variable, thread by thread: what a verdict reads in them, and what an access makes
 -- of them.
 use Rattle.std.specs.Prelude.{ℕ, ◌<◌, List, [], ◌∷◌, ◌++◌, Option, Some, None, Bool, nat_eq, nat_lt, map}
-use Rattle.std.specs.Prelude.{fold, if◌then◌else◌, All}
+use Rattle.std.specs.Prelude.{fold, if◌then◌else◌, All, ◌≡◌, false}
 use Rattle.std.specs.List.{list_any}
 use Rattle.event_core.specs.declared.ids.ThreadId.{ThreadId}
 use Rattle.event_core.specs.declared.events.AccessKind.{AccessKind}
@@ -44,6 +44,11 @@ with_access Write a p = record p { store = Some a }
 
 abbrev pub set_if : ThreadId → AccessKind → Access → Touch → Touch
 set_if t k a p = if is_of t p then with_access k a p else p
+
+-- each touch is of another thread
+abbrev pub AreApart : List Touch → Type 0
+AreApart [] = Unit {0}
+AreApart (p ∷ ps) = (list_any (is_of p.thread) ps ≡ false) × AreApart ps
 
 -- a thread's first access
 abbrev pub first_touch : ThreadId → AccessKind → Access → Touch

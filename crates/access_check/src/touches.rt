@@ -1,6 +1,6 @@
 //! The last accesses of one variable, thread by thread.
 ghost use Rattle.std.specs.Prelude.{◌≡◌, ◌+◌, ◌<◌, ◌≤◌, ◌↔◌, ◌∷◌, ◌++◌, [], length, map, IsTrue, OnOk, Ok};
-ghost use Rattle.std.specs.List.{list_any};
+ghost use Rattle.std.specs.List.{list_any, position};
 ghost use Rattle.hb_clocks.specs.Counts.{counts_of};
 ghost use Rattle.access_check.specs.Touches.{is_of, set_if, first_touch, later, unordered, candidate};
 ghost use Rattle.access_check.specs.Touches.{latest, AreNarrow};
@@ -62,6 +62,25 @@ fn racing(touch: &Touch, thread: ThreadId, kind: AccessKind, clock: &Clock) -> O
     }
 }
 
+// The greater of the index that was found before and that of the touch's racing access.
+#[tactic(auto, using(crate::proofs::Judging::later_none))]
+fn with_racing(
+    found: Option<u64>,
+    touch: &Touch,
+    thread: ThreadId,
+    kind: AccessKind,
+    clock: &Clock,
+) -> Option<u64>
+    requires { touch.now.thread.0 < length clock.now }
+    ensures { result ≡ later found (candidate thread kind (counts_of clock.now) touch.now) }
+{
+    // Mostly none races.
+    match racing(touch, thread, kind, clock) {
+        None => found,
+        index => greater(found, index),
+    }
+}
+
 // The latest racing access of all.
 pub fn latest_racing(
     touches: &[Touch],
@@ -74,7 +93,7 @@ pub fn latest_racing(
 {
     let mut found = None;
     for touch in touches {
-        found = greater(found, racing(touch, thread, kind, clock));
+        found = with_racing(found, touch, thread, kind, clock);
     }
     found
 }
@@ -120,13 +139,11 @@ impl Touch {
     }
 }
 
-// Sets the thread's last access of that kind, where the thread is there.
-fn set_last(touches: &mut [Touch], thread: ThreadId, kind: AccessKind, access: Access)
-    ensures { touches.new ≡ map (set_if thread kind access) touches.old }
+// Where the thread's touch stands, if there is one.
+fn find(touches: &[Touch], thread: ThreadId) -> Option<usize>
+    ensures { result ≡ position (is_of thread) touches.now }
 {
-    for touch in touches.iter_mut() {
-        *touch = touch.with(thread, kind, access);
-    }
+    touches.iter().position(|touch| touch.thread == thread)
 }
 
 /// The threads that touched a variable. Contracts see them, and for how many more there is room.
@@ -137,11 +154,14 @@ pub struct Touches {
 
 impl Model for Touches {
     ghost use Rattle.std.specs.Prelude.{◌-◌, vec_len, vec_capacity};
+    ghost use Rattle.access_check.specs.Touches.{AreApart};
     ghost use Rattle.access_check.specs.TouchList.{TouchList};
 
     ghost Value = { TouchList };
 
     ghost view = { λ t. record { items = t.list.items; room = vec_capacity t.list - vec_len t.list } };
+
+    ghost invariant = { λ t. AreApart t.list.items };
 }
 
 impl Touches {
@@ -185,7 +205,7 @@ impl Touches {
     pub fn is_ready(&self, thread: ThreadId) -> bool
         ensures { result ≡ has_room thread self.now }
     {
-        self.has(thread) || self.list.len() < self.list.capacity()
+        self.list.len() < self.list.capacity() || self.has(thread)
     }
 
     /// The thread's last access of that kind. There is room for its next one.
@@ -201,10 +221,9 @@ impl Touches {
         requires { IsTrue (has_room thread self.old) }
         ensures { self.new.items ≡ noted thread kind access self.old.items }
     {
-        if self.has(thread) {
-            set_last(&mut self.list, thread, kind, access);
-        } else {
-            self.list.push_reserved(Touch::first(thread, kind, access));
+        match find(&self.list, thread) {
+            Some(at) => self.list[at] = self.list[at].with(thread, kind, access),
+            None => self.list.push_reserved(Touch::first(thread, kind, access)),
         }
     }
 

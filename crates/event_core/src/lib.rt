@@ -9,8 +9,6 @@ pub mod laws;
 mod logs;
 mod replies;
 mod steps;
-#[cfg(test)]
-mod tests;
 
 pub use bounds::{LimitFault, Limits, MOST_EVENTS, MOST_LOCKS, MOST_THREADS, MOST_VARS, Roots};
 pub use events::{AccessKind, Act, Call, Event, Op};

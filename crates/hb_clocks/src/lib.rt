@@ -9,8 +9,6 @@ pub mod laws;
 mod mark;
 pub mod rows;
 mod step;
-#[cfg(test)]
-mod tests;
 mod work;
 
 pub use clock::Clock;

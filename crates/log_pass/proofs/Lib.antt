@@ -3,4 +3,3 @@ pub mod Totals
 pub mod Agreeing
 pub mod TableSteps
 pub mod Seats
-pub mod QuietLogs

@@ -18,6 +18,3 @@ pub use keeper::Keeper;
 pub use name::Name;
 pub use pass::Pass;
 pub use published::Published;
-
-#[cfg(test)]
-mod tests;

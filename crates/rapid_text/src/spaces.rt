@@ -22,14 +22,27 @@ fn is_at(keys: &[Vec<u8>], number: usize, name: &[u8]) -> bool
     keys[number].as_slice() == name
 }
 
+/// One byte made of the last two, in which the names of a text mostly differ.
+fn ending(name: &[u8]) -> u8 {
+    let len = name.len();
+    if len == 0 {
+        return 0;
+    }
+    if len == 1 {
+        return name[0];
+    }
+    name[len - 2].wrapping_mul(16) ^ name[len - 1]
+}
+
 /// The names of one kind.
 #[derive(Drop)]
 pub struct Space {
     keys: IndexSet<Vec<u8>>,
     alloc: Global,
     limit: u32,
-    /// The number that was answered last. The next line is mostly of the same thread.
-    latest: usize,
+    /// By the ending of a name, the number that was answered last. The next lines mostly have the same names,
+    /// and to compare one name is cheaper than to search by a hash.
+    latest: [u32; 256],
 }
 
 impl Model for Space {
@@ -48,7 +61,7 @@ impl Space {
             keys: IndexSet::new(alloc),
             alloc,
             limit,
-            latest: 0,
+            latest: [0; 256],
         }
     }
 
@@ -67,11 +80,13 @@ impl Space {
         ensures too_many { IsErrOf result NameFault.TooMany → number_of self.old name.now ≡ None }
         ensures err { OnErr result (self.new ≡ self.old) }
     {
-        if is_at(self.keys.as_slice(), self.latest, name) {
-            return Ok(self.latest as u32);
+        let ending = ending(name) as usize;
+        let latest = self.latest[ending];
+        if is_at(self.keys.as_slice(), latest as usize, name) {
+            return Ok(latest);
         }
         if let Some(i) = self.keys.get_index_of(name) {
-            self.latest = i;
+            self.latest[ending] = i as u32;
             return Ok(i as u32);
         }
         let count = self.keys.len();
@@ -84,7 +99,7 @@ impl Space {
         let Ok(_) = self.keys.insert(key) else {
             return Err(NameFault::OutOfMemory);
         };
-        self.latest = count;
+        self.latest[ending] = count as u32;
         Ok(count as u32)
     }
 

@@ -1,11 +1,21 @@
-//! Texts in pieces with the events that they have, and inputs and outputs that fail.
+//! Worked cases: texts, each with what a reader answers, and inputs and outputs that fail.
 //!
-//! What a text comes to is asked again where a growth was refused, so that these answers are the same where
-//! one allocation is refused.
+//! What met a refused growth is asked again, so the answers are the same where one allocation is refused.
+/// The value, which is asked for again where a growth was refused.
+macro_rules! again {
+    ($rt:expr; $call:expr) => {
+        match $call {
+            Ok(value) => value,
+            Err(OutOfMemory) => $call.expect($rt, "memory"),
+        }
+    };
+}
+
 mod cutters;
 mod devices;
 mod doubles;
 mod faults;
 mod names;
 mod texts;
+mod told;
 mod written;

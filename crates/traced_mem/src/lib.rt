@@ -9,7 +9,5 @@ mod growth;
 mod memory;
 mod rows;
 mod step;
-#[cfg(test)]
-mod tests;
 
 pub use memory::Memory;

@@ -1,16 +1,18 @@
 mod Accessing
-mod Conditions
+pub mod Conditions
 pub mod Growth
-mod HeldLocks
+pub mod HeldLocks
 mod Kept
 mod Latest
 mod Lists
-mod Named
+pub mod Named
 mod OwnClocks
 mod Passing
+pub mod Replaying
 mod Rows
-mod Standing
+pub mod Standing
 mod Stepped
 mod Taking
 mod TurnWords
-mod WorkLaws
+pub mod WorkLaws
+pub mod WorkedLogs

@@ -5,3 +5,4 @@ pub mod StandsFor
 pub mod Stepping
 pub mod StrictRows
 pub mod WorkWithin
+pub mod WorkedLogs

@@ -4,3 +4,6 @@ pub mod Found
 pub mod Progress
 pub mod Reading
 pub mod Shortage
+pub mod Asking
+pub mod Hindrance
+pub mod Obeying

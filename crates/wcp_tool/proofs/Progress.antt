@@ -9,7 +9,8 @@ use Rattle.rapid_text.specs.declared.causes.TextFault.{TextFault}
 use Rattle.rapid_text.specs.Tables.{Tables}
 use Rattle.rapid_text.specs.Texts.{Judgement, with_event, ended}
 use Rattle.wcp_tool.specs.declared.answers.CheckFault.TheVariants.{Text, Refused}
-use Rattle.wcp_tool.specs.Refused.{log_of, call_of, StoreNothing}
+use Rattle.trace_report.specs.Replayed.{call_of}
+use Rattle.wcp_tool.specs.Refused.{log_of, StoreNothing}
 use Rattle.wcp_tool.specs.Checked.{finding_in, counts_of}
 use Rattle.wcp_tool.proofs.Refused.{event_is}
 use Rattle.wcp_tool.proofs.Found.{found_legal, found_fault, found_refused}

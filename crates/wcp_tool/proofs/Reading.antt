@@ -20,8 +20,9 @@ use Rattle.traced_mem.specs.OfLog.{StandsFor}
 use Rattle.wcp_tool.specs.declared.answers.Counts.{Counts}
 use Rattle.wcp_tool.specs.declared.answers.CheckFault.{CheckFault}
 use Rattle.wcp_tool.specs.declared.answers.CheckFault.TheVariants.{Text, Refused}
-use Rattle.wcp_tool.specs.Refused.{log_of, call_of, StoreNothing}
-use Rattle.wcp_tool.specs.Checked.{finding, finding_in, counts_of, cause_gives_up, refusal_gives_up}
+use Rattle.trace_report.specs.Replayed.{call_of, cause_gives_up, refusal_gives_up}
+use Rattle.wcp_tool.specs.Refused.{log_of, StoreNothing}
+use Rattle.wcp_tool.specs.Checked.{finding, finding_in, counts_of}
 use Rattle.wcp_tool.proofs.Values.{judged_nothing}
 use Rattle.wcp_tool.proofs.Progress.{Progress, begins, goes_on, comes_to_end, is_refused, has_fault}
 

@@ -12,7 +12,8 @@ use Rattle.event_core.specs.declared.replies.Refusal.{Refusal}
 use Rattle.event_core.specs.Refusal.{refusal, WellFormed, Legal, event_of, value_of, last_value}
 use Rattle.event_core.specs.Refusal.{last_value_from, op_stores}
 use Rattle.event_core.proofs.Growth.{well_formed_grown, well_formed_front, well_formed_last}
-use Rattle.wcp_tool.specs.Refused.{log_of, call_of, numbered_or, refused_after, first_refused}
+use Rattle.trace_report.specs.Replayed.{call_of}
+use Rattle.wcp_tool.specs.Refused.{log_of, numbered_or, refused_after, first_refused}
 use Rattle.wcp_tool.specs.Refused.{IsFirstRefused, StoreNothing}
 
 -- a log that stores nothing but 0 has the value 0 everywhere

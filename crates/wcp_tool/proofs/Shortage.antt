@@ -6,7 +6,7 @@ use Rattle.rapid_text.specs.declared.causes.Cause.TheVariants as causes
 use Rattle.rapid_text.specs.declared.causes.TextFault.{TextFault}
 use Rattle.rapid_text.specs.Pulling.{Pulling, NoAnswer}
 use Rattle.rapid_text.specs.Turns.{TakeBytes}
-use Rattle.wcp_tool.specs.Checked.{is_read}
+use Rattle.trace_report.specs.Feeding.{is_read}
 
 -- turns after turns
 pub takes_all : (a b c : ℕ) (l m n : Option (List ℕ)) → TakeBytes a l b m → TakeBytes b m c n

@@ -3,10 +3,8 @@ use Rattle.std.specs.Prelude.{◌≡◌, ℕ, List, [], Bool, true, false, Optio
 use Rattle.std.specs.Prelude.{Ok, Err, length}
 use Rattle.event_core.specs.declared.bounds.Limits.{Limits}
 use Rattle.event_core.specs.declared.replies.Refusal.{Refusal}
-use Rattle.event_core.specs.declared.replies.Refusal.TheVariants.{OutOfMemory}
 use Rattle.event_core.specs.Refusal.{WellFormed}
 use Rattle.rapid_text.specs.declared.causes.Cause.{Cause}
-use Rattle.rapid_text.specs.declared.causes.Cause.TheVariants as causes
 use Rattle.rapid_text.specs.declared.causes.TextFault.{TextFault}
 use Rattle.rapid_text.specs.Tables.{Tables, no_names}
 use Rattle.rapid_text.specs.Texts.{Judgement, judgement}
@@ -15,7 +13,10 @@ use Rattle.wcp_tool.specs.declared.answers.Counts.{Counts}
 use Rattle.wcp_tool.specs.declared.answers.CheckFault.{CheckFault}
 use Rattle.wcp_tool.specs.declared.answers.CheckFault.TheVariants.{Text, Refused, Write}
 use Rattle.wcp_tool.specs.Refused.{first_refused, log_of}
-use Rattle.wcp_tool.specs.Printed.{counts_line, refusal_word}
+use Rattle.trace_report.specs.Feeding.{is_read}
+use Rattle.trace_report.specs.Replayed.{cause_gives_up, refusal_gives_up}
+use Rattle.trace_report.specs.Words.{refusal_word}
+use Rattle.wcp_tool.specs.Printed.{counts_line}
 
 -- how many names there are of each kind, and so many events
 abbrev pub counts_of : ℕ → Tables → Counts
@@ -58,26 +59,12 @@ pub record IsFirstFault (m : Limits) (j : Judgement) (f : TextFault) : Type 0 wh
 
 -- ---- what a check answers and prints
 
--- the text was not read to its end, or a growth was refused
-abbrev pub cause_gives_up : Cause → Bool
-cause_gives_up causes.Read = true
-cause_gives_up causes.OutOfMemory = true
-cause_gives_up _ = false
-
-abbrev pub refusal_gives_up : Refusal → Bool
-refusal_gives_up OutOfMemory = true
-refusal_gives_up _ = false
-
--- the answer says nothing of the text
+-- the answer says nothing of the text: it was not read to its end, a growth was refused, or a write failed
 abbrev pub gives_up : Result Counts CheckFault → Bool
 gives_up (Ok counts) = false
 gives_up (Err (Text f)) = cause_gives_up f.cause
 gives_up (Err (Refused line r)) = refusal_gives_up r
 gives_up (Err Write) = true
-
-abbrev pub is_read : Cause → Bool
-is_read causes.Read = true
-is_read _ = false
 
 -- the text was not read to its end
 abbrev pub is_short : Result Counts CheckFault → Bool

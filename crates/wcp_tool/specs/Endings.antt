@@ -1,5 +1,5 @@
 -- How the program ends.
-use Rattle.std.specs.Prelude.{ℕ, Result, Ok, Err}
+use Rattle.std.specs.Prelude.{ℕ, Result, Ok, Err, cond, nat_eq}
 use Rattle.event_core.specs.declared.replies.Refusal.{Refusal}
 use Rattle.event_core.specs.declared.replies.Refusal.TheVariants as refusals
 use Rattle.rapid_text.specs.declared.causes.Cause.{Cause}
@@ -8,12 +8,16 @@ use Rattle.wcp_tool.specs.declared.answers.Counts.{Counts}
 use Rattle.wcp_tool.specs.declared.answers.CheckFault.{CheckFault}
 use Rattle.wcp_tool.specs.declared.answers.CheckFault.TheVariants as faults
 use Rattle.wcp_tool.specs.declared.endings.Ending.{Ending}
-use Rattle.wcp_tool.specs.declared.endings.Ending.TheVariants.{Done, WrongUsage, Refused, ReadFault}
+use Rattle.trace_report.specs.declared.faults.ReplayFault.{ReplayFault}
+use Rattle.trace_report.specs.declared.faults.ReplayFault.TheVariants as replays
+use Rattle.trace_report.specs.declared.summary.Summary.{Summary}
+use Rattle.wcp_tool.specs.declared.endings.Ending.TheVariants.{Done, Races, WrongUsage, Refused, ReadFault}
 use Rattle.wcp_tool.specs.declared.endings.Ending.TheVariants.{WriteFault, OutOfMemory}
 
 -- the exit status
 abbrev pub status_of : Ending → ℕ
 status_of Done = 0
+status_of Races = 1
 status_of WrongUsage = 2
 status_of Refused = 3
 status_of ReadFault = 4
@@ -35,3 +39,10 @@ ending_for (Ok counts) = Done
 ending_for (Err (faults.Text f)) = cause_ending f.cause
 ending_for (Err (faults.Refused line r)) = refusal_ending r
 ending_for (Err faults.Write) = WriteFault
+
+-- how a replay with this answer ends
+abbrev pub replay_ending : Result Summary ReplayFault → Ending
+replay_ending (Ok summary) = cond (nat_eq summary.races 0) Done Races
+replay_ending (Err (replays.Text f)) = cause_ending f.cause
+replay_ending (Err (replays.Refused line r)) = refusal_ending r
+replay_ending (Err replays.Write) = WriteFault

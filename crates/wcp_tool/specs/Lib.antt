@@ -2,3 +2,5 @@ pub mod Printed
 pub mod Refused
 pub mod Checked
 pub mod Endings
+pub mod CommandLine
+pub mod Running

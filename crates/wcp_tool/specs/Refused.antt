@@ -3,17 +3,13 @@ use Rattle.std.specs.Prelude.{◌≡◌, ℕ, List, [], ◌∷◌, ◌++◌, Opt
 use Rattle.std.proofs.Math.ListN.{take}
 use Rattle.event_core.specs.declared.bounds.Limits.{Limits}
 use Rattle.event_core.specs.declared.events.Event.{Event}
-use Rattle.event_core.specs.declared.events.Call.{Call}
 use Rattle.event_core.specs.declared.replies.Refusal.{Refusal}
 use Rattle.event_core.specs.Refusal.{refusal, WellFormed}
+use Rattle.trace_report.specs.Replayed.{call_of}
 
 -- the events of numbered lines
 abbrev pub log_of : List (ℕ × Event) → List Event
 log_of lines = map (λ p. p.1) lines
-
--- the call that a line asks for; what a trace stores is 0
-abbrev pub call_of : Event → Call
-call_of e = record { thread = e.thread; op = e.op; site = e.site; arg = 0 }
 
 abbrev pub numbered_or : ℕ → Option Refusal → Option (ℕ × Refusal) → Option (ℕ × Refusal)
 numbered_or n None later = later

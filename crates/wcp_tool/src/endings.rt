@@ -1,16 +1,20 @@
 //! How the program ends: its exit status, and what standard error says of it.
 ghost use Rattle.std.specs.Prelude.{◌≡◌};
 ghost use Rattle.wcp_tool.specs.Endings.{status_of, ending_for, cause_ending as for_cause};
+ghost use Rattle.wcp_tool.specs.Endings.{refusal_ending as for_refusal, replay_ending};
 
 use crate::answers::{CheckFault, Counts};
 use event_core::Refusal;
 use rapid_text::Cause;
+use trace_report::{ReplayFault, Summary};
 
 /// How the program ends.
 #[derive(Clone, Copy, Debug, PartialEq, Eq)]
 pub(crate) enum Ending {
     /// What was asked for stands on standard output.
     Done,
+    /// A race was found, and the report stands on standard output.
+    Races,
     /// The command line is wrong.
     WrongUsage,
     /// A line of the trace is refused.
@@ -30,6 +34,7 @@ impl Ending {
     {
         match self {
             Ending::Done => 0,
+            Ending::Races => 1,
             Ending::WrongUsage => 2,
             Ending::Refused => 3,
             Ending::ReadFault | Ending::WriteFault => 4,
@@ -40,7 +45,7 @@ impl Ending {
     /// What standard error says of it.
     pub(crate) fn message(self) -> &'static str {
         match self {
-            Ending::Done | Ending::WrongUsage | Ending::Refused => "",
+            Ending::Done | Ending::Races | Ending::WrongUsage | Ending::Refused => "",
             Ending::ReadFault => "read fault\n",
             Ending::WriteFault => "write fault\n",
             Ending::OutOfMemory => "out of memory\n",
@@ -58,6 +63,16 @@ fn cause_ending(cause: Cause) -> Ending
     }
 }
 
+fn refusal_ending(refusal: Refusal) -> Ending
+    ensures { result ≡ for_refusal refusal }
+{
+    if refusal == Refusal::OutOfMemory {
+        Ending::OutOfMemory
+    } else {
+        Ending::Refused
+    }
+}
+
 /// How a check with this answer ends.
 pub(crate) fn ending_of(answer: &Result<Counts, CheckFault>) -> Ending
     ensures { result ≡ ending_for answer.now }
@@ -65,13 +80,25 @@ pub(crate) fn ending_of(answer: &Result<Counts, CheckFault>) -> Ending
     match answer {
         Ok(_) => Ending::Done,
         Err(CheckFault::Text(fault)) => cause_ending(fault.cause),
-        Err(CheckFault::Refused { refusal, .. }) => {
-            if *refusal == Refusal::OutOfMemory {
-                Ending::OutOfMemory
+        Err(CheckFault::Refused { refusal, .. }) => refusal_ending(*refusal),
+        Err(CheckFault::Write) => Ending::WriteFault,
+    }
+}
+
+/// How a replay with this answer ends.
+pub(crate) fn ending_of_replay(answer: &Result<Summary, ReplayFault>) -> Ending
+    ensures { result ≡ replay_ending answer.now }
+{
+    match answer {
+        Ok(summary) => {
+            if summary.races == 0 {
+                Ending::Done
             } else {
-                Ending::Refused
+                Ending::Races
             }
         }
-        Err(CheckFault::Write) => Ending::WriteFault,
+        Err(ReplayFault::Text(fault)) => cause_ending(fault.cause),
+        Err(ReplayFault::Refused { refusal, .. }) => refusal_ending(*refusal),
+        Err(ReplayFault::Write) => Ending::WriteFault,
     }
 }

@@ -5,7 +5,7 @@ ghost use Rattle.std.specs.Prelude.{true, false, length, OnOk, IfErr, IfSome};
 ghost use Rattle.event_core.specs.declared.events.Event.{Event as Entry};
 ghost use Rattle.event_core.specs.Refusal.{refusal, event_of};
 ghost use Rattle.traced_mem.specs.OfLog.{StandsFor};
-ghost use Rattle.wcp_tool.specs.Refused.{call_of};
+ghost use Rattle.trace_report.specs.Replayed.{call_of};
 ghost use Rattle.rapid_text.specs.Pulling.{to_judge};
 ghost use Rattle.rapid_text.specs.Turns.{TakeBytes};
 ghost use Rattle.wcp_tool.specs.Checked.{finding, finding_in, gives_up, is_short, counts_of};

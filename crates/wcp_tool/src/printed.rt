@@ -2,15 +2,18 @@
 ghost use Rattle.std.specs.Prelude.{◌≡◌, ◌+◌, ◌≤◌, ◌↔◌, ◌++◌, true, length, IfSome, IsNone};
 ghost use Rattle.arrayvec.specs.ArrayString.{array_string_len};
 ghost use Rattle.rapid_text.specs.Faults.{cause_word as word_of_cause, fault_line as line_of_fault};
-ghost use Rattle.wcp_tool.specs.Printed.{counts_line as line_of_counts, labelled};
-ghost use Rattle.wcp_tool.specs.Printed.{refusal_word as word_of_refusal};
-ghost use Rattle.wcp_tool.specs.Checked.{told, gives_up, cause_gives_up, refusal_gives_up};
+ghost use Rattle.trace_report.specs.Replayed.{cause_gives_up, refusal_gives_up};
+ghost use Rattle.trace_report.specs.Reports.{labelled};
+ghost use Rattle.trace_report.specs.Words.{refusal_word as word_of_refusal};
+ghost use Rattle.wcp_tool.specs.Printed.{counts_line as line_of_counts};
+ghost use Rattle.wcp_tool.specs.Checked.{told, gives_up};
 
 use crate::answers::{CheckFault, Counts};
 use arrayvec::ArrayString;
 use event_core::Refusal;
 use itoa::Buffer;
 use rapid_text::Cause;
+use trace_report::refusal_word;
 
 /// Room for a line. The longest one tells counts: 35 bytes of words, and four numbers of at most 20 digits.
 const ROOM: usize = 115;
@@ -65,23 +68,14 @@ fn cause_word(cause: Cause) -> Option<&'static str>
 }
 
 /// The name of a refusal; none, where it is for want of memory.
-fn refusal_word(refusal: Refusal) -> Option<&'static str>
+fn word_of(refusal: Refusal) -> Option<&'static str>
     ensures none { IsNone result ↔ (refusal_gives_up refusal ≡ true) }
     ensures some { IfSome result (λ word. word.now ≡ word_of_refusal refusal) }
     ensures short { IfSome result (λ word. length word.now ≤ 80) }
 {
     match refusal {
-        Refusal::ThreadRange => Some("ThreadRange"),
-        Refusal::NotStarted => Some("NotStarted"),
-        Refusal::Ended => Some("Ended"),
-        Refusal::TargetRange => Some("TargetRange"),
-        Refusal::Held { .. } => Some("Held"),
-        Refusal::NotHolder => Some("NotHolder"),
-        Refusal::SelfTarget => Some("SelfTarget"),
-        Refusal::AlreadyStarted => Some("AlreadyStarted"),
-        Refusal::TargetNotStarted => Some("TargetNotStarted"),
-        Refusal::LogFull => Some("LogFull"),
         Refusal::OutOfMemory => None,
+        refusal => Some(refusal_word(refusal)),
     }
 }
 
@@ -97,7 +91,7 @@ pub(crate) fn line_of(answer: &Result<Counts, CheckFault>) -> Option<ArrayString
             Some(fault_line(fault.line, word))
         }
         Err(CheckFault::Refused { line, refusal }) => {
-            let word = refusal_word(*refusal)?;
+            let word = word_of(*refusal)?;
             Some(fault_line(*line, word))
         }
         Err(CheckFault::Write) => None,

@@ -4,8 +4,10 @@ use thiserror::Error;
 /// What the program is to do.
 #[derive(Clone, Copy, Debug, PartialEq, Eq)]
 pub enum Command {
-    /// Judge the trace on standard input.
+    /// Say whether the trace on standard input is legal.
     Check,
+    /// Report the races of the trace on standard input.
+    Replay,
 }
 
 /// What the words of a command line ask for.

@@ -1,9 +1,13 @@
 //! The program over its words, a reader, and writers for standard output and standard error.
-ghost use Rattle.std.specs.Prelude.{◌≡◌, ◌≤◌, false};
+ghost use Rattle.std.specs.Prelude.{◌≡◌, ◌≢◌, ◌⊎◌, ℕ, List, ◌≤◌, Option, IfErr, IfSome, true, false, length};
+ghost use Rattle.std.specs.Prelude.{map};
+ghost use Rattle.clap.specs.Words.{Text};
+ghost use Rattle.wcp_tool.specs.Endings.{status_of};
+ghost use Rattle.wcp_tool.specs.Running.{Checks, Replays, Performs, Runs, EndsAs, is_help, limits_with};
 
 use crate::checking::check;
 use crate::command_line::settings;
-use crate::endings::{Ending, ending_of};
+use crate::endings::{Ending, ending_of, ending_of_replay};
 use crate::requests::{Command, Settings, UsageFault};
 use event_core::{Limits, MOST_EVENTS, MOST_LOCKS, MOST_VARS, Roots};
 use rapid_text::{Input, Output, write_all};
@@ -12,10 +16,66 @@ use std::convert::AsStr;
 use std::env;
 use std::env::Env;
 use std::io::ErrorKind;
+use trace_report::replay;
 
 /// The most reads that a text may take. A piece has at most 4,096 bytes, so that what they give has at most
 /// 2 to the 56th, and no number of a line overflows.
 const TURNS: u64 = 17592186044416;
+
+fn run_check<I: Input, O: Output>(
+    alloc: Global,
+    limits: Limits,
+    reader: &mut I,
+    writer: &mut O,
+) -> Ending
+    requires reads { I.failed reader.old ≡ false }
+    requires writes { O.failed writer.old ≡ false }
+    ensures performs { result ≢ Ending.ReadFault → result ≢ Ending.WriteFault → result ≢ Ending.OutOfMemory
+        → IfSome (I.left reader.old) (λ text. Checks limits text (O.written writer.old)
+        (O.written writer.new) (status_of result)) }
+    ensures usage { result ≢ Ending.WrongUsage }
+    ensures quiet { (result ≡ Ending.ReadFault) ⊎ (result ≡ Ending.OutOfMemory) → writer.new ≡ writer.old }
+    ensures short { result ≡ Ending.ReadFault → (I.failed reader.new ≡ true)
+        ⊎ IfSome (I.left reader.old) (λ text. 17592186044416 ≤ length text) }
+    ensures read { result ≡ Ending.Done → I.failed reader.new ≡ false }
+    ensures write_fault { result ≡ Ending.WriteFault → O.failed writer.new ≡ true }
+    ensures written { result ≢ Ending.WriteFault → O.failed writer.new ≡ false }
+{
+    let answer = check(alloc, reader, writer, limits, TURNS);
+    ending_of(&answer)
+}
+
+fn run_replay<I: Input, O: Output>(
+    alloc: Global,
+    limits: Limits,
+    reader: &mut I,
+    writer: &mut O,
+) -> Ending
+    requires reads { I.failed reader.old ≡ false }
+    requires writes { O.failed writer.old ≡ false }
+    ensures performs { result ≢ Ending.ReadFault → result ≢ Ending.WriteFault → result ≢ Ending.OutOfMemory
+        → IfSome (I.left reader.old) (λ text. Replays limits text (O.written writer.old)
+        (O.written writer.new) (status_of result)) }
+    ensures usage { result ≢ Ending.WrongUsage }
+    ensures quiet { (result ≡ Ending.ReadFault) ⊎ (result ≡ Ending.OutOfMemory) → writer.new ≡ writer.old }
+    ensures short { result ≡ Ending.ReadFault → (I.failed reader.new ≡ true)
+        ⊎ IfSome (I.left reader.old) (λ text. 17592186044416 ≤ length text) }
+    ensures read { (result ≡ Ending.Done) ⊎ (result ≡ Ending.Races) → I.failed reader.new ≡ false }
+    ensures write_fault { result ≡ Ending.WriteFault → O.failed writer.new ≡ true }
+    ensures written { result ≢ Ending.WriteFault → O.failed writer.new ≡ false }
+{
+    let answer = replay(alloc, reader, writer, limits, TURNS);
+    ending_of_replay(&answer)
+}
+
+/// The limits of a run with so many threads.
+fn limits_of(threads: u32) -> Limits
+    requires least { 1 ≤ threads }
+    requires most { threads ≤ 1024 }
+    ensures { result ≡ limits_with threads }
+{
+    Limits::new(threads, MOST_LOCKS, MOST_VARS, MOST_EVENTS, Roots::Free).unwrap()
+}
 
 /// Does what the settings ask for.
 fn run<I: Input, O: Output>(
@@ -28,29 +88,31 @@ fn run<I: Input, O: Output>(
     requires most { settings.now.threads ≤ 1024 }
     requires reads { I.failed reader.old ≡ false }
     requires writes { O.failed writer.old ≡ false }
+    ensures performs { result ≢ Ending.ReadFault → result ≢ Ending.WriteFault → result ≢ Ending.OutOfMemory
+        → IfSome (I.left reader.old) (λ text. Performs settings.now.command (limits_with settings.now.threads)
+        text (O.written writer.old) (O.written writer.new) (status_of result)) }
+    ensures usage { result ≢ Ending.WrongUsage }
+    ensures quiet { (result ≡ Ending.ReadFault) ⊎ (result ≡ Ending.OutOfMemory) → writer.new ≡ writer.old }
+    ensures short { result ≡ Ending.ReadFault → (I.failed reader.new ≡ true)
+        ⊎ IfSome (I.left reader.old) (λ text. 17592186044416 ≤ length text) }
     ensures read { result ≡ Ending.Done → I.failed reader.new ≡ false }
-    ensures written { result ≡ Ending.Done → O.failed writer.new ≡ false }
+    ensures write_fault { result ≡ Ending.WriteFault → O.failed writer.new ≡ true }
+    ensures written { result ≢ Ending.WriteFault → O.failed writer.new ≡ false }
 {
-    let limits = Limits::new(
-        settings.threads,
-        MOST_LOCKS,
-        MOST_VARS,
-        MOST_EVENTS,
-        Roots::Free,
-    )
-    .unwrap();
+    let limits = limits_of(settings.threads);
     match settings.command {
-        Command::Check => {
-            let answer = check(alloc, reader, writer, limits, TURNS);
-            ending_of(&answer)
-        }
+        Command::Check => run_check(alloc, limits, reader, writer),
+        Command::Replay => run_replay(alloc, limits, reader, writer),
     }
 }
 
 /// Answers words that ask for no run: with help on standard output, or with what is wrong on standard error.
 fn explain<O: Output, E: Output>(fault: &UsageFault, writer: &mut O, errors: &mut E) -> Ending
     requires { O.failed writer.old ≡ false }
-    ensures { result ≡ Ending.Done → O.failed writer.new ≡ false }
+    ensures ends { EndsAs fault.now result }
+    ensures quiet { (result ≡ Ending.WrongUsage) ⊎ (result ≡ Ending.OutOfMemory) → writer.new ≡ writer.old }
+    ensures write_fault { result ≡ Ending.WriteFault → O.failed writer.new ≡ true }
+    ensures written { result ≢ Ending.WriteFault → O.failed writer.new ≡ false }
 {
     match fault {
         UsageFault::Help(text) => match write_all(writer, text.as_str().as_bytes()) {
@@ -65,7 +127,34 @@ fn explain<O: Output, E: Output>(fault: &UsageFault, writer: &mut O, errors: &mu
     }
 }
 
+/// Does what the words ask for.
+fn obey<S: AsStr, I: Input, O: Output, E: Output>(
+    alloc: Global,
+    words: &[S],
+    reader: &mut I,
+    writer: &mut O,
+    errors: &mut E,
+) -> Ending
+    requires reads { I.failed reader.old ≡ false }
+    requires writes { O.failed writer.old ≡ false }
+    ensures runs { Runs (map S.text words.now) (I.left reader.old) (O.written writer.old)
+        (O.written writer.new) (status_of result) }
+    ensures quiet { (result ≡ Ending.WrongUsage) ⊎ (result ≡ Ending.OutOfMemory) → writer.new ≡ writer.old }
+    ensures short { result ≡ Ending.ReadFault → (writer.new ≡ writer.old) × ((I.failed reader.new ≡ true)
+        ⊎ IfSome (I.left reader.old) (λ text. 17592186044416 ≤ length text)) }
+    ensures read { result ≡ Ending.Done → I.failed reader.new ≡ false }
+    ensures write_fault { result ≡ Ending.WriteFault → O.failed writer.new ≡ true }
+    ensures written { result ≢ Ending.WriteFault → O.failed writer.new ≡ false }
+{
+    match settings(alloc, words) {
+        Ok(settings) => run(alloc, &settings, reader, writer),
+        Err(fault) => explain(&fault, writer, errors),
+    }
+}
+
 /// The program over the words after its own name. Its answer is the exit status, which the help explains.
+///
+/// What help, the version and a usage fault say is for a reader, and no contract tells it.
 pub fn tool<R: AllocGlobal, S: AsStr, I: Input, O: Output, E: Output>(
     rt: &R,
     words: &[S],
@@ -75,20 +164,29 @@ pub fn tool<R: AllocGlobal, S: AsStr, I: Input, O: Output, E: Output>(
 ) -> u8
     requires reads { I.failed reader.old ≡ false }
     requires writes { O.failed writer.old ≡ false }
+    // It performs what the words ask for on the whole text that the reader has left, or answers them.
+    ensures runs { Runs (map S.text words.now) (I.left reader.old) (O.written writer.old)
+        (O.written writer.new) result }
+    // Nothing is written to standard output where the words are wrong or memory ran out.
+    ensures quiet { (result ≡ 2) ⊎ (result ≡ 5) → writer.new ≡ writer.old }
+    // Status 4 tells that the writer failed or took no byte, or else that the text was not read to its end,
+    // and then nothing is written.
+    ensures devices { result ≡ 4 → (O.failed writer.new ≡ true) ⊎ ((writer.new ≡ writer.old)
+        × ((I.failed reader.new ≡ true)
+        ⊎ IfSome (I.left reader.old) (λ text. 17592186044416 ≤ length text))) }
     // It ends with 0 only where no read and no write of it failed.
     ensures read { result ≡ 0 → I.failed reader.new ≡ false }
     ensures written { result ≡ 0 → O.failed writer.new ≡ false }
 {
-    let ending = match settings(rt.alloc(), words) {
-        Ok(settings) => run(rt.alloc(), &settings, reader, writer),
-        Err(fault) => explain(&fault, writer, errors),
-    };
+    let ending = obey(rt.alloc(), words, reader, writer, errors);
     let _ = write_all(errors, ending.message().as_bytes());
     ending.status()
 }
 
 /// The words that the process was started with, but for the program's own name.
-fn words<R: Env + AllocGlobal>(rt: &R) -> Result<Vec<String>, UsageFault> {
+fn words<R: Env + AllocGlobal>(rt: &R) -> Result<Vec<String>, UsageFault>
+    ensures { IfErr result (λ f. is_help f ≡ false) }
+{
     let all = match env::args(rt) {
         Ok(all) => all,
         Err(error) if error.kind() == ErrorKind::InvalidData => {
@@ -102,7 +200,8 @@ fn words<R: Env + AllocGlobal>(rt: &R) -> Result<Vec<String>, UsageFault> {
         .map_err(|_| UsageFault::OutOfMemory)
 }
 
-/// The program over the words that the process was started with.
+/// The program over the words that the process was started with. No contract tells those words, so that of
+/// `tool` holds for some.
 pub fn program<R: Env + AllocGlobal, I: Input, O: Output, E: Output>(
     rt: &R,
     reader: &mut I,
@@ -111,6 +210,13 @@ pub fn program<R: Env + AllocGlobal, I: Input, O: Output, E: Output>(
 ) -> u8
     requires reads { I.failed reader.old ≡ false }
     requires writes { O.failed writer.old ≡ false }
+    // It is a run for some words, or the words could not be had: they are no text, or memory ran out.
+    ensures runs { ((words : List Text) × Runs words (I.left reader.old) (O.written writer.old)
+        (O.written writer.new) result) ⊎ ((result ≡ 2) ⊎ (result ≡ 5)) }
+    ensures quiet { (result ≡ 2) ⊎ (result ≡ 5) → writer.new ≡ writer.old }
+    ensures devices { result ≡ 4 → (O.failed writer.new ≡ true) ⊎ ((writer.new ≡ writer.old)
+        × ((I.failed reader.new ≡ true)
+        ⊎ IfSome (I.left reader.old) (λ text. 17592186044416 ≤ length text))) }
     ensures read { result ≡ 0 → I.failed reader.new ≡ false }
     ensures written { result ≡ 0 → O.failed writer.new ≡ false }
 {

@@ -1,62 +1,64 @@
 //! Lines that are written, and read again.
-ghost use Rattle.std.specs.Prelude.{false};
-
-use super::doubles::{Page, limits};
-use crate::{Device, Output, Reader, write_event, write_fault};
-use event_core::OutOfMemory;
+use super::doubles::Page;
+use super::told::limits;
+use crate::{Device, Reader, write_event, write_fault};
+use event_core::{Limits, OutOfMemory};
 use std::alloc::Global;
-use std::process::Abort;
-use std::test::Fail;
 
-/// Each event of the text is written, and then a fault line; false, where the output failed.
-fn copied<O: Output>(
-    rt: &impl Abort,
-    alloc: Global,
-    text: &[u8],
-    out: &mut O,
-) -> Result<bool, OutOfMemory> {
-    let limits = limits(rt, 2, 1, 2);
-    let mut reader = Reader::new(alloc, Device::new(text), limits, 100)?;
-    for _ in 0..100 {
-        let Ok(next) = reader.next() else {
-            return Err(OutOfMemory);
-        };
-        let Some(event) = next else {
-            break;
-        };
-        if write_event(out, &event, reader.names()).is_err() {
-            return Ok(false);
-        }
+/// Reads an event and writes its line: false at the end of the text, and where the output failed.
+fn copy_next(reader: &mut Reader<Device<&[u8]>>, page: &mut Page<'_>) -> Result<bool, OutOfMemory> {
+    match reader.next() {
+        Ok(Some(event)) => Ok(write_event(page, &event, reader.names()).is_ok()),
+        Ok(None) => Ok(false),
+        Err(_) => Err(OutOfMemory),
     }
-    Ok(write_fault(out, 12, "Held").is_ok())
 }
 
-const TEXT: &[u8] =
-    b"T0|w(a(b))|\nT0|fork(T1)|1\nT1|acq(l)|2\nT1|rel(l)|3\nT1|r(x)|\xff\nT0|join(T1)|4\n";
-
-/// What was read is written as it stood, in puts of any size, until the writer fails.
-#[test]
-fn what_is_written_is_the_text_that_was_read(rt: HostRuntime) -> Result<(), Fail> {
-    let mut want = Vec::from_slice(rt.alloc(), TEXT)?;
-    want.extend_from_slice(b"line 12: Held\n")?;
-    let mut most = 0;
-    for puts in 0..100 {
-        let mut page = Page::of(rt.alloc(), 3, puts);
-        let is_whole = copied(&rt, rt.alloc(), TEXT, &mut page).expect(&rt, "memory");
-        let is_same = page.bytes.as_slice() == want.as_slice();
-        assert!(rt; is_whole == is_same, "{puts} puts");
-        assert!(rt; page.failed != is_whole, "{puts} puts");
-        if !is_whole {
-            most = puts;
+fn copy_all(reader: &mut Reader<Device<&[u8]>>, page: &mut Page<'_>) -> Result<(), OutOfMemory> {
+    for _ in 0..100 {
+        if !copy_next(reader, page)? {
+            break;
         }
     }
-    assert_eq!(rt; most, 56, "57 puts are needed");
     Ok(())
 }
 
+/// Whether the lines of all events are written, and are the text, in so many puts of three bytes.
+fn is_copied(alloc: Global, limits: Limits, text: &[u8], puts: usize) -> Result<bool, OutOfMemory> {
+    let mut page = Page {
+        rest: text,
+        most: 3,
+        puts,
+        failed: false,
+    };
+    let mut reader = Reader::new(alloc, Device::new(text), limits, 100)?;
+    copy_all(&mut reader, &mut page)?;
+    Ok(page.rest.is_empty())
+}
+
+/// What was read is written as it stood, in puts of any size, until the writer fails.
 #[test]
-fn a_writer_that_takes_nothing_has_failed(rt: HostRuntime) {
-    let mut page = Page::of(rt.alloc(), 0, 100);
-    assert!(rt; write_fault(&mut page, 1, "Held").is_err());
-    assert!(rt; page.failed);
+fn what_is_written_is_the_text_that_was_read(rt: HostRuntime) {
+    let text =
+        b"T0|w(a(b))|\nT0|fork(T1)|1\nT1|acq(l)|2\nT1|rel(l)|3\nT1|r(a(b))|\xff\nT0|join(T1)|4\n";
+    for puts in 0..60 {
+        let is_copied = again!(&rt; is_copied(rt.alloc(), limits(&rt), text, puts));
+        assert_eq!(rt; is_copied, puts >= 51, "{puts} puts");
+    }
+}
+
+/// This line takes seven puts of three bytes.
+#[test]
+fn a_fault_line_is_written(rt: HostRuntime) {
+    for puts in 0..10 {
+        let mut page = Page {
+            rest: b"line 12: Held\n",
+            most: 3,
+            puts,
+            failed: false,
+        };
+        let written = write_fault(&mut page, 12, "Held");
+        assert_eq!(rt; written.is_ok(), puts >= 7, "{puts} puts");
+        assert_eq!(rt; page.failed, puts < 7, "{puts} puts");
+    }
 }

@@ -1,10 +1,11 @@
 //! Readers and writers that fail, and reads that run out.
-ghost use Rattle.std.specs.Prelude.{◌≡◌, false};
+ghost use Rattle.std.specs.Prelude.{◌≡◌, IfOk, false};
 
 use super::doubles::{Page, Pieces, Ran, run};
 use crate::{CheckFault, Counts, check, tool};
 use event_core::{Limits, Roots};
 use rapid_text::{Cause, TextFault};
+use std::alloc::Global;
 use std::process::Abort;
 use std::test::Fail;
 
@@ -39,9 +40,11 @@ fn judges_what_came_before_the_reader_failed(rt: HostRuntime) -> Result<(), Fail
         ("T0|acq(l)|1\nT0|rel(m)|2", "", "read fault\n", 4),
     ];
     for (text, output, errors, status) in cases {
-        let reader = Pieces::whole(text.as_bytes()).and_fails();
-        let ran = run(&rt, ["check"].as_slice(), reader);
-        expect(&rt, &ran, output.as_bytes(), errors, status);
+        for command in ["check", "replay"] {
+            let reader = Pieces::whole(text.as_bytes()).and_fails();
+            let ran = run(&rt, [command].as_slice(), reader);
+            expect(&rt, &ran, output.as_bytes(), errors, status);
+        }
     }
     Ok(())
 }
@@ -71,9 +74,11 @@ fn names_the_line_in_which_the_reader_failed(rt: HostRuntime) -> Result<(), Fail
 fn tells_no_part_of_a_trace_whose_reader_fails(rt: HostRuntime) {
     let text = b"T0|fork(T1)|1\nT0|acq(l)|2\nT1|r(x)|3\nT0|rel(l)|4\n".as_slice();
     for end in 0..text.len() {
-        let reader = Pieces::of(&text[..end], 7, 3).and_fails();
-        let ran = run(&rt, ["check"].as_slice(), reader);
-        expect(&rt, &ran, b"", "read fault\n", 4);
+        for command in ["check", "replay"] {
+            let reader = Pieces::of(&text[..end], 7, 3).and_fails();
+            let ran = run(&rt, [command].as_slice(), reader);
+            expect(&rt, &ran, b"", "read fault\n", 4);
+        }
     }
 }
 
@@ -105,11 +110,14 @@ fn reads_no_more_often_than_the_turns(rt: HostRuntime) -> Result<(), Fail> {
     Ok(())
 }
 
-fn run_to(rt: &impl AllocGlobal, mut writer: Page, mut errors: Page) -> Ran
+fn run_to(rt: &impl AllocGlobal, command: &str, mut writer: Page, mut errors: Page) -> Ran
     requires { writer.failed ≡ false }
 {
-    let mut reader = Pieces::whole(b"T0|w(x)|1");
-    let words = ["check"];
+    let mut reader = Pieces::whole(
+        b"T0|fork(T1)|1\nT0|w(y)|2\nT0|acq(l)|3\nT0|w(x)|4\nT0|rel(l)|5\n\
+          T1|acq(l)|6\nT1|rel(l)|7\nT1|r(y)|8\n",
+    );
+    let words = [command];
     let status = tool(rt, words.as_slice(), &mut reader, &mut writer, &mut errors);
     Ran {
         status,
@@ -118,36 +126,83 @@ fn run_to(rt: &impl AllocGlobal, mut writer: Page, mut errors: Page) -> Ran
     }
 }
 
-/// The line is written at once. A writer that takes it in parts is asked again for what is left.
+/// The commands with what they print of one trace, and the status with which they end.
+static PRINTED: [(&str, &[u8], u8); 2] = [
+    ("check", b"events 8 threads 2 locks 1 variables 2\n", 0),
+    (
+        "replay",
+        b"events 8 threads 2 locks 1 variables 2 races 1\n8|T1|r(y)|8 with 2|T0|w(y)|2\n",
+        1,
+    ),
+];
+
+/// A writer that takes the bytes in parts is asked again for what is left.
 #[test]
 fn writes_on_where_a_writer_takes_a_part(rt: HostRuntime) {
-    let line = b"events 1 threads 1 locks 0 variables 1\n".as_slice();
-    for (most, puts) in [(usize::MAX, 1), (7, 6), (1, line.len())] {
-        let ran = run_to(
-            &rt,
-            Page::narrow(rt.alloc(), most, puts),
-            Page::blank(rt.alloc()),
-        );
-        expect(&rt, &ran, line, "", 0);
+    for (command, output, status) in PRINTED {
+        for most in [usize::MAX, 7, 1] {
+            let ran = run_to(
+                &rt,
+                command,
+                Page::narrow(rt.alloc(), most, usize::MAX),
+                Page::blank(rt.alloc()),
+            );
+            expect(&rt, &ran, output, "", status);
+        }
     }
 }
 
 #[test]
 fn tells_a_writer_that_fails_at_any_put(rt: HostRuntime) {
-    let line = b"events 1 threads 1 locks 0 variables 1\n".as_slice();
-    for puts in 0..line.len() {
-        let ran = run_to(
-            &rt,
-            Page::narrow(rt.alloc(), 1, puts),
-            Page::blank(rt.alloc()),
-        );
-        expect(&rt, &ran, &line[..puts], "write fault\n", 4);
+    for (command, output, _) in PRINTED {
+        for puts in 0..output.len() {
+            let ran = run_to(
+                &rt,
+                command,
+                Page::narrow(rt.alloc(), 1, puts),
+                Page::blank(rt.alloc()),
+            );
+            expect(&rt, &ran, &output[..puts], "write fault\n", 4);
+        }
     }
 }
 
 #[test]
 fn ends_with_the_same_status_where_nothing_can_be_said_of_it(rt: HostRuntime) {
-    let none = Page::narrow(rt.alloc(), 0, 0);
-    let ran = run_to(&rt, none, Page::narrow(rt.alloc(), 0, 0));
-    expect(&rt, &ran, b"", "", 4);
+    for (command, _, _) in PRINTED {
+        let none = Page::narrow(rt.alloc(), 0, 0);
+        let ran = run_to(&rt, command, none, Page::narrow(rt.alloc(), 0, 0));
+        expect(&rt, &ran, b"", "", 4);
+    }
+}
+
+/// A page with room for all that is written to it in these tests.
+fn roomy(alloc: Global) -> Result<Page, Fail>
+    ensures { IfOk result (λ page. page.failed ≡ false) }
+{
+    let bytes = match Vec::with_capacity(alloc, 256) {
+        Ok(bytes) => bytes,
+        // An allocation that is refused once is made again.
+        Err(_) => Vec::with_capacity(alloc, 256)?,
+    };
+    Ok(Page {
+        bytes,
+        most: usize::MAX,
+        puts: usize::MAX,
+        failed: false,
+    })
+}
+
+/// Whichever allocation is refused, the answer is that of an ample run, or nothing but that memory ran out.
+#[test]
+fn answers_whole_or_not_at_all(rt: HostRuntime) -> Result<(), Fail> {
+    for (command, output, status) in PRINTED {
+        let ran = run_to(&rt, command, roomy(rt.alloc())?, roomy(rt.alloc())?);
+        if ran.status == 5 {
+            expect(&rt, &ran, b"", "out of memory\n", 5);
+        } else {
+            expect(&rt, &ran, output, "", status);
+        }
+    }
+    Ok(())
 }

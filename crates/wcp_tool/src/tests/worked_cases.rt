@@ -1,44 +1,64 @@
 //! Traces and what is to be printed for them, each judged whole and in pieces.
+ghost use Rattle.std.specs.Prelude.{◌≡◌, false};
+
 use super::doubles::{Pieces, Ran, run};
 use std::process::Abort;
 use std::test::Fail;
 
-/// What the trace is, its text, and the line that tells it.
-type Case = (&'static str, &'static str, &'static str);
+/// What the trace is, its text, the line of its counts, its report, and the status with which a replay ends.
+type Legal = (&'static str, &'static str, &'static str, &'static str, u8);
 
-static LEGAL: [Case; 19] = [
+/// What the trace is, its text, and the line of its fault.
+type Refused = (&'static str, &'static str, &'static str);
+
+static LEGAL: [Legal; 19] = [
     (
         "an empty text",
         "",
         "events 0 threads 0 locks 0 variables 0\n",
+        "events 0 threads 0 locks 0 variables 0 races 0\n",
+        0,
     ),
     (
         "a store that no fork covers",
         "T0|fork(T1)|1\nT0|w(x)|2\nT1|w(x)|3\n",
         "events 3 threads 2 locks 0 variables 1\n",
+        "events 3 threads 2 locks 0 variables 1 races 1\n\
+         3|T1|w(x)|3 with 2|T0|w(x)|2\n",
+        1,
     ),
     (
         "conflicting sections",
         "T0|fork(T1)|1\nT0|acq(l)|2\nT0|w(x)|3\nT0|rel(l)|4\nT1|acq(l)|5\nT1|w(x)|6\n",
         "events 6 threads 2 locks 1 variables 1\n",
+        "events 6 threads 2 locks 1 variables 1 races 0\n",
+        0,
     ),
     (
         "sections without a conflict",
         "T0|fork(T1)|1\nT0|w(y)|2\nT0|acq(l)|3\nT0|w(x)|4\nT0|rel(l)|5\nT1|acq(l)|6\n\
          T1|rel(l)|7\nT1|r(y)|8\n",
         "events 8 threads 2 locks 1 variables 2\n",
+        "events 8 threads 2 locks 1 variables 2 races 1\n\
+         8|T1|r(y)|8 with 2|T0|w(y)|2\n",
+        1,
     ),
     (
         "a load in the later section",
         "T0|fork(T1)|1\nT0|w(y)|2\nT0|acq(l)|3\nT0|w(x)|4\nT0|rel(l)|5\nT1|acq(l)|6\nT1|r(x)|7\n\
          T1|rel(l)|8\nT1|r(y)|9\n",
         "events 9 threads 2 locks 1 variables 2\n",
+        "events 9 threads 2 locks 1 variables 2 races 0\n",
+        0,
     ),
     (
         "a load before the conflict",
         "T0|fork(T1)|1\nT0|w(y)|2\nT0|acq(l)|3\nT0|w(x)|4\nT0|rel(l)|5\nT1|acq(l)|6\nT1|r(y)|7\n\
          T1|r(x)|8\nT1|rel(l)|9\n",
         "events 9 threads 2 locks 1 variables 2\n",
+        "events 9 threads 2 locks 1 variables 2 races 1\n\
+         7|T1|r(y)|7 with 2|T0|w(y)|2\n",
+        1,
     ),
     (
         "nested sections",
@@ -46,12 +66,17 @@ static LEGAL: [Case; 19] = [
          T0|rel(l)|7\nT1|acq(m)|8\nT1|r(x)|9\nT1|rel(m)|10\nT1|acq(l)|11\nT1|rel(l)|12\n\
          T1|r(y)|13\n",
         "events 13 threads 2 locks 2 variables 2\n",
+        "events 13 threads 2 locks 2 variables 2 races 0\n",
+        0,
     ),
     (
         "a load before the outer section ends",
         "T0|fork(T1)|1\nT0|acq(l)|2\nT0|acq(m)|3\nT0|w(x)|4\nT0|rel(m)|5\nT0|w(y)|6\n\
          T0|rel(l)|7\nT1|acq(m)|8\nT1|r(x)|9\nT1|rel(m)|10\nT1|r(y)|11\n",
         "events 11 threads 2 locks 2 variables 2\n",
+        "events 11 threads 2 locks 2 variables 2 races 1\n\
+         11|T1|r(y)|11 with 6|T0|w(y)|6\n",
+        1,
     ),
     (
         "three threads and four locks",
@@ -60,62 +85,88 @@ static LEGAL: [Case; 19] = [
          T1|acq(m)|13\nT1|r(x)|14\nT1|rel(m)|15\nT1|acq(k)|16\nT1|rel(k)|17\nT0|acq(k)|18\n\
          T0|rel(k)|19\nT0|acq(l)|20\nT0|rel(l)|21\nT0|r(z)|22\n",
         "events 22 threads 3 locks 4 variables 2\n",
+        "events 22 threads 3 locks 4 variables 2 races 0\n",
+        0,
     ),
     (
         "fork and join around a store",
         "T0|w(x)|1\nT0|fork(T1)|2\nT1|w(x)|3\nT0|join(T1)|4\nT0|w(x)|5\n",
         "events 5 threads 2 locks 0 variables 1\n",
+        "events 5 threads 2 locks 0 variables 1 races 0\n",
+        0,
     ),
     (
         "a thread that was never forked",
         "T0|fork(T1)|1\nT0|join(T1)|2\nT2|w(x)|3\nT0|r(x)|4\n",
         "events 4 threads 3 locks 0 variables 1\n",
+        "events 4 threads 3 locks 0 variables 1 races 1\n\
+         4|T0|r(x)|4 with 3|T2|w(x)|3\n",
+        1,
     ),
     (
         "parentheses in a name",
         "T0|w(a(b))|\r\nT0|r(a(b))|9",
         "events 2 threads 1 locks 0 variables 1\n",
+        "events 2 threads 1 locks 0 variables 1 races 0\n",
+        0,
     ),
     (
         "a join of a thread without events",
         "T0|w(x)|1\nT0|fork(T1)|2\nT2|join(T1)|3\nT2|w(x)|4\n",
         "events 4 threads 3 locks 0 variables 1\n",
+        "events 4 threads 3 locks 0 variables 1 races 0\n",
+        0,
     ),
     (
         "sections that do not nest",
         "T0|fork(T1)|1\nT0|acq(l)|2\nT0|acq(m)|3\nT0|rel(l)|4\nT0|w(x)|5\nT0|rel(m)|6\n\
          T1|acq(l)|7\nT1|w(x)|8\n",
         "events 8 threads 2 locks 2 variables 1\n",
+        "events 8 threads 2 locks 2 variables 1 races 1\n\
+         8|T1|w(x)|8 with 5|T0|w(x)|5\n",
+        1,
     ),
     (
         "three stores",
         "T0|fork(T1)|1\nT0|fork(T2)|2\nT1|w(x)|3\nT2|w(x)|4\nT0|w(x)|5\n",
         "events 5 threads 3 locks 0 variables 1\n",
+        "events 5 threads 3 locks 0 variables 1 races 2\n\
+         4|T2|w(x)|4 with 3|T1|w(x)|3\n\
+         5|T0|w(x)|5 with 4|T2|w(x)|4\n",
+        1,
     ),
     (
         "a lock that is acquired twice",
         "T0|acq(l)|1\nT0|acq(l)|2",
         "events 2 threads 1 locks 1 variables 0\n",
+        "events 2 threads 1 locks 1 variables 0 races 0\n",
+        0,
     ),
     (
         "an inner release",
         "T0|fork(T1)|1\nT0|acq(l)|2\nT0|acq(l)|3\nT0|rel(l)|4\nT0|w(x)|5\nT0|rel(l)|6\n\
          T1|acq(l)|7\nT1|w(x)|8\n",
         "events 8 threads 2 locks 1 variables 1\n",
+        "events 8 threads 2 locks 1 variables 1 races 0\n",
+        0,
     ),
     (
         "a load and a store at one place",
         "m|fork(a)|1\na|r(x)|2\na|w(x)|2\nm|join(a)|3\nm|r(x)|4\nm|w(x)|4\n",
         "events 6 threads 2 locks 0 variables 1\n",
+        "events 6 threads 2 locks 0 variables 1 races 0\n",
+        0,
     ),
     (
         "a CR at the end of the text",
         "T0|w(x)|1\r",
         "events 1 threads 1 locks 0 variables 1\n",
+        "events 1 threads 1 locks 0 variables 1 races 0\n",
+        0,
     ),
 ];
 
-static REFUSED: [Case; 16] = [
+static REFUSED: [Refused; 16] = [
     (
         "an unknown operation",
         "T0|w(x)|1\nT0|begin(x)|2\n",
@@ -176,101 +227,176 @@ fn expect(rt: &impl Abort, name: &str, ran: &Ran, line: &str, status: u8) {
     assert!(rt; ran.errors.is_empty(), "{name}: {:?}", ran.errors);
 }
 
+/// What a command prints of the text that the reader gives, and the status with which it ends.
+fn judge(
+    rt: &(impl Abort + AllocGlobal),
+    command: &str,
+    name: &str,
+    reader: Pieces<'_>,
+    output: &str,
+    status: u8,
+)
+    requires { reader.failed ≡ false }
+{
+    let ran = run(rt, [command].as_slice(), reader);
+    expect(rt, name, &ran, output, status);
+}
+
 #[test]
-fn counts_legal_traces(rt: HostRuntime) {
-    for (name, text, line) in LEGAL {
-        let ran = run(&rt, ["check"].as_slice(), Pieces::whole(text.as_bytes()));
-        expect(&rt, name, &ran, line, 0);
+fn judges_legal_traces(rt: HostRuntime) {
+    for (name, text, line, report, status) in LEGAL {
+        judge(&rt, "check", name, Pieces::whole(text.as_bytes()), line, 0);
+        judge(
+            &rt,
+            "replay",
+            name,
+            Pieces::whole(text.as_bytes()),
+            report,
+            status,
+        );
     }
 }
 
 #[test]
 fn names_the_first_refused_line(rt: HostRuntime) {
     for (name, text, line) in REFUSED {
-        let ran = run(&rt, ["check"].as_slice(), Pieces::whole(text.as_bytes()));
-        expect(&rt, name, &ran, line, 3);
+        for command in ["check", "replay"] {
+            judge(&rt, command, name, Pieces::whole(text.as_bytes()), line, 3);
+        }
     }
 }
 
-fn expect_in_pieces(rt: &(impl Abort + AllocGlobal), case: Case, status: u8) {
-    let (name, text, line) = case;
-    let single = run(rt, ["check"].as_slice(), Pieces::of(text.as_bytes(), 1, 1));
-    expect(rt, name, &single, line, status);
+fn judge_in_pieces(
+    rt: &(impl Abort + AllocGlobal),
+    command: &str,
+    name: &str,
+    text: &str,
+    output: &str,
+    status: u8,
+) {
+    let text = text.as_bytes();
+    judge(rt, command, name, Pieces::of(text, 1, 1), output, status);
     for first in 1..text.len() {
-        let reader = Pieces::of(text.as_bytes(), first, usize::MAX);
-        let ran = run(rt, ["check"].as_slice(), reader);
-        expect(rt, name, &ran, line, status);
+        judge(
+            rt,
+            command,
+            name,
+            Pieces::of(text, first, usize::MAX),
+            output,
+            status,
+        );
     }
 }
 
 #[test]
 fn judges_the_same_however_a_text_is_cut(rt: HostRuntime) {
-    for case in LEGAL {
-        expect_in_pieces(&rt, case, 0);
+    for (name, text, line, report, status) in LEGAL {
+        judge_in_pieces(&rt, "check", name, text, line, 0);
+        judge_in_pieces(&rt, "replay", name, text, report, status);
     }
-    for case in REFUSED {
-        expect_in_pieces(&rt, case, 3);
+    for (name, text, line) in REFUSED {
+        for command in ["check", "replay"] {
+            judge_in_pieces(&rt, command, name, text, line, 3);
+        }
     }
 }
 
 #[test]
 fn bounds_names_and_lines(rt: HostRuntime) -> Result<(), Fail> {
     let cases = [
-        (255, "|w(x)|", "events 1 threads 1 locks 0 variables 1\n", 0),
-        (256, "|w(x)|", "line 1: LongName\n", 3),
-        (1024, "\n", "line 1: FewFields\n", 3),
-        (1025, "\n", "line 1: LineTooLong\n", 3),
-        (1024, "\r\n", "line 1: FewFields\n", 3),
-        (1025, "\r\n", "line 1: LineTooLong\n", 3),
+        (
+            "check",
+            255,
+            "|w(x)|",
+            "events 1 threads 1 locks 0 variables 1\n",
+            0,
+        ),
+        (
+            "replay",
+            255,
+            "|w(x)|",
+            "events 1 threads 1 locks 0 variables 1 races 0\n",
+            0,
+        ),
+        ("check", 256, "|w(x)|", "line 1: LongName\n", 3),
+        ("replay", 256, "|w(x)|", "line 1: LongName\n", 3),
+        ("check", 1024, "\n", "line 1: FewFields\n", 3),
+        ("replay", 1024, "\n", "line 1: FewFields\n", 3),
+        ("check", 1025, "\n", "line 1: LineTooLong\n", 3),
+        ("replay", 1025, "\n", "line 1: LineTooLong\n", 3),
+        ("replay", 1024, "\r\n", "line 1: FewFields\n", 3),
+        ("replay", 1025, "\r\n", "line 1: LineTooLong\n", 3),
     ];
-    for (count, rest, line, status) in cases {
+    for (command, count, rest, output, status) in cases {
         let mut text = "a".repeat(rt.alloc(), count)?;
         text.push_str(rest)?;
-        let ran = run(&rt, ["check"].as_slice(), Pieces::whole(text.as_bytes()));
-        expect(&rt, rest, &ran, line, status);
+        judge(
+            &rt,
+            command,
+            rest,
+            Pieces::whole(text.as_bytes()),
+            output,
+            status,
+        );
     }
     Ok(())
 }
 
 #[test]
 fn admits_as_many_threads_as_the_option_says(rt: HostRuntime) {
-    let text = b"T0|fork(T1)|1".as_slice();
-    let one = run(
-        &rt,
-        ["check", "--threads", "1"].as_slice(),
-        Pieces::whole(text),
-    );
-    expect(&rt, "one", &one, "line 1: TooManyNames\n", 3);
-    let two = run(
-        &rt,
-        ["check", "--threads=2"].as_slice(),
-        Pieces::whole(text),
-    );
-    expect(
-        &rt,
-        "two",
-        &two,
-        "events 1 threads 2 locks 0 variables 0\n",
-        0,
-    );
+    let cases: [(&[&str], &str, u8); 4] = [
+        (
+            ["check", "--threads", "1"].as_slice(),
+            "line 1: TooManyNames\n",
+            3,
+        ),
+        (
+            ["replay", "--threads", "1"].as_slice(),
+            "line 1: TooManyNames\n",
+            3,
+        ),
+        (
+            ["check", "--threads=2"].as_slice(),
+            "events 1 threads 2 locks 0 variables 0\n",
+            0,
+        ),
+        (
+            ["replay", "--threads=2"].as_slice(),
+            "events 1 threads 2 locks 0 variables 0 races 0\n",
+            0,
+        ),
+    ];
+    for (words, output, status) in cases {
+        let ran = run(&rt, words, Pieces::whole(b"T0|fork(T1)|1"));
+        expect(&rt, output, &ran, output, status);
+    }
 }
 
 /// Where a legal text is cut off, its last line may have too few fields, and no other line is at fault.
 #[test]
 fn judges_each_beginning_of_a_legal_trace(rt: HostRuntime) -> Result<(), Fail> {
-    let (name, text, _) = LEGAL[6];
+    let (name, text, _, _, _) = LEGAL[6];
     let mut lines: usize = 0;
     for end in 0..text.len() {
         let start = text.as_bytes();
-        let ran = run(&rt, ["check"].as_slice(), Pieces::whole(&start[..end]));
         if end == 0 || start[end - 1] == b'\n' {
             lines = lines.wrapping_add(1);
         }
-        if ran.status == 0 {
-            assert!(rt; ran.output.starts_with(b"events "), "{name}, {end} bytes");
+        let checked = run(&rt, ["check"].as_slice(), Pieces::whole(&start[..end]));
+        let replayed = run(&rt, ["replay"].as_slice(), Pieces::whole(&start[..end]));
+        if checked.status == 0 {
+            assert!(rt;
+                checked.output.starts_with(b"events "),
+                "{name}, {end} bytes"
+            );
+            assert!(rt;
+                replayed.output.ends_with(b" races 0\n"),
+                "{name}, {end} bytes"
+            );
         } else {
             let line = format!(in rt.alloc(); "line {lines}: FewFields\n")?;
-            expect(&rt, name, &ran, line.as_str(), 3);
+            expect(&rt, name, &checked, line.as_str(), 3);
+            expect(&rt, name, &replayed, line.as_str(), 3);
         }
     }
     Ok(())

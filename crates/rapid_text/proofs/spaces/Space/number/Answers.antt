@@ -1,4 +1,4 @@
-use Rattle.std.proofs.Common.{◌≡◌, sym, ◌∙◌, arith, ap, refl, Some, List, Vec, ℕ, Global}
+use Rattle.std.proofs.Common.{◌≡◌, sym, ◌∙◌, arith, ap, refl, Some, List, Vec, ℕ, Global, get_or}
 use Rattle.std.specs.Prelude.{slice_get}
 use Rattle.std.specs.Option.{is_some}
 use Rattle.rapid_text.proofs.SpaceLaws.{numbered_found, numbered_full, numbered_new, place_of_key}
@@ -25,11 +25,11 @@ returns-clause-ok c =
 pub returns-then-is_at-clause-ok : goal.returns-then-is_at-clause-ok
 returns-then-is_at-clause-ok c =
     let keys = c.self.inside.keys.keys in
+    let latest = get_or c.self.inside.latest c.ending-ending.result 0 in
     let found = c.if-is_at.ensures refl in
-    let at : slice_get keys c.self.inside.latest ≡ Some found.0 =
-    ap (λ (ks : List (Vec ℕ Global)). slice_get ks c.self.inside.latest) (sym c.as_slice.ensures.keys)
-    ∙ found.1 in
+    let at : slice_get keys latest ≡ Some found.0 =
+    ap (λ (ks : List (Vec ℕ Global)). slice_get ks latest) (sym c.as_slice.ensures.keys) ∙ found.1 in
     let place =
-    place_of_key c.args.name.now keys c.self.inside.latest found.0 c.as_slice.ensures.unique at found.2 in
+    place_of_key c.args.name.now keys latest found.0 c.as_slice.ensures.unique at found.2 in
     rw (← c.self.view_is)
-    (numbered_found c.self.inside.limit keys c.args.name.now c.self.inside.latest place)
+    (numbered_found c.self.inside.limit keys c.args.name.now latest place)

@@ -1,0 +1,2 @@
+pub mod FewJoins
+pub mod QuietLogs

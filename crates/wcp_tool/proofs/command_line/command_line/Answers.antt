@@ -1,0 +1,14 @@
+use Rattle.std.proofs.Common.{◌∙◌, ap₂}
+use Rattle.std.proofs.lemmas.Result.{IfOk-weaker}
+use Rattle.clap.specs.Words.{with_subcommand}
+use Rattle.wcp_tool.specs.CommandLine.{wcp}
+use Rattle.wcp_tool.proofs.command_line.command_line.Goals as goal
+
+pub returns-clause-app : goal.returns-clause-app
+unfolding wcp
+returns-clause-app c =
+    let first = c.in_ok-subcommand.ensures.shape c.in_ok-check.ensures.local in
+    let both = first ∙ ap₂ with_subcommand c.in_ok-bare_command.ensures.app c.in_ok-check.ensures.shape in
+    IfOk-weaker c.subcommand-2.result _ _
+    (λ x h. h.shape c.in_ok-replay.ensures.local ∙ ap₂ with_subcommand both c.in_ok-replay.ensures.shape)
+    c.subcommand-2.ensures
