@@ -1,6 +1,9 @@
 pub mod Beginning
+pub mod Putting
 pub mod Narrow
-pub mod Stepping
-pub mod Judging
 pub mod Room
-pub mod Apart
+pub mod Ordering
+pub mod Latest
+pub mod Judging
+pub mod Keeping
+pub mod Stepping

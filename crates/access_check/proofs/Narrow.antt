@@ -1,57 +1,59 @@
 -- Noting an access of a thread below the width keeps each number below it.
-use Rattle.std.proofs.Common.{◌≡◌, ℕ, ◌<◌, List, [], ◌∷◌, ◌++◌, map, Bool, true, false, nat_eq, cond, refl}
-use Rattle.std.proofs.Common.{sym, subst}
-use Rattle.std.specs.List.{list_any}
-use Rattle.std.proofs.lemmas.List.Elements.{All-weaker, All-map, All-push}
+use Rattle.std.proofs.Common.{ℕ, ◌<◌, List, [], Option, Some, None, Bool, true, false, nat_eq}
+use Rattle.std.proofs.Common.{cond, arith}
+use Rattle.std.specs.List.{position}
+use Rattle.std.proofs.lemmas.List.Elements.{All-set, All-push}
 use Rattle.event_core.specs.declared.ids.ThreadId.{ThreadId}
 use Rattle.event_core.specs.declared.events.Op.{Op}
 use Rattle.event_core.specs.declared.events.Op.TheVariants.{Load, Store, Acquire, Release, Fork, Join}
 use Rattle.event_core.specs.declared.events.AccessKind.{AccessKind}
 use Rattle.event_core.specs.declared.events.AccessKind.TheVariants.{Read, Write}
-use Rattle.access_check.specs.declared.touches.Access.{Access}
-use Rattle.access_check.specs.declared.touches.Touch.{Touch}
-use Rattle.access_check.specs.Touches.{is_of, with_access, set_if, first_touch, noted, AreNarrow}
-use Rattle.access_check.specs.Tables.{touches_after}
+use Rattle.event_core.specs.declared.replies.Verdict.{Verdict}
+use Rattle.event_core.specs.declared.replies.Verdict.TheVariants.{Clear, Racy}
+use Rattle.access_check.specs.declared.lasts.Access.{Access}
+use Rattle.access_check.specs.declared.lasts.Last.{Last}
+use Rattle.access_check.specs.declared.touches.Touches.{Touches}
+use Rattle.access_check.specs.Lasts.{is_of, put_at, put, AreNarrow}
+use Rattle.access_check.specs.Touched.{kept, kept_after}
+use Rattle.access_check.specs.Tables.{last_of, touched_after}
 
--- setting an access keeps the thread
-pub thread_kept : (t : ThreadId) (k : AccessKind) (a : Access) (p : Touch)
-    → (set_if t k a p).thread ≡ p.thread
-thread_kept t k a p = go (is_of t p) k
+narrow_put : (width : ℕ) (p : Last) (ps : List Last) → p.thread.0 < width → AreNarrow width ps
+    → AreNarrow width (put p ps)
+narrow_put width p ps lt all = go (position (is_of p.thread) ps)
   where
-    go : (b : Bool) (k : AccessKind) → (cond b (with_access k a p) p).thread ≡ p.thread
-    go true Read = refl
-    go true Write = refl
-    go false k = refl
+    go : (o : Option ℕ) → AreNarrow width (put_at o p ps)
+    go None = All-push (λ (q : Last). q.thread.0 < width) ps p all lt
+    go (Some i) = All-set (λ (q : Last). q.thread.0 < width) ps i p lt all
 
-pub first_thread : (t : ThreadId) (k : AccessKind) (a : Access) → (first_touch t k a).thread ≡ t
-first_thread t Read a = refl
-first_thread t Write a = refl
+narrow_none : (width : ℕ) → AreNarrow width []
+narrow_none width = λ i d lt. absurd (omega arith)
 
-pub narrow_noted : (width : ℕ) (t : ThreadId) (k : AccessKind) (a : Access) (ps : List Touch)
-    → t.0 < width → AreNarrow width ps → AreNarrow width (noted t k a ps)
-narrow_noted width t k a ps lt all = go (list_any (is_of t) ps)
-  where
-    go : (b : Bool) → AreNarrow width (cond b (map (set_if t k a) ps) (ps ++ first_touch t k a ∷ []))
-    go true = All-map (λ (p : Touch). p.thread.0 < width) (set_if t k a) ps
-        (All-weaker (λ (p : Touch). p.thread.0 < width) (λ (p : Touch). (set_if t k a p).thread.0 < width)
-        (λ p h. subst (λ (u : ThreadId). u.0 < width) (sym (thread_kept t k a p)) h) ps all)
-    go false = All-push (λ (p : Touch). p.thread.0 < width) ps (first_touch t k a) all
-        (subst (λ (u : ThreadId). u.0 < width) (sym (first_thread t k a)) lt)
+narrow_kept : (width : ℕ) (v : Verdict) (k : AccessKind) (p : Last) (m : AccessKind) (ts : Touches)
+    → p.thread.0 < width → ((n : AccessKind) → AreNarrow width (kept n ts))
+    → AreNarrow width (kept_after v k p m ts)
+narrow_kept width v Read p Read ts lt all = narrow_put width p (kept Read ts) lt (all Read)
+narrow_kept width v Read p Write ts lt all = all Write
+narrow_kept width Clear Write p Read ts lt all = narrow_none width
+narrow_kept width Clear Write p Write ts lt all =
+    All-push (λ (q : Last). q.thread.0 < width) [] p (narrow_none width) lt
+narrow_kept width (Racy i) Write p Read ts lt all = all Read
+narrow_kept width (Racy i) Write p Write ts lt all = narrow_put width p (kept Write ts) lt (all Write)
 
 -- noting an event keeps them below it
-pub narrow_after : (width : ℕ) (t : ThreadId) (op : Op) (a : Access) (x : ℕ) (ps : List Touch)
-    → t.0 < width → AreNarrow width ps → AreNarrow width (touches_after t op a x ps)
-narrow_after width t (Load y) a x ps lt all = go (nat_eq x y.0)
+pub narrow_after : (width : ℕ) (v : Verdict) (t : ThreadId) (op : Op) (a : Access) (x : ℕ) (m : AccessKind)
+    (ts : Touches) → t.0 < width → ((n : AccessKind) → AreNarrow width (kept n ts))
+    → AreNarrow width (touched_after v t op a x m ts)
+narrow_after width v t (Load y) a x m ts lt all = go (nat_eq x y.0)
   where
-    go : (b : Bool) → AreNarrow width (cond b (noted t Read a ps) ps)
-    go true = narrow_noted width t Read a ps lt all
-    go false = all
-narrow_after width t (Store y) a x ps lt all = go (nat_eq x y.0)
+    go : (b : Bool) → AreNarrow width (cond b (kept_after v Read (last_of t a) m ts) (kept m ts))
+    go true = narrow_kept width v Read (last_of t a) m ts lt all
+    go false = all m
+narrow_after width v t (Store y) a x m ts lt all = go (nat_eq x y.0)
   where
-    go : (b : Bool) → AreNarrow width (cond b (noted t Write a ps) ps)
-    go true = narrow_noted width t Write a ps lt all
-    go false = all
-narrow_after width t (Acquire l) a x ps lt all = all
-narrow_after width t (Release l) a x ps lt all = all
-narrow_after width t (Fork u) a x ps lt all = all
-narrow_after width t (Join u) a x ps lt all = all
+    go : (b : Bool) → AreNarrow width (cond b (kept_after v Write (last_of t a) m ts) (kept m ts))
+    go true = narrow_kept width v Write (last_of t a) m ts lt all
+    go false = all m
+narrow_after width v t (Acquire l) a x m ts lt all = all m
+narrow_after width v t (Release l) a x m ts lt all = all m
+narrow_after width v t (Fork u) a x m ts lt all = all m
+narrow_after width v t (Join u) a x m ts lt all = all m

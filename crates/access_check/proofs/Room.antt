@@ -1,42 +1,95 @@
 -- Noting an access leaves room for its thread's other accesses.
-use Rattle.std.proofs.Common.{◌≡◌, List, [], ◌∷◌, ◌++◌, Bool, true, false, ◌||◌, cond, nat_eq, nat_lt, map}
-use Rattle.std.proofs.Common.{refl, ap, ap₂, ◌∙◌}
-use Rattle.std.specs.List.{list_any}
-use Rattle.std.proofs.lemmas.List.Folds.{list_any-append}
+use Rattle.std.proofs.Common.{◌≡◌, ℕ, ◌+◌, ◌<◌, ◌≤◌, List, [], ◌∷◌, length, Some, None, Bool}
+use Rattle.std.proofs.Common.{true, false, ◌||◌, cond, not, nat_lt, refl, sym, ap, ◌∙◌, ◌⊎◌, arith}
+use mathlib.Core.Logic.{inl, inr}
+use Rattle.std.specs.List.{list_any, position, position_or_len}
+use Rattle.std.proofs.lemmas.Bool.{lt-ltb, ltb-true}
 use Rattle.event_core.specs.declared.ids.ThreadId.{ThreadId}
+use Rattle.event_core.specs.declared.events.Op.{Op}
+use Rattle.event_core.specs.declared.events.Op.TheVariants.{Load, Store, Acquire, Release, Fork, Join}
 use Rattle.event_core.specs.declared.events.AccessKind.{AccessKind}
+use Rattle.event_core.specs.declared.events.AccessKind.TheVariants.{Read, Write}
+use Rattle.event_core.specs.Closed.{Has, first, later}
 use Rattle.event_core.proofs.Counting.{nat_eq_same}
-use Rattle.access_check.specs.declared.touches.Access.{Access}
-use Rattle.access_check.specs.declared.touches.Touch.{Touch}
-use Rattle.access_check.specs.Touches.{is_of, set_if, first_touch, noted}
-use Rattle.access_check.specs.TouchList.{TouchList, has_room}
-use Rattle.access_check.proofs.Narrow.{thread_kept, first_thread}
+use Rattle.event_core.proofs.Members.{none_in}
+use Rattle.access_check.specs.declared.lasts.Last.{Last}
+use Rattle.access_check.specs.declared.touches.Touches.{Touches}
+use Rattle.access_check.specs.Tables.{RoomAt, RoomFor}
+use Rattle.access_check.specs.Lasts.{LastList, is_of, has_room, put}
+use Rattle.access_check.proofs.Putting.{put_new}
 
--- setting an access keeps the threads
-pub any_set : (u t : ThreadId) (k : AccessKind) (a : Access) (ps : List Touch)
-    → list_any (is_of u) (map (set_if t k a) ps) ≡ list_any (is_of u) ps
-any_set u t k a [] = refl
-any_set u t k a (p ∷ ps) =
-    ap₂ ◌||◌ (ap (λ (v : ThreadId). nat_eq v.0 u.0) (thread_kept t k a p)) (any_set u t k a ps)
+or_true : (b c : Bool) → c ≡ true → (b || c) ≡ true
+or_true true c is = refl
+or_true false c is = is
 
-first_is_of : (t : ThreadId) (k : AccessKind) (a : Access) → is_of t (first_touch t k a) ≡ true
-first_is_of t k a = ap (λ (u : ThreadId). nat_eq u.0 t.0) (first_thread t k a) ∙ nat_eq_same t.0
+-- a member settles the test
+any_of : (f : Last → Bool) (p : Last) (ps : List Last) → Has p ps → f p ≡ true → list_any f ps ≡ true
+any_of f p [] h is = absurd (none_in h)
+any_of f p (q ∷ qs) (first _ _ same) is = ap (λ (b : Bool). b || list_any f qs) (ap f (sym same) ∙ is)
+any_of f p (q ∷ qs) (later _ _ h) is = or_true (f q) (list_any f qs) (any_of f p qs h is)
 
--- the thread that accessed the variable has a touch
-any_noted : (t : ThreadId) (k : AccessKind) (a : Access) (ps : List Touch)
-    → list_any (is_of t) (noted t k a ps) ≡ true
-any_noted t k a ps = go (list_any (is_of t) ps) refl
+-- there is room for the thread's next access
+pub room_put : (p : Last) (old new : LastList) → new.items ≡ put p old.items → has_room p.thread new ≡ true
+room_put p old new is =
+    ap (λ (b : Bool). b || nat_lt 0 new.room)
+    (ap (list_any (is_of p.thread)) is
+    ∙ any_of (is_of p.thread) p (put p old.items) (put_new p old.items) (nat_eq_same p.thread.0))
+
+-- with no accesses there is room where there was some, or an access
+pub room_cleared : (t : ThreadId) (old new : LastList) → old.room + length old.items ≤ new.room
+    → has_room t old ≡ true → has_room t new ≡ true
+room_cleared t old new le room = go (list_any (is_of t) new.items)
   where
-    go : (b : Bool) → list_any (is_of t) ps ≡ b
-        → list_any (is_of t) (cond b (map (set_if t k a) ps) (ps ++ first_touch t k a ∷ [])) ≡ true
-    go true any = any_set t t k a ps ∙ any
-    go false none =
-        list_any-append (is_of t) ps (first_touch t k a ∷ [])
-        ∙ (ap (λ (b : Bool). b || (is_of t (first_touch t k a) || false)) none
-        ∙ ap (λ (b : Bool). b || false) (first_is_of t k a))
+    some : (items : List Last) (room : ℕ) → (list_any (is_of t) items || nat_lt 0 room) ≡ true
+        → 0 < room + length items
+    some [] room is = let lt : 0 < room = ltb-true 0 room is in omega arith
+    some (p ∷ ps) room is = omega arith
 
--- so there is room for its next one
-pub room_noted : (t : ThreadId) (k : AccessKind) (a : Access) (old new : TouchList)
-    → new.items ≡ noted t k a old.items → has_room t new ≡ true
-room_noted t k a old new is =
-    ap (λ (b : Bool). b || nat_lt 0 new.room) (ap (list_any (is_of t)) is ∙ any_noted t k a old.items)
+    go : (b : Bool) → (b || nat_lt 0 new.room) ≡ true
+    go true = refl
+    go false = lt-ltb 0 new.room (let lt = some old.items old.room room in omega arith)
+
+-- where no place is found there is none
+none_or : (p : Last → Bool) (ps : List Last)
+    → (list_any p ps ≡ false) ⊎ (position_or_len p ps < length ps)
+none_or p [] = inl refl
+none_or p (q ∷ qs) = go (p q) refl (none_or p qs)
+  where
+    go : (b : Bool) → p q ≡ b → (list_any p qs ≡ false) ⊎ (position_or_len p qs < length qs)
+        → (list_any p (q ∷ qs) ≡ false) ⊎ (position_or_len p (q ∷ qs) < length (q ∷ qs))
+    go true is rest =
+        let at : position_or_len p (q ∷ qs) ≡ 0
+        = ap (λ (b : Bool). cond {A = ℕ} (not b) (1 + position_or_len p qs) 0) is in
+        inr (omega arith)
+    go false is (inl none) = inl (ap (λ (b : Bool). b || list_any p qs) is ∙ none)
+    go false is (inr lt) =
+        let at : position_or_len p (q ∷ qs) ≡ 1 + position_or_len p qs
+        = ap (λ (b : Bool). cond {A = ℕ} (not b) (1 + position_or_len p qs) 0) is in
+        inr (omega arith)
+
+no_place : (p : Last → Bool) (ps : List Last) → position p ps ≡ None → list_any p ps ≡ false
+no_place p ps is = elim (none_or p ps) [
+  | inl none ↦ none
+  | inr lt ↦ absurd (
+      let there : position p ps ≡ Some (position_or_len p ps)
+      = ap (λ (b : Bool). cond b (Some (position_or_len p ps)) None) (lt-ltb _ _ lt) in
+      let q : None ≡ Some (position_or_len p ps) = sym is ∙ there in cc)
+]
+
+-- where the thread has no access the room is for one more
+pub room_left : (t : ThreadId) (ps : LastList) → position (is_of t) ps.items ≡ None → has_room t ps ≡ true
+    → 0 < ps.room
+room_left t ps found room =
+    let none = no_place (is_of t) ps.items found in
+    ltb-true 0 ps.room (sym (ap (λ (b : Bool). b || nat_lt 0 ps.room) none) ∙ room)
+
+-- where there is room for the same accesses there is room for the same operations
+pub room_for : (old new : List Touches) (t : ThreadId)
+    → ((x : ℕ) (k : AccessKind) → RoomAt old t x k → RoomAt new t x k) → (o : Op) → RoomFor old t o
+    → RoomFor new t o
+room_for old new t kept (Load x) h = kept x.0 Read h
+room_for old new t kept (Store x) h = kept x.0 Write h
+room_for old new t kept (Acquire l) h = tt
+room_for old new t kept (Release l) h = tt
+room_for old new t kept (Fork u) h = tt
+room_for old new t kept (Join u) h = tt

@@ -1,4 +1,4 @@
-pub mod Touches
-pub mod TouchList
+pub mod Lasts
+pub mod Touched
 pub mod Tables
 pub mod Standing

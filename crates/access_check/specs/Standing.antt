@@ -1,40 +1,51 @@
--- What the tables mean of a log: of each thread its number of events, of each variable the last accesses.
-use Rattle.std.specs.Prelude.{ℕ, ◌≡◌, ◌+◌, ◌<◌, List, Option, Some, None}
+-- What the tables mean of a log: of each thread its number of events, and of each variable accesses that are
+-- enough for every verdict to come.
+use Rattle.std.specs.Prelude.{ℕ, ◌≡◌, ◌+◌, ◌<◌, ◌≤◌, ◌⊎◌, List}
 use Rattle.std.proofs.Math.ListN.{take}
 use Rattle.event_core.specs.declared.ids.ThreadId.{ThreadId}
 use Rattle.event_core.specs.declared.ids.VarId.{VarId}
 use Rattle.event_core.specs.declared.events.Event.{Event}
 use Rattle.event_core.specs.declared.events.AccessKind.{AccessKind}
-use Rattle.event_core.specs.declared.events.AccessKind.TheVariants.{Read, Write}
+use Rattle.event_core.specs.declared.events.AccessKind.TheVariants.{Write}
 use Rattle.event_core.specs.Log.{Does}
 use Rattle.event_core.specs.Count.{events_of}
 use Rattle.event_core.specs.Turn.{access_of}
 use Rattle.event_core.specs.Closed.{Has}
-use Rattle.access_check.specs.declared.touches.Access.{Access}
-use Rattle.access_check.specs.declared.touches.Touch.{Touch}
+use Rattle.event_core.specs.Refusal.{WellFormed}
+use Rattle.event_core.specs.Wcp.{Below}
+use Rattle.access_check.specs.declared.lasts.Last.{Last}
+use Rattle.access_check.specs.declared.touches.Touches.{Touches}
+use Rattle.access_check.specs.Touched.{kept}
 use Rattle.access_check.specs.Tables.{Tables, count_at, touches_at}
 
--- it is the thread's last access of that kind to the variable
-pub record IsLast (log : List Event) (u : ThreadId) (x : VarId) (k : AccessKind) (a : Access) : Type 0 where
-  pub does : Does log a.index u (access_of x k)
-  pub last : (j : ℕ) → a.index < j → Does log j u (access_of x k) → ⊥
-  pub position : a.position ≡ events_of (take a.index log) u + 1
+-- it is such an access of the log, and its position is that among its thread's events, from 1
+pub record IsAccess (log : List Event) (x : VarId) (k : AccessKind) (p : Last) : Type 0 where
+  pub does : Does log p.access.index p.thread (access_of x k)
+  pub position : p.access.position ≡ events_of (take p.access.index log) p.thread + 1
 
-abbrev pub LastStands : List Event → ThreadId → VarId → AccessKind → Option Access → Type 0
-LastStands log u x k None = (j : ℕ) → Does log j u (access_of x k) → ⊥
-LastStands log u x k (Some a) = IsLast log u x k a
+-- an access of the thread at or after j is kept
+pub record HasLast (ps : List Last) (u : ThreadId) (j : ℕ) : Type 0 where
+  pub last : Last
+  pub member : Has last ps
+  pub thread : last.thread ≡ u
+  pub from : j ≤ last.access.index
 
-pub record TouchStands (log : List Event) (x : VarId) (p : Touch) : Type 0 where
-  pub load : LastStands log p.thread x Read p.load
-  pub store : LastStands log p.thread x Write p.store
+-- a store after j is kept, to which j is not unordered: where j races with a later event, so does the store
+pub record IsCovered (log : List Event) (stores : List Last) (j : ℕ) : Type 0 where
+  pub store : Last
+  pub member : Has store stores
+  pub after : j < store.access.index
+  pub ordered : (Below log j store.access.index → ⊥) → ⊥
 
--- each touch has its thread's last accesses, and each thread that accessed the variable has one
-pub record TouchesStand (log : List Event) (x : VarId) (ps : List Touch) : Type 0 where
-  pub sound : (p : Touch) → Has p ps → TouchStands log x p
+-- what is kept are accesses of the log, and of each access of the log a later one of its thread and kind is
+-- kept, or a store that covers it
+pub record TouchesStand (log : List Event) (x : VarId) (ts : Touches) : Type 0 where
+  pub sound : (k : AccessKind) (p : Last) → Has p (kept k ts) → IsAccess log x k p
   pub complete : (j : ℕ) (u : ThreadId) (k : AccessKind) → Does log j u (access_of x k)
-      → (p : Touch) × Has p ps × (p.thread ≡ u)
+      → HasLast (kept k ts) u j ⊎ IsCovered log (kept Write ts) j
 
 -- the tables stand for the log
 pub record Stands (log : List Event) (t : Tables) : Type 0 where
+  pub well_formed : WellFormed t.limits log
   pub counts : (u : ThreadId) → count_at t.counts u.0 ≡ events_of log u
   pub touches : (x : VarId) → TouchesStand log x (touches_at t.vars x.0)

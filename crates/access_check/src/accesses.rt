@@ -1,130 +1,11 @@
 //! Who touched which variable last.
-ghost use Rattle.std.specs.Prelude.{◌≡◌, ℕ, ◌+◌, ◌<◌, ◌≤◌, ◌^◌, ◌↔◌, ◌∷◌, ◌++◌, [], length, IsTrue, IfOk};
-ghost use Rattle.std.specs.Prelude.{OnOk, List, cond, nat_eq, max};
-ghost use Rattle.hb_clocks.specs.Counts.{counts_of};
-ghost use Rattle.access_check.specs.Touches.{latest, noted, AreNarrow};
-ghost use Rattle.access_check.specs.TouchList.{has_room};
-ghost use Rattle.access_check.specs.Tables.{count_at, list_at, touches_at, touches_after, verdict_at};
-ghost use Rattle.access_check.specs.Tables.{RoomFor};
-ghost use Rattle.event_core.specs.declared.events.Op.{Op as Operation};
-
-use crate::touches::{Access, Touches};
+use crate::lasts::Access;
+use crate::tables::{count_event, grow_at, grow_counts, note_access, verdict_at_var};
+use crate::touches::Touches;
 use event_core::{AccessKind, Event, Limits, Op, OutOfMemory, ThreadId, VarId, Verdict};
 use hb_clocks::Clock;
 use std::alloc::Global;
 use std::marker::Model;
-
-// So many threads have a count.
-fn grow_counts(counts: &mut Vec<u64>, threads: usize) -> Result<(), OutOfMemory>
-    ensures same { (u : ℕ) → count_at counts.new.items u ≡ count_at counts.old.items u }
-    ensures more { length counts.old.items ≤ length counts.new.items }
-    ensures most { length counts.new.items ≤ max (length counts.old.items) threads }
-    ensures ok { OnOk result (threads ≤ length counts.new.items) }
-{
-    'growing: while counts.len() < threads {
-        if counts.push(0).is_err() {
-            return Err(OutOfMemory);
-        }
-    }
-    Ok(())
-}
-
-// So many variables have a table.
-fn grow_vars(vars: &mut Vec<Touches>, alloc: Global, count: usize) -> Result<(), OutOfMemory>
-    ensures same { (x : ℕ) → list_at vars.new.items x ≡ list_at vars.old.items x }
-    ensures more { length vars.old.items ≤ length vars.new.items }
-    ensures ok { OnOk result (count ≤ length vars.new.items) }
-{
-    'growing: while vars.len() < count {
-        if vars.push(Touches::new(alloc)).is_err() {
-            return Err(OutOfMemory);
-        }
-    }
-    Ok(())
-}
-
-// The variable's table has room for an access by the thread.
-fn make_room_at(vars: &mut [Touches], var: usize, thread: ThreadId) -> Result<(), OutOfMemory>
-    requires { var < length vars.old }
-    ensures same { (x : ℕ) → touches_at vars.new x ≡ touches_at vars.old x }
-    ensures more { (x : ℕ) → (list_at vars.old x).room ≤ (list_at vars.new x).room }
-    ensures ok { OnOk result (IsTrue (has_room thread (list_at vars.new var))) }
-{
-    let touches = &mut vars[var];
-    touches.make_room(thread)
-}
-
-// An access is noted at its variable.
-fn note_at(vars: &mut [Touches], var: usize, thread: ThreadId, kind: AccessKind, access: Access)
-    requires within { var < length vars.old }
-    requires room { IsTrue (has_room thread (list_at vars.old var)) }
-    ensures kept { (x : ℕ) → IsTrue (has_room thread (list_at vars.old x))
-        → IsTrue (has_room thread (list_at vars.new x)) }
-    ensures touches { (x : ℕ) → touches_at vars.new x
-        ≡ cond (nat_eq x var) (noted thread kind access (touches_at vars.old x)) (touches_at vars.old x) }
-{
-    let touches = &mut vars[var];
-    touches.note(thread, kind, access);
-}
-
-// The verdict on the thread's access of that kind.
-fn verdict_at_var(
-    vars: &[Touches],
-    var: usize,
-    thread: ThreadId,
-    kind: AccessKind,
-    clock: &Clock,
-) -> Verdict
-    requires { (x : ℕ) → AreNarrow (length clock.now) (touches_at vars.now x) }
-    ensures { result ≡ verdict_at (latest thread kind (counts_of clock.now) (touches_at vars.now var)) }
-{
-    if vars.len() <= var {
-        return Verdict::Clear;
-    }
-    let touches = &vars[var];
-    match touches.latest_racing(thread, kind, clock) {
-        Some(index) => Verdict::Racy(index),
-        None => Verdict::Clear,
-    }
-}
-
-// One more event of the thread: its position.
-fn count_event(counts: &mut [u64], thread: usize) -> u64
-    requires within { thread < length counts.old }
-    requires few { count_at counts.old thread + 1 < 2 ^ 64 }
-    ensures position { result ≡ count_at counts.old thread + 1 }
-    ensures counts { (u : ℕ) → count_at counts.new u
-        ≡ cond (nat_eq u thread) (count_at counts.old u + 1) (count_at counts.old u) }
-{
-    let count = &mut counts[thread];
-    *count += 1;
-    *count
-}
-
-// The event is noted where it is an access.
-#[tactic(auto, using(crate::proofs::Narrow::narrow_after))]
-fn note_access(vars: &mut [Touches], event: &Event, access: Access)
-    requires { RoomFor vars.old event.now.thread event.now.op }
-    ensures touches { (x : ℕ) → touches_at vars.new x
-        ≡ touches_after event.now.thread event.now.op access x (touches_at vars.old x) }
-    ensures narrow { (width : ℕ) → event.now.thread.0 < width
-        → ((x : ℕ) → AreNarrow width (touches_at vars.old x))
-        → (x : ℕ) → AreNarrow width (touches_at vars.new x) }
-    ensures kept { (o : Operation) → RoomFor vars.old event.now.thread o
-        → RoomFor vars.new event.now.thread o }
-{
-    match event.op {
-        Op::Load(var) => note_at(vars, var.0 as usize, event.thread, AccessKind::Read, access),
-        Op::Store(var) => note_at(
-            vars,
-            var.0 as usize,
-            event.thread,
-            AccessKind::Write,
-            access,
-        ),
-        _ => {}
-    }
-}
 
 /// The last accesses of each variable. Contracts see the tables.
 #[derive(Drop)]
@@ -152,10 +33,12 @@ impl Accesses {
     ghost use Rattle.event_core.specs.declared.events.Event.{Event as AnEvent};
     ghost use Rattle.event_core.specs.Rows.{Counted};
     ghost use Rattle.event_core.specs.Wcp.{Below};
+    ghost use Rattle.event_core.specs.Refusal.{WellFormed};
+    ghost use Rattle.event_core.specs.Turn.{access_of};
     ghost use Rattle.event_core.specs.Verdict.{IsVerdict};
     ghost use Rattle.hb_clocks.specs.Counts.{counts_of};
     ghost use Rattle.access_check.specs.Tables.{HasRoom, HasRoomToSwap, KeepsRoom, IsWithin, Notes, Grown};
-    ghost use Rattle.access_check.specs.Tables.{count_at, no_tables, verdict_of};
+    ghost use Rattle.access_check.specs.Tables.{count_at, no_tables, verdict_of, RoomAt};
     ghost use Rattle.event_core.specs.declared.events.Op.{Op as Operation};
     ghost use Rattle.access_check.specs.Standing.{Stands};
 
@@ -180,7 +63,8 @@ impl Accesses {
         ensures room { OnOk result (HasRoom self.new event.now.thread event.now.op) }
     {
         match event.op {
-            Op::Load(var) | Op::Store(var) => self.grow(event.thread, var),
+            Op::Load(var) => self.grow(event.thread, var, AccessKind::Read),
+            Op::Store(var) => self.grow(event.thread, var, AccessKind::Write),
             _ => grow_counts(&mut self.counts, event.thread.0 as usize + 1),
         }
     }
@@ -192,18 +76,18 @@ impl Accesses {
         ensures same { Grown self.old self.new }
         ensures room { OnOk result (HasRoomToSwap self.new thread var) }
     {
-        self.grow(thread, var)
+        self.grow(thread, var, AccessKind::Read)?;
+        self.grow(thread, var, AccessKind::Write)
     }
 
-    fn grow(&mut self, thread: ThreadId, var: VarId) -> Result<(), OutOfMemory>
+    #[tactic(auto, using(crate::proofs::Room::room_for))]
+    fn grow(&mut self, thread: ThreadId, var: VarId, kind: AccessKind) -> Result<(), OutOfMemory>
         requires { IsWithin self.old.limits thread (Operation.Load var) }
         ensures same { Grown self.old self.new }
-        ensures room { OnOk result (HasRoom self.new thread (Operation.Load var)) }
+        ensures room { OnOk result (HasRoom self.new thread (access_of var kind)) }
     {
-        let at = var.0 as usize;
         grow_counts(&mut self.counts, thread.0 as usize + 1)?;
-        grow_vars(&mut self.vars, self.alloc, at + 1)?;
-        make_room_at(&mut self.vars, at, thread)
+        grow_at(&mut self.vars, self.alloc, var.0 as usize, thread, kind)
     }
 
     /// Whether there is room for the event.
@@ -213,12 +97,17 @@ impl Accesses {
         let thread = event.thread.0 as usize;
         thread < self.counts.len()
             && match event.op {
-                Op::Load(var) | Op::Store(var) => {
-                    let var = var.0 as usize;
-                    var < self.vars.len() && self.vars[var].is_ready(event.thread)
-                }
+                Op::Load(var) => self.is_ready_at(event.thread, var, AccessKind::Read),
+                Op::Store(var) => self.is_ready_at(event.thread, var, AccessKind::Write),
                 _ => true,
             }
+    }
+
+    fn is_ready_at(&self, thread: ThreadId, var: VarId, kind: AccessKind) -> bool
+        ensures { IsTrue result ↔ RoomAt self.now.vars thread var.0 kind }
+    {
+        let var = var.0 as usize;
+        var < self.vars.len() && self.vars[var].is_ready(thread, kind)
     }
 
     fn find(&self, event: &Event, clock: &Clock) -> Verdict
@@ -259,26 +148,31 @@ impl Accesses {
         self.find(event, clock)
     }
 
-    fn record(&mut self, event: &Event, index: u64)
+    fn record(&mut self, event: &Event, index: u64, verdict: Verdict)
         requires room { HasRoom self.old event.now.thread event.now.op }
         requires few { count_at self.old.counts event.now.thread.0 + 1 < 2 ^ 64 }
-        ensures notes { Notes self.old self.new event.now index }
+        ensures notes { Notes self.old self.new event.now index verdict }
         ensures kept { KeepsRoom self.old self.new event.now.thread }
     {
         let position = count_event(&mut self.counts, event.thread.0 as usize);
-        note_access(&mut self.vars, event, Access { index, position });
+        note_access(&mut self.vars, event, Access { index, position }, verdict);
     }
 
-    /// The event stands in the log at the index. It is called for every event, so that positions are counted.
-    /// It takes no memory, and no room that was made for its thread's other events.
-    pub fn note(&mut self, event: &Event, index: u64)
+    /// The event stands in the log at the index, and this is the verdict on it: after a store that does not
+    /// race, the earlier accesses of its variable are forgotten, since they are ordered before it, and so
+    /// whatever one of them races with later, the store races with too, at a greater index. It is called for
+    /// every event, so that positions are counted. It takes no memory, and no room that was made for its
+    /// thread's other events.
+    pub fn note(&mut self, event: &Event, index: u64, verdict: Verdict)
         requires room { HasRoom self.old event.now.thread event.now.op }
         requires few { count_at self.old.counts event.now.thread.0 + 1 < 2 ^ 64 }
-        ensures exact { Notes self.old self.new event.now index }
+        ensures exact { Notes self.old self.new event.now index verdict }
         ensures stands { (log : List AnEvent) → Stands log self.old → index ≡ length log
+            → WellFormed self.old.limits (log ++ event.now ∷ [])
+            → IsVerdict (log ++ event.now ∷ []) (length log) verdict
             → Stands (log ++ event.now ∷ []) self.new }
         ensures kept { KeepsRoom self.old self.new event.now.thread }
     {
-        self.record(event, index);
+        self.record(event, index, verdict);
     }
 }

@@ -98,7 +98,7 @@ impl Log {
             return None;
         }
         let verdict = self.accesses.verdict(&event, clock);
-        self.accesses.note(&event, self.length);
+        self.accesses.note(&event, self.length, verdict);
         self.length += 1;
         Some(verdict)
     }
@@ -170,6 +170,25 @@ fn loads_do_not_conflict_with_loads(rt: HostRuntime) -> Result<(), Fail> {
     assert_eq!(rt; log.step(T1, Op::Load(X), none.po(T0)), CLEAR);
     assert_eq!(rt; log.step(T2, Op::Store(X), none.po(T0)), racy(1));
     assert_eq!(rt; log.step(T0, Op::Load(X), none.po(T0)), racy(2));
+    Ok(())
+}
+
+#[test]
+fn a_store_without_a_race_stands_for_what_was_before_it(rt: HostRuntime) -> Result<(), Fail> {
+    let limits = Limits::new(3, 1, 2, 64, Roots::Free).expect(&rt, "limits");
+    let mut log = Log::new(rt.alloc(), limits)?;
+    let none = count(rt.alloc(), &limits, 0)?;
+    let load = count(rt.alloc(), &limits, 1)?;
+    let both = count(rt.alloc(), &limits, 2)?;
+    assert_eq!(rt; log.step(T0, Op::Load(X), none.po(T0)), CLEAR);
+    assert_eq!(rt; log.step(T1, Op::Store(X), load.po(T0)), CLEAR);
+    assert_eq!(rt; log.step(T0, Op::Store(X), none.po(T0)), racy(1));
+    assert_eq!(rt; log.step(T2, Op::Load(X), none.po(T0)), racy(2));
+    assert_eq!(rt;
+        log.step(T2, Op::Store(X), both.po(T0)),
+        racy(1),
+        "a store that races forgets nothing"
+    );
     Ok(())
 }
 

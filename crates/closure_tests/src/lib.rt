@@ -21,6 +21,8 @@ mod pairs;
 #[cfg(test)]
 mod random_logs;
 #[cfg(test)]
+mod runs;
+#[cfg(test)]
 mod sections;
 #[cfg(test)]
 mod worked_logs;

@@ -1,7 +1,8 @@
 //! Worked logs, each with all its races: the index of an event and that of the event that it races with.
 use crate::calls::{acquire, fork, join, load, release, store};
 use crate::judged::judge;
-use event_core::{Call, Verdict};
+use crate::runs::{accepted, outcomes};
+use event_core::{Call, Limits, Roots, Verdict};
 use std::alloc::Global;
 use std::process::Abort;
 use std::test::Fail;
@@ -30,7 +31,8 @@ fn expected(races: &[(usize, u64)], index: usize) -> Verdict {
     Verdict::Clear
 }
 
-// The monitor accepts all the calls. Its verdicts are these races, and those of the closure.
+// The monitor accepts all the calls, by `step` and by `run`. Its verdicts are these races, and those of the
+// closure.
 fn expect_races(
     rt: &impl Abort,
     alloc: Global,
@@ -43,6 +45,11 @@ fn expect_races(
         assert_eq!(rt; *verdict, expected(races, index), "event {index}");
     }
     judged.compare(rt, alloc, 0)?;
+    let limits = Limits::new(3, 4, 3, 64, Roots::Free)?;
+    for (index, outcome) in outcomes(rt, alloc, &limits, calls)?.iter().enumerate() {
+        let verdict = expected(races, index);
+        assert_eq!(rt; *outcome, accepted(index as u64, verdict), "event {index}");
+    }
     Ok(())
 }
 

@@ -35,6 +35,13 @@ impl Mark {
         }
     }
 
+    /// The thread whose event it is.
+    pub fn thread(&self) -> ThreadId
+        ensures { result.0 ≡ self.now.thread }
+    {
+        ThreadId(self.thread)
+    }
+
     /// Whether the clock counts the event. It is one comparison.
     pub fn counted(&self, clock: &Clock, work: &mut Work) -> bool
         requires within { self.now.thread < length clock.now }

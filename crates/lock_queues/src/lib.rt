@@ -1,4 +1,5 @@
-//! The closed critical sections of each lock, for the paper's rule (b).
+//! The closed critical sections of each lock: for rule (b) of weak causal precedence the latest that a
+//! clock counts, and by their numbers those that rule (a) asks for.
 #![tactic(auto)]
 
 mod queue;
@@ -7,6 +8,7 @@ mod rooms;
 mod search;
 
 pub use queues::Queues;
+pub use search::ClosedSection;
 
 #[cfg(test)]
 mod tests;

@@ -6,7 +6,7 @@
 ghost use Rattle.std.specs.Prelude.{◌≡◌, ◌≤◌, length, max, slice_index, OnOk};
 
 use crate::rooms::{Room, find};
-use crate::search::{Section, search};
+use crate::search::{ClosedSection, Section, search};
 use event_core::{OutOfMemory, ThreadId};
 use hb_clocks::{Clock, Mark, Work};
 use std::alloc::Global;
@@ -187,6 +187,28 @@ impl Queue {
             return None;
         }
         Some(&self.closed[number - 1].release)
+    }
+
+    // How many sections are closed.
+    pub(crate) fn count(&self) -> usize
+        ensures { result ≡ length self.now.closed }
+    {
+        self.closed.len()
+    }
+
+    // The closed section at the place.
+    pub(crate) fn section(&self, place: usize) -> ClosedSection<'_>
+        requires within { place < length self.now.closed }
+        ensures by { result.by.0 ≡ (closed_at (map closed_as self.now.closed) place).thread }
+        ensures release { counts_of result.release.now
+            ≡ (closed_at (map closed_as self.now.closed) place).release }
+        ensures width { length result.release.now ≡ self.now.width }
+    {
+        let section = &self.closed[place];
+        ClosedSection {
+            by: section.acquire.thread(),
+            release: &section.release,
+        }
     }
 }
 

@@ -7,11 +7,15 @@
 //! queue for each lock and thread. Here one list a lock serves all threads, each with a cursor: the
 //! sections on one lock are ordered, so that a clock which counts one acquire counts all earlier
 //! ones, and the latest counted section brings what the others bring.
+//!
+//! Rule (a) asks for single sections, by their numbers: so what names a section keeps its number alone, and
+//! the clock of its release is kept once, here.
 ghost use Rattle.std.specs.Prelude.{◌≡◌, ℕ, ◌≤◌, length, OnOk};
 ghost use Rattle.lock_queues.specs.Queue.{AreAlike};
 ghost use Rattle.lock_queues.specs.Queues.{AreWide};
 
 use crate::queue::Queue;
+use crate::search::ClosedSection;
 use event_core::{Limits, LockId, OutOfMemory, ThreadId};
 use hb_clocks::{Clock, Mark, Work};
 use std::alloc::Global;
@@ -182,6 +186,31 @@ impl Queues {
     {
         let queue = &mut self.queues[lock.0 as usize];
         queue.leave(thread, clock);
+    }
+
+    /// How many closed sections the lock has: the number of the newest.
+    pub fn count(&self, lock: LockId) -> u32
+        requires few { length (closed_of self.now lock.0) < 2 ^ 32 }
+        ensures { result ≡ length (closed_of self.now lock.0) }
+    {
+        let at = lock.0 as usize;
+        if at < self.queues.len() {
+            self.queues[at].count() as u32
+        } else {
+            0
+        }
+    }
+
+    /// The lock's closed section with the number: its place in the order of their releases, from 1.
+    pub fn section(&self, lock: LockId, number: u32) -> ClosedSection<'_>
+        requires some { 0 < number }
+        requires within { number ≤ length (closed_of self.now lock.0) }
+        ensures by { result.by.0 ≡ (closed_at (closed_of self.now lock.0) (number - 1)).thread }
+        ensures release { counts_of result.release.now
+            ≡ (closed_at (closed_of self.now lock.0) (number - 1)).release }
+        ensures width { length result.release.now ≡ self.now.limits.threads }
+    {
+        self.queues[lock.0 as usize].section(number as usize - 1)
     }
 
     // The thread finds how many of the lock's sections the clock counts.

@@ -2,6 +2,7 @@
 ghost use Rattle.std.specs.Prelude.{◌≡◌, ℕ, ◌+◌, ◌<◌, ◌≤◌, ◌^◌, length};
 ghost use Rattle.lock_queues.specs.Sections.{section_at, IsCounted};
 
+use event_core::ThreadId;
 use hb_clocks::{Clock, Mark, Work};
 
 /// A closed section: the mark of its acquire, and the clock of its release.
@@ -9,6 +10,13 @@ use hb_clocks::{Clock, Mark, Work};
 pub(crate) struct Section {
     pub(crate) acquire: Mark,
     pub(crate) release: Clock,
+}
+
+/// A closed section: the thread whose it was, and the clock of its release.
+#[derive(Clone, Copy)]
+pub struct ClosedSection<'a> {
+    pub by: ThreadId,
+    pub release: &'a Clock,
 }
 
 // How many of the sections are counted one after another from the first, of which so many are known

@@ -1,8 +1,9 @@
 //! What no clause says: that there can be memory, that the conditions can be met, and how much a
 //! section takes.
-ghost use Rattle.std.specs.Prelude.{◌≡◌, ◌<◌, ◌≤◌, ◌^◌, [], length, IfOk, OnOk};
+ghost use Rattle.std.specs.Prelude.{◌≡◌, ◌<◌, ◌≤◌, ◌^◌, [], length, true, IfOk, OnOk};
+ghost use Rattle.event_core.specs.Rows.{with_row};
 ghost use Rattle.hb_clocks.specs.Tables.{state_of};
-ghost use Rattle.lock_queues.specs.Queues.{closed_of, found_of};
+ghost use Rattle.lock_queues.specs.Queues.{closed_of, found_of, has_room, SameMeaning};
 
 use crate::queues::Queues;
 use crate::search::Section;
@@ -37,6 +38,20 @@ fn count_one(
     Ok((clocks, work))
 }
 
+// Where a growth is refused, the same call is made again.
+fn make_room(queues: &mut Queues, thread: ThreadId) -> Result<(), OutOfMemory>
+    requires thread { thread.0 < queues.old.limits.threads }
+    requires lock { 0 < queues.old.limits.locks }
+    ensures same { SameMeaning queues.old queues.new }
+    ensures ok { OnOk result (has_room queues.new
+        ≡ with_row thread.0 (with_row 0 true (has_room queues.old thread.0)) (has_room queues.old)) }
+{
+    match queues.make_room(thread, LOCK) {
+        Ok(()) => Ok(()),
+        Err(OutOfMemory) => queues.make_room(thread, LOCK),
+    }
+}
+
 // The thread has the first section on the lock, which is closed with its clock.
 fn close_one(queues: &mut Queues, clocks: &HbClocks, thread: ThreadId) -> Result<(), OutOfMemory>
     requires thread { thread.0 < queues.old.limits.threads }
@@ -48,7 +63,7 @@ fn close_one(queues: &mut Queues, clocks: &HbClocks, thread: ThreadId) -> Result
     ensures found { found_of queues.new ≡ found_of queues.old }
     ensures limits { queues.new.limits ≡ queues.old.limits }
 {
-    queues.make_room(thread, LOCK)?;
+    make_room(queues, thread)?;
     queues.enter(thread, LOCK, clocks.mark(thread));
     queues.leave(thread, LOCK, clocks.hb(thread));
     Ok(())
@@ -71,7 +86,7 @@ fn ask(
     requires found { found_of queues.old 0 thread.0 ≡ 0 }
     requires few { work.old.comparisons ≤ 2 ^ 62 }
 {
-    queues.make_room(thread, LOCK)?;
+    make_room(queues, thread)?;
     queues.enter(thread, LOCK, clocks.mark(thread));
     let Some(below) = queues.last_below(thread, LOCK, clock, work) else {
         return Ok(None);
@@ -106,8 +121,14 @@ fn room_is_made_for_one_thread_and_lock(rt: HostRuntime) -> Result<(), Fail> {
 fn another_thread_finds_the_section(rt: HostRuntime) -> Result<(), Fail> {
     let limits = Limits::new(2, 1, 1, 8, Roots::Free)?;
     let mut queues = Queues::new(rt.alloc(), &limits)?;
-    let (first, mut work) = count_one(rt.alloc(), &limits, ThreadId(0))?;
-    let (second, _) = count_one(rt.alloc(), &limits, ThreadId(1))?;
+    let (first, mut work) = match count_one(rt.alloc(), &limits, ThreadId(0)) {
+        Ok(made) => made,
+        Err(OutOfMemory) => count_one(rt.alloc(), &limits, ThreadId(0))?,
+    };
+    let (second, _) = match count_one(rt.alloc(), &limits, ThreadId(1)) {
+        Ok(made) => made,
+        Err(OutOfMemory) => count_one(rt.alloc(), &limits, ThreadId(1))?,
+    };
     close_one(&mut queues, &first, ThreadId(0))?;
     let answer = ask(
         &mut queues,
@@ -117,5 +138,20 @@ fn another_thread_finds_the_section(rt: HostRuntime) -> Result<(), Fail> {
         &mut work,
     )?;
     assert_eq!(rt; answer, Some(1));
+    Ok(())
+}
+
+#[test]
+fn a_closed_section_is_found_by_its_number(rt: HostRuntime) -> Result<(), Fail> {
+    let limits = Limits::new(2, 1, 1, 8, Roots::Free)?;
+    let mut queues = Queues::new(rt.alloc(), &limits)?;
+    let (clocks, _) = count_one(rt.alloc(), &limits, ThreadId(1))?;
+    assert_eq!(rt; queues.count(LOCK), 0);
+    close_one(&mut queues, &clocks, ThreadId(1))?;
+    assert_eq!(rt; queues.count(LOCK), 1);
+    let section = queues.section(LOCK, 1);
+    assert_eq!(rt; section.by, ThreadId(1));
+    assert_eq!(rt; section.release.at(ThreadId(1)), 1);
+    assert_eq!(rt; section.release.at(ThreadId(0)), 0);
     Ok(())
 }

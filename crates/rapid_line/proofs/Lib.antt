@@ -5,3 +5,5 @@ pub mod Found
 pub mod Split
 pub mod First
 pub mod Answered
+pub mod Marked
+pub mod Barred

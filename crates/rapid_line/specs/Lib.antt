@@ -2,3 +2,4 @@ pub mod Cut
 pub mod Grammar
 pub mod Causes
 pub mod Reading
+pub mod Marks

@@ -6,8 +6,10 @@
 
 mod bytes;
 mod lines;
+mod marks;
 mod words;
 
 pub use bytes::strip_last;
-pub use lines::{NamedLine, one_content, one_reading, read_line};
+pub use lines::{NamedLine, one_content, one_reading, read_barred, read_line};
+pub use marks::{Line, first_line};
 pub use words::{LineFault, Word};

@@ -6,7 +6,8 @@ ghost use Rattle.rapid_line.specs.Cut.{Lacks};
 ghost use Rattle.rapid_line.specs.Grammar.{Named, IsWellFormed, content_of, IsNamed};
 ghost use Rattle.rapid_line.specs.Causes.{IsFirstCause};
 ghost use Rattle.rapid_line.specs.Reading.{word_of, fields_of, operation_of, line_of, Gives, ok_named};
-ghost use Rattle.rapid_line.specs.Reading.{named_of};
+ghost use Rattle.rapid_line.specs.Reading.{named_of, names_of, and_then};
+ghost use Rattle.rapid_line.specs.Marks.{IsBarred};
 
 use crate::bytes::{contains, cut_at, strip_last};
 use crate::words::{LineFault, Word};
@@ -73,18 +74,27 @@ fn operation(field: &[u8]) -> Result<(Word, &[u8]), LineFault>
     Ok((word, argument))
 }
 
-/// The parts of a content.
-#[tactic(auto, unfolding(crate::specs::Reading::line_of))]
-fn parts(bytes: &[u8]) -> Result<NamedLine<'_>, LineFault>
-    ensures { Gives named_of result (line_of bytes.now) }
+/// The three fields, where it is known where the bars stand.
+#[inline(always)]
+fn fields_at(bytes: &[u8], first_bar: usize, second_bar: usize) -> (&[u8], &[u8], &[u8])
+    requires { IsBarred bytes.now first_bar second_bar }
+    ensures { fields_of bytes.now ≡ Ok (result.0.now, result.1.now, result.2.now) }
 {
-    if bytes.len() > 1024 {
-        return Err(LineFault::LineTooLong);
-    }
-    if contains(bytes, b'\r') {
-        return Err(LineFault::StrayCr);
-    }
-    let (thread, field, location) = fields(bytes)?;
+    let rest = &bytes[first_bar + 1..];
+    let length = second_bar - first_bar - 1;
+    (&bytes[..first_bar], &rest[..length], &rest[length + 1..])
+}
+
+/// The named event of three fields.
+#[inline(never)]
+fn named<'a>(
+    thread: &'a [u8],
+    field: &'a [u8],
+    location: &'a [u8],
+) -> Result<NamedLine<'a>, LineFault>
+    ensures { Gives named_of result (and_then (operation_of field.now)
+        (λ o. names_of thread.now location.now o.0 o.1)) }
+{
     let (word, argument) = operation(field)?;
     if thread.is_empty() || argument.is_empty() {
         return Err(LineFault::EmptyName);
@@ -98,6 +108,38 @@ fn parts(bytes: &[u8]) -> Result<NamedLine<'_>, LineFault>
         argument,
         location,
     })
+}
+
+/// The parts of a content.
+#[inline(never)]
+#[tactic(auto, unfolding(crate::specs::Reading::line_of))]
+fn parts(bytes: &[u8]) -> Result<NamedLine<'_>, LineFault>
+    ensures { Gives named_of result (line_of bytes.now) }
+{
+    if bytes.len() > 1024 {
+        return Err(LineFault::LineTooLong);
+    }
+    if contains(bytes, b'\r') {
+        return Err(LineFault::StrayCr);
+    }
+    let (thread, field, location) = fields(bytes)?;
+    named(thread, field, location)
+}
+
+/// The same as `read_line`, of a content of which it is known where its bars stand, and that it has no CR.
+#[inline(always)]
+pub fn read_barred(
+    bytes: &[u8],
+    first_bar: usize,
+    second_bar: usize,
+) -> Result<NamedLine<'_>, LineFault>
+    requires lf { Lacks 10 bytes.now }
+    requires barred { IsBarred bytes.now first_bar second_bar }
+    ensures found { IfOk result (λ line. IsNamed bytes.now (named_of line)) }
+    ensures exact { Gives named_of result (line_of bytes.now) }
+{
+    let (thread, field, location) = fields_at(bytes, first_bar, second_bar);
+    named(thread, field, location)
 }
 
 /// The named event of a content, which stands without its ending and so has no LF, or the first cause why

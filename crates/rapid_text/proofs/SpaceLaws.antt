@@ -36,7 +36,7 @@ use Rattle.std.specs.List.{position, list_any, prefix_len}
 use Rattle.std.specs.Str.{bytes_eq}
 use Rattle.std.proofs.lemmas.List.{length-map, map-append}
 use Rattle.std.proofs.lemmas.Bool.{lt-ltb, le-ltb, false_from_ne_true, both_ways}
-use Rattle.rapid_text.specs.Numbers.{Numbered, found_or, number_of}
+use Rattle.rapid_text.specs.Numbers.{Numbered, found_or, number_of, place_of}
 
 prefix_len-map : {X Y : Type 0} (f : X → Y) (p : Y → Bool) (xs : List X)
     → prefix_len p (map f xs) ≡ prefix_len (λ x. p (f x)) xs
@@ -57,6 +57,10 @@ unfolding number_of
 numbered_found limit ks name i e =
     ap (λ (o : Option ℕ). found_or o (names_in limit ks) name)
     (position-map (λ k. k.items) (λ n. bytes_eq name n) ks ∙ e)
+
+pub no_place : (limit : ℕ) (ks : List (Vec ℕ Global)) (name : List ℕ)
+    → position (λ k. bytes_eq name k.items) ks ≡ None → place_of (names_in limit ks) name ≡ None
+no_place limit ks name e = position-map (λ k. k.items) (λ n. bytes_eq name n) ks ∙ e
 
 pub numbered_full : (limit : ℕ) (ks : List (Vec ℕ Global)) (name : List ℕ)
     → position (λ k. bytes_eq name k.items) ks ≡ None → limit ≤ length ks

@@ -8,6 +8,7 @@ ghost use Rattle.std.specs.Prelude.{IfErr, OnOk, OnErr, Ok, None, Some, IfSome, 
 ghost use Rattle.std.specs.Result.{IsErrOf};
 ghost use Rattle.event_core.specs.Bounds.{Bounds};
 ghost use Rattle.rapid_line.specs.Cut.{Lacks, cut};
+ghost use Rattle.rapid_line.specs.Marks.{IsKnown};
 ghost use Rattle.rapid_text.specs.Tables.{no_names, TablesGrow};
 ghost use Rattle.rapid_text.specs.Events.{content, reading, Fails, IsOfNames};
 ghost use Rattle.rapid_text.specs.Cutting.{Cutting, judged, most, Pushes, FailsAt, Closes, begun};
@@ -20,7 +21,7 @@ use crate::event_lines::line_event;
 use crate::names::Names;
 use event_core::{Event, Limits, OutOfMemory};
 use memchr::memchr;
-use rapid_line::LineFault;
+use rapid_line::{Line, LineFault, first_line};
 use std::alloc::Global;
 use std::marker::Model;
 
@@ -30,12 +31,34 @@ const MOST_BYTES: u64 = 1152921504606846976;
 /// The most bytes of an unfinished line that may still end as a content of 1,024 bytes: those and a CR.
 const MOST_KEPT: usize = 1025;
 
-/// The bytes before the first LF, and those after it.
-fn cut_line(bytes: &[u8]) -> Option<(&[u8], &[u8])>
-    ensures { option_map (λ p. (p.0.now, p.1.now)) result ≡ cut 10 bytes.now }
+/// The bytes before the first LF, with their bars where one look tells them, and those after it.
+#[inline(always)]
+fn cut_line(bytes: &[u8]) -> Option<(Line<'_>, &[u8])>
+    ensures cut { option_map (λ p. (p.0.bytes.now, p.1.now)) result ≡ cut 10 bytes.now }
+    ensures known { IfSome result (λ p. IsKnown p.0) }
+{
+    if let Some(found) = first_line(bytes) {
+        return Some(found);
+    }
+    search_line(bytes)
+}
+
+/// The same, where one look does not tell.
+#[inline(never)]
+fn search_line(bytes: &[u8]) -> Option<(Line<'_>, &[u8])>
+    ensures cut { option_map (λ p. (p.0.bytes.now, p.1.now)) result ≡ cut 10 bytes.now }
+    ensures known { IfSome result (λ p. IsKnown p.0) }
 {
     let at = memchr(b'\n', bytes)?;
-    Some((&bytes[..at], &bytes[at + 1..]))
+    Some((unmarked(&bytes[..at]), &bytes[at + 1..]))
+}
+
+/// A line of whose bars nothing is known.
+fn unmarked(bytes: &[u8]) -> Line<'_>
+    ensures bytes { result.bytes.now ≡ bytes.now }
+    ensures known { IsKnown result }
+{
+    Line { bytes, bars: None }
 }
 
 /// Adds the bytes to the line whose end was not seen.
@@ -60,14 +83,16 @@ fn keep(kept: &mut Vec<u8>, bytes: &[u8]) -> Result<(), Cause>
 }
 
 /// What the line comes to that is kept and ends with these bytes.
-fn whole_line(names: &mut Names, kept: &mut Vec<u8>, line: &[u8]) -> Result<Option<Event>, Cause>
+fn whole_line(names: &mut Names, kept: &mut Vec<u8>, line: Line<'_>) -> Result<Option<Event>, Cause>
     requires kept_lf { Lacks 10 kept.old.items }
-    requires lf { Lacks 10 line.now }
+    requires lf { Lacks 10 line.bytes.now }
+    requires known { IsKnown line }
     requires short { length kept.old.items ≤ 1025 }
     ensures ok { IfOk result (λ e.
-        reading names.old (content (kept.old.items ++ line.now)) ≡ Ok (e, names.new)) }
+        reading names.old (content (kept.old.items ++ line.entry.bytes.now)) ≡ Ok (e, names.new)) }
     ensures empty { OnOk result (kept.new.items ≡ []) }
-    ensures fault { IfErr result (λ f. Fails f (reading names.old (content (kept.old.items ++ line.now)))) }
+    ensures fault { IfErr result (λ f.
+        Fails f (reading names.old (content (kept.old.items ++ line.entry.bytes.now)))) }
     ensures kept_lf { Lacks 10 kept.new.items }
     ensures short { length kept.new.items ≤ length kept.old.items }
     ensures grows { TablesGrow names.old names.new }
@@ -76,8 +101,8 @@ fn whole_line(names: &mut Names, kept: &mut Vec<u8>, line: &[u8]) -> Result<Opti
     if kept.is_empty() {
         return line_event(names, line);
     }
-    keep(kept, line)?;
-    let event = line_event(names, kept.as_slice());
+    keep(kept, line.bytes)?;
+    let event = line_event(names, unmarked(kept.as_slice()));
     kept.clear();
     event
 }
@@ -157,14 +182,15 @@ impl Cutter {
     }
 
     /// Judges the line that ends with these bytes, and an LF.
-    fn end_line(&mut self, line: &[u8]) -> Result<Option<Event>, TextFault>
-        requires lf { Lacks 10 line.now }
-        requires room { self.old.taken + length line.now < most }
+    fn end_line(&mut self, line: Line<'_>) -> Result<Option<Event>, TextFault>
+        requires lf { Lacks 10 line.bytes.now }
+        requires known { IsKnown line }
+        requires room { self.old.taken + length line.bytes.now < most }
         requires live { self.old.failed ≡ None }
-        ensures ok { IfOk result (EndsLine self.old self.new line.now) }
+        ensures ok { IfOk result (EndsLine self.old self.new line.entry.bytes.now) }
         ensures grows { TablesGrow self.old.names self.new.names }
         ensures named { IfOk result (λ e. IfSome e (IsOfNames self.new.names)) }
-        ensures fault { IfErr result (LineFails self.old line.now) }
+        ensures fault { IfErr result (LineFails self.old line.entry.bytes.now) }
         ensures failed { IfErr result (λ f. self.new.failed ≡ Some f.line) }
         ensures line { IfErr result (λ f. self.new.line ≡ f.line) }
         ensures kept { length self.new.kept ≤ 1025 }
@@ -174,7 +200,7 @@ impl Cutter {
             Ok(event) => {
                 self.line = line_told(&event, self.unfinished, self.line);
                 self.unfinished += 1;
-                self.taken += line.len() as u64 + 1;
+                self.taken += line.bytes.len() as u64 + 1;
                 Ok(event)
             }
             Err(cause) => Err(self.fail(cause)),
@@ -233,7 +259,7 @@ impl Cutter {
         }
         let mut used = 0;
         'lines: while let Some((line, _)) = cut_line(&piece[used..]) {
-            used += line.len() + 1;
+            used += line.bytes.len() + 1;
             if let Some(event) = self.end_line(line)? {
                 return Ok((used, Some(event)));
             }
@@ -263,7 +289,7 @@ impl Cutter {
         if self.kept.is_empty() {
             return Ok(None);
         }
-        match line_event(&mut self.names, self.kept.as_slice()) {
+        match line_event(&mut self.names, unmarked(self.kept.as_slice())) {
             Ok(event) => {
                 self.line = line_told(&event, self.unfinished, self.line);
                 self.unfinished += 1;

@@ -2,7 +2,8 @@
 ghost use Rattle.std.specs.Prelude.{◌≡◌, IfOk, IfErr, IfSome, Ok};
 ghost use Rattle.rapid_line.specs.Cut.{Lacks};
 ghost use Rattle.rapid_line.specs.Grammar.{IsWellFormed};
-ghost use Rattle.rapid_line.specs.Reading.{named_of};
+ghost use Rattle.rapid_line.specs.Marks.{IsKnown};
+ghost use Rattle.rapid_line.specs.Reading.{named_of, line_of, Gives};
 ghost use Rattle.rapid_text.specs.Tables.{IsNameOf, TablesGrow, number_in};
 ghost use Rattle.rapid_text.specs.Events.{kind_of, op_of, number_or_fault, named_event, content, reading};
 ghost use Rattle.rapid_text.specs.Events.{Fails, IsOfNames};
@@ -10,7 +11,7 @@ ghost use Rattle.rapid_text.specs.Events.{Fails, IsOfNames};
 use crate::causes::{Cause, Kind, NameFault};
 use crate::names::Names;
 use event_core::{Event, LockId, Op, SiteId, ThreadId, VarId};
-use rapid_line::{NamedLine, Word, read_line, strip_last};
+use rapid_line::{Line, LineFault, NamedLine, Word, read_barred, read_line, strip_last};
 
 /// What the argument of a word names.
 pub fn kind_at(word: Word) -> Kind
@@ -37,6 +38,7 @@ fn op_at(word: Word, number: u32) -> Op
 }
 
 /// The number of a name in a line.
+#[inline(always)]
 fn number_in_line(names: &mut Names, kind: Kind, name: &[u8]) -> Result<u32, Cause>
     requires { IsNameOf kind name.now }
     ensures ok { IfOk result (λ n.
@@ -83,20 +85,34 @@ fn without_cr(line: &[u8]) -> &[u8]
     line
 }
 
+/// The named event of a line's content, or the first cause why it has none.
+#[inline(always)]
+fn read_content(line: Line<'_>) -> Result<NamedLine<'_>, LineFault>
+    requires lf { Lacks 10 line.bytes.now }
+    requires known { IsKnown line }
+    ensures found { IfOk result (λ named. IsWellFormed (named_of named)) }
+    ensures exact { Gives named_of result (line_of (content line.entry.bytes.now)) }
+{
+    if let Some((first_bar, second_bar)) = line.bars {
+        return read_barred(line.bytes, first_bar, second_bar);
+    }
+    read_line(without_cr(line.bytes))
+}
+
 /// What a line comes to, which stands without its LF.
 #[tactic(auto, unfolding(crate::specs::Events::reading))]
-pub fn line_event(names: &mut Names, line: &[u8]) -> Result<Option<Event>, Cause>
-    requires { Lacks 10 line.now }
-    ensures ok { IfOk result (λ e. reading names.old (content line.now) ≡ Ok (e, names.new)) }
-    ensures fault { IfErr result (λ f. Fails f (reading names.old (content line.now))) }
+pub fn line_event(names: &mut Names, line: Line<'_>) -> Result<Option<Event>, Cause>
+    requires lf { Lacks 10 line.bytes.now }
+    requires known { IsKnown line }
+    ensures ok { IfOk result (λ e. reading names.old (content line.entry.bytes.now) ≡ Ok (e, names.new)) }
+    ensures fault { IfErr result (λ f. Fails f (reading names.old (content line.entry.bytes.now))) }
     ensures grows { TablesGrow names.old names.new }
     ensures named { IfOk result (λ e. IfSome e (IsOfNames names.new)) }
 {
-    let bytes = without_cr(line);
-    if bytes.is_empty() {
+    if without_cr(line.bytes).is_empty() {
         return Ok(None);
     }
-    let named = match read_line(bytes) {
+    let named = match read_content(line) {
         Ok(named) => named,
         Err(fault) => return Err(Cause::Line(fault)),
     };

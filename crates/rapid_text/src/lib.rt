@@ -5,6 +5,7 @@ mod causes;
 mod cutter;
 mod device;
 mod event_lines;
+mod guesses;
 mod input;
 mod laws;
 mod names;

@@ -58,12 +58,14 @@ impl Names {
     }
 
     /// The number of the name in the space of its kind.
+    #[inline(always)]
     #[tactic(auto, unfolding(crate::specs::Tables::number_in))]
     fn number_in_space(&mut self, kind: Kind, name: &[u8]) -> Result<u32, NameFault>
         requires { IsNameOf kind name.now }
         ensures ok { IfOk result (λ n. number_in self.old kind name.now ≡ Some (n, self.new)) }
         ensures too_many { IsErrOf result NameFault.TooMany → number_in self.old kind name.now ≡ None }
         ensures err { OnErr result (self.new ≡ self.old) }
+        ensures new_only { OnErr result (place_of (space self.old kind) name.now ≡ None) }
     {
         match kind {
             Kind::Thread => self.threads.number(name),
@@ -74,12 +76,14 @@ impl Names {
     }
 
     /// The number of the name, which is the next one where the name is new. An `Err` changes nothing.
+    #[inline(always)]
     pub fn number(&mut self, kind: Kind, name: &[u8]) -> Result<u32, NameFault>
         requires { IsNameOf kind name.now }
         ensures ok { IfOk result (λ n. number_in self.old kind name.now ≡ Some (n, self.new)) }
         // The name is new, and there are as many as the limit.
         ensures too_many { IsErrOf result NameFault.TooMany → number_in self.old kind name.now ≡ None }
         ensures err { OnErr result (self.new ≡ self.old) }
+        ensures new_only { OnErr result (place_of (space self.old kind) name.now ≡ None) }
         // The number has this name from now on, and names were only added.
         ensures named { IfOk result (λ n. slice_get (space self.new kind).names n ≡ Some name.now) }
         ensures grows { TablesGrow self.old self.new }

@@ -4,9 +4,10 @@ ghost use Rattle.std.specs.Prelude.{OnErr, IsTrue};
 ghost use Rattle.std.specs.Result.{IsErrOf};
 ghost use Rattle.std.specs.declared.vec.Vec.{Vec};
 ghost use Rattle.std.specs.declared.alloc.Global.{Global};
-ghost use Rattle.rapid_text.specs.Numbers.{Numbered, number_of};
+ghost use Rattle.rapid_text.specs.Numbers.{Numbered, number_of, place_of};
 
 use crate::causes::NameFault;
+use crate::guesses::Guesses;
 use indexmap::IndexSet;
 use std::alloc::Global;
 use std::marker::Model;
@@ -22,27 +23,13 @@ fn is_at(keys: &[Vec<u8>], number: usize, name: &[u8]) -> bool
     keys[number].as_slice() == name
 }
 
-/// One byte made of the last two, in which the names of a text mostly differ.
-fn ending(name: &[u8]) -> u8 {
-    let len = name.len();
-    if len == 0 {
-        return 0;
-    }
-    if len == 1 {
-        return name[0];
-    }
-    name[len - 2].wrapping_mul(16) ^ name[len - 1]
-}
-
 /// The names of one kind.
 #[derive(Drop)]
 pub struct Space {
     keys: IndexSet<Vec<u8>>,
+    guesses: Guesses,
     alloc: Global,
     limit: u32,
-    /// By the ending of a name, the number that was answered last. The next lines mostly have the same names,
-    /// and to compare one name is cheaper than to search by a hash.
-    latest: [u32; 256],
 }
 
 impl Model for Space {
@@ -59,9 +46,9 @@ impl Space {
     {
         Space {
             keys: IndexSet::new(alloc),
+            guesses: Guesses::new(alloc),
             alloc,
             limit,
-            latest: [0; 256],
         }
     }
 
@@ -75,23 +62,39 @@ impl Space {
     }
 
     /// The number of the name, which is a new one where the name is.
+    #[inline(always)]
     pub fn number(&mut self, name: &[u8]) -> Result<u32, NameFault>
         ensures ok { IfOk result (λ i. number_of self.old name.now ≡ Some (i, self.new)) }
         ensures too_many { IsErrOf result NameFault.TooMany → number_of self.old name.now ≡ None }
         ensures err { OnErr result (self.new ≡ self.old) }
+        ensures new_only { OnErr result (place_of self.old name.now ≡ None) }
     {
-        let ending = ending(name) as usize;
-        let latest = self.latest[ending];
-        if is_at(self.keys.as_slice(), latest as usize, name) {
-            return Ok(latest);
+        let guess = self.guesses.guess(name);
+        if is_at(self.keys.as_slice(), guess as usize, name) {
+            return Ok(guess);
         }
+        self.search(name)
+    }
+
+    /// The same, where no guess was right.
+    #[inline(never)]
+    fn search(&mut self, name: &[u8]) -> Result<u32, NameFault>
+        ensures ok { IfOk result (λ i. number_of self.old name.now ≡ Some (i, self.new)) }
+        ensures too_many { IsErrOf result NameFault.TooMany → number_of self.old name.now ≡ None }
+        ensures err { OnErr result (self.new ≡ self.old) }
+        ensures new_only { OnErr result (place_of self.old name.now ≡ None) }
+    {
         if let Some(i) = self.keys.get_index_of(name) {
-            self.latest[ending] = i as u32;
+            self.guesses.note(name, i as u32);
             return Ok(i as u32);
         }
         let count = self.keys.len();
         if count >= self.limit as usize {
             return Err(NameFault::TooMany);
+        }
+        let number = count as u32;
+        if self.guesses.make_room(self.alloc, number).is_err() {
+            return Err(NameFault::OutOfMemory);
         }
         let Ok(key) = Vec::from_slice(self.alloc, name) else {
             return Err(NameFault::OutOfMemory);
@@ -99,8 +102,8 @@ impl Space {
         let Ok(_) = self.keys.insert(key) else {
             return Err(NameFault::OutOfMemory);
         };
-        self.latest[ending] = count as u32;
-        Ok(count as u32)
+        self.guesses.note(name, number);
+        Ok(number)
     }
 
     /// The name of a number.

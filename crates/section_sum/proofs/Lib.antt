@@ -4,4 +4,3 @@ mod Places
 mod Says
 mod Locks
 mod Meaning
-mod Sourcing

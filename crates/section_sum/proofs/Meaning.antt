@@ -1,75 +1,87 @@
 -- What the tables' changes are in the words that callers see.
-use Rattle.std.proofs.Common.{◌≡◌, ℕ, not, ◌&&◌, ◌||◌, cond, List, nat_eq, refl}
+use Rattle.std.proofs.Common.{◌≡◌, ℕ, ◌≤◌, Bool, true, false, not, ◌&&◌, ◌||◌, cond, List, nat_eq}
+use Rattle.std.proofs.Common.{[], ◌∷◌, length, length-append, refl, arith}
 use Rattle.event_core.specs.declared.ids.LockId.{LockId}
 use Rattle.event_core.specs.declared.events.AccessKind.{AccessKind}
-use Rattle.event_core.specs.Rows.{join}
-use Rattle.hb_clocks.specs.Counts.{counts_of}
-use Rattle.section_sum.specs.Entries.{Entries}
+use Rattle.event_core.specs.declared.events.AccessKind.TheVariants.{Read, Write}
+use Rattle.section_sum.specs.Newest.{section}
+use Rattle.section_sum.specs.Entries.{Entries, sources_on}
 use Rattle.section_sum.specs.Sums.{
   Sums,
-  width_of,
+  table_at,
   noted_of,
   others_of,
   room_of,
+  sources_of,
   is_access,
   SameNoted,
   SameOthers,
   KeepsRoom,
 }
+use Rattle.section_sum.specs.Sources.{most_sources}
 use Rattle.section_sum.specs.Tables.{HaveGrown, HaveNoted, HaveClosed}
 
-abbrev pub sums : ℕ → List Entries → Sums
-sums width tables = record { width = width; tables = tables }
+abbrev pub sums : List Entries → Sums
+sums tables = record { tables = tables }
 
 pub record Grows (old new : Sums) : Type 0 where
-  pub width : width_of new ≡ width_of old
   pub noted : SameNoted old new
   pub others : SameOthers old new
   pub kept : KeepsRoom old new
 
 pub record Notes (thread : ℕ) (held : List LockId) (var : ℕ) (kind : AccessKind) (old new : Sums) : Type 0
   where
-    pub width : width_of new ≡ width_of old
     pub noted : (t l v : ℕ) (k : AccessKind)
         → noted_of new t l v k ≡ (noted_of old t l v k || is_access thread held var kind t l v k)
     pub others : SameOthers old new
     pub kept : KeepsRoom old new
 
-pub record Closes (thread lock : ℕ) (clock : List ℕ) (old new : Sums) : Type 0 where
-  pub width : width_of new ≡ width_of old
+pub record Closes (thread lock number : ℕ) (old new : Sums) : Type 0 where
   pub noted : (t l v : ℕ) (k : AccessKind)
       → noted_of new t l v k ≡ (noted_of old t l v k && not (nat_eq t thread && nat_eq l lock))
-  pub others : (l v : ℕ) (k : AccessKind) (t u : ℕ) → others_of new l v k t u
+  pub others : (l v : ℕ) (k : AccessKind) (t : ℕ) → others_of new l v k t
       ≡ cond (nat_eq l lock && (not (nat_eq t thread) && noted_of old thread l v k))
-      (join (others_of old l v k t) (counts_of clock) u) (others_of old l v k t u)
+      number (others_of old l v k t)
   pub kept : KeepsRoom old new
 
-pub grows : (n : ℕ) (before after : List Entries) → HaveGrown n before after
-    → Grows (sums n before) (sums n after)
-unfolding width_of noted_of others_of room_of
-grows n before after g = record {
-  width = refl;
-  noted = λ t l v k. (g.each l).noted t v k;
-  others = λ l v k t u. (g.each l).others v k t u;
-  kept = λ t l v k. (g.each l).room t v k;
+pub grows : (before after : List Entries) → HaveGrown before after → Grows (sums before) (sums after)
+unfolding noted_of others_of room_of
+grows before after g = record {
+  noted = λ t l v k. (g l).noted t v k;
+  others = λ l v k t. (g l).others v k t;
+  kept = λ l v. (g l).room v;
 }
 
-pub notes : (n thread : ℕ) (held : List LockId) (var : ℕ) (kind : AccessKind) (before after : List Entries)
-    → HaveNoted thread held var kind before after → Notes thread held var kind (sums n before) (sums n after)
-unfolding width_of noted_of others_of room_of
-notes n thread held var kind before after a = record {
-  width = refl;
-  noted = λ t l v k. a.noted t l v k;
-  others = λ l v k t u. a.others l v k t u;
-  kept = λ t l v k. a.room t l v k;
-}
+pub notes : (thread : ℕ) (held : List LockId) (var : ℕ) (kind : AccessKind) (before after : List Entries)
+    → HaveNoted thread held var kind before after → Notes thread held var kind (sums before) (sums after)
+unfolding noted_of others_of room_of
+notes thread held var kind before after a = record { noted = a.noted; others = a.others; kept = a.room }
 
-pub closes : (n thread lock : ℕ) (clock : List ℕ) (before after : List Entries)
-    → HaveClosed thread lock clock before after → Closes thread lock clock (sums n before) (sums n after)
-unfolding width_of noted_of others_of room_of
-closes n thread lock clock before after a = record {
-  width = refl;
-  noted = λ t l v k. a.noted t l v k;
-  others = λ l v k t u. a.others l v k t u;
-  kept = λ t l v k. a.room t l v k;
-}
+pub closes : (thread lock number : ℕ) (before after : List Entries)
+    → HaveClosed thread lock number before after → Closes thread lock number (sums before) (sums after)
+unfolding noted_of others_of room_of
+closes thread lock number before after a = record { noted = a.noted; others = a.others; kept = a.room }
+
+-- the sections that an access meets
+pub meets : (tables : List Entries) (l v : ℕ) (k : AccessKind) (t : ℕ)
+    → sources_on (table_at tables l) v k t ≡ sources_of (sums tables) l v k t
+unfolding sources_of others_of
+meets tables l v Read t = refl
+meets tables l v Write t = refl
+
+few_section : (n : ℕ) → length (section n) ≤ 1
+few_section n = by (nat_eq n 0)
+  where
+    by : (b : Bool) → length (cond b [] (n ∷ [])) ≤ 1
+    by true = omega arith
+    by false = omega arith
+
+pub few_sources : (s : Sums) (l v : ℕ) (k : AccessKind) (t : ℕ)
+    → length (sources_of s l v k t) ≤ most_sources k
+unfolding sources_of
+few_sources s l v Read t = few_section (others_of s l v Write t)
+few_sources s l v Write t =
+    let a = few_section (others_of s l v Write t) in
+    let b = few_section (others_of s l v Read t) in
+    let both = length-append (section (others_of s l v Write t)) (section (others_of s l v Read t)) in
+    omega (arith, a, b, both)

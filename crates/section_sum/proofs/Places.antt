@@ -1,66 +1,20 @@
 -- Where variables stand, and a cell that joins the others.
-use Rattle.std.proofs.Common.{
-  ◌≡◌,
-  ℕ,
-  ◌+◌,
-  ◌<◌,
-  ◌≤◌,
-  Bool,
-  true,
-  false,
-  not,
-  ◌||◌,
-  ◌&&◌,
-  take,
-  drop,
-  suc,
-  inl,
-  inr,
-  cond,
-  List,
-  [],
-  ◌∷◌,
-  ◌++◌,
-  length,
-  nat_eq,
-  get_or,
-  ◌⊎◌,
-  refl,
-  sym,
-  ap,
-  subst,
-  ◌∙◌,
-  arith,
-  count_by,
-  if◌then◌else◌,
-}
+use Rattle.std.proofs.Common.{◌≡◌, ℕ, ◌+◌, ◌<◌, ◌≤◌, Bool, true, false, not, ◌||◌, take, drop, suc, inl}
+use Rattle.std.proofs.Common.{inr, cond, List, [], ◌∷◌, ◌++◌, length, nat_eq, get_or, ◌⊎◌, refl, sym, ap}
+use Rattle.std.proofs.Common.{subst, ◌∙◌, arith, count_by, if◌then◌else◌}
 use Rattle.std.specs.List.{list_any}
 use Rattle.std.proofs.lemmas.Bool.{cases_eq, cases_lt, eqb-true, eq-eqb}
-use Rattle.std.proofs.lemmas.List.{get_or_append_left, get_or_default, get_or_past, length_push}
+use Rattle.std.proofs.lemmas.List.{get_or_append_left, get_or_past, length_push}
 use Rattle.std.proofs.Math.Seq.{get_or-append_seam}
 use Rattle.std.proofs.lemmas.List.Sums.{passes_at_first, prefix_len-le-length, sum_by-append}
 use Rattle.std.proofs.lemmas.List.Folds.{position_or_len_push}
 use Rattle.std.proofs.lemmas.Option.{slice_get_within, get_or_from_slice_get}
 use Rattle.std.proofs.lemmas.Grind.{common_steps}
 use Rattle.section_sum.specs.declared.cell.Cell.{Cell}
-use Rattle.event_core.specs.declared.events.AccessKind.{AccessKind}
-use Rattle.event_core.specs.declared.events.AccessKind.TheVariants.{Read, Write}
-use Rattle.std.specs.Prelude.{Option, Some, slice_get}
-use Rattle.section_sum.specs.Newest.{Two, source_of, has_slot, IsWide, IsWideIn}
-use Rattle.section_sum.specs.Cells.{
-  no_cell,
-  cell_at,
-  side,
-  is_noted,
-  AreReady,
-  AreKept,
-  AreFew,
-  IsRoomier,
-  AreRoomier,
-}
-use Rattle.section_sum.specs.Entries.{place_of, IsGrown, HasMore, AreUnique}
-use Rattle.section_sum.proofs.Basics.{ne_eqb, false_true}
-use Rattle.section_sum.proofs.Closing.{roomier, kept_roomier, few_roomier}
+use Rattle.std.specs.Prelude.{Some, slice_get}
+use Rattle.section_sum.specs.Cells.{no_cell, cell_at, is_noted, AreKept, AreFew}
+use Rattle.section_sum.specs.Entries.{place_of, IsGrown, AreUnique}
+use Rattle.section_sum.proofs.Basics.{ne_eqb}
 
 -- variables at one place are the same
 pub same_place : (vars : List ℕ) (var v : ℕ) → place_of vars var < length vars
@@ -144,17 +98,12 @@ absent (x ∷ xs) var e = by (nat_eq var x) refl (absent xs var)
         let l : length (x ∷ xs) ≡ suc (length xs) = refl in
         ap (λ b. b || list_any (nat_eq var) xs) f ∙ r (omega (arith, e, z, l))
 
-kept_more : (n t : ℕ) (cells : List Cell) (xs : List ℕ) → AreKept n t cells xs
-    → AreKept n t (cells ++ no_cell ∷ []) xs
-kept_more n t cells xs kept =
+kept_more : (cells : List Cell) (xs : List ℕ) → AreKept cells xs → AreKept (cells ++ no_cell ∷ []) xs
+kept_more cells xs kept =
     let same : (i : ℕ) → cell_at cells i
     ≡ cell_at (cells ++ no_cell ∷ []) i = λ i. sym (more_cells cells i) in
     let long : length (cells ++ no_cell ∷ []) ≡ length cells + 1 = length_push cells no_cell in
     record {
-      wide = λ i k. subst (λ (c : Cell). IsWide n (side k c).newest) (same i) (kept.wide i k);
-      ready = λ i k. subst (λ (c : Cell). (side k c).noted ≡ true → has_slot (side k c).newest t
-          ≡ true) (same i)
-          (kept.ready i k);
       marks = λ i. subst (λ (c : Cell). is_noted c ≡ true → list_any (nat_eq i) xs
           ≡ true) (same i) (kept.marks i);
       within = λ i m. let b = kept.within i m in omega (arith, b, long);
@@ -171,9 +120,10 @@ pub grown_same : (vars : List ℕ) (cells : List Cell) → length cells ≡ leng
 grown_same vars cells s u = record {
   same = s;
   unique = u;
-  kept = λ n t xs k. k;
+  kept = λ xs k. k;
   few = λ xs f. f;
   exact = λ v. refl;
+  places = λ v h. h;
 }
 
 unique_more : (vars : List ℕ) (var : ℕ) → place_of vars var ≡ length vars → AreUnique vars
@@ -199,9 +149,10 @@ pub grown_more : (vars : List ℕ) (cells : List Cell) (var : ℕ) → length ce
 grown_more vars cells var s u e = record {
   same = (let x = length_push cells no_cell in let y = length_push vars var in omega (arith, s, x, y));
   unique = unique_more vars var e u;
-  kept = λ n t xs k. kept_more n t cells xs k;
+  kept = λ xs k. kept_more cells xs k;
   few = λ xs f. few_more cells xs f;
   exact = joined vars cells var s;
+  places = λ v h. let p = place_left vars var v h in let l = length_push vars var in omega (arith, p, l, h);
 }
 
 pub place_new : (vars : List ℕ) (var n : ℕ) → place_of vars var ≡ length vars → n ≡ length vars
@@ -226,94 +177,6 @@ grown_either vars cells var false vs cs p q s u e =
     subst (λ x. IsGrown vars cells x cs) (sym p)
     (subst (λ x. IsGrown vars cells vars x) (sym q) (grown_same vars cells s u))
 
-pub within_either : (cells : List Cell) (b : Bool) (cells_after : List Cell) (most : ℕ)
-    → cells_after ≡ (if b then cells ++ no_cell ∷ [] else cells) → length cells + 1 ≤ most
-    → length cells_after ≤ most
-within_either cells true cs most q h = let n = ap length q ∙ length_push cells no_cell in omega (arith, n, h)
-within_either cells false cs most q h = let n = ap length q in omega (arith, n, h)
-
--- where the noted accesses are the thread's, each of its sections' ends needs no memory
-pub ready_alone : (vars : List ℕ) (cells : List Cell) (by t : ℕ) → AreUnique vars → length cells ≡ length vars
-    → ((u v : ℕ) (k : AccessKind) → (u ≡ t → ⊥)
-    → (nat_eq u by && (side k (cell_at cells (place_of vars v))).noted) ≡ false)
-    → AreReady by cells → AreReady t cells
-ready_alone vars cells by t un s alone r i k on = elim (cases_lt i (length vars)) [
-  | inl l ↦ elim (cases_eq by t) [
-    | inl e ↦ subst (λ (b : ℕ). has_slot (side k (cell_at cells i)).newest b ≡ true) e (r i k on)
-    | inr n ↦
-        let off = alone by (get_or vars i 0) k n in
-        let here : (side k (cell_at cells (place_of vars (get_or vars i 0)))).noted ≡ true
-        = ap (λ (j : ℕ). (side k (cell_at cells j)).noted) (un i l) ∙ on in
-        let both : (nat_eq by by && (side k (cell_at cells (place_of vars (get_or vars i 0)))).noted) ≡ true
-        = ap (λ b. b && (side k (cell_at cells (place_of vars (get_or vars i 0)))).noted)
-        (eq-eqb by by refl) ∙ here in
-        false_true (sym off ∙ both)
-  ]
-  | inr m ↦
-      let none : cell_at cells i ≡ no_cell = get_or_past cells i no_cell (omega (arith, m, s)) in
-      false_true (sym (no_side k) ∙ sym (ap (λ (c : Cell). (side k c).noted) none) ∙ on)
-]
-  where
-    no_side : (k : AccessKind) → (side k no_cell).noted ≡ false
-    no_side Read = refl
-    no_side Write = refl
-
--- a variable with room has a cell
-pub known_room : (vars : List ℕ) (cells : List Cell) (v t : ℕ) (k : AccessKind) → length cells ≡ length vars
-    → has_slot (side k (cell_at cells (place_of vars v))).newest t ≡ true → place_of vars v < length vars
-known_room vars cells v t k s h = elim (cases_lt (place_of vars v) (length vars)) [
-  | inl l ↦ l
-  | inr m ↦
-      let none : cell_at cells (place_of vars v)
-      ≡ no_cell = get_or_past cells _ no_cell (omega (arith, m, s)) in
-      false_true (sym (no_room k) ∙ sym (ap (λ (c : Cell). has_slot (side k c).newest t) none) ∙ h)
-]
-  where
-    no_room : (k : AccessKind) → has_slot (side k no_cell).newest t ≡ false
-    no_room Read = refl
-    no_room Write = refl
-
 pub whole : (n : ℕ) (new old : List Cell) → n ≡ length old → length new ≡ length old
     → take n (new ++ drop (length new) old) ≡ new
 whole n new old e s = grind (arith, common_steps)
-
--- a cell that joined, or none, and then more room in one
-pub more_room : (n : ℕ) (vars : List ℕ) (cells : List Cell) (vars_after : List ℕ)
-    (cells_between cells_after : List Cell)
-    → IsGrown vars cells vars_after cells_between → AreRoomier n cells_between cells_after
-    → HasMore n vars cells vars_after cells_after
-more_room n vars cells vs between cs g r = record {
-  same = r.same ∙ g.same;
-  unique = g.unique;
-  kept = λ t xs k. kept_roomier n t between cs xs r (g.kept n t xs k);
-  few = λ xs f. few_roomier n between cs xs r (g.few xs f);
-  each = λ v. subst (λ (c : Cell). IsRoomier n c (cell_at cs (place_of vs v))) (g.exact v)
-      (r.each (place_of vs v));
-}
-
-pub no_more_room : (n : ℕ) (vars : List ℕ) (cells : List Cell) (vars_after : List ℕ) (cells_after : List Cell)
-    → IsGrown vars cells vars_after cells_after → HasMore n vars cells vars_after cells_after
-no_more_room n vars cells vs cs g = record {
-  same = g.same;
-  unique = g.unique;
-  kept = λ t xs k. g.kept n t xs k;
-  few = g.few;
-  each = λ v. subst (λ (c : Cell). IsRoomier n c (cell_at cs (place_of vs v))) (g.exact v)
-      (roomier n (cell_at cs (place_of vs v)));
-}
-
-wide_source : (n t : ℕ) (two : Two) → IsWide n two → IsWideIn n (source_of two t)
-wide_source n t two w = by (nat_eq t two.thread)
-  where
-    by : (b : Bool) → IsWideIn n (cond b two.other two.newest)
-    by true = w.other
-    by false = w.newest
-
--- a source of a cell has the width
-pub wide_at : (n by t : ℕ) (cells : List Cell) (listed : List ℕ) (at : ℕ) (cell : Cell) (k : AccessKind)
-    (source : Option (List ℕ)) → at < length cells → cell ≡ get_or cells at cell → AreKept n by cells listed
-    → source ≡ source_of (side k cell).newest t → IsWideIn n source
-wide_at n by t cells listed at cell k source h e kept s =
-    let same : cell ≡ cell_at cells at = e ∙ get_or_default cells at cell no_cell h in
-    subst (IsWideIn n) (sym (s ∙ ap (λ (c : Cell). source_of (side k c).newest t) same))
-    (wide_source n t _ (kept.wide at k))

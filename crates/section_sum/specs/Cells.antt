@@ -15,14 +15,14 @@ use Rattle.std.specs.Prelude.{
   slice_index_or,
 }
 use Rattle.std.specs.List.{list_any, count_by}
-use Rattle.section_sum.specs.Newest.{no_releases, others_at, has_slot, closed_two, IsWide}
+use Rattle.section_sum.specs.Newest.{no_sections, closed_two}
 use Rattle.section_sum.specs.declared.cell.Cell.{Cell}
 use Rattle.section_sum.specs.declared.cell.Side.{Side}
 use Rattle.event_core.specs.declared.events.AccessKind.{AccessKind}
 use Rattle.event_core.specs.declared.events.AccessKind.TheVariants.{Read, Write}
 
 abbrev pub no_side : Side
-no_side = record { noted = false; newest = no_releases }
+no_side = record { noted = false; newest = no_sections }
 
 abbrev pub no_cell : Cell
 no_cell = record { reads = no_side; writes = no_side }
@@ -44,12 +44,12 @@ is_kind Write Write = true
 abbrev pub is_noted : Cell → Bool
 is_noted c = c.reads.noted || c.writes.noted
 
--- after the release by the thread with the clock
-abbrev pub closed_side : ℕ → List ℕ → Side → Side
-closed_side t c s = record { noted = false; newest = cond s.noted (closed_two t c s.newest) s.newest }
+-- after the end of the thread's section with the number
+abbrev pub closed_side : ℕ → ℕ → Side → Side
+closed_side t n s = record { noted = false; newest = cond s.noted (closed_two t n s.newest) s.newest }
 
-abbrev pub closed : ℕ → List ℕ → Cell → Cell
-closed t k c = record { reads = closed_side t k c.reads; writes = closed_side t k c.writes }
+abbrev pub closed : ℕ → ℕ → Cell → Cell
+closed t n c = record { reads = closed_side t n c.reads; writes = closed_side t n c.writes }
 
 abbrev pub marked_side : Side → Side
 marked_side s = record { noted = true; newest = s.newest }
@@ -61,50 +61,17 @@ marked Write c = record { reads = c.reads; writes = marked_side c.writes }
 abbrev pub marked_as : Bool → AccessKind → Cell → Cell
 marked_as b k c = cond b (marked k c) c
 
--- each clock has the width
-abbrev pub AreWide : ℕ → List Cell → Type 0
-AreWide n cells = (i : ℕ) (k : AccessKind) → IsWide n (side k (cell_at cells i)).newest
-
--- where an access is noted, the thread's release needs no memory
-abbrev pub AreReady : ℕ → List Cell → Type 0
-AreReady t cells =
-    (i : ℕ) (k : AccessKind) → (side k (cell_at cells i)).noted ≡ true
-    → has_slot (side k (cell_at cells i)).newest t ≡ true
-
--- the cells with a noted access are listed
-abbrev pub AreListed : List Cell → List ℕ → Type 0
-AreListed cells list = (i : ℕ) → is_noted (cell_at cells i) ≡ true → list_any (nat_eq i) list ≡ true
-
-abbrev pub AreWithin : ℕ → List ℕ → Type 0
-AreWithin n list = (i : ℕ) → list_any (nat_eq i) list ≡ true → i < n
-
--- the cells noted by the thread's open section are those of the list
-pub record AreKept (width thread : ℕ) (cells : List Cell) (listed : List ℕ) : Type 0 where
-  pub wide : AreWide width cells
-  pub ready : AreReady thread cells
-  pub marks : AreListed cells listed
-  pub within : AreWithin (length cells) listed
+-- the cells with a noted access are listed, and no number past the end
+pub record AreKept (cells : List Cell) (listed : List ℕ) : Type 0 where
+  pub marks : (i : ℕ) → is_noted (cell_at cells i) ≡ true → list_any (nat_eq i) listed ≡ true
+  pub within : (i : ℕ) → list_any (nat_eq i) listed ≡ true → i < length cells
 
 -- no more are listed than have a noted access
 abbrev pub AreFew : List Cell → List ℕ → Type 0
 AreFew cells listed = length listed ≤ count_by is_noted cells
 
 -- some of the listed cells are closed, and the others are left in the list
-pub record Closing (t : ℕ) (k : List ℕ) (before cells : List Cell) (left : List ℕ) : Type 0 where
+pub record Closing (t n : ℕ) (before cells : List Cell) (left : List ℕ) : Type 0 where
   pub same : length cells ≡ length before
-  pub kept : AreKept (length k) t cells left
-  pub exact : (i : ℕ) → closed t k (cell_at cells i) ≡ closed t k (cell_at before i)
-
--- the cell says the same and has no less room
-pub record IsRoomier (width : ℕ) (before after : Cell) : Type 0 where
-  pub noted : (k : AccessKind) → (side k after).noted ≡ (side k before).noted
-  pub others : (k : AccessKind) (t u : ℕ) → others_at (side k after).newest t u
-      ≡ others_at (side k before).newest t u
-  pub slots : (k : AccessKind) (t : ℕ) → has_slot (side k before).newest t ≡ true
-      → has_slot (side k after).newest t ≡ true
-  pub wide : (k : AccessKind) → IsWide width (side k before).newest → IsWide width (side k after).newest
-
-pub record AreRoomier (width : ℕ) (before after : List Cell) : Type 0 where
-  pub same : length after ≡ length before
-  pub each : (i : ℕ) → IsRoomier width (cell_at before i) (cell_at after i)
-  pub count : count_by is_noted after ≡ count_by is_noted before
+  pub kept : AreKept cells left
+  pub exact : (i : ℕ) → closed t n (cell_at cells i) ≡ closed t n (cell_at before i)

@@ -1,67 +1,56 @@
 //! What is kept of a variable under a lock: of each kind of access, whether the open section has one,
-//! and the newest releases of sections with one.
-ghost use Rattle.std.specs.Prelude.{◌≡◌, ℕ, ◌<◌, ◌≤◌, length, not, nat_eq, true, OnOk, []};
-ghost use Rattle.section_sum.specs.Newest.{has_slot, IsWide};
-ghost use Rattle.section_sum.specs.Cells.{closed_side, closed, marked, marked_as, is_noted, side};
-ghost use Rattle.section_sum.specs.Cells.{cell_at, no_cell, AreKept, AreFew, IsRoomier, AreRoomier};
-ghost use Rattle.event_core.specs.declared.events.AccessKind.{AccessKind as Kind};
+//! and the newest closed sections with one.
+ghost use Rattle.std.specs.Prelude.{◌≡◌, ℕ, ◌<◌, ◌≤◌, length, not, nat_eq, []};
+ghost use Rattle.section_sum.specs.Cells.{closed_side, closed, marked, marked_as, is_noted};
+ghost use Rattle.section_sum.specs.Cells.{cell_at, no_cell, AreKept, AreFew};
 
 use crate::newest::Newest;
-use event_core::{AccessKind, OutOfMemory, ThreadId};
-use hb_clocks::Clock;
-use std::alloc::Global;
+use event_core::{AccessKind, ThreadId};
 
-/// Whether the open section has an access of a kind, and the closed ones with such an access.
-#[derive(Drop)]
+/// Whether the open section has an access of a kind, and the newest closed ones with such an access.
+#[derive(Clone, Copy)]
 pub struct Side {
     pub noted: bool,
     pub newest: Newest,
 }
 
 /// What is kept of a variable under a lock.
-#[derive(Drop)]
+#[derive(Clone, Copy)]
 pub struct Cell {
     pub reads: Side,
     pub writes: Side,
 }
 
-/// No accesses. Takes no memory.
+/// No accesses.
 pub fn new_cell() -> Cell
     ensures { result ≡ no_cell }
 {
+    let side = Side {
+        noted: false,
+        newest: Newest::new(),
+    };
     Cell {
-        reads: Side {
-            noted: false,
-            newest: Newest::new(),
-        },
-        writes: Side {
-            noted: false,
-            newest: Newest::new(),
-        },
+        reads: side,
+        writes: side,
     }
 }
 
-// The thread's section ends with the clock.
-fn close_side(side: &mut Side, thread: ThreadId, clock: &Clock)
-    requires width { IsWide (length clock.now) side.old.newest }
-    requires room { side.old.noted ≡ true → has_slot side.old.newest thread.0 ≡ true }
-    ensures { side.new ≡ closed_side thread.0 clock.now side.old }
+// The thread's section with the number ends.
+fn close_side(side: &mut Side, thread: ThreadId, number: u32)
+    ensures { side.new ≡ closed_side thread.0 number side.old }
 {
     if side.noted {
-        side.newest.close(thread, clock);
+        side.newest.close(thread, number);
         side.noted = false;
     }
 }
 
-// The thread's section ends with the clock.
-fn close_cell(cell: &mut Cell, thread: ThreadId, clock: &Clock)
-    requires width { (k : Kind) → IsWide (length clock.now) (side k cell.old).newest }
-    requires room { (k : Kind) → (side k cell.old).noted ≡ true
-        → has_slot (side k cell.old).newest thread.0 ≡ true }
-    ensures exact { cell.new ≡ closed thread.0 clock.now cell.old }
+// The thread's section with the number ends.
+fn close_cell(cell: &mut Cell, thread: ThreadId, number: u32)
+    ensures exact { cell.new ≡ closed thread.0 number cell.old }
 {
-    close_side(&mut cell.reads, thread, clock);
-    close_side(&mut cell.writes, thread, clock);
+    close_side(&mut cell.reads, thread, number);
+    close_side(&mut cell.writes, thread, number);
 }
 
 // The section has such an access. Answers whether it is its first of the variable.
@@ -77,18 +66,18 @@ fn mark(cell: &mut Cell, kind: AccessKind) -> bool
     first
 }
 
-/// The thread's section ends with the clock, for each listed cell.
-pub fn close_cells(cells: &mut [Cell], listed: &mut Vec<usize>, thread: ThreadId, clock: &Clock)
-    requires kept { AreKept (length clock.now) thread.0 cells.old listed.old.items }
+/// The thread's section with the number ends, for each listed cell.
+pub fn close_cells(cells: &mut [Cell], listed: &mut Vec<usize>, thread: ThreadId, number: u32)
+    requires kept { AreKept cells.old listed.old.items }
     ensures same { length cells.new ≡ length cells.old }
-    ensures exact { (i : ℕ) → cell_at cells.new i ≡ closed thread.0 clock.now (cell_at cells.old i) }
-    ensures kept { AreKept (length clock.now) thread.0 cells.new listed.new.items }
+    ensures exact { (i : ℕ) → cell_at cells.new i ≡ closed thread.0 number (cell_at cells.old i) }
+    ensures kept { AreKept cells.new listed.new.items }
     ensures empty { listed.new.items ≡ [] }
     ensures capacity { listed.new.cap ≡ listed.old.cap }
 {
     'closing: while let Some(at) = listed.pop() {
         let cell = &mut cells[at];
-        close_cell(cell, thread, clock);
+        close_cell(cell, thread, number);
     }
 }
 
@@ -100,9 +89,7 @@ pub fn note_cell(cells: &mut [Cell], listed: &mut Vec<usize>, at: usize, kind: A
     requires capacity { length cells.old ≤ listed.old.cap }
     ensures same { length cells.new ≡ length cells.old }
     ensures exact { (i : ℕ) → cell_at cells.new i ≡ marked_as (nat_eq i at) kind (cell_at cells.old i) }
-    ensures kept { (width t : ℕ) → has_slot (side kind (cell_at cells.old at)).newest t ≡ true
-        → AreKept width t cells.old listed.old.items
-        → AreKept width t cells.new listed.new.items }
+    ensures kept { AreKept cells.old listed.old.items → AreKept cells.new listed.new.items }
     ensures few { AreFew cells.new listed.new.items }
     ensures capacity { listed.new.cap ≡ listed.old.cap }
 {
@@ -111,39 +98,4 @@ pub fn note_cell(cells: &mut [Cell], listed: &mut Vec<usize>, at: usize, kind: A
     if first {
         listed.push_reserved(at);
     }
-}
-
-// Makes room for a release by the thread after such an access.
-fn make_cell_room(
-    cell: &mut Cell,
-    alloc: Global,
-    width: usize,
-    thread: ThreadId,
-    kind: AccessKind,
-) -> Result<(), OutOfMemory>
-    ensures roomier { IsRoomier width cell.old cell.new }
-    ensures room { OnOk result (has_slot (side kind cell.new).newest thread.0 ≡ true) }
-{
-    match kind {
-        AccessKind::Read => cell.reads.newest.make_room(alloc, width, thread),
-        AccessKind::Write => cell.writes.newest.make_room(alloc, width, thread),
-    }
-}
-
-/// Makes room for a release by the thread after such an access to the cell.
-#[tactic(auto, using(crate::proofs::Closing::roomier_at))]
-pub fn make_room_at(
-    cells: &mut [Cell],
-    at: usize,
-    alloc: Global,
-    width: usize,
-    thread: ThreadId,
-    kind: AccessKind,
-) -> Result<(), OutOfMemory>
-    requires within { at < length cells.old }
-    ensures roomier { AreRoomier width cells.old cells.new }
-    ensures room { OnOk result (has_slot (side kind (cell_at cells.new at)).newest thread.0 ≡ true) }
-{
-    let cell = &mut cells[at];
-    make_cell_room(cell, alloc, width, thread, kind)
 }

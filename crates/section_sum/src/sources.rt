@@ -1,37 +1,40 @@
-//! The sources of an access under one lock, lent one after another.
-ghost use Rattle.std.specs.Iterator.{YieldsFirstRef, item_count};
+//! The sections that an access meets under one lock, one after another.
+ghost use Rattle.std.specs.Prelude.{◌≡◌, []};
+ghost use Rattle.std.specs.Iterator.{YieldsFirst, item_count};
 ghost use Rattle.section_sum.specs.Sources.{left};
 
-use hb_clocks::Clock;
-
-/// At most two clocks, the newer releases that an access meets. Takes no memory.
+/// At most two section numbers, none of them 0.
 #[derive(Drop)]
-pub struct Sources<'a> {
-    pub(crate) first: Option<&'a Clock>,
-    pub(crate) second: Option<&'a Clock>,
+pub struct Sources {
+    pub(crate) first: Option<u32>,
+    pub(crate) second: Option<u32>,
 }
 
-impl<'a> Iterator for Sources<'a> {
-    type Item = &'a Clock;
+impl Sources {
+    // No sections.
+    #[tactic(auto, unfolding(crate::specs::Sources::left))]
+    pub(crate) fn none() -> Sources
+        ensures { left result ≡ [] }
+    {
+        Sources {
+            first: None,
+            second: None,
+        }
+    }
+}
 
-    ghost next_gives = { YieldsFirstRef left };
+impl Iterator for Sources {
+    type Item = u32;
+
+    ghost next_gives = { YieldsFirst left };
 
     ghost remaining = { item_count left };
 
     #[tactic(auto, unfolding(crate::specs::Sources::left))]
-    fn next(&mut self) -> Option<&'a Clock> {
-        match self.first {
-            Some(clock) => {
-                self.first = None;
-                Some(clock)
-            }
-            None => match self.second {
-                Some(clock) => {
-                    self.second = None;
-                    Some(clock)
-                }
-                None => None,
-            },
+    fn next(&mut self) -> Option<u32> {
+        match self.first.take() {
+            Some(number) => Some(number),
+            None => self.second.take(),
         }
     }
 }

@@ -4,22 +4,16 @@
 //! by none where the variable is the one looked up before. The cells with an access in the open section
 //! are listed, so that its end goes over them alone and allocates nothing: a list never has more cells than
 //! there are, and room for all is made with each cell.
-ghost use Rattle.std.specs.Prelude.{◌≡◌, ℕ, ◌<◌, ◌≤◌, ◌||◌, ◌&&◌, ◌++◌, ◌∷◌, [], length, nat_eq, cond};
-ghost use Rattle.std.specs.Prelude.{max, not, true, false, if◌then◌else◌, OnOk, MatchOption, IfOk};
-ghost use Rattle.std.specs.Prelude.{IsTrue, is_ok, None, option_copied};
-ghost use Rattle.hb_clocks.specs.Counts.{counts_of};
-ghost use Rattle.section_sum.specs.Newest.{counts_in, has_slot, IsWideIn};
-ghost use Rattle.section_sum.specs.Cells.{closed, marked_as, no_cell, cell_at, side};
-ghost use Rattle.section_sum.specs.Entries.{noted_at, others_on, loads_on, room_at, place_of, cell_of};
-ghost use Rattle.section_sum.specs.Entries.{IsAlone, IsGrown, HasMore, HasGrown, HasNoted, HasClosed};
-ghost use Rattle.section_sum.specs.Entries.{AreUnique};
-ghost use Rattle.event_core.specs.declared.events.AccessKind.{AccessKind as Kind};
-ghost use Rattle.event_core.specs.declared.events.AccessKind.TheVariants.{Read, Write};
+ghost use Rattle.std.specs.Prelude.{◌≡◌, ℕ, ◌<◌, ◌≤◌, ◌++◌, ◌∷◌, [], length, nat_eq};
+ghost use Rattle.std.specs.Prelude.{true, if◌then◌else◌, OnOk, MatchOption, IfOk, IsTrue, is_ok, is_some};
+ghost use Rattle.section_sum.specs.Cells.{closed, marked_as, no_cell};
+ghost use Rattle.section_sum.specs.Entries.{sources_on, room_at, place_of, cell_of};
+ghost use Rattle.section_sum.specs.Entries.{IsAlone, IsGrown, HasGrown, HasNoted, HasClosed, AreUnique};
+ghost use Rattle.section_sum.specs.Sources.{left};
 
-use crate::cell::{Cell, close_cells, make_room_at, new_cell, note_cell};
+use crate::cell::{Cell, close_cells, new_cell, note_cell};
 use crate::sources::Sources;
 use event_core::{AccessKind, OutOfMemory, ThreadId, VarId};
-use hb_clocks::Clock;
 use indexmap::IndexSet;
 use std::alloc::Global;
 use std::marker::Model;
@@ -28,8 +22,6 @@ use std::marker::Model;
 /// cells with an access in the open section, which is that of one thread.
 #[derive(Drop)]
 pub struct Table {
-    alloc: Global,
-    width: usize,
     vars: IndexSet<u32>,
     cells: Vec<Cell>,
     by: ThreadId,
@@ -43,21 +35,17 @@ impl Model for Table {
 
     ghost Value = { Entries };
 
-    ghost view = { λ a. record { width = a.width; vars = a.vars.keys; cells = a.cells.items; by = a.by.0 } };
+    ghost view = { λ a. record { vars = a.vars.keys; cells = a.cells.items; by = a.by.0 } };
 
-    ghost invariant = { λ a.
-        AreEntries a.width a.by.0 a.vars.keys a.cells.items a.listed.items a.listed.cap };
+    ghost invariant = { λ a. AreEntries a.vars.keys a.cells.items a.listed.items a.listed.cap };
 }
 
 impl Table {
     /// No sections. Takes no memory.
-    pub fn new(alloc: Global, width: usize) -> Table
-        ensures width { result.width ≡ width }
+    pub fn new(alloc: Global) -> Table
         ensures none { (v : ℕ) → cell_of result v ≡ no_cell }
     {
         Table {
-            alloc,
-            width,
             vars: IndexSet::new(alloc),
             cells: Vec::new(alloc),
             by: ThreadId(0),
@@ -66,8 +54,10 @@ impl Table {
         }
     }
 
+    // Where the variable stands.
     fn find(&self, var: VarId) -> Option<usize>
-        ensures { MatchOption result (length self.now.cells ≤ place_of self.now.vars var.0)
+        ensures room { is_some result ≡ room_at self.now var.0 }
+        ensures place { MatchOption result (length self.now.cells ≤ place_of self.now.vars var.0)
             (λ i. (i ≡ place_of self.now.vars var.0) × (i < length self.now.cells)) }
     {
         find_place(&self.vars, self.last, var)
@@ -75,11 +65,10 @@ impl Table {
 
     // The thread's open section has such an access.
     fn mark(&mut self, thread: ThreadId, var: VarId, kind: AccessKind)
-        requires room { room_at self.old thread.0 var.0 kind ≡ true }
-        requires alone { IsAlone self.old thread.0 }
+        requires room { room_at self.old var.0 ≡ true }
         ensures cells { (v : ℕ) → cell_of self.new v ≡ marked_as (nat_eq v var.0) kind (cell_of self.old v) }
         ensures by { self.new.by ≡ thread.0 }
-        ensures width { self.new.width ≡ self.old.width }
+        ensures vars { self.new.vars ≡ self.old.vars }
     {
         if let Some(at) = self.find(var) {
             note_cell(&mut self.cells, &mut self.listed, at, kind);
@@ -88,92 +77,66 @@ impl Table {
         }
     }
 
-    // The open section ends with the clock.
-    fn close_listed(&mut self, clock: &Clock)
-        requires width { length clock.now ≡ self.old.width }
-        ensures cells { (v : ℕ) → cell_of self.new v ≡ closed self.old.by clock.now (cell_of self.old v) }
+    // The open section with the number ends.
+    fn close_listed(&mut self, number: u32)
+        ensures cells { (v : ℕ) → cell_of self.new v ≡ closed self.old.by number (cell_of self.old v) }
         ensures by { self.new.by ≡ self.old.by }
-        ensures width { self.new.width ≡ self.old.width }
+        ensures vars { self.new.vars ≡ self.old.vars }
     {
-        close_cells(&mut self.cells, &mut self.listed, self.by, clock);
+        close_cells(&mut self.cells, &mut self.listed, self.by, number);
     }
 
     /// The thread's open section has such an access.
     #[tactic(auto, using(crate::proofs::Says::says_noted))]
     pub fn note(&mut self, thread: ThreadId, var: VarId, kind: AccessKind)
-        requires room { room_at self.old thread.0 var.0 kind ≡ true }
+        requires room { room_at self.old var.0 ≡ true }
         requires alone { IsAlone self.old thread.0 }
         ensures noted { HasNoted thread.0 var.0 kind self.old self.new }
     {
         self.mark(thread, var, kind);
     }
 
-    /// The thread's section ends with the clock: the other threads' clocks of what it noted gain it.
+    /// The thread's section with the number ends: to the other threads it is the newest with what it noted.
     #[tactic(auto, using(crate::proofs::Says::says_closed, crate::proofs::Says::says_other))]
-    pub fn close(&mut self, thread: ThreadId, clock: &Clock)
-        requires width { length clock.now ≡ self.old.width }
-        requires above { (v : ℕ) (k : Kind) (t u : ℕ) → others_on self.old v k t u ≤ counts_of clock.now u }
-        ensures closed { HasClosed thread.0 clock.now self.old self.new }
+    pub fn close(&mut self, thread: ThreadId, number: u32)
+        ensures closed { HasClosed thread.0 number self.old self.new }
     {
         if self.by == thread {
-            self.close_listed(clock);
+            self.close_listed(number);
         }
     }
 
-    /// Makes room for such an access of the thread's section and for that section's end.
-    pub fn make_room(
-        &mut self,
-        thread: ThreadId,
-        var: VarId,
-        kind: AccessKind,
-    ) -> Result<(), OutOfMemory>
+    /// Makes room for accesses to the variable and for the ends of sections with them.
+    pub fn make_room(&mut self, var: VarId) -> Result<(), OutOfMemory>
         ensures grown { HasGrown self.old self.new }
-        ensures width { self.new.width ≡ self.old.width }
-        ensures room { OnOk result (room_at self.new thread.0 var.0 kind ≡ true) }
+        ensures room { OnOk result (room_at self.new var.0 ≡ true) }
     {
-        make_room_in(
+        let at = make_cell(
             &mut self.vars,
             &mut self.cells,
             &mut self.listed,
-            &mut self.last,
-            self.alloc,
-            self.width,
-            thread,
+            self.last,
             var,
-            kind,
-        )
+        )?;
+        self.last = at;
+        Ok(())
     }
 
-    /// Whether such an access of the thread's section, and that section's end, need no memory.
-    pub fn has_room(&self, thread: ThreadId, var: VarId, kind: AccessKind) -> bool
-        ensures { result ≡ room_at self.now thread.0 var.0 kind }
+    /// Whether accesses to the variable, and the ends of sections with them, need no memory.
+    pub fn has_room(&self, var: VarId) -> bool
+        ensures { result ≡ room_at self.now var.0 }
     {
-        let Some(at) = self.find(var) else {
-            return false;
-        };
-        let cell = &self.cells[at];
-        match kind {
-            AccessKind::Read => cell.reads.newest.has_room(thread),
-            AccessKind::Write => cell.writes.newest.has_room(thread),
-        }
+        self.find(var).is_some()
     }
 
-    /// The clocks that such an access meets: of the other threads' sections with a store, and for a store
-    /// also of those with a load.
-    pub fn sources(&self, thread: ThreadId, var: VarId, kind: AccessKind) -> Sources<'_>
-        ensures first_width { IsWideIn self.now.width (option_copied result.first) }
-        ensures second_width { IsWideIn self.now.width (option_copied result.second) }
-        ensures stores { (u : ℕ) → counts_in (option_copied result.first) u
-            ≡ others_on self.now var.0 Write thread.0 u }
-        ensures loads { (u : ℕ) → counts_in (option_copied result.second) u
-            ≡ loads_on self.now var.0 kind thread.0 u }
-        ensures one { kind ≡ Read → option_copied result.second ≡ None }
+    /// The sections that such an access meets: the newest by another thread with a store, and for a store
+    /// also that with a load.
+    #[tactic(auto, unfolding(crate::specs::Sources::left))]
+    pub fn sources(&self, thread: ThreadId, var: VarId, kind: AccessKind) -> Sources
+        ensures { left result ≡ sources_on self.now var.0 kind thread.0 }
     {
         let Some(at) = self.find(var) else {
-            return Sources {
-                first: None,
-                second: None,
-            };
+            return Sources::none();
         };
         let cell = &self.cells[at];
         let stores = cell.writes.newest.source(thread);
@@ -211,34 +174,6 @@ fn is_at(vars: &IndexSet<u32>, place: usize, var: VarId) -> bool
         Some(known) => *known == var.0,
         None => false,
     }
-}
-
-// Makes room for the end of the thread's section with such an access.
-#[tactic(auto, using(crate::proofs::Places::more_room, crate::proofs::Places::no_more_room))]
-fn make_room_in(
-    vars: &mut IndexSet<u32>,
-    cells: &mut Vec<Cell>,
-    listed: &mut Vec<usize>,
-    last: &mut usize,
-    alloc: Global,
-    width: usize,
-    thread: ThreadId,
-    var: VarId,
-    kind: AccessKind,
-) -> Result<(), OutOfMemory>
-    requires same { length cells.old.items ≡ length vars.old.keys }
-    requires unique { AreUnique vars.old.keys }
-    requires capacity { length cells.old.items ≤ listed.old.cap }
-    ensures more { HasMore width vars.old.keys cells.old.items vars.new.keys cells.new.items }
-    ensures room { OnOk result
-        (has_slot (side kind (cell_at cells.new.items (place_of vars.new.keys var.0))).newest thread.0
-        ≡ true) }
-    ensures listed { listed.new.items ≡ listed.old.items }
-    ensures capacity { length cells.new.items ≤ listed.new.cap }
-{
-    let at = make_cell(vars, cells, listed, *last, var)?;
-    *last = at;
-    make_room_at(cells, at, alloc, width, thread, kind)
 }
 
 // The variable has a cell. Answers its number.

@@ -1,13 +1,12 @@
-//! Sections whose releases have clocks of zeros: what an access meets shows in how many clocks it is lent.
-ghost use Rattle.std.specs.Prelude.{◌≡◌, ℕ, false, length, OnOk};
+//! Sections on two locks, numbered in the order of their releases: which of them an access meets.
+ghost use Rattle.std.specs.Prelude.{◌≡◌, ℕ, false, OnOk};
 ghost use Rattle.event_core.specs.declared.events.AccessKind.{AccessKind as Kind};
-ghost use Rattle.hb_clocks.specs.Counts.{counts_of};
-ghost use Rattle.section_sum.specs.Sums.{width_of, noted_of, others_of, HasRoom, SameNoted, SameOthers};
+ghost use Rattle.section_sum.specs.Sums.{noted_of, HasRoom, SameNoted, SameOthers};
 
 use crate::Summaries;
-use event_core::{AccessKind, Limits, LockId, OutOfMemory, Roots, ThreadId, VarId};
-use hb_clocks::Clock;
-use std::alloc::Global;
+use crate::cell::Cell;
+use event_core::{AccessKind, LockId, OutOfMemory, ThreadId, VarId};
+use std::mem::size_of;
 use std::test::Fail;
 
 const A: LockId = LockId(0);
@@ -18,89 +17,85 @@ const X: VarId = VarId(7);
 
 const Y: VarId = VarId(3);
 
-/// Summaries in which no section is open and no clock has a number.
+/// Summaries in which no section is open.
 #[derive(Drop)]
 struct Sections {
     summaries: Summaries,
-    zeros: Clock,
-    ghost width: { length zeros ≡ width_of summaries },
-    ghost zero: { (u : ℕ) → counts_of zeros u ≡ 0 },
     ghost ended: { (t l v : ℕ) (k : Kind) → noted_of summaries t l v k ≡ false },
-    ghost quiet: { (l v : ℕ) (k : Kind) (t u : ℕ) → others_of summaries l v k t u ≡ 0 },
-}
-
-fn none(alloc: Global, limits: &Limits) -> Result<Sections, OutOfMemory> {
-    let zeros = match Clock::new(alloc, limits.threads() as usize) {
-        Ok(zeros) => zeros,
-        Err(OutOfMemory) => Clock::new(alloc, limits.threads() as usize)?,
-    };
-    Ok(Sections {
-        summaries: Summaries::new(alloc, limits)?,
-        zeros,
-    })
 }
 
 // Where a growth is refused, the same call is made again.
-fn make_room(
-    summaries: &mut Summaries,
-    thread: ThreadId,
-    held: &[LockId],
-    var: VarId,
-    kind: AccessKind,
-) -> Result<(), OutOfMemory>
-    ensures room { OnOk result (HasRoom summaries.new thread.0 held.now var.0 kind) }
-    ensures width { width_of summaries.new ≡ width_of summaries.old }
+fn make_room(summaries: &mut Summaries, held: &[LockId], var: VarId) -> Result<(), OutOfMemory>
+    ensures room { OnOk result (HasRoom summaries.new held.now var.0) }
     ensures noted { SameNoted summaries.old summaries.new }
     ensures others { SameOthers summaries.old summaries.new }
 {
-    if summaries.make_room(thread, held, var, kind).is_ok() {
+    if summaries.make_room(held, var).is_ok() {
         return Ok(());
     }
-    summaries.make_room(thread, held, var, kind)
+    summaries.make_room(held, var)
 }
 
-// The thread opens sections on both locks, accesses the variable, and ends the first one first.
+// The thread opens sections on both locks, accesses the variable, and ends the first one first. They
+// have the number on both.
 fn section(
     sections: &mut Sections,
-    thread: ThreadId,
-    first: LockId,
-    second: LockId,
+    thread: u32,
+    locks: [LockId; 2],
     var: VarId,
     kind: AccessKind,
+    number: u32,
 ) -> Result<(), OutOfMemory> {
-    let held = [first, second];
-    make_room(&mut sections.summaries, thread, &held, var, kind)?;
-    sections.summaries.note(thread, &held, var, kind);
-    sections.summaries.close(thread, first, &sections.zeros);
-    sections.summaries.close(thread, second, &sections.zeros);
+    let thread = ThreadId(thread);
+    make_room(&mut sections.summaries, &locks, var)?;
+    sections.summaries.note(thread, &locks, var, kind);
+    sections.summaries.close(thread, locks[0], number);
+    sections.summaries.close(thread, locks[1], number);
     Ok(())
 }
 
-// How many clocks an access is lent.
-fn met(sections: &Sections, thread: u32, lock: LockId, var: VarId, kind: AccessKind) -> usize {
-    sections
+// The sections that an access meets: the newest with a store, and the newest with a load where it is a
+// store.
+fn met(
+    sections: &Sections,
+    thread: u32,
+    lock: LockId,
+    var: VarId,
+    kind: AccessKind,
+) -> [Option<u32>; 2] {
+    let mut sources = sections
         .summaries
-        .sources(ThreadId(thread), lock, var, kind)
-        .count()
+        .sources(ThreadId(thread), lock, var, kind);
+    let first = sources.next();
+    [first, sources.next()]
+}
+
+#[test]
+fn a_variable_takes_32_bytes_under_a_lock(rt: HostRuntime) {
+    assert_eq!(rt; size_of::<Cell>(), 32);
 }
 
 #[test]
 fn an_access_meets_the_sections_of_other_threads(rt: HostRuntime) -> Result<(), Fail> {
-    let limits = Limits::new(4, 8, 8, 100, Roots::Free).expect(&rt, "limits");
-    let mut sections = none(rt.alloc(), &limits).expect(&rt, "memory");
-    section(&mut sections, ThreadId(1), A, A, X, AccessKind::Write).expect(&rt, "memory");
-    assert_eq!(rt; met(&sections, 2, A, X, AccessKind::Read), 1);
-    assert_eq!(rt; met(&sections, 2, A, X, AccessKind::Write), 1);
-    assert_eq!(rt; met(&sections, 1, A, X, AccessKind::Read), 0, "its own");
-    assert_eq!(rt; met(&sections, 1, A, X, AccessKind::Write), 0, "its own");
+    let mut sections = Sections {
+        summaries: Summaries::new(rt.alloc()),
+    };
+    section(&mut sections, 1, [A, A], X, AccessKind::Write, 1).expect(&rt, "memory");
+    assert_eq!(rt; met(&sections, 2, A, X, AccessKind::Read), [Some(1), None]);
+    assert_eq!(rt; met(&sections, 2, A, X, AccessKind::Write), [Some(1), None]);
+    assert_eq!(rt;
+        met(&sections, 1, A, X, AccessKind::Read),
+        [None, None],
+        "its own"
+    );
     assert_eq!(rt;
         met(&sections, 2, B, X, AccessKind::Read),
-        0,
+        [None, None],
         "another lock"
     );
     assert_eq!(rt;
         met(&sections, 2, A, Y, AccessKind::Read),
-        0,
+        [None, None],
         "another variable"
     );
     Ok(())
@@ -108,17 +103,21 @@ fn an_access_meets_the_sections_of_other_threads(rt: HostRuntime) -> Result<(), 
 
 #[test]
 fn a_load_meets_stores_alone(rt: HostRuntime) -> Result<(), Fail> {
-    let limits = Limits::new(4, 8, 8, 100, Roots::Free).expect(&rt, "limits");
-    let mut sections = none(rt.alloc(), &limits).expect(&rt, "memory");
-    section(&mut sections, ThreadId(1), A, A, X, AccessKind::Read).expect(&rt, "memory");
-    assert_eq!(rt; met(&sections, 2, A, X, AccessKind::Read), 0);
-    assert_eq!(rt; met(&sections, 2, A, X, AccessKind::Write), 1);
-    section(&mut sections, ThreadId(2), A, A, X, AccessKind::Write).expect(&rt, "memory");
-    assert_eq!(rt; met(&sections, 3, A, X, AccessKind::Read), 1);
-    assert_eq!(rt; met(&sections, 3, A, X, AccessKind::Write), 2);
+    let mut sections = Sections {
+        summaries: Summaries::new(rt.alloc()),
+    };
+    section(&mut sections, 1, [A, A], X, AccessKind::Read, 1).expect(&rt, "memory");
+    assert_eq!(rt; met(&sections, 2, A, X, AccessKind::Read), [None, None]);
+    assert_eq!(rt; met(&sections, 2, A, X, AccessKind::Write), [Some(1), None]);
+    section(&mut sections, 2, [A, A], X, AccessKind::Write, 2).expect(&rt, "memory");
+    assert_eq!(rt; met(&sections, 3, A, X, AccessKind::Read), [Some(2), None]);
+    assert_eq!(rt;
+        met(&sections, 3, A, X, AccessKind::Write),
+        [Some(2), Some(1)]
+    );
     assert_eq!(rt;
         met(&sections, 1, A, X, AccessKind::Write),
-        1,
+        [Some(2), None],
         "but for its own load"
     );
     Ok(())
@@ -126,59 +125,38 @@ fn a_load_meets_stores_alone(rt: HostRuntime) -> Result<(), Fail> {
 
 #[test]
 fn an_access_counts_in_each_open_section(rt: HostRuntime) -> Result<(), Fail> {
-    let limits = Limits::new(4, 8, 8, 100, Roots::Free).expect(&rt, "limits");
-    let mut sections = none(rt.alloc(), &limits).expect(&rt, "memory");
-    section(&mut sections, ThreadId(1), A, B, X, AccessKind::Write).expect(&rt, "memory");
-    assert_eq!(rt; met(&sections, 2, A, X, AccessKind::Read), 1);
-    assert_eq!(rt; met(&sections, 2, B, X, AccessKind::Read), 1);
+    let mut sections = Sections {
+        summaries: Summaries::new(rt.alloc()),
+    };
+    section(&mut sections, 1, [A, B], X, AccessKind::Write, 1).expect(&rt, "memory");
+    assert_eq!(rt; met(&sections, 2, A, X, AccessKind::Read), [Some(1), None]);
+    assert_eq!(rt; met(&sections, 2, B, X, AccessKind::Read), [Some(1), None]);
     Ok(())
 }
 
 #[test]
 fn a_thread_meets_the_newest_of_another(rt: HostRuntime) -> Result<(), Fail> {
-    let limits = Limits::new(4, 8, 8, 100, Roots::Free).expect(&rt, "limits");
-    let mut sections = none(rt.alloc(), &limits).expect(&rt, "memory");
-    for thread in [1, 2, 1] {
-        section(&mut sections, ThreadId(thread), A, A, X, AccessKind::Write).expect(&rt, "memory");
+    let mut sections = Sections {
+        summaries: Summaries::new(rt.alloc()),
+    };
+    for (thread, number) in [(1, 1), (2, 2), (1, 3)] {
+        section(&mut sections, thread, [A, A], X, AccessKind::Write, number).expect(&rt, "memory");
     }
-    for thread in 0..4 {
-        assert_eq!(rt;
-            met(&sections, thread, A, X, AccessKind::Read),
-            1,
-            "thread {thread}"
-        );
-    }
+    assert_eq!(rt; met(&sections, 1, A, X, AccessKind::Read), [Some(2), None]);
+    assert_eq!(rt; met(&sections, 2, A, X, AccessKind::Read), [Some(3), None]);
+    assert_eq!(rt; met(&sections, 0, A, X, AccessKind::Read), [Some(3), None]);
     Ok(())
 }
 
 #[test]
-fn room_is_made_for_a_thread_a_lock_a_variable_and_a_kind(rt: HostRuntime) -> Result<(), Fail> {
-    let limits = Limits::new(4, 8, 8, 100, Roots::Free).expect(&rt, "limits");
-    let mut sections = none(rt.alloc(), &limits).expect(&rt, "memory");
-    let summaries = &mut sections.summaries;
-    assert!(rt; !summaries.is_ready(ThreadId(1), &[A, B], X, AccessKind::Read));
-    make_room(summaries, ThreadId(1), &[A, B], X, AccessKind::Read).expect(&rt, "memory");
-    assert!(rt; summaries.is_ready(ThreadId(1), &[A, B], X, AccessKind::Read));
-    assert!(rt; summaries.is_ready(ThreadId(1), &[B], X, AccessKind::Read));
-    assert!(rt;
-        summaries.is_ready(ThreadId(2), &[], X, AccessKind::Read),
-        "no lock"
-    );
-    assert!(rt;
-        !summaries.is_ready(ThreadId(2), &[A], X, AccessKind::Read),
-        "another thread"
-    );
-    assert!(rt;
-        !summaries.is_ready(ThreadId(1), &[LockId(1)], X, AccessKind::Read),
-        "another lock"
-    );
-    assert!(rt;
-        !summaries.is_ready(ThreadId(1), &[A], Y, AccessKind::Read),
-        "another variable"
-    );
-    assert!(rt;
-        !summaries.is_ready(ThreadId(1), &[A], X, AccessKind::Write),
-        "another kind"
-    );
+fn room_is_made_for_a_lock_and_a_variable(rt: HostRuntime) -> Result<(), Fail> {
+    let mut summaries = Summaries::new(rt.alloc());
+    assert!(rt; !summaries.is_ready(&[A, B], X));
+    make_room(&mut summaries, &[A, B], X).expect(&rt, "memory");
+    assert!(rt; summaries.is_ready(&[A, B], X));
+    assert!(rt; summaries.is_ready(&[B], X));
+    assert!(rt; summaries.is_ready(&[], Y), "no lock");
+    assert!(rt; !summaries.is_ready(&[LockId(1)], X), "another lock");
+    assert!(rt; !summaries.is_ready(&[A], Y), "another variable");
     Ok(())
 }

@@ -19,7 +19,9 @@ use Rattle.event_core.specs.declared.replies.Verdict.{Verdict}
 use Rattle.event_core.specs.Bounds.{AreBounded}
 use Rattle.event_core.specs.Count.{events_of}
 use Rattle.event_core.specs.Refusal.{refusal, event_of, value_of, open_acquires, in_range, WellFormed}
+use Rattle.event_core.specs.Rows.{Counted}
 use Rattle.event_core.specs.Verdict.{IsVerdict}
+use Rattle.event_core.specs.Wcp.{Below}
 use Rattle.event_core.proofs.Counting.{grown_length, last_does}
 use Rattle.event_core.proofs.Growth.{well_formed_grown}
 use Rattle.event_core.proofs.Legality.{AllNone, all_none, when_none}
@@ -37,6 +39,7 @@ use Rattle.traced_mem.proofs.Allowed.{un_not}
 use Rattle.access_check.specs.Tables.{count_at}
 use Rattle.access_check.specs.Tables.{IsWithin as AccessIsWithin}
 use Rattle.access_check.specs.Tables.{HasRoom as AccessHasRoom}
+use Rattle.access_check.specs.Tables.{Tables as AccessTables}
 use Rattle.access_check.specs.Standing.{Stands as AccessesStand}
 use Rattle.hb_clocks.specs.Stands.{IsHeldRelease}
 use Rattle.event_core.specs.Log.{depth}
@@ -180,6 +183,21 @@ last_is_latest log e = record {
       let grown : length (log ++ e ∷ []) ≡ length log + 1 = grown_length log e in
       omega arith;
 }
+
+-- by clocks that stand for the log with the event, the verdict is on that event
+pub judged : (e : Event) (old new : Clocks) (accesses : AccessTables) (count : ℕ → ℕ) (v : Verdict)
+    → ((limits : Limits) (log : List Event) → WellFormed limits (log ++ e ∷ []) → ClocksStandFor log old
+    → ClocksStandFor (log ++ e ∷ []) new)
+    → ((limits : Limits) (log : List Event) (j : ℕ) → WellFormed limits log → ClocksStandFor log new
+    → IsLatest log e.thread j → Counted log (λ i. Below log i j) count)
+    → ((log : List Event) → AccessesStand log accesses
+    → Counted (log ++ e ∷ []) (λ i. Below (log ++ e ∷ []) i (length log)) count
+    → IsVerdict (log ++ e ∷ []) (length log) v)
+    → (limits : Limits) (log : List Event) → WellFormed limits (log ++ e ∷ []) → ClocksStandFor log old
+    → AccessesStand log accesses → IsVerdict (log ++ e ∷ []) (length log) v
+judged e old new accesses count v advance latest verdict limits log well stands made =
+    verdict log made (latest limits (log ++ e ∷ []) (length log) well (advance limits log well stands)
+    (last_is_latest log e))
 
 -- a thread's position is a number
 pub position_fits : (m : Limits) (log : List Event) (p : Parts) (vs : List Verdict) (holds : ℕ) (t : ThreadId)

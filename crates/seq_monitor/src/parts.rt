@@ -1,19 +1,26 @@
 //! What is made of the parts of a monitor beside its log.
-ghost use Rattle.std.specs.Prelude.{◌≡◌, ℕ, ◌+◌, ◌-◌, ◌<◌, ◌≤◌, List, OnOk, vec_len, vec_capacity};
+ghost use Rattle.std.specs.Prelude.{◌≡◌, ℕ, ◌+◌, ◌-◌, ◌<◌, ◌≤◌, List, [], ◌∷◌, ◌++◌, length, OnOk, vec_len};
+ghost use Rattle.std.specs.Prelude.{vec_capacity};
+ghost use Rattle.event_core.specs.declared.bounds.Limits.{Limits as Bounds};
 ghost use Rattle.event_core.specs.declared.events.Event.{Event as AnEvent};
+ghost use Rattle.event_core.specs.Refusal.{WellFormed};
+ghost use Rattle.event_core.specs.Verdict.{IsVerdict};
 ghost use Rattle.traced_mem.specs.After.{holds_after};
 ghost use Rattle.traced_mem.specs.OfLog.{StandsFor};
 ghost use Rattle.traced_mem.specs.Room.{HoldsFit};
 ghost use Rattle.traced_mem.specs.Room.{IsReady as MemoryIsReady};
 ghost use Rattle.traced_mem.specs.Room.{IsReadyToSwap as MemoryIsReadyToSwap};
 ghost use Rattle.traced_mem.specs.Tables.{Allows, AllowsSwap, meaning};
+ghost use Rattle.access_check.specs.Standing.{Stands as AccessesStand};
 ghost use Rattle.access_check.specs.Tables.{Grown, IsWithin};
 ghost use Rattle.access_check.specs.Tables.{HasRoom as AccessesHaveRoom};
 ghost use Rattle.access_check.specs.Tables.{HasRoomToSwap as AccessesHaveRoomToSwap};
 ghost use Rattle.event_core.specs.declared.events.Op.{Op as Operation};
-ghost use Rattle.wcp_clocks.specs.Parts.{SameNumbers, SameLimits};
+ghost use Rattle.wcp_clocks.specs.Parts.{SameNumbers, SameLimits, IsAccess, KeepsReady, Fits};
 ghost use Rattle.wcp_clocks.specs.Parts.{IsWithin as ClocksAreWithin};
 ghost use Rattle.wcp_clocks.specs.Parts.{IsReady as ClocksAreReady};
+ghost use Rattle.wcp_clocks.specs.StandsFor.{StandsFor as ClocksStandFor};
+ghost use Rattle.wcp_clocks.specs.WorkWithin.{IsWorkOf};
 ghost use Rattle.seq_monitor.specs.Monitored.{slots_for};
 ghost use Rattle.seq_monitor.specs.Monitored.{event_by as an_event_by};
 
@@ -75,6 +82,25 @@ pub(crate) fn count_slots(holds: u64, op: Op) -> usize
         Op::Release(_) => holds,
         _ => holds + 1,
     }
+}
+
+/// The event is the next one of the log that the clocks and the accesses stand for. The clocks advance by it,
+/// and the verdict is by its thread's clock after that.
+pub(crate) fn judge(clocks: &mut WcpClocks, accesses: &Accesses, event: &Event) -> Verdict
+    requires ready { ClocksAreReady clocks.old event.now }
+    requires fits { Fits event.now clocks.old }
+    requires width { clocks.old.hb.width ≡ accesses.now.limits.threads }
+    ensures verdict { (limits : Bounds) (past : List AnEvent) → WellFormed limits (past ++ event.now ∷ [])
+        → ClocksStandFor past clocks.old → AccessesStand past accesses.now
+        → IsVerdict (past ++ event.now ∷ []) (length past) result }
+    ensures stands { (limits : Bounds) (past : List AnEvent) → WellFormed limits (past ++ event.now ∷ [])
+        → ClocksStandFor past clocks.old → ClocksStandFor (past ++ event.now ∷ []) clocks.new }
+    ensures work { IsWorkOf event.now clocks.old clocks.new }
+    ensures kept { IsAccess event.now.op → KeepsReady clocks.old clocks.new }
+    ensures limits { SameLimits clocks.old clocks.new }
+{
+    clocks.advance(event);
+    accesses.verdict(event, clocks.clock(event.thread))
 }
 
 // Makes room for so many more verdicts.

@@ -16,6 +16,3 @@ pub use replaying::replay;
 pub use reporting::report;
 pub use summary::Summary;
 pub use words::refusal_word;
-
-#[cfg(test)]
-mod tests;

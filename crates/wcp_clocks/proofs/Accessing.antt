@@ -6,7 +6,6 @@ use Rattle.event_core.specs.declared.ids.LockId.{LockId}
 use Rattle.event_core.specs.declared.ids.VarId.{VarId}
 use Rattle.event_core.specs.declared.events.Event.{Event}
 use Rattle.event_core.specs.declared.events.AccessKind.{AccessKind}
-use Rattle.event_core.specs.declared.events.AccessKind.TheVariants.{Read, Write}
 use Rattle.event_core.specs.declared.events.Op.{Op}
 use Rattle.event_core.specs.declared.events.Op.TheVariants.{Load, Store, Acquire, Release, Fork, Join}
 use Rattle.event_core.specs.Closed.{Has}
@@ -16,7 +15,8 @@ use Rattle.event_core.proofs.Growing.{row_same}
 use Rattle.hb_clocks.specs.State as hb
 use Rattle.hb_clocks.specs.Tables as hb_tables
 use Rattle.hb_clocks.specs.Work.{Done, more_joins}
-use Rattle.section_sum.specs.Sums.{Sums, width_of, noted_of, sources_of, is_access, SameOthers}
+use Rattle.lock_queues.specs.Queues.{closed_of}
+use Rattle.section_sum.specs.Sums.{Sums, noted_of, is_access, SameOthers}
 use Rattle.section_sum.specs.Sums.{KeepsRoom as sum_rooms}
 use Rattle.wcp_laws.specs.Step.{turn, join_all}
 use Rattle.wcp_clocks.specs.declared.parts.Parts.{Parts}
@@ -25,7 +25,8 @@ use Rattle.wcp_clocks.specs.StrictRows.{StrictTables, strict_of, below_of, Keeps
 use Rattle.wcp_clocks.specs.Parts.{hb_of, state_of, Fits, HasNamed, KeepsReady}
 use Rattle.wcp_clocks.specs.Stepping.{IsStepBy, strict_clock, below_clock}
 use Rattle.wcp_clocks.proofs.Taking.{room_then}
-use Rattle.wcp_clocks.proofs.TurnWords.{same_sources, same_noted, same_others}
+use Rattle.wcp_clocks.specs.Met.{met_clocks, met_under, AreNumbers}
+use Rattle.wcp_clocks.proofs.TurnWords.{same_sources, same_noted, same_clocks, same_threads, same_numbers}
 
 module _ (e : Event) (x : VarId) (k : AccessKind) (old : Parts) (told : turn e (state_of old) ≡ Accesses x k)
     (fits : Fits e old) where
@@ -35,7 +36,8 @@ module _ (e : Event) (x : VarId) (k : AccessKind) (old : Parts) (told : turn e (
   -- what the strict clock takes
   pub taken_row : (locks : List LockId) (rows : StrictTables) → locks ≡ (list_at old.held t).locks
       → (strict_of rows).thread ≡ with_row t
-      (join ((strict_of old.rows).thread t) (join_all (λ l. sources_of old.sums l x.0 k t)
+      (join ((strict_of old.rows).thread t) (join_all (met_under (met_clocks old.sums
+      (closed_of old.queues)) x.0 k t)
       (numbers_of locks)))
       (strict_of old.rows).thread
       → (strict_of rows).thread ≡ with_row t (strict_clock e (Accesses x k) old) (strict_of old.rows).thread
@@ -44,11 +46,12 @@ module _ (e : Event) (x : VarId) (k : AccessKind) (old : Parts) (told : turn e (
       ∙ ap₂ (λ (f : ℕ → ℕ → ℕ) (ns : List ℕ). with_row t (join ((strict_of old.rows).thread t)
       (join_all f ns))
       (strict_of old.rows).thread)
-      (same_sources old.sums (state_of old) x k e.thread refl) (ap numbers_of of)
+      (same_sources (state_of old) x k e.thread) (ap numbers_of of)
 
   pub own_taken : (locks : List LockId) (rows : StrictTables) → locks ≡ (list_at old.held t).locks
       → (strict_of rows).thread ≡ with_row t
-      (join ((strict_of old.rows).thread t) (join_all (λ l. sources_of old.sums l x.0 k t)
+      (join ((strict_of old.rows).thread t) (join_all (met_under (met_clocks old.sums
+      (closed_of old.queues)) x.0 k t)
       (numbers_of locks)))
       (strict_of old.rows).thread
       → (strict_of rows).thread t ≡ strict_clock e (Accesses x k) old
@@ -60,14 +63,15 @@ module _ (e : Event) (x : VarId) (k : AccessKind) (old : Parts) (told : turn e (
       (sums : Sums)
       (joined work : Done) → locks ≡ (list_at old.held t).locks
       → (strict_of taken).thread ≡ with_row t
-      (join ((strict_of old.rows).thread t) (join_all (λ l. sources_of old.sums l x.0 k t)
+      (join ((strict_of old.rows).thread t) (join_all (met_under (met_clocks old.sums
+      (closed_of old.queues)) x.0 k t)
       (numbers_of locks)))
       (strict_of old.rows).thread
       → (strict_of taken).lock ≡ (strict_of old.rows).lock → KeepsRoom old.rows taken
       → joined.joins ≤ old.work.joins + 2 * length locks → joined.comparisons ≡ old.work.comparisons
       → ((v l y : ℕ) (j : AccessKind) → noted_of sums v l y j
       ≡ (noted_of old.sums v l y j || is_access t locks x.0 k v l y j))
-      → SameOthers old.sums sums → width_of sums ≡ width_of old.sums
+      → SameOthers old.sums sums → AreNumbers old.sums (closed_of old.queues)
       → hb_tables.state_of tables ≡ hb.after e (hb_of old) → tables.width ≡ old.hb.width
       → work ≡ more_joins (hb.joins_of (hb.turn e (hb_of old))) joined
       → strict_of rows ≡ strict_of taken
@@ -76,8 +80,7 @@ module _ (e : Event) (x : VarId) (k : AccessKind) (old : Parts) (told : turn e (
       → IsStepBy e (Accesses x k) old
       (record { hb = tables; rows = rows; sums = sums; queues = old.queues; held = old.held; work = work })
   access_step locks taken rows tables sums joined work of threads lock room joins comparisons noted others
-      wide
-      exact width done strict below kept =
+      numbers exact width done strict below kept =
       record {
         hb = exact;
         threads = ap (λ r. r.thread) strict ∙ taken_row locks taken of threads;
@@ -88,7 +91,9 @@ module _ (e : Event) (x : VarId) (k : AccessKind) (old : Parts) (told : turn e (
         noted = same_noted old.sums sums (hb_of old).depth e.thread locks x k
             (λ l. subst (λ ls. Has l.0 (numbers_of ls) ↔ (0 < (hb_of old).depth t l.0))
             (sym of) (fits.held l)) noted;
-        others = same_others old.sums sums others;
+        others = same_clocks old.sums sums (closed_of old.queues) others;
+        by = same_threads old.sums sums (closed_of old.queues) others;
+        numbers = same_numbers old.sums sums (closed_of old.queues) others numbers;
         closed = refl;
         found = refl;
         joins = (let w : work.joins ≡ joined.joins + 0 = ap (λ (d : Done). d.joins) done
@@ -100,7 +105,6 @@ module _ (e : Event) (x : VarId) (k : AccessKind) (old : Parts) (told : turn e (
         comparisons = ap (λ (d : Done). d.comparisons) done ∙ comparisons;
         room = room_then old.rows taken rows room kept;
         limits = record { width = width; limits = refl };
-        sums = wide;
       }
 
 -- what was ready stays so
@@ -131,8 +135,8 @@ access_keeps old rows tables sums work hb kept rooms e ready = record {
               = work;
         })
         e.thread op
-    named (Load x) room = λ l h. rooms e.thread.0 l x.0 Read (room l h)
-    named (Store x) room = λ l h. rooms e.thread.0 l x.0 Write (room l h)
+    named (Load x) room = λ l h. rooms l x.0 (room l h)
+    named (Store x) room = λ l h. rooms l x.0 (room l h)
     named (Acquire l) room = (kept.lock l.0 room.0, room.1, room.2)
     named (Release l) room = kept.lock l.0 room
     named (Fork u) room = kept.thread u.0 room

@@ -1,7 +1,8 @@
 -- A legal event finds the numbers as the step asks.
-use Rattle.std.proofs.Common.{◌≡◌, ℕ, ◌<◌, ◌≤◌, ◌+◌, List, [], ◌∷◌, ◌++◌, length, true, false, nat_eq}
+use Rattle.std.proofs.Common.{◌≡◌, ℕ, zero, suc, ◌<◌, ◌≤◌, ◌+◌, List, [], ◌∷◌, ◌++◌, length, true, false}
+use Rattle.std.proofs.Common.{nat_eq}
 use Rattle.std.proofs.Common.{sym, ap, subst, ◌∙◌, inl, inr, ◌⊎◌, ◌↔◌, arith, take}
-use Rattle.std.proofs.lemmas.Bool.{cases_Bool, eqb-true}
+use Rattle.std.proofs.lemmas.Bool.{cases_Bool, cases_lt, eqb-true}
 use Rattle.std.proofs.lemmas.Option.{slice_get_within}
 use Rattle.std.proofs.Math.Seq.{take-length}
 use Rattle.event_core.specs.declared.bounds.Limits.{Limits}
@@ -22,6 +23,16 @@ use Rattle.hb_clocks.specs.Stands.{Stands as OrderStands}
 use Rattle.hb_clocks.proofs.LegalSteps.{step_stands}
 use Rattle.hb_clocks.proofs.Conditions.{admits_legal, few_in_log}
 use Rattle.section_sum.specs.Sums.{IsAlone, noted_of}
+use Rattle.event_core.specs.Count.{events_of}
+use Rattle.event_core.proofs.Counting.{events_grow, grown_length}
+use Rattle.event_core.specs.Turn.{Closes}
+use Rattle.wcp_laws.specs.Found.{sum_below}
+use Rattle.wcp_laws.proofs.FoundLaws.{closes_after_first}
+use Rattle.wcp_laws.specs.State.{State}
+use Rattle.wcp_laws.specs.Standing.{Stands}
+use Rattle.wcp_laws.specs.Step as wcp
+use Rattle.wcp_laws.proofs.LegalSteps as wcp_steps
+use Rattle.wcp_clocks.specs.Whole.{own_of}
 use Rattle.wcp_laws.proofs.Conditions.{sound_where_legal}
 use Rattle.wcp_clocks.specs.declared.parts.Parts.{Parts}
 use Rattle.wcp_clocks.specs.HeldLists.{list_at, held_of}
@@ -90,6 +101,53 @@ own_next limits log e s w st =
     ap (λ (f : ℕ → ℕ). f e.thread.0) (sym hb) ∙ next.hb_own e.thread ∙ sym (next.po_own e.thread)
     ∙ ap (λ (f : ℕ → ℕ). f e.thread.0) po
 
+-- no thread's own number falls
+own_grows : (limits : Limits) (log : List Event) (e : Event) (s : State) → WellFormed limits (log ++ e ∷ [])
+    → Stands log s → (u : ℕ) → own_of s u ≤ own_of (wcp.after e s) u
+own_grows limits log e s w st u =
+    let t : ThreadId = record { 0 = u } in
+    let before : s.hb.thread u u ≡ events_of log t = st.own t in
+    let now : (wcp.after e s).hb.thread u u ≡ events_of (log ++ e ∷ []) t
+    = (wcp_steps.step_stands limits log e s w st).own t in
+    let more = events_grow log e t in
+    omega arith
+
+-- one of the numbers is not above their sum
+one_of_sum : (f : ℕ → ℕ) (n i : ℕ) → i < n → f i ≤ sum_below f n
+one_of_sum f zero i lt = absurd (omega (arith, lt))
+one_of_sum f (suc n) i lt = go (cases_lt i n) (λ less. one_of_sum f n i less)
+  where
+    go : (i < n) ⊎ (n ≤ i) → (i < n → f i ≤ sum_below f n) → f i ≤ sum_below f n + f n
+    go (inl less) rest = let before : f i ≤ sum_below f n = rest less in omega arith
+    go (inr more) rest =
+        let same : i ≡ n = omega arith in
+        let here : f i ≡ f n = ap f same in
+        omega arith
+
+-- a lock has no more closed sections than the log has events
+pub closed_few : (log : List Event) (p : Parts) (l : LockId) → StandsFor log p
+    → length ((state_of p).closed l.0) ≤ length log
+closed_few log p l st =
+    let one : length ((state_of p).closed l.0) ≤ sum_below (λ k. length ((state_of p).closed k)) (suc l.0)
+    = one_of_sum (λ k. length ((state_of p).closed k)) (suc l.0) l.0 (omega arith) in
+    let all : sum_below (λ k. length ((state_of p).closed k)) (suc l.0) ≤ length log
+    = st.found.few (suc l.0) in
+    omega arith
+
+-- a section that is closed after them has a number
+few_closed : (limits : Limits) (log : List Event) (e : Event) (p : Parts) → limits.events ≤ 4294967296
+    → WellFormed limits (log ++ e ∷ []) → StandsFor log p → (l : LockId)
+    → wcp.turn e (state_of p) ≡ Closes l → length ((state_of p).closed l.0) + 1 < 4294967296
+few_closed limits log e p most w st l told =
+    let some : 0 < length log = closes_after_first log e (state_of p) st.strict l told in
+    let one : length ((state_of p).closed l.0) ≤ sum_below (λ k. length ((state_of p).closed k)) (suc l.0)
+    = one_of_sum (λ k. length ((state_of p).closed k)) (suc l.0) l.0 (omega arith) in
+    let all : sum_below (λ k. length ((state_of p).closed k)) (suc l.0) < length log
+    = st.found.fewer (suc l.0) some in
+    let grown : length (log ++ e ∷ []) ≡ length log + 1 = grown_length log e in
+    let within : length (log ++ e ∷ []) ≤ limits.events = log_within limits (log ++ e ∷ []) w in
+    omega arith
+
 pub fits_where_legal : FitsWhereLegal
 fits_where_legal limits log e p bounds w st little =
     let front : WellFormed limits log = well_formed_front limits log (e ∷ []) w in
@@ -101,8 +159,10 @@ fits_where_legal limits log e p bounds w st little =
       sound = sound_where_legal limits log e (state_of p) w st.strict;
       own = st.hb.hb_own e.thread ∙ sym (st.hb.po_own e.thread);
       own_next = own_next limits log e (hb_of p) w st.hb;
+      own_grows = own_grows limits log e (state_of p) w st.strict;
       alone = alone limits log p e.thread front st;
       held = λ l. held l;
+      few_closed = few_closed limits log e p most w st;
       cursors = st.found.counted;
       joins = little.joins;
       comparisons = little.comparisons;

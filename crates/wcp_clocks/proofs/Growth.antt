@@ -1,5 +1,6 @@
 -- Parts that have more room are as before in all else.
-use Rattle.std.proofs.Common.{◌≡◌, ℕ, ◌<◌, List, [], ◌∷◌, Bool, true, ◌||◌, nat_eq, refl, sym, ap, subst, ◌∙◌}
+use Rattle.std.proofs.Common.{◌≡◌, ℕ, ◌<◌, List, [], ◌∷◌, length, Bool, true, false, ◌||◌, nat_eq, refl, sym}
+use Rattle.std.proofs.Common.{ap, subst, ◌∙◌}
 use Rattle.std.proofs.Common.{IsTrue, arith}
 use Rattle.std.proofs.Common.{inl, inr, ◌⊎◌, Result, Ok, Err, OnOk, OnErr}
 use Rattle.std.proofs.lemmas.Bool.{cases_eq}
@@ -11,16 +12,20 @@ use Rattle.event_core.specs.declared.ids.LockId.{LockId}
 use Rattle.event_core.specs.declared.events.Op.{Op}
 use Rattle.event_core.specs.declared.events.Op.TheVariants.{Load, Store, Acquire, Release, Fork, Join}
 use Rattle.event_core.specs.declared.events.AccessKind.{AccessKind}
-use Rattle.event_core.specs.declared.events.AccessKind.TheVariants.{Read, Write}
 use Rattle.event_core.specs.Bounds.{Bounds}
 use Rattle.event_core.specs.Rows.{Rows, join, with_row, no_rows, no_clock}
 use Rattle.hb_clocks.specs.State.{HbState, empty as hb_empty}
-use Rattle.section_sum.specs.Sums.{HasRoom, is_held, width_of}
-use Rattle.lock_queues.specs.Queues.{Tables as Queues, SameMeaning, has_room}
+use Rattle.section_sum.specs.Sums.{HasRoom, is_held, noted_of, others_of}
+use Rattle.lock_queues.specs.Queues.{Tables as Queues, SameMeaning, closed_of, opened_of, has_room}
+use Rattle.wcp_laws.specs.State.{empty}
 use Rattle.wcp_clocks.specs.declared.parts.Parts.{Parts}
-use Rattle.wcp_clocks.specs.HeldLists.{list_at, numbers_of}
+use Rattle.wcp_clocks.specs.HeldLists.{list_at, numbers_of, held_of}
 use Rattle.wcp_clocks.specs.StrictRows.{strict_of, below_of}
-use Rattle.wcp_clocks.specs.Parts.{hb_of, HasNamed, KeepsReady, SameLimits, SameNumbers, AreParts}
+use Rattle.event_core.specs.Closed.{Closed}
+use Rattle.wcp_clocks.specs.Met.{release_at, thread_at, met_threads}
+use Rattle.wcp_clocks.specs.Whole.{AreWhole}
+use Rattle.wcp_clocks.proofs.Wholeness.{none_whole}
+use Rattle.wcp_clocks.specs.Parts.{hb_of, state_of, HasNamed, KeepsReady, SameLimits, SameNumbers, AreParts}
 use Rattle.wcp_clocks.specs.Growth.{HasGrown}
 
 pub grown_then : (a b c : Parts) → HasGrown a b → HasGrown b c → HasGrown a c
@@ -34,10 +39,9 @@ grown_then a b c p q = record {
     thread = λ t r. q.rows_room.thread t (p.rows_room.thread t r);
     lock = λ l r. q.rows_room.lock l (p.rows_room.lock l r);
   };
-  sums_width = q.sums_width ∙ p.sums_width;
   noted = λ t l v k. q.noted t l v k ∙ p.noted t l v k;
-  others = λ l v k t u. q.others l v k t u ∙ p.others l v k t u;
-  sums_room = λ t l v k r. q.sums_room t l v k (p.sums_room t l v k r);
+  others = λ l v k t. q.others l v k t ∙ p.others l v k t;
+  sums_room = λ l v r. q.sums_room l v (p.sums_room l v r);
   queues = record {
     closed = q.queues.closed ∙ p.queues.closed;
     opened = q.queues.opened ∙ p.queues.opened;
@@ -59,13 +63,17 @@ grown_numbers old new g = record {
     opened = g.queues.opened i;
     held = g.held i;
     noted = λ t l v k. g.noted t l v k i;
-    others = λ l v k t u. g.others l v k t u i;
+    others = λ l v k t. release_at (g.queues.closed i l) (g.others l v k t i);
     closed = g.queues.closed i;
   };
   hb = g.order;
   found = g.queues.found;
   work = g.work;
 }
+
+grown_threads : (old new : Parts) → HasGrown old new
+    → met_threads new.sums (closed_of new.queues) ≡ met_threads old.sums (closed_of old.queues)
+grown_threads old new g i l v k t = thread_at (g.queues.closed i l) (g.others l v k t i)
 
 pub grown_limits : (old new : Parts) → HasGrown old new → SameLimits old new
 grown_limits old new g = record { width = g.order_width; limits = g.queues.limits }
@@ -79,16 +87,16 @@ pub named_kept : (old new : Parts) (t : ThreadId) (op : Op) → HasGrown old new
     → HasNamed new t op
 named_kept old new t op g = go op
   where
-    access : (v : ℕ) (k : AccessKind) → HasRoom old.sums t.0 (list_at old.held t.0).locks v k
-        → HasRoom new.sums t.0 (list_at new.held t.0).locks v k
-    access v k room l is =
-        g.sums_room t.0 l v k (room l (held_numbers (list_at old.held t.0).locks l
+    access : (v : ℕ) → HasRoom old.sums (list_at old.held t.0).locks v
+        → HasRoom new.sums (list_at new.held t.0).locks v
+    access v room l is =
+        g.sums_room l v (room l (held_numbers (list_at old.held t.0).locks l
         ∙ ap (λ (f : ℕ → List ℕ). list_any (nat_eq l) (f t.0)) (sym g.held)
         ∙ sym (held_numbers (list_at new.held t.0).locks l) ∙ is))
 
     go : (op : Op) → HasNamed old t op → HasNamed new t op
-    go (Load x) r = access x.0 Read r
-    go (Store x) r = access x.0 Write r
+    go (Load x) r = access x.0 r
+    go (Store x) r = access x.0 r
     go (Acquire l) r = (g.rows_room.lock l.0 r.0, g.queues_room t.0 l.0 r.1, g.held_room t.0 r.2)
     go (Release l) r = g.rows_room.lock l.0 r
     go (Fork u) r = g.rows_room.thread u.0 r
@@ -104,11 +112,18 @@ grown_ready old new g e r = record {
 pub grown_parts : (old new : Parts) → HasGrown old new → AreParts old → AreParts new
 grown_parts old new g a = record {
   rows = g.rows_room.width ∙ a.rows ∙ sym g.order_width;
-  sums = g.sums_width ∙ a.sums ∙ sym g.order_width;
   queues = ap (λ (b : Bounds). b.threads) g.queues.limits ∙ a.queues ∙ sym g.order_width;
   below = λ t. ap (λ (f : ℕ → ℕ → ℕ). f t) g.rows.below ∙ a.below t
       ∙ ap (λ (r : Rows). join (r.thread t) ((hb_of old).po t)) (sym g.rows.strict)
       ∙ ap (λ (s : HbState). join ((strict_of new.rows).thread t) (s.po t)) (sym g.order);
+  numbers = λ l x k t.
+      (let e = g.others l x k t in
+      let n = a.numbers l x k t in
+      let w = ap (λ (f : ℕ → List Closed). length (f l)) g.queues.closed in
+      omega arith);
+  whole = subst (λ s. AreWhole s (met_threads new.sums (closed_of new.queues)))
+      (sym (grown_numbers old new g).state)
+      (subst (AreWhole (state_of old)) (sym (grown_threads old new g)) a.whole);
   held_thread = λ t l up. g.rows_room.thread t
       (a.held_thread t l (subst (λ (s : HbState). 0 < s.depth t l) g.order up));
   held_lock = λ t l up. g.rows_room.lock l
@@ -153,10 +168,9 @@ queues_grown old new same kept = record {
   order_room = λ t op r. r;
   rows = record { strict = refl; below = refl };
   rows_room = record { width = refl; thread = λ t r. r; lock = λ l r. r };
-  sums_width = refl;
   noted = λ t l v k. refl;
-  others = λ l v k t u. refl;
-  sums_room = λ t l v k r. r;
+  others = λ l v k t. refl;
+  sums_room = λ l v r. r;
   queues = same;
   queues_room = kept;
   held = refl;
@@ -167,17 +181,41 @@ queues_grown old new same kept = record {
 -- parts of one width, without numbers
 pub are_parts : (p : Parts) (width : ℕ) → p.hb.width ≡ width → hb_of p ≡ hb_empty
     → p.rows.width ≡ width → strict_of p.rows ≡ no_rows → below_of p.rows ≡ (λ _. no_clock)
-    → width_of p.sums ≡ width → p.queues.limits.threads ≡ width → AreParts p
-are_parts p width hb_width hb rows_width strict below sums queues = record {
+    → p.queues.limits.threads ≡ width
+    → ((l x : ℕ) (k : AccessKind) (t : ℕ) → others_of p.sums l x k t ≡ 0)
+    → ((l : ℕ) → closed_of p.queues l ≡ []) → AreParts p
+are_parts p width hb_width hb rows_width strict below queues others closed = record {
   rows = rows_width ∙ sym hb_width;
-  sums = sums ∙ sym hb_width;
   queues = queues ∙ sym hb_width;
   below = λ t. ap (λ (f : ℕ → ℕ → ℕ). f t) below
       ∙ ap (λ (r : Rows). join (r.thread t) no_clock) (sym strict)
       ∙ ap (λ (s : HbState). join ((strict_of p.rows).thread t) (s.po t)) (sym hb);
+  numbers = λ l x k t. (let e = others l x k t in omega arith);
+  whole = none_whole (state_of p) (met_threads p.sums (closed_of p.queues))
+      (λ l x k t u. ap (λ n. release_at (closed_of p.queues l) n u) (others l x k t))
+      (λ t u. ap (λ (r : Rows). r.thread t u) strict) (λ l u. ap (λ (r : Rows). r.lock l u) strict)
+      (λ t u. ap (λ (s : HbState). s.hb.thread t u) hb) (λ l u. ap (λ (s : HbState). s.hb.lock l u) hb)
+      closed;
   held_thread = λ t l up. absurd (none t l up);
   held_lock = λ t l up. absurd (none t l up);
 }
   where
     none : (t l : ℕ) → 0 < (hb_of p).depth t l → ⊥
     none t l up = let z : (hb_of p).depth t l ≡ 0 = ap (λ (s : HbState). s.depth t l) hb in omega arith
+
+-- and their numbers are those of the empty log
+pub empty_numbers : (p : Parts) → hb_of p ≡ hb_empty → strict_of p.rows ≡ no_rows
+    → opened_of p.queues ≡ (λ _ _. 0) → held_of p.held ≡ (λ _. [])
+    → ((t l x : ℕ) (k : AccessKind) → noted_of p.sums t l x k ≡ false)
+    → ((l x : ℕ) (k : AccessKind) (t : ℕ) → others_of p.sums l x k t ≡ 0)
+    → closed_of p.queues ≡ (λ _. []) → state_of p ≡ empty
+empty_numbers p hb strict opened held noted others closed i = record {
+  hb = (hb i).hb;
+  strict = strict i;
+  depth = (hb i).depth;
+  opened = opened i;
+  held = held i;
+  noted = λ t l x k. noted t l x k i;
+  others = λ l x k t. release_at (closed i l) (others l x k t i);
+  closed = closed i;
+}

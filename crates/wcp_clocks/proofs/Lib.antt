@@ -1,4 +1,5 @@
 mod Accessing
+mod Closing
 pub mod Conditions
 pub mod Growth
 pub mod HeldLocks
@@ -10,9 +11,11 @@ mod OwnClocks
 mod Passing
 pub mod Replaying
 mod Rows
+mod SourcesCount
 pub mod Standing
 mod Stepped
 mod Taking
 mod TurnWords
+mod Wholeness
 pub mod WorkLaws
 pub mod WorkedLogs

@@ -17,7 +17,11 @@ use Rattle.wcp_clocks.specs.declared.parts.Parts.{Parts}
 use Rattle.wcp_clocks.specs.HeldLists.{held_of}
 use Rattle.wcp_clocks.specs.StrictRows.{strict_of, below_of, HasThread, HasLock}
 use Rattle.wcp_clocks.specs.Parts.{hb_of, state_of, found_in, AreParts, IsReady, HasNamed, most_joins}
-use Rattle.wcp_clocks.specs.Parts.{FewComparisons, IsAccess, KeepsReady}
+use Rattle.wcp_clocks.specs.Parts.{FewComparisons, Fits, IsAccess, KeepsReady}
+use Rattle.lock_queues.specs.Queues.{closed_of}
+use Rattle.wcp_clocks.specs.Met.{met_threads}
+use Rattle.wcp_clocks.specs.Whole.{AreWhole, by_after}
+use Rattle.wcp_clocks.proofs.Wholeness.{whole_after}
 use Rattle.wcp_clocks.specs.Stepping.{IsStep, IsStepBy, strict_clock}
 
 -- rows that are each the join of two are so where both are written
@@ -121,12 +125,24 @@ module _ (e : Event) (k : Turn) (old new : Parts) (told : turn e (state_of old)
           ∙ ap (λ k. to_child k (hb.po_row e (hb_of old)) (with_row e.thread.0 (hb.po_row e (hb_of old))
           (hb_of old).po)) told
 
-  kept_parts : AreParts old → IsReady old e → AreParts new
-  kept_parts parts ready = record {
+  whole : AreParts old → Fits e old → AreWhole (state_of new) (met_threads new.sums (closed_of new.queues))
+  whole parts fits =
+      subst (λ s. AreWhole s (met_threads new.sums (closed_of new.queues))) (sym exact)
+      (subst (AreWhole (after e (state_of old)))
+      (sym (by.by ∙ ap (λ k. by_after e.thread.0 k (state_of old)
+      (met_threads old.sums (closed_of old.queues))) (sym told)))
+      (whole_after e (state_of old) (met_threads old.sums (closed_of old.queues)) parts.whole
+      (λ m told x j v u. fits.sound.above_others m (record { 0 = x }) j (record { 0 = v }) (record { 0 = u })
+      told)
+      fits.own_grows))
+
+  kept_parts : AreParts old → IsReady old e → Fits e old → AreParts new
+  kept_parts parts ready fits = record {
     rows = by.room.width ∙ parts.rows ∙ sym by.limits.width;
-    sums = by.sums ∙ parts.sums ∙ sym by.limits.width;
     queues = ap (λ b. b.threads) by.limits.limits ∙ parts.queues ∙ sym by.limits.width;
     below = below parts;
+    numbers = by.numbers;
+    whole = whole parts fits;
     held_thread = λ t l h. thread l t (held_before e.thread.0 e.op (hb_of old).depth t l (was t l h));
     held_lock = λ t l h. lock l t (held_before e.thread.0 e.op (hb_of old).depth t l (was t l h));
   }
@@ -143,8 +159,9 @@ module _ (e : Event) (k : Turn) (old new : Parts) (told : turn e (state_of old)
       lock l t (inr p) = by.room.lock l (subst (λ m. HasLock old.rows m) (sym p.3)
           (subst (λ (op : Op). HasNamed old e.thread op) p.2 ready.named).0)
 
-  pub stepped : AreParts old → IsReady old e → (IsAccess e.op → KeepsReady old new) → IsStep e old new
-  stepped parts ready kept = record {
+  pub stepped : AreParts old → IsReady old e → Fits e old → (IsAccess e.op → KeepsReady old new)
+      → IsStep e old new
+  stepped parts ready fits kept = record {
     exact = exact;
     hb = by.hb;
     found = by.found ∙ ap (λ k. found_at e.thread k (state_of old) (found_in old)) (sym told);
@@ -152,7 +169,7 @@ module _ (e : Event) (k : Turn) (old new : Parts) (told : turn e (state_of old)
         (sym told) by.joins;
     comparisons = subst (λ k. FewComparisons e.thread k old new) (sym told) by.comparisons;
     limits = by.limits;
-    parts = kept_parts parts ready;
+    parts = kept_parts parts ready fits;
     kept = kept;
   }
 

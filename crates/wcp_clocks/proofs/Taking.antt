@@ -1,14 +1,23 @@
 -- A thread's strict clock takes one clock after another.
-use Rattle.std.proofs.Common.{◌≡◌, ℕ, ◌+◌, ◌*◌, ◌≤◌, List, [], ◌∷◌, ◌++◌, length, Bool, true, false, All, max}
-use Rattle.std.proofs.Common.{refl, sym, ap, ap₂, ◌∙◌, arith}
-use Rattle.std.proofs.lemmas.List.{length_push}
-use Rattle.std.proofs.lemmas.List.Elements.{All-tail}
+use Rattle.std.proofs.Common.{◌≡◌, ℕ, zero, suc, ◌+◌, ◌-◌, ◌*◌, ◌<◌, ◌≤◌, List, [], ◌∷◌, ◌++◌, length, Bool}
+use Rattle.std.proofs.Common.{true, false, cond, All, max}
+use Rattle.std.proofs.Common.{refl, sym, ap, ap₂, subst, ◌∙◌, arith}
+use Rattle.std.proofs.lemmas.List.{length_push, append-nil}
+use Rattle.std.proofs.lemmas.List.Elements.{All-head, All-tail, All-nil, All-cons, All-append}
+use Rattle.std.proofs.lemmas.Bool.{ne_eqb}
 use Rattle.event_core.specs.Rows.{join, with_row}
 use Rattle.event_core.proofs.Growing.{row_same}
-use Rattle.hb_clocks.specs.Counts.{counts_of}
 use Rattle.hb_clocks.specs.Tables.{rows_of}
 use Rattle.hb_clocks.specs.Work.{Done}
-use Rattle.section_sum.specs.Sources.{joined_all}
+use Rattle.event_core.specs.declared.events.AccessKind.{AccessKind}
+use Rattle.event_core.specs.declared.events.AccessKind.TheVariants.{Read, Write}
+use Rattle.event_core.specs.Closed.{Closed}
+use Rattle.lock_queues.specs.Sections.{closed_at}
+use Rattle.section_sum.specs.Newest.{section}
+use Rattle.section_sum.specs.Sums.{Sums, others_of, sources_of}
+use Rattle.wcp_clocks.specs.Met.{release_at, thread_at, met_clocks, met_threads, met_under, joined_all}
+use Rattle.wcp_clocks.specs.Met.{IsMet, IsWholeIn, AreWholeIn}
+use Rattle.wcp_clocks.proofs.Wholeness.{whole_join}
 use Rattle.wcp_laws.specs.Step.{join_all}
 use Rattle.wcp_clocks.proofs.Rows.{row_kept, row_again, join_nothing}
 use Rattle.wcp_clocks.specs.StrictRows.{StrictTables, below_of, KeepsRoom}
@@ -23,82 +32,199 @@ room_then a b c p q = record {
   lock = λ l r. q.lock l (p.lock l r);
 }
 
+-- the section with a number that is not 0
+pub release_is : (qs : List Closed) (n : ℕ) → 0 < n → (closed_at qs (n - 1)).release ≡ release_at qs n
+release_is qs zero some = absurd (omega (arith, some))
+release_is qs (suc n) some = ap (λ k. (closed_at qs k).release) less
+  where
+    less : suc n - 1 ≡ n
+    less = omega arith
+
+pub thread_is : (qs : List Closed) (n : ℕ) → 0 < n → (closed_at qs (n - 1)).thread ≡ thread_at qs n
+thread_is qs zero some = absurd (omega (arith, some))
+thread_is qs (suc n) some = ap (λ k. (closed_at qs k).thread) less
+  where
+    less : suc n - 1 ≡ n
+    less = omega arith
+
+-- the section's clock is whole
+met_whole : (s : Sums) (closed : ℕ → List Closed) (l x t n : ℕ) → AreWholeIn s closed → IsMet s l x t n
+    → IsWholeIn s closed (release_at (closed l) n)
+met_whole s closed l x t n each m =
+    subst (λ i. IsWholeIn s closed (release_at (closed l) i)) (sym m.number) (each l x m.kind t)
+
+-- and a clock that counts the release is at or above it
+counted : (s : Sums) (closed : ℕ → List Closed) (l x t n : ℕ) (f : ℕ → ℕ) → IsWholeIn s closed f
+    → IsMet s l x t n → release_at (closed l) n (thread_at (closed l) n) ≤ f (thread_at (closed l) n)
+    → f ≡ join f (release_at (closed l) n)
+counted s closed l x t n f whole m le i u = at i
+  where
+    Above : ℕ → Type 0
+    Above i = release_at (closed l) i (thread_at (closed l) i) ≤ f (thread_at (closed l) i)
+        → release_at (closed l) i u ≤ f u
+
+    above : Above n
+    above = subst Above (sym m.number) (whole l x m.kind t u)
+
+    at : f u ≡ max (f u) (release_at (closed l) n u)
+    at = let p = above le in omega arith
+
 -- what has been taken of the source, where the rest is still to be taken
-pub record IsTaking (t : ℕ) (source : ℕ → ℕ) (old now : StrictTables) (before after : Done)
-    (rest : List (List ℕ)) (taken : Bool) : Type 0 where
+pub record IsTaking (s : Sums) (closed : ℕ → List Closed) (l x t : ℕ) (source : ℕ → ℕ)
+    (old now : StrictTables) (before after : Done) (rest : List ℕ) (taken : Bool) : Type 0 where
   pub shape : rows_of now.thread ≡ with_row t (rows_of now.thread t) (rows_of old.thread)
-  pub joined : (u : ℕ) → joined_all (rows_of now.thread t) rest u ≡ join (rows_of old.thread t) source u
+  pub joined : (u : ℕ) → joined_all (closed l) (rows_of now.thread t) rest u
+      ≡ join (rows_of old.thread t) source u
   pub lock : rows_of now.lock ≡ rows_of old.lock
   pub below : below_of now ≡ below_of old
   pub none : taken ≡ false → rows_of now.thread ≡ rows_of old.thread
   pub kept : KeepsRoom old now
-  pub wide : All (λ (c : List ℕ). length c ≡ old.width) rest
+  pub met : All (IsMet s l x t) rest
+  pub whole : IsWholeIn s closed (rows_of now.thread t)
   pub joins : after.joins + length rest ≤ before.joins + 2
   pub comparisons : after.comparisons ≡ before.comparisons
 
-pub taking_begins : (t : ℕ) (source : ℕ → ℕ) (old : StrictTables) (before : Done) (rest : List (List ℕ))
-    (taken : Bool)
-    → ((u : ℕ) → joined_all (rows_of old.thread t) rest u ≡ join (rows_of old.thread t) source u)
-    → All (λ (c : List ℕ). length c ≡ old.width) rest → length rest ≤ 2
-    → IsTaking t source old old before before rest taken
-taking_begins t source old before rest taken joined wide few = record {
+-- the sections that an access meets, joined
+section_joined : (qs : List Closed) (f : ℕ → ℕ) (n : ℕ) (ns : List ℕ)
+    → joined_all qs f (section n ++ ns) ≡ joined_all qs (join f (release_at qs n)) ns
+section_joined qs f zero ns = ap (λ (g : ℕ → ℕ). joined_all qs g ns) (sym (join_nothing f))
+section_joined qs f (suc n) ns =
+    ap (λ b. joined_all qs f (cond b [] (suc n ∷ []) ++ ns)) (ne_eqb (suc n) 0 (λ e. absurd (omega
+    (arith, e))))
+
+sources_joined : (s : Sums) (closed : ℕ → List Closed) (l x t : ℕ) (k : AccessKind) (f : ℕ → ℕ) (u : ℕ)
+    → joined_all (closed l) f (sources_of s l x k t) u ≡ join f (met_under (met_clocks s closed) x k t l) u
+unfolding sources_of
+sources_joined s closed l x t Read f u =
+    ap (λ ns. joined_all (closed l) f ns u) (sym (append-nil (section (others_of s l x Write t))))
+    ∙ ap (λ (g : ℕ → ℕ). g u) (section_joined (closed l) f (others_of s l x Write t) [])
+sources_joined s closed l x t Write f u =
+    ap (λ (g : ℕ → ℕ). g u) (section_joined (closed l) f stores (section loads))
+    ∙ ap (λ ns. joined_all (closed l) (join f (release_at (closed l) stores)) ns u)
+    (sym (append-nil (section loads)))
+    ∙ ap (λ (g : ℕ → ℕ). g u)
+    (section_joined (closed l) (join f (release_at (closed l) stores)) loads [])
+    ∙ either (f u) (release_at (closed l) stores u) (release_at (closed l) loads u)
+  where
+    stores : ℕ
+    stores = others_of s l x Write t
+
+    loads : ℕ
+    loads = others_of s l x Read t
+
+    either : (a b c : ℕ) → max (max a b) c ≡ max a (max c b)
+    either a b c = omega arith
+
+section_met : (s : Sums) (l x t : ℕ) (k : AccessKind) (n : ℕ) → n ≡ others_of s l x k t
+    → All (IsMet s l x t) (section n)
+section_met s l x t k zero is = All-nil (IsMet s l x t)
+section_met s l x t k (suc n) is =
+    subst (λ b. All (IsMet s l x t) (cond b [] (suc n ∷ []))) (sym (ne_eqb (suc n) 0 (λ e. absurd (omega
+    (arith, e)))))
+    (All-cons (IsMet s l x t) (suc n) [] (record { some = omega arith; kind = k; number = is })
+    (All-nil (IsMet s l x t)))
+
+sources_met : (s : Sums) (l x t : ℕ) (k : AccessKind) → All (IsMet s l x t) (sources_of s l x k t)
+unfolding sources_of
+sources_met s l x t Read = section_met s l x t Write (others_of s l x Write t) refl
+sources_met s l x t Write =
+    All-append (IsMet s l x t) (section (others_of s l x Write t)) (section (others_of s l x Read t))
+    (section_met s l x t Write (others_of s l x Write t) refl)
+    (section_met s l x t Read (others_of s l x Read t) refl)
+
+pub taking_begins : (s : Sums) (closed : ℕ → List Closed) (l x t : ℕ) (k : AccessKind) (old : StrictTables)
+    (before : Done) (rest : List ℕ) (taken : Bool) → rest ≡ sources_of s l x k t → length rest ≤ 2
+    → IsWholeIn s closed (rows_of old.thread t)
+    → IsTaking s closed l x t (met_under (met_clocks s closed) x k t l) old old before before rest taken
+taking_begins s closed l x t k old before rest taken is few whole = record {
   shape = row_kept t (rows_of old.thread);
-  joined = joined;
+  joined = λ u. ap (λ ns. joined_all (closed l) (rows_of old.thread t) ns u) is
+      ∙ sources_joined s closed l x t k (rows_of old.thread t) u;
   lock = refl;
   below = refl;
   none = λ e. refl;
   kept = room_same old;
-  wide = wide;
+  met = subst (All (IsMet s l x t)) (sym is) (sources_met s l x t k);
+  whole = whole;
   joins = omega arith;
   comparisons = refl;
 }
 
-pub taking_on : (t : ℕ) (source : ℕ → ℕ) (old now new : StrictTables) (before after done : Done) (c : List ℕ)
-    (rest : List (List ℕ)) (taken : Bool)
-    → IsTaking t source old now before after (c ∷ rest) taken
-    → rows_of new.thread ≡ with_row t (join (rows_of now.thread t) (counts_of c)) (rows_of now.thread)
+-- a release that is counted brings nothing
+pub taking_past : (s : Sums) (closed : ℕ → List Closed) (l x t : ℕ) (source : ℕ → ℕ) (old now : StrictTables)
+    (before after : Done) (n : ℕ) (rest : List ℕ) (taken : Bool)
+    → IsTaking s closed l x t source old now before after (n ∷ rest) taken
+    → release_at (closed l) n (thread_at (closed l) n) ≤ rows_of now.thread t (thread_at (closed l) n)
+    → IsTaking s closed l x t source old now before after rest taken
+taking_past s closed l x t source old now before after n rest taken is le = record {
+  shape = is.shape;
+  joined = λ u. ap (λ (g : ℕ → ℕ). joined_all (closed l) g rest u)
+      (counted s closed l x t n (rows_of now.thread t) is.whole (All-head (IsMet s l x t) n rest is.met) le)
+      ∙ is.joined u;
+  lock = is.lock;
+  below = is.below;
+  none = is.none;
+  kept = is.kept;
+  met = All-tail (IsMet s l x t) n rest is.met;
+  whole = is.whole;
+  joins = (let j = is.joins in omega arith);
+  comparisons = is.comparisons;
+}
+
+pub taking_on : (s : Sums) (closed : ℕ → List Closed) (l x t : ℕ) (source : ℕ → ℕ)
+    (old now new : StrictTables) (before after done : Done) (n : ℕ) (rest : List ℕ) (taken : Bool)
+    → AreWholeIn s closed
+    → IsTaking s closed l x t source old now before after (n ∷ rest) taken
+    → rows_of new.thread ≡ with_row t (join (rows_of now.thread t) (release_at (closed l) n))
+    (rows_of now.thread)
     → rows_of new.lock ≡ rows_of now.lock → below_of new ≡ below_of now → KeepsRoom now new
     → done ≡ record after { joins = after.joins + 1 }
-    → IsTaking t source old new before done rest true
-taking_on t source old now new before after done c rest taken is threads lock below kept work =
+    → IsTaking s closed l x t source old new before done rest true
+taking_on s closed l x t source old now new before after done n rest taken each is threads lock below kept
+    work =
     record {
-      shape = threads ∙ ap (with_row t (join (rows_of now.thread t) (counts_of c))) is.shape
-          ∙ row_again t (join (rows_of now.thread t) (counts_of c)) (rows_of now.thread t)
+      shape = threads ∙ ap (with_row t (join (rows_of now.thread t) (release_at (closed l) n))) is.shape
+          ∙ row_again t (join (rows_of now.thread t) (release_at (closed l) n)) (rows_of now.thread t)
           (rows_of old.thread)
           ∙ ap (λ g. with_row t g (rows_of old.thread)) (sym own);
-      joined = λ u. ap (λ (g : ℕ → ℕ). joined_all g rest u) own ∙ is.joined u;
+      joined = λ u. ap (λ (g : ℕ → ℕ). joined_all (closed l) g rest u) own ∙ is.joined u;
       lock = lock ∙ is.lock;
       below = below ∙ is.below;
       none = λ e. absurd (cc e);
       kept = room_then old now new is.kept kept;
-      wide = All-tail (λ (d : List ℕ). length d ≡ old.width) c rest is.wide;
+      met = All-tail (IsMet s l x t) n rest is.met;
+      whole = subst (IsWholeIn s closed) (sym own)
+          (whole_join (met_clocks s closed) (met_threads s closed) (rows_of now.thread t)
+          (release_at (closed l) n) is.whole
+          (met_whole s closed l x t n each (All-head (IsMet s l x t) n rest is.met)));
       joins = (let w = ap (λ (d : Done). d.joins) work in let j = is.joins in omega arith);
       comparisons = ap (λ (d : Done). d.comparisons) work ∙ is.comparisons;
     }
   where
-    own : rows_of new.thread t ≡ join (rows_of now.thread t) (counts_of c)
+    own : rows_of new.thread t ≡ join (rows_of now.thread t) (release_at (closed l) n)
     own = ap (λ (f : ℕ → ℕ → ℕ). f t) threads
-        ∙ row_same t (join (rows_of now.thread t) (counts_of c)) (rows_of now.thread)
+        ∙ row_same t (join (rows_of now.thread t) (release_at (closed l) n)) (rows_of now.thread)
 
-pub taking_ends : (t : ℕ) (source : ℕ → ℕ) (old now : StrictTables) (before after : Done) (rest : List
-    (List ℕ)) (taken : Bool)
-    → IsTaking t source old now before after rest taken → rest ≡ []
+pub taking_ends : (s : Sums) (closed : ℕ → List Closed) (l x t : ℕ) (source : ℕ → ℕ) (old now : StrictTables)
+    (before after : Done) (rest : List ℕ) (taken : Bool)
+    → IsTaking s closed l x t source old now before after rest taken → rest ≡ []
     → rows_of now.thread ≡ with_row t (join (rows_of old.thread t) source) (rows_of old.thread)
-taking_ends t source old now before after rest taken is none =
+taking_ends s closed l x t source old now before after rest taken is none =
     is.shape ∙ ap (λ g. with_row t g (rows_of old.thread)) (λ i u. all u i)
   where
     all : (u : ℕ) → rows_of now.thread t u ≡ join (rows_of old.thread t) source u
-    all u = sym (ap (λ r. joined_all (rows_of now.thread t) r u) none) ∙ is.joined u
+    all u = sym (ap (λ r. joined_all (closed l) (rows_of now.thread t) r u) none) ∙ is.joined u
 
 -- what has been taken under the first of the locks
-pub record HasTaken (t : ℕ) (source : ℕ → ℕ → ℕ) (old now : StrictTables) (before after : Done)
-    (locks : List ℕ) (taken : Bool) : Type 0 where
+pub record HasTaken (s : Sums) (closed : ℕ → List Closed) (t : ℕ) (source : ℕ → ℕ → ℕ)
+    (old now : StrictTables) (before after : Done) (locks : List ℕ) (taken : Bool) : Type 0 where
   pub threads : rows_of now.thread
       ≡ with_row t (join (rows_of old.thread t) (join_all source locks)) (rows_of old.thread)
   pub lock : rows_of now.lock ≡ rows_of old.lock
   pub below : below_of now ≡ below_of old
   pub none : taken ≡ false → rows_of now.thread ≡ rows_of old.thread
   pub kept : KeepsRoom old now
+  pub whole : IsWholeIn s closed (rows_of now.thread t)
   pub joins : after.joins ≤ before.joins + 2 * length locks
   pub comparisons : after.comparisons ≡ before.comparisons
 
@@ -112,30 +238,43 @@ join_all_more source f locks l i u = go f locks u i
     go f [] u = omega arith
     go f (m ∷ ms) u = let e = go f ms u in omega arith
 
-pub taken_begins : (t : ℕ) (source : ℕ → ℕ → ℕ) (old : StrictTables) (before : Done) (taken : Bool)
-    → HasTaken t source old old before before [] taken
-taken_begins t source old before taken = record {
+pub taken_begins : (s : Sums) (closed : ℕ → List Closed) (t : ℕ) (source : ℕ → ℕ
+    → ℕ) (old : StrictTables) (before : Done)
+    (taken : Bool) → IsWholeIn s closed (rows_of old.thread t)
+    → HasTaken s closed t source old old before before [] taken
+taken_begins s closed t source old before taken whole = record {
   threads = row_kept t (rows_of old.thread) ∙ ap (λ g. with_row t g (rows_of old.thread)) (sym (join_nothing
       (rows_of old.thread t)));
   lock = refl;
   below = refl;
   none = λ e. refl;
   kept = room_same old;
+  whole = whole;
   joins = omega arith;
   comparisons = refl;
 }
 
-pub taken_on : (t : ℕ) (source : ℕ → ℕ → ℕ) (old now new : StrictTables) (before after done : Done)
-    (locks : List ℕ) (l : ℕ) (taken one both : Bool)
-    → HasTaken t source old now before after locks taken
+-- the sources under a lock are whole
+pub sources_whole : (s : Sums) (closed : ℕ → List Closed) (l x t : ℕ) (k : AccessKind) → AreWholeIn s closed
+    → IsWholeIn s closed (met_under (met_clocks s closed) x k t l)
+sources_whole s closed l x t Read each = each l x Write t
+sources_whole s closed l x t Write each =
+    whole_join (met_clocks s closed) (met_threads s closed) (met_clocks s closed l x Read t)
+    (met_clocks s closed l x Write t) (each l x Read t) (each l x Write t)
+
+pub taken_on : (s : Sums) (closed : ℕ → List Closed) (t : ℕ) (source : ℕ → ℕ
+    → ℕ) (old now new : StrictTables) (before after done : Done)
+    (locks : List ℕ) (l : ℕ) (taken one both : Bool) → IsWholeIn s closed (source l)
+    → HasTaken s closed t source old now before after locks taken
     → rows_of new.thread ≡ with_row t (join (rows_of now.thread t) (source l)) (rows_of now.thread)
     → rows_of new.lock ≡ rows_of now.lock → below_of new ≡ below_of now → KeepsRoom now new
     → (one ≡ false → rows_of new.thread ≡ rows_of now.thread)
     → (both ≡ false → (taken ≡ false) × (one ≡ false))
     → done.joins ≤ after.joins + 2 → done.comparisons ≡ after.comparisons
-    → HasTaken t source old new before done (locks ++ l ∷ []) both
-taken_on t source old now new before after done locks l taken one both is threads lock below kept none parts
-    joins comparisons =
+    → HasTaken s closed t source old new before done (locks ++ l ∷ []) both
+taken_on s closed t source old now new before after done locks l taken one both whole is threads lock below
+    kept none
+    parts joins comparisons =
     record {
       threads = threads ∙ ap₂ (λ g f. with_row t g f) own is.threads
           ∙ row_again t _ _ (rows_of old.thread)
@@ -145,6 +284,11 @@ taken_on t source old now new before after done locks l taken one both is thread
       below = below ∙ is.below;
       none = λ e. none (parts e).1 ∙ is.none (parts e).0;
       kept = room_then old now new is.kept kept;
+      whole = subst (IsWholeIn s closed)
+          (sym (ap (λ (f : ℕ → ℕ → ℕ). f t) threads
+          ∙ row_same t (join (rows_of now.thread t) (source l)) (rows_of now.thread)))
+          (whole_join (met_clocks s closed) (met_threads s closed) (rows_of now.thread t)
+          (source l) is.whole whole);
       joins = (let n = length_push locks l in let j = is.joins in omega arith);
       comparisons = comparisons ∙ is.comparisons;
     }

@@ -1,5 +1,5 @@
 -- What a turn does to the clocks, in the words of the step.
-use Rattle.std.proofs.Common.{◌≡◌, ℕ, ◌+◌, ◌<◌, Bool, true, false, nat_eq, nat_lt, not, ◌&&◌, ◌||◌, cond}
+use Rattle.std.proofs.Common.{◌≡◌, ℕ, ◌+◌, ◌<◌, ◌≤◌, Bool, true, false, nat_eq, nat_lt, not, ◌&&◌, ◌||◌, cond}
 use Rattle.std.proofs.Common.{List, [], ◌∷◌}
 use Rattle.std.proofs.Common.{sym, ap, ap₂, subst, ◌∙◌, refl, arith, inl, inr, ◌⊎◌, ◌↔◌}
 use Rattle.std.proofs.lemmas.Bool.{cases_Bool, eqb-true, eq-eqb, ltb_from_iff}
@@ -9,15 +9,16 @@ use Rattle.event_core.specs.declared.ids.ThreadId.{ThreadId}
 use Rattle.event_core.specs.declared.events.Event.{Event}
 use Rattle.event_core.specs.declared.events.AccessKind.{AccessKind}
 use Rattle.event_core.specs.declared.events.AccessKind.TheVariants.{Read, Write}
-use Rattle.event_core.specs.Closed.{Has, first, later}
+use Rattle.event_core.specs.Closed.{Closed, Has, first, later}
 use Rattle.event_core.specs.Rows.{no_clock, join, bump, brought}
 use Rattle.event_core.specs.Turn.{Turn, Accesses, Closes}
 use Rattle.hb_clocks.specs.State as hb
 use Rattle.section_sum.specs.Cells.{is_kind}
-use Rattle.section_sum.specs.Sums.{Sums, noted_of, others_of, sources_of, is_held, is_access, SameOthers}
+use Rattle.section_sum.specs.Sums.{Sums, noted_of, is_held, is_access, SameOthers}
 use Rattle.wcp_laws.specs.State.{State}
-use Rattle.wcp_laws.specs.Step.{sources, kind_eq, noted_after, others_after}
+use Rattle.wcp_laws.specs.Step.{sources, kind_eq, noted_after}
 use Rattle.wcp_clocks.specs.HeldLists.{numbers_of}
+use Rattle.wcp_clocks.specs.Met.{release_at, thread_at, met_clocks, met_threads, met_under, AreNumbers}
 use Rattle.wcp_clocks.proofs.Rows.{own_row}
 
 -- the thread's clock of program order after its event
@@ -36,13 +37,10 @@ plain_row e s k is none =
     (ap (λ k. brought k (hb.without_locks s.po)) is ∙ none)
 
 -- the sources under a lock are those of the rule
-pub same_sources : (sums : Sums) (s : State) (x : VarId) (k : AccessKind) (t : ThreadId)
-    → s.others ≡ others_of sums
-    → (λ l. sources_of sums l x.0 k t.0) ≡ sources s x k t
-unfolding sources_of
-same_sources sums s x Read t e i l = sym (ap (λ f. f l x.0 Write t.0) e) i
-same_sources sums s x Write t e i l =
-    sym (ap (λ (f : ℕ → ℕ → AccessKind → ℕ → ℕ → ℕ). join (f l x.0 Read t.0) (f l x.0 Write t.0)) e) i
+pub same_sources : (s : State) (x : VarId) (k : AccessKind) (t : ThreadId)
+    → met_under s.others x.0 k t.0 ≡ sources s x k t
+same_sources s x Read t = refl
+same_sources s x Write t = refl
 
 -- a lock is held where its number is one of the list's
 held_has : (locks : List LockId) (l : ℕ) → is_held locks l ≡ true → Has l (numbers_of locks)
@@ -86,8 +84,21 @@ same_noted old new d t locks x k held noted i v l y j =
     (ap₂ (λ (h : Bool) (m : Bool). h && (nat_eq y x.0 && m))
     (held_is locks (d t.0 l) l (held (record { 0 = l }))) (kinds j k))) i
 
-pub same_others : (old new : Sums) → SameOthers old new → others_of new ≡ others_of old
-same_others old new same i l v k t u = same l v k t u i
+-- where the numbers and the closed sections are the same, so are the clocks
+pub same_clocks : (old new : Sums) (closed : ℕ → List Closed) → SameOthers old new
+    → met_clocks new closed ≡ met_clocks old closed
+same_clocks old new closed same i l v k t = release_at (closed l) (same l v k t i)
+
+-- and the threads
+pub same_threads : (old new : Sums) (closed : ℕ → List Closed) → SameOthers old new
+    → met_threads new closed ≡ met_threads old closed
+same_threads old new closed same i l v k t = thread_at (closed l) (same l v k t i)
+
+-- and each number is that of a closed section
+pub same_numbers : (old new : Sums) (closed : ℕ → List Closed) → SameOthers old new → AreNumbers old closed
+    → AreNumbers new closed
+same_numbers old new closed same are l v k t =
+    let e = same l v k t in let n = are l v k t in omega arith
 
 -- after its event the thread counts itself
 pub own_counted : (e : Event) (old new : hb.HbState) → new ≡ hb.after e old → 0 < new.po e.thread.0 e.thread.0
@@ -118,26 +129,3 @@ pub closed_noted : (old new : Sums) (d : ℕ → ℕ → ℕ) (t : ThreadId) (m 
     ≡ (noted_of old v l y j && not (nat_eq v t.0 && nat_eq l m.0)))
     → noted_of new ≡ noted_after t.0 (Closes m) d (noted_of old)
 closed_noted old new d t m noted i v l y j = noted v l y j i
-
--- what it joins to the clocks of the others
-pub closed_others : (old new : Sums) (g clock : ℕ → ℕ) (s : State) (t : ThreadId) (m : LockId)
-    → s.others ≡ others_of old → s.noted ≡ noted_of old → clock ≡ g
-    → ((l v : ℕ) (k : AccessKind) (w u : ℕ) → others_of new l v k w u
-    ≡ cond (nat_eq l m.0 && (not (nat_eq w t.0) && noted_of old t.0 l v k))
-    (join (others_of old l v k w) clock u) (others_of old l v k w u))
-    → others_of new ≡ others_after t.0 (Closes m) g s
-closed_others old new g clock s t m others noted same is i l v k w u = all i
-  where
-    b : Bool
-    b = nat_eq l m.0 && (not (nat_eq w t.0) && s.noted t.0 l v k)
-
-    at : (b : Bool) → cond b (join (s.others l v k w) g u) (s.others l v k w u)
-        ≡ cond b (join (s.others l v k w) g) (s.others l v k w) u
-    at true = refl
-    at false = refl
-
-    all : others_of new l v k w u ≡ others_after t.0 (Closes m) g s l v k w u
-    all = is l v k w u
-        ∙ (λ j. cond (nat_eq l m.0 && (not (nat_eq w t.0) && sym noted j t.0 l v k))
-        (join (sym others j l v k w) (same j) u) (sym others j l v k w u))
-        ∙ at b

@@ -1,7 +1,6 @@
 -- How much work the events of a log take at most.
 use Rattle.std.proofs.Common.{◌≡◌, ℕ, zero, suc, ◌<◌, ◌≤◌, ◌+◌, ◌*◌, List, [], ◌∷◌, ◌++◌, length}
-use Rattle.std.proofs.Common.{refl, sym, ap, subst, ◌∙◌, inl, inr, ◌⊎◌, arith}
-use Rattle.std.proofs.lemmas.Bool.{cases_lt}
+use Rattle.std.proofs.Common.{refl, sym, ap, subst, ◌∙◌, arith}
 use Rattle.std.proofs.Math.Nat.{mul-le-mul_left, add-mul, mul_comm}
 use Rattle.event_core.specs.declared.bounds.Limits.{Limits}
 use Rattle.event_core.specs.declared.events.Event.{Event}
@@ -16,7 +15,7 @@ use Rattle.event_core.proofs.Growing.{row_same}
 use Rattle.event_core.proofs.Growth.{well_formed_front}
 use Rattle.hb_clocks.specs.Work.{Done}
 use Rattle.wcp_laws.specs.Conditions.{found_at}
-use Rattle.wcp_laws.specs.Found.{sum_below, total_found, threads_in}
+use Rattle.wcp_laws.specs.Found.{total_found, threads_in}
 use Rattle.wcp_laws.specs.Step.{turn}
 use Rattle.wcp_laws.proofs.FoundLaws.{found_at_close, found_at_most, threads_within}
 use Rattle.wcp_clocks.specs.declared.parts.Parts.{Parts}
@@ -24,7 +23,7 @@ use Rattle.wcp_clocks.specs.Parts.{state_of, found_in, most_joins, FewComparison
 use Rattle.wcp_clocks.specs.StandsFor.{StandsFor}
 use Rattle.wcp_clocks.specs.WorkWithin.{NoWork, SameWork, WorkStep, LittleWork}
 use Rattle.wcp_clocks.specs.WorkWithin.{FewComparisonsInAll}
-use Rattle.wcp_clocks.proofs.Conditions.{log_within}
+use Rattle.wcp_clocks.proofs.Conditions.{log_within, closed_few}
 use Rattle.wcp_clocks.proofs.HeldLocks.{held_within}
 use Rattle.wcp_clocks.proofs.Named.{thread_within, closed_within}
 
@@ -117,28 +116,6 @@ work_step limits log e old new w st was is =
   where
     one_more : (n c : ℕ) → (n + 1) * c ≡ n * c + c
     one_more n c = let h : (n + 1) * c ≡ n * c + 1 * c = add-mul n 1 c in omega arith
-
--- one of the numbers is not above their sum
-one_of_sum : (f : ℕ → ℕ) (n i : ℕ) → i < n → f i ≤ sum_below f n
-one_of_sum f zero i lt = absurd (omega (arith, lt))
-one_of_sum f (suc n) i lt = go (cases_lt i n) (λ less. one_of_sum f n i less)
-  where
-    go : (i < n) ⊎ (n ≤ i) → (i < n → f i ≤ sum_below f n) → f i ≤ sum_below f n + f n
-    go (inl less) rest = let before : f i ≤ sum_below f n = rest less in omega arith
-    go (inr more) rest =
-        let same : i ≡ n = omega arith in
-        let here : f i ≡ f n = ap f same in
-        omega arith
-
--- a lock has no more closed sections than the log has events
-closed_few : (log : List Event) (p : Parts) (l : LockId) → StandsFor log p
-    → length ((state_of p).closed l.0) ≤ length log
-closed_few log p l st =
-    let one : length ((state_of p).closed l.0) ≤ sum_below (λ k. length ((state_of p).closed k)) (suc l.0)
-    = one_of_sum (λ k. length ((state_of p).closed k)) (suc l.0) l.0 (omega arith) in
-    let all : sum_below (λ k. length ((state_of p).closed k)) (suc l.0) ≤ length log
-    = st.found.few (suc l.0) in
-    omega arith
 
 pub few_comparisons : FewComparisonsInAll
 few_comparisons limits log p st within =

@@ -1,7 +1,7 @@
 -- What making room does to the parts.
 use Rattle.std.specs.Prelude.{◌≡◌, ℕ, IsTrue}
 use Rattle.hb_clocks.specs.Tables.{state_of as order_of, KeepsRoom as KeepsOrder}
-use Rattle.section_sum.specs.Sums.{width_of, SameNoted, SameOthers, KeepsRoom as KeepsSums}
+use Rattle.section_sum.specs.Sums.{SameNoted, SameOthers, KeepsRoom as KeepsSums}
 use Rattle.lock_queues.specs.Queues.{SameMeaning, has_room}
 use Rattle.wcp_clocks.specs.declared.parts.Parts.{Parts}
 use Rattle.wcp_clocks.specs.HeldLists.{held_of, KeepsPlaces}
@@ -14,7 +14,6 @@ pub record HasGrown (old new : Parts) : Type 0 where
   pub order_room : KeepsOrder old.hb new.hb
   pub rows : SameClocks old.rows new.rows
   pub rows_room : KeepsRoom old.rows new.rows
-  pub sums_width : width_of new.sums ≡ width_of old.sums
   pub noted : SameNoted old.sums new.sums
   pub others : SameOthers old.sums new.sums
   pub sums_room : KeepsSums old.sums new.sums

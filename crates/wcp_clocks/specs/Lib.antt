@@ -1,8 +1,11 @@
 pub mod Growth
 pub mod HeldLists
+pub mod Met
 pub mod Parts
+pub mod SourcesCount
 pub mod StandsFor
 pub mod Stepping
 pub mod StrictRows
+pub mod Whole
 pub mod WorkWithin
 pub mod WorkedLogs

@@ -3,7 +3,6 @@ use Rattle.std.specs.Prelude.{◌≡◌, ℕ, ◌+◌, ◌*◌, ◌<◌, ◌≤�
 use Rattle.event_core.specs.declared.ids.ThreadId.{ThreadId}
 use Rattle.event_core.specs.declared.ids.LockId.{LockId}
 use Rattle.event_core.specs.declared.ids.VarId.{VarId}
-use Rattle.event_core.specs.declared.events.AccessKind.TheVariants.{Read, Write}
 use Rattle.event_core.specs.declared.events.Op.{Op}
 use Rattle.event_core.specs.declared.events.Op.TheVariants.{Load, Store, Acquire, Release, Fork, Join}
 use Rattle.event_core.specs.declared.events.Event.{Event}
@@ -13,14 +12,16 @@ use Rattle.event_core.specs.Turn.{Turn, Accesses, Closes}
 use Rattle.hb_clocks.specs.State.{HbState, po_row}
 use Rattle.hb_clocks.specs.Stands.{Admits, IsFew}
 use Rattle.hb_clocks.specs.Tables as hb
-use Rattle.section_sum.specs.Sums.{width_of, noted_of, others_of, HasRoom, IsAlone}
+use Rattle.section_sum.specs.Sums.{noted_of, HasRoom, IsAlone}
 use Rattle.lock_queues.specs.Queues.{closed_of, opened_of, found_of, has_room}
 use Rattle.wcp_laws.specs.State.{State}
-use Rattle.wcp_laws.specs.Step.{hb_row}
+use Rattle.wcp_laws.specs.Step.{turn, hb_row, after}
 use Rattle.wcp_laws.specs.Conditions.{IsSound, CursorsStand}
 use Rattle.wcp_clocks.specs.declared.parts.Parts.{Parts}
 use Rattle.wcp_clocks.specs.HeldLists.{list_at, held_of, room_at}
 use Rattle.wcp_clocks.specs.StrictRows.{strict_of, below_of, HasThread, HasLock}
+use Rattle.wcp_clocks.specs.Met.{met_clocks, met_threads, AreNumbers}
+use Rattle.wcp_clocks.specs.Whole.{AreWhole, own_of}
 
 -- program order, happens-before and the depths of locks
 abbrev pub hb_of : Parts → HbState
@@ -35,7 +36,7 @@ state_of p = record {
   opened = opened_of p.queues;
   held = held_of p.held;
   noted = noted_of p.sums;
-  others = others_of p.sums;
+  others = met_clocks p.sums (closed_of p.queues);
   closed = closed_of p.queues;
 }
 
@@ -45,8 +46,8 @@ found_in p = found_of p.queues
 
 -- the room that the operation needs beside that of happens-before and of its thread's clocks
 abbrev pub HasNamed : Parts → ThreadId → Op → Type 0
-HasNamed p t (Load x) = HasRoom p.sums t.0 (list_at p.held t.0).locks x.0 Read
-HasNamed p t (Store x) = HasRoom p.sums t.0 (list_at p.held t.0).locks x.0 Write
+HasNamed p t (Load x) = HasRoom p.sums (list_at p.held t.0).locks x.0
+HasNamed p t (Store x) = HasRoom p.sums (list_at p.held t.0).locks x.0
 HasNamed p t (Acquire l) = HasLock p.rows l.0 × IsTrue (has_room p.queues t.0 l.0) × (0 < room_at p.held t.0)
 HasNamed p t (Release l) = HasLock p.rows l.0
 HasNamed p t (Fork u) = HasThread p.rows u.0
@@ -75,8 +76,13 @@ pub record Fits (e : Event) (p : Parts) : Type 0 where
   pub own : (hb_of p).hb.thread e.thread.0 e.thread.0 ≡ (hb_of p).po e.thread.0 e.thread.0
   -- and so it is after the event
   pub own_next : hb_row e (state_of p) e.thread.0 ≡ po_row e (hb_of p) e.thread.0
+  -- and no thread's own number falls
+  pub own_grows : (u : ℕ) → own_of (state_of p) u ≤ own_of (after e (state_of p)) u
   -- no other thread has an access in an open section on a lock that the thread holds
   pub alone : IsAlone p.sums e.thread.0 (list_at p.held e.thread.0).locks
+  -- a section that is closed has a number
+  pub few_closed : (l : LockId) → turn e (state_of p) ≡ Closes l
+      → length (closed_of p.queues l.0) + 1 < 4294967296
   pub held : (l : LockId) → Has l.0 (held_of p.held e.thread.0) ↔ (0 < (hb_of p).depth e.thread.0 l.0)
   pub cursors : CursorsStand (state_of p) (found_in p)
   -- the work is far below what is counted
@@ -86,9 +92,12 @@ pub record Fits (e : Event) (p : Parts) : Type 0 where
 -- what the parts keep between them
 pub record AreParts (p : Parts) : Type 0 where
   pub rows : p.rows.width ≡ p.hb.width
-  pub sums : width_of p.sums ≡ p.hb.width
   pub queues : p.queues.limits.threads ≡ p.hb.width
   pub below : (t : ℕ) → below_of p.rows t ≡ join ((strict_of p.rows).thread t) ((hb_of p).po t)
+  -- the summaries name closed sections
+  pub numbers : AreNumbers p.sums (closed_of p.queues)
+  -- a clock that counts a release counts all that is below it
+  pub whole : AreWhole (state_of p) (met_threads p.sums (closed_of p.queues))
   -- a lock that is held has its clock, and so has its holder
   pub held_thread : (t l : ℕ) → 0 < (hb_of p).depth t l → HasThread p.rows t
   pub held_lock : (t l : ℕ) → 0 < (hb_of p).depth t l → HasLock p.rows l

@@ -4,7 +4,7 @@ use Rattle.event_core.specs.declared.events.Event.{Event}
 use Rattle.event_core.specs.Rows.{join, with_row, to_child, to_lock}
 use Rattle.event_core.specs.Turn.{Turn}
 use Rattle.hb_clocks.specs.State as hb
-use Rattle.section_sum.specs.Sums.{width_of, noted_of, others_of}
+use Rattle.section_sum.specs.Sums.{noted_of}
 use Rattle.lock_queues.specs.Queues.{closed_of, opened_of}
 use Rattle.wcp_laws.specs.Step.{turn, after, hb_row, extra, opened_after, held_after, noted_after}
 use Rattle.wcp_laws.specs.Step.{others_after, closed_after}
@@ -14,6 +14,8 @@ use Rattle.wcp_clocks.specs.HeldLists.{held_of}
 use Rattle.wcp_clocks.specs.StrictRows.{strict_of, below_of, KeepsRoom}
 use Rattle.wcp_clocks.specs.Parts.{hb_of, state_of, found_in, AreParts, SameLimits, most_joins}
 use Rattle.wcp_clocks.specs.Parts.{FewComparisons, IsAccess, KeepsReady}
+use Rattle.wcp_clocks.specs.Met.{met_clocks, met_threads, AreNumbers}
+use Rattle.wcp_clocks.specs.Whole.{by_after}
 
 -- the step of the event
 pub record IsStep (e : Event) (old new : Parts) : Type 0 where
@@ -47,11 +49,14 @@ pub record IsStepBy (e : Event) (k : Turn) (old new : Parts) : Type 0 where
       ≡ opened_after e.thread.0 k (hb_row e (state_of old) e.thread.0) (opened_of old.queues)
   pub held : held_of new.held ≡ held_after e.thread.0 k (held_of old.held)
   pub noted : noted_of new.sums ≡ noted_after e.thread.0 k (hb_of old).depth (noted_of old.sums)
-  pub others : others_of new.sums ≡ others_after e.thread.0 k (hb_row e (state_of old)) (state_of old)
+  pub others : met_clocks new.sums (closed_of new.queues)
+      ≡ others_after e.thread.0 k (hb_row e (state_of old)) (state_of old)
+  pub by : met_threads new.sums (closed_of new.queues)
+      ≡ by_after e.thread.0 k (state_of old) (met_threads old.sums (closed_of old.queues))
+  pub numbers : AreNumbers new.sums (closed_of new.queues)
   pub closed : closed_of new.queues ≡ closed_after e.thread.0 k (hb_row e (state_of old)) (state_of old)
   pub found : found_in new ≡ found_at e.thread k (state_of old) (found_in old)
   pub joins : new.work.joins ≤ old.work.joins + most_joins k (length (held_of old.held e.thread.0))
   pub comparisons : FewComparisons e.thread k old new
   pub room : KeepsRoom old.rows new.rows
   pub limits : SameLimits old new
-  pub sums : width_of new.sums ≡ width_of old.sums

@@ -1,6 +1,7 @@
 //! Laws of the clocks, each a contract of a function without a body.
 ghost use Rattle.wcp_clocks.specs.StandsFor.{EmptyStands, SameStand, FitsWhereLegal, WithinWhereLegal};
 ghost use Rattle.wcp_clocks.specs.StandsFor.{HeldWithin};
+ghost use Rattle.wcp_clocks.specs.SourcesCount.{SourcesCount};
 ghost use Rattle.wcp_clocks.specs.WorkWithin.{NoWork, SameWork, WorkStep, LittleWork, FewComparisonsInAll};
 
 /// Clocks without numbers stand for the empty log.
@@ -26,6 +27,13 @@ pub fn within_where_legal()
 /// A thread holds no more locks than there may be.
 pub fn held_within()
     ensures { HeldWithin }
+{}
+
+/// The sections that an access meets under a lock count together exactly what happens before the releases of
+/// other threads that rule (a) of weak causal precedence pairs with it (Kini, Mathur and Viswanathan, "Dynamic
+/// Race Prediction in Linear Time", PLDI 2017).
+pub fn sources_count()
+    ensures { SourcesCount }
 {}
 
 /// Clocks that have done no work are within the bounds of the empty log.

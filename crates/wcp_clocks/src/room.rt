@@ -1,6 +1,5 @@
 //! Room for an event, part by part.
 ghost use Rattle.std.specs.Prelude.{◌≡◌, ◌<◌, ◌↔◌, IfOk, OnOk, IsTrue};
-ghost use Rattle.event_core.specs.declared.events.AccessKind.{AccessKind as Kind};
 ghost use Rattle.hb_clocks.specs.State.{empty as hb_empty};
 ghost use Rattle.hb_clocks.specs.Stands.{IsHeldRelease};
 ghost use Rattle.hb_clocks.specs.Tables as hb;
@@ -16,7 +15,7 @@ ghost use Rattle.wcp_clocks.specs.Growth.{HasGrown};
 use crate::holdings::Holdings;
 use crate::parts::Parts;
 use crate::strict::StrictRows;
-use event_core::{AccessKind, Event, Limits, LockId, Op, OutOfMemory, SiteId, ThreadId, VarId};
+use event_core::{Event, Limits, LockId, Op, OutOfMemory, SiteId, ThreadId, VarId};
 use hb_clocks::HbClocks;
 use lock_queues::Queues;
 use section_sum::Summaries;
@@ -34,7 +33,7 @@ pub(crate) fn new_parts(alloc: Global, limits: &Limits) -> Result<Parts, OutOfMe
 {
     let (hb, work) = HbClocks::new(alloc, limits)?;
     let rows = StrictRows::new(alloc, limits.threads() as usize)?;
-    let sums = Summaries::new(alloc, limits)?;
+    let sums = Summaries::new(alloc);
     let queues = Queues::new(alloc, limits)?;
     let held = Holdings::new(alloc);
     Ok(Parts {
@@ -59,8 +58,7 @@ pub(crate) fn prepare_parts(parts: &mut Parts, event: &Event) -> Result<(), OutO
     make_order(parts, event)?;
     make_thread(parts, thread)?;
     match event.op {
-        Op::Load(var) => make_access(parts, thread, var, AccessKind::Read),
-        Op::Store(var) => make_access(parts, thread, var, AccessKind::Write),
+        Op::Load(var) | Op::Store(var) => make_access(parts, thread, var),
         Op::Acquire(lock) => make_section(parts, thread, lock),
         Op::Release(lock) => make_lock(parts, lock),
         Op::Fork(child) | Op::Join(child) => make_thread(parts, child),
@@ -119,8 +117,7 @@ fn has_named(parts: &Parts, thread: ThreadId, op: Op) -> bool
     ensures { IsTrue result ↔ HasNamed parts.now thread op }
 {
     match op {
-        Op::Load(var) => has_access(parts, thread, var, AccessKind::Read),
-        Op::Store(var) => has_access(parts, thread, var, AccessKind::Write),
+        Op::Load(var) | Op::Store(var) => has_access(parts, thread, var),
         Op::Acquire(lock) => has_section(parts, thread, lock),
         Op::Release(lock) => parts.rows.has_lock(lock),
         Op::Fork(child) | Op::Join(child) => parts.rows.has_thread(child),
@@ -128,12 +125,11 @@ fn has_named(parts: &Parts, thread: ThreadId, op: Op) -> bool
 }
 
 // Whether there is room for the access in each section that is open at it.
-fn has_access(parts: &Parts, thread: ThreadId, var: VarId, kind: AccessKind) -> bool
-    ensures { IsTrue result
-        ↔ HasRoom parts.now.sums thread.0 (list_at parts.now.held thread.0).locks var.0 kind }
+fn has_access(parts: &Parts, thread: ThreadId, var: VarId) -> bool
+    ensures { IsTrue result ↔ HasRoom parts.now.sums (list_at parts.now.held thread.0).locks var.0 }
 {
     let held = parts.held.of(thread);
-    parts.sums.is_ready(thread, held, var, kind)
+    parts.sums.is_ready(held, var)
 }
 
 // Whether there is room for a section on the lock.
@@ -170,18 +166,12 @@ fn make_lock(parts: &mut Parts, lock: LockId) -> Result<(), OutOfMemory>
 }
 
 // Makes room for the access in each section that is open at it, and for those sections' ends.
-fn make_access(
-    parts: &mut Parts,
-    thread: ThreadId,
-    var: VarId,
-    kind: AccessKind,
-) -> Result<(), OutOfMemory>
+fn make_access(parts: &mut Parts, thread: ThreadId, var: VarId) -> Result<(), OutOfMemory>
     ensures grown { HasGrown parts.old parts.new }
-    ensures made { OnOk result
-        (HasRoom parts.new.sums thread.0 (list_at parts.new.held thread.0).locks var.0 kind) }
+    ensures made { OnOk result (HasRoom parts.new.sums (list_at parts.new.held thread.0).locks var.0) }
 {
     let held = parts.held.of(thread);
-    parts.sums.make_room(thread, held, var, kind)
+    parts.sums.make_room(held, var)
 }
 
 // Makes room for a section of the thread on the lock.

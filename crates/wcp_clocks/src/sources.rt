@@ -3,21 +3,25 @@
 //! Viswanathan, "Dynamic Race Prediction in Linear Time", PLDI 2017).
 ghost use Rattle.std.specs.Prelude.{◌≡◌, ℕ, ◌+◌, ◌*◌, ◌<◌, ◌≤◌, ◌^◌, length, false};
 ghost use Rattle.event_core.specs.Rows.{join, with_row};
-ghost use Rattle.section_sum.specs.Sums.{width_of, sources_of};
+ghost use Rattle.lock_queues.specs.Queues.{closed_of};
 ghost use Rattle.wcp_laws.specs.Step.{join_all};
 ghost use Rattle.wcp_clocks.specs.HeldLists.{numbers_of};
+ghost use Rattle.wcp_clocks.specs.Met.{met_clocks, met_under, AreNumbers, IsWholeIn, AreWholeIn};
 ghost use Rattle.wcp_clocks.specs.StrictRows.{strict_of, below_of, HasThread, KeepsRoom};
 
 use crate::strict::StrictRows;
 use event_core::{AccessKind, LockId, ThreadId, VarId};
 use hb_clocks::Work;
+use lock_queues::Queues;
 use section_sum::Summaries;
 
-// The thread's strict clock takes what its access meets under the lock, at most two clocks. Tells
-// whether there was one.
+// The thread's strict clock takes what its access meets under the lock, at most two clocks. A clock that
+// counts a release counts all that is below it, so a release that is counted already brings nothing.
+// Tells whether a clock was taken.
 fn take_under(
     rows: &mut StrictRows,
     sums: &Summaries,
+    queues: &Queues,
     thread: ThreadId,
     lock: LockId,
     var: VarId,
@@ -25,10 +29,14 @@ fn take_under(
     work: &mut Work,
 ) -> bool
     requires room { HasThread rows.old thread.0 }
-    requires wide { width_of sums.now ≡ rows.old.width }
+    requires wide { queues.now.limits.threads ≡ rows.old.width }
     requires few { work.old.joins + 2 < 2 ^ 63 }
+    requires numbers { AreNumbers sums.now (closed_of queues.now) }
+    requires whole { IsWholeIn sums.now (closed_of queues.now) ((strict_of rows.old).thread thread.0) }
+    requires releases { AreWholeIn sums.now (closed_of queues.now) }
     ensures threads { (strict_of rows.new).thread ≡ with_row thread.0
-        (join ((strict_of rows.old).thread thread.0) (sources_of sums.now lock.0 var.0 kind thread.0))
+        (join ((strict_of rows.old).thread thread.0)
+        (met_under (met_clocks sums.now (closed_of queues.now)) var.0 kind thread.0 lock.0))
         (strict_of rows.old).thread }
     ensures locks { (strict_of rows.new).lock ≡ (strict_of rows.old).lock }
     ensures below { below_of rows.new ≡ below_of rows.old }
@@ -38,18 +46,22 @@ fn take_under(
     ensures comparisons { work.new.comparisons ≡ work.old.comparisons }
 {
     let mut taken = false;
-    for clock in sums.sources(thread, lock, var, kind) {
-        rows.take_clock(thread, clock, work);
-        taken = true;
+    for number in sums.sources(thread, lock, var, kind) {
+        let section = queues.section(lock, number);
+        if !rows.counts(thread, section.by, section.release) {
+            rows.take_clock(thread, section.release, work);
+            taken = true;
+        }
     }
     taken
 }
 
-// The thread's strict clock takes what its access meets under each of the locks. Tells whether there
-// was a clock.
+// The thread's strict clock takes what its access meets under each of the locks. Tells whether a clock
+// was taken.
 pub(crate) fn take_sources(
     rows: &mut StrictRows,
     sums: &Summaries,
+    queues: &Queues,
     thread: ThreadId,
     held: &[LockId],
     var: VarId,
@@ -57,11 +69,15 @@ pub(crate) fn take_sources(
     work: &mut Work,
 ) -> bool
     requires room { HasThread rows.old thread.0 }
-    requires wide { width_of sums.now ≡ rows.old.width }
+    requires wide { queues.now.limits.threads ≡ rows.old.width }
     requires few { work.old.joins + 2 * length held.now < 2 ^ 63 }
+    requires numbers { AreNumbers sums.now (closed_of queues.now) }
+    requires whole { IsWholeIn sums.now (closed_of queues.now) ((strict_of rows.old).thread thread.0) }
+    requires releases { AreWholeIn sums.now (closed_of queues.now) }
     ensures threads { (strict_of rows.new).thread ≡ with_row thread.0
         (join ((strict_of rows.old).thread thread.0)
-        (join_all (λ l. sources_of sums.now l var.0 kind thread.0) (numbers_of held.now)))
+        (join_all (met_under (met_clocks sums.now (closed_of queues.now)) var.0 kind thread.0)
+        (numbers_of held.now)))
         (strict_of rows.old).thread }
     ensures locks { (strict_of rows.new).lock ≡ (strict_of rows.old).lock }
     ensures below { below_of rows.new ≡ below_of rows.old }
@@ -72,7 +88,7 @@ pub(crate) fn take_sources(
 {
     let mut taken = false;
     for lock in held {
-        taken |= take_under(rows, sums, thread, *lock, var, kind, work);
+        taken |= take_under(rows, sums, queues, thread, *lock, var, kind, work);
     }
     taken
 }

@@ -1,6 +1,7 @@
 //! The clocks of the strict relation: a row for each thread and each lock, and beside each thread's
 //! row the clock that counts program order too.
 ghost use Rattle.std.specs.Prelude.{◌≡◌, ◌≢◌, ℕ, ◌+◌, ◌*◌, ◌<◌, ◌≤◌, ◌^◌, ◌↔◌, length, IfOk, OnOk, IsTrue};
+ghost use Rattle.std.specs.Prelude.{◌&&◌, nat_lt, nat_le};
 ghost use Rattle.event_core.specs.Rows.{join, bump, with_row, no_rows, no_clock};
 ghost use Rattle.hb_clocks.specs.Counts.{counts_of};
 ghost use Rattle.hb_clocks.specs.State.{HbState};
@@ -113,6 +114,15 @@ impl StrictRows {
         ensures counts { counts_of result.now ≡ below_of self.now thread.0 }
     {
         row_or(&self.below, thread.0 as usize, &self.zeros)
+    }
+
+    // Whether the thread's strict clock counts the release that is by the other thread and has the clock.
+    pub(crate) fn counts(&self, thread: ThreadId, by: ThreadId, clock: &Clock) -> bool
+        requires wide { length clock.now ≡ self.now.width }
+        ensures { result ≡ (nat_lt by.0 self.now.width
+            && nat_le (counts_of clock.now by.0) ((strict_of self.now).thread thread.0 by.0)) }
+    {
+        (by.0 as usize) < self.width && is_at_least(self.strict(thread), clock, by)
     }
 
     // The thread's strict clock takes the greater numbers of the clock. It is one join.
@@ -230,6 +240,15 @@ impl StrictRows {
     {
         bump_row(&mut self.below, thread);
     }
+}
+
+// Whether the one clock counts as many events of the thread as the other, or more.
+fn is_at_least(clock: &Clock, other: &Clock, thread: ThreadId) -> bool
+    requires within { thread.0 < length clock.now }
+    requires wide { length other.now ≡ length clock.now }
+    ensures { result ≡ nat_le (counts_of other.now thread.0) (counts_of clock.now thread.0) }
+{
+    other.at(thread) <= clock.at(thread)
 }
 
 // The row becomes the strict clock, and takes the greater numbers of the thread's program order.

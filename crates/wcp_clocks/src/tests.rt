@@ -111,8 +111,8 @@ fn follow(
     Ok(clocks)
 }
 
-// The child's load takes the release of k, main's fifth event, and with it the acquire of main's section on l.
-// So the child's release of l takes main's release of l, its seventh event.
+// The child's load takes the release of k, main's fifth event, and with it the acquire of main's section
+// on l. So the child's release of l takes main's release of l, its seventh event.
 #[test]
 fn rule_b_adds_the_earlier_release_at_the_later_one(rt: HostRuntime) -> Result<(), Fail> {
     follow(
@@ -137,9 +137,9 @@ fn rule_b_adds_the_earlier_release_at_the_later_one(rt: HostRuntime) -> Result<(
     Ok(())
 }
 
-// The child's load takes main's release of m, and with it the acquire of main's first section on l. The lock k
-// brings that to main. So main's second release of l takes the first, main's ninth event, and the three events
-// of the other thread that happen before it.
+// The child's load takes main's release of m, and with it the acquire of main's first section on l. The
+// lock k brings that to main. So main's second release of l takes the first, main's ninth event, and the
+// three events of the other thread that happen before it.
 #[test]
 fn rule_b_orders_the_releases_of_one_thread(rt: HostRuntime) -> Result<(), Fail> {
     let clocks = follow(

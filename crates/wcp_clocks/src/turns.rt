@@ -61,6 +61,7 @@ pub(crate) fn access(parts: &mut Parts, event: &Event, var: VarId, kind: AccessK
     let taken = take_sources(
         &mut parts.rows,
         &parts.sums,
+        &parts.queues,
         thread,
         held,
         var,
@@ -113,8 +114,8 @@ pub(crate) fn close(parts: &mut Parts, event: &Event, lock: LockId)
     parts.rows.follow(thread, &parts.hb);
     parts.rows.give_lock(thread, lock);
     let clock = parts.hb.hb(thread);
-    parts.sums.close(thread, lock, clock);
     parts.queues.leave(thread, lock, clock);
+    parts.sums.close(thread, lock, parts.queues.count(lock));
     parts.held.remove(thread, lock);
 }
 

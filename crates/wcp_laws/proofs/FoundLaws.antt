@@ -1,7 +1,7 @@
 -- How many closed sections all releases of a log find counted.
-use Rattle.std.proofs.Common.{◌≡◌, ℕ, zero, suc, ◌<◌, ◌≤◌, ◌+◌, ◌*◌, cond, nat_lt, Bool, true, false, List}
-use Rattle.std.proofs.Common.{[], ◌∷◌, ◌++◌, length, length-append, refl, sym, ap, subst, ◌∙◌, arith, ◌⊎◌}
-use Rattle.std.proofs.Common.{inl, inr}
+use Rattle.std.proofs.Common.{◌≡◌, ℕ, zero, suc, ◌<◌, ◌≤◌, ◌+◌, ◌*◌, cond, nat_eq, nat_lt, Bool, true}
+use Rattle.std.proofs.Common.{false, List, [], ◌∷◌, ◌++◌, length, length-append, refl, sym, ap, subst, ◌∙◌}
+use Rattle.std.proofs.Common.{arith, ◌⊎◌, inl, inr}
 use Rattle.std.proofs.Math.Nat.{mul-le-mul_left}
 use Rattle.std.proofs.lemmas.Bool.{cases_lt, lt-ltb}
 use Rattle.event_core.specs.declared.events.Event.{Event}
@@ -10,7 +10,10 @@ use Rattle.event_core.specs.declared.ids.ThreadId.{ThreadId}
 use Rattle.event_core.specs.Closed.{Closed, is_counted, number_counted}
 use Rattle.event_core.specs.Count.{events_of}
 use Rattle.event_core.specs.Rows.{with_row}
-use Rattle.event_core.specs.Turn.{Turn, Accesses, Opens, Closes, Forks, Joins, Inner}
+use Rattle.event_core.specs.declared.events.Op.{Op}
+use Rattle.event_core.specs.declared.events.Op.TheVariants.{Load, Store, Acquire, Release, Fork, Join}
+use Rattle.event_core.specs.Log.{depth}
+use Rattle.event_core.specs.Turn.{Turn, Accesses, Opens, Closes, Forks, Joins, Inner, turn_of}
 use Rattle.event_core.proofs.Counting.{events_own, events_other, grown_length}
 use Rattle.event_core.proofs.Depth.{thread_cases, same_thread_id}
 use Rattle.event_core.proofs.Growing.{row_same, row_other}
@@ -18,6 +21,7 @@ use Rattle.hb_clocks.proofs.Depths.{cell_other}
 use Rattle.wcp_laws.specs.Conditions.{found_at}
 use Rattle.wcp_laws.specs.Found.{sum_below, total_found, total_closed, has_events, threads_in, FoundFits}
 use Rattle.wcp_laws.specs.Found.{NothingFoundFits, FoundStep, FoundAtClose, FoundAtMost, ThreadsWithin}
+use Rattle.wcp_laws.specs.Standing.{Stands}
 use Rattle.wcp_laws.specs.State.{State}
 use Rattle.wcp_laws.specs.Step.{turn, hb_row, closed_after}
 use Rattle.wcp_laws.proofs.Cursors.{cursors_step}
@@ -35,6 +39,7 @@ nothing_found_fits = record {
   counted = λ l t. omega arith;
   own = λ l t none. refl;
   few = none_closed;
+  fewer = λ locks some. absurd (omega (arith, some));
 }
 
 -- a thread that has no event has found nothing: the event is another's
@@ -99,6 +104,50 @@ closes_one locks t (Closes l) g s = go (cases_lt l.0 locks)
         = sum_same locks (λ a. length (s.closed a)) new (λ a lt. other a (λ q. omega arith)) in
         omega arith
 
+-- an event that is no closing release closes none
+closes_none : (locks t : ℕ) (k : Turn) (g : ℕ → ℕ) (s : State) → ((l : LockId) → k ≡ Closes l → ⊥)
+    → total_closed locks (closed_after t k g s) ≡ total_closed locks s.closed
+closes_none locks t (Accesses x k) g s n = refl
+closes_none locks t (Opens l) g s n = refl
+closes_none locks t (Forks u) g s n = refl
+closes_none locks t (Joins u) g s n = refl
+closes_none locks t Inner g s n = refl
+closes_none locks t (Closes l) g s n = absurd (n l refl)
+
+-- nothing is held at first, so the first event is none
+first_closes_none : (e : Event) (s : State) → Stands [] s → (l : LockId) → turn e s ≡ Closes l → ⊥
+unfolding depth
+first_closes_none e s st l = go e.op
+  where
+    none : (m : LockId) → s.depth e.thread.0 m.0 ≡ 0
+    none m = st.depths e.thread m
+
+    go : (op : Op) → turn_of (s.depth e.thread.0) op ≡ Closes l → ⊥
+    go (Load x) q = absurd (cc q)
+    go (Store x) q = absurd (cc q)
+    go (Acquire m) q = absurd (cc (sym (ap (λ d. cond (nat_eq d 0) (Opens m) Inner) (none m)) ∙ q))
+    go (Release m) q = absurd (cc (sym (ap (λ d. cond (nat_eq d 1) (Closes m) Inner) (none m)) ∙ q))
+    go (Fork u) q = absurd (cc q)
+    go (Join u) q = absurd (cc q)
+
+-- a closing release has an event before it
+pub closes_after_first : (log : List Event) (e : Event) (s : State) → Stands log s → (l : LockId)
+    → turn e s ≡ Closes l → 0 < length log
+closes_after_first [] e s st l told = absurd (first_closes_none e s st l told)
+closes_after_first (x ∷ xs) e s st l told = omega arith
+
+fewer_step : (locks : ℕ) (log : List Event) (e : Event) (s : State) → Stands log s
+    → (0 < length log → total_closed locks s.closed < length log) → total_closed locks s.closed ≤ length log
+    → total_closed locks (closed_after e.thread.0 (turn e s) (hb_row e s) s) < length (log ++ e ∷ [])
+fewer_step locks [] e s st old few =
+    let same = closes_none locks e.thread.0 (turn e s) (hb_row e s) s (first_closes_none e s st) in
+    omega arith
+fewer_step locks (x ∷ xs) e s st old few =
+    let less = old (omega arith) in
+    let one = closes_one locks e.thread.0 (turn e s) (hb_row e s) s in
+    let grown = grown_length (x ∷ xs) e in
+    omega arith
+
 pub found_step : FoundStep
 found_step limits log e s f w st fits = record {
   counted = cursors_step limits log e s f w st fits.counted;
@@ -110,6 +159,7 @@ found_step limits log e s f w st fits = record {
       = closes_one locks e.thread.0 (turn e s) (hb_row e s) s in
       let grown = grown_length log e in
       omega arith);
+  fewer = λ locks some. fewer_step locks log e s st (fits.fewer locks) (fits.few locks);
 }
 
 pub found_at_close : FoundAtClose

@@ -45,6 +45,8 @@ pub record FoundFits (log : List Event) (s : State) (f : ℕ → ℕ → ℕ) : 
   pub own : (l : LockId) (t : ThreadId) → events_of log t ≡ 0 → f l.0 t.0 ≡ 0
   -- a section is closed by an event of its own
   pub few : (locks : ℕ) → total_closed locks s.closed ≤ length log
+  -- and the log's first event closes none
+  pub fewer : (locks : ℕ) → 0 < length log → total_closed locks s.closed < length log
 
 -- it fits the empty log that nothing was found
 abbrev pub NothingFoundFits : Type 0

@@ -1,11 +1,11 @@
 -- Words that clap takes name one of the commands, and give it a number of threads within its range.
-use Rattle.std.proofs.Common.{◌≡◌, ◌⊎◌, ◌∙◌, ◌<◌, ◌+◌, ◌==◌, ◌&&◌, ℕ, List, [], ◌∷◌, Option, Some, None, Bool}
+use Rattle.std.proofs.Common.{◌≡◌, ◌⊎◌, ◌∙◌, ◌<◌, ◌==◌, ◌&&◌, ℕ, List, [], ◌∷◌, Option, Some, None, Bool}
 use Rattle.std.proofs.Common.{true, false}
 use Rattle.std.proofs.Common.{refl, sym, ap, ap₂, subst, inl, inr, arith, length, codes, suc, zero, not}
 use Rattle.std.proofs.Common.{is_some}
 use Rattle.std.proofs.Common.{if◌then◌else◌}
 use Rattle.std.proofs.lemmas.Bool.{eqb-true}
-use Rattle.std.specs.Prelude.{find, fold, pos, option_map, drop, encode_utf8, slice_get, nat_lt, ◌≢◌, ◌||◌}
+use Rattle.std.specs.Prelude.{fold, pos, option_map, drop, encode_utf8, slice_get, ◌||◌}
 use Rattle.std.specs.List.{list_any}
 use Rattle.std.specs.Option.{option_map_or}
 use Rattle.std.specs.Str.{bytes_eq, chars}
@@ -17,10 +17,10 @@ use Rattle.clap.specs.Kinds.{HasKind, IsAmong, Kinds, or_else, range_kinds}
 use Rattle.clap.specs.Walk.{Held, Names, Outcome, Row, Rule, Step, Text, Waiting, Walk}
 use Rattle.clap.specs.Walk.{done, waits, plain, refused, idle, option, positional, next, trailing, subcommand}
 use Rattle.clap.specs.Walk.{value}
-use Rattle.clap.specs.Walk.{after_flag, after_step, answers_to, arg_by_id, arg_by_index, arg_by_long}
+use Rattle.clap.specs.Walk.{after_flag, after_step, arg_by_id, arg_by_long}
 use Rattle.clap.specs.Walk.{attached_value, bundle_met, bundle_step, finished, long_met, long_or_other}
 use Rattle.clap.specs.Walk.{nothing_held, one_of, option_met, option_word, plain_word, reacted, rows_after}
-use Rattle.clap.specs.Walk.{settled, settled_rows, short_met, short_or_plain, subcommand_met}
+use Rattle.clap.specs.Walk.{settled, settled_rows, short_met, short_or_plain}
 use Rattle.clap.specs.Walk.{subcommand_or_other}
 use Rattle.clap.specs.Walk.{used, used_by_id, walk, walk_from, walked, walked_from, with_default, word_met}
 use Rattle.clap.specs.Matches.{has_subcommand}

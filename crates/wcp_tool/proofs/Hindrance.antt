@@ -1,8 +1,8 @@
 -- What an ending tells of the answer that it was made of.
 use Rattle.std.proofs.Common.{◌≡◌, ◌⊎◌, ℕ, Bool, true, false, Result, Ok, Err, Option, Some, None, refl, sym}
 use Rattle.std.proofs.Common.{ap, subst, inl, inr}
-use Rattle.std.proofs.Common.{◌∙◌, cond, List, length, nat_eq}
-use Rattle.std.specs.Prelude.{◌≢◌, ◌≤◌, IfSome, IsOk, OnOk, IfErr}
+use Rattle.std.proofs.Common.{◌∙◌, cond, List, nat_eq}
+use Rattle.std.specs.Prelude.{◌≢◌, IfSome, IsOk, OnOk, IfErr}
 use Rattle.std.specs.Io.KnownBytes.{Appends}
 use Rattle.event_core.specs.declared.bounds.Limits.{Limits}
 use Rattle.event_core.specs.declared.replies.Refusal.{Refusal}

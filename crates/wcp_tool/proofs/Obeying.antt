@@ -1,5 +1,5 @@
 -- What the program does for its words, by the ending of what it did.
-use Rattle.std.proofs.Common.{◌≡◌, ◌⊎◌, ◌∙◌, ℕ, List, [], ◌∷◌, Bool, true, false, Option, Some, None, refl}
+use Rattle.std.proofs.Common.{◌≡◌, ◌⊎◌, ◌∙◌, ℕ, List, [], Bool, true, false, Option, Some, refl}
 use Rattle.std.proofs.Common.{sym, ap, subst}
 use Rattle.std.proofs.Common.{inl, inr}
 use Rattle.std.specs.Prelude.{◌≢◌, IfSome, IsSomeAnd}
@@ -16,7 +16,7 @@ use Rattle.wcp_tool.specs.declared.endings.Ending.TheVariants.{Done, Races, Wron
 use Rattle.wcp_tool.specs.declared.endings.Ending.TheVariants.{WriteFault, OutOfMemory}
 use Rattle.wcp_tool.specs.CommandLine.{IsFaultAt, asked, faults_of, is_answer, is_mistake}
 use Rattle.wcp_tool.specs.Endings.{status_of}
-use Rattle.wcp_tool.specs.Running.{EndsAs, IsUnhindered, Performs, Runs, is_help, limits_with}
+use Rattle.wcp_tool.specs.Running.{EndsAs, Performs, Runs, is_help, limits_with}
 
 -- ---- statuses
 

@@ -11,7 +11,6 @@ use Rattle.trace_report.specs.declared.summary.Summary.{Summary}
 use Rattle.trace_report.specs.Replayed.{Told, finding as replayed}
 use Rattle.wcp_tool.specs.declared.requests.Command.{Command}
 use Rattle.wcp_tool.specs.declared.requests.Command.TheVariants.{Check, Replay}
-use Rattle.wcp_tool.specs.declared.requests.Settings.{Settings}
 use Rattle.wcp_tool.specs.declared.requests.UsageFault.{UsageFault}
 use Rattle.wcp_tool.specs.declared.requests.UsageFault.TheVariants as faults
 use Rattle.wcp_tool.specs.declared.endings.Ending.{Ending}

@@ -16,6 +16,3 @@ pub use checking::check;
 pub use command_line::settings;
 pub use requests::{Command, Settings, UsageFault};
 pub use running::{program, tool};
-
-#[cfg(test)]
-mod tests;

@@ -1,6 +1,6 @@
 //! Texts without a fault, however they are cut.
-use super::doubles::whole;
-use super::told::{END, expect, expect_told, long, told};
+use super::doubles::{cut, whole};
+use super::told::{END, expect, expect_told, long, stores, told};
 use event_core::{LockId, Op, OutOfMemory, ThreadId, VarId};
 
 #[test]
@@ -57,5 +57,15 @@ fn a_line_may_lie_across_pieces(rt: HostRuntime) {
             END,
         ];
         expect_told(&rt, rt.alloc(), whole(text.as_slice()), 100, &answers);
+    }
+}
+
+/// A thousand lines of ten bytes take three pieces of 4,096 bytes, and as many in pieces of other lengths.
+#[test]
+fn a_long_text_is_read_to_its_end(rt: HostRuntime) {
+    let (text, answers) = again!(&rt; stores(rt.alloc(), 1000));
+    for first in [4096, 4095, 33] {
+        let pieces = cut(text.as_slice(), first);
+        expect_told(&rt, rt.alloc(), pieces, 100, answers.as_slice());
     }
 }

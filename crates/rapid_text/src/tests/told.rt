@@ -1,7 +1,7 @@
 //! What a reader answers, one call after another.
 use super::doubles::{Pieces, Source, byte_by_byte, cut, whole};
 use crate::{Cause, Reader, TextFault};
-use event_core::{Event, Limits, Op, OutOfMemory, Roots, SiteId, ThreadId};
+use event_core::{Event, Limits, Op, OutOfMemory, Roots, SiteId, ThreadId, VarId};
 use std::alloc::Global;
 use std::process::Abort;
 
@@ -100,4 +100,17 @@ pub fn long(alloc: Global, byte: u8, len: usize, end: &[u8]) -> Result<Vec<u8>, 
         return Err(OutOfMemory);
     }
     Ok(text)
+}
+
+/// So many lines, and what a reader tells of them: stores by one thread at one place.
+pub fn stores(alloc: Global, lines: u64) -> Result<(Vec<u8>, Vec<Answer>), OutOfMemory> {
+    let mut text = Vec::new(alloc);
+    let mut answers = Vec::new(alloc);
+    for line in 0..lines {
+        let told = told(line + 1, 0, Op::Store(VarId(0)), 0);
+        if text.extend_from_slice(b"T0|w(x)|7\n").is_err() || answers.push(told).is_err() {
+            return Err(OutOfMemory);
+        }
+    }
+    Ok((text, answers))
 }

@@ -1,14 +1,17 @@
 //! Lines that are written, and read again.
 use super::doubles::Page;
 use super::told::limits;
-use crate::{Device, Reader, write_event, write_fault};
+use crate::{Device, Output, Reader, write_event, write_fault};
 use event_core::{Limits, OutOfMemory};
 use std::alloc::Global;
 
 /// Reads an event and writes its line: false at the end of the text, and where the output failed.
-fn copy_next(reader: &mut Reader<Device<&[u8]>>, page: &mut Page<'_>) -> Result<bool, OutOfMemory> {
+fn copy_next<W: Output>(
+    reader: &mut Reader<Device<&[u8]>>,
+    w: &mut W,
+) -> Result<bool, OutOfMemory> {
     match reader.next() {
-        Ok(Some(event)) => Ok(write_event(page, &event, reader.names()).is_ok()),
+        Ok(Some(event)) => Ok(write_event(w, &event, reader.names()).is_ok()),
         Ok(None) => Ok(false),
         Err(_) => Err(OutOfMemory),
     }
@@ -60,5 +63,23 @@ fn a_fault_line_is_written(rt: HostRuntime) {
         let written = write_fault(&mut page, 12, "Held");
         assert_eq!(rt; written.is_ok(), puts >= 7, "{puts} puts");
         assert_eq!(rt; page.failed, puts < 7, "{puts} puts");
+    }
+}
+
+/// Whether the line of the first event is written to so many bytes, after which the writer takes nothing.
+fn fits_event(alloc: Global, limits: Limits, room: &mut [u8]) -> Result<bool, OutOfMemory> {
+    let mut reader = Reader::new(alloc, Device::new(b"T0|w(x)|1".as_slice()), limits, 100)?;
+    copy_next(&mut reader, &mut Device::new(room))
+}
+
+/// A slice takes what it has room for, and then nothing.
+#[test]
+fn a_writer_that_takes_nothing_has_failed(rt: HostRuntime) {
+    let mut bytes = [0u8; 16];
+    for room in 0..16 {
+        let is_told = write_fault(&mut Device::new(&mut bytes[..room]), 12, "Held").is_ok();
+        assert_eq!(rt; is_told, room >= 14, "{room} bytes");
+        let is_written = again!(&rt; fits_event(rt.alloc(), limits(&rt), &mut bytes[..room]));
+        assert_eq!(rt; is_written, room >= 10, "{room} bytes");
     }
 }

@@ -6,13 +6,13 @@ use Rattle.lock_queues.proofs.tests.close_one.Goals as goal
 
 pub enter-requires-clause-room : goal.enter-requires-clause-room
 enter-requires-clause-room c =
-    written (has_room c.make_room.new.self) (has_room c.args.queues.now) c.args.thread.0 0 true
+    written (has_room c.make_room.new.queues) (has_room c.args.queues.now) c.args.thread.0 0 true
     c.in_ok-make_room.ensures.ok
 
 pub leave-requires-clause-entered : goal.leave-requires-clause-entered
 leave-requires-clause-entered c =
     let opened
-    = written (opened_of c.enter.new.self) (opened_of c.make_room.new.self) c.args.thread.0 0
+    = written (opened_of c.enter.new.self) (opened_of c.make_room.new.queues) c.args.thread.0 0
     c.mark.result.position
     c.enter.ensures.opened in
     let position = ap (λ m. m.position) c.mark.ensures.exact in

@@ -4,7 +4,7 @@ use Rattle.section_sum.proofs.cell.close_cells.Given as goal
 
 abbrev pub invariant-closing : goal.invariant-closing
 invariant-closing l = record {
-  cells : Closing l.thread.0 l.clock l.fn.cells l.cells l.listed.items;
+  cells : Closing l.thread.0 l.number l.fn.cells l.cells l.listed.items;
   capacity : l.listed.cap ≡ l.fn.listed.cap;
 }
 

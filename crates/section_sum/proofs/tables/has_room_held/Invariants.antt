@@ -5,4 +5,4 @@ use Rattle.section_sum.proofs.tables.has_room_held.Given as goal
 
 abbrev pub invariant-loop-lock : goal.invariant-loop-lock
 invariant-loop-lock l = (m : ℕ) → is_held (take l.lock-index l.held) m ≡ true
-    → room_at (table_at l.tables m) l.thread.0 l.var.0 l.kind ≡ true
+    → room_at (table_at l.tables m) l.var.0 ≡ true

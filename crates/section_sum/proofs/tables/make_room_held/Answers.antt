@@ -6,16 +6,14 @@ use Rattle.section_sum.proofs.tables.make_room_held.Goals as goal
 
 pub returns-in_err-make_room_under-clause-grown : goal.returns-in_err-make_room_under-clause-grown
 returns-in_err-make_room_under-clause-grown c =
-    grown_then c.args.width _ _ _ c.loop-lock.invariant.grown c.make_room_under.ensures.grown
+    grown_then _ _ _ c.loop-lock.invariant.grown c.make_room_under.ensures.grown
 
 pub loop-lock-preserved : goal.loop-lock-preserved
 loop-lock-preserved c = record {
-  grown = grown_then c.args.width _ _ _ c.loop-lock.invariant.grown c.make_room_under.ensures.grown;
+  grown = grown_then _ _ _ c.loop-lock.invariant.grown c.make_room_under.ensures.grown;
   room = held_each
-      (λ l. room_at (table_at c.make_room_under.new.tables.items l) c.args.thread.0 c.args.var.0 c.args.kind
-      ≡ true)
+      (λ l. room_at (table_at c.make_room_under.new.tables.items l) c.args.var.0 ≡ true)
       c.args.held.now c.loop-lock.lock-index (record { 0 = 0 }) c.loop-lock-test.true
-      (λ l e. (c.make_room_under.ensures.grown.each l).room c.args.thread.0 c.args.var.0 c.args.kind
-      (c.loop-lock.invariant.room l e))
+      (λ l e. (c.make_room_under.ensures.grown l).room c.args.var.0 (c.loop-lock.invariant.room l e))
       c.in_ok-make_room_under.ensures.room;
 }

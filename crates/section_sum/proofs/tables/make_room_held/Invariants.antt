@@ -6,7 +6,7 @@ use Rattle.section_sum.proofs.tables.make_room_held.Given as goal
 
 abbrev pub invariant-loop-lock : goal.invariant-loop-lock
 invariant-loop-lock l = record {
-  grown : HaveGrown l.width l.fn.tables.items l.tables.items;
+  grown : HaveGrown l.fn.tables.items l.tables.items;
   room : (m : ℕ) → is_held (take l.lock-index l.held) m ≡ true
-      → room_at (table_at l.tables.items m) l.thread.0 l.var.0 l.kind ≡ true;
+      → room_at (table_at l.tables.items m) l.var.0 ≡ true;
 }

@@ -1,6 +1,8 @@
-use Rattle.std.proofs.Common.{◌∙◌, ap}
+use Rattle.std.proofs.Common.{ℕ, List, ◌∙◌, ap}
 use Rattle.event_core.specs.Bounds.{Bounds}
-use Rattle.wcp_clocks.proofs.Growth.{are_parts}
+use Rattle.event_core.specs.Closed.{Closed}
+use Rattle.wcp_clocks.specs.HeldLists.{held_of}
+use Rattle.wcp_clocks.proofs.Growth.{are_parts, empty_numbers}
 use Rattle.wcp_clocks.proofs.room.new_parts.Goals as goal
 
 pub returns-clause-parts : goal.returns-clause-parts
@@ -8,10 +10,24 @@ returns-clause-parts c =
     are_parts (record {
       hb = c.in_ok-hb.hb;
       rows = c.in_ok-rows.rows;
-      sums = c.in_ok-sums.sums;
+      sums = c.new-sums.result;
       queues = c.in_ok-queues.queues;
       held = c.new-held.result;
       work = c.in_ok-hb.work;
     }) c.args.limits.now.threads c.in_ok-hb.ensures.width c.in_ok-hb.ensures.empty
     (c.in_ok-rows.ensures.width ∙ c.threads.ensures.is) c.in_ok-rows.ensures.strict c.in_ok-rows.ensures.below
-    c.in_ok-sums.ensures.width (ap (λ (b : Bounds). b.threads) c.in_ok-queues.ensures.limits)
+    (ap (λ (b : Bounds). b.threads) c.in_ok-queues.ensures.limits)
+    c.new-sums.ensures.no_others (λ l. ap (λ (f : ℕ → List Closed). f l) c.in_ok-queues.ensures.closed)
+
+pub returns-clause-state : goal.returns-clause-state
+returns-clause-state c =
+    empty_numbers (record {
+      hb = c.in_ok-hb.hb;
+      rows = c.in_ok-rows.rows;
+      sums = c.new-sums.result;
+      queues = c.in_ok-queues.queues;
+      held = c.new-held.result;
+      work = c.in_ok-hb.work;
+    }) c.in_ok-hb.ensures.empty c.in_ok-rows.ensures.strict c.in_ok-queues.ensures.opened
+    (ap held_of c.new-held.ensures)
+    c.new-sums.ensures.nothing_noted c.new-sums.ensures.no_others c.in_ok-queues.ensures.closed

@@ -1,60 +1,86 @@
-use Rattle.std.proofs.Common.{◌≡◌, ◌≤◌, ℕ, List, All, false, length, arith, sym, subst, ◌∙◌}
+use Rattle.std.proofs.Common.{◌≡◌, ◌<◌, ◌≤◌, ℕ, ◌&&◌, Bool, true, false, List, length, sym, ap, subst, ◌∙◌}
+use Rattle.std.proofs.Common.{arith}
+use Rattle.std.proofs.lemmas.Bool.{leb-true}
 use Rattle.std.proofs.lemmas.List.Elements.{All-head}
 use Rattle.event_core.specs.declared.events.AccessKind.{AccessKind}
 use Rattle.event_core.specs.declared.events.AccessKind.TheVariants.{Read, Write}
+use Rattle.event_core.specs.Closed.{Closed}
+use Rattle.event_core.specs.Rows.{join, with_row}
+use Rattle.hb_clocks.specs.Counts.{counts_of}
 use Rattle.hb_clocks.specs.Tables.{rows_of}
+use Rattle.lock_queues.specs.Queues.{closed_of}
 use Rattle.section_sum.specs.declared.sources.Sources.{Sources}
 use Rattle.section_sum.specs.Sources.{left, most_sources}
-use Rattle.section_sum.specs.Sums.{sources_of}
-use Rattle.wcp_clocks.proofs.Taking.{IsTaking, taking_begins, taking_on, taking_ends}
+use Rattle.wcp_clocks.specs.Met.{release_at, thread_at, met_clocks, met_under, IsMet}
+use Rattle.wcp_clocks.proofs.Taking.{IsTaking, taking_begins, taking_past, taking_on, taking_ends}
+use Rattle.wcp_clocks.proofs.Taking.{release_is, thread_is}
 use Rattle.wcp_clocks.proofs.sources.take_under.Goals as goal
 
 at_most_two : (k : AccessKind) → most_sources k ≤ 2
 at_most_two Read = omega arith
 at_most_two Write = omega arith
 
-pub loop-clock-init : goal.loop-clock-init
-loop-clock-init c =
+pub loop-number-init : goal.loop-number-init
+loop-number-init c =
     let t : ℕ = c.args.thread.0 in
-    let source = sources_of c.args.sums.now c.args.lock.0 c.args.var.0 c.args.kind t in
-    let s = c.sources-clock-items in
-    subst (λ (r : Sources). IsTaking t source c.args.rows.now c.args.rows.now c.args.work.now c.args.work.now
-    (left r) false)
-    (sym c.into_iter-clock-iterator.ensures.into_iter_gives)
-    (taking_begins t source c.args.rows.now c.args.work.now (left s.result) false
-    (λ u. s.ensures.joins (rows_of c.args.rows.now.thread t) u)
-    (subst (λ w. All (λ (d : List ℕ). length d ≡ w) (left s.result)) c.requires.wide s.ensures.widths)
-    (let a = s.ensures.at_most in let b = at_most_two c.args.kind in omega arith))
+    let sums = c.args.sums.now in
+    let closed : ℕ → List Closed = closed_of c.args.queues.now in
+    let source = met_under (met_clocks sums closed) c.args.var.0 c.args.kind t c.args.lock.0 in
+    let s = c.sources-number-items in
+    subst (λ (r : Sources). IsTaking sums closed c.args.lock.0 c.args.var.0 t source c.args.rows.now
+    c.args.rows.now c.args.work.now c.args.work.now (left r) false)
+    (sym c.into_iter-number-iterator.ensures.into_iter_gives)
+    (taking_begins sums closed c.args.lock.0 c.args.var.0 t c.args.kind c.args.rows.now c.args.work.now
+    (left s.result) false s.ensures.exact
+    (let a = s.ensures.at_most in let b = at_most_two c.args.kind in omega arith) c.requires.whole)
 
-pub take_clock-requires-clause-room : goal.take_clock-requires-clause-room
-take_clock-requires-clause-room c = c.loop-clock.invariant.kept.thread c.args.thread.0 c.requires.room
-
-pub take_clock-requires-clause-wide : goal.take_clock-requires-clause-wide
-take_clock-requires-clause-wide c =
-    All-head (λ (d : List ℕ). length d ≡ c.args.rows.now.width) c.in-Some.clock.now (left c.next.new.self)
-    (subst (λ r. All (λ (d : List ℕ). length d ≡ c.args.rows.now.width) r) c.in-Some.ensures.steps
-    c.loop-clock.invariant.wide)
-    ∙ sym c.loop-clock.invariant.kept.width
-
-pub take_clock-requires-clause-few : goal.take_clock-requires-clause-few
-take_clock-requires-clause-few c =
-    let j = c.loop-clock.invariant.joins in let few = c.requires.few in omega arith
-
-pub loop-clock-preserved : goal.loop-clock-preserved
-loop-clock-preserved c =
+pub loop-number-preserved-then-not-counts : goal.loop-number-preserved-then-not-counts
+loop-number-preserved-then-not-counts c =
     let t : ℕ = c.args.thread.0 in
-    let source = sources_of c.args.sums.now c.args.lock.0 c.args.var.0 c.args.kind t in
+    let l : ℕ = c.args.lock.0 in
+    let x : ℕ = c.args.var.0 in
+    let sums = c.args.sums.now in
+    let closed : ℕ → List Closed = closed_of c.args.queues.now in
+    let n : ℕ = c.in-Some.number in
+    let rest : List ℕ = left c.next.new.self in
+    let source = met_under (met_clocks sums closed) x c.args.kind t l in
+    let now = c.loop-number.rows in
     let e = c.take_clock.ensures in
-    taking_on t source c.args.rows.now c.loop-clock.rows c.take_clock.new.self c.args.work.now
-    c.loop-clock.work
-    c.take_clock.new.work c.in-Some.clock.now (left c.next.new.self) c.loop-clock.taken
-    (subst (λ r. IsTaking t source c.args.rows.now c.loop-clock.rows c.args.work.now c.loop-clock.work r
-    c.loop-clock.taken) c.in-Some.ensures.steps c.loop-clock.invariant)
-    e.threads e.locks e.below e.kept e.work
+    let here = subst (λ ns. IsTaking sums closed l x t source c.args.rows.now now c.args.work.now
+    c.loop-number.work ns c.loop-number.taken) c.in-Some.ensures.steps c.loop-number.invariant in
+    let some : 0 < n = (All-head (IsMet sums l x t) n rest here.met).some in
+    let clock : counts_of c.section-section.result.release.now ≡ release_at (closed l) n
+    = c.section-section.ensures.release ∙ release_is (closed l) n some in
+    taking_on sums closed l x t source c.args.rows.now now c.take_clock.new.self c.args.work.now
+    c.loop-number.work c.take_clock.new.work n rest c.loop-number.taken c.requires.releases here
+    (e.threads ∙ ap (λ g. with_row t (join (rows_of now.thread t) g) (rows_of now.thread)) clock)
+    e.locks e.below e.kept e.work
 
-pub returns-clause-threads : goal.returns-clause-threads
-returns-clause-threads c =
+right_true : (a b : Bool) → (a && b) ≡ true → b ≡ true
+right_true true b is = is
+right_true false b is = absurd (cc is)
+
+pub loop-number-preserved : goal.loop-number-preserved
+loop-number-preserved c =
     let t : ℕ = c.args.thread.0 in
-    taking_ends t (sources_of c.args.sums.now c.args.lock.0 c.args.var.0 c.args.kind t) c.args.rows.now
-    c.loop-clock.rows c.args.work.now c.loop-clock.work (left c.loop-clock.clock-iterator) c.loop-clock.taken
-    c.loop-clock.invariant c.in-None.ensures.steps.0
+    let l : ℕ = c.args.lock.0 in
+    let x : ℕ = c.args.var.0 in
+    let sums = c.args.sums.now in
+    let closed : ℕ → List Closed = closed_of c.args.queues.now in
+    let n : ℕ = c.in-Some.number in
+    let rest : List ℕ = left c.next.new.self in
+    let source = met_under (met_clocks sums closed) x c.args.kind t l in
+    let now = c.loop-number.rows in
+    let here = subst (λ ns. IsTaking sums closed l x t source c.args.rows.now now c.args.work.now
+    c.loop-number.work ns c.loop-number.taken) c.in-Some.ensures.steps c.loop-number.invariant in
+    let some : 0 < n = (All-head (IsMet sums l x t) n rest here.met).some in
+    let by : c.section-section.result.by.0 ≡ thread_at (closed l) n
+    = c.section-section.ensures.by ∙ thread_is (closed l) n some in
+    let clock : counts_of c.section-section.result.release.now ≡ release_at (closed l) n
+    = c.section-section.ensures.release ∙ release_is (closed l) n some in
+    taking_past sums closed l x t source c.args.rows.now now c.args.work.now c.loop-number.work n rest
+    c.loop-number.taken here
+    (subst (λ b. release_at (closed l) n b ≤ rows_of now.thread t b) by
+    (subst (λ (g : ℕ → ℕ). g c.section-section.result.by.0
+    ≤ rows_of now.thread t c.section-section.result.by.0) clock (leb-true _ _ (right_true _ _
+    (sym c.counts.ensures ∙ c.if-not-counts.false)))))

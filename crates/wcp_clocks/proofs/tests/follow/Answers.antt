@@ -1,6 +1,6 @@
-use Rattle.std.proofs.Common.{◌≡◌, ◌∙◌, arith}
+use Rattle.std.proofs.Common.{◌∙◌, arith}
 use Rattle.wcp_clocks.specs.StandsFor.{IsBounded}
-use Rattle.wcp_clocks.specs.WorkedLogs.{small, log_of}
+use Rattle.wcp_clocks.specs.WorkedLogs.{small}
 use Rattle.wcp_clocks.proofs.Replaying.{replay_begins, replay_within, replay_prepared, replay_fits, replay_on}
 use Rattle.wcp_clocks.proofs.tests.follow.Goals as goal
 

@@ -5,6 +5,13 @@ use Rattle.wcp_clocks.proofs.Taking.{room_then}
 use Rattle.wcp_clocks.proofs.OwnClocks.{few_below, counted_below, followed_below}
 use Rattle.wcp_clocks.proofs.turns.access.Goals as goal
 
+pub take_sources-taken-requires-clause-whole : goal.take_sources-taken-requires-clause-whole
+take_sources-taken-requires-clause-whole c =
+    (c.requires.parts.whole.strict c.args.event.now.thread.0).whole
+
+pub take_sources-taken-requires-clause-releases : goal.take_sources-taken-requires-clause-releases
+take_sources-taken-requires-clause-releases c = λ l x k t. (c.requires.parts.whole.others l x k t).whole
+
 pub count_own-requires-clause-few : goal.count_own-requires-clause-few
 count_own-requires-clause-few c =
     few_below c.args.event.now c.args.parts.now c.requires.fits c.requires.parts
@@ -18,8 +25,8 @@ returns-then-taken-clause-step c =
     access_step e c.args.var c.args.kind old c.requires.turn c.requires.fits c.of-held.result.now s.new.rows
     c.follow.new.self c.advance.new.self c.note.new.self s.new.work c.advance.new.work c.of-held.ensures
     s.ensures.threads s.ensures.locks s.ensures.kept s.ensures.joins s.ensures.comparisons
-    c.note.ensures.noted
-    c.note.ensures.others c.note.ensures.width c.advance.ensures.exact c.advance.ensures.width
+    c.note.ensures.noted c.note.ensures.others c.requires.parts.numbers
+    c.advance.ensures.exact c.advance.ensures.width
     c.advance.ensures.work c.follow.ensures.strict
     (c.follow.ensures.below ∙ followed_below e (Accesses c.args.var c.args.kind) old s.new.rows
     c.advance.new.self
@@ -35,8 +42,8 @@ returns-else-taken-clause-step c =
     access_step e c.args.var c.args.kind old c.requires.turn c.requires.fits c.of-held.result.now s.new.rows
     c.count_own.new.self c.advance.new.self c.note.new.self s.new.work c.advance.new.work c.of-held.ensures
     s.ensures.threads s.ensures.locks s.ensures.kept s.ensures.joins s.ensures.comparisons
-    c.note.ensures.noted
-    c.note.ensures.others c.note.ensures.width c.advance.ensures.exact c.advance.ensures.width
+    c.note.ensures.noted c.note.ensures.others c.requires.parts.numbers
+    c.advance.ensures.exact c.advance.ensures.width
     c.advance.ensures.work c.count_own.ensures.strict
     (c.count_own.ensures.below ∙ counted_below e (Accesses c.args.var c.args.kind) old s.new.rows
     c.requires.turn

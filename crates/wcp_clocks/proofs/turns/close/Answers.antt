@@ -1,27 +1,32 @@
-use Rattle.std.proofs.Common.{ℕ, ◌≤◌, ◌<◌, ◌++◌, ◌∷◌, [], List, ap, ap₂, sym, subst, ◌∙◌, arith, refl}
+use Rattle.std.proofs.Common.{◌≡◌, ℕ, suc, ◌≤◌, ◌<◌, ◌++◌, ◌∷◌, [], List, length, length-append, ap, ap₂, sym}
+use Rattle.std.proofs.Common.{subst, ◌∙◌, arith, refl}
 use Rattle.event_core.specs.Closed.{Closed, Has}
 use Rattle.event_core.specs.Rows.{with_row}
 use Rattle.event_core.specs.Turn.{Turn, Closes}
 use Rattle.event_core.proofs.Growing.{row_same}
 use Rattle.hb_clocks.specs.Counts.{counts_of}
 use Rattle.hb_clocks.specs.Work.{Done}
-use Rattle.section_sum.specs.Sums.{others_of}
-use Rattle.lock_queues.specs.Queues.{found_of}
+use Rattle.event_core.specs.declared.events.AccessKind.{AccessKind}
+use Rattle.lock_queues.specs.Queues.{closed_of, opened_of, found_of}
+use Rattle.wcp_clocks.specs.Met.{met_clocks}
 use Rattle.wcp_laws.specs.Step.{hb_row}
 use Rattle.wcp_clocks.specs.Parts.{hb_of, state_of}
 use Rattle.wcp_clocks.proofs.Taking.{room_then}
 use Rattle.wcp_clocks.proofs.OwnClocks.{followed_below}
-use Rattle.wcp_clocks.proofs.TurnWords.{own_happens_before, closed_others, closed_noted}
+use Rattle.wcp_clocks.proofs.TurnWords.{own_happens_before, closed_noted}
+use Rattle.wcp_clocks.proofs.Closing.{closing_clocks, closing_threads, closing_numbers}
 use Rattle.wcp_clocks.proofs.Passing.{own_written, joins_told}
 use Rattle.wcp_clocks.proofs.turns.close.Goals as goal
 
-pub close-requires-clause-above : goal.close-requires-clause-above
-close-requires-clause-above c v k t u =
-    subst (λ (g : ℕ → ℕ). others_of c.args.parts.now.sums c.args.lock.0 v k t u ≤ g u)
-    (sym (c.hb-clock.ensures.exact
-    ∙ own_happens_before c.args.event.now (hb_of c.args.parts.now) _ c.advance.ensures.exact))
-    (c.requires.fits.sound.above_others c.args.lock (record { 0 = v }) k (record { 0 = t }) (record { 0 = u })
-    c.requires.turn)
+pub count-requires : goal.count-requires
+count-requires c =
+    let l : ℕ = c.args.lock.0 in
+    let few = c.requires.fits.few_closed c.args.lock c.requires.turn in
+    let was = ap (λ (f : ℕ → List Closed). length (f l)) c.take_closed.ensures.found.closed in
+    let at = ap (λ (f : ℕ → List Closed). length (f l)) c.leave.ensures.closed
+    ∙ ap (λ (qs : List Closed). length qs) (row_same l _ (closed_of c.take_closed.new.queues))
+    ∙ length-append (closed_of c.take_closed.new.queues l) _ in
+    omega arith
 
 pub leave-requires-clause-entered : goal.leave-requires-clause-entered
 leave-requires-clause-entered c =
@@ -49,6 +54,25 @@ returns c =
     let strict = c.follow.ensures.strict in
     let own = own_written e k old taken.new.rows taken.ensures.threads in
     let g = c.hb-clock.ensures.exact ∙ own_happens_before e (hb_of old) _ c.advance.ensures.exact in
+    let q : Closed = record {
+      thread = t;
+      position = opened_of taken.new.queues t l;
+      release = counts_of c.hb-clock.result.now;
+    } in
+    let longer : closed_of c.leave.new.self
+    ≡ with_row l (closed_of old.queues l ++ q ∷ []) (closed_of old.queues)
+    = left.closed ∙ ap (λ (f : ℕ → List Closed). with_row l (f l ++ q ∷ []) f) taken.ensures.found.closed in
+    let next : c.count.result ≡ suc (length (closed_of old.queues l))
+    = (let n = c.count.ensures in
+    let w = ap (λ (f : ℕ → List Closed). length (f l)) longer
+    ∙ ap (λ (qs : List Closed). length qs) (row_same l (closed_of old.queues l ++ q ∷ [])
+    (closed_of old.queues))
+    ∙ length-append (closed_of old.queues l) (q ∷ []) in
+    omega arith) in
+    let above : (x : ℕ) (k : AccessKind) (v u : ℕ)
+    → met_clocks old.sums (closed_of old.queues) l x k v u ≤ hb_row e (state_of old) u
+    = λ x k v u. c.requires.fits.sound.above_others c.args.lock (record { 0 = x }) k (record { 0 = v })
+    (record { 0 = u }) c.requires.turn in
     record {
       hb = c.advance.ensures.exact;
       threads = c.give_lock.ensures.threads ∙ ap (λ r. r.thread) strict ∙ taken.ensures.threads;
@@ -63,9 +87,13 @@ returns c =
       held = c.remove.ensures.held;
       noted = closed_noted old.sums c.close.new.self (hb_of old).depth e.thread c.args.lock
           c.close.ensures.noted;
-      others = closed_others old.sums c.close.new.self (hb_row e (state_of old))
-          (counts_of c.hb-clock.result.now)
-          (state_of old) e.thread c.args.lock refl refl g c.close.ensures.others;
+      others = closing_clocks old.sums c.close.new.self t l c.count.result q (closed_of old.queues)
+          (closed_of c.leave.new.self) c.requires.parts.numbers next longer c.close.ensures.others
+          (hb_row e (state_of old)) g above;
+      by = closing_threads old.sums c.close.new.self t l c.count.result q (closed_of old.queues)
+          (closed_of c.leave.new.self) c.requires.parts.numbers next longer c.close.ensures.others refl;
+      numbers = closing_numbers old.sums c.close.new.self t l c.count.result q (closed_of old.queues)
+          (closed_of c.leave.new.self) c.requires.parts.numbers next longer c.close.ensures.others;
       closed = left.closed
           ∙ ap₂ (λ (f : ℕ → List Closed) (q : Closed). with_row l
           (f l ++ q ∷ []) f) taken.ensures.found.closed
@@ -86,5 +114,4 @@ returns c =
           (room_then taken.new.rows c.follow.new.self c.give_lock.new.self c.follow.ensures.kept
           c.give_lock.ensures.kept);
       limits = record { width = c.advance.ensures.width; limits = left.limits ∙ taken.ensures.found.limits };
-      sums = c.close.ensures.width;
     }

@@ -23,6 +23,8 @@ returns c =
       held = refl;
       noted = refl;
       others = refl;
+      by = refl;
+      numbers = c.requires.parts.numbers;
       closed = refl;
       found = refl;
       joins = (let j = joins_told e Inner old old.work c.advance.new.work c.requires.turn
@@ -31,5 +33,4 @@ returns c =
       comparisons = ap (λ (d : Done). d.comparisons) c.advance.ensures.work;
       room = c.count_own.ensures.kept;
       limits = record { width = c.advance.ensures.width; limits = refl };
-      sums = refl;
     }

@@ -40,6 +40,8 @@ returns c =
       held = refl;
       noted = refl;
       others = refl;
+      by = refl;
+      numbers = c.requires.parts.numbers;
       closed = refl;
       found = refl;
       joins = (let j = joins_told e k old old.work c.advance.new.work c.requires.turn c.advance.ensures.work
@@ -48,5 +50,4 @@ returns c =
       comparisons = ap (λ (d : Done). d.comparisons) c.advance.ensures.work;
       room = room_then old.rows mine.new.self c.give_thread.new.self mine.ensures.kept give.kept;
       limits = record { width = c.advance.ensures.width; limits = refl };
-      sums = refl;
     }

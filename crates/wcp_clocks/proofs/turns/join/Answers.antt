@@ -29,6 +29,8 @@ returns c =
       held = refl;
       noted = refl;
       others = refl;
+      by = refl;
+      numbers = c.requires.parts.numbers;
       closed = refl;
       found = refl;
       joins = (let w = ap (λ (d : Done). d.joins) taken.ensures.work in
@@ -39,5 +41,4 @@ returns c =
           ∙ ap (λ (d : Done). d.comparisons) taken.ensures.work;
       room = room_then old.rows taken.new.self c.follow.new.self taken.ensures.kept c.follow.ensures.kept;
       limits = record { width = c.advance.ensures.width; limits = refl };
-      sums = refl;
     }

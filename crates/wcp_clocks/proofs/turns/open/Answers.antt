@@ -1,9 +1,10 @@
-use Rattle.std.proofs.Common.{◌≡◌, ℕ, ap, sym, ◌∙◌, arith, refl}
+use Rattle.std.proofs.Common.{◌≡◌, ℕ, ap, sym, subst, ◌∙◌, arith, refl}
 use Rattle.event_core.specs.Rows.{with_row}
 use Rattle.event_core.specs.Turn.{Turn, Opens}
 use Rattle.hb_clocks.specs.Work.{Done}
 use Rattle.lock_queues.specs.Queues.{opened_of}
 use Rattle.wcp_laws.specs.Step.{hb_row}
+use Rattle.wcp_clocks.specs.Met.{met_clocks, met_threads, AreNumbers}
 use Rattle.wcp_clocks.specs.Parts.{hb_of, state_of}
 use Rattle.wcp_clocks.proofs.Taking.{room_then}
 use Rattle.wcp_clocks.proofs.OwnClocks.{followed_below}
@@ -44,7 +45,9 @@ returns c =
           position;
       held = c.add.ensures;
       noted = refl;
-      others = refl;
+      others = ap (met_clocks old.sums) c.enter.ensures.closed;
+      by = ap (met_threads old.sums) c.enter.ensures.closed;
+      numbers = subst (AreNumbers old.sums) (sym c.enter.ensures.closed) c.requires.parts.numbers;
       closed = c.enter.ensures.closed;
       found = c.enter.ensures.found;
       joins = (let w = ap (λ (d : Done). d.joins) taken.ensures.work in
@@ -55,5 +58,4 @@ returns c =
           ∙ ap (λ (d : Done). d.comparisons) taken.ensures.work;
       room = room_then old.rows taken.new.self c.follow.new.self taken.ensures.kept c.follow.ensures.kept;
       limits = record { width = c.advance.ensures.width; limits = c.enter.ensures.limits };
-      sums = refl;
     }

@@ -31,7 +31,8 @@ returns-in-Ok-clause-ok c =
     (arith, k, c.self.inside.kept.ok) in
     let read : reading c.self.inside.names (content c.self.inside.kept.items) ≡ Ok
     (c.in-Ok.event, c.line_event.new.names) =
-    ap (λ (t : List ℕ). reading c.self.inside.names (content t)) (sym c.as_slice.ensures.value)
+    ap (λ (t : List ℕ). reading c.self.inside.names (content t))
+    (sym (c.unmarked.ensures.bytes ∙ c.as_slice.ensures.value))
     ∙ c.in-Ok.ensures.ok in
     rw (← c.self.view_is) (record {
       sound =
@@ -62,7 +63,8 @@ returns-in-Err-clause-fault c =
     (arith, k, c.self.inside.kept.ok) in
     let fails : Fails c.in-Err.cause (reading c.self.inside.names (content c.self.inside.kept.items)) =
     subst (λ (t : List ℕ). Fails c.in-Err.cause
-    (reading c.self.inside.names (content t))) c.as_slice.ensures.value c.in-Err.ensures.fault in
+    (reading c.self.inside.names (content t))) (c.unmarked.ensures.bytes ∙ c.as_slice.ensures.value)
+    c.in-Err.ensures.fault in
     let here : ClosesAt old f c.in-Err.cause =
     closes_at old f c.in-Err.cause refl c.self.invariant.0 pos refl fails in
     let there : ClosesAt old c.fail.result c.fail.result.cause = subst

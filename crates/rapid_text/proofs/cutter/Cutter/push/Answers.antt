@@ -9,42 +9,42 @@ use Rattle.rapid_text.proofs.cutter.Cutter.push.Goals as goal
 
 pub end_line-requires-clause-lf : goal.end_line-requires-clause-lf
 end_line-requires-clause-lf c =
-    (line_lf c.args.piece.now c.lines.used c.in-Some-cut_line.line.now c.in-Some-cut_line.field-0-1.now
-    c.lines.invariant.within (c.in-Some-cut_line.ensures ∙ ap (λ (t : List ℕ). cut 10 t)
+    (line_lf c.args.piece.now c.lines.used c.in-Some-cut_line.line.bytes.now c.in-Some-cut_line.field-0-1.now
+    c.lines.invariant.within (c.in-Some-cut_line.ensures.cut ∙ ap (λ (t : List ℕ). cut 10 t)
     (take_rest c.args.piece.now c.lines.used))).0
 
 pub end_line-requires-clause-room : goal.end_line-requires-clause-room
 end_line-requires-clause-room c =
-    line_room c.args.self.now c.lines.self c.args.piece.now c.lines.used c.in-Some-cut_line.line.now
+    line_room c.args.self.now c.lines.self c.args.piece.now c.lines.used c.in-Some-cut_line.line.bytes.now
     c.in-Some-cut_line.field-0-1.now c.lines.invariant
-    (c.in-Some-cut_line.ensures ∙ ap (λ (t : List ℕ). cut 10 t) (take_rest c.args.piece.now c.lines.used))
+    (c.in-Some-cut_line.ensures.cut ∙ ap (λ (t : List ℕ). cut 10 t) (take_rest c.args.piece.now c.lines.used))
 
 pub returns-in_err-event-clause-fault : goal.returns-in_err-event-clause-fault
 returns-in_err-event-clause-fault c =
     let p = err_from_is_err_and c.from_residual.result c.from_residual.ensures.1 in
     rw (p.1, p.2)
-    (line_fails c.args.self.now c.lines.self c.args.piece.now c.lines.used c.in-Some-cut_line.line.now
+    (line_fails c.args.self.now c.lines.self c.args.piece.now c.lines.used c.in-Some-cut_line.line.bytes.now
     c.in-Some-cut_line.field-0-1.now c.in_err-event.field-0.0 c.lines.invariant
-    (c.in-Some-cut_line.ensures ∙ ap (λ (t : List ℕ). cut 10 t)
+    (c.in-Some-cut_line.ensures.cut ∙ ap (λ (t : List ℕ). cut 10 t)
     (take_rest c.args.piece.now c.lines.used)) c.in_err-event.ensures.fault)
 
 pub returns-in-Some-2-clause-ok : goal.returns-in-Some-2-clause-ok
 returns-in-Some-2-clause-ok c =
     gives c.args.self.now c.lines.self c.end_line.new.self c.args.piece.now c.lines.used
-    c.in-Some-cut_line.line.now c.in-Some-cut_line.field-0-1.now c.in-Some-2.event c.lines.invariant
-    (c.in-Some-cut_line.ensures ∙ ap (λ (t : List ℕ). cut 10 t) (take_rest c.args.piece.now c.lines.used))
+    c.in-Some-cut_line.line.bytes.now c.in-Some-cut_line.field-0-1.now c.in-Some-2.event c.lines.invariant
+    (c.in-Some-cut_line.ensures.cut ∙ ap (λ (t : List ℕ). cut 10 t) (take_rest c.args.piece.now c.lines.used))
     (rw (← c.in-Some-2.is) c.in_ok-event.ensures.ok)
 
 pub lines-preserved : goal.lines-preserved
 lines-preserved c =
     goes_on c.args.self.now c.lines.self c.end_line.new.self c.args.piece.now c.lines.used
-    c.in-Some-cut_line.line.now c.in-Some-cut_line.field-0-1.now c.lines.invariant
-    (c.in-Some-cut_line.ensures ∙ ap (λ (t : List ℕ). cut 10 t) (take_rest c.args.piece.now c.lines.used))
+    c.in-Some-cut_line.line.bytes.now c.in-Some-cut_line.field-0-1.now c.lines.invariant
+    (c.in-Some-cut_line.ensures.cut ∙ ap (λ (t : List ℕ). cut 10 t) (take_rest c.args.piece.now c.lines.used))
     (rw (← c.in_default-2.is) c.in_ok-event.ensures.ok) c.in_ok-event.ensures.grows
 
 pub keep_rest-requires-clause-lf : goal.keep_rest-requires-clause-lf
 keep_rest-requires-clause-lf c = cut_None 10 (take (length c.args.piece.now - c.lines.used)
-    (drop c.lines.used c.args.piece.now)) (sym c.in_default-cut_line.ensures)
+    (drop c.lines.used c.args.piece.now)) (sym c.in_default-cut_line.ensures.cut)
 
 pub returns-in_err-keep_rest-clause-fault : goal.returns-in_err-keep_rest-clause-fault
 returns-in_err-keep_rest-clause-fault c =
@@ -54,7 +54,7 @@ returns-in_err-keep_rest-clause-fault c =
     rw (p.1, p.2)
     (rest_fails c.args.self.now c.lines.self c.args.piece.now c.lines.used c.in_err-keep_rest.field-0.0
     c.lines.invariant (cut_None 10 (drop c.lines.used c.args.piece.now)
-    (ap (λ (t : List ℕ). cut 10 t) (sym rest) ∙ sym c.in_default-cut_line.ensures))
+    (ap (λ (t : List ℕ). cut 10 t) (sym rest) ∙ sym c.in_default-cut_line.ensures.cut))
     (subst (λ
     (t : List ℕ). RestFails c.lines.self t c.in_err-keep_rest.field-0.0) rest
     c.in_err-keep_rest.ensures.fault))

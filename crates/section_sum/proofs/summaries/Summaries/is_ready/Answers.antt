@@ -7,10 +7,8 @@ use Rattle.section_sum.proofs.summaries.Summaries.is_ready.Goals as goal
 pub returns : goal.returns
 unfolding room_of
 returns c =
-    subst (λ (s : Sums). IsTrue c.has_room_held.result
-    ↔ HasRoom s c.args.thread.0 c.args.held.now c.args.var.0 c.args.kind)
+    subst (λ (s : Sums). IsTrue c.has_room_held.result ↔ HasRoom s c.args.held.now c.args.var.0)
     c.self.view_is
     (subst (λ (ts : List Entries). IsTrue c.has_room_held.result
-    ↔ ((l : ℕ) → is_held c.args.held.now l ≡ true
-    → room_at (table_at ts l) c.args.thread.0 c.args.var.0 c.args.kind ≡ true))
+    ↔ ((l : ℕ) → is_held c.args.held.now l ≡ true → room_at (table_at ts l) c.args.var.0 ≡ true))
     c.deref.ensures.value c.has_room_held.ensures)

@@ -9,20 +9,15 @@ returns-clause-room c = c.make_room_held.ensures.room
 
 pub returns-clause-kept : goal.returns-clause-kept
 returns-clause-kept c =
-    (subst (λ (s : Sums). Grows s (sums c.self.inside.width c.make_room_held.new.tables.items)) c.self.view_is
-    (grows c.self.inside.width _ _ c.make_room_held.ensures.grown)).kept
-
-pub returns-clause-width : goal.returns-clause-width
-returns-clause-width c =
-    (subst (λ (s : Sums). Grows s (sums c.self.inside.width c.make_room_held.new.tables.items)) c.self.view_is
-    (grows c.self.inside.width _ _ c.make_room_held.ensures.grown)).width
+    (subst (λ (s : Sums). Grows s (sums c.make_room_held.new.tables.items)) c.self.view_is
+    (grows _ _ c.make_room_held.ensures.grown)).kept
 
 pub returns-clause-noted : goal.returns-clause-noted
 returns-clause-noted c =
-    (subst (λ (s : Sums). Grows s (sums c.self.inside.width c.make_room_held.new.tables.items)) c.self.view_is
-    (grows c.self.inside.width _ _ c.make_room_held.ensures.grown)).noted
+    (subst (λ (s : Sums). Grows s (sums c.make_room_held.new.tables.items)) c.self.view_is
+    (grows _ _ c.make_room_held.ensures.grown)).noted
 
 pub returns-clause-others : goal.returns-clause-others
 returns-clause-others c =
-    (subst (λ (s : Sums). Grows s (sums c.self.inside.width c.make_room_held.new.tables.items)) c.self.view_is
-    (grows c.self.inside.width _ _ c.make_room_held.ensures.grown)).others
+    (subst (λ (s : Sums). Grows s (sums c.make_room_held.new.tables.items)) c.self.view_is
+    (grows _ _ c.make_room_held.ensures.grown)).others

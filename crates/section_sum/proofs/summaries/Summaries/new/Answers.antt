@@ -1,12 +1,8 @@
 use Rattle.std.proofs.Common.{◌≡◌, List, false, sym, subst}
 use Rattle.section_sum.specs.Entries.{Entries, noted_at, others_on}
-use Rattle.section_sum.specs.Sums.{table_at, width_of, noted_of, others_of}
+use Rattle.section_sum.specs.Sums.{table_at, noted_of, others_of}
 use Rattle.section_sum.proofs.Locks.{none_noted, none_others}
 use Rattle.section_sum.proofs.summaries.Summaries.new.Goals as goal
-
-pub returns-clause-width : goal.returns-clause-width
-unfolding width_of
-returns-clause-width c = c.threads.ensures.is
 
 pub returns-clause-nothing_noted : goal.returns-clause-nothing_noted
 unfolding noted_of
@@ -16,6 +12,6 @@ returns-clause-nothing_noted c = λ t l v k.
 
 pub returns-clause-no_others : goal.returns-clause-no_others
 unfolding others_of
-returns-clause-no_others c = λ l v k t u.
-    subst (λ (ts : List Entries). others_on (table_at ts l) v k t u
-    ≡ 0) (sym c.new.ensures.items) (none_others v k t u)
+returns-clause-no_others c = λ l v k t.
+    subst (λ (ts : List Entries). others_on (table_at ts l) v k t
+    ≡ 0) (sym c.new.ensures.items) (none_others v k t)

@@ -6,8 +6,7 @@ use Rattle.section_sum.proofs.summaries.Summaries.note.Goals as goal
 pub note_held-requires-clause-room : goal.note_held-requires-clause-room
 unfolding room_of
 note_held-requires-clause-room c =
-    subst (λ (s : Sums). HasRoom s c.args.thread.0 c.args.held.now c.args.var.0 c.args.kind)
-    (sym c.self.view_is) c.requires.room
+    subst (λ (s : Sums). HasRoom s c.args.held.now c.args.var.0) (sym c.self.view_is) c.requires.room
 
 pub note_held-requires-clause-alone : goal.note_held-requires-clause-alone
 unfolding noted_of
@@ -15,29 +14,20 @@ note_held-requires-clause-alone c = λ l e t v k n.
     subst (λ (s : Sums). IsAlone s c.args.thread.0 c.args.held.now) (sym c.self.view_is) c.requires.alone l
     t v k e n
 
-pub invariant_of-self : goal.invariant_of-self
-invariant_of-self c = c.note_held.ensures.noted.wide c.self.inside.width c.self.invariant
-
 pub returns-clause-noted : goal.returns-clause-noted
 returns-clause-noted c =
     (subst (λ (s : Sums). Notes c.args.thread.0 c.args.held.now c.args.var.0 c.args.kind s
-    (sums c.self.inside.width c.note_held.new.tables.items)) c.self.view_is
-    (notes c.self.inside.width _ _ _ _ _ _ c.note_held.ensures.noted)).noted
+    (sums c.note_held.new.tables.items)) c.self.view_is
+    (notes _ _ _ _ _ _ c.note_held.ensures.noted)).noted
 
 pub returns-clause-others : goal.returns-clause-others
 returns-clause-others c =
     (subst (λ (s : Sums). Notes c.args.thread.0 c.args.held.now c.args.var.0 c.args.kind s
-    (sums c.self.inside.width c.note_held.new.tables.items)) c.self.view_is
-    (notes c.self.inside.width _ _ _ _ _ _ c.note_held.ensures.noted)).others
-
-pub returns-clause-width : goal.returns-clause-width
-returns-clause-width c =
-    (subst (λ (s : Sums). Notes c.args.thread.0 c.args.held.now c.args.var.0 c.args.kind s
-    (sums c.self.inside.width c.note_held.new.tables.items)) c.self.view_is
-    (notes c.self.inside.width _ _ _ _ _ _ c.note_held.ensures.noted)).width
+    (sums c.note_held.new.tables.items)) c.self.view_is
+    (notes _ _ _ _ _ _ c.note_held.ensures.noted)).others
 
 pub returns-clause-kept : goal.returns-clause-kept
 returns-clause-kept c =
     (subst (λ (s : Sums). Notes c.args.thread.0 c.args.held.now c.args.var.0 c.args.kind s
-    (sums c.self.inside.width c.note_held.new.tables.items)) c.self.view_is
-    (notes c.self.inside.width _ _ _ _ _ _ c.note_held.ensures.noted)).kept
+    (sums c.note_held.new.tables.items)) c.self.view_is
+    (notes _ _ _ _ _ _ c.note_held.ensures.noted)).kept

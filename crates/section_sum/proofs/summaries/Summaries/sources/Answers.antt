@@ -1,25 +1,20 @@
-use Rattle.section_sum.proofs.Sourcing.{widths, few_sources, joins_from, sources_count, wide_from}
+use Rattle.std.proofs.Common.{◌≤◌, List, length, subst, sym, ap, ◌∙◌}
+use Rattle.std.specs.Prelude.{ℕ}
+use Rattle.section_sum.specs.Entries.{Entries, sources_on}
+use Rattle.section_sum.specs.Sums.{Sums, table_at, sources_of}
+use Rattle.section_sum.specs.Sources.{most_sources}
+use Rattle.section_sum.proofs.Meaning.{meets, few_sources}
 use Rattle.section_sum.proofs.summaries.Summaries.sources.Goals as goal
 
-pub returns-clause-widths : goal.returns-clause-widths
-returns-clause-widths c =
-    widths _ c.sources_under.result.first c.sources_under.result.second
-    (wide_from c.self.inside.width _ _ c.args.self.now _ c.deref.ensures.value c.self.view_is c.self.invariant
-    c.sources_under.ensures.first_width)
-    (wide_from c.self.inside.width _ _ c.args.self.now _ c.deref.ensures.value c.self.view_is c.self.invariant
-    c.sources_under.ensures.second_width)
+pub returns-clause-exact : goal.returns-clause-exact
+returns-clause-exact c =
+    c.sources_under.ensures
+    ∙ ap (λ (ts : List Entries). sources_on (table_at ts c.args.lock.0) c.args.var.0 c.args.kind
+    c.args.thread.0) c.deref.ensures.value
+    ∙ meets c.self.inside.tables.items c.args.lock.0 c.args.var.0 c.args.kind c.args.thread.0
+    ∙ ap (λ (s : Sums). sources_of s c.args.lock.0 c.args.var.0 c.args.kind c.args.thread.0) c.self.view_is
 
 pub returns-clause-at_most : goal.returns-clause-at_most
 returns-clause-at_most c =
-    few_sources c.args.kind c.sources_under.result.first c.sources_under.result.second
-    c.sources_under.ensures.one
-
-pub returns-clause-joins : goal.returns-clause-joins
-returns-clause-joins c =
-    joins_from c.self.inside.width _ _ c.args.self.now c.sources_under.result.first
-    c.sources_under.result.second
-    c.args.lock.0 c.args.var.0 c.args.kind c.args.thread.0 c.deref.ensures.value c.self.view_is
-    c.sources_under.ensures.stores c.sources_under.ensures.loads
-
-pub returns-clause-counts : goal.returns-clause-counts
-returns-clause-counts c = sources_count c.args.self.now c.args.lock c.args.var c.args.kind c.args.thread
+    subst (λ (xs : List ℕ). length xs ≤ most_sources c.args.kind) (sym (returns-clause-exact c))
+    (few_sources c.args.self.now c.args.lock.0 c.args.var.0 c.args.kind c.args.thread.0)

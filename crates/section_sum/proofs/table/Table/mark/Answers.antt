@@ -1,41 +1,17 @@
-use Rattle.std.proofs.Common.{◌≡◌, ℕ, ◌<◌, true, List, length, nat_eq, sym, ap, ◌∙◌, subst, arith}
+use Rattle.std.proofs.Common.{◌≡◌, ◌<◌, true, List, length, nat_eq, sym, ap, ◌∙◌, subst, arith}
+use Rattle.std.proofs.lemmas.Bool.{ltb-true}
 use Rattle.section_sum.specs.declared.cell.Cell.{Cell}
-use Rattle.section_sum.specs.Newest.{has_slot}
-use Rattle.section_sum.specs.Cells.{marked_as, cell_at, side, AreKept, AreFew}
-use Rattle.section_sum.specs.Entries.{Entries, place_of, cell_of, room_at, IsAlone}
-use Rattle.section_sum.proofs.Places.{same_place, whole, ready_alone, known_room}
+use Rattle.section_sum.specs.Cells.{marked_as, cell_at, AreKept, AreFew}
+use Rattle.section_sum.specs.Entries.{Entries, place_of, cell_of, room_at}
+use Rattle.section_sum.proofs.Places.{same_place, whole}
 use Rattle.section_sum.proofs.table.Table.mark.Goals as goal
 
 pub invariant_of-self : goal.invariant_of-self
 invariant_of-self c =
-    let keys = c.self.inside.vars.keys in
     let cells = c.self.inside.cells.items in
-    let old = c.self.invariant.kept in
-    let room : has_slot (side c.args.kind (cell_at cells (place_of keys c.args.var.0))).newest
-    c.args.thread.0 ≡ true
-    = subst (λ (p : Entries). room_at p c.args.thread.0 c.args.var.0 c.args.kind
-    ≡ true) (sym c.self.view_is) c.requires.room in
-    let at : c.in-Some.at ≡ place_of keys c.args.var.0
-    = c.in-Some.ensures.0 ∙ ap (λ (p : Entries). place_of p.vars c.args.var.0) (sym c.self.view_is) in
-    let own : AreKept c.self.inside.width c.args.thread.0 cells c.self.inside.listed.items = record {
-      wide = old.wide;
-      ready = ready_alone keys cells c.self.inside.by.0 c.args.thread.0 c.self.invariant.unique
-          c.self.invariant.same
-          (subst (λ (p : Entries). IsAlone p c.args.thread.0) (sym c.self.view_is) c.requires.alone)
-          old.ready;
-      marks = old.marks;
-      within = old.within;
-    } in
-    let slot : has_slot (side c.args.kind (cell_at c.deref_mut.result.now c.in-Some.at)).newest
-    c.args.thread.0 ≡ true
-    = subst (λ (i : ℕ). has_slot (side c.args.kind (cell_at c.deref_mut.result.now i)).newest
-    c.args.thread.0 ≡ true) (sym at)
-    (subst (λ (xs : List Cell). has_slot (side c.args.kind (cell_at xs (place_of keys c.args.var.0))).newest
-    c.args.thread.0 ≡ true)
-    (sym c.deref_mut.ensures.value) room) in
-    let k = c.note_cell.ensures.kept c.self.inside.width c.args.thread.0 slot
-    (subst (λ (xs : List Cell). AreKept c.self.inside.width c.args.thread.0 xs c.self.inside.listed.items)
-    (sym c.deref_mut.ensures.value) own) in
+    let k = c.note_cell.ensures.kept
+    (subst (λ (xs : List Cell). AreKept xs c.self.inside.listed.items)
+    (sym c.deref_mut.ensures.value) c.self.invariant.kept) in
     let long = c.note_cell.ensures.same ∙ ap length c.deref_mut.ensures.value in
     let w = whole c.self.inside.cells.len c.note_cell.new.cells cells
     (sym c.deref_mut.ensures.len ∙ ap length c.deref_mut.ensures.value) long in
@@ -45,8 +21,7 @@ invariant_of-self c =
     record {
       same = ap length w ∙ long ∙ c.self.invariant.same;
       unique = c.self.invariant.unique;
-      kept = subst (λ (xs : List Cell). AreKept c.self.inside.width c.args.thread.0 xs
-          c.note_cell.new.listed.items) (sym w) k;
+      kept = subst (λ (xs : List Cell). AreKept xs c.note_cell.new.listed.items) (sym w) k;
       few = subst (λ (xs : List Cell). AreFew xs c.note_cell.new.listed.items) (sym w)
           c.note_cell.ensures.few;
       capacity = omega (arith, whole_length, long, most, cap);
@@ -60,11 +35,10 @@ returns-in-Some-clause-cells c = λ v.
     (c.note_cell.ensures.same ∙ ap length c.deref_mut.ensures.value) in
     let e = c.note_cell.ensures.exact (place_of keys v) in
     let at : c.in-Some.at ≡ place_of keys c.args.var.0
-    = c.in-Some.ensures.0 ∙ ap (λ (p : Entries). place_of p.vars c.args.var.0) (sym c.self.view_is) in
+    = c.in-Some.ensures.place.0 ∙ ap (λ (p : Entries). place_of p.vars c.args.var.0) (sym c.self.view_is) in
     let known : place_of keys c.args.var.0 < length keys
-    = known_room keys c.self.inside.cells.items c.args.var.0 c.args.thread.0 c.args.kind c.self.invariant.same
-    (subst (λ (p : Entries). room_at p c.args.thread.0 c.args.var.0 c.args.kind
-    ≡ true) (sym c.self.view_is) c.requires.room) in
+    = ltb-true _ _ (subst (λ (p : Entries). room_at p c.args.var.0 ≡ true) (sym c.self.view_is)
+    c.requires.room) in
     ap (λ (xs : List Cell). cell_at xs (place_of keys v)) w ∙ e
     ∙ ap (λ b. marked_as b c.args.kind (cell_at c.deref_mut.result.now (place_of keys v)))
     (ap (nat_eq (place_of keys v)) at ∙ same_place keys c.args.var.0 v known)

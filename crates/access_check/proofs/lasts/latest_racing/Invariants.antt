@@ -1,0 +1,7 @@
+use Rattle.std.proofs.Common.{◌≡◌, take}
+use Rattle.hb_clocks.specs.Counts.{counts_of}
+use Rattle.access_check.specs.Lasts.{latest}
+use Rattle.access_check.proofs.lasts.latest_racing.Given as goal
+
+abbrev pub invariant-loop-last : goal.invariant-loop-last
+invariant-loop-last l = l.found ≡ latest l.thread (counts_of l.clock) (take l.last-index l.lasts)

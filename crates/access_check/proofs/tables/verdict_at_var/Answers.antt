@@ -1,0 +1,27 @@
+use Rattle.std.proofs.Common.{◌≡◌, ℕ, ◌<◌, List, length, get_or, sym, subst, ◌∙◌}
+use Rattle.std.proofs.lemmas.List.{get_or_default}
+use Rattle.event_core.specs.declared.events.AccessKind.{AccessKind}
+use Rattle.event_core.specs.declared.events.AccessKind.TheVariants.{Read, Write}
+use Rattle.access_check.specs.declared.touches.Touches.{Touches}
+use Rattle.access_check.specs.Lasts.{AreNarrow}
+use Rattle.access_check.specs.Touched.{no_touches, kept}
+use Rattle.access_check.specs.Tables.{touches_at}
+use Rattle.access_check.proofs.tables.verdict_at_var.Goals as goal
+
+-- the touches that are read are those of the variable
+narrow_at : (vars : List Touches) (x width : ℕ) (ts d : Touches) → ts ≡ get_or vars x d → x < length vars
+    → ((y : ℕ) (k : AccessKind) → AreNarrow width (kept k (touches_at vars y))) → (k : AccessKind)
+    → AreNarrow width (kept k ts)
+narrow_at vars x width ts d is lt narrow k =
+    subst (λ (s : Touches). AreNarrow width (kept k s))
+    (sym (is ∙ get_or_default vars x d no_touches lt)) (narrow x k)
+
+pub latest_racing-requires-clause-loads : goal.latest_racing-requires-clause-loads
+latest_racing-requires-clause-loads c =
+    narrow_at c.args.vars.now c.args.var (length c.args.clock.now) c.index-vars-var.result _
+    c.index-vars-var.is c.if-vars-var.false c.requires Read
+
+pub latest_racing-requires-clause-stores : goal.latest_racing-requires-clause-stores
+latest_racing-requires-clause-stores c =
+    narrow_at c.args.vars.now c.args.var (length c.args.clock.now) c.index-vars-var.result _
+    c.index-vars-var.is c.if-vars-var.false c.requires Write

@@ -1,0 +1,149 @@
+//! Work on the tables: of each thread how many events it has, and of each variable who touched it last.
+ghost use Rattle.std.specs.Prelude.{◌≡◌, ℕ, ◌+◌, ◌<◌, ◌≤◌, ◌^◌, length, OnOk, cond, nat_eq, max};
+ghost use Rattle.event_core.specs.declared.ids.ThreadId.{ThreadId as Thread};
+ghost use Rattle.event_core.specs.declared.events.AccessKind.{AccessKind as Kind};
+ghost use Rattle.event_core.specs.declared.events.Op.{Op as Operation};
+ghost use Rattle.hb_clocks.specs.Counts.{counts_of};
+ghost use Rattle.access_check.specs.Lasts.{AreNarrow};
+ghost use Rattle.access_check.specs.Touched.{kept, latest_racing, kept_after};
+ghost use Rattle.access_check.specs.Tables.{count_at, touches_at, touched_after, verdict_at, RoomAt, RoomFor};
+
+use crate::lasts::{Access, Last};
+use crate::touches::Touches;
+use event_core::{AccessKind, Event, Op, OutOfMemory, ThreadId, Verdict};
+use hb_clocks::Clock;
+use std::alloc::Global;
+
+/// So many threads have a count.
+pub(crate) fn grow_counts(counts: &mut Vec<u64>, threads: usize) -> Result<(), OutOfMemory>
+    ensures same { (u : ℕ) → count_at counts.new.items u ≡ count_at counts.old.items u }
+    ensures more { length counts.old.items ≤ length counts.new.items }
+    ensures most { length counts.new.items ≤ max (length counts.old.items) threads }
+    ensures ok { OnOk result (threads ≤ length counts.new.items) }
+{
+    'growing: while counts.len() < threads {
+        if counts.push(0).is_err() {
+            return Err(OutOfMemory);
+        }
+    }
+    Ok(())
+}
+
+// So many variables have a table.
+fn grow_vars(vars: &mut Vec<Touches>, alloc: Global, count: usize) -> Result<(), OutOfMemory>
+    ensures same { (x : ℕ) → touches_at vars.new.items x ≡ touches_at vars.old.items x }
+    ensures more { length vars.old.items ≤ length vars.new.items }
+    ensures ok { OnOk result (count ≤ length vars.new.items) }
+{
+    'growing: while vars.len() < count {
+        if vars.push(Touches::new(alloc)).is_err() {
+            return Err(OutOfMemory);
+        }
+    }
+    Ok(())
+}
+
+// The variable's table has room for an access of that kind by the thread.
+fn make_room_at(
+    vars: &mut [Touches],
+    var: usize,
+    thread: ThreadId,
+    kind: AccessKind,
+) -> Result<(), OutOfMemory>
+    requires { var < length vars.old }
+    ensures same { (x : ℕ) (k : Kind) → kept k (touches_at vars.new x) ≡ kept k (touches_at vars.old x) }
+    ensures more { (t : Thread) (x : ℕ) (k : Kind) → RoomAt vars.old t x k → RoomAt vars.new t x k }
+    ensures room { OnOk result (RoomAt vars.new thread var kind) }
+{
+    let touches = &mut vars[var];
+    touches.make_room(thread, kind)
+}
+
+/// The variable has a table, with room for an access of that kind by the thread.
+pub(crate) fn grow_at(
+    vars: &mut Vec<Touches>,
+    alloc: Global,
+    var: usize,
+    thread: ThreadId,
+    kind: AccessKind,
+) -> Result<(), OutOfMemory>
+    requires { var < 2 ^ 32 }
+    ensures same { (x : ℕ) (k : Kind)
+        → kept k (touches_at vars.new.items x) ≡ kept k (touches_at vars.old.items x) }
+    ensures more { (t : Thread) (x : ℕ) (k : Kind) → RoomAt vars.old.items t x k
+        → RoomAt vars.new.items t x k }
+    ensures room { OnOk result (RoomAt vars.new.items thread var kind) }
+{
+    grow_vars(vars, alloc, var + 1)?;
+    make_room_at(vars, var, thread, kind)
+}
+
+// An access, on which there was that verdict, is noted at its variable.
+fn note_at(vars: &mut [Touches], var: usize, kind: AccessKind, last: Last, verdict: Verdict)
+    requires { RoomAt vars.old last.thread var kind }
+    ensures room { (x : ℕ) (k : Kind) → RoomAt vars.old last.thread x k → RoomAt vars.new last.thread x k }
+    ensures touches { (x : ℕ) (k : Kind) → kept k (touches_at vars.new x)
+        ≡ cond (nat_eq x var) (kept_after verdict kind last k (touches_at vars.old x))
+        (kept k (touches_at vars.old x)) }
+{
+    let touches = &mut vars[var];
+    touches.note(kind, last, verdict);
+}
+
+/// The verdict on the thread's access of that kind.
+pub(crate) fn verdict_at_var(
+    vars: &[Touches],
+    var: usize,
+    thread: ThreadId,
+    kind: AccessKind,
+    clock: &Clock,
+) -> Verdict
+    requires { (x : ℕ) (k : Kind) → AreNarrow (length clock.now) (kept k (touches_at vars.now x)) }
+    ensures { result
+        ≡ verdict_at (latest_racing thread kind (counts_of clock.now) (touches_at vars.now var)) }
+{
+    if vars.len() <= var {
+        return Verdict::Clear;
+    }
+    let touches = &vars[var];
+    match touches.latest_racing(thread, kind, clock) {
+        Some(index) => Verdict::Racy(index),
+        None => Verdict::Clear,
+    }
+}
+
+/// One more event of the thread: its position.
+pub(crate) fn count_event(counts: &mut [u64], thread: usize) -> u64
+    requires within { thread < length counts.old }
+    requires few { count_at counts.old thread + 1 < 2 ^ 64 }
+    ensures position { result ≡ count_at counts.old thread + 1 }
+    ensures counts { (u : ℕ) → count_at counts.new u
+        ≡ cond (nat_eq u thread) (count_at counts.old u + 1) (count_at counts.old u) }
+{
+    let count = &mut counts[thread];
+    *count += 1;
+    *count
+}
+
+/// The event, on which there was that verdict, is noted where it is an access.
+#[tactic(auto, using(crate::proofs::Room::room_for))]
+pub(crate) fn note_access(vars: &mut [Touches], event: &Event, access: Access, verdict: Verdict)
+    requires { RoomFor vars.old event.now.thread event.now.op }
+    ensures touches { (x : ℕ) (k : Kind) → kept k (touches_at vars.new x)
+        ≡ touched_after verdict event.now.thread event.now.op access x k (touches_at vars.old x) }
+    ensures narrow { (width : ℕ) → event.now.thread.0 < width
+        → ((x : ℕ) (k : Kind) → AreNarrow width (kept k (touches_at vars.old x)))
+        → (x : ℕ) (k : Kind) → AreNarrow width (kept k (touches_at vars.new x)) }
+    ensures kept { (o : Operation) → RoomFor vars.old event.now.thread o
+        → RoomFor vars.new event.now.thread o }
+{
+    let last = Last {
+        thread: event.thread,
+        access,
+    };
+    match event.op {
+        Op::Load(var) => note_at(vars, var.0 as usize, AccessKind::Read, last, verdict),
+        Op::Store(var) => note_at(vars, var.0 as usize, AccessKind::Write, last, verdict),
+        _ => {}
+    }
+}

@@ -1,0 +1,144 @@
+//! The same calls by `step` and by `run`.
+//!
+//! What is refused memory once is made once more, but for releases: they take none.
+use crate::calls::{acquire, fork, load, release, store};
+use crate::generator::Generator;
+use event_core::{Call, Limits, Op, OutOfMemory, Outcome, Refusal, Reply, Roots, Verdict};
+use seq_monitor::Monitor;
+use std::alloc::Global;
+use std::process::Abort;
+use std::test::Fail;
+
+const L: u32 = 0;
+
+const M: u32 = 1;
+
+const X: u32 = 0;
+
+const Z: u32 = 1;
+
+const CLEAR: Verdict = Verdict::Clear;
+
+/// The outcome of a call whose event has this index and this verdict. Its value is 0.
+pub fn accepted(index: u64, verdict: Verdict) -> Outcome {
+    Outcome::Accepted(Reply {
+        index,
+        value: 0,
+        verdict,
+    })
+}
+
+fn step(monitor: &mut Monitor, call: Call) -> Outcome {
+    let answer = match (call.op, monitor.step(call)) {
+        (Op::Release(_), answer) => answer,
+        (_, Err(Refusal::OutOfMemory)) => monitor.step(call),
+        (_, answer) => answer,
+    };
+    match answer {
+        Ok(reply) => Outcome::Accepted(reply),
+        Err(refusal) => Outcome::Refused(refusal),
+    }
+}
+
+// Begins again where it stopped.
+fn run(monitor: &mut Monitor, calls: &[Call], outcomes: &mut Vec<Outcome>) {
+    for _ in 0..2 {
+        let done = outcomes.len();
+        if done < calls.len() {
+            let _stopped = monitor.run(&calls[done..], outcomes);
+        }
+    }
+}
+
+fn monitor(alloc: Global, limits: &Limits) -> Result<Monitor, OutOfMemory> {
+    match Monitor::new(alloc, limits) {
+        Ok(monitor) => Ok(monitor),
+        Err(OutOfMemory) => Monitor::new(alloc, limits),
+    }
+}
+
+/// The outcomes of the calls by `run`, which are those by `step`.
+pub fn outcomes(
+    rt: &impl Abort,
+    alloc: Global,
+    limits: &Limits,
+    calls: &[Call],
+) -> Result<Vec<Outcome>, Fail> {
+    let mut stepped = monitor(alloc, limits)?;
+    let mut ran = monitor(alloc, limits)?;
+    let mut outcomes = Vec::new(alloc);
+    run(&mut ran, calls, &mut outcomes);
+    assert_eq!(rt; outcomes.len(), calls.len());
+    for (call, outcome) in calls.iter().zip(&outcomes) {
+        assert_eq!(rt; step(&mut stepped, *call), *outcome, "{call:?}");
+    }
+    assert!(rt; stepped.verdicts() == ran.verdicts());
+    Ok(outcomes)
+}
+
+#[test]
+fn a_slot_is_kept_for_the_release(rt: HostRuntime) -> Result<(), Fail> {
+    let limits = Limits::new(1, 1, 1, 3, Roots::OnlyMain)?;
+    let calls = [
+        load(0, X),
+        acquire(0, L),
+        load(0, X),
+        release(0, L),
+        load(0, X),
+        release(0, L),
+    ];
+    let expected = [
+        accepted(0, CLEAR),
+        accepted(1, CLEAR),
+        Outcome::Refused(Refusal::LogFull),
+        accepted(2, CLEAR),
+        Outcome::Refused(Refusal::LogFull),
+        Outcome::Refused(Refusal::NotHolder),
+    ];
+    assert!(rt; outcomes(&rt, rt.alloc(), &limits, &calls)?.as_slice() == expected.as_slice());
+    Ok(())
+}
+
+#[test]
+fn random_calls_have_the_same_outcomes(rt: HostRuntime) -> Result<(), Fail> {
+    let limits = Limits::new(3, 2, 2, 64, Roots::Free)?;
+    let mut generator = Generator::new(2017);
+    for _ in 0..100 {
+        let calls = generator.calls(rt.alloc(), 512)?;
+        outcomes(&rt, rt.alloc(), &limits, &calls)?;
+    }
+    Ok(())
+}
+
+// Each release is ready and is taken, whatever growth was refused before it or would be.
+#[test]
+fn a_release_takes_no_memory(rt: HostRuntime) -> Result<(), Fail> {
+    let limits = Limits::new(2, 2, 2, 64, Roots::OnlyMain)?;
+    let mut monitor = monitor(rt.alloc(), &limits)?;
+    let calls = [
+        fork(0, 1),
+        acquire(0, L),
+        acquire(0, M),
+        store(0, X),
+        release(0, M),
+        store(0, Z),
+        release(0, L),
+        acquire(1, M),
+        load(1, X),
+        release(1, M),
+        acquire(1, L),
+        release(1, L),
+        load(1, Z),
+    ];
+    for (index, call) in calls.iter().enumerate() {
+        if let Op::Release(_) = call.op {
+            assert!(rt; monitor.ready(call), "call {index}");
+        }
+        assert_eq!(rt;
+            step(&mut monitor, *call),
+            accepted(index as u64, CLEAR),
+            "call {index}"
+        );
+    }
+    Ok(())
+}

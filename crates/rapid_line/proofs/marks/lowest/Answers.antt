@@ -1,0 +1,11 @@
+use Rattle.std.proofs.Common.{arith, w64}
+use Rattle.std.proofs.lemmas.Nat.Bits.{bit_at-trailing_zeros}
+use Rattle.rapid_line.proofs.marks.lowest.Goals as goal
+
+pub returns-clause-set : goal.returns-clause-set
+returns-clause-set c lt =
+    (bit_at-trailing_zeros w64 c.args.bits (omega (arith, c.if-bits-eq0)) c.ranges.bits.fits).1
+
+pub returns-clause-below : goal.returns-clause-below
+returns-clause-below c k lt =
+    (bit_at-trailing_zeros w64 c.args.bits (omega (arith, c.if-bits-eq0)) c.ranges.bits.fits).2 k lt

@@ -1,0 +1,26 @@
+//! Tests of the reports and of the program: a trace goes in, and what is written and answered comes out.
+//!
+//! The crate has tests alone, and they see no more of `trace_report` and `wcp_tool` than any caller does.
+//! They stand here and not in the crates themselves since a crate is proved once more with its tests.
+#![tactic(auto)]
+
+#[cfg(test)]
+mod command_lines;
+#[cfg(test)]
+mod copies;
+#[cfg(test)]
+mod doubles;
+#[cfg(test)]
+mod memory;
+#[cfg(test)]
+mod pieces;
+#[cfg(test)]
+mod readers;
+#[cfg(test)]
+mod traces;
+#[cfg(test)]
+mod words;
+#[cfg(test)]
+mod worked_cases;
+#[cfg(test)]
+mod writers;

@@ -1,0 +1,24 @@
+//! The words of refusals.
+use event_core::{Refusal, ThreadId};
+use trace_report::refusal_word;
+
+static WORDS: [(Refusal, &str); 11] = [
+    (Refusal::ThreadRange, "ThreadRange"),
+    (Refusal::NotStarted, "NotStarted"),
+    (Refusal::Ended, "Ended"),
+    (Refusal::TargetRange, "TargetRange"),
+    (Refusal::Held { by: ThreadId(3) }, "Held"),
+    (Refusal::NotHolder, "NotHolder"),
+    (Refusal::SelfTarget, "SelfTarget"),
+    (Refusal::AlreadyStarted, "AlreadyStarted"),
+    (Refusal::TargetNotStarted, "TargetNotStarted"),
+    (Refusal::LogFull, "LogFull"),
+    (Refusal::OutOfMemory, "OutOfMemory"),
+];
+
+#[test]
+fn names_each_refusal(rt: HostRuntime) {
+    for (refusal, word) in &WORDS {
+        assert_eq!(rt; refusal_word(*refusal), *word);
+    }
+}

@@ -1,0 +1,328 @@
+-- All clocks stay whole at an event.
+use Rattle.std.proofs.Common.{◌≡◌, ℕ, ◌+◌, ◌<◌, ◌≤◌, max, Bool, true, false, not, ◌&&◌, nat_eq, cond}
+use Rattle.std.proofs.Common.{List, [], ◌∷◌, ◌++◌, refl, sym, ap, subst, arith, inl, inr, ◌⊎◌}
+use Rattle.std.proofs.lemmas.Bool.{cases_eq, cases_lt, eq-eqb, ne_eqb, eqb-true}
+use Rattle.event_core.specs.declared.ids.ThreadId.{ThreadId}
+use Rattle.event_core.specs.declared.ids.LockId.{LockId}
+use Rattle.event_core.specs.declared.ids.VarId.{VarId}
+use Rattle.event_core.specs.declared.events.AccessKind.{AccessKind}
+use Rattle.event_core.specs.declared.events.AccessKind.TheVariants.{Read, Write}
+use Rattle.event_core.specs.declared.events.Event.{Event}
+use Rattle.event_core.specs.Closed.{Closed, Has, first, later, is_counted, below_closed}
+use Rattle.event_core.specs.Rows.{Rows, no_clock, join, with_row, to_child, to_lock, brought}
+use Rattle.event_core.specs.Turn.{Turn, Accesses, Opens, Closes, Forks, Joins, Inner}
+use Rattle.event_core.proofs.Members.{has_split}
+use Rattle.hb_clocks.specs.State.{clock_after}
+use Rattle.wcp_laws.specs.State.{State}
+use Rattle.wcp_laws.specs.Step.{turn, after, hb_row, sources, join_all, extra, others_after, closed_after}
+use Rattle.wcp_clocks.specs.Whole.{Clocks, Threads, IsWhole, IsWholeWithin, AreWhole, own_of, by_after}
+use Rattle.wcp_clocks.proofs.Rows.{own_row}
+
+-- the join of two whole clocks
+pub whole_join : (others : Clocks) (by : Threads) (f g : ℕ → ℕ) → IsWhole others by f → IsWhole others by g
+    → IsWhole others by (join f g)
+whole_join others by f g a b l x k t u h =
+    go (cases_lt (f (by l x k t)) (others l x k t (by l x k t)))
+  where
+    go : (f (by l x k t) < others l x k t (by l x k t)) ⊎ (others l x k t (by l x k t) ≤ f (by l x k t))
+        → others l x k t u ≤ max (f u) (g u)
+    go (inr le) = let c = a l x k t u le in omega arith
+    go (inl lt) = let c = b l x k t u (omega arith) in omega arith
+
+within_join : (own : ℕ → ℕ) (others : Clocks) (by : Threads) (f g : ℕ → ℕ) → IsWholeWithin own others by f
+    → IsWholeWithin own others by g → IsWholeWithin own others by (join f g)
+within_join own others by f g a b = record {
+  within = λ u. (let p = a.within u in let q = b.within u in omega arith);
+  whole = whole_join others by f g a.whole b.whole;
+}
+
+-- where there are no releases
+pub none_whole : (s : State) (by : Threads)
+    → ((l x : ℕ) (k : AccessKind) (t u : ℕ) → s.others l x k t u ≡ 0)
+    → ((t u : ℕ) → s.strict.thread t u ≡ 0) → ((l u : ℕ) → s.strict.lock l u ≡ 0)
+    → ((t u : ℕ) → s.hb.thread t u ≡ 0) → ((l u : ℕ) → s.hb.lock l u ≡ 0)
+    → ((l : ℕ) → s.closed l ≡ []) → AreWhole s by
+none_whole s by others strict strict_lock hb hb_lock closed = record {
+  none = it no_clock (λ u. refl);
+  strict = λ t. it (s.strict.thread t) (strict t);
+  strict_lock = λ l. it (s.strict.lock l) (strict_lock l);
+  hb = λ t. it (s.hb.thread t) (hb t);
+  hb_lock = λ l. it (s.hb.lock l) (hb_lock l);
+  others = λ l x k t. it (s.others l x k t) (others l x k t);
+  closed = λ l q h. elim (subst (Has q) (closed l) h) [ ];
+}
+  where
+    it : (f : ℕ → ℕ) → ((u : ℕ) → f u ≡ 0) → IsWholeWithin (own_of s) s.others by f
+    it f z = record {
+      within = λ u. (let e = z u in omega arith);
+      whole = λ l x k t u h. (let e = others l x k t u in omega arith);
+    }
+
+-- an event of the thread, where it is turn k
+module _ (s : State) (by : Threads) (t : ThreadId) (k : Turn) (w : AreWhole s by)
+    (above : (m : LockId) → k ≡ Closes m → (x : ℕ) (j : AccessKind) (v u : ℕ)
+    → s.others m.0 x j v u ≤ clock_after t k s.hb u)
+    (grows : (u : ℕ) → s.hb.thread u u
+    ≤ to_child k (clock_after t k s.hb) (with_row t.0 (clock_after t k s.hb) s.hb.thread) u u) where
+  -- what is at or below the event, but for itself
+  abbrev met : ℕ → ℕ
+  met = join (s.hb.thread t.0) (brought k s.hb)
+
+  abbrev g : ℕ → ℕ
+  g = clock_after t k s.hb
+
+  abbrev c : ℕ → ℕ
+  c = join (s.strict.thread t.0) (extra t k s)
+
+  abbrev own : ℕ → ℕ
+  own u = to_child k g (with_row t.0 g s.hb.thread) u u
+
+  abbrev It : (ℕ → ℕ) → Type 0
+  It f = IsWholeWithin (own_of s) s.others by f
+
+  abbrev Next : (ℕ → ℕ) → Type 0
+  Next f = IsWholeWithin own (others_after t.0 k g s) (by_after t.0 k s by) f
+
+  both : (f h : ℕ → ℕ) → It f → It h → It (join f h)
+  both f h a b = within_join (own_of s) s.others by f h a b
+
+  next_both : (f h : ℕ → ℕ) → Next f → Next h → Next (join f h)
+  next_both f h a b = within_join own (others_after t.0 k g s) (by_after t.0 k s by) f h a b
+
+  -- the event is its thread's next
+  one_more : g t.0 ≡ met t.0 + 1
+  one_more = ap (λ b. cond b (met t.0 + 1) (met t.0)) (eq-eqb t.0 t.0 refl)
+
+  unlike : (u : ℕ) → (u ≡ t.0 → ⊥) → g u ≡ met u
+  unlike u n = ap (λ b. cond b (met u + 1) (met u)) (ne_eqb u t.0 n)
+
+  met_below : (u : ℕ) → met u ≤ g u
+  met_below u = go (cases_eq u t.0)
+    where
+      go : (u ≡ t.0) ⊎ (u ≡ t.0 → ⊥) → met u ≤ g u
+      go (inl e) = subst (λ v. met v ≤ g v) (sym e) (let m = one_more in omega arith)
+      go (inr n) = let m = unlike u n in omega arith
+
+  -- no clock counts the event yet
+  unseen : (f : ℕ → ℕ) → It f → f t.0 < g t.0
+  unseen f a = let p = a.within t.0 in let m = one_more in omega arith
+
+  -- so each is whole after it too
+  kept : (f : ℕ → ℕ) → It f → Next f
+  kept f a = record {
+    within = λ u. (let p = a.within u in let q = grows u in omega arith);
+    whole = λ l x j v u h. go k refl l x j v u h;
+  }
+    where
+      closes : (b : Bool) (o : ℕ → ℕ) (n : ℕ) → (o n ≤ f n → (u : ℕ) → o u ≤ f u)
+          → cond b (join o g) o (cond b t.0 n) ≤ f (cond b t.0 n) → (u : ℕ) → cond b (join o g) o u ≤ f u
+      closes true o n was h u = let lt = unseen f a in absurd (omega (arith, h, lt))
+      closes false o n was h u = was h u
+
+      go : (r : Turn) → r ≡ k → IsWhole (others_after t.0 r g s) (by_after t.0 r s by) f
+      go (Closes m) e l x j v u h =
+          closes (nat_eq l m.0 && (not (nat_eq v t.0) && s.noted t.0 l x j)) (s.others l x j v) (by l x j v)
+          (λ h u. a.whole l x j v u h) h u
+      go (Accesses y i) e l x j v u h = a.whole l x j v u h
+      go (Opens m) e l x j v u h = a.whole l x j v u h
+      go (Forks y) e l x j v u h = a.whole l x j v u h
+      go (Joins y) e l x j v u h = a.whole l x j v u h
+      go Inner e l x j v u h = a.whole l x j v u h
+
+  brought_whole : (r : Rows) → ((u : ℕ) → It (r.thread u)) → ((l : ℕ) → It (r.lock l)) → It (brought k r)
+  brought_whole r threads locks = go k
+    where
+      go : (k : Turn) → It (brought k r)
+      go (Joins u) = threads u.0
+      go (Opens l) = locks l.0
+      go (Accesses y i) = w.none
+      go (Closes m) = w.none
+      go (Forks y) = w.none
+      go Inner = w.none
+
+  met_whole : It met
+  met_whole = both (s.hb.thread t.0) (brought k s.hb) (w.hb t.0) (brought_whole s.hb w.hb w.hb_lock)
+
+  -- the event's own clock counts the releases before it
+  old_whole : IsWhole s.others by g
+  old_whole l x j v u h = go (cases_eq (by l x j v) t.0)
+    where
+      from : s.others l x j v (by l x j v) ≤ met (by l x j v) → s.others l x j v u ≤ g u
+      from le = let p = met_whole.whole l x j v u le in let q = met_below u in omega arith
+
+      go : (by l x j v ≡ t.0) ⊎ (by l x j v ≡ t.0 → ⊥) → s.others l x j v u ≤ g u
+      go (inl e) = from (subst (λ n. s.others l x j v n ≤ met n) (sym e)
+          (let p = (w.others l x j v).within t.0 in omega arith))
+      go (inr n) = from (let m = unlike (by l x j v) n in omega arith)
+
+  left_true : (a b : Bool) → (a && b) ≡ true → a ≡ true
+  left_true true b e = refl
+  left_true false b e = e
+
+  new_whole : Next g
+  new_whole = record { within = λ u. within u (cases_eq u t.0); whole = λ l x j v u h. go k refl l x j v u h }
+    where
+      within : (u : ℕ) → (u ≡ t.0) ⊎ (u ≡ t.0 → ⊥) → g u ≤ own u
+      within u (inl e) = subst (λ v. g v ≤ own v) (sym e)
+          (let p = ap (λ (f : ℕ → ℕ). f t.0) (own_row k t.0 g s.hb.thread) in omega arith)
+      within u (inr n) =
+          let m = unlike u n in let p = met_whole.within u in let q = grows u in omega arith
+
+      closes : (b : Bool) (o : ℕ → ℕ) (n : ℕ) → (b ≡ true → (u : ℕ) → o u ≤ g u)
+          → (o n ≤ g n → (u : ℕ) → o u ≤ g u)
+          → cond b (join o g) o (cond b t.0 n) ≤ g (cond b t.0 n) → (u : ℕ) → cond b (join o g) o u ≤ g u
+      closes true o n low was h u = let p = low refl u in omega arith
+      closes false o n low was h u = was h u
+
+      go : (r : Turn) → k ≡ r → IsWhole (others_after t.0 r g s) (by_after t.0 r s by) g
+      go (Closes m) e l x j v u h =
+          closes (nat_eq l m.0 && (not (nat_eq v t.0) && s.noted t.0 l x j)) (s.others l x j v) (by l x j v)
+          (λ on u. subst (λ n. s.others n x j v u ≤ g u) (sym (eqb-true l m.0 (left_true _ _ on)))
+          (above m e x j v u))
+          (λ h u. old_whole l x j v u h) h u
+      go (Accesses y i) e l x j v u h = old_whole l x j v u h
+      go (Opens m) e l x j v u h = old_whole l x j v u h
+      go (Forks y) e l x j v u h = old_whole l x j v u h
+      go (Joins y) e l x j v u h = old_whole l x j v u h
+      go Inner e l x j v u h = old_whole l x j v u h
+
+  -- what the event adds to its thread's strict clock
+  sources_whole : (x : VarId) (j : AccessKind) (l : ℕ) → It (sources s x j t l)
+  sources_whole x Read l = w.others l x.0 Write t.0
+  sources_whole x Write l =
+      both (s.others l x.0 Read t.0) (s.others l x.0 Write t.0) (w.others l x.0 Read t.0)
+      (w.others l x.0 Write t.0)
+
+  all_whole : (x : VarId) (j : AccessKind) (ls : List ℕ) → It (join_all (sources s x j t) ls)
+  all_whole x j [] = w.none
+  all_whole x j (l ∷ ls) =
+      both (sources s x j t l) (join_all (sources s x j t) ls) (sources_whole x j l) (all_whole x j ls)
+
+  closed_whole : (f : ℕ → ℕ) (qs : List Closed) → ((q : Closed) → Has q qs → It q.release)
+      → It (below_closed f qs)
+  closed_whole f [] each = w.none
+  closed_whole f (q ∷ qs) each =
+      both (cond (is_counted f q) q.release no_clock) (below_closed f qs)
+      (one (is_counted f q)) (closed_whole f qs (λ p h. each p (later q qs h)))
+    where
+      one : (b : Bool) → It (cond b q.release no_clock)
+      one true = each q (first q qs refl)
+      one false = w.none
+
+  strict_whole : It c
+  strict_whole = both (s.strict.thread t.0) (extra t k s) (w.strict t.0) (go k)
+    where
+      go : (k : Turn) → It (extra t k s)
+      go (Accesses x j) = all_whole x j (s.held t.0)
+      go (Closes l) = closed_whole (s.strict.thread t.0) (s.closed l.0) (w.closed l.0)
+      go (Opens l) = w.strict_lock l.0
+      go (Joins u) = w.strict u.0
+      go (Forks u) = w.none
+      go Inner = w.none
+
+  -- rows of which one is written
+  written : (f : ℕ → ℕ → ℕ) (h : ℕ → ℕ) (u : ℕ) → ((v : ℕ) → Next (f v)) → Next h → (v : ℕ)
+      → Next (with_row u h f v)
+  written f h u each it v = go (nat_eq v u)
+    where
+      go : (b : Bool) → Next (cond b h (f v))
+      go true = it
+      go false = each v
+
+  to_threads : (f : ℕ → ℕ → ℕ) (h : ℕ → ℕ) → ((v : ℕ) → Next (f v)) → Next h → (v : ℕ)
+      → Next (to_child k h (with_row t.0 h f) v)
+  to_threads f h each it v = go k
+    where
+      own_written : (v : ℕ) → Next (with_row t.0 h f v)
+      own_written = written f h t.0 each it
+
+      go : (r : Turn) → Next (to_child r h (with_row t.0 h f) v)
+      go (Forks u) = written (with_row t.0 h f) h u.0 own_written it v
+      go (Accesses y i) = own_written v
+      go (Opens m) = own_written v
+      go (Closes m) = own_written v
+      go (Joins y) = own_written v
+      go Inner = own_written v
+
+  to_locks : (f : ℕ → ℕ → ℕ) (h : ℕ → ℕ) → ((l : ℕ) → Next (f l)) → Next h → (l : ℕ)
+      → Next (to_lock k h f l)
+  to_locks f h each it l = go k
+    where
+      go : (r : Turn) → Next (to_lock r h f l)
+      go (Closes m) = written f h m.0 each it l
+      go (Forks u) = each l
+      go (Accesses y i) = each l
+      go (Opens m) = each l
+      go (Joins y) = each l
+      go Inner = each l
+
+  next_others : (l x : ℕ) (j : AccessKind) (v : ℕ) → Next (others_after t.0 k g s l x j v)
+  next_others l x j v = go k
+    where
+      old : Next (s.others l x j v)
+      old = kept (s.others l x j v) (w.others l x j v)
+
+      either : (b : Bool) → Next (cond b (join (s.others l x j v) g) (s.others l x j v))
+      either true = next_both (s.others l x j v) g old new_whole
+      either false = old
+
+      go : (r : Turn) → Next (others_after t.0 r g s l x j v)
+      go (Closes m) = either (nat_eq l m.0 && (not (nat_eq v t.0) && s.noted t.0 l x j))
+      go (Forks u) = old
+      go (Accesses y i) = old
+      go (Opens m) = old
+      go (Joins y) = old
+      go Inner = old
+
+  next_closed : (l : ℕ) (q : Closed) → Has q (closed_after t.0 k g s l) → Next q.release
+  next_closed l q = go k
+    where
+      old : (l : ℕ) → Has q (s.closed l) → Next q.release
+      old l h = kept q.release (w.closed l q h)
+
+      go : (r : Turn) → Has q (closed_after t.0 r g s l) → Next q.release
+      go (Closes m) = either (nat_eq l m.0)
+        where
+          new : Closed
+          new = record { thread = t.0; position = s.opened t.0 m.0; release = g }
+
+          split : Has q (s.closed m.0) ⊎ (q ≡ new) → Next q.release
+          split (inl h) = old m.0 h
+          split (inr e) = subst (λ (p : Closed). Next p.release) (sym e) new_whole
+
+          either : (b : Bool) → Has q (cond b (s.closed m.0 ++ new ∷ []) (s.closed l)) → Next q.release
+          either true h = split (has_split q (s.closed m.0) new h)
+          either false h = old l h
+      go (Forks u) = old l
+      go (Accesses y i) = old l
+      go (Opens m) = old l
+      go (Joins y) = old l
+      go Inner = old l
+
+-- after the event all clocks are whole
+pub whole_after : (e : Event) (s : State) (by : Threads) → AreWhole s by
+    → ((m : LockId) → turn e s ≡ Closes m → (x : ℕ) (j : AccessKind) (v u : ℕ)
+    → s.others m.0 x j v u ≤ hb_row e s u)
+    → ((u : ℕ) → own_of s u ≤ own_of (after e s) u)
+    → AreWhole (after e s) (by_after e.thread.0 (turn e s) s by)
+whole_after e s by w above grows = record {
+  none = kept s by t k w above grows no_clock w.none;
+  strict = to_threads s by t k w above grows s.strict.thread (c s by t k w above grows)
+      (λ u. kept s by t k w above grows (s.strict.thread u) (w.strict u))
+      (kept s by t k w above grows (c s by t k w above grows) (strict_whole s by t k w above grows));
+  strict_lock = to_locks s by t k w above grows s.strict.lock (c s by t k w above grows)
+      (λ l. kept s by t k w above grows (s.strict.lock l) (w.strict_lock l))
+      (kept s by t k w above grows (c s by t k w above grows) (strict_whole s by t k w above grows));
+  hb = to_threads s by t k w above grows s.hb.thread (hb_row e s)
+      (λ u. kept s by t k w above grows (s.hb.thread u) (w.hb u)) (new_whole s by t k w above grows);
+  hb_lock = to_locks s by t k w above grows s.hb.lock (hb_row e s)
+      (λ l. kept s by t k w above grows (s.hb.lock l) (w.hb_lock l)) (new_whole s by t k w above grows);
+  others = next_others s by t k w above grows;
+  closed = next_closed s by t k w above grows;
+}
+  where
+    t : ThreadId
+    t = e.thread
+
+    k : Turn
+    k = turn e s

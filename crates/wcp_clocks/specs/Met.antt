@@ -1,0 +1,56 @@
+-- The closed sections that an access meets, by their numbers on a lock, and their clocks.
+use Rattle.std.specs.Prelude.{ℕ, zero, suc, ◌≡◌, ◌<◌, ◌≤◌, List, [], ◌∷◌, length}
+use Rattle.event_core.specs.declared.events.AccessKind.{AccessKind}
+use Rattle.event_core.specs.declared.events.AccessKind.TheVariants.{Read, Write}
+use Rattle.event_core.specs.Closed.{Closed}
+use Rattle.event_core.specs.Rows.{no_clock, join}
+use Rattle.section_sum.specs.Sums.{Sums, others_of}
+use Rattle.lock_queues.specs.Sections.{closed_at}
+use Rattle.wcp_clocks.specs.Whole.{Clocks, Threads, IsWhole}
+
+-- the release clock of the section with the number, and zeros where the number is 0
+abbrev pub release_at : List Closed → ℕ → ℕ → ℕ
+release_at qs zero = no_clock
+release_at qs (suc n) = (closed_at qs n).release
+
+-- its thread
+abbrev pub thread_at : List Closed → ℕ → ℕ
+thread_at qs zero = 0
+thread_at qs (suc n) = (closed_at qs n).thread
+
+-- the clocks of the sections that the summaries name
+abbrev pub met_clocks : Sums → (ℕ → List Closed) → Clocks
+met_clocks s closed l x k t = release_at (closed l) (others_of s l x k t)
+
+-- and their threads
+abbrev pub met_threads : Sums → (ℕ → List Closed) → Threads
+met_threads s closed l x k t = thread_at (closed l) (others_of s l x k t)
+
+-- each number is 0 or that of a closed section on its lock
+abbrev pub AreNumbers : Sums → (ℕ → List Closed) → Type 0
+AreNumbers s closed = (l x : ℕ) (k : AccessKind) (t : ℕ) → others_of s l x k t ≤ length (closed l)
+
+-- where the clock counts a release that the summaries name, it is at or above its clock
+abbrev pub IsWholeIn : Sums → (ℕ → List Closed) → (ℕ → ℕ) → Type 0
+IsWholeIn s closed = IsWhole (met_clocks s closed) (met_threads s closed)
+
+-- as is each of those clocks
+abbrev pub AreWholeIn : Sums → (ℕ → List Closed) → Type 0
+AreWholeIn s closed = (l x : ℕ) (k : AccessKind) (t : ℕ) → IsWholeIn s closed (met_clocks s closed l x k t)
+
+-- the clock of the sections that an access of the kind by the thread meets under the lock: a load meets the
+-- stores, and a store both
+abbrev pub met_under : Clocks → ℕ → AccessKind → ℕ → ℕ → ℕ → ℕ
+met_under others x Read t l = others l x Write t
+met_under others x Write t l = join (others l x Read t) (others l x Write t)
+
+-- the clock f, joined with that of each section in turn
+abbrev pub joined_all : List Closed → (ℕ → ℕ) → List ℕ → ℕ → ℕ
+joined_all qs f [] = f
+joined_all qs f (n ∷ ns) = joined_all qs (join f (release_at qs n)) ns
+
+-- the number is that of a section that an access of the thread to the variable meets
+pub record IsMet (s : Sums) (l x t n : ℕ) : Type 0 where
+  pub some : 0 < n
+  pub kind : AccessKind
+  pub number : n ≡ others_of s l x kind t
