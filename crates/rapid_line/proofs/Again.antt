@@ -22,10 +22,10 @@ use Rattle.std.proofs.lemmas.Bool.{le-ltb, ne_eqb, or_from}
 use Rattle.std.proofs.lemmas.List.{length-append}
 use Rattle.rapid_line.specs.declared.words.Word.{Word}
 use Rattle.rapid_line.specs.declared.words.Word.TheVariants.{Load, Store, Acquire, Release, Fork, Join}
-use Rattle.rapid_line.specs.Cut.{has, Lacks}
+use Rattle.rapid_line.specs.Cut.{has, Lacks, cut}
 use Rattle.rapid_line.specs.Grammar.{Named, IsNamed, IsWellFormed, spelling, operation, content_of}
 use Rattle.rapid_line.specs.Causes.{HasFields}
-use Rattle.rapid_line.specs.Reading.{word_of, fields_of, operation_of, line_of, ok_named}
+use Rattle.rapid_line.specs.Reading.{word_of, fields_of, operation_of, argument_of, line_of, ok_named}
 use Rattle.rapid_line.proofs.Cuts.{Lacks-append, cut_at, before_end_at}
 
 spelling_lacks : (w : Word) → Lacks 40 (spelling w)
@@ -54,6 +54,10 @@ word_again Acquire = refl
 word_again Release = refl
 word_again Fork = refl
 word_again Join = refl
+
+pub operation_ahead : (field : List ℕ) (w : Word) (rest : List ℕ) → cut 40 field ≡ Some (spelling w, rest)
+    → operation_of field ≡ argument_of w rest
+operation_ahead field w rest e = rw e (rw (word_again w) refl)
 
 pub operation_again : (w : Word) (argument : List ℕ)
     → operation_of (operation w argument) ≡ Ok (w, argument)

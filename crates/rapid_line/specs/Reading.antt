@@ -75,6 +75,10 @@ operation_of field =
     or_fault BadOp (before_end 41 p.1) (λ argument.
     or_fault BadOp (word_of p.0) (λ w. Ok (w, argument))))
 
+-- the word and its argument, of what follows the parenthesis
+abbrev pub argument_of : Word → List ℕ → Result (Word × List ℕ) LineFault
+argument_of w rest = or_fault BadOp (before_end 41 rest) (λ argument. Ok (w, argument))
+
 -- the named event, where its names have the lengths of names
 abbrev pub names_of : List ℕ → List ℕ → Word → List ℕ → Result Named LineFault
 names_of thread location w argument =

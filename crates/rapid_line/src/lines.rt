@@ -1,12 +1,12 @@
 //! A content, read from left to right: its length, a stray CR, the two bars, the operation between them,
 //! and the lengths of the names. So the first cause in the order of the causes is the first that is met.
-ghost use Rattle.std.specs.Prelude.{◌≡◌, ◌≢◌, ◌↔◌, ℕ, List, IfOk, IfErr, Ok, Err};
+ghost use Rattle.std.specs.Prelude.{◌≡◌, ◌≢◌, ◌↔◌, ℕ, List, [], ◌∷◌, IfOk, IfErr, IfSome, Ok, Err, Some};
 ghost use Rattle.rapid_line.specs.declared.words.LineFault.{LineFault};
-ghost use Rattle.rapid_line.specs.Cut.{Lacks};
-ghost use Rattle.rapid_line.specs.Grammar.{Named, IsWellFormed, content_of, IsNamed};
+ghost use Rattle.rapid_line.specs.Cut.{Lacks, cut};
+ghost use Rattle.rapid_line.specs.Grammar.{Named, IsWellFormed, content_of, IsNamed, spelling};
 ghost use Rattle.rapid_line.specs.Causes.{IsFirstCause};
 ghost use Rattle.rapid_line.specs.Reading.{word_of, fields_of, operation_of, line_of, Gives, ok_named};
-ghost use Rattle.rapid_line.specs.Reading.{named_of, names_of, and_then};
+ghost use Rattle.rapid_line.specs.Reading.{named_of, names_of, and_then, argument_of};
 ghost use Rattle.rapid_line.specs.Marks.{IsBarred};
 
 use crate::bytes::{contains, cut_at, strip_last};
@@ -58,20 +58,84 @@ fn fields(bytes: &[u8]) -> Result<(&[u8], &[u8], &[u8]), LineFault>
     Ok((thread, field, location))
 }
 
-/// The word and the argument of the field between the bars.
-fn operation(field: &[u8]) -> Result<(Word, &[u8]), LineFault>
+/// The word of an access that is spelled by one byte.
+fn access_word(byte: u8) -> Option<Word>
+    ensures { IfSome result (λ word. spelling word ≡ byte ∷ []) }
+{
+    match byte {
+        b'r' => Some(Word::Load),
+        b'w' => Some(Word::Store),
+        _ => None,
+    }
+}
+
+/// The word of a lock's operation that is spelled by three bytes.
+fn lock_word(first: u8, second: u8, third: u8) -> Option<Word>
+    ensures { IfSome result (λ word. spelling word ≡ first ∷ second ∷ third ∷ []) }
+{
+    if first == b'a' && second == b'c' && third == b'q' {
+        return Some(Word::Acquire);
+    }
+    if first == b'r' && second == b'e' && third == b'l' {
+        return Some(Word::Release);
+    }
+    None
+}
+
+/// The word of an access or of a lock's operation, where the field begins with it and a parenthesis, and what
+/// follows these.
+#[inline(always)]
+fn common_word(field: &[u8]) -> Option<(Word, &[u8])>
+    ensures { IfSome result (λ r. cut 40 field.now ≡ Some (spelling r.0, r.1.now)) }
+{
+    if field.len() < 4 {
+        return None;
+    }
+    if field[1] == b'(' {
+        let word = access_word(field[0])?;
+        return Some((word, &field[2..]));
+    }
+    if field[3] == b'(' {
+        let word = lock_word(field[0], field[1], field[2])?;
+        return Some((word, &field[4..]));
+    }
+    None
+}
+
+/// The word and its argument, of what follows the parenthesis.
+#[inline(always)]
+fn with_argument(word: Word, rest: &[u8]) -> Result<(Word, &[u8]), LineFault>
+    ensures { Gives (λ o. (o.0, o.1.now)) result (argument_of word rest.now) }
+{
+    let Some(argument) = strip_last(rest, b')') else {
+        return Err(LineFault::BadOp);
+    };
+    Ok((word, argument))
+}
+
+/// The word and the argument of a field.
+#[inline(never)]
+fn any_operation(field: &[u8]) -> Result<(Word, &[u8]), LineFault>
     ensures { Gives (λ o. (o.0, o.1.now)) result (operation_of field.now) }
 {
     let Some((word, rest)) = cut_at(field, b'(') else {
         return Err(LineFault::BadOp);
     };
-    let Some(argument) = strip_last(rest, b')') else {
-        return Err(LineFault::BadOp);
-    };
     let Some(word) = word_at(word) else {
         return Err(LineFault::BadOp);
     };
-    Ok((word, argument))
+    with_argument(word, rest)
+}
+
+/// The word and the argument of the field between the bars. Most are common words.
+#[inline(always)]
+fn operation(field: &[u8]) -> Result<(Word, &[u8]), LineFault>
+    ensures { Gives (λ o. (o.0, o.1.now)) result (operation_of field.now) }
+{
+    if let Some((word, rest)) = common_word(field) {
+        return with_argument(word, rest);
+    }
+    any_operation(field)
 }
 
 /// The three fields, where it is known where the bars stand.
@@ -86,7 +150,7 @@ fn fields_at(bytes: &[u8], first_bar: usize, second_bar: usize) -> (&[u8], &[u8]
 }
 
 /// The named event of three fields.
-#[inline(never)]
+#[inline(always)]
 fn named<'a>(
     thread: &'a [u8],
     field: &'a [u8],

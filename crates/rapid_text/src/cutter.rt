@@ -3,6 +3,9 @@
 //! A line that lies whole in a piece is judged in place. Of a line whose end was not seen at most 1,025 bytes
 //! are kept, and with one more byte the line is too long: a content of at most 1,024 bytes and a CR is
 //! shorter. So memory does not grow with the text but for new names.
+//!
+//! The way of a line that lies whole in a piece is inlined from here to its event, since an answer that is
+//! handed up through memory costs more than the judgement. What is rare stands in functions of its own.
 ghost use Rattle.std.specs.Prelude.{◌≡◌, ℕ, ◌+◌, ◌<◌, ◌≤◌, ◌⊎◌, ◌++◌, [], List, length, drop, IfOk};
 ghost use Rattle.std.specs.Prelude.{IfErr, OnOk, OnErr, Ok, None, Some, IfSome, option_map};
 ghost use Rattle.std.specs.Result.{IsErrOf};
@@ -83,6 +86,7 @@ fn keep(kept: &mut Vec<u8>, bytes: &[u8]) -> Result<(), Cause>
 }
 
 /// What the line comes to that is kept and ends with these bytes.
+#[inline(always)]
 fn whole_line(names: &mut Names, kept: &mut Vec<u8>, line: Line<'_>) -> Result<Option<Event>, Cause>
     requires kept_lf { Lacks 10 kept.old.items }
     requires lf { Lacks 10 line.bytes.now }
@@ -101,6 +105,26 @@ fn whole_line(names: &mut Names, kept: &mut Vec<u8>, line: Line<'_>) -> Result<O
     if kept.is_empty() {
         return line_event(names, line);
     }
+    kept_line(names, kept, line)
+}
+
+/// The same, where its first bytes are kept.
+#[inline(never)]
+fn kept_line(names: &mut Names, kept: &mut Vec<u8>, line: Line<'_>) -> Result<Option<Event>, Cause>
+    requires kept_lf { Lacks 10 kept.old.items }
+    requires lf { Lacks 10 line.bytes.now }
+    requires known { IsKnown line }
+    requires short { length kept.old.items ≤ 1025 }
+    ensures ok { IfOk result (λ e.
+        reading names.old (content (kept.old.items ++ line.entry.bytes.now)) ≡ Ok (e, names.new)) }
+    ensures empty { OnOk result (kept.new.items ≡ []) }
+    ensures fault { IfErr result (λ f.
+        Fails f (reading names.old (content (kept.old.items ++ line.entry.bytes.now)))) }
+    ensures kept_lf { Lacks 10 kept.new.items }
+    ensures short { length kept.new.items ≤ length kept.old.items }
+    ensures grows { TablesGrow names.old names.new }
+    ensures named { IfOk result (λ e. IfSome e (IsOfNames names.new)) }
+{
     keep(kept, line.bytes)?;
     let event = line_event(names, unmarked(kept.as_slice()));
     kept.clear();
@@ -108,6 +132,7 @@ fn whole_line(names: &mut Names, kept: &mut Vec<u8>, line: Line<'_>) -> Result<O
 }
 
 /// The line of the last answer.
+#[inline(always)]
 fn line_told(event: &Option<Event>, now: u64, before: u64) -> u64
     ensures some { IfSome event.now (λ _. result ≡ now) }
     ensures none { event.now ≡ None → result ≡ before }
@@ -166,6 +191,7 @@ impl Cutter {
     }
 
     /// Fails from now on.
+    #[inline(never)]
     fn fail(&mut self, cause: Cause) -> TextFault
         ensures fault { result ≡ record { line = self.old.unfinished; cause = cause } }
         ensures failed { self.new ≡
@@ -182,6 +208,7 @@ impl Cutter {
     }
 
     /// Judges the line that ends with these bytes, and an LF.
+    #[inline(always)]
     fn end_line(&mut self, line: Line<'_>) -> Result<Option<Event>, TextFault>
         requires lf { Lacks 10 line.bytes.now }
         requires known { IsKnown line }
@@ -208,6 +235,7 @@ impl Cutter {
     }
 
     /// Keeps the bytes, in which no line ends.
+    #[inline(never)]
     fn keep_rest(&mut self, bytes: &[u8]) -> Result<(), TextFault>
         requires lf { Lacks 10 bytes.now }
         requires room { self.old.taken + length bytes.now ≤ most }
@@ -231,6 +259,7 @@ impl Cutter {
 
     /// Takes bytes up to the end of the first line with an event, or all of them where no line with an event
     /// ends, and says how many. A piece that would pass the most bytes is answered `Read`.
+    #[inline(always)]
     pub fn push(&mut self, piece: &[u8]) -> Result<(usize, Option<Event>), TextFault>
         // What is still to be judged is the same text, but for the event.
         ensures ok { IfOk result (λ r. Pushes self.old self.new piece.now r.0 r.1) }
@@ -269,6 +298,7 @@ impl Cutter {
     }
 
     /// Judges what is left, as the last line.
+    #[inline(never)]
     pub fn finish(&mut self) -> Result<Option<Event>, TextFault>
         ensures ok { IfOk result (Closes self.old self.new) }
         ensures fault { IfErr result (λ f. ClosesAt self.old f f.cause) }

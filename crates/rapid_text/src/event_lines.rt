@@ -54,6 +54,7 @@ fn number_in_line(names: &mut Names, kind: Kind, name: &[u8]) -> Result<u32, Cau
 }
 
 /// The event of a named event. After an `Err` some of its names may have been numbered.
+#[inline(always)]
 #[tactic(auto, unfolding(crate::specs::Events::named_event))]
 fn number_line(names: &mut Names, line: &NamedLine<'_>) -> Result<Event, Cause>
     requires { IsWellFormed (named_of line.now) }
@@ -100,6 +101,7 @@ fn read_content(line: Line<'_>) -> Result<NamedLine<'_>, LineFault>
 }
 
 /// What a line comes to, which stands without its LF.
+#[inline(always)]
 #[tactic(auto, unfolding(crate::specs::Events::reading))]
 pub fn line_event(names: &mut Names, line: Line<'_>) -> Result<Option<Event>, Cause>
     requires lf { Lacks 10 line.bytes.now }
@@ -109,7 +111,7 @@ pub fn line_event(names: &mut Names, line: Line<'_>) -> Result<Option<Event>, Ca
     ensures grows { TablesGrow names.old names.new }
     ensures named { IfOk result (λ e. IfSome e (IsOfNames names.new)) }
 {
-    if without_cr(line.bytes).is_empty() {
+    if line.bars.is_none() && without_cr(line.bytes).is_empty() {
         return Ok(None);
     }
     let named = match read_content(line) {

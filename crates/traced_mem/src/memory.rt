@@ -121,6 +121,7 @@ impl Memory {
     }
 
     /// Performs the call, and answers its event's value. It takes no memory.
+    #[inline(always)]
     pub fn apply(&mut self, call: &Call) -> u64
         requires allowed { Allows self.old call.now.thread call.now.op }
         requires ready { IsReady self.old call.now.thread call.now.op }
@@ -138,6 +139,7 @@ impl Memory {
         self.perform(call)
     }
 
+    #[inline(always)]
     fn perform(&mut self, call: &Call) -> u64
         requires allowed { Allows self.old call.now.thread call.now.op }
         requires ready { IsReady self.old call.now.thread call.now.op }

@@ -37,7 +37,7 @@ fn accept(memory: &mut Memory, event: &Event) -> Result<(), Refusal>
         arg: 0,
     };
     memory.permit(&call)?;
-    if memory.prepare(&call).is_err() {
+    if !memory.ready(&call) && memory.prepare(&call).is_err() {
         return Err(Refusal::OutOfMemory);
     }
     memory.apply(&call);

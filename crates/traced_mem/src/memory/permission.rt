@@ -24,6 +24,7 @@ use event_core::{Call, Op, Refusal, Roots, ThreadId, VarId};
 
 impl Memory {
     /// Why the call is refused, if it is. It takes no memory.
+    #[inline(always)]
     pub fn permit(&self, call: &Call) -> Result<(), Refusal>
         ensures means { result
             ≡ answer (refusal_at self.now.limits (meaning self.now) call.now.thread call.now.op) }
@@ -50,6 +51,7 @@ impl Memory {
         self.decide_swap(thread, var)
     }
 
+    #[inline(always)]
     #[tactic(auto, unfolding(crate::specs::Refusals::refusal_at))]
     fn decide(&self, thread: ThreadId, op: Op) -> Result<(), Refusal>
         ensures { result ≡ answer (refusal_at self.now.limits (meaning self.now) thread op) }
