@@ -57,8 +57,28 @@ impl Clock {
         ensures greater { counts_of self.new ≡ join (counts_of self.old) (counts_of other.now) }
         ensures work { work.new ≡ record work.old { joins = work.old.joins + 1 } }
     {
+        self.join_counts(other.counts(), work);
+    }
+
+    /// The numbers of the threads in use, from thread 0 on. Beyond them each number is 0.
+    pub fn counts(&self) -> &[u64]
+        ensures counts { counts_of result.now ≡ counts_of self.now }
+        ensures within { length result.now ≤ length self.now }
+    {
+        &self.counts[..self.used]
+    }
+
+    /// Takes the greater number of each thread from a list of numbers, beyond which each is 0. It is one
+    /// join.
+    pub fn join_counts(&mut self, counts: &[u64], work: &mut Work)
+        requires within { length counts.now ≤ length self.old }
+        requires few { work.old.joins < 2 ^ 63 }
+        ensures width { length self.new ≡ length self.old }
+        ensures greater { counts_of self.new ≡ join (counts_of self.old) (counts_of counts.now) }
+        ensures work { work.new ≡ record work.old { joins = work.old.joins + 1 } }
+    {
         work.add_join();
-        self.raise(other);
+        self.raise_counts(counts);
     }
 
     /// Takes the other clock's numbers.
@@ -98,9 +118,18 @@ impl Clock {
         ensures width { length self.new ≡ length self.old }
         ensures greater { counts_of self.new ≡ join (counts_of self.old) (counts_of other.now) }
     {
-        join_counts(&mut self.counts, &other.counts, other.used);
-        if self.used < other.used {
-            self.used = other.used;
+        self.raise_counts(other.counts());
+    }
+
+    // Takes the greater number of each thread from a list of numbers, beyond which each is 0.
+    fn raise_counts(&mut self, counts: &[u64])
+        requires within { length counts.now ≤ length self.old }
+        ensures width { length self.new ≡ length self.old }
+        ensures greater { counts_of self.new ≡ join (counts_of self.old) (counts_of counts.now) }
+    {
+        take_greater(&mut self.counts, counts);
+        if self.used < counts.len() {
+            self.used = counts.len();
         }
     }
 
@@ -117,14 +146,13 @@ impl Clock {
     }
 }
 
-// The greater of the numbers of the threads in use. The write is unconditional: a branch in its
-// place costs five to ten times as much.
-fn join_counts(mine: &mut [u64], theirs: &[u64], used: usize)
-    requires widths { length mine.old ≡ length theirs.now }
-    requires unused { IsUnusedFrom theirs.now used }
+// The greater of both numbers, as far as the others go: beyond, they are 0. The write is unconditional: a
+// branch in its place costs five to ten times as much.
+fn take_greater(mine: &mut [u64], theirs: &[u64])
+    requires within { length theirs.now ≤ length mine.old }
     ensures { counts_of mine.new ≡ join (counts_of mine.old) (counts_of theirs.now) }
 {
-    for u in 0..used {
+    for u in 0..theirs.len() {
         mine[u] = mine[u].max(theirs[u]);
     }
 }

@@ -22,6 +22,19 @@ pub fn join_row(rows: &mut [Clock], at: usize, other: &Clock, work: &mut Work)
     rows[at].join(other, work);
 }
 
+/// The row takes the greater numbers of a list, beyond which each is 0, counted as one join.
+pub fn join_row_counts(rows: &mut [Clock], at: usize, counts: &[u64], work: &mut Work)
+    requires room { at < length rows.old }
+    requires within { length counts.now ≤ widths_of rows.old at }
+    requires few { work.old.joins < 2 ^ 63 }
+    ensures rows { rows_of rows.new
+        ≡ with_row at (join (rows_of rows.old at) (counts_of counts.now)) (rows_of rows.old) }
+    ensures widths { widths_of rows.new ≡ widths_of rows.old }
+    ensures work { work.new ≡ record work.old { joins = work.old.joins + 1 } }
+{
+    rows[at].join_counts(counts, work);
+}
+
 /// The row becomes the clock, uncounted.
 pub fn copy_row(rows: &mut [Clock], at: usize, other: &Clock)
     requires room { at < length rows.old }

@@ -52,17 +52,17 @@ pub has_push : (rooms : List Room) (s : Room) → has_room_in rooms s.thread.0 �
 has_push rooms s none j u = looked_push (λ _. true) false rooms s none u j
 
 -- a room goes
-pub opened_remove : (w n : ℕ) {rooms : List Room} {t i : ℕ} → AreRooms w n rooms → Placed rooms t i
+pub opened_remove : (n : ℕ) {rooms : List Room} {t i : ℕ} → AreRooms n rooms → Placed rooms t i
     → opened_in (remove rooms i) ≡ with_row t 0 (opened_in rooms)
-opened_remove w n {rooms = rooms} {t = t} are p =
+opened_remove n {rooms = rooms} {t = t} are p =
     ap (λ k. opened_in (remove rooms k)) p.at
-    ∙ (λ j u. looked_remove (λ (r : Room). position_of r.opened) 0 w n rooms t are p.has u j)
+    ∙ (λ j u. looked_remove (λ (r : Room). position_of r.opened) 0 n rooms t are p.has u j)
 
-pub has_remove : (w n : ℕ) {rooms : List Room} {t i : ℕ} → AreRooms w n rooms → Placed rooms t i
+pub has_remove : (n : ℕ) {rooms : List Room} {t i : ℕ} → AreRooms n rooms → Placed rooms t i
     → has_room_in (remove rooms i) ≡ with_row t false (has_room_in rooms)
-has_remove w n {rooms = rooms} {t = t} are p =
+has_remove n {rooms = rooms} {t = t} are p =
     ap (λ k. has_room_in (remove rooms k)) p.at
-    ∙ (λ j u. looked_remove (λ _. true) false w n rooms t are p.has u j)
+    ∙ (λ j u. looked_remove (λ _. true) false n rooms t are p.has u j)
 
 -- a further thread has found none
 pub found_push : (found : List ℕ) → slice_index (found ++ 0 ∷ []) ≡ slice_index found

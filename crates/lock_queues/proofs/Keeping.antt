@@ -8,9 +8,10 @@ use Rattle.std.proofs.lemmas.List.{get_or_push, get_or_append_left, length_push}
 use Rattle.std.proofs.lemmas.List.Edits.{length-remove}
 use mathlib.Core.Logic.{inl, inr}
 use Rattle.hb_clocks.specs.Counts.{counts_of}
-use Rattle.lock_queues.specs.declared.search.Section.{Section}
 use Rattle.lock_queues.specs.declared.rooms.Room.{Room}
-use Rattle.lock_queues.specs.Sections.{closed_as, section_at, no_section, AreRising}
+use Rattle.lock_queues.specs.Sections.{Section, closed_as, section_at, no_section, AreRising, Memory}
+use Rattle.lock_queues.specs.Sections.{HasSpare, HasMore}
+use Rattle.lock_queues.proofs.Sparing.{IsLarger, spare_more, spare_left}
 use Rattle.lock_queues.specs.Rooms.{has_room_in, IsRoom, AreRooms}
 use Rattle.lock_queues.specs.Queue.{IsKept}
 use Rattle.lock_queues.specs.Searched.{IsAboveAll}
@@ -19,22 +20,22 @@ use Rattle.lock_queues.proofs.Placing.{Placed, placed_within}
 use Rattle.lock_queues.proofs.Counting.{has_at}
 
 -- a thread with room has its number among those found
-pub thread_within : {w : ℕ} {closed : List Section} {rooms : List Room} {found : List ℕ} {cap : ℕ} (t : ℕ)
-    → IsKept w closed rooms found cap → has_room_in rooms t ≡ true → t < length found
+pub thread_within : {w : ℕ} {closed : List Section} {rooms : List Room} {found : List ℕ} {m : Memory} (t : ℕ)
+    → IsKept w closed rooms found m → has_room_in rooms t ≡ true → t < length found
 thread_within {w = w} {rooms = rooms} {found = found} t kept has =
-    let lt = (room_is w (length found) rooms t kept.own has).within in
+    let lt = (room_is (length found) rooms t kept.own has).within in
     let is = thread_at rooms t has in
     omega arith
 
 -- the thread enters
-pub kept_entered : {w : ℕ} {closed : List Section} {rooms : List Room} {found : List ℕ} {cap t i : ℕ}
+pub kept_entered : {w : ℕ} {closed : List Section} {rooms : List Room} {found : List ℕ} {m : Memory} {t i : ℕ}
     (s : Room)
-    → IsKept w closed rooms found cap → Placed rooms t i → t ≡ s.thread.0 → length s.release ≡ w
-    → IfSome s.opened (λ m. m.thread ≡ s.thread.0) → IsKept w closed (set rooms i s) found cap
-kept_entered {w = w} {rooms = rooms} {found = found} {t = t} {i = i} s kept p own wide marked =
+    → IsKept w closed rooms found m → Placed rooms t i → t ≡ s.thread.0
+    → IfSome s.opened (λ m. m.thread ≡ s.thread.0) → IsKept w closed (set rooms i s) found m
+kept_entered {w = w} {closed = closed} {rooms = rooms} {found = found} {m = m} {t = t} {i = i} s kept p own
+    marked =
     let lt = thread_within t kept p.has in
-    let room : IsRoom w (length found) s = record { within = omega arith; wide = wide; own = marked } in
-    let spare = kept.spare in
+    let room : IsRoom (length found) s = record { within = omega arith; own = marked } in
     let same : length (set rooms i s) ≡ length rooms = length-set rooms i s in
     record {
       threads = kept.threads;
@@ -43,9 +44,9 @@ kept_entered {w = w} {rooms = rooms} {found = found} {t = t} {i = i} s kept p ow
       marked = kept.marked;
       rising = kept.rising;
       own =
-          subst (λ k. AreRooms w (length found) (set rooms k s)) (sym p.at)
-          (rooms_set w (length found) rooms t s own p.has room kept.own);
-      spare = omega arith;
+          subst (λ k. AreRooms (length found) (set rooms k s)) (sym p.at)
+          (rooms_set (length found) rooms t s own p.has room kept.own);
+      spare = subst (λ n. HasSpare closed m n w) (sym same) kept.spare;
     }
 
 -- a section that is closed after the others
@@ -92,34 +93,35 @@ rising_push closed x rising above k m u le lt = go (cases_lt m (length closed)) 
         omega arith
 
 -- the thread leaves
-pub kept_left : {w : ℕ} {closed : List Section} {rooms : List Room} {found : List ℕ} {cap t i : ℕ}
-    (x : Section)
-    → IsKept w closed rooms found cap → Placed rooms t i → length x.release ≡ w → x.acquire.thread < w
-    → IsAboveAll (counts_of x.release) (map closed_as closed)
-    → IsKept w (closed ++ x ∷ []) (remove rooms i) found cap
-kept_left {w = w} {closed = closed} {rooms = rooms} {found = found} {t = t} {i = i} x kept p wide own above =
+pub kept_left : {w : ℕ} {closed : List Section} {rooms : List Room} {found : List ℕ} {m : Memory} {t i : ℕ}
+    (x : Section) (left : Memory)
+    → IsKept w closed rooms found m → Placed rooms t i → length x.release ≤ w → x.acquire.thread < w
+    → IsAboveAll (counts_of x.release) (map closed_as closed) → IsLarger (length x.release) m left
+    → IsKept w (closed ++ x ∷ []) (remove rooms i) found left
+kept_left {w = w} {closed = closed} {rooms = rooms} {found = found} {m = m} {t = t} {i = i} x left kept p wide
+    own above larger =
     let fewer : length (remove rooms i) + 1 ≡ length rooms = length-remove rooms i (placed_within p) in
     let more : length (closed ++ x ∷ []) ≡ length closed + 1 = length_push closed x in
-    let spare = kept.spare in
     record {
       threads = kept.threads;
       within = λ v. (let h = kept.within v in omega arith);
-      wide = each_pushed (λ (s : Section). length s.release ≡ w) closed x kept.wide wide;
+      wide = each_pushed (λ (s : Section). length s.release ≤ w) closed x kept.wide wide;
       marked = each_pushed (λ (s : Section). s.acquire.thread < w) closed x kept.marked own;
       rising = rising_push closed x kept.rising above;
       own =
-          subst (λ k. AreRooms w (length found) (remove rooms k)) (sym p.at)
-          (rooms_remove w (length found) rooms t p.has kept.own);
-      spare = omega arith;
+          subst (λ k. AreRooms (length found) (remove rooms k)) (sym p.at)
+          (rooms_remove (length found) rooms t p.has kept.own);
+      spare = spare_left closed x m left _ _ w kept.spare fewer wide larger;
     }
 
 -- there is more memory
-pub kept_grown : {w : ℕ} {closed same : List Section} {rooms : List Room} {found : List ℕ} {cap : ℕ}
-    (more : List ℕ) (larger : ℕ) → IsKept w closed rooms found cap → same ≡ closed
-    → slice_index more ≡ slice_index found → length found ≤ length more → length more ≤ w → cap ≤ larger
+pub kept_grown : {w : ℕ} {closed same : List Section} {rooms : List Room} {found : List ℕ} {m : Memory}
+    (more : List ℕ) (larger : Memory) → IsKept w closed rooms found m → same ≡ closed
+    → slice_index more ≡ slice_index found → length found ≤ length more → length more ≤ w
+    → HasMore m larger
     → IsKept w same rooms more larger
-kept_grown {w = w} {closed = closed} {rooms = rooms} {found = found} more larger kept is alike longer few le =
-    let spare = kept.spare in
+kept_grown {w = w} {closed = closed} {rooms = rooms} {found = found} {m = m} more larger kept is alike longer
+    few le =
     subst (λ (ss : List Section). IsKept w ss rooms more larger) (sym is) (record {
       threads = few;
       within = λ t. (
@@ -130,15 +132,15 @@ kept_grown {w = w} {closed = closed} {rooms = rooms} {found = found} more larger
       wide = kept.wide;
       marked = kept.marked;
       rising = kept.rising;
-      own = rooms_more w (length found) (length more) rooms longer kept.own;
-      spare = omega arith;
+      own = rooms_more (length found) (length more) rooms longer kept.own;
+      spare = spare_more closed m larger _ w kept.spare le;
     })
 
 -- a room joins
-pub kept_pushed : {w : ℕ} {closed : List Section} {rooms : List Room} {found : List ℕ} {cap : ℕ} (s : Room)
-    → IsKept w closed rooms found cap → has_room_in rooms s.thread.0 ≡ false → IsRoom w (length found) s
-    → length closed + length rooms + 1 ≤ cap → IsKept w closed (rooms ++ s ∷ []) found cap
-kept_pushed {w = w} {rooms = rooms} {found = found} s kept none is le =
+pub kept_pushed : {w : ℕ} {closed : List Section} {rooms : List Room} {found : List ℕ} {m : Memory} (s : Room)
+    → IsKept w closed rooms found m → has_room_in rooms s.thread.0 ≡ false → IsRoom (length found) s
+    → HasSpare closed m (length rooms + 1) w → IsKept w closed (rooms ++ s ∷ []) found m
+kept_pushed {w = w} {closed = closed} {rooms = rooms} {found = found} {m = m} s kept none is spare =
     let more : length (rooms ++ s ∷ []) ≡ length rooms + 1 = length_push rooms s in
     record {
       threads = kept.threads;
@@ -146,6 +148,6 @@ kept_pushed {w = w} {rooms = rooms} {found = found} s kept none is le =
       wide = kept.wide;
       marked = kept.marked;
       rising = kept.rising;
-      own = rooms_push w (length found) rooms s none is kept.own;
-      spare = omega arith;
+      own = rooms_push (length found) rooms s none is kept.own;
+      spare = subst (λ n. HasSpare closed m n w) (sym more) spare;
     }

@@ -1,5 +1,7 @@
 pub mod Placing
 pub mod Lookup
+pub mod Packing
+pub mod Sparing
 pub mod Counting
 pub mod Latest
 pub mod Keeping

@@ -85,12 +85,12 @@ thread_at [] t has = absurd (cc)
 thread_at (r ∷ rs) t has =
     by_place (λ rooms k. t ≡ (room_at rooms k).thread.0) r rs t has (λ same. same) (λ _ h. thread_at rs t h)
 
-pub room_is : (w n : ℕ) (rooms : List Room) (t : ℕ) → AreRooms w n rooms → has_room_in rooms t ≡ true
-    → IsRoom w n (room_at rooms (place_in rooms t))
-room_is w n [] t are has = absurd (cc)
-room_is w n (r ∷ rs) t are has =
-    by_place (λ rooms k. IsRoom w n (room_at rooms k)) r rs t has (λ _. are.0)
-    (λ _ h. room_is w n rs t are.2 h)
+pub room_is : (n : ℕ) (rooms : List Room) (t : ℕ) → AreRooms n rooms → has_room_in rooms t ≡ true
+    → IsRoom n (room_at rooms (place_in rooms t))
+room_is n [] t are has = absurd (cc)
+room_is n (r ∷ rs) t are has =
+    by_place (λ rooms k. IsRoom n (room_at rooms k)) r rs t has (λ _. are.0)
+    (λ _ h. room_is n rs t are.2 h)
 
 pub looked_up : {A : Type 0} (f : Room → A) (d : A) (rooms : List Room) (t : ℕ) → has_room_in rooms t ≡ true
     → at_room f d rooms t ≡ f (room_at rooms (place_in rooms t))
@@ -154,15 +154,15 @@ looked_push f d (r ∷ rs) s none u =
     (looked_push f d rs s (not_rest r rs s.thread.0 none) u)
 
 -- a room goes
-pub looked_remove : {A : Type 0} (f : Room → A) (d : A) (w n : ℕ) (rooms : List Room) (t : ℕ)
-    → AreRooms w n rooms → has_room_in rooms t ≡ true → (u : ℕ)
+pub looked_remove : {A : Type 0} (f : Room → A) (d : A) (n : ℕ) (rooms : List Room) (t : ℕ)
+    → AreRooms n rooms → has_room_in rooms t ≡ true → (u : ℕ)
     → at_room f d (remove rooms (place_in rooms t)) u ≡ with_row t d (at_room f d rooms) u
-looked_remove f d w n [] t are has u = absurd (cc)
-looked_remove f d w n (r ∷ rs) t are has u =
+looked_remove f d n [] t are has u = absurd (cc)
+looked_remove f d n (r ∷ rs) t are has u =
     by_place (λ rooms k. at_room f d (remove rooms k) u ≡ with_row t d (at_room f d rooms) u) r rs t has
     (λ same. head same (cases_eq u t))
     (λ other h. behind f d d r rs (remove rs (place_in rs t)) t u other
-    (looked_remove f d w n rs t are.2 h u))
+    (looked_remove f d n rs t are.2 h u))
   where
     head : t ≡ r.thread.0 → Whether u t → at_room f d rs u ≡ with_row t d (at_room f d (r ∷ rs)) u
     head same (inl is) =
@@ -172,22 +172,22 @@ looked_remove f d w n (r ∷ rs) t are has u =
         sym (there f d r rs u (λ q. away (q ∙ sym same))) ∙ sym (row_other t d (at_room f d (r ∷ rs)) u away)
 
 -- what is kept of rooms stays so
-room_more : (w n m : ℕ) (r : Room) → n ≤ m → IsRoom w n r → IsRoom w m r
-room_more w n m r le is =
-    record { within = (let h = is.within in omega arith); wide = is.wide; own = is.own }
+room_more : (n m : ℕ) (r : Room) → n ≤ m → IsRoom n r → IsRoom m r
+room_more n m r le is =
+    record { within = (let h = is.within in omega arith); own = is.own }
 
-pub rooms_more : (w n m : ℕ) (rooms : List Room) → n ≤ m → AreRooms w n rooms → AreRooms w m rooms
-rooms_more w n m [] le are = tt
-rooms_more w n m (r ∷ rs) le are = (room_more w n m r le are.0, are.1, rooms_more w n m rs le are.2)
+pub rooms_more : (n m : ℕ) (rooms : List Room) → n ≤ m → AreRooms n rooms → AreRooms m rooms
+rooms_more n m [] le are = tt
+rooms_more n m (r ∷ rs) le are = (room_more n m r le are.0, are.1, rooms_more n m rs le are.2)
 
-pub rooms_set : (w n : ℕ) (rooms : List Room) (t : ℕ) (s : Room) → t ≡ s.thread.0
-    → has_room_in rooms t ≡ true → IsRoom w n s → AreRooms w n rooms
-    → AreRooms w n (set rooms (place_in rooms t) s)
-rooms_set w n [] t s own has is are = absurd (cc)
-rooms_set w n (r ∷ rs) t s own has is are =
-    by_place (λ rooms k. AreRooms w n (set rooms k s)) r rs t has
+pub rooms_set : (n : ℕ) (rooms : List Room) (t : ℕ) (s : Room) → t ≡ s.thread.0
+    → has_room_in rooms t ≡ true → IsRoom n s → AreRooms n rooms
+    → AreRooms n (set rooms (place_in rooms t) s)
+rooms_set n [] t s own has is are = absurd (cc)
+rooms_set n (r ∷ rs) t s own has is are =
+    by_place (λ rooms k. AreRooms n (set rooms k s)) r rs t has
     (λ same. (is, ap (has_room_in rs) (sym own ∙ same) ∙ are.1, are.2))
-    (λ other h. (are.0, none other h, rooms_set w n rs t s own h is are.2))
+    (λ other h. (are.0, none other h, rooms_set n rs t s own h is are.2))
   where
     none : (t ≡ r.thread.0 → ⊥) → has_room_in rs t ≡ true
         → has_room_in (set rs (place_in rs t) s) r.thread.0 ≡ false
@@ -195,26 +195,26 @@ rooms_set w n (r ∷ rs) t s own has is are =
         looked_set (λ _. true) false rs t s own h r.thread.0
         ∙ row_other t true (has_room_in rs) r.thread.0 (λ q. other (sym q)) ∙ are.1
 
-pub rooms_push : (w n : ℕ) (rooms : List Room) (s : Room) → has_room_in rooms s.thread.0 ≡ false
-    → IsRoom w n s → AreRooms w n rooms → AreRooms w n (rooms ++ s ∷ [])
-rooms_push w n [] s none is are = (is, refl, tt)
-rooms_push w n (r ∷ rs) s none is are = (
+pub rooms_push : (n : ℕ) (rooms : List Room) (s : Room) → has_room_in rooms s.thread.0 ≡ false
+    → IsRoom n s → AreRooms n rooms → AreRooms n (rooms ++ s ∷ [])
+rooms_push n [] s none is are = (is, refl, tt)
+rooms_push n (r ∷ rs) s none is are = (
   are.0,
   looked_push (λ _. true) false rs s (not_rest r rs s.thread.0 none) r.thread.0
       ∙ row_other s.thread.0 true (has_room_in rs) r.thread.0 (λ q. not_head r rs s.thread.0 none (sym q))
       ∙ are.1,
-  rooms_push w n rs s (not_rest r rs s.thread.0 none) is are.2,
+  rooms_push n rs s (not_rest r rs s.thread.0 none) is are.2,
 )
 
-pub rooms_remove : (w n : ℕ) (rooms : List Room) (t : ℕ) → has_room_in rooms t ≡ true
-    → AreRooms w n rooms → AreRooms w n (remove rooms (place_in rooms t))
-rooms_remove w n [] t has are = absurd (cc)
-rooms_remove w n (r ∷ rs) t has are =
-    by_place (λ rooms k. AreRooms w n (remove rooms k)) r rs t has (λ _. are.2)
-    (λ other h. (are.0, none other h, rooms_remove w n rs t h are.2))
+pub rooms_remove : (n : ℕ) (rooms : List Room) (t : ℕ) → has_room_in rooms t ≡ true
+    → AreRooms n rooms → AreRooms n (remove rooms (place_in rooms t))
+rooms_remove n [] t has are = absurd (cc)
+rooms_remove n (r ∷ rs) t has are =
+    by_place (λ rooms k. AreRooms n (remove rooms k)) r rs t has (λ _. are.2)
+    (λ other h. (are.0, none other h, rooms_remove n rs t h are.2))
   where
     none : (t ≡ r.thread.0 → ⊥) → has_room_in rs t ≡ true
         → has_room_in (remove rs (place_in rs t)) r.thread.0 ≡ false
     none other h =
-        looked_remove (λ _. true) false w n rs t are.2 h r.thread.0
+        looked_remove (λ _. true) false n rs t are.2 h r.thread.0
         ∙ row_other t false (has_room_in rs) r.thread.0 (λ q. other (sym q)) ∙ are.1

@@ -60,20 +60,19 @@ placed_within {rooms = rooms} {t = t} {i = i} p =
     let lt = place_within rooms t p.has in let at = p.at in omega arith
 
 -- the room is the thread's
-pub record IsOf (w n : ℕ) (rooms : List Room) (t : ℕ) (x : Room) : Type 0 where
+pub record IsOf (n : ℕ) (rooms : List Room) (t : ℕ) (x : Room) : Type 0 where
   pub thread : t ≡ x.thread.0
   pub opened : opened_in rooms t ≡ position_of x.opened
   pub within : t < n
-  pub wide : length x.release ≡ w
   pub own : IfSome x.opened (λ m. m.thread ≡ x.thread.0)
 
 -- as a read at its place gives it
-pub room_read : {w n : ℕ} {rooms : List Room} {t i : ℕ} (x : Room) → AreRooms w n rooms → Placed rooms t i
-    → x ≡ get_or rooms i x → IsOf w n rooms t x
-room_read {w = w} {n = n} {rooms = rooms} {t = t} {i = i} x are p read =
+pub room_read : {n : ℕ} {rooms : List Room} {t i : ℕ} (x : Room) → AreRooms n rooms → Placed rooms t i
+    → x ≡ get_or rooms i x → IsOf n rooms t x
+room_read {n = n} {rooms = rooms} {t = t} {i = i} x are p read =
     let is : room_at rooms (place_in rooms t) ≡ x
     = sym (get_or_read rooms i x (placed_within p) read no_room ∙ ap (room_at rooms) p.at) in
-    let room : IsRoom w n x = subst (IsRoom w n) is (room_is w n rooms t are p.has) in
+    let room : IsRoom n x = subst (IsRoom n) is (room_is n rooms t are p.has) in
     let thread : t ≡ x.thread.0 = thread_at rooms t p.has ∙ ap (λ (r : Room). r.thread.0) is in
     let within = room.within in
     record {
@@ -82,6 +81,5 @@ room_read {w = w} {n = n} {rooms = rooms} {t = t} {i = i} x are p read =
           looked_up (λ (r : Room). position_of r.opened) 0 rooms t p.has
           ∙ ap (λ (r : Room). position_of r.opened) is;
       within = omega arith;
-      wide = room.wide;
       own = room.own;
     }

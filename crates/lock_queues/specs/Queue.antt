@@ -1,8 +1,7 @@
 -- What is kept of one lock.
-use Rattle.std.specs.Prelude.{ℕ, ◌≡◌, ◌+◌, ◌<◌, ◌≤◌, List, [], length, slice_index, slice_index_or}
-use Rattle.lock_queues.specs.Sections.{section_at, AreRising}
+use Rattle.std.specs.Prelude.{ℕ, ◌≡◌, ◌<◌, ◌≤◌, List, [], length, slice_index, slice_index_or}
+use Rattle.lock_queues.specs.Sections.{Section, section_at, AreRising, Memory, HasSpare, no_sections}
 use Rattle.lock_queues.specs.Rooms.{AreRooms, opened_in}
-use Rattle.lock_queues.specs.declared.search.Section.{Section}
 use Rattle.lock_queues.specs.declared.rooms.Room.{Room}
 
 pub record Kept : Type 0 where
@@ -12,19 +11,19 @@ pub record Kept : Type 0 where
   pub rooms : List Room
   -- of each thread, how many of the closed sections it has found counted
   pub found : List ℕ
-  -- how many closed sections there is memory for
-  pub capacity : ℕ
+  -- for the closed sections
+  pub memory : Memory
 
 -- what the fields keep
-pub record IsKept (width : ℕ) (closed : List Section) (rooms : List Room) (found : List ℕ) (cap : ℕ)
-    : Type 0 where
+pub record IsKept (width : ℕ) (closed : List Section) (rooms : List Room) (found : List ℕ)
+    (memory : Memory) : Type 0 where
   pub threads : length found ≤ width
   pub within : (t : ℕ) → slice_index found t ≤ length closed
-  pub wide : (k : ℕ) → k < length closed → length (section_at closed k).release ≡ width
+  pub wide : (k : ℕ) → k < length closed → length (section_at closed k).release ≤ width
   pub marked : (k : ℕ) → k < length closed → (section_at closed k).acquire.thread < width
   pub rising : AreRising closed
-  pub own : AreRooms width (length found) rooms
-  pub spare : length closed + length rooms ≤ cap
+  pub own : AreRooms (length found) rooms
+  pub spare : HasSpare closed memory (length rooms) width
 
 -- there may be other room, and all else is as it was
 pub record SameMeaning (old new : Kept) : Type 0 where
@@ -34,7 +33,7 @@ pub record SameMeaning (old new : Kept) : Type 0 where
   pub found : slice_index new.found ≡ slice_index old.found
 
 abbrev pub no_queue : Kept
-no_queue = record { width = 0; closed = []; rooms = []; found = []; capacity = 0 }
+no_queue = record { width = 0; closed = []; rooms = []; found = []; memory = no_sections.memory }
 
 abbrev pub queue_at : List Kept → ℕ → Kept
 queue_at queues l = slice_index_or queues l no_queue

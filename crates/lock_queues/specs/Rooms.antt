@@ -1,5 +1,5 @@
 -- The rooms that threads have made on one lock. Each thread has one at most.
-use Rattle.std.specs.Prelude.{ℕ, ◌≡◌, ◌<◌, List, [], ◌∷◌, length, cond, nat_eq, suc, Bool, true, false}
+use Rattle.std.specs.Prelude.{ℕ, ◌≡◌, ◌<◌, List, [], ◌∷◌, cond, nat_eq, suc, Bool, true, false}
 use Rattle.std.specs.Prelude.{Option, Some, None, IfSome, slice_index_or}
 use Rattle.hb_clocks.specs.Marks.{Named}
 use Rattle.lock_queues.specs.declared.rooms.Room.{Room}
@@ -27,19 +27,18 @@ place_in [] t = 0
 place_in (r ∷ rs) t = cond (nat_eq t r.thread.0) 0 (suc (place_in rs t))
 
 abbrev pub no_room : Room
-no_room = record { thread = record { 0 = 0 }; opened = None; release = [] }
+no_room = record { thread = record { 0 = 0 }; opened = None }
 
 abbrev pub room_at : List Room → ℕ → Room
 room_at rooms k = slice_index_or rooms k no_room
 
--- the room is of a thread below the number, with a clock of the width
-pub record IsRoom (width threads : ℕ) (r : Room) : Type 0 where
+-- the room is of a thread below the number
+pub record IsRoom (threads : ℕ) (r : Room) : Type 0 where
   pub within : r.thread.0 < threads
-  pub wide : length r.release ≡ width
   pub own : IfSome r.opened (λ m. m.thread ≡ r.thread.0)
 
 -- each is such a room, and no later one is of the same thread
-abbrev pub AreRooms : ℕ → ℕ → List Room → Type 0
-AreRooms width threads [] = Unit {0}
-AreRooms width threads (r ∷ rs) =
-    IsRoom width threads r × (has_room_in rs r.thread.0 ≡ false) × AreRooms width threads rs
+abbrev pub AreRooms : ℕ → List Room → Type 0
+AreRooms threads [] = Unit {0}
+AreRooms threads (r ∷ rs) =
+    IsRoom threads r × (has_room_in rs r.thread.0 ≡ false) × AreRooms threads rs

@@ -6,9 +6,9 @@ mod queue;
 mod queues;
 mod rooms;
 mod search;
+mod sections;
 
-pub use queues::Queues;
-pub use search::ClosedSection;
+pub use queues::{ClosedSection, Queues};
 
 #[cfg(test)]
 mod tests;

@@ -6,7 +6,7 @@
 ghost use Rattle.std.specs.Prelude.{◌≡◌, ◌≤◌, length, max, slice_index, OnOk};
 
 use crate::rooms::{Room, find};
-use crate::search::{ClosedSection, Section, search};
+use crate::sections::Sections;
 use event_core::{OutOfMemory, ThreadId};
 use hb_clocks::{Clock, Mark, Work};
 use std::alloc::Global;
@@ -17,7 +17,7 @@ pub(crate) struct Queue {
     width: usize,
     // In the order of their releases, whose clocks never go down. There is memory for one more of
     // each room.
-    closed: Vec<Section>,
+    closed: Sections,
     rooms: Vec<Room>,
     // By the number of the thread, how many of the first closed sections it has found counted.
     found: Vec<usize>,
@@ -30,13 +30,14 @@ impl Model for Queue {
 
     ghost view = { λ q. record {
       width = q.width;
-      closed = q.closed.items;
+      closed = q.closed.sections;
       rooms = q.rooms.items;
       found = q.found.items;
-      capacity = q.closed.cap;
+      memory = q.closed.memory;
     } };
 
-    ghost invariant = { λ q. IsKept q.width q.closed.items q.rooms.items q.found.items q.closed.cap };
+    ghost invariant = { λ q.
+        IsKept q.width q.closed.sections q.rooms.items q.found.items q.closed.memory };
 }
 
 impl Queue {
@@ -46,7 +47,7 @@ impl Queue {
     ghost use Rattle.event_core.specs.Rows.{with_row};
     ghost use Rattle.hb_clocks.specs.Counts.{counts_of};
     ghost use Rattle.lock_queues.specs.Rooms.{has_room_in, opened_in};
-    ghost use Rattle.lock_queues.specs.Sections.{closed_as, closed_at};
+    ghost use Rattle.lock_queues.specs.Sections.{closed_as, closed_at, HasSpare};
     ghost use Rattle.lock_queues.specs.Searched.{CountsEarlier, IsAboveAll, IsLatestBefore};
     ghost use Rattle.lock_queues.specs.Queue.{SameMeaning, no_queue};
 
@@ -56,7 +57,7 @@ impl Queue {
     {
         Queue {
             width,
-            closed: Vec::new(alloc),
+            closed: Sections::new(alloc),
             rooms: Vec::new(alloc),
             found: Vec::new(alloc),
         }
@@ -70,7 +71,7 @@ impl Queue {
     }
 
     // Makes room for a thread that has none.
-    pub(crate) fn make_room(&mut self, alloc: Global, thread: ThreadId) -> Result<(), OutOfMemory>
+    pub(crate) fn make_room(&mut self, thread: ThreadId) -> Result<(), OutOfMemory>
         requires within { thread.0 < self.old.width }
         requires none { has_room_in self.old.rooms thread.0 ≡ false }
         ensures same { SameMeaning self.old self.new }
@@ -79,11 +80,9 @@ impl Queue {
         ensures err { OnErr result (has_room_in self.new.rooms ≡ has_room_in self.old.rooms) }
     {
         self.reserve(thread)?;
-        let release = Clock::new(alloc, self.width)?;
         let room = Room {
             thread,
             opened: None,
-            release,
         };
         let Ok(()) = self.rooms.push(room) else {
             return Err(OutOfMemory);
@@ -97,13 +96,11 @@ impl Queue {
         ensures same { SameMeaning self.old self.new }
         ensures rooms { self.new.rooms ≡ self.old.rooms }
         ensures found { OnOk result (thread.0 < length self.new.found) }
-        ensures spare { OnOk result (length self.new.closed + length self.new.rooms + 1 ≤ self.new.capacity) }
+        ensures spare { OnOk result
+            (HasSpare self.new.closed self.new.memory (length self.new.rooms + 1) self.new.width) }
     {
         grow(&mut self.found, thread.0 as usize + 1)?;
-        let Ok(()) = self.closed.reserve(self.rooms.len() + 1) else {
-            return Err(OutOfMemory);
-        };
-        Ok(())
+        self.closed.reserve(self.rooms.len() + 1, self.width)
     }
 
     // The thread's section is open from the event on.
@@ -141,9 +138,7 @@ impl Queue {
         let at = find(&self.rooms, thread);
         let room = self.rooms.remove(at);
         let acquire = room.opened.unwrap();
-        let mut release = room.release;
-        release.copy_from(clock);
-        self.closed.push_reserved(Section { acquire, release });
+        self.closed.push(acquire, clock.counts());
     }
 
     // The thread finds how many of the sections the clock counts.
@@ -168,25 +163,25 @@ impl Queue {
             + number_counted (counts_of clock.now) (map closed_as self.old.closed) + 1 }
     {
         let at = thread.0 as usize;
-        let more = search(&self.closed, self.found[at], clock, work);
+        let more = self.closed.search(self.found[at], clock, work);
         self.found[at] = more;
     }
 
-    // The release clock of the latest section that the thread has found.
-    pub(crate) fn latest(&self, thread: ThreadId) -> Option<&Clock>
+    // The release of the latest section that the thread has found.
+    pub(crate) fn latest(&self, thread: ThreadId) -> Option<&[u64]>
         requires room { IsTrue (has_room_in self.now.rooms thread.0) }
         ensures { MatchOption result (slice_index self.now.found thread.0 ≡ 0)
             (λ answer. (0 < slice_index self.now.found thread.0)
             × (counts_of answer.now
             ≡ (closed_at (map closed_as self.now.closed)
             (slice_index self.now.found thread.0 - 1)).release)
-            × (length answer.now ≡ self.now.width)) }
+            × (length answer.now ≤ self.now.width)) }
     {
         let number = self.found[thread.0 as usize];
         if number == 0 {
             return None;
         }
-        Some(&self.closed[number - 1].release)
+        Some(self.closed.release(number - 1))
     }
 
     // How many sections are closed.
@@ -196,19 +191,21 @@ impl Queue {
         self.closed.len()
     }
 
-    // The closed section at the place.
-    pub(crate) fn section(&self, place: usize) -> ClosedSection<'_>
+    // The thread whose the closed section at the place was.
+    pub(crate) fn thread(&self, place: usize) -> ThreadId
         requires within { place < length self.now.closed }
-        ensures by { result.by.0 ≡ (closed_at (map closed_as self.now.closed) place).thread }
-        ensures release { counts_of result.release.now
-            ≡ (closed_at (map closed_as self.now.closed) place).release }
-        ensures width { length result.release.now ≡ self.now.width }
+        ensures { result.0 ≡ (closed_at (map closed_as self.now.closed) place).thread }
     {
-        let section = &self.closed[place];
-        ClosedSection {
-            by: section.acquire.thread(),
-            release: &section.release,
-        }
+        self.closed.thread(place)
+    }
+
+    // The numbers of its release.
+    pub(crate) fn release(&self, place: usize) -> &[u64]
+        requires within { place < length self.now.closed }
+        ensures counts { counts_of result.now ≡ (closed_at (map closed_as self.now.closed) place).release }
+        ensures width { length result.now ≤ self.now.width }
+    {
+        self.closed.release(place)
     }
 }
 

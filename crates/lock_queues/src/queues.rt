@@ -15,11 +15,17 @@ ghost use Rattle.lock_queues.specs.Queue.{AreAlike};
 ghost use Rattle.lock_queues.specs.Queues.{AreWide};
 
 use crate::queue::Queue;
-use crate::search::ClosedSection;
 use event_core::{Limits, LockId, OutOfMemory, ThreadId};
 use hb_clocks::{Clock, Mark, Work};
 use std::alloc::Global;
 use std::marker::Model;
+
+/// A closed section: the thread whose it was, and the numbers of its release's clock, beyond which each is 0.
+#[derive(Clone, Copy)]
+pub struct ClosedSection<'a> {
+    pub by: ThreadId,
+    pub release: &'a [u64],
+}
 
 /// Of each lock its closed critical sections in the order of their releases, and of each thread how
 /// many of them it has found counted.
@@ -94,7 +100,7 @@ impl Queues {
         let width = self.limits.threads() as usize;
         grow(&mut self.queues, self.alloc, width, at + 1)?;
         let queue = &mut self.queues[at];
-        queue.make_room(self.alloc, thread)
+        queue.make_room(thread)
     }
 
     /// Whether there is room for the thread's next section on the lock, or for its open one.
@@ -122,8 +128,9 @@ impl Queues {
         queue.enter(thread, mark);
     }
 
-    /// The release clock of the latest closed section on the lock whose acquire the clock counts,
-    /// if there is one. It is asked at the release of the thread's open section, before `leave`.
+    /// The release of the latest closed section on the lock whose acquire the clock counts, if there is one:
+    /// the numbers of its clock, beyond which each is 0. It is asked at the release of the thread's open
+    /// section, before `leave`.
     ///
     /// The search begins after the sections that the thread has found before, and stops at the first
     /// that is not counted: at most one comparison more than the sections newly found.
@@ -133,7 +140,7 @@ impl Queues {
         lock: LockId,
         clock: &Clock,
         work: &mut Work,
-    ) -> Option<&Clock>
+    ) -> Option<&[u64]>
         requires entered { 0 < opened_of self.old thread.0 lock.0 }
         requires width { length clock.now ≡ self.old.limits.threads }
         requires before { found_of self.old lock.0 thread.0 ≤ counted_of self.old lock.0 clock.now }
@@ -151,7 +158,7 @@ impl Queues {
             (below_closed (counts_of clock.now) (closed_of self.old lock.0) ≡ no_clock)
             (λ answer. counts_of answer.now
             ≡ below_closed (counts_of clock.now) (closed_of self.old lock.0)) }
-        ensures width { IfSome result (λ answer. length answer.now ≡ self.old.limits.threads) }
+        ensures width { IfSome result (λ answer. length answer.now ≤ self.old.limits.threads) }
 
         // What it costs.
         ensures comparisons { work.new.comparisons + found_of self.old lock.0 thread.0
@@ -208,9 +215,14 @@ impl Queues {
         ensures by { result.by.0 ≡ (closed_at (closed_of self.now lock.0) (number - 1)).thread }
         ensures release { counts_of result.release.now
             ≡ (closed_at (closed_of self.now lock.0) (number - 1)).release }
-        ensures width { length result.release.now ≡ self.now.limits.threads }
+        ensures width { length result.release.now ≤ self.now.limits.threads }
     {
-        self.queues[lock.0 as usize].section(number as usize - 1)
+        let queue = &self.queues[lock.0 as usize];
+        let place = number as usize - 1;
+        ClosedSection {
+            by: queue.thread(place),
+            release: queue.release(place),
+        }
     }
 
     // The thread finds how many of the lock's sections the clock counts.
@@ -232,14 +244,14 @@ impl Queues {
         queue.seek(thread, clock, work);
     }
 
-    // The release clock of the latest section that the thread has found.
-    fn latest(&self, thread: ThreadId, lock: LockId) -> Option<&Clock>
+    // The release of the latest section that the thread has found.
+    fn latest(&self, thread: ThreadId, lock: LockId) -> Option<&[u64]>
         requires entered { 0 < opened_of self.now thread.0 lock.0 }
         ensures { MatchOption result (found_of self.now lock.0 thread.0 ≡ 0)
             (λ answer. (0 < found_of self.now lock.0 thread.0)
             × (counts_of answer.now
             ≡ (closed_at (closed_of self.now lock.0) (found_of self.now lock.0 thread.0 - 1)).release)
-            × (length answer.now ≡ self.now.limits.threads)) }
+            × (length answer.now ≤ self.now.limits.threads)) }
     {
         self.queues[lock.0 as usize].latest(thread)
     }

@@ -3,15 +3,13 @@ ghost use Rattle.std.specs.Prelude.{◌≡◌, ℕ, ◌<◌, length};
 ghost use Rattle.lock_queues.specs.Rooms.{place_in};
 
 use event_core::ThreadId;
-use hb_clocks::{Clock, Mark};
+use hb_clocks::Mark;
 
-/// Room for a thread's next section on the lock: the mark of its acquire, once it is entered, and
-/// the clock that will keep its release.
+/// Room for a thread's next section on the lock, with the mark of its acquire once it is entered.
 #[derive(Drop)]
 pub(crate) struct Room {
     pub(crate) thread: ThreadId,
     pub(crate) opened: Option<Mark>,
-    pub(crate) release: Clock,
 }
 
 // Where the thread's room stands, or how many rooms there are if it has none.

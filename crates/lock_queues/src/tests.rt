@@ -6,7 +6,7 @@ ghost use Rattle.hb_clocks.specs.Tables.{state_of};
 ghost use Rattle.lock_queues.specs.Queues.{closed_of, found_of, has_room, SameMeaning};
 
 use crate::queues::Queues;
-use crate::search::Section;
+use crate::sections::Entry;
 use event_core::{Event, Limits, LockId, Op, OutOfMemory, Roots, SiteId, ThreadId, VarId};
 use hb_clocks::{Clock, HbClocks, Work};
 use std::alloc::Global;
@@ -91,12 +91,12 @@ fn ask(
     let Some(below) = queues.last_below(thread, LOCK, clock, work) else {
         return Ok(None);
     };
-    Ok(Some(below.at(ThreadId(0))))
+    Ok(below.first().copied())
 }
 
 #[test]
-fn a_section_takes_48_bytes_and_8_for_each_thread(rt: HostRuntime) {
-    assert_eq!(rt; size_of::<Section>(), 48);
+fn a_section_takes_24_bytes_and_8_for_each_thread_in_use(rt: HostRuntime) {
+    assert_eq!(rt; size_of::<Entry>(), 24);
 }
 
 #[test]
@@ -151,7 +151,6 @@ fn a_closed_section_is_found_by_its_number(rt: HostRuntime) -> Result<(), Fail> 
     assert_eq!(rt; queues.count(LOCK), 1);
     let section = queues.section(LOCK, 1);
     assert_eq!(rt; section.by, ThreadId(1));
-    assert_eq!(rt; section.release.at(ThreadId(1)), 1);
-    assert_eq!(rt; section.release.at(ThreadId(0)), 0);
+    assert_eq!(rt; section.release, [0, 1].as_slice());
     Ok(())
 }

@@ -49,7 +49,7 @@ fn take_under(
     for number in sums.sources(thread, lock, var, kind) {
         let section = queues.section(lock, number);
         if !rows.counts(thread, section.by, section.release) {
-            rows.take_clock(thread, section.release, work);
+            rows.take_release(thread, section.release, work);
             taken = true;
         }
     }

@@ -10,7 +10,7 @@ ghost use Rattle.wcp_clocks.specs.StrictRows.{strict_of, below_of, HasThread, Ha
 
 use event_core::{LockId, OutOfMemory, ThreadId};
 use hb_clocks::rows::{
-    bump_row, copy_row, copy_rows, is_made, join_row, join_rows, make_row, row_or,
+    bump_row, copy_row, copy_rows, is_made, join_row, join_row_counts, join_rows, make_row, row_or,
 };
 use hb_clocks::{Clock, HbClocks, Work};
 use std::alloc::Global;
@@ -116,28 +116,28 @@ impl StrictRows {
         row_or(&self.below, thread.0 as usize, &self.zeros)
     }
 
-    // Whether the thread's strict clock counts the release that is by the other thread and has the clock.
-    pub(crate) fn counts(&self, thread: ThreadId, by: ThreadId, clock: &Clock) -> bool
-        requires wide { length clock.now ≡ self.now.width }
+    // Whether the thread's strict clock counts the release, which is by the other thread.
+    pub(crate) fn counts(&self, thread: ThreadId, by: ThreadId, release: &[u64]) -> bool
         ensures { result ≡ (nat_lt by.0 self.now.width
-            && nat_le (counts_of clock.now by.0) ((strict_of self.now).thread thread.0 by.0)) }
+            && nat_le (counts_of release.now by.0) ((strict_of self.now).thread thread.0 by.0)) }
     {
-        (by.0 as usize) < self.width && is_at_least(self.strict(thread), clock, by)
+        (by.0 as usize) < self.width && is_at_least(self.strict(thread), release, by)
     }
 
-    // The thread's strict clock takes the greater numbers of the clock. It is one join.
-    pub(crate) fn take_clock(&mut self, thread: ThreadId, clock: &Clock, work: &mut Work)
+    // The thread's strict clock takes the greater numbers of the release. It is one join.
+    pub(crate) fn take_release(&mut self, thread: ThreadId, release: &[u64], work: &mut Work)
         requires room { HasThread self.old thread.0 }
-        requires wide { length clock.now ≡ self.old.width }
+        requires within { length release.now ≤ self.old.width }
         requires few { work.old.joins < 2 ^ 63 }
         ensures threads { (strict_of self.new).thread ≡ with_row thread.0
-            (join ((strict_of self.old).thread thread.0) (counts_of clock.now)) (strict_of self.old).thread }
+            (join ((strict_of self.old).thread thread.0) (counts_of release.now))
+            (strict_of self.old).thread }
         ensures locks { (strict_of self.new).lock ≡ (strict_of self.old).lock }
         ensures below { below_of self.new ≡ below_of self.old }
         ensures kept { KeepsRoom self.old self.new }
         ensures work { work.new ≡ record work.old { joins = work.old.joins + 1 } }
     {
-        join_row(&mut self.threads, thread.0 as usize, clock, work);
+        join_row_counts(&mut self.threads, thread.0 as usize, release, work);
     }
 
     // The thread's strict clock takes the greater numbers of the lock's. It is one join.
@@ -242,13 +242,13 @@ impl StrictRows {
     }
 }
 
-// Whether the one clock counts as many events of the thread as the other, or more.
-fn is_at_least(clock: &Clock, other: &Clock, thread: ThreadId) -> bool
+// Whether the clock counts as many events of the thread as the release, or more.
+fn is_at_least(clock: &Clock, release: &[u64], thread: ThreadId) -> bool
     requires within { thread.0 < length clock.now }
-    requires wide { length other.now ≡ length clock.now }
-    ensures { result ≡ nat_le (counts_of other.now thread.0) (counts_of clock.now thread.0) }
+    ensures { result ≡ nat_le (counts_of release.now thread.0) (counts_of clock.now thread.0) }
 {
-    other.at(thread) <= clock.at(thread)
+    let at = thread.0 as usize;
+    release.len() <= at || release[at] <= clock.at(thread)
 }
 
 // The row becomes the strict clock, and takes the greater numbers of the thread's program order.

@@ -1,4 +1,4 @@
-use Rattle.std.proofs.Common.{◌≡◌, ◌<◌, ◌≤◌, ℕ, ◌&&◌, Bool, true, false, List, length, sym, ap, subst, ◌∙◌}
+use Rattle.std.proofs.Common.{◌≡◌, ◌<◌, ◌≤◌, ℕ, ◌&&◌, Bool, true, false, List, sym, ap, subst, ◌∙◌}
 use Rattle.std.proofs.Common.{arith}
 use Rattle.std.proofs.lemmas.Bool.{leb-true}
 use Rattle.std.proofs.lemmas.List.Elements.{All-head}
@@ -12,7 +12,7 @@ use Rattle.lock_queues.specs.Queues.{closed_of}
 use Rattle.section_sum.specs.declared.sources.Sources.{Sources}
 use Rattle.section_sum.specs.Sources.{left, most_sources}
 use Rattle.wcp_clocks.specs.Met.{release_at, thread_at, met_clocks, met_under, IsMet}
-use Rattle.wcp_clocks.proofs.Taking.{IsTaking, taking_begins, taking_past, taking_on, taking_ends}
+use Rattle.wcp_clocks.proofs.Taking.{IsTaking, taking_begins, taking_past, taking_on}
 use Rattle.wcp_clocks.proofs.Taking.{release_is, thread_is}
 use Rattle.wcp_clocks.proofs.sources.take_under.Goals as goal
 
@@ -45,14 +45,14 @@ loop-number-preserved-then-not-counts c =
     let rest : List ℕ = left c.next.new.self in
     let source = met_under (met_clocks sums closed) x c.args.kind t l in
     let now = c.loop-number.rows in
-    let e = c.take_clock.ensures in
+    let e = c.take_release.ensures in
     let here = subst (λ ns. IsTaking sums closed l x t source c.args.rows.now now c.args.work.now
     c.loop-number.work ns c.loop-number.taken) c.in-Some.ensures.steps c.loop-number.invariant in
     let some : 0 < n = (All-head (IsMet sums l x t) n rest here.met).some in
     let clock : counts_of c.section-section.result.release.now ≡ release_at (closed l) n
     = c.section-section.ensures.release ∙ release_is (closed l) n some in
-    taking_on sums closed l x t source c.args.rows.now now c.take_clock.new.self c.args.work.now
-    c.loop-number.work c.take_clock.new.work n rest c.loop-number.taken c.requires.releases here
+    taking_on sums closed l x t source c.args.rows.now now c.take_release.new.self c.args.work.now
+    c.loop-number.work c.take_release.new.work n rest c.loop-number.taken c.requires.releases here
     (e.threads ∙ ap (λ g. with_row t (join (rows_of now.thread t) g) (rows_of now.thread)) clock)
     e.locks e.below e.kept e.work
 

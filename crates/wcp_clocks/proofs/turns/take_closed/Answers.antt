@@ -18,7 +18,7 @@ returns-in-Some-clause-threads c =
     let t : ℕ = c.args.thread.0 in
     let f : ℕ → ℕ → ℕ = (strict_of c.args.rows.now).thread in
     let qs : List Closed = closed_of c.args.queues.now c.args.lock.0 in
-    c.take_clock.ensures.threads
+    c.take_release.ensures.threads
     ∙ ap (λ (g : ℕ → ℕ). with_row t (join (f t) g) f)
     (c.in-Some.ensures.below ∙ ap (λ (g : ℕ → ℕ). below_closed g qs) c.strict.ensures.counts)
 

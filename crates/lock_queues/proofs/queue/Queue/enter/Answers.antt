@@ -20,7 +20,7 @@ invariant_of-self c =
     let rooms_is = ap (λ (k : Kept). k.rooms) c.self.view_is in
     let p = placed _ _ _ _ _ rooms_is c.deref.ensures.value c.find-at.ensures c.requires.room in
     let room = room_read c.index_mut-room.result.now c.self.invariant.own p c.index_mut-room.ensures.value in
-    kept_entered _ c.self.invariant p room.thread room.wide (c.requires.own ∙ room.thread)
+    kept_entered _ c.self.invariant p room.thread (c.requires.own ∙ room.thread)
 
 pub returns-clause-opened : goal.returns-clause-opened
 returns-clause-opened c =

@@ -3,9 +3,8 @@ use Rattle.std.specs.Prelude.{slice_index}
 use Rattle.std.proofs.lemmas.List.{get_or_read}
 use Rattle.event_core.specs.Closed.{Closed}
 use Rattle.hb_clocks.specs.Counts.{counts_of}
-use Rattle.lock_queues.specs.declared.search.Section.{Section}
 use Rattle.lock_queues.specs.Rooms.{has_room_in}
-use Rattle.lock_queues.specs.Sections.{closed_as, closed_at, no_section, section_at}
+use Rattle.lock_queues.specs.Sections.{closed_as, closed_at}
 use Rattle.lock_queues.specs.Queue.{Kept}
 use Rattle.lock_queues.proofs.Counting.{closed_at_is}
 use Rattle.lock_queues.proofs.Keeping.{thread_within}
@@ -18,15 +17,14 @@ index-number-requires c =
     let len = c.self.inside.found.ok.0 in
     omega arith
 
-pub index-requires : goal.index-requires
-index-requires c =
+pub release-requires : goal.release-requires
+release-requires c =
     let same = ap (λ (k : Kept). has_room_in k.rooms c.args.thread.0) c.self.view_is in
     let lt = thread_within c.args.thread.0 c.self.invariant (same ∙ c.requires.room) in
     let is = get_or_read c.self.inside.found.items c.args.thread.0 _ lt c.index-number.ensures 0 in
     let le = c.self.invariant.within c.args.thread.0 in
     let some : 0 < c.index-number.result.now = omega (arith, c.if-number-eq0.false) in
-    let len = c.self.inside.closed.ok.0 in
-    omega arith
+    record { within = omega arith }
 
 pub returns : goal.returns
 returns c =
@@ -39,14 +37,14 @@ returns c =
     let some : 0 < c.index-number.result.now = omega (arith, c.if-number-eq0.false) in
     let le = c.self.invariant.within c.args.thread.0 in
     let last = c.index-number.result.now - 1 in
-    let within : last < length c.self.inside.closed.items = omega arith in
-    let read : c.index.result.now ≡ section_at c.self.inside.closed.items last
-    = get_or_read c.self.inside.closed.items last c.index.result.now within c.index.ensures no_section in (
+    let within : last < length c.self.inside.closed.sections = omega arith in
+    let wide = c.self.invariant.wide last within in
+    let long = ap length c.release.ensures in
+    let width = ap (λ (k : Kept). k.width) c.self.view_is in (
       omega arith,
-      ap (λ (s : Section). counts_of s.release) read
-          ∙ ap (λ (q : Closed). q.release) (sym (closed_at_is c.self.inside.closed.items last))
+      ap counts_of c.release.ensures
+          ∙ ap (λ (q : Closed). q.release) (sym (closed_at_is c.self.inside.closed.sections last))
           ∙ ap (λ (k : Kept). (closed_at (map closed_as k.closed) last).release) c.self.view_is
           ∙ ap (λ n. (closed_at (map closed_as c.args.self.now.closed) (n - 1)).release) is,
-      ap (λ (s : Section). length s.release) read ∙ c.self.invariant.wide last within
-          ∙ ap (λ (k : Kept). k.width) c.self.view_is,
+      omega arith,
     )

@@ -1,17 +1,17 @@
-use Rattle.std.proofs.Common.{◌≡◌, ℕ, ◌++◌, ◌∷◌, [], length, false, ap, sym, subst, ◌∙◌, arith, List, map}
+use Rattle.std.proofs.Common.{◌≡◌, ℕ, ◌++◌, ◌∷◌, [], false, ap, sym, subst, ◌∙◌, arith, List, map}
 use Rattle.std.proofs.lemmas.List.{map_push}
 use Rattle.std.specs.List.{remove}
 use Rattle.event_core.specs.Closed.{Closed}
 use Rattle.event_core.specs.Rows.{with_row}
 use Rattle.hb_clocks.specs.Counts.{counts_of}
 use Rattle.lock_queues.specs.declared.rooms.Room.{Room}
-use Rattle.lock_queues.specs.declared.search.Section.{Section}
-use Rattle.lock_queues.specs.Sections.{closed_as}
+use Rattle.lock_queues.specs.Sections.{Section, closed_as}
 use Rattle.lock_queues.specs.Rooms.{has_room_in, opened_in, position_of}
 use Rattle.lock_queues.specs.Queue.{Kept, IsKept}
 use Rattle.lock_queues.specs.Searched.{IsAboveAll}
 use Rattle.lock_queues.proofs.Placing.{placed_entered, placed_within, room_read}
 use Rattle.lock_queues.proofs.Keeping.{kept_left}
+use Rattle.lock_queues.proofs.Sparing.{spare_one}
 use Rattle.lock_queues.proofs.Changes.{some_opened, mark_of, opened_remove, has_remove}
 use Rattle.lock_queues.proofs.queue.Queue.leave.Goals as goal
 
@@ -33,17 +33,19 @@ unwrap-acquire-requires c =
     let opened = room.opened in
     some_opened c.remove-room.result.opened (omega arith)
 
-pub copy_from-requires : goal.copy_from-requires
-copy_from-requires c =
+pub push-requires : goal.push-requires
+push-requires c =
     let rooms_is = ap (λ (k : Kept). k.rooms) c.self.view_is in
     let p = placed_entered _ _ _ _ _ rooms_is c.deref.ensures.value c.find-at.ensures c.requires.entered in
-    let room = room_read c.remove-room.result c.self.invariant.own p c.remove-room.ensures.value in
-    record { widths = room.wide ∙ ap (λ (k : Kept). k.width) c.self.view_is ∙ sym c.requires.width }
+    let lt = placed_within p in
+    let width = ap (λ (k : Kept). k.width) c.self.view_is in
+    let wide = c.requires.width in
+    let within = c.counts.ensures.within in
+    record { spare = spare_one _ _ _ _ _ c.self.invariant.spare (omega arith) (omega arith) }
 
 pub invariant_of-self : goal.invariant_of-self
 invariant_of-self c =
-    let closed : List Section = c.self.inside.closed.items in
-    let x : Section = record { acquire = c.unwrap-acquire.result; release = c.copy_from.new.self } in
+    let x : Section = record { acquire = c.unwrap-acquire.result; release = c.counts.result.now } in
     let rooms_is = ap (λ (k : Kept). k.rooms) c.self.view_is in
     let p = placed_entered _ _ _ _ _ rooms_is c.deref.ensures.value c.find-at.ensures c.requires.entered in
     let room = room_read c.remove-room.result c.self.invariant.own p c.remove-room.ensures.value in
@@ -51,30 +53,29 @@ invariant_of-self c =
     let thread = room.thread in
     let within = room.within in
     let few = c.self.invariant.threads in
-    let wide : length x.release ≡ c.self.inside.width
-    = ap length c.copy_from.ensures ∙ c.requires.width ∙ sym (ap (λ (k : Kept). k.width) c.self.view_is) in
-    let above : IsAboveAll (counts_of x.release) (map closed_as closed)
-    = subst (λ (ns : List ℕ). IsAboveAll (counts_of ns) (map closed_as closed)) (sym c.copy_from.ensures)
+    let width = ap (λ (k : Kept). k.width) c.self.view_is in
+    let wide = c.requires.width in
+    let used = c.counts.ensures.within in
+    let above : IsAboveAll (counts_of x.release) (map closed_as c.self.inside.closed.sections)
+    = subst (λ (f : ℕ → ℕ). IsAboveAll f (map closed_as c.self.inside.closed.sections))
+    (sym c.counts.ensures.counts)
     (subst (λ (k : Kept). IsAboveAll (counts_of c.args.clock.now) (map closed_as k.closed))
-    (sym c.self.view_is)
-    c.requires.above) in
-    let Keeps : List Section → List Room → ℕ → Type 0
-    = λ ss rs cap. IsKept c.self.inside.width ss rs c.self.inside.found.items cap in
-    let left : Keeps (closed ++ x ∷ []) (remove c.self.inside.rooms.items c.find-at.result)
-    c.self.inside.closed.cap
-    = kept_left x c.self.invariant p wide (omega arith) above in
-    subst (λ cap. Keeps c.push_reserved.new.self.items c.remove-room.new.self.items cap)
-    (sym c.push_reserved.ensures.capacity)
-    (subst (λ rs. Keeps c.push_reserved.new.self.items rs c.self.inside.closed.cap)
-    (sym c.remove-room.ensures.items)
-    (subst (λ ss. Keeps ss (remove c.self.inside.rooms.items c.find-at.result) c.self.inside.closed.cap)
-    (sym c.push_reserved.ensures.items) left))
+    (sym c.self.view_is) c.requires.above) in
+    let Keeps : List Section → List Room → Type 0
+    = λ ss rs. IsKept c.self.inside.width ss rs c.self.inside.found.items c.push.new.self.memory in
+    subst (λ rs. Keeps c.push.new.self.sections rs) (sym c.remove-room.ensures.items)
+    (subst (λ ss. Keeps ss (remove c.self.inside.rooms.items c.find-at.result)) (sym c.push.ensures.sections)
+    (kept_left x c.push.new.self.memory c.self.invariant p (omega arith) (omega arith) above (record {
+      numbers = c.push.ensures.numbers;
+      most_sections = c.push.ensures.most_sections;
+      most_numbers = c.push.ensures.most_numbers;
+    })))
 
 pub returns-clause-closed : goal.returns-clause-closed
 returns-clause-closed c =
     let t : ℕ = c.args.thread.0 in
-    let closed : List Section = c.self.inside.closed.items in
-    let x : Section = record { acquire = c.unwrap-acquire.result; release = c.copy_from.new.self } in
+    let closed : List Section = c.self.inside.closed.sections in
+    let x : Section = record { acquire = c.unwrap-acquire.result; release = c.counts.result.now } in
     let entry : Closed
     = record {
       thread = t;
@@ -89,10 +90,10 @@ returns-clause-closed c =
     let position : x.acquire.position ≡ opened_in c.args.self.now.rooms t
     = sym (room.opened ∙ ap position_of c.unwrap-acquire.ensures)
     ∙ ap (λ (k : Kept). opened_in k.rooms t) c.self.view_is in
-    let release : counts_of x.release ≡ counts_of c.args.clock.now = ap counts_of c.copy_from.ensures in
+    let release : counts_of x.release ≡ counts_of c.args.clock.now = c.counts.ensures.counts in
     let read : closed_as x ≡ entry
     = λ i. record { thread = thread i; position = position i; release = release i } in
-    ap (map closed_as) c.push_reserved.ensures.items ∙ map_push closed_as closed x
+    ap (map closed_as) c.push.ensures.sections ∙ map_push closed_as closed x
     ∙ ap (λ (q : Closed). map closed_as closed ++ q ∷ []) read
     ∙ ap (λ (k : Kept). map closed_as k.closed ++ entry ∷ []) c.self.view_is
 
@@ -100,12 +101,12 @@ pub returns-clause-opened : goal.returns-clause-opened
 returns-clause-opened c =
     let rooms_is = ap (λ (k : Kept). k.rooms) c.self.view_is in
     let p = placed_entered _ _ _ _ _ rooms_is c.deref.ensures.value c.find-at.ensures c.requires.entered in
-    ap opened_in c.remove-room.ensures.items ∙ opened_remove _ _ c.self.invariant.own p
+    ap opened_in c.remove-room.ensures.items ∙ opened_remove _ c.self.invariant.own p
     ∙ ap (λ (k : Kept). with_row {A = ℕ} c.args.thread.0 0 (opened_in k.rooms)) c.self.view_is
 
 pub returns-clause-rooms : goal.returns-clause-rooms
 returns-clause-rooms c =
     let rooms_is = ap (λ (k : Kept). k.rooms) c.self.view_is in
     let p = placed_entered _ _ _ _ _ rooms_is c.deref.ensures.value c.find-at.ensures c.requires.entered in
-    ap has_room_in c.remove-room.ensures.items ∙ has_remove _ _ c.self.invariant.own p
+    ap has_room_in c.remove-room.ensures.items ∙ has_remove _ c.self.invariant.own p
     ∙ ap (λ (k : Kept). with_row c.args.thread.0 false (has_room_in k.rooms)) c.self.view_is

@@ -1,9 +1,9 @@
-use Rattle.std.proofs.Common.{◌≡◌, ◌+◌, ◌≤◌, None, true, false, length, arith, ap, refl, sym, subst, ◌∙◌}
+use Rattle.std.proofs.Common.{◌≡◌, ◌+◌, None, true, false, length, arith, ap, refl, sym, subst, ◌∙◌}
 use Rattle.std.proofs.Common.{List}
 use Rattle.std.specs.Prelude.{slice_index}
-use Rattle.std.proofs.lemmas.List.{length-replicate}
 use Rattle.event_core.specs.Rows.{with_row}
 use Rattle.lock_queues.specs.declared.rooms.Room.{Room}
+use Rattle.lock_queues.specs.Sections.{HasSpare}
 use Rattle.lock_queues.specs.Rooms.{has_room_in, opened_in, IsRoom}
 use Rattle.lock_queues.specs.Queue.{Kept, IsKept}
 use Rattle.lock_queues.proofs.Keeping.{kept_pushed}
@@ -12,25 +12,24 @@ use Rattle.lock_queues.proofs.queue.Queue.make_room.Goals as goal
 
 pub invariant_of-self-2 : goal.invariant_of-self-2
 invariant_of-self-2 c =
-    let w = c.self.inside.width in
     let found = c.self.inside.found.items in
-    let s : Room = record { thread = c.args.thread; opened = None; release = c.in_ok-release.release } in
+    let s : Room = record { thread = c.args.thread; opened = None } in
     let same = ap (λ (k : Kept). k.rooms) c.self.view_is ∙ c.in_ok-reserve.ensures.rooms in
     let none : has_room_in c.self.inside.rooms.items c.args.thread.0 ≡ false
     = ap (λ (xs : List Room). has_room_in xs c.args.thread.0) same ∙ c.requires.none in
-    let wide : length s.release ≡ w = ap length c.in_ok-release.ensures ∙ length-replicate w 0 in
     let threads = ap (λ (k : Kept). length k.found) c.self.view_is in
     let within = c.in_ok-reserve.ensures.found in
-    let room : IsRoom w (length found) s = record { within = omega arith; wide = wide; own = tt } in
+    let room : IsRoom (length found) s = record { within = omega arith; own = tt } in
     let spare
-    = subst (λ (k : Kept). length k.closed + length k.rooms + 1 ≤ k.capacity) (sym c.self.view_is)
+    = subst (λ (k : Kept). HasSpare k.closed k.memory (length k.rooms + 1) k.width) (sym c.self.view_is)
     c.in_ok-reserve.ensures.spare in
-    subst (λ (xs : List Room). IsKept w c.self.inside.closed.items xs found c.self.inside.closed.cap)
+    subst (λ (xs : List Room). IsKept c.self.inside.width c.self.inside.closed.sections xs found
+    c.self.inside.closed.memory)
     (sym c.in-Ok.ensures.items) (kept_pushed s c.self.invariant none room spare)
 
 pub returns-clause-same : goal.returns-clause-same
 returns-clause-same c =
-    let s : Room = record { thread = c.args.thread; opened = None; release = c.in_ok-release.release } in
+    let s : Room = record { thread = c.args.thread; opened = None } in
     let same = ap (λ (k : Kept). k.rooms) c.self.view_is ∙ c.in_ok-reserve.ensures.rooms in
     let none : has_room_in c.self.inside.rooms.items c.args.thread.0 ≡ false
     = ap (λ (xs : List Room). has_room_in xs c.args.thread.0) same ∙ c.requires.none in
@@ -45,7 +44,7 @@ returns-clause-same c =
 
 pub returns-clause-ok : goal.returns-clause-ok
 returns-clause-ok c =
-    let s : Room = record { thread = c.args.thread; opened = None; release = c.in_ok-release.release } in
+    let s : Room = record { thread = c.args.thread; opened = None } in
     let same = ap (λ (k : Kept). k.rooms) c.self.view_is ∙ c.in_ok-reserve.ensures.rooms in
     let none : has_room_in c.self.inside.rooms.items c.args.thread.0 ≡ false
     = ap (λ (xs : List Room). has_room_in xs c.args.thread.0) same ∙ c.requires.none in

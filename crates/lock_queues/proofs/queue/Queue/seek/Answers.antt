@@ -1,12 +1,11 @@
-use Rattle.std.proofs.Common.{length, ap, sym, subst, ◌∙◌, arith, List, map}
+use Rattle.std.proofs.Common.{ap, sym, subst, ◌∙◌, arith, List, map}
 use Rattle.std.specs.Prelude.{slice_index}
 use Rattle.std.proofs.lemmas.List.{get_or_read}
 use Rattle.event_core.specs.Closed.{number_counted}
 use Rattle.event_core.specs.Rows.{with_row}
 use Rattle.hb_clocks.specs.Counts.{counts_of}
-use Rattle.lock_queues.specs.declared.search.Section.{Section}
 use Rattle.lock_queues.specs.Rooms.{has_room_in}
-use Rattle.lock_queues.specs.Sections.{closed_as, IsCounted, AreRising}
+use Rattle.lock_queues.specs.Sections.{Section, closed_as, IsCounted, AreRising}
 use Rattle.lock_queues.specs.Queue.{Kept}
 use Rattle.lock_queues.proofs.Counting.{counts_before, counted_below, number_seen}
 use Rattle.lock_queues.proofs.Latest.{latest_before}
@@ -34,7 +33,6 @@ search-more-requires-clause-within c =
     let lt = thread_within c.args.thread.0 c.self.invariant (same ∙ c.requires.room) in
     let is = get_or_read c.self.inside.found.items c.args.thread.0 _ lt c.index.ensures 0 in
     let le = c.self.invariant.within c.args.thread.0 in
-    let len = ap length c.deref.ensures.value in
     omega arith
 
 pub search-more-requires-clause-before : goal.search-more-requires-clause-before
@@ -46,7 +44,7 @@ search-more-requires-clause-before c k small =
     let rising = subst (λ (k : Kept). AreRising k.closed) c.self.view_is c.self.invariant.rising in
     let before = counts_before c.args.self.now.closed c.args.clock.now rising c.requires.earlier in
     let le = c.requires.before in
-    let seen = c.deref.ensures.value ∙ ap (λ (k : Kept). k.closed) c.self.view_is in
+    let seen = ap (λ (k : Kept). k.closed) c.self.view_is in
     subst (λ (ss : List Section). IsCounted ss c.args.clock.now k) (sym seen)
     (counted_below c.args.self.now.closed c.args.clock.now k before (omega arith))
 
@@ -54,7 +52,7 @@ pub returns-clause-found : goal.returns-clause-found
 returns-clause-found c =
     let rising = subst (λ (k : Kept). AreRising k.closed) c.self.view_is c.self.invariant.rising in
     let before = counts_before c.args.self.now.closed c.args.clock.now rising c.requires.earlier in
-    let seen = c.deref.ensures.value ∙ ap (λ (k : Kept). k.closed) c.self.view_is in
+    let seen = ap (λ (k : Kept). k.closed) c.self.view_is in
     let more
     = number_seen _ _ c.args.clock.now _ seen c.search-more.ensures.within c.search-more.ensures.counted
     c.search-more.ensures.stopped before in
@@ -77,7 +75,7 @@ pub returns-clause-comparisons : goal.returns-clause-comparisons
 returns-clause-comparisons c =
     let rising = subst (λ (k : Kept). AreRising k.closed) c.self.view_is c.self.invariant.rising in
     let before = counts_before c.args.self.now.closed c.args.clock.now rising c.requires.earlier in
-    let seen = c.deref.ensures.value ∙ ap (λ (k : Kept). k.closed) c.self.view_is in
+    let seen = ap (λ (k : Kept). k.closed) c.self.view_is in
     let more
     = number_seen _ _ c.args.clock.now _ seen c.search-more.ensures.within c.search-more.ensures.counted
     c.search-more.ensures.stopped before in

@@ -1,4 +1,5 @@
-use Rattle.std.proofs.Common.{◌≡◌, ℕ, ◌-◌, ◌<◌, length, ap, refl, sym, subst, ◌∙◌, List, Option, None, Bor}
+use Rattle.std.proofs.Common.{◌≡◌, ℕ, ◌-◌, ◌<◌, ◌≤◌, length, ap, refl, sym, subst, ◌∙◌}
+use Rattle.std.proofs.Common.{List, Option, None, Bor}
 use Rattle.std.specs.Prelude.{MatchOption, IsSomeAnd}
 use Rattle.event_core.specs.Closed.{Closed, number_counted, below_closed}
 use Rattle.event_core.specs.Rows.{with_row, no_clock}
@@ -31,7 +32,7 @@ returns c =
     let closed : closed_of new l ≡ qs = ap (λ (f : ℕ → List Closed). f l) c.seek.ensures.found.closed in
     let wide : new.limits.threads ≡ threads = ap (λ b. b.threads) c.seek.ensures.found.limits in
     let Reads : ℕ → List Closed → ℕ → Bor (List ℕ) → Type 0
-    = λ k xs w r. (0 < k) × (counts_of r.now ≡ (closed_at xs (k - 1)).release) × (length r.now ≡ w) in
+    = λ k xs w r. (0 < k) × (counts_of r.now ≡ (closed_at xs (k - 1)).release) × (length r.now ≤ w) in
     let known : MatchOption c.latest.result (n ≡ 0) (Reads n qs threads)
     = subst (λ (w : ℕ). MatchOption c.latest.result (n ≡ 0) (Reads n qs w)) wide
     (subst (λ (xs : List Closed). MatchOption c.latest.result (n ≡ 0) (Reads n xs new.limits.threads))
@@ -54,7 +55,7 @@ returns c =
             answer (below_closed clock qs ≡ no_clock) (Reads n qs threads)
             (λ r. counts_of r.now ≡ below_closed clock qs) (λ z. before.none_below z)
             (λ r h. h.1 ∙ sym (before.below h.0)) known;
-        width = if_some c.latest.result (n ≡ 0) (Reads n qs threads) (λ r. length r.now ≡ threads)
+        width = if_some c.latest.result (n ≡ 0) (Reads n qs threads) (λ r. length r.now ≤ threads)
             (λ r h. h.2) known;
         comparisons = c.seek.ensures.comparisons;
         joins = c.seek.ensures.joins;

@@ -7,7 +7,7 @@ use Rattle.wcp_clocks.proofs.strict.StrictRows.counts.Goals as goal
 pub returns-then-by-self : goal.returns-then-by-self
 returns-then-by-self c =
     let by : ℕ = c.args.by.0 in
-    let theirs : ℕ = counts_of c.args.clock.now by in
+    let theirs : ℕ = counts_of c.args.release.now by in
     let within : by < c.args.self.now.width
     = subst (λ (s : StrictTables). by < s.width) c.self.view_is c.if-by-self.true in
     c.is_at_least.ensures

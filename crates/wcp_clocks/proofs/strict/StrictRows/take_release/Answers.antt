@@ -4,7 +4,7 @@ use Rattle.std.specs.Vec.{with_items}
 use Rattle.hb_clocks.specs.Tables.{widths_of}
 use Rattle.wcp_clocks.specs.StrictRows.{StrictTables, KeepsRoom}
 use Rattle.wcp_clocks.proofs.Kept.{SameWidths, room_kept, tables_kept}
-use Rattle.wcp_clocks.proofs.strict.StrictRows.take_clock.Goals as goal
+use Rattle.wcp_clocks.proofs.strict.StrictRows.take_release.Goals as goal
 
 -- the tables as the step finds and as it leaves them
 abbrev found : goal.After-self-1 → StrictTables
@@ -16,14 +16,14 @@ found c = record {
 }
 
 abbrev left : goal.After-self-1 → StrictTables
-left c = record (found c) { thread = (with_items c.self.inside.threads c.join_row.new.rows).items }
+left c = record (found c) { thread = (with_items c.self.inside.threads c.join_row_counts.new.rows).items }
 
 same : (c : goal.After-self-1) → SameWidths (found c) (left c)
 same c = record {
   width = refl;
-  thread = ap widths_of (with_items_is c.self.inside.threads c.join_row.new.rows
-      (c.join_row.auto.rows ∙ c.deref_mut.ensures.len))
-      ∙ c.join_row.ensures.widths ∙ ap widths_of c.deref_mut.ensures.value;
+  thread = ap widths_of (with_items_is c.self.inside.threads c.join_row_counts.new.rows
+      (c.join_row_counts.auto.rows ∙ c.deref_mut.ensures.len))
+      ∙ c.join_row_counts.ensures.widths ∙ ap widths_of c.deref_mut.ensures.value;
   below = refl;
   lock = refl;
 }

@@ -1,0 +1,146 @@
+//! The closed sections of one lock, in the order of their releases.
+//!
+//! The numbers of all release clocks stand one after another in one list, each clock as far as it is in
+//! use. So a section takes no block of memory of its own, and numbers for no more threads than there were.
+ghost use Rattle.std.specs.Prelude.{◌≡◌, ◌<◌, length};
+ghost use Rattle.lock_queues.specs.Sections.{start_of};
+
+use crate::search::search;
+use event_core::{OutOfMemory, ThreadId};
+use hb_clocks::{Clock, Mark, Work};
+use std::alloc::Global;
+use std::marker::Model;
+
+/// A closed section: the mark of its acquire, and where the numbers of its release end. They begin where
+/// those of the section before it end.
+#[derive(Clone, Copy)]
+pub(crate) struct Entry {
+    pub(crate) acquire: Mark,
+    pub(crate) ends: usize,
+}
+
+/// The closed sections. Only `reserve` takes memory.
+#[derive(Drop)]
+pub(crate) struct Sections {
+    entries: Vec<Entry>,
+    counts: Vec<u64>,
+}
+
+impl Model for Sections {
+    ghost use Rattle.std.specs.Prelude.{length};
+    ghost use Rattle.lock_queues.specs.Sections.{Packed, sections_from, AreRanges};
+
+    ghost Value = { Packed };
+
+    ghost view = { λ s. record {
+      sections = sections_from 0 s.entries.items s.counts.items;
+      memory = record {
+        numbers = length s.counts.items;
+        most_sections = s.entries.cap;
+        most_numbers = s.counts.cap;
+      };
+    } };
+
+    ghost invariant = { λ s. AreRanges 0 s.entries.items (length s.counts.items) };
+}
+
+impl Sections {
+    ghost use Rattle.std.specs.Prelude.{◌≡◌, ℕ, ◌+◌, ◌<◌, ◌≤◌, ◌^◌, ◌∷◌, ◌++◌, [], length, OnOk};
+    ghost use Rattle.lock_queues.specs.Sections.{section_at, no_sections, IsCounted, HasSpare, HasMore};
+
+    // No sections.
+    pub(crate) fn new(alloc: Global) -> Sections
+        ensures { result ≡ no_sections }
+    {
+        Sections {
+            entries: Vec::new(alloc),
+            counts: Vec::new(alloc),
+        }
+    }
+
+    // Makes room for so many sections more, with clocks of the width.
+    pub(crate) fn reserve(&mut self, more: usize, width: usize) -> Result<(), OutOfMemory>
+        ensures sections { self.new.sections ≡ self.old.sections }
+        ensures more { HasMore self.old.memory self.new.memory }
+        ensures ok { OnOk result (HasSpare self.new.sections self.new.memory more width) }
+    {
+        let Some(numbers) = more.checked_mul(width) else {
+            return Err(OutOfMemory);
+        };
+        let Ok(()) = self.entries.reserve(more) else {
+            return Err(OutOfMemory);
+        };
+        let Ok(()) = self.counts.reserve(numbers) else {
+            return Err(OutOfMemory);
+        };
+        Ok(())
+    }
+
+    // One section more: the mark of its acquire, and the numbers of its release.
+    pub(crate) fn push(&mut self, acquire: Mark, release: &[u64])
+        requires spare { HasSpare self.old.sections self.old.memory 1 (length release.now) }
+        ensures sections { self.new.sections
+            ≡ self.old.sections ++ record { acquire = acquire; release = release.now } ∷ [] }
+        ensures numbers { self.new.memory.numbers ≡ self.old.memory.numbers + length release.now }
+        ensures most_sections { self.old.memory.most_sections ≤ self.new.memory.most_sections }
+        ensures most_numbers { self.old.memory.most_numbers ≤ self.new.memory.most_numbers }
+    {
+        self.counts.extend_from_slice(release).unwrap();
+        let ends = self.counts.len();
+        self.entries.push_reserved(Entry { acquire, ends });
+    }
+
+    // How many sections there are.
+    pub(crate) fn len(&self) -> usize
+        ensures { result ≡ length self.now.sections }
+    {
+        self.entries.len()
+    }
+
+    // The thread whose the section at the place was.
+    pub(crate) fn thread(&self, place: usize) -> ThreadId
+        requires within { place < length self.now.sections }
+        ensures { result.0 ≡ (section_at self.now.sections place).acquire.thread }
+    {
+        self.entries[place].acquire.thread()
+    }
+
+    // The numbers of the release of the section at the place.
+    pub(crate) fn release(&self, place: usize) -> &[u64]
+        requires within { place < length self.now.sections }
+        ensures { result.now ≡ (section_at self.now.sections place).release }
+    {
+        let start = find_start(&self.entries, place);
+        &self.counts[start..self.entries[place].ends]
+    }
+
+    // How many of the sections the clock counts one after another from the first, of which so many are known
+    // to be. The first of the others that is not counted ends the search.
+    pub(crate) fn search(&self, known: usize, clock: &Clock, work: &mut Work) -> usize
+        requires within { known ≤ length self.now.sections }
+        requires widths { (k : ℕ) → k < length self.now.sections
+            → (section_at self.now.sections k).acquire.thread < length clock.now }
+        requires few { work.old.comparisons + length self.now.sections < 2 ^ 63 }
+        requires before { (k : ℕ) → k < known → IsCounted self.now.sections clock.now k }
+        ensures counted { (k : ℕ) → k < result → IsCounted self.now.sections clock.now k }
+        ensures stopped { result < length self.now.sections
+            → IsCounted self.now.sections clock.now result → ⊥ }
+        ensures within { result ≤ length self.now.sections }
+        ensures joins { work.new.joins ≡ work.old.joins }
+        ensures comparisons { work.new.comparisons + known ≤ work.old.comparisons + result + 1 }
+    {
+        search(&self.entries, known, clock, work)
+    }
+}
+
+// Where the numbers of the section at the place begin.
+fn find_start(entries: &[Entry], place: usize) -> usize
+    requires { place < length entries.now }
+    ensures { result ≡ start_of 0 entries.now place }
+{
+    if place == 0 {
+        0
+    } else {
+        entries[place - 1].ends
+    }
+}
