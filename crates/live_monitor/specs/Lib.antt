@@ -1,0 +1,4 @@
+pub mod Calls
+pub mod Swaps
+pub mod Books
+pub mod ClosedLog

@@ -1,0 +1,73 @@
+//! The start: a monitor before it has a name, and then the one that threads share.
+ghost use Rattle.std.specs.Prelude.{◌≡◌, ◌↔◌, [], IfOk, IfErr};
+ghost use Rattle.event_core.specs.declared.bounds.Roots.TheVariants.{Free};
+ghost use Rattle.log_pass.specs.Views.{main, new_pass};
+
+use crate::book::Book;
+use crate::shared::Shared;
+use event_core::{Limits, Roots};
+use log_pass::{Blank, Name, Pass};
+use seq_monitor::Monitor;
+use std::alloc::Global;
+use std::marker::Model;
+
+/// Why there is no monitor to start.
+#[derive(Clone, Copy, Debug, PartialEq, Eq)]
+pub enum StartFault {
+    /// The limits let more threads than thread 0 run from the beginning.
+    RootsFree,
+    /// There was no memory for it.
+    NoRoom,
+}
+
+/// A monitor with an empty log, before any pass is handed out. Contracts see which `table` it is, and the
+/// `limits`.
+#[derive(Drop)]
+pub struct Unnamed {
+    blank: Blank,
+    monitor: Monitor,
+}
+
+impl Model for Unnamed {
+    ghost use Rattle.std.specs.Prelude.{◌≡◌, []};
+    ghost use Rattle.log_pass.specs.Names.{LimitedTable, limited_table_code};
+
+    ghost Value = { LimitedTable };
+
+    ghost coded = { limited_table_code };
+
+    ghost view = { λ u. u.blank };
+
+    ghost invariant = { λ u. (u.monitor.log ≡ []) × (u.monitor.limits ≡ u.blank.limits) };
+}
+
+impl Unnamed {
+    /// A monitor with an empty log. It is refused where more threads than thread 0 run from the beginning,
+    /// and where a growth is.
+    pub fn new(alloc: Global, limits: Limits) -> Result<Unnamed, StartFault>
+        ensures limits { IfOk result (λ unnamed. unnamed.limits ≡ limits) }
+        ensures roots { IfErr result (λ fault. (fault ≡ StartFault.RootsFree) ↔ (limits.roots ≡ Free)) }
+    {
+        if limits.roots() == Roots::Free {
+            return Err(StartFault::RootsFree);
+        }
+        let Ok(blank) = Blank::new(alloc, limits) else {
+            return Err(StartFault::NoRoom);
+        };
+        let Ok(monitor) = Monitor::new(alloc, &limits) else {
+            return Err(StartFault::NoRoom);
+        };
+        Ok(Unnamed { blank, monitor })
+    }
+}
+
+/// The monitor under the name `N`, which names this one, with the pass of thread 0. It takes no memory.
+pub fn start<N: Name>(unnamed: Unnamed) -> (Shared<N>, Pass<N>)
+    requires table { unnamed.table ≡ N.table }
+    requires limits { unnamed.limits ≡ N.limits }
+    ensures main_pass { result.1 ≡ new_pass main [] }
+{
+    let Unnamed { blank, monitor } = unnamed;
+    let (published, keeper, pass) = blank.open::<N>();
+    (Shared::over(Book::new(monitor, keeper), published), pass)
+}

@@ -1,0 +1,12 @@
+//! Tests of the monitor that threads share: worked cases with the passes in one hand, and threads that call
+//! it at once.
+//!
+//! The crate has tests alone, and they see no more of the monitor than any caller does.
+#![tactic(auto)]
+
+#[cfg(test)]
+mod actors;
+#[cfg(test)]
+mod rows;
+#[cfg(test)]
+mod threads;

@@ -1,0 +1,264 @@
+//! Worked cases of two threads, whose passes are in one hand.
+ghost use Rattle.std.specs.Prelude.{◌≡◌};
+
+use crate::actors::{Actor, Ask};
+use Ask::{Acquire, Load, Release, Store};
+use Deed::{Accepted, Found, Refused, Swapped};
+use Turn::{Child, Fork, Join, Main};
+use Verdict::{Clear, Racy};
+use event_core::{Limits, Refusal, Reply, Roots, SwapReply, ThreadId, Verdict};
+use live_monitor::{Closed, Shared, StartFault, Unnamed, start};
+use log_pass::Name;
+use std::alloc::Global;
+use std::marker::Brand;
+use std::process::Abort;
+use std::sync::Wait;
+
+/// What a thread asks for, and the index, the value and the verdict, or the refusal, that it is answered.
+/// Or the value that it swaps in, and how that is answered. Or how many events it finds.
+#[derive(Clone, Copy)]
+enum Deed {
+    Accepted(Ask, u64, u64, Verdict),
+    Refused(Ask, Refusal),
+    Swapped(u64, Result<SwapReply, Refusal>),
+    Found(u64),
+}
+
+/// What thread 0 does, or thread 1, or that thread 0 forks or joins thread 1, with the index.
+#[derive(Clone, Copy)]
+enum Turn {
+    Main(Deed),
+    Child(Deed),
+    Fork(u64),
+    Join(u64),
+}
+
+/// Thread 1 may acquire the lock only after thread 0 released it.
+static TWO_ACQUIRE: [Turn; 9] = [
+    Fork(0),
+    Main(Accepted(Acquire(0), 1, 0, Clear)),
+    Child(Refused(Acquire(0), Refusal::Held { by: ThreadId(0) })),
+    Child(Found(2)),
+    Child(Refused(Release(0), Refusal::NotHolder)),
+    Main(Found(2)),
+    Main(Accepted(Release(0), 2, 0, Clear)),
+    Child(Accepted(Acquire(0), 3, 0, Clear)),
+    Main(Found(4)),
+];
+
+static STORE_THEN_LOAD: [Turn; 7] = [
+    Main(Accepted(Store(0, 7), 0, 7, Clear)),
+    Fork(1),
+    Child(Accepted(Store(0, 9), 2, 9, Clear)),
+    Main(Found(3)),
+    Main(Accepted(Load(0), 3, 9, Racy(2))),
+    Join(4),
+    Main(Accepted(Load(0), 5, 9, Clear)),
+];
+
+static LOAD_THEN_STORE: [Turn; 6] = [
+    Main(Accepted(Store(0, 7), 0, 7, Clear)),
+    Fork(1),
+    Main(Accepted(Load(0), 2, 7, Clear)),
+    Child(Accepted(Store(0, 9), 3, 9, Racy(2))),
+    Join(4),
+    Main(Accepted(Load(0), 5, 9, Clear)),
+];
+
+/// The sections on the inner lock order those on the outer one.
+static NESTED_SECTIONS: [Turn; 13] = [
+    Fork(0),
+    Main(Accepted(Acquire(0), 1, 0, Clear)),
+    Main(Accepted(Acquire(1), 2, 0, Clear)),
+    Main(Accepted(Store(0, 3), 3, 3, Clear)),
+    Main(Accepted(Release(1), 4, 0, Clear)),
+    Main(Accepted(Store(1, 4), 5, 4, Clear)),
+    Main(Accepted(Release(0), 6, 0, Clear)),
+    Child(Accepted(Acquire(1), 7, 0, Clear)),
+    Child(Accepted(Load(0), 8, 3, Clear)),
+    Child(Accepted(Release(1), 9, 0, Clear)),
+    Child(Accepted(Acquire(0), 10, 0, Clear)),
+    Child(Accepted(Release(0), 11, 0, Clear)),
+    Child(Accepted(Load(1), 12, 4, Clear)),
+];
+
+/// Thread 1 is never joined, and keeps its lock.
+static STAYS_HELD: [Turn; 3] = [
+    Fork(0),
+    Child(Accepted(Acquire(0), 1, 0, Clear)),
+    Main(Refused(Acquire(0), Refusal::Held { by: ThreadId(1) })),
+];
+
+static TWO_SWAP: [Turn; 6] = [
+    Fork(0),
+    Child(Swapped(
+        4,
+        Ok(SwapReply {
+            index: 1,
+            value: 0,
+            load: Clear,
+            store: Clear,
+        }),
+    )),
+    Main(Found(3)),
+    Main(Swapped(
+        5,
+        Ok(SwapReply {
+            index: 3,
+            value: 4,
+            load: Racy(2),
+            store: Racy(2),
+        }),
+    )),
+    Main(Swapped(6, Err(Refusal::LogFull))),
+    Main(Found(5)),
+];
+
+fn take<N: Name, R: Wait + Abort>(
+    rt: &R,
+    shared: &Shared<N>,
+    actor: Actor<N>,
+    deed: Deed,
+) -> Actor<N> {
+    match deed {
+        Accepted(ask, index, value, verdict) => {
+            let (actor, answer) = actor.make(rt, shared, ask, 0);
+            assert_eq!(rt;
+                answer,
+                Ok(Reply {
+                    index,
+                    value,
+                    verdict
+                })
+            );
+            actor
+        }
+        Refused(ask, refusal) => {
+            let (actor, answer) = actor.make(rt, shared, ask, 0);
+            assert_eq!(rt; answer, Err(refusal));
+            actor
+        }
+        Swapped(value, wanted) => {
+            let (actor, answer) = actor.swap(rt, shared, 0, value, 0);
+            assert_eq!(rt; answer, wanted);
+            actor
+        }
+        Found(wanted) => {
+            let (actor, found) = actor.look(shared);
+            assert_eq!(rt; found, wanted);
+            actor
+        }
+    }
+}
+
+/// The pass of thread 0, and that of thread 1 while it runs.
+type Both<N> = (Actor<N>, Option<Actor<N>>);
+
+fn fork<N: Name, R: Wait + Abort>(
+    rt: &R,
+    shared: &Shared<N>,
+    main: Actor<N>,
+    index: u64,
+) -> Both<N> {
+    let (main, child, reply) = main.fork(rt, shared, 1);
+    assert_eq!(rt; reply.index, index);
+    (main, Some(child))
+}
+
+fn join<N: Name, R: Wait + Abort>(
+    rt: &R,
+    shared: &Shared<N>,
+    main: Actor<N>,
+    child: Actor<N>,
+    index: u64,
+) -> Both<N> {
+    let (main, child) = main.meet(shared, child);
+    let (main, reply) = main.join(rt, shared, child);
+    assert_eq!(rt; reply.index, index);
+    (main, None)
+}
+
+fn take_turn<N: Name, R: Wait + Abort>(
+    rt: &R,
+    shared: &Shared<N>,
+    both: Both<N>,
+    turn: Turn,
+) -> Both<N> {
+    let (main, child) = both;
+    match turn {
+        Main(deed) => (take(rt, shared, main, deed), child),
+        Child(deed) => {
+            let child = child.expect(rt, "the child");
+            (main, Some(take(rt, shared, child, deed)))
+        }
+        Fork(index) => fork(rt, shared, main, index),
+        Join(index) => join(rt, shared, main, child.expect(rt, "the child"), index),
+    }
+}
+
+/// Both threads take their turns.
+fn take_turns<N: Name, R: Wait + Abort>(rt: &R, unnamed: Unnamed, turns: &[Turn]) -> Closed
+    requires table { unnamed.table ≡ N.table }
+    requires limits { unnamed.limits ≡ N.limits }
+{
+    let (shared, pass) = start::<N>(unnamed);
+    let mut both = (Actor::new(pass), None);
+    for turn in turns {
+        both = take_turn(rt, &shared, both, *turn);
+    }
+    both.0.close(rt, shared)
+}
+
+/// Two threads, two locks, two variables and so many events.
+fn expect_turns<R: Wait + Abort>(rt: &R, alloc: Global, events: u64, turns: &[Turn]) -> Closed {
+    let limits = Limits::new(2, 2, 2, events, Roots::OnlyMain).expect(rt, "limits");
+    let unnamed = match Unnamed::new(alloc, limits) {
+        Err(StartFault::NoRoom) => Unnamed::new(alloc, limits),
+        made => made,
+    };
+    take_turns::<Brand, _>(rt, unnamed.expect(rt, "a monitor"), turns)
+}
+
+#[test]
+fn a_held_lock_is_refused_until_it_is_released(rt: HostRuntime) {
+    let closed = expect_turns(&rt, rt.alloc(), 16, &TWO_ACQUIRE);
+    assert!(rt; closed.len() == 4 && closed.log().len() == 4);
+}
+
+#[test]
+fn of_two_accesses_the_later_races(rt: HostRuntime) {
+    let first = expect_turns(&rt, rt.alloc(), 16, &STORE_THEN_LOAD);
+    assert!(rt; first.len() > 3 && first.verdict_at(3) == Racy(2));
+    let second = expect_turns(&rt, rt.alloc(), 16, &LOAD_THEN_STORE);
+    assert!(rt;
+        second
+            .verdicts()
+            .iter()
+            .filter(|verdict| **verdict != Clear)
+            .count()
+            == 1
+    );
+}
+
+#[test]
+fn a_release_takes_no_memory(rt: HostRuntime) {
+    expect_turns(&rt, rt.alloc(), 64, &NESTED_SECTIONS);
+}
+
+#[test]
+fn a_thread_that_is_not_joined_keeps_its_lock(rt: HostRuntime) {
+    let closed = expect_turns(&rt, rt.alloc(), 16, &STAYS_HELD);
+    assert_eq!(rt; closed.len(), 2);
+}
+
+#[test]
+fn a_swap_is_seen_whole(rt: HostRuntime) {
+    expect_turns(&rt, rt.alloc(), 5, &TWO_SWAP);
+}
+
+#[test]
+fn only_thread_0_may_run_from_the_beginning(rt: HostRuntime) {
+    let limits = Limits::new(2, 1, 1, 16, Roots::Free).expect(&rt, "limits");
+    let refused = Unnamed::new(rt.alloc(), limits).err();
+    assert!(rt; refused == Some(StartFault::RootsFree));
+}
