@@ -16,7 +16,7 @@ use std::test::Fail;
 use std::thread;
 use std::thread::{Threads, map_vec};
 
-/// What each thread does so often.
+/// How many rounds each thread makes.
 const ROUNDS: u32 = 50;
 
 /// A round's events: a load, a store, a section that holds nothing, and the two of a swap.
