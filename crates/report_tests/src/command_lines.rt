@@ -1,21 +1,41 @@
 //! Command lines, and what is said of them.
 use crate::doubles::{Pieces, run};
 use std::test::Fail;
-use wcp_tool::{Command, Settings, settings};
+use wcp_tool::settings;
 
-/// Words, and the command and the number of threads that they ask for.
-static TAKEN: [(&[&str], Command, u32); 7] = [
-    (&["check"], Command::Check, 64),
-    (&["check", "--threads", "1"], Command::Check, 1),
-    (&["check", "--threads", "64"], Command::Check, 64),
-    (&["check", "--threads=+7"], Command::Check, 7),
-    (&["check", "--threads", "1024"], Command::Check, 1024),
-    (&["replay"], Command::Replay, 64),
-    (&["replay", "--threads", "2"], Command::Replay, 2),
+/// Words, and the command, the number of threads and the patience that they ask for.
+static TAKEN: [(&[&str], &str, u32, u32); 12] = [
+    (&["check"], "Check", 64, 1000000),
+    (&["check", "--threads", "1"], "Check", 1, 1000000),
+    (&["check", "--threads", "64"], "Check", 64, 1000000),
+    (&["check", "--threads=+7"], "Check", 7, 1000000),
+    (&["check", "--threads", "1024"], "Check", 1024, 1000000),
+    (&["replay"], "Replay", 64, 1000000),
+    (&["replay", "--threads", "2"], "Replay", 2, 1000000),
+    (&["run", "a.txt"], "Run(\"a.txt\")", 64, 1000000),
+    (
+        &["run", "--patience", "1", "a.txt"],
+        "Run(\"a.txt\")",
+        64,
+        1,
+    ),
+    (
+        &["run", "b", "--patience=4294967295"],
+        "Run(\"b\")",
+        64,
+        4294967295,
+    ),
+    (
+        &["run", "--threads", "3", "c d", "--patience", "20"],
+        "Run(\"c d\")",
+        3,
+        20,
+    ),
+    (&["run", "--", "--help"], "Run(\"--help\")", 64, 1000000),
 ];
 
 /// Words that ask for help or for the version, and a part of what is said.
-static ASKED: [(&[&str], &str); 9] = [
+static ASKED: [(&[&str], &str); 12] = [
     (&["--help"], "Usage: wcp <COMMAND>"),
     (&["-h"], "Exit status:"),
     (&["help"], "check"),
@@ -23,15 +43,33 @@ static ASKED: [(&[&str], &str); 9] = [
     (&["help", "check"], "TooManyNames"),
     (&["replay", "--help"], "Usage: wcp replay [OPTIONS] < TRACE"),
     (&["help", "replay"], "races R"),
+    (&["run", "--help"], "Usage: wcp run [OPTIONS] FILE"),
+    (&["run", "-h"], "--patience <N>"),
+    (&["help", "run"], "Stuck"),
     (&["--version"], "wcp 0.1.0\n"),
     (&["-V"], "wcp 0.1.0\n"),
 ];
 
 /// Words that are wrong, and a part of what is said of them.
-static WRONG: [(&[&str], &str); 11] = [
+static WRONG: [(&[&str], &str); 17] = [
     (&[], "Usage: wcp <COMMAND>"),
     (&["report"], "'report'"),
-    (&["run", "script"], "'run'"),
+    (&["run"], "<FILE>"),
+    (&["run", "--threads", "2"], "<FILE>"),
+    (&["run", "a", "b"], "'b'"),
+    (
+        &["run", "a", "--threads", "1025"],
+        "1025 is not in 1..=1024",
+    ),
+    (
+        &["run", "a", "--patience", "0"],
+        "0 is not in 1..=4294967295",
+    ),
+    (
+        &["run", "a", "--patience", "4294967296"],
+        "4294967296 is not in 1..=4294967295",
+    ),
+    (&["run", "a", "--patience"], "a value is required"),
     (&["check", "--threads", "0"], "0 is not in 1..=1024"),
     (&["check", "--threads", "1025"], "1025 is not in 1..=1024"),
     (&["check", "--threads", "x"], "'x'"),
@@ -46,14 +84,13 @@ static WRONG: [(&[&str], &str); 11] = [
 ];
 
 #[test]
-fn takes_a_command_with_its_option(rt: HostRuntime) -> Result<(), Fail> {
-    for (words, command, threads) in &TAKEN {
+fn takes_a_command_with_its_options(rt: HostRuntime) -> Result<(), Fail> {
+    for (words, command, threads, patience) in &TAKEN {
         let got = settings(rt.alloc(), *words)?;
-        let want = Settings {
-            command: *command,
-            threads: *threads,
-        };
-        assert!(rt; got == want, "{words:?}: {got:?}");
+        let met = format!(in rt.alloc(); "{:?}", got.command)?;
+        assert!(rt; met.as_str() == *command, "{words:?}: {got:?}");
+        assert!(rt; got.threads == *threads, "{words:?}: {got:?}");
+        assert!(rt; got.patience == *patience, "{words:?}: {got:?}");
     }
     Ok(())
 }

@@ -3,7 +3,10 @@ ghost use Rattle.std.specs.Prelude.{◌≡◌, false, None};
 
 use rapid_text::{Input, Output, ReadFailed, WriteFailed};
 use std::alloc::Global;
+use std::fs::Files;
 use std::process::Abort;
+use std::sync::Wait;
+use std::thread::Threads;
 use wcp_tool::tool;
 
 /// Gives a text in pieces: first one of so many bytes, then all others of another size. At the end of the
@@ -136,7 +139,11 @@ impl Ran {
 }
 
 /// The program over the words and the reader.
-pub fn run(rt: &impl AllocGlobal, words: &[&str], reader: Pieces<'_>) -> Ran
+pub fn run<R: AllocGlobal + Files + Threads + Wait + Sync>(
+    rt: &R,
+    words: &[&str],
+    reader: Pieces<'_>,
+) -> Ran
     requires { reader.failed ≡ false }
 {
     run_to(
@@ -149,8 +156,8 @@ pub fn run(rt: &impl AllocGlobal, words: &[&str], reader: Pieces<'_>) -> Ran
 }
 
 /// The program over the words and the reader, with standard output and standard error on these pages.
-pub fn run_to(
-    rt: &impl AllocGlobal,
+pub fn run_to<R: AllocGlobal + Files + Threads + Wait + Sync>(
+    rt: &R,
     words: &[&str],
     mut reader: Pieces<'_>,
     mut writer: Page,

@@ -3,12 +3,15 @@ ghost use Rattle.std.specs.Prelude.{◌≡◌, false};
 
 use crate::doubles::{Pieces, run};
 use crate::traces::{LEGAL, REFUSED};
+use std::fs::Files;
 use std::process::Abort;
+use std::sync::Wait;
 use std::test::Fail;
+use std::thread::Threads;
 
 /// What a command prints of the text that the reader gives, and the status with which it ends.
 fn judge(
-    rt: &(impl Abort + AllocGlobal),
+    rt: &(impl Abort + AllocGlobal + Files + Threads + Wait + Sync),
     command: &str,
     name: &str,
     reader: Pieces<'_>,
@@ -23,7 +26,7 @@ fn judge(
 
 /// It prints the same of the text whole, byte by byte, and cut in two at each place.
 fn judge_however_cut(
-    rt: &(impl Abort + AllocGlobal),
+    rt: &(impl Abort + AllocGlobal + Files + Threads + Wait + Sync),
     command: &str,
     name: &str,
     text: &str,

@@ -4,7 +4,10 @@ ghost use Rattle.std.specs.Prelude.{◌≡◌, false};
 use crate::doubles::{Page, Pieces, Ran, run_to};
 use event_core::{Limits, Roots};
 use rapid_text::Device;
+use std::fs::Files;
+use std::sync::Wait;
 use std::test::Fail;
+use std::thread::Threads;
 use trace_report::{ReplayFault, replay};
 use wcp_tool::{CheckFault, check};
 
@@ -21,7 +24,12 @@ static PRINTED: [(&str, &[u8], u8); 2] = [
     ),
 ];
 
-fn judge_to(rt: &impl AllocGlobal, command: &str, writer: Page, errors: Page) -> Ran
+fn judge_to(
+    rt: &(impl AllocGlobal + Files + Threads + Wait + Sync),
+    command: &str,
+    writer: Page,
+    errors: Page,
+) -> Ran
     requires { writer.failed ≡ false }
 {
     let reader = Pieces::whole(TRACE.as_bytes());

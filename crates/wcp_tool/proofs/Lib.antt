@@ -4,6 +4,8 @@ pub mod Found
 pub mod Progress
 pub mod Reading
 pub mod Shortage
+pub mod Keeping
+pub mod Given
 pub mod Asking
 pub mod Hindrance
 pub mod Obeying

@@ -4,14 +4,15 @@ use Rattle.std.specs.Prelude.{◌≡◌, ◌≢◌, if◌then◌else◌}
 use Rattle.std.specs.List.{list_any}
 use Rattle.std.specs.Str.{bytes_eq}
 use Rattle.std.specs.Str.Parse.{digits_value, without_leading_plus}
+use Rattle.std.specs.String.{string_bytes}
 use Rattle.clap.specs.Words.{App, Kinds, Row, Rule, Shape, Text, fault_of, new_app, new_rule, one_of}
-use Rattle.clap.specs.Words.{subcommand_of, with_rule, with_subcommand}
+use Rattle.clap.specs.Words.{first_of, subcommand_of, with_rule, with_subcommand}
 use Rattle.clap.specs.declared.builder.action.ArgAction.TheVariants.{Set}
 use Rattle.clap.specs.declared.builder.value_parser.ValueParser.TheVariants.{Signed}
 use Rattle.clap.specs.declared.error.kind.ErrorKind.{ErrorKind}
 use Rattle.clap.specs.declared.error.kind.ErrorKind.TheVariants as kinds
 use Rattle.wcp_tool.specs.declared.requests.Command.{Command}
-use Rattle.wcp_tool.specs.declared.requests.Command.TheVariants.{Check, Replay}
+use Rattle.wcp_tool.specs.declared.requests.Command.TheVariants.{Check, Replay, Run}
 use Rattle.wcp_tool.specs.declared.requests.Settings.{Settings}
 use Rattle.wcp_tool.specs.declared.requests.UsageFault.{UsageFault}
 use Rattle.wcp_tool.specs.declared.requests.UsageFault.TheVariants as faults
@@ -32,9 +33,23 @@ number_option name most default = record (new_rule name) {
 abbrev pub threads_option : Rule
 threads_option = number_option (codes "threads") 1024 (codes "64")
 
+-- --patience N, from 1 to 4,294,967,295; 1,000,000 where it is not given
+abbrev pub patience_option : Rule
+patience_option = number_option (codes "patience") 4294967295 (codes "1000000")
+
+-- FILE, which has to be given
+abbrev pub file_argument : Rule
+file_argument = record (new_rule (codes "FILE")) { required = true; action = Some Set }
+
 -- a command over a trace
 abbrev pub trace_command : Text → Shape
 trace_command name = (with_rule (new_app name) threads_option).top
+
+-- the command over a script
+abbrev pub run_command : Shape
+run_command =
+    (with_rule (with_rule (with_rule (new_app (codes "run")) file_argument) threads_option)
+    patience_option).top
 
 -- wcp before its commands: it is given the words after its own name, and wants one of the commands
 abbrev pub bare : App
@@ -48,8 +63,13 @@ bare = record {
   subs = [];
 }
 
+-- wcp with its commands over a trace
+abbrev pub trace_commands : App
+trace_commands =
+    with_subcommand (with_subcommand bare (trace_command (codes "check"))) (trace_command (codes "replay"))
+
 unfoldable pub wcp : App
-wcp = with_subcommand (with_subcommand bare (trace_command (codes "check"))) (trace_command (codes "replay"))
+wcp = with_subcommand trace_commands run_command
 
 -- ---- what the words ask for
 
@@ -57,29 +77,60 @@ wcp = with_subcommand (with_subcommand bare (trace_command (codes "check"))) (tr
 unfoldable pub faults_of : List Text → Kinds
 faults_of words = fault_of wcp words
 
--- the command with this name
-abbrev pub command_named : Text → Option Command
-command_named name =
-    if bytes_eq name (codes "check") then Some Check
-    else (if bytes_eq name (codes "replay") then Some Replay else None)
+-- what to do: check a trace, replay it, or run the script at a path
+pub data Request : Type 0 where
+  check : Request
+  replay : Request
+  run : Text → Request
+
+-- what words ask for
+pub record Asked : Type 0 where
+  pub request : Request
+  pub threads : ℕ
+  pub patience : ℕ
+
+abbrev pub request_of : Command → Request
+request_of Check = check
+request_of Replay = replay
+request_of (Run file) = run (string_bytes file)
+
+abbrev pub asked_by : Settings → Asked
+asked_by s = record { request = request_of s.command; threads = s.threads; patience = s.patience }
 
 -- the number that decimal digits stand for
 abbrev pub number_of : Text → ℕ
 number_of text = digits_value 10 (without_leading_plus text)
 
-abbrev pub settings_of : Option Command → Option Text → Option Settings
-settings_of (Some command) (Some threads) =
-    Some (record { command = command; threads = number_of threads })
-settings_of _ _ = None
+-- no script is run
+abbrev pub over_trace : Request → Option Text → Option Asked
+over_trace request (Some threads) =
+    Some (record { request = request; threads = number_of threads; patience = 1000000 })
+over_trace request None = None
 
--- by the name of the command, and what clap found for its options
-abbrev pub settings_in : Option (Text × List Row) → Option Settings
-settings_in None = None
-settings_in (Some p) = settings_of (command_named p.0) (one_of (codes "threads") p.1)
+abbrev pub over_script : Option Text → Option Text → Option Text → Option Asked
+over_script (Some file) (Some threads) (Some patience) = Some (record {
+  request = run file;
+  threads = number_of threads;
+  patience = number_of patience;
+})
+over_script _ _ _ = None
 
--- the settings that the words ask for
-unfoldable pub asked : List Text → Option Settings
-asked words = settings_in (subcommand_of wcp words)
+-- what a command with this name asks for, where clap found this for its options
+abbrev pub asked_under : Text → List Row → Option Asked
+asked_under name rows =
+    if bytes_eq name (codes "check") then over_trace check (one_of (codes "threads") rows)
+    else (if bytes_eq name (codes "replay") then over_trace replay (one_of (codes "threads") rows)
+    else (if bytes_eq name (codes "run") then over_script (first_of (codes "FILE") rows)
+    (one_of (codes "threads") rows) (one_of (codes "patience") rows)
+    else None))
+
+abbrev pub asked_in : Option (Text × List Row) → Option Asked
+asked_in None = None
+asked_in (Some p) = asked_under p.0 p.1
+
+-- what the words ask for
+unfoldable pub asked : List Text → Option Asked
+asked words = asked_in (subcommand_of wcp words)
 
 -- ---- words that ask for no run
 

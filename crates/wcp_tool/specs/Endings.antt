@@ -12,7 +12,7 @@ use Rattle.trace_report.specs.declared.faults.ReplayFault.{ReplayFault}
 use Rattle.trace_report.specs.declared.faults.ReplayFault.TheVariants as replays
 use Rattle.trace_report.specs.declared.summary.Summary.{Summary}
 use Rattle.wcp_tool.specs.declared.endings.Ending.TheVariants.{Done, Races, WrongUsage, Refused, ReadFault}
-use Rattle.wcp_tool.specs.declared.endings.Ending.TheVariants.{WriteFault, OutOfMemory}
+use Rattle.wcp_tool.specs.declared.endings.Ending.TheVariants.{WriteFault, OutOfMemory, BrokenScript}
 
 -- the exit status
 abbrev pub status_of : Ending → ℕ
@@ -23,6 +23,7 @@ status_of Refused = 3
 status_of ReadFault = 4
 status_of WriteFault = 4
 status_of OutOfMemory = 5
+status_of BrokenScript = 6
 
 abbrev pub cause_ending : Cause → Ending
 cause_ending causes.Read = ReadFault
@@ -40,9 +41,13 @@ ending_for (Err (faults.Text f)) = cause_ending f.cause
 ending_for (Err (faults.Refused line r)) = refusal_ending r
 ending_for (Err faults.Write) = WriteFault
 
+-- how a run with this report ends
+abbrev pub summary_ending : Summary → Ending
+summary_ending summary = cond (nat_eq summary.races 0) Done Races
+
 -- how a replay with this answer ends
 abbrev pub replay_ending : Result Summary ReplayFault → Ending
-replay_ending (Ok summary) = cond (nat_eq summary.races 0) Done Races
+replay_ending (Ok summary) = summary_ending summary
 replay_ending (Err (replays.Text f)) = cause_ending f.cause
 replay_ending (Err (replays.Refused line r)) = refusal_ending r
 replay_ending (Err replays.Write) = WriteFault

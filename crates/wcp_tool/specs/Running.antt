@@ -1,34 +1,40 @@
 -- What the program does for its words, and the status that it ends with.
-use Rattle.std.specs.Prelude.{◌≡◌, ◌≢◌, ◌⊎◌, ℕ, List, [], Option, Bool, true, false, Result, IfSome}
+use Rattle.std.specs.Prelude.{◌≡◌, ◌≢◌, ◌≤◌, ◌⊎◌, ℕ, List, [], Option, Bool, true, false, Result, length}
+use Rattle.std.specs.Prelude.{IfSome}
 use Rattle.std.specs.Prelude.{IsSomeAnd}
 use Rattle.std.specs.List.{list_any}
 use Rattle.std.specs.Io.KnownBytes.{Appends}
 use Rattle.event_core.specs.declared.bounds.Limits.{Limits}
-use Rattle.event_core.specs.declared.bounds.Roots.TheVariants.{Free}
+use Rattle.event_core.specs.declared.bounds.Roots.{Roots}
+use Rattle.event_core.specs.declared.bounds.Roots.TheVariants.{Free, OnlyMain}
+use Rattle.event_core.specs.declared.events.Event.{Event}
+use Rattle.event_core.specs.declared.replies.Verdict.{Verdict}
+use Rattle.event_core.specs.Refusal.{WellFormed}
+use Rattle.rapid_text.specs.Tables.{Tables}
+use Rattle.seq_monitor.specs.Monitored.{AreVerdicts}
+use Rattle.trace_report.specs.Reports.{AreNamed, report_of, summary_of}
 use Rattle.clap.specs.Words.{Text}
 use Rattle.trace_report.specs.declared.faults.ReplayFault.{ReplayFault}
 use Rattle.trace_report.specs.declared.summary.Summary.{Summary}
 use Rattle.trace_report.specs.Replayed.{Told, finding as replayed}
-use Rattle.wcp_tool.specs.declared.requests.Command.{Command}
-use Rattle.wcp_tool.specs.declared.requests.Command.TheVariants.{Check, Replay}
 use Rattle.wcp_tool.specs.declared.requests.UsageFault.{UsageFault}
 use Rattle.wcp_tool.specs.declared.requests.UsageFault.TheVariants as faults
 use Rattle.wcp_tool.specs.declared.endings.Ending.{Ending}
 use Rattle.wcp_tool.specs.declared.endings.Ending.TheVariants.{Done, WrongUsage, WriteFault, OutOfMemory}
 use Rattle.wcp_tool.specs.Checked.{checked, finding}
-use Rattle.wcp_tool.specs.CommandLine.{asked, faults_of, is_answer, is_mistake}
-use Rattle.wcp_tool.specs.Endings.{ending_for, replay_ending, status_of}
+use Rattle.wcp_tool.specs.CommandLine.{Request, asked, check, faults_of, is_answer, is_mistake, replay, run}
+use Rattle.wcp_tool.specs.Endings.{ending_for, replay_ending, status_of, summary_ending}
 
 -- ---- a run of a command
 
 -- the limits of a run: so many threads, and as many locks, variables and events as there may be
-abbrev pub limits_with : ℕ → Limits
-limits_with threads = record {
+abbrev pub limits_with : ℕ → Roots → Limits
+limits_with threads roots = record {
   threads = threads;
   locks = 1048576;
   vars = 1048576;
   events = 4294967296;
-  roots = Free;
+  roots = roots;
 }
 
 -- the whole text was checked: the one line that tells what it comes to was written, and so ends the program
@@ -43,9 +49,32 @@ pub record Replays (m : Limits) (text : List ℕ) (old new : Option (List ℕ)) 
   pub told : Told old new (replayed m text) answer
   pub ends : status ≡ status_of (replay_ending answer)
 
-abbrev pub Performs : Command → Limits → List ℕ → Option (List ℕ) → Option (List ℕ) → ℕ → Type 0
-Performs Check = Checks
-Performs Replay = Replays
+-- threads were run: the report of a well-formed log was written, with the definition's verdict on each event,
+-- and so ends the program. Which log it is depends on the script and on the schedule.
+pub record Reports (m : Limits) (old new : Option (List ℕ)) (status : ℕ) : Type 0 where
+  pub names : Tables
+  pub log : List Event
+  pub verdicts : List Verdict
+  pub well_formed : WellFormed m log
+  pub judged : AreVerdicts log verdicts
+  pub named : AreNamed names log
+  pub written : Appends old new (report_of names log verdicts)
+  pub ends : status ≡ status_of (summary_ending (summary_of names log verdicts))
+
+-- what is done for a request with so many threads, where the reader had this text left
+abbrev pub Performs : Request → ℕ → Option (List ℕ) → Option (List ℕ) → Option (List ℕ) → ℕ → Type 0
+Performs check threads left old new status =
+    IfSome left (λ text. Checks (limits_with threads Free) text old new status)
+Performs replay threads left old new status =
+    IfSome left (λ text. Replays (limits_with threads Free) text old new status)
+Performs (run path) threads left old new status =
+    (status ≡ 0) ⊎ (status ≡ 1) → Reports (limits_with threads OnlyMain) old new status
+
+-- the trace was not read to its end: a read failed, or it has as many bytes as there are turns. What a script
+-- gave is not known.
+abbrev pub IsCut : Request → Option (List ℕ) → Bool → Type 0
+IsCut (run path) left failed = Unit {0}
+IsCut request left failed = (failed ≡ true) ⊎ IfSome left (λ text. 17592186044416 ≤ length text)
 
 -- ---- a run of the program
 
@@ -54,11 +83,15 @@ abbrev pub IsUnhindered : ℕ → Type 0
 IsUnhindered status = (status ≢ 4) × (status ≢ 5)
 
 -- what the program does for these words, where the reader had this text left, and the writer this one before
--- and after
-pub record Runs (words : List Text) (left old new : Option (List ℕ)) (status : ℕ) : Type 0 where
-  -- words without a fault ask for settings, whose command is performed on the whole text, read or left unread
-  pub performs : faults_of words ≡ [] → IsUnhindered status → IsSomeAnd (asked words) (λ s.
-      IfSome left (λ text. Performs s.command (limits_with s.threads) text old new status))
+-- and after, and they failed or did not
+pub record Runs (words : List Text) (left old new : Option (List ℕ)) (read_failed write_failed : Bool)
+    (status : ℕ) : Type 0 where
+  -- words without a fault ask for a command: a trace is judged whole, read or left unread
+  pub performs : faults_of words ≡ [] → IsUnhindered status
+      → IsSomeAnd (asked words) (λ a. Performs a.request a.threads left old new status)
+  -- with status 4 the writer failed, or what the words ask for was not read to its end
+  pub hindered : status ≡ 4
+      → (write_failed ≡ true) ⊎ IsSomeAnd (asked words) (λ a. IsCut a.request left read_failed)
   -- it is a usage fault only where the words have one
   pub takes : faults_of words ≡ [] → status ≢ 2
   -- words that can only be wrong are a usage fault

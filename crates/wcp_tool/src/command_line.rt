@@ -1,86 +1,19 @@
 //! What the words of a command line ask for.
 ghost use Rattle.std.specs.Prelude.{◌≡◌, ◌≤◌, ℕ, List, [], Some, IfOk, IfErr, OnOk, true, false, map, codes};
-ghost use Rattle.std.specs.Prelude.{pos};
-ghost use Rattle.clap.specs.Words.{app_of, kind_of, rule_of, shape_of};
-ghost use Rattle.clap.specs.Words.{IsSignedIn, found_of, has_subcommand, one_text, rows_of};
-ghost use Rattle.clap.specs.Words.{subcommand_rows_of};
-ghost use Rattle.clap.specs.Words.{without_minus};
+ghost use Rattle.clap.specs.Words.{app_of, first_of, found_of, has_subcommand, kind_of, new_app, rows_of};
+ghost use Rattle.clap.specs.Words.{rule_of, shape_of, subcommand_rows_of};
 ghost use Rattle.clap.specs.declared.builder.command.Command.TheViews.{out-Command};
-ghost use Rattle.wcp_tool.specs.CommandLine.{number_option as rule_for, trace_command, bare, wcp};
-ghost use Rattle.wcp_tool.specs.CommandLine.{TellsKind, faults_of, asked, IsFaultAt, number_of as number_in};
+ghost use Rattle.wcp_tool.specs.CommandLine.{trace_command, run_command as run_shape, bare, wcp};
+ghost use Rattle.wcp_tool.specs.CommandLine.{file_argument as file_rule};
+ghost use Rattle.wcp_tool.specs.CommandLine.{TellsKind, faults_of, asked, asked_by, IsFaultAt};
 
+use crate::help_texts::{CHECK_TEXTS, REPLAY_TEXTS, RUN_TEXTS, STATUSES};
+use crate::options::{PATIENCE, THREADS, number_of, number_option};
 use crate::requests::{Command, Settings, UsageFault};
 use clap::error::ErrorKind;
-use clap::{Arg, ArgAction, ArgMatches, value_parser};
+use clap::{Arg, ArgAction, ArgMatches};
 use std::alloc::{AllocError, Global};
 use std::convert::AsStr;
-
-/// An option whose value is a number from 1 to the greatest.
-struct NumberOption {
-    name: &'static str,
-    most: u32,
-    default: u32,
-    default_text: &'static str,
-    help: &'static str,
-}
-
-const THREADS: NumberOption = NumberOption {
-    name: "threads",
-    most: 1024,
-    default: 64,
-    default_text: "64",
-    help: "How many threads the trace may name, from 1 to 1024",
-};
-
-const STATUSES: &str = "\
-Exit status:
-  0  The trace is legal, and replay found no race; or help or the version was asked for
-  1  Replay found a race
-  2  The command line is wrong
-  3  A line of the trace is refused
-  4  Standard input could not be read, or standard output could not be written
-  5  Out of memory";
-
-const CHECK_TEXTS: &str = "\
-A trace has a line for each event: the thread, the operation with its argument, and the location, as
-in T0|acq(l)|17. The operations are r and w (of a variable), acq and rel (of a lock), fork and join
-(of a thread).
-
-Standard output has one line:
-  events E threads T locks L variables V  The trace is legal, and names so many of each
-  line N: WORD                            Line N is the first that is refused, and WORD says why
-
-A line that names a thread too many is refused as TooManyNames. Then --threads allows for more.";
-
-const REPLAY_TEXTS: &str = "\
-A trace has a line for each event: the thread, the operation with its argument, and the location, as
-in T0|acq(l)|17. The operations are r and w (of a variable), acq and rel (of a lock), fork and join
-(of a thread).
-
-Standard output has a line of counts, and then one for each event that races with an earlier one:
-  events E threads T locks L variables V races R
-  I|THREAD|OPERATION|LOCATION with J|THREAD|OPERATION|LOCATION
-I and J number events from 1, and J is the latest that I races with. Two events race where they access
-one variable, one of them stores, their threads differ, and weak causal precedence does not order them.
-
-Where a line of the trace is refused, standard output has one line:
-  line N: WORD                            Line N is the first that is refused, and WORD says why
-
-A line that names a thread too many is refused as TooManyNames. Then --threads allows for more.";
-
-fn number_option<'a>(alloc: Global, option: &NumberOption) -> Arg<'a>
-    ensures local { result.global ≡ false }
-    ensures rule { rule_of result
-        ≡ rule_for option.now.name.now option.now.most option.now.default_text.now }
-{
-    Arg::new(alloc, option.name)
-        .long(option.name)
-        .value_name("N")
-        .action(ArgAction::Set)
-        .value_parser(value_parser!(u32).range(1..=i64::from(option.most)))
-        .default_value(option.default_text)
-        .help(option.help)
-}
 
 /// The command that checks a trace.
 fn check_command<'a>(alloc: Global) -> Result<clap::Command<'a>, AllocError>
@@ -104,6 +37,39 @@ fn replay_command<'a>(alloc: Global) -> Result<clap::Command<'a>, AllocError>
         .override_usage("wcp replay [OPTIONS] < TRACE")
         .after_help(REPLAY_TEXTS)
         .arg(number_option(alloc, &THREADS))
+}
+
+/// The path of a script.
+fn file_argument<'a>(alloc: Global) -> Arg<'a>
+    ensures local { result.global ≡ false }
+    ensures rule { rule_of result ≡ file_rule }
+{
+    Arg::new(alloc, "FILE")
+        .required(true)
+        .action(ArgAction::Set)
+        .help("The script")
+}
+
+/// The command that runs a script, before its arguments are added.
+fn bare_run<'a>(alloc: Global) -> clap::Command<'a>
+    ensures local { (out-Command result).has_globals ≡ false }
+    ensures app { app_of result ≡ new_app (codes "run") }
+{
+    clap::Command::new(alloc, "run")
+        .about("Runs the threads of a script, and reports their races")
+        .override_usage("wcp run [OPTIONS] FILE")
+        .after_help(RUN_TEXTS)
+}
+
+/// The command that runs a script.
+fn run_command<'a>(alloc: Global) -> Result<clap::Command<'a>, AllocError>
+    ensures local { IfOk result (λ c. (out-Command c).has_globals ≡ false) }
+    ensures shape { IfOk result (λ c. shape_of c ≡ run_shape) }
+{
+    bare_run(alloc)
+        .arg(file_argument(alloc))?
+        .arg(number_option(alloc, &THREADS))?
+        .arg(number_option(alloc, &PATIENCE))
 }
 
 /// The program, before its commands are added.
@@ -130,20 +96,11 @@ fn command_line<'a>(alloc: Global) -> Result<clap::Command<'a>, AllocError>
 {
     let check = check_command(alloc)?;
     let replay = replay_command(alloc)?;
-    bare_command(alloc)?.subcommand(check)?.subcommand(replay)
-}
-
-/// The number that an option was given, which the parse found within its range.
-fn number_of(matches: &ArgMatches<'_>, option: &NumberOption) -> u32
-    requires { 1 ≤ option.now.most }
-    ensures least { 1 ≤ result }
-    ensures most { result ≤ option.now.most }
-    ensures given { (t : List ℕ) → IsSignedIn (pos 1) (pos option.now.most) t
-        → one_text (found_of matches.now) option.now.name.now ≡ Some (without_minus t)
-        → result ≡ number_in (without_minus t) }
-{
-    let given: Option<u32> = matches.get_one(option.name);
-    given.unwrap_or(option.default).clamp(1, option.most)
+    let run = run_command(alloc)?;
+    bare_command(alloc)?
+        .subcommand(check)?
+        .subcommand(replay)?
+        .subcommand(run)
 }
 
 /// The name of the command that the words have, and what its options were given.
@@ -154,7 +111,7 @@ fn command_met<'a, 'm>(matches: &'m ArgMatches<'a>) -> (&'a str, &'m ArgMatches<
     matches.subcommand().unwrap()
 }
 
-/// The command with this name.
+/// The command over a trace with this name.
 fn command_of(name: &str) -> Command
     ensures check { name.now ≡ codes "check" → result ≡ Command.Check }
     ensures replay { name.now ≡ codes "replay" → result ≡ Command.Replay }
@@ -164,6 +121,14 @@ fn command_of(name: &str) -> Command
     } else {
         Command::Check
     }
+}
+
+/// The path of the script that was given.
+fn file_of<'a>(matches: &ArgMatches<'a>) -> &'a str
+    ensures { (t : List ℕ) → first_of (codes "FILE") (rows_of (found_of matches.now)) ≡ Some t
+        → result.now ≡ t }
+{
+    matches.get_str("FILE").unwrap_or("")
 }
 
 fn fault_of(alloc: Global, error: &clap::Error) -> UsageFault
@@ -179,12 +144,15 @@ fn fault_of(alloc: Global, error: &clap::Error) -> UsageFault
     }
 }
 
-/// What the words after the program's own name ask for: a command, and how many threads a trace may name,
-/// 64 where the words do not say. Else they ask for help or for the version, or they are wrong.
+/// What the words after the program's own name ask for: a command, and how many threads may be named, 64
+/// where the words do not say. For a run they have the path of a script, and how often a line is tried before
+/// its thread is stuck, 1,000,000 times where they do not say. Else they ask for help or for the version, or
+/// they are wrong.
 pub fn settings<'a, S: AsStr>(alloc: Global, words: &'a [S]) -> Result<Settings, UsageFault>
     ensures threads { IfOk result (λ s. (1 ≤ s.threads) × (s.threads ≤ 1024)) }
+    ensures patience { IfOk result (λ s. (1 ≤ s.patience) × (s.patience ≤ 4294967295)) }
     // The settings are those that the words ask for.
-    ensures asked { IfOk result (λ s. asked (map S.text words.now) ≡ Some s) }
+    ensures asked { IfOk result (λ s. asked (map S.text words.now) ≡ Some (asked_by s)) }
     // They are answered only where the words have no fault.
     ensures taken { OnOk result (faults_of (map S.text words.now) ≡ []) }
     // A fault is one that the words have, or memory ran out.
@@ -198,8 +166,20 @@ pub fn settings<'a, S: AsStr>(alloc: Global, words: &'a [S]) -> Result<Settings,
         Err(error) => return Err(fault_of(alloc, &error)),
     };
     let (name, given) = command_met(&matches);
+    let threads = number_of(given, &THREADS);
+    if name != "run" {
+        return Ok(Settings {
+            command: command_of(name),
+            threads,
+            patience: PATIENCE.default,
+        });
+    }
+    let Ok(file) = String::from_str(alloc, file_of(given)) else {
+        return Err(UsageFault::OutOfMemory);
+    };
     Ok(Settings {
-        command: command_of(name),
-        threads: number_of(given, &THREADS),
+        command: Command::Run(file),
+        threads,
+        patience: number_of(given, &PATIENCE),
     })
 }

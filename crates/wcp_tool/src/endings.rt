@@ -2,6 +2,7 @@
 ghost use Rattle.std.specs.Prelude.{◌≡◌};
 ghost use Rattle.wcp_tool.specs.Endings.{status_of, ending_for, cause_ending as for_cause};
 ghost use Rattle.wcp_tool.specs.Endings.{refusal_ending as for_refusal, replay_ending};
+ghost use Rattle.wcp_tool.specs.Endings.{summary_ending as for_summary};
 
 use crate::answers::{CheckFault, Counts};
 use event_core::Refusal;
@@ -17,14 +18,16 @@ pub(crate) enum Ending {
     Races,
     /// The command line is wrong.
     WrongUsage,
-    /// A line of the trace is refused.
+    /// A line of the trace, or a call of the script, is refused.
     Refused,
-    /// Standard input could not be read to its end.
+    /// Standard input or the script could not be read to its end.
     ReadFault,
     /// Standard output could not be written.
     WriteFault,
     /// A growth was refused.
     OutOfMemory,
+    /// The script is broken, or one of its threads is stuck.
+    BrokenScript,
 }
 
 impl Ending {
@@ -39,13 +42,18 @@ impl Ending {
             Ending::Refused => 3,
             Ending::ReadFault | Ending::WriteFault => 4,
             Ending::OutOfMemory => 5,
+            Ending::BrokenScript => 6,
         }
     }
 
     /// What standard error says of it.
     pub(crate) fn message(self) -> &'static str {
         match self {
-            Ending::Done | Ending::Races | Ending::WrongUsage | Ending::Refused => "",
+            Ending::Done
+            | Ending::Races
+            | Ending::WrongUsage
+            | Ending::Refused
+            | Ending::BrokenScript => "",
             Ending::ReadFault => "read fault\n",
             Ending::WriteFault => "write fault\n",
             Ending::OutOfMemory => "out of memory\n",
@@ -85,18 +93,23 @@ pub(crate) fn ending_of(answer: &Result<Counts, CheckFault>) -> Ending
     }
 }
 
+/// How a run with this report ends.
+pub(crate) fn summary_ending(summary: &Summary) -> Ending
+    ensures { result ≡ for_summary summary.now }
+{
+    if summary.races == 0 {
+        Ending::Done
+    } else {
+        Ending::Races
+    }
+}
+
 /// How a replay with this answer ends.
 pub(crate) fn ending_of_replay(answer: &Result<Summary, ReplayFault>) -> Ending
     ensures { result ≡ replay_ending answer.now }
 {
     match answer {
-        Ok(summary) => {
-            if summary.races == 0 {
-                Ending::Done
-            } else {
-                Ending::Races
-            }
-        }
+        Ok(summary) => summary_ending(summary),
         Err(ReplayFault::Text(fault)) => cause_ending(fault.cause),
         Err(ReplayFault::Refused { refusal, .. }) => refusal_ending(*refusal),
         Err(ReplayFault::Write) => Ending::WriteFault,

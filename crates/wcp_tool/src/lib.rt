@@ -2,17 +2,23 @@
 #![tactic(auto)]
 
 mod answers;
+mod bounds;
 mod checking;
 mod command_line;
 mod endings;
+mod help_texts;
 mod judging;
 pub mod laws;
+mod naming;
+mod options;
 mod printed;
 mod requests;
 mod running;
+mod scripts;
 
 pub use answers::{CheckFault, Counts};
 pub use checking::check;
 pub use command_line::settings;
 pub use requests::{Command, Settings, UsageFault};
 pub use running::{program, tool};
+pub use scripts::run_script;

@@ -2,12 +2,14 @@
 use thiserror::Error;
 
 /// What the program is to do.
-#[derive(Clone, Copy, Debug, PartialEq, Eq)]
+#[derive(Debug, Drop, PartialEq, Eq)]
 pub enum Command {
     /// Say whether the trace on standard input is legal.
     Check,
     /// Report the races of the trace on standard input.
     Replay,
+    /// Run the threads of the script at this path, and report their races.
+    Run(String),
 }
 
 /// What the words of a command line ask for.
@@ -15,8 +17,11 @@ pub enum Command {
 pub struct Settings {
     /// What to do.
     pub command: Command,
-    /// How many threads a trace may name, from 1 to 1,024.
+    /// How many threads may be named, from 1 to 1,024.
     pub threads: u32,
+    /// How often a line of a script is tried before its thread is stuck, from 1 to 4,294,967,295. Where no
+    /// script is run it is 1,000,000.
+    pub patience: u32,
 }
 
 /// Why the words of a command line ask for no run.

@@ -3,24 +3,26 @@ ghost use Rattle.std.specs.Prelude.{◌≡◌, ◌≢◌, ◌⊎◌, ℕ, List, 
 ghost use Rattle.std.specs.Prelude.{map};
 ghost use Rattle.clap.specs.Words.{Text};
 ghost use Rattle.wcp_tool.specs.Endings.{status_of};
-ghost use Rattle.wcp_tool.specs.Running.{Checks, Replays, Performs, Runs, EndsAs, is_help, limits_with};
+ghost use Rattle.wcp_tool.specs.CommandLine.{request_of};
+ghost use Rattle.wcp_tool.specs.Running.{Checks, Replays, Performs, IsCut, Runs, EndsAs, is_help};
 
+use crate::bounds::{TURNS, limits_of};
 use crate::checking::check;
 use crate::command_line::settings;
 use crate::endings::{Ending, ending_of, ending_of_replay};
 use crate::requests::{Command, Settings, UsageFault};
-use event_core::{Limits, MOST_EVENTS, MOST_LOCKS, MOST_VARS, Roots};
+use crate::scripts::run_file;
+use event_core::{Limits, Roots};
 use rapid_text::{Input, Output, write_all};
 use std::alloc::Global;
 use std::convert::AsStr;
 use std::env;
 use std::env::Env;
+use std::fs::Files;
 use std::io::ErrorKind;
+use std::sync::Wait;
+use std::thread::Threads;
 use trace_report::replay;
-
-/// The most reads that a text may take. A piece has at most 4,096 bytes, so that what they give has at most
-/// 2 to the 56th, and no number of a line overflows.
-const TURNS: u64 = 17592186044416;
 
 fn run_check<I: Input, O: Output>(
     alloc: Global,
@@ -68,18 +70,9 @@ fn run_replay<I: Input, O: Output>(
     ending_of_replay(&answer)
 }
 
-/// The limits of a run with so many threads.
-fn limits_of(threads: u32) -> Limits
-    requires least { 1 ≤ threads }
-    requires most { threads ≤ 1024 }
-    ensures { result ≡ limits_with threads }
-{
-    Limits::new(threads, MOST_LOCKS, MOST_VARS, MOST_EVENTS, Roots::Free).unwrap()
-}
-
 /// Does what the settings ask for.
-fn run<I: Input, O: Output>(
-    alloc: Global,
+fn run<R: AllocGlobal + Files + Threads + Wait + Sync, I: Input, O: Output>(
+    rt: &R,
     settings: &Settings,
     reader: &mut I,
     writer: &mut O,
@@ -89,20 +82,30 @@ fn run<I: Input, O: Output>(
     requires reads { I.failed reader.old ≡ false }
     requires writes { O.failed writer.old ≡ false }
     ensures performs { result ≢ Ending.ReadFault → result ≢ Ending.WriteFault → result ≢ Ending.OutOfMemory
-        → IfSome (I.left reader.old) (λ text. Performs settings.now.command (limits_with settings.now.threads)
-        text (O.written writer.old) (O.written writer.new) (status_of result)) }
+        → Performs (request_of settings.now.command) settings.now.threads (I.left reader.old)
+        (O.written writer.old) (O.written writer.new) (status_of result) }
     ensures usage { result ≢ Ending.WrongUsage }
     ensures quiet { (result ≡ Ending.ReadFault) ⊎ (result ≡ Ending.OutOfMemory) → writer.new ≡ writer.old }
-    ensures short { result ≡ Ending.ReadFault → (I.failed reader.new ≡ true)
-        ⊎ IfSome (I.left reader.old) (λ text. 17592186044416 ≤ length text) }
+    ensures short { result ≡ Ending.ReadFault
+        → IsCut (request_of settings.now.command) (I.left reader.old) (I.failed reader.new) }
     ensures read { result ≡ Ending.Done → I.failed reader.new ≡ false }
     ensures write_fault { result ≡ Ending.WriteFault → O.failed writer.new ≡ true }
     ensures written { result ≢ Ending.WriteFault → O.failed writer.new ≡ false }
 {
-    let limits = limits_of(settings.threads);
-    match settings.command {
-        Command::Check => run_check(alloc, limits, reader, writer),
-        Command::Replay => run_replay(alloc, limits, reader, writer),
+    match &settings.command {
+        Command::Check => run_check(
+            rt.alloc(),
+            limits_of(settings.threads, Roots::Free),
+            reader,
+            writer,
+        ),
+        Command::Replay => run_replay(
+            rt.alloc(),
+            limits_of(settings.threads, Roots::Free),
+            reader,
+            writer,
+        ),
+        Command::Run(path) => run_file(rt, path.as_str(), writer, settings),
     }
 }
 
@@ -128,8 +131,8 @@ fn explain<O: Output, E: Output>(fault: &UsageFault, writer: &mut O, errors: &mu
 }
 
 /// Does what the words ask for.
-fn obey<S: AsStr, I: Input, O: Output, E: Output>(
-    alloc: Global,
+fn obey<R: AllocGlobal + Files + Threads + Wait + Sync, S: AsStr, I: Input, O: Output, E: Output>(
+    rt: &R,
     words: &[S],
     reader: &mut I,
     writer: &mut O,
@@ -138,16 +141,15 @@ fn obey<S: AsStr, I: Input, O: Output, E: Output>(
     requires reads { I.failed reader.old ≡ false }
     requires writes { O.failed writer.old ≡ false }
     ensures runs { Runs (map S.text words.now) (I.left reader.old) (O.written writer.old)
-        (O.written writer.new) (status_of result) }
+        (O.written writer.new) (I.failed reader.new) (O.failed writer.new) (status_of result) }
     ensures quiet { (result ≡ Ending.WrongUsage) ⊎ (result ≡ Ending.OutOfMemory) → writer.new ≡ writer.old }
-    ensures short { result ≡ Ending.ReadFault → (writer.new ≡ writer.old) × ((I.failed reader.new ≡ true)
-        ⊎ IfSome (I.left reader.old) (λ text. 17592186044416 ≤ length text)) }
+    ensures short { result ≡ Ending.ReadFault → writer.new ≡ writer.old }
     ensures read { result ≡ Ending.Done → I.failed reader.new ≡ false }
     ensures write_fault { result ≡ Ending.WriteFault → O.failed writer.new ≡ true }
     ensures written { result ≢ Ending.WriteFault → O.failed writer.new ≡ false }
 {
-    match settings(alloc, words) {
-        Ok(settings) => run(alloc, &settings, reader, writer),
+    match settings(rt.alloc(), words) {
+        Ok(settings) => run(rt, &settings, reader, writer),
         Err(fault) => explain(&fault, writer, errors),
     }
 }
@@ -155,30 +157,28 @@ fn obey<S: AsStr, I: Input, O: Output, E: Output>(
 /// The program over the words after its own name. Its answer is the exit status, which the help explains.
 ///
 /// What help, the version and a usage fault say is for a reader, and no contract tells it.
-pub fn tool<R: AllocGlobal, S: AsStr, I: Input, O: Output, E: Output>(
-    rt: &R,
-    words: &[S],
-    reader: &mut I,
-    writer: &mut O,
-    errors: &mut E,
-) -> u8
+pub fn tool<
+    R: AllocGlobal + Files + Threads + Wait + Sync,
+    S: AsStr,
+    I: Input,
+    O: Output,
+    E: Output,
+>(rt: &R, words: &[S], reader: &mut I, writer: &mut O, errors: &mut E) -> u8
     requires reads { I.failed reader.old ≡ false }
     requires writes { O.failed writer.old ≡ false }
     // It performs what the words ask for on the whole text that the reader has left, or answers them.
     ensures runs { Runs (map S.text words.now) (I.left reader.old) (O.written writer.old)
-        (O.written writer.new) result }
+        (O.written writer.new) (I.failed reader.new) (O.failed writer.new) result }
     // Nothing is written to standard output where the words are wrong or memory ran out.
     ensures quiet { (result ≡ 2) ⊎ (result ≡ 5) → writer.new ≡ writer.old }
-    // Status 4 tells that the writer failed or took no byte, or else that the text was not read to its end,
+    // Status 4 tells that the writer failed or took no byte, or else that the input was not read to its end,
     // and then nothing is written.
-    ensures devices { result ≡ 4 → (O.failed writer.new ≡ true) ⊎ ((writer.new ≡ writer.old)
-        × ((I.failed reader.new ≡ true)
-        ⊎ IfSome (I.left reader.old) (λ text. 17592186044416 ≤ length text))) }
+    ensures devices { result ≡ 4 → (O.failed writer.new ≡ true) ⊎ (writer.new ≡ writer.old) }
     // It ends with 0 only where no read and no write of it failed.
     ensures read { result ≡ 0 → I.failed reader.new ≡ false }
     ensures written { result ≡ 0 → O.failed writer.new ≡ false }
 {
-    let ending = obey(rt.alloc(), words, reader, writer, errors);
+    let ending = obey(rt, words, reader, writer, errors);
     let _ = write_all(errors, ending.message().as_bytes());
     ending.status()
 }
@@ -202,21 +202,20 @@ fn words<R: Env + AllocGlobal>(rt: &R) -> Result<Vec<String>, UsageFault>
 
 /// The program over the words that the process was started with. No contract tells those words, so that of
 /// `tool` holds for some.
-pub fn program<R: Env + AllocGlobal, I: Input, O: Output, E: Output>(
-    rt: &R,
-    reader: &mut I,
-    writer: &mut O,
-    errors: &mut E,
-) -> u8
+pub fn program<
+    R: Env + AllocGlobal + Files + Threads + Wait + Sync,
+    I: Input,
+    O: Output,
+    E: Output,
+>(rt: &R, reader: &mut I, writer: &mut O, errors: &mut E) -> u8
     requires reads { I.failed reader.old ≡ false }
     requires writes { O.failed writer.old ≡ false }
     // It is a run for some words, or the words could not be had: they are no text, or memory ran out.
     ensures runs { ((words : List Text) × Runs words (I.left reader.old) (O.written writer.old)
-        (O.written writer.new) result) ⊎ ((result ≡ 2) ⊎ (result ≡ 5)) }
+        (O.written writer.new) (I.failed reader.new) (O.failed writer.new) result)
+        ⊎ ((result ≡ 2) ⊎ (result ≡ 5)) }
     ensures quiet { (result ≡ 2) ⊎ (result ≡ 5) → writer.new ≡ writer.old }
-    ensures devices { result ≡ 4 → (O.failed writer.new ≡ true) ⊎ ((writer.new ≡ writer.old)
-        × ((I.failed reader.new ≡ true)
-        ⊎ IfSome (I.left reader.old) (λ text. 17592186044416 ≤ length text))) }
+    ensures devices { result ≡ 4 → (O.failed writer.new ≡ true) ⊎ (writer.new ≡ writer.old) }
     ensures read { result ≡ 0 → I.failed reader.new ≡ false }
     ensures written { result ≡ 0 → O.failed writer.new ≡ false }
 {

@@ -4,7 +4,7 @@ use Rattle.std.specs.Str.Parse.{ParsesUnsigned, ExplainsUnsignedError, HasUnsign
 use Rattle.clap.specs.Words.{without_minus}
 use Rattle.clap.proofs.CallerReads.{signed_reads}
 use Rattle.wcp_tool.specs.CommandLine.{number_of}
-use Rattle.wcp_tool.proofs.command_line.number_of.Goals as goal
+use Rattle.wcp_tool.proofs.options.number_of.Goals as goal
 
 pub returns-clause-given : goal.returns-clause-given
 returns-clause-given c t inside found =

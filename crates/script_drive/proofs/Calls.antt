@@ -1,0 +1,112 @@
+-- What a line's call makes of the pass.
+use Rattle.std.proofs.Common.{◌≡◌, List, [], ◌∷◌, ◌++◌, Bool, true, false, Some, None, refl, sym, ap, ◌∙◌}
+use Rattle.std.proofs.Common.{subst}
+use Rattle.std.proofs.Common.{map, Option, ◌||◌}
+use Rattle.std.specs.List.{cons_option, list_any}
+use Rattle.std.proofs.lemmas.Bool.{eqb-true}
+use Rattle.std.proofs.lemmas.List.{map-append}
+use mathlib.Core.List.{IsPrefix}
+use Rattle.event_core.specs.declared.ids.ThreadId.{ThreadId}
+use Rattle.event_core.specs.declared.ids.SiteId.{SiteId}
+use Rattle.event_core.specs.declared.events.Event.{Event}
+use Rattle.event_core.specs.declared.events.Call.{Call}
+use Rattle.event_core.specs.declared.events.Op.{Op}
+use Rattle.event_core.specs.declared.events.Op.TheVariants.{Join}
+use Rattle.event_core.specs.declared.events.Act.TheVariants.{One}
+use Rattle.event_core.specs.declared.bounds.Limits.{Limits}
+use Rattle.event_core.specs.declared.replies.Reply.{Reply}
+use Rattle.event_core.specs.declared.steps.Step.{Step}
+use Rattle.event_core.specs.declared.steps.Step.TheVariants.{One as OneEvent}
+use Rattle.event_core.specs.Refusal.{event_of, joins}
+use Rattle.event_core.specs.Steps.{log_of, own, own_events, Formed}
+use Rattle.event_core.proofs.Depth.{same_thread_id}
+use Rattle.event_core.proofs.StepLaws.{log_of-snoc, own_logs}
+use Rattle.live_monitor.specs.Calls.{join_by, Accepted}
+use Rattle.log_pass.specs.declared.views.PassView.{PassView}
+use Rattle.script_text.specs.declared.lines.ScriptLine.{ScriptLine}
+use Rattle.script_text.specs.Lines.{act_join, op_join, act_thread, is_thread, join_of, thread_of}
+use Rattle.script_drive.specs.Lines.{Follows, asked_by, given, lines_by, unread}
+use Rattle.script_drive.specs.Workers.{Does, Done, Reach, Serves, Settled, joined}
+
+-- the steps of a pass that a call's event joins, without what was read
+event_more : (m : Limits) (call : Call) (p q : PassView) (reply : Reply) (a : Accepted m call p q reply)
+    → map unread (log_of q.mine)
+    ≡ map unread (log_of p.mine) ++ unread (event_of (log_of a.steps) call) ∷ []
+event_more m call p q reply a =
+    let e = event_of (log_of a.steps) call in
+    ap (λ (s : List Step). map unread (log_of s)) a.mine ∙ (ap (map unread) (log_of-snoc p.mine (OneEvent e))
+    ∙ map-append unread (log_of p.mine) (e ∷ []))
+
+-- the event of a join
+abbrev join_event : ThreadId → ThreadId → SiteId → Event
+join_event t u site = record { thread = t; op = Join u; site = site; value = 0 }
+
+-- it is what a join line asks for
+join_asked : (line : ScriptLine) (call : Call) (t u : ThreadId) → line.act ≡ One call → call.thread ≡ t
+    → call.op ≡ Join u → join_event t u call.site ∷ [] ≡ asked_by line.act
+join_asked line call t u act thread op =
+    let value : given call.op call.arg ≡ 0 = ap (λ (o : Op). given o call.arg) op in
+    let same : asked_by (One call) ≡ join_event t u call.site ∷ []
+    = λ i.
+    (let e : Event = record { thread = thread i; op = op i; site = call.site; value = value i } in e)
+    ∷ [] in
+    sym (ap asked_by act ∙ same)
+
+-- the one whom a join line joins
+joined_by : (line : ScriptLine) (call : Call) (u v : ThreadId) → line.act ≡ One call → call.op ≡ Join u
+    → list_any (λ l. is_thread v.0 (join_of l)) (line ∷ []) ≡ true → u ≡ v
+joined_by line call u v act op test =
+    let who : join_of line ≡ Some u
+    = ap act_join act ∙ ap op_join op in
+    let same : (is_thread v.0 (Some u) || false) ≡ true
+    = subst (λ (o : Option ThreadId). (is_thread v.0 o || false) ≡ true) who test in
+    same_thread_id (eqb-true u.0 v.0 (left (is_thread v.0 (Some u)) same))
+  where
+    left : (b : Bool) → (b || false) ≡ true → b ≡ true
+    left true e = refl
+    left false e = e
+
+-- a join line was done: the one whom it joins is settled
+pub join_does : (m : Limits) (script : List ScriptLine) (line : ScriptLine) (call : Call)
+    (p q child : PassView) (reply : Reply) (u : ThreadId) → line.act ≡ One call → call.op ≡ Join u
+    → thread_of line ≡ p.thread → Done script u child → q.thread ≡ p.thread → q.due ≡ None
+    → IsPrefix p.seen q.seen → Formed m q.seen
+    → Accepted m (join_by p.thread child.thread call.site) p q reply
+    → child.mine ≡ own child.thread q.seen → list_any (joins child.thread) (log_of q.seen) ≡ true
+    → Does m script line p q
+join_does m script line call p q child reply u act op own done thread due begins formed accepted its over =
+    record {
+      thread = thread;
+      none_due = due;
+      begins = begins;
+      formed = formed;
+      mine = event_more m (join_by p.thread child.thread call.site) p q reply accepted
+          ∙ ap (λ (l : List Event). map unread (log_of p.mine) ++ l) event;
+      settled = λ v test.
+          subst (Settled script (log_of q.seen)) (joined_by line call u v act op test) settled;
+    }
+  where
+    event : join_event p.thread child.thread call.site ∷ [] ≡ asked_by line.act
+    event = join_asked line call p.thread child.thread act (sym (ap act_thread act) ∙ own)
+        (op ∙ ap Join (sym done.thread))
+
+    events : own_events u (log_of q.seen) ≡ log_of child.mine
+    events = sym (ap log_of its ∙ (own_logs child.thread q.seen formed.are_steps
+        ∙ ap (λ (t : ThreadId). own_events t (log_of q.seen)) done.thread))
+
+    settled : Settled script (log_of q.seen) u
+    settled = record {
+      joined = subst (λ (t : ThreadId). list_any (joins t) (log_of q.seen) ≡ true) done.thread over;
+      follows = subst (λ (l : List Event). Follows l (lines_by u script)) (sym events) done.follows;
+    }
+
+-- whom the next end reaches is whom the line joins
+pub next_joined : (line : ScriptLine) (call : Call) (u to : ThreadId) (old new : Reach)
+    → line.act ≡ One call → call.op ≡ Join u → (later : List ScriptLine) → Serves old (line ∷ later)
+    → old.joins ≡ to ∷ new.joins → to ≡ u
+next_joined line call u to old new act op later serves next =
+    let who : join_of line ≡ Some u
+    = ap act_join act ∙ ap op_join op in
+    let all : to ∷ new.joins ≡ u ∷ joined later
+    = sym next ∙ (serves.joins ∙ ap (λ (o : Option ThreadId). cons_option o (joined later)) who) in
+    cc

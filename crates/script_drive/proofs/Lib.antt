@@ -1,0 +1,4 @@
+mod Calls
+mod Settling
+mod Progress
+mod Whole

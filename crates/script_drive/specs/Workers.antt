@@ -1,0 +1,81 @@
+-- What is known of a thread that runs its lines.
+use Rattle.std.specs.Prelude.{◌≡◌, ◌<◌, true, List, [], ◌∷◌, ◌++◌, length, map, None}
+use Rattle.std.specs.List.{filter_map, list_any}
+use mathlib.Core.List.{IsPrefix}
+use Rattle.event_core.specs.declared.ids.ThreadId.{ThreadId}
+use Rattle.event_core.specs.declared.events.Event.{Event}
+use Rattle.event_core.specs.declared.bounds.Limits.{Limits}
+use Rattle.event_core.specs.Refusal.{joins}
+use Rattle.event_core.specs.Steps.{log_of, own_events, Formed}
+use Rattle.log_pass.specs.declared.views.PassView.{PassView}
+use Rattle.script_text.specs.declared.lines.ScriptLine.{ScriptLine}
+use Rattle.script_text.specs.Lines.{fork_of, join_of, joins as line_joins}
+use Rattle.script_text.specs.Scripts.{Parsed}
+use Rattle.script_drive.specs.Lines.{unread, asked_by, Follows, lines_by}
+
+-- the first pass of a thread
+pub record Newborn (t : ThreadId) (p : PassView) : Type 0 where
+  pub thread : p.thread ≡ t
+  pub none_due : p.due ≡ None
+  pub no_step : p.mine ≡ []
+
+-- the last pass of a thread: its steps are those of its lines of the script
+pub record Done (script : List ScriptLine) (t : ThreadId) (p : PassView) : Type 0 where
+  pub thread : p.thread ≡ t
+  pub none_due : p.due ≡ None
+  pub follows : Follows (log_of p.mine) (lines_by t script)
+
+-- u was joined, and its events are those of its lines of the script
+pub record Settled (script : List ScriptLine) (log : List Event) (u : ThreadId) : Type 0 where
+  pub joined : list_any (joins u) log ≡ true
+  pub follows : Follows (own_events u log) (lines_by u script)
+
+-- who is joined by these lines is settled
+abbrev pub AreSettled : List ScriptLine → List Event → List ScriptLine → Type 0
+AreSettled script log lines =
+    (u : ThreadId) → list_any (line_joins u.0) lines ≡ true → Settled script log u
+
+-- the pass of a thread that has done the first of its lines
+pub record HasDone (script : List ScriptLine) (t : ThreadId) (p : PassView) (lines : List ScriptLine)
+    : Type 0 where
+  pub thread : p.thread ≡ t
+  pub none_due : p.due ≡ None
+  pub follows : Follows (log_of p.mine) lines
+  pub settled : AreSettled script (log_of p.seen) lines
+
+-- the pass p did one more line, and is q
+pub record Does (limits : Limits) (script : List ScriptLine) (line : ScriptLine) (p q : PassView)
+    : Type 0 where
+  pub thread : q.thread ≡ p.thread
+  pub none_due : q.due ≡ None
+  pub begins : IsPrefix p.seen q.seen
+  pub formed : Formed limits q.seen
+  pub mine : map unread (log_of q.mine) ≡ map unread (log_of p.mine) ++ asked_by line.act
+  pub settled : AreSettled script (log_of q.seen) (line ∷ [])
+
+-- the threads that these lines fork, and those that they join, in order
+abbrev pub forked : List ScriptLine → List ThreadId
+forked = filter_map fork_of
+
+abbrev pub joined : List ScriptLine → List ThreadId
+joined = filter_map join_of
+
+-- whom a worker's ends reach: who is to be forked, and who is to be joined
+pub record Reach : Type 0 where
+  pub forks : List ThreadId
+  pub joins : List ThreadId
+
+-- it reaches just those whom these lines fork and join
+pub record Serves (reach : Reach) (lines : List ScriptLine) : Type 0 where
+  pub forks : reach.forks ≡ forked lines
+  pub joins : reach.joins ≡ joined lines
+
+-- a thread, and whom its ends reach
+pub record OwnReach : Type 0 where
+  pub thread : ThreadId
+  pub reach : Reach
+
+-- the script names the thread, and the ends reach just those whom its lines fork and join
+pub record IsFull (script : Parsed) (thread : ThreadId) (reach : Reach) : Type 0 where
+  pub named : thread.0 < length script.names.threads.names
+  pub serves : Serves reach (lines_by thread script.lines)

@@ -1,0 +1,83 @@
+//! The ends of channels by which a worker reaches the threads that it forks and joins.
+ghost use Rattle.std.specs.Prelude.{◌≡◌, ◌<◌, ◌∷◌, ◌++◌, [], length, OnErr, OnOk};
+
+use crate::text::{Births, Ends, Text};
+use event_core::ThreadId;
+use log_pass::Name;
+use pass_channel::{PassReceiver, PassSender};
+use std::alloc::{AllocError, Global};
+use std::collections::VecDeque;
+use std::marker::Model;
+
+/// A worker's ends, in the order of its lines. Contracts see whom it is still to fork, and whom to join.
+#[derive(Drop)]
+pub(crate) struct Kit<N: Name, S: Text> {
+    births: VecDeque<PassSender<N, Births>>,
+    ends: VecDeque<PassReceiver<N, Ends<S>>>,
+}
+
+impl<N: Name, S: Text> Model for Kit<N, S> {
+    ghost use Rattle.std.specs.Prelude.{map};
+    ghost use Rattle.script_drive.specs.Workers.{Reach};
+
+    ghost Value = { Reach };
+
+    ghost view = { λ k. record {
+      forks = map (λ sender. sender.to) k.births.items;
+      joins = map (λ receiver. receiver.to) k.ends.items;
+    } };
+}
+
+impl<N: Name, S: Text> Kit<N, S> {
+    pub(crate) fn new(alloc: Global) -> Kit<N, S>
+        ensures forks { result.forks ≡ [] }
+        ensures joins { result.joins ≡ [] }
+    {
+        Kit {
+            births: VecDeque::new(alloc),
+            ends: VecDeque::new(alloc),
+        }
+    }
+
+    /// Adds the end for one more thread that is forked.
+    pub(crate) fn add_birth(&mut self, birth: PassSender<N, Births>) -> Result<(), AllocError>
+        ensures forks { OnOk result (self.new.forks ≡ self.old.forks ++ birth.to ∷ []) }
+        ensures joins { self.new.joins ≡ self.old.joins }
+    {
+        self.births.push_back(birth)?;
+        Ok(())
+    }
+
+    /// Adds the end for one more thread that is joined.
+    pub(crate) fn add_end(&mut self, end: PassReceiver<N, Ends<S>>) -> Result<(), AllocError>
+        ensures forks { self.new.forks ≡ self.old.forks }
+        ensures joins { OnOk result (self.new.joins ≡ self.old.joins ++ end.to ∷ []) }
+    {
+        self.ends.push_back(end)?;
+        Ok(())
+    }
+
+    /// Takes out the end for the thread that is forked next.
+    pub(crate) fn next_birth(&mut self) -> PassSender<N, Births>
+        requires { 0 < length self.old.forks }
+        ensures forks { self.old.forks ≡ result.to ∷ self.new.forks }
+        ensures joins { self.new.joins ≡ self.old.joins }
+    {
+        let Some(birth) = self.births.pop_front() else {
+            unreachable!()
+        };
+        birth
+    }
+
+    /// Takes out the end for the thread that is joined next.
+    pub(crate) fn next_end(&mut self) -> PassReceiver<N, Ends<S>>
+        requires { 0 < length self.old.joins }
+        ensures forks { self.new.forks ≡ self.old.forks }
+        ensures joins { self.old.joins ≡ result.to ∷ self.new.joins }
+    {
+        let Some(end) = self.ends.pop_front() else {
+            unreachable!()
+        };
+        end
+    }
+}

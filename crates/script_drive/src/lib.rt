@@ -1,0 +1,23 @@
+//! Runs a script: each of its threads by a worker of its own, over one shared monitor.
+//!
+//! Thread 0's worker is the calling thread. All others are started before its first line, and wait for the
+//! pass that their fork gives. A worker makes the calls of its own lines in order, each once its gate admits
+//! it. At its end it sends its pass to the worker that joins it. The channels by which passes go have a rule:
+//! what comes out is the first pass of a thread, or the pass of one that has made the calls of all its lines.
+//!
+//! What is proved of every schedule: the closed log is well formed, and its events of thread 0, and of each
+//! thread that thread 0 joins, are that thread's lines in order. It is not proved that a drive returns, nor
+//! which fault it names.
+#![tactic(auto)]
+
+mod faults;
+mod gate;
+mod kit;
+mod lines;
+mod stations;
+mod text;
+mod workers;
+
+pub use faults::DriveFault;
+pub use gate::{FreeGate, Gate};
+pub use workers::drive;

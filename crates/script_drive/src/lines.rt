@@ -1,0 +1,174 @@
+//! What a worker does: the calls of its thread's lines, in order.
+ghost use Rattle.std.specs.Prelude.{◌≡◌, ◌∷◌, ◌<◌, [], List, None, length, IfOk, IsOk, OnOk};
+ghost use mathlib.Core.List.{IsPrefix};
+ghost use Rattle.event_core.specs.Steps.{log_of, Formed};
+ghost use Rattle.live_monitor.specs.Calls.{acquire_by, Accepted};
+ghost use Rattle.script_text.specs.declared.lines.ScriptLine.{ScriptLine as Line};
+ghost use Rattle.script_text.specs.Lines.{thread_of};
+ghost use Rattle.script_drive.specs.Lines.{lines_by};
+ghost use Rattle.script_drive.specs.Workers.{AreSettled, Does, Done, Serves};
+
+use crate::faults::Halt;
+use crate::gate::Gate;
+use crate::kit::Kit;
+use crate::text::{Ends, Text};
+use crossbeam_utils::Backoff;
+use event_core::{Act, LockId, Op, Refusal, Reply, SiteId};
+use live_monitor::Shared;
+use log_pass::{Name, Pass};
+use pass_channel::{PassReceiver, TryRecvError};
+use script_text::{Script, ScriptLine};
+use std::sync::Wait;
+
+// Asks the gate for the line, as often as patience allows.
+fn may_enter<G: Gate>(gate: &G, line: &ScriptLine, patience: u32) -> bool {
+    let backoff = Backoff::new();
+    for _ in 0..patience {
+        if gate.enter(line.thread(), line.line) {
+            return true;
+        }
+        backoff.snooze();
+    }
+    false
+}
+
+// Waits for the pass of the thread that the line joins, as long as patience allows.
+fn await_end<N: Name, S: Text, R: Wait>(
+    rt: &R,
+    receiver: PassReceiver<N, Ends<S>>,
+    line: &ScriptLine,
+    patience: u32,
+) -> Result<Pass<N>, Halt>
+    ensures { IfOk result (Done S.script.lines receiver.to) }
+{
+    let mut receiver = receiver;
+    let backoff = Backoff::new();
+    for _ in 0..patience {
+        match receiver.try_receive(rt) {
+            Ok(pass) => return Ok(pass),
+            Err(TryRecvError::Disconnected) => return Err(Halt::abandoned(line)),
+            Err(TryRecvError::Empty) => backoff.snooze(),
+        }
+    }
+    Err(Halt::stuck(line))
+}
+
+// Acquires the lock. While another thread holds it, it is tried again, as often as patience allows.
+fn acquire<N: Name, R: Wait>(
+    rt: &R,
+    shared: &Shared<N>,
+    pass: Pass<N>,
+    lock: LockId,
+    site: SiteId,
+    patience: u32,
+) -> (Pass<N>, Result<Reply, Refusal>)
+    requires none_due { pass.due ≡ None }
+    ensures same_thread { result.0.thread ≡ pass.thread }
+    ensures none_due { result.0.due ≡ None }
+    ensures begins { IsPrefix pass.seen result.0.seen }
+    ensures accepted { IfOk result.1
+        (λ reply. Accepted N.limits (acquire_by pass.thread lock site) pass result.0 reply) }
+    ensures formed { Formed N.limits result.0.seen }
+{
+    let mut pass = pass;
+    let backoff = Backoff::new();
+    for _ in 1..patience {
+        match shared.acquire(rt, pass, lock, site) {
+            (next, Err(Refusal::Held { .. })) => pass = next,
+            answer => return answer,
+        }
+        backoff.snooze();
+    }
+    shared.acquire(rt, pass, lock, site)
+}
+
+// The pass after a call that was accepted.
+fn answered<N: Name, T: Drop>(
+    line: &ScriptLine,
+    answer: (Pass<N>, Result<T, Refusal>),
+) -> Result<Pass<N>, Halt>
+    ensures pass { IfOk result (λ pass. pass ≡ answer.0) }
+    ensures accepted { IfOk result (λ _. IsOk answer.1) }
+{
+    match answer {
+        (pass, Ok(_)) => Ok(pass),
+        (_, Err(refusal)) => Err(Halt::refused(line, refusal)),
+    }
+}
+
+// The call of one line.
+fn make_call<N: Name, S: Text, R: Wait>(
+    rt: &R,
+    shared: &Shared<N>,
+    pass: Pass<N>,
+    line: &ScriptLine,
+    kit: &mut Kit<N, S>,
+    patience: u32,
+) -> Result<Pass<N>, Halt>
+    requires none_due { pass.due ≡ None }
+    requires thread { thread_of line.now ≡ pass.thread }
+    requires serves { (later : List Line) × Serves kit.old (line.now ∷ later) }
+    ensures does { IfOk result (Does N.limits S.script.lines line.now pass) }
+    ensures serves { (later : List Line) → Serves kit.old (line.now ∷ later)
+        → OnOk result (Serves kit.new later) }
+{
+    match line.act {
+        Act::One(call) => match call.op {
+            Op::Load(var) => answered(line, shared.load(rt, pass, var, call.site)),
+            Op::Store(var) => answered(line, shared.store(rt, pass, var, call.arg, call.site)),
+            Op::Acquire(lock) => {
+                answered(line, acquire(rt, shared, pass, lock, call.site, patience))
+            }
+            Op::Release(lock) => answered(line, shared.release(rt, pass, lock, call.site)),
+            Op::Fork(_) => {
+                let birth = kit.next_birth();
+                match shared.fork(rt, pass, birth.to, call.site) {
+                    (pass, Ok((child, _))) => {
+                        birth.send(rt, child);
+                        Ok(pass)
+                    }
+                    (_, Err(refusal)) => Err(Halt::refused(line, refusal)),
+                }
+            }
+            Op::Join(_) => {
+                let end = kit.next_end();
+                let child = await_end(rt, end, line, patience)?;
+                match shared.join(rt, pass, child, call.site) {
+                    (pass, Ok(_)) => Ok(pass),
+                    (_, Err((refusal, _))) => Err(Halt::refused(line, refusal)),
+                }
+            }
+        },
+        Act::Swap { var, site, arg, .. } => answered(line, shared.swap(rt, pass, var, arg, site)),
+    }
+}
+
+/// Makes the calls of the pass's thread, in the order of its lines.
+pub(crate) fn run_lines<N: Name, S: Text, G: Gate, R: Wait>(
+    rt: &R,
+    shared: &Shared<N>,
+    script: &Script,
+    gate: &G,
+    patience: u32,
+    pass: Pass<N>,
+    mut kit: Kit<N, S>,
+) -> Result<Pass<N>, Halt>
+    requires script { script.now ≡ S.script }
+    requires thread { pass.thread.0 < length S.script.names.threads.names }
+    requires new { (pass.due ≡ None) × (pass.mine ≡ []) }
+    requires serves { Serves kit (lines_by pass.thread S.script.lines) }
+    ensures done { IfOk result (Done S.script.lines pass.thread) }
+    ensures settled { IfOk result
+        (λ last. AreSettled S.script.lines (log_of last.seen) (lines_by pass.thread S.script.lines)) }
+{
+    let lines = script.lines_of(pass.thread());
+    let mut pass = pass;
+    for line in lines {
+        if !may_enter(gate, line, patience) {
+            return Err(Halt::stuck(line));
+        }
+        pass = make_call(rt, shared, pass, line, &mut kit, patience)?;
+        gate.done(line.thread(), line.line);
+    }
+    Ok(pass)
+}

@@ -1,0 +1,10 @@
+pub mod Cuts
+pub mod Digits
+pub mod Locations
+pub mod Steps
+pub mod Loops
+pub mod Marking
+pub mod Legal
+pub mod Faults
+pub mod RowGrowth
+pub mod Whole

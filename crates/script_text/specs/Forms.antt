@@ -1,0 +1,144 @@
+-- What a line of a script says: `thread word argument`, or `thread word argument number`.
+use Rattle.std.specs.Prelude.{
+  ◌≡◌,
+  ℕ,
+  ◌||◌,
+  ◌&&◌,
+  not,
+  Bool,
+  true,
+  false,
+  List,
+  [],
+  ◌∷◌,
+  length,
+  Option,
+  Some,
+  None,
+  Result,
+  Ok,
+  Err,
+  nat_lt,
+  if◌then◌else◌,
+}
+use Rattle.std.specs.Str.{bytes_eq}
+use Rattle.rapid_line.specs.Cut.{has, cut}
+use Rattle.rapid_line.specs.Grammar.{IsName}
+use Rattle.script_text.specs.Numbers.{number_of}
+use Rattle.script_text.specs.declared.forms.Word.{Word}
+use Rattle.script_text.specs.declared.forms.Word.TheVariants.{Load, Store, Acquire, Release, Fork, Join, Swap}
+use Rattle.script_text.specs.declared.forms.NamedAct.{NamedAct}
+use Rattle.script_text.specs.declared.causes.ScriptCause.{ScriptCause}
+use Rattle.script_text.specs.declared.causes.ScriptCause.TheVariants.{LineTooLong, BadLine, BadNumber}
+use Rattle.script_text.specs.declared.causes.ScriptCause.TheVariants as causes
+
+-- what a line says; the number is 0 where the word takes none
+pub record Named : Type 0 where
+  pub thread : List ℕ
+  pub word : Word
+  pub argument : List ℕ
+  pub number : ℕ
+
+-- r, w, acq, rel, fork, join, swap
+abbrev pub spelling : Word → List ℕ
+spelling Load = 114 ∷ []
+spelling Store = 119 ∷ []
+spelling Acquire = 97 ∷ 99 ∷ 113 ∷ []
+spelling Release = 114 ∷ 101 ∷ 108 ∷ []
+spelling Fork = 102 ∷ 111 ∷ 114 ∷ 107 ∷ []
+spelling Join = 106 ∷ 111 ∷ 105 ∷ 110 ∷ []
+spelling Swap = 115 ∷ 119 ∷ 97 ∷ 112 ∷ []
+
+-- the word that is spelled so
+unfoldable pub word_of : List ℕ → Option Word
+word_of bytes =
+    if bytes_eq bytes (spelling Load) then Some Load
+    else (if bytes_eq bytes (spelling Store) then Some Store
+    else (if bytes_eq bytes (spelling Acquire) then Some Acquire
+    else (if bytes_eq bytes (spelling Release) then Some Release
+    else (if bytes_eq bytes (spelling Fork) then Some Fork
+    else (if bytes_eq bytes (spelling Join) then Some Join
+    else (if bytes_eq bytes (spelling Swap) then Some Swap else None))))))
+
+-- a number stands after the argument
+abbrev pub takes_number : Word → Bool
+takes_number Load = false
+takes_number Store = true
+takes_number Acquire = false
+takes_number Release = false
+takes_number Fork = false
+takes_number Join = false
+takes_number Swap = true
+
+-- a name is 1 to 255 bytes, any but blank, |, LF and CR
+abbrev pub is_name : List ℕ → Bool
+is_name bytes =
+    nat_lt 0 (length bytes) && nat_lt (length bytes) 256 && not (has 32 bytes) && not (has 124 bytes)
+    && not (has 10 bytes) && not (has 13 bytes)
+
+-- the thread and the argument are names
+pub record AreNames (said : Named) : Type 0 where
+  pub thread : IsName said.thread
+  pub argument : IsName said.argument
+
+-- goes on with a value, or answers the cause
+abbrev pub or_cause : {A B : Type 0} → ScriptCause → Option A → (A → Result B ScriptCause)
+    → Result B ScriptCause
+or_cause cause None next = Err cause
+or_cause cause (Some x) next = next x
+
+-- goes on where the test is false, or answers the cause
+abbrev pub unless : {B : Type 0} → ScriptCause → Bool → Result B ScriptCause → Result B ScriptCause
+unless cause true next = Err cause
+unless cause false next = next
+
+-- thread word argument
+abbrev pub plain : List ℕ → Word → List ℕ → Result Named ScriptCause
+plain thread w argument =
+    unless BadLine (not (is_name thread) || not (is_name argument))
+    (Ok (record { thread = thread; word = w; argument = argument; number = 0 }))
+
+-- thread word argument number; the argument ends at the first blank, and no other follows
+abbrev pub numbered : List ℕ → Word → List ℕ → Result Named ScriptCause
+numbered thread w rest =
+    or_cause BadLine (cut 32 rest) (λ p.
+    unless BadLine (not (is_name thread) || not (is_name p.0) || has 32 p.1)
+    (or_cause BadNumber (number_of p.1) (λ n.
+    Ok (record { thread = thread; word = w; argument = p.0; number = n }))))
+
+abbrev pub form : List ℕ → Word → List ℕ → Result Named ScriptCause
+form thread w rest = if takes_number w then numbered thread w rest else plain thread w rest
+
+-- what a content says, or the first cause why it has none of the forms; the thread ends at the first blank,
+-- and the word at the second
+unfoldable pub line_of : List ℕ → Result Named ScriptCause
+line_of bytes =
+    unless LineTooLong (nat_lt 1024 (length bytes))
+    (unless BadLine (has 13 bytes)
+    (or_cause BadLine (cut 32 bytes) (λ p.
+    or_cause BadLine (cut 32 p.1) (λ q.
+    or_cause BadLine (word_of q.0) (λ w. form p.0 w q.1)))))
+
+-- ---- what the code answers
+
+-- what a line's parts say
+abbrev pub named_of : NamedAct → Named
+named_of line =
+    record { thread = line.thread.now; word = line.word; argument = line.argument.now; number = line.number }
+
+-- the answer is what was read, seen so
+abbrev pub Gives : {X Y : Type 0} → (X → Y) → Result X ScriptCause → Result Y ScriptCause → Type 0
+Gives view (Ok x) read = read ≡ Ok (view x)
+Gives view (Err e) read = read ≡ Err e
+
+-- the cause is the one that was read, unless memory ran out
+abbrev pub Fails : {Y : Type 0} → ScriptCause → Result Y ScriptCause → Type 0
+Fails causes.OutOfMemory read = Unit {0}
+Fails causes.NoFork read = ⊥
+Fails causes.Read read = ⊥
+Fails causes.LineTooLong read = read ≡ Err causes.LineTooLong
+Fails causes.BadLine read = read ≡ Err causes.BadLine
+Fails causes.BadNumber read = read ≡ Err causes.BadNumber
+Fails causes.TooManyNames read = read ≡ Err causes.TooManyNames
+Fails causes.BadFork read = read ≡ Err causes.BadFork
+Fails causes.BadJoin read = read ≡ Err causes.BadJoin

@@ -1,0 +1,8 @@
+pub mod Faults
+pub mod Numbers
+pub mod Forms
+pub mod Lines
+pub mod Scripts
+pub mod Readings
+pub mod Marks
+pub mod Rows

@@ -1,0 +1,53 @@
+//! Why a script has a fault, and where.
+ghost use Rattle.std.specs.Prelude.{◌≡◌};
+ghost use Rattle.script_text.specs.Faults.{cause_word};
+
+/// Why a script has a fault. Of several at the first line that has one, the first in this order is answered.
+#[derive(Clone, Copy, Debug, PartialEq, Eq)]
+pub enum ScriptCause {
+    /// The content has more than 1,024 bytes.
+    LineTooLong,
+    /// The line has none of the forms, a CR in its content, or a name that is none.
+    BadLine,
+    /// The number is not 1 to 20 digits, or above the greatest that a u64 holds.
+    BadNumber,
+    /// The line has a new name, and its kind has as many names as its limit.
+    TooManyNames,
+    /// The line forks thread 0, or a thread that a line before it forks.
+    BadFork,
+    /// The line joins thread 0, its own thread, or a thread that a line before it joins.
+    BadJoin,
+    /// The line names a thread to which no forks lead from thread 0. It is answered only where no line has
+    /// one of the causes above.
+    NoFork,
+    /// The reader failed, or the turns are used up.
+    Read,
+    /// A growth was refused.
+    OutOfMemory,
+}
+
+impl ScriptCause {
+    /// The cause's name, as a fault line prints it.
+    pub fn word(self) -> &'static str
+        ensures { result.now ≡ cause_word self }
+    {
+        match self {
+            ScriptCause::LineTooLong => "LineTooLong",
+            ScriptCause::BadLine => "BadLine",
+            ScriptCause::BadNumber => "BadNumber",
+            ScriptCause::TooManyNames => "TooManyNames",
+            ScriptCause::BadFork => "BadFork",
+            ScriptCause::BadJoin => "BadJoin",
+            ScriptCause::NoFork => "NoFork",
+            ScriptCause::Read => "Read",
+            ScriptCause::OutOfMemory => "OutOfMemory",
+        }
+    }
+}
+
+/// A cause, and the number of its line. Lines are numbered from 1.
+#[derive(Clone, Copy, Debug, PartialEq, Eq)]
+pub struct ScriptFault {
+    pub line: u64,
+    pub cause: ScriptCause,
+}

@@ -1,0 +1,149 @@
+//! The lines of a script, judged one after another.
+ghost use Rattle.std.specs.Prelude.{◌≡◌, ◌<◌, ◌^◌, ◌∷◌, [], ◌++◌, IfOk, IfErr, OnOk, Ok, Err, IsTrue};
+ghost use Rattle.std.specs.List.{list_any};
+ghost use Rattle.rapid_text.specs.Tables.{IsNameOf, number_in};
+ghost use Rattle.script_text.specs.Forms.{named_of, AreNames, Fails};
+ghost use Rattle.script_text.specs.Lines.{forks, joins, thread_of, fork_of, join_of};
+ghost use Rattle.script_text.specs.Scripts.{Parsed, kind_of, act_of, numbered_line, number_or_cause};
+ghost use Rattle.script_text.specs.Scripts.{is_bad_fork, is_bad_join, after_content};
+
+use crate::causes::ScriptCause;
+use crate::forms::{NamedAct, Word, read_content};
+use crate::lines::ScriptLine;
+use event_core::{Act, Call, LockId, Op, SiteId, ThreadId, VarId};
+use rapid_text::{Kind, NameFault, Names};
+
+/// What the argument of a word names.
+fn kind_at(word: Word) -> Kind
+    ensures { result ≡ kind_of word }
+{
+    match word {
+        Word::Load | Word::Store | Word::Swap => Kind::Variable,
+        Word::Acquire | Word::Release => Kind::Lock,
+        Word::Fork | Word::Join => Kind::Thread,
+    }
+}
+
+/// What a word asks a thread to do with the thing of this number.
+fn act_at(word: Word, thread: u32, target: u32, site: u32, arg: u64) -> Act
+    ensures { result ≡ act_of word thread target site arg }
+{
+    let thread = ThreadId(thread);
+    let site = SiteId(site);
+    let op = match word {
+        Word::Load => Op::Load(VarId(target)),
+        Word::Store => Op::Store(VarId(target)),
+        Word::Acquire => Op::Acquire(LockId(target)),
+        Word::Release => Op::Release(LockId(target)),
+        Word::Fork => Op::Fork(ThreadId(target)),
+        Word::Join => Op::Join(ThreadId(target)),
+        Word::Swap => {
+            return Act::Swap {
+                thread,
+                var: VarId(target),
+                site,
+                arg,
+            };
+        }
+    };
+    Act::One(Call {
+        thread,
+        op,
+        site,
+        arg,
+    })
+}
+
+/// The number of a name in a line.
+fn number_in_line(names: &mut Names, kind: Kind, name: &[u8]) -> Result<u32, ScriptCause>
+    requires { IsNameOf kind name.now }
+    ensures ok { IfOk result (λ n. number_in names.old kind name.now ≡ Some (n, names.new)) }
+    ensures fault { IfErr result (λ f. Fails f (number_or_cause (number_in names.old kind name.now))) }
+{
+    match names.number(kind, name) {
+        Ok(number) => Ok(number),
+        Err(NameFault::TooMany) => Err(ScriptCause::TooManyNames),
+        Err(NameFault::OutOfMemory) => Err(ScriptCause::OutOfMemory),
+    }
+}
+
+/// What a line says, with its names numbered. After an `Err` some of its names may have been numbered.
+#[tactic(auto, unfolding(crate::specs::Scripts::numbered_line))]
+fn number_line(names: &mut Names, line: u64, said: &NamedAct<'_>) -> Result<ScriptLine, ScriptCause>
+    requires { AreNames (named_of said.now) }
+    ensures ok { IfOk result (λ l. numbered_line names.old line (named_of said.now) ≡ Ok (l, names.new)) }
+    ensures fault { IfErr result (λ f. Fails f (numbered_line names.old line (named_of said.now))) }
+{
+    let mut digits = itoa::Buffer::new();
+    let thread = number_in_line(names, Kind::Thread, said.thread)?;
+    let target = number_in_line(names, kind_at(said.word), said.argument)?;
+    let site = number_in_line(names, Kind::Site, digits.format(line).as_bytes())?;
+    Ok(ScriptLine {
+        act: act_at(said.word, thread, target, site, said.number),
+        line,
+    })
+}
+
+fn is_forked(before: &[ScriptLine], thread: ThreadId) -> bool
+    ensures { result ≡ list_any (forks thread.0) before.now }
+{
+    before.iter().any(|line| line.forks(thread))
+}
+
+fn is_joined(before: &[ScriptLine], thread: ThreadId) -> bool
+    ensures { result ≡ list_any (joins thread.0) before.now }
+{
+    before.iter().any(|line| line.joins(thread))
+}
+
+/// Whether the line forks thread 0, or a thread that a line before it forks.
+fn is_bad_fork(before: &[ScriptLine], line: &ScriptLine) -> bool
+    ensures { result ≡ is_bad_fork before.now (fork_of line.now) }
+{
+    let Some(child) = line.fork() else {
+        return false;
+    };
+    child.0 == 0 || is_forked(before, child)
+}
+
+/// Whether the line joins thread 0, its own thread, or a thread that a line before it joins.
+fn is_bad_join(before: &[ScriptLine], line: &ScriptLine) -> bool
+    ensures { result ≡ is_bad_join before.now (thread_of line.now) (join_of line.now) }
+{
+    let Some(target) = line.join() else {
+        return false;
+    };
+    target.0 == 0 || target.0 == line.thread().0 || is_joined(before, target)
+}
+
+/// Judges the content of a line, which stands without its ending. An empty content says nothing. After an
+/// `Err` some of its names may have been numbered.
+#[tactic(auto, unfolding(crate::specs::Scripts::after_content))]
+pub fn add_line(
+    names: &mut Names,
+    lines: &mut Vec<ScriptLine>,
+    number: u64,
+    content: &[u8],
+) -> Result<(), ScriptCause>
+    ensures ok { OnOk result
+        (after_content (record { names = names.old; lines = lines.old.items }) number content.now
+        ≡ Ok (record { names = names.new; lines = lines.new.items })) }
+    ensures fault { IfErr result (λ f.
+        Fails f (after_content (record { names = names.old; lines = lines.old.items }) number content.now)) }
+{
+    if content.is_empty() {
+        return Ok(());
+    }
+    let said = read_content(content)?;
+    let line = number_line(names, number, &said)?;
+    if is_bad_fork(lines.as_slice(), &line) {
+        return Err(ScriptCause::BadFork);
+    }
+    if is_bad_join(lines.as_slice(), &line) {
+        return Err(ScriptCause::BadJoin);
+    }
+    if lines.push(line).is_err() {
+        return Err(ScriptCause::OutOfMemory);
+    }
+    Ok(())
+}

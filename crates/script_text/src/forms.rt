@@ -1,0 +1,169 @@
+//! The forms of a line: `thread word argument` and `thread word argument number`.
+ghost use Rattle.std.specs.Prelude.{◌≡◌, option_map, IfOk, IfErr, IsTrue};
+ghost use Rattle.rapid_line.specs.Cut.{has, cut, Lacks};
+ghost use Rattle.script_text.specs.Forms.{word_of, takes_number, is_name, line_of, plain, numbered};
+ghost use Rattle.rapid_line.specs.Grammar.{IsName};
+ghost use Rattle.script_text.specs.Forms.{form, Gives, named_of, AreNames, Fails};
+
+use crate::causes::ScriptCause;
+use crate::numbers::number;
+use memchr::memchr;
+
+/// What a line asks for.
+#[derive(Clone, Copy, Debug, PartialEq, Eq)]
+pub enum Word {
+    Load,
+    Store,
+    Acquire,
+    Release,
+    Fork,
+    Join,
+    Swap,
+}
+
+/// What a line says, in its bytes. The number is 0 where the word takes none.
+#[derive(Clone, Copy)]
+pub struct NamedAct<'a> {
+    pub thread: &'a [u8],
+    pub word: Word,
+    pub argument: &'a [u8],
+    pub number: u64,
+}
+
+/// What stands before the first such byte, and what after it.
+fn cut_at(bytes: &[u8], byte: u8) -> Option<(&[u8], &[u8])>
+    ensures { option_map (λ p. (p.0.now, p.1.now)) result ≡ cut byte bytes.now }
+{
+    let at = memchr(byte, bytes)?;
+    Some((&bytes[..at], &bytes[at + 1..]))
+}
+
+fn contains(bytes: &[u8], byte: u8) -> bool
+    ensures { result ≡ has byte bytes.now }
+{
+    cut_at(bytes, byte).is_some()
+}
+
+#[tactic(auto, unfolding(crate::specs::Forms::word_of))]
+fn word_at(bytes: &[u8]) -> Option<Word>
+    ensures { result ≡ word_of bytes.now }
+{
+    if bytes == b"r".as_slice() {
+        Some(Word::Load)
+    } else if bytes == b"w".as_slice() {
+        Some(Word::Store)
+    } else if bytes == b"acq".as_slice() {
+        Some(Word::Acquire)
+    } else if bytes == b"rel".as_slice() {
+        Some(Word::Release)
+    } else if bytes == b"fork".as_slice() {
+        Some(Word::Fork)
+    } else if bytes == b"join".as_slice() {
+        Some(Word::Join)
+    } else if bytes == b"swap".as_slice() {
+        Some(Word::Swap)
+    } else {
+        None
+    }
+}
+
+impl Word {
+    /// Whether a number stands after the argument.
+    fn takes_number(self) -> bool
+        ensures { result ≡ takes_number self }
+    {
+        match self {
+            Word::Store | Word::Swap => true,
+            Word::Load | Word::Acquire | Word::Release | Word::Fork | Word::Join => false,
+        }
+    }
+}
+
+/// Whether the bytes are a name: 1 to 255 of them, and no blank, bar, LF or CR.
+fn is_name(bytes: &[u8]) -> bool
+    ensures is { result ≡ is_name bytes.now }
+    ensures named { IsTrue result → IsName bytes.now }
+{
+    !bytes.is_empty()
+        && bytes.len() <= 255
+        && !contains(bytes, b' ')
+        && !contains(bytes, b'|')
+        && !contains(bytes, b'\n')
+        && !contains(bytes, b'\r')
+}
+
+/// A line whose word takes no number.
+fn plain_form<'a>(
+    thread: &'a [u8],
+    word: Word,
+    argument: &'a [u8],
+) -> Result<NamedAct<'a>, ScriptCause>
+    ensures is { Gives named_of result (plain thread.now word argument.now) }
+    ensures named { IfOk result (λ said. AreNames (named_of said)) }
+    ensures fault { IfErr result (λ f. Fails f (plain thread.now word argument.now)) }
+{
+    if !is_name(thread) || !is_name(argument) {
+        return Err(ScriptCause::BadLine);
+    }
+    Ok(NamedAct {
+        thread,
+        word,
+        argument,
+        number: 0,
+    })
+}
+
+/// A line whose word takes a number.
+fn numbered_form<'a>(
+    thread: &'a [u8],
+    word: Word,
+    rest: &'a [u8],
+) -> Result<NamedAct<'a>, ScriptCause>
+    ensures is { Gives named_of result (numbered thread.now word rest.now) }
+    ensures named { IfOk result (λ said. AreNames (named_of said)) }
+    ensures fault { IfErr result (λ f. Fails f (numbered thread.now word rest.now)) }
+{
+    let Some((argument, digits)) = cut_at(rest, b' ') else {
+        return Err(ScriptCause::BadLine);
+    };
+    if !is_name(thread) || !is_name(argument) || contains(digits, b' ') {
+        return Err(ScriptCause::BadLine);
+    }
+    let Some(number) = number(digits) else {
+        return Err(ScriptCause::BadNumber);
+    };
+    Ok(NamedAct {
+        thread,
+        word,
+        argument,
+        number,
+    })
+}
+
+/// What a content says, which stands without its ending, or the first cause why it has none of the forms.
+#[tactic(auto, unfolding(crate::specs::Forms::line_of))]
+pub fn read_content(bytes: &[u8]) -> Result<NamedAct<'_>, ScriptCause>
+    ensures is { Gives named_of result (line_of bytes.now) }
+    ensures named { IfOk result (λ said. AreNames (named_of said)) }
+    ensures fault { IfErr result (λ f. Fails f (line_of bytes.now)) }
+{
+    if bytes.len() > 1024 {
+        return Err(ScriptCause::LineTooLong);
+    }
+    if contains(bytes, b'\r') {
+        return Err(ScriptCause::BadLine);
+    }
+    let Some((thread, rest)) = cut_at(bytes, b' ') else {
+        return Err(ScriptCause::BadLine);
+    };
+    let Some((word, rest)) = cut_at(rest, b' ') else {
+        return Err(ScriptCause::BadLine);
+    };
+    let Some(word) = word_at(word) else {
+        return Err(ScriptCause::BadLine);
+    };
+    if word.takes_number() {
+        return numbered_form(thread, word, rest);
+    }
+    plain_form(thread, word, rest)
+}

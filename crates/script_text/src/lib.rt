@@ -1,0 +1,20 @@
+//! Scripts: what threads are to do, a line for each step, as text.
+//!
+//! A line is `thread word argument` or `thread word argument number`, with one blank between. A script is
+//! read whole before any of it is done: each line is judged as it comes, and at the end that each thread is
+//! forked.
+#![tactic(auto)]
+
+mod causes;
+mod draft;
+mod forms;
+mod lines;
+mod numbers;
+mod reached;
+mod readings;
+mod rows;
+mod script;
+
+pub use causes::{ScriptCause, ScriptFault};
+pub use lines::ScriptLine;
+pub use script::Script;

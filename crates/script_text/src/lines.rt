@@ -1,0 +1,70 @@
+//! A line of a script: what its thread does, with its names numbered.
+ghost use Rattle.std.specs.Prelude.{◌≡◌};
+ghost use Rattle.script_text.specs.Lines.{thread_of, fork_of, join_of, forks, joins, is_of};
+
+use event_core::{Act, Op, ThreadId};
+
+/// What a line says that its thread does, and the number of the line. Lines are numbered from 1.
+#[derive(Clone, Copy, Debug, PartialEq, Eq)]
+pub struct ScriptLine {
+    pub act: Act,
+    pub line: u64,
+}
+
+impl ScriptLine {
+    /// The thread whose line it is.
+    pub fn thread(&self) -> ThreadId
+        ensures { result ≡ thread_of self.now }
+    {
+        match self.act {
+            Act::One(call) => call.thread,
+            Act::Swap { thread, .. } => thread,
+        }
+    }
+
+    /// The thread that it forks.
+    pub fn fork(&self) -> Option<ThreadId>
+        ensures { result ≡ fork_of self.now }
+    {
+        match self.act {
+            Act::One(call) => match call.op {
+                Op::Fork(child) => Some(child),
+                _ => None,
+            },
+            Act::Swap { .. } => None,
+        }
+    }
+
+    /// The thread that it joins.
+    pub fn join(&self) -> Option<ThreadId>
+        ensures { result ≡ join_of self.now }
+    {
+        match self.act {
+            Act::One(call) => match call.op {
+                Op::Join(target) => Some(target),
+                _ => None,
+            },
+            Act::Swap { .. } => None,
+        }
+    }
+
+    /// Whether it forks the thread.
+    pub fn forks(&self, thread: ThreadId) -> bool
+        ensures { result ≡ forks thread.0 self.now }
+    {
+        match self.fork() {
+            Some(child) => child.0 == thread.0,
+            None => false,
+        }
+    }
+
+    /// Whether it joins the thread.
+    pub fn joins(&self, thread: ThreadId) -> bool
+        ensures { result ≡ joins thread.0 self.now }
+    {
+        match self.join() {
+            Some(target) => target.0 == thread.0,
+            None => false,
+        }
+    }
+}

@@ -1,0 +1,168 @@
+//! Scripts that were read.
+ghost use Rattle.std.specs.Prelude.{◌≡◌, ℕ, ◌<◌, ◌≤◌, length, filter, IfOk, IfErr, IfSome, OnOk, Ok, false};
+ghost use Rattle.script_text.specs.Lines.{is_of};
+ghost use Rattle.script_text.specs.Scripts.{Parsed, IsScript, IsFirstUnreached, IsDraft, script_of};
+ghost use Rattle.script_text.specs.Rows.{AreRows};
+ghost use Rattle.script_text.specs.Readings.{IsFault, Incomplete};
+
+use crate::causes::{ScriptCause, ScriptFault};
+use crate::lines::ScriptLine;
+use crate::reached::{first_unmarked, reached_threads};
+use crate::readings::Reading;
+use crate::rows::rows;
+use event_core::{Limits, ThreadId};
+use rapid_text::{Input, Kind, Names};
+use std::alloc::Global;
+use std::marker::Model;
+
+/// How many bytes are read at once.
+const PIECE: usize = 4096;
+
+fn no_memory() -> ScriptFault
+    ensures { result ≡ record { line = 1; cause = ScriptCause.OutOfMemory } }
+{
+    ScriptFault {
+        line: 1,
+        cause: ScriptCause::OutOfMemory,
+    }
+}
+
+/// The names and the lines of the text that the reader has left.
+fn read_lines<I: Input>(
+    alloc: Global,
+    reader: &mut I,
+    limits: Limits,
+    turns: u64,
+) -> Result<(Names, Vec<ScriptLine>), ScriptFault>
+    requires turns { turns ≤ 17592186044416 }
+    requires works { I.failed reader.old ≡ false }
+    ensures ok { IfOk result (λ r. IfSome (I.left reader.old) (λ text.
+        script_of limits text ≡ Ok (record { names = r.0; lines = r.1.items }))) }
+    ensures draft { IfOk result (λ r. IsDraft (record { names = r.0; lines = r.1.items })) }
+    ensures fault { IfErr result (λ f.
+        IsFault limits (I.left reader.old) (I.left reader.new) turns (I.failed reader.new) f f.cause) }
+    ensures healthy { OnOk result (I.failed reader.new ≡ false) }
+{
+    let mut reading = Reading::new(alloc, limits);
+    let Ok(mut piece) = vec![in alloc; 0u8; PIECE] else {
+        return Err(no_memory());
+    };
+    reading.read_all(reader, piece.as_mut_slice(), turns)?;
+    reading.finish()?;
+    Ok(reading.parts())
+}
+
+/// Whether forks lead from thread 0 to each thread that a line names.
+fn check_forks(alloc: Global, names: &Names, lines: &[ScriptLine]) -> Result<(), ScriptFault>
+    requires { IsDraft (record { names = names.now; lines = lines.now }) }
+    ensures ok { OnOk result (IsScript (record { names = names.now; lines = lines.now })) }
+    ensures fault { IfErr result (λ f. Incomplete lines.now f) }
+{
+    let Ok(marks) = reached_threads(alloc, lines, names.count(Kind::Thread)) else {
+        return Err(no_memory());
+    };
+    if let Some(line) = first_unmarked(lines, marks.as_slice()) {
+        return Err(ScriptFault {
+            line,
+            cause: ScriptCause::NoFork,
+        });
+    }
+    Ok(())
+}
+
+/// The script of lines that were judged one after another.
+fn whole_script(alloc: Global, names: Names, lines: Vec<ScriptLine>) -> Result<Script, ScriptFault>
+    requires { IsDraft (record { names = names; lines = lines.items }) }
+    ensures ok { IfOk result (λ s. s ≡ record { names = names; lines = lines.items }) }
+    ensures script { IfOk result (λ s. IsScript s) }
+    ensures fault { IfErr result (λ f. Incomplete lines.items f) }
+{
+    check_forks(alloc, &names, lines.as_slice())?;
+    let Ok(by_thread) = rows(alloc, lines.as_slice(), names.count(Kind::Thread)) else {
+        return Err(no_memory());
+    };
+    Ok(Script {
+        names,
+        lines,
+        by_thread,
+    })
+}
+
+/// A script without fault: its names, and its lines in order, also by thread.
+///
+/// The first line is one of thread 0, forks lead from it to each thread that a line names, and no thread is
+/// forked or joined twice.
+#[derive(Drop)]
+pub struct Script {
+    names: Names,
+    lines: Vec<ScriptLine>,
+    by_thread: Vec<Vec<ScriptLine>>,
+}
+
+impl Model for Script {
+    ghost Value = { Parsed };
+
+    ghost view = { λ s. record { names = s.names; lines = s.lines.items } };
+
+    ghost invariant = { λ s. IsScript (record { names = s.names; lines = s.lines.items })
+        × (length s.by_thread.items ≡ length s.names.threads.names)
+        × AreRows s.by_thread.items s.lines.items };
+}
+
+impl Script {
+    /// Reads the script that the reader gives, with no more than so many pulls. It keeps no more of the text
+    /// than one piece and one line.
+    pub fn read<I: Input>(
+        alloc: Global,
+        reader: &mut I,
+        limits: Limits,
+        turns: u64,
+    ) -> Result<Script, ScriptFault>
+        requires turns { turns ≤ 17592186044416 }
+        requires works { I.failed reader.old ≡ false }
+        // The script is that of the text.
+        ensures ok { IfOk result (λ s. IfSome (I.left reader.old) (λ text. script_of limits text ≡ Ok s)) }
+        // Forks lead from thread 0 to each thread, and no thread is forked or joined twice.
+        ensures script { IfOk result (λ s. IsScript s) }
+        // The fault is the first of the text, or a read failed, the turns are used up or a growth was
+        // refused.
+        ensures fault { IfErr result (λ f.
+            IsFault limits (I.left reader.old) (I.left reader.new) turns (I.failed reader.new) f f.cause) }
+        // A failure of the reader is never passed over.
+        ensures healthy { OnOk result (I.failed reader.new ≡ false) }
+    {
+        let (names, lines) = read_lines(alloc, reader, limits, turns)?;
+        whole_script(alloc, names, lines)
+    }
+
+    /// The names of its threads, locks, variables and locations. A line's location is its number in decimal.
+    pub fn names(&self) -> &Names
+        ensures { result.now ≡ self.entry.now.names }
+    {
+        &self.names
+    }
+
+    /// How many threads it names. They are numbered from 0 in the order of their first appearance.
+    pub fn threads(&self) -> u32
+        ensures is { result ≡ length self.now.names.threads.names }
+        ensures script { IsScript self.now }
+    {
+        self.names.count(Kind::Thread)
+    }
+
+    /// All lines in their order.
+    pub fn lines(&self) -> &[ScriptLine]
+        ensures { result.now ≡ self.entry.now.lines }
+    {
+        self.lines.as_slice()
+    }
+
+    /// The lines of one thread in their order.
+    pub fn lines_of(&self, thread: ThreadId) -> &[ScriptLine]
+        requires { thread.0 < length self.now.names.threads.names }
+        ensures { result.now ≡ filter (is_of thread.0) self.entry.now.lines }
+    {
+        let row: &Vec<ScriptLine> = &self.by_thread[thread.0 as usize];
+        row.as_slice()
+    }
+}

@@ -1,0 +1,61 @@
+//! The options of the commands. The value of each is a number.
+ghost use Rattle.std.specs.Prelude.{◌≡◌, ◌≤◌, ℕ, List, Some, false, pos};
+ghost use Rattle.clap.specs.Words.{IsSignedIn, found_of, one_text, rule_of, without_minus};
+ghost use Rattle.wcp_tool.specs.CommandLine.{number_option as rule_for, number_of as number_in};
+
+use clap::{Arg, ArgAction, ArgMatches, value_parser};
+use std::alloc::Global;
+
+/// An option whose value is a number from 1 to the greatest.
+#[derive(Clone, Copy)]
+pub(crate) struct NumberOption {
+    pub(crate) name: &'static str,
+    pub(crate) most: u32,
+    pub(crate) default: u32,
+    pub(crate) default_text: &'static str,
+    pub(crate) help: &'static str,
+}
+
+pub(crate) const THREADS: NumberOption = NumberOption {
+    name: "threads",
+    most: 1024,
+    default: 64,
+    default_text: "64",
+    help: "How many threads may be named, from 1 to 1024",
+};
+
+pub(crate) const PATIENCE: NumberOption = NumberOption {
+    name: "patience",
+    most: 4294967295,
+    default: 1000000,
+    default_text: "1000000",
+    help: "How often a line is tried before its thread is stuck, from 1 to 4294967295",
+};
+
+/// The option as clap is told of it.
+pub(crate) fn number_option<'a>(alloc: Global, option: &NumberOption) -> Arg<'a>
+    ensures local { result.global ≡ false }
+    ensures rule { rule_of result
+        ≡ rule_for option.now.name.now option.now.most option.now.default_text.now }
+{
+    Arg::new(alloc, option.name)
+        .long(option.name)
+        .value_name("N")
+        .action(ArgAction::Set)
+        .value_parser(value_parser!(u32).range(1..=i64::from(option.most)))
+        .default_value(option.default_text)
+        .help(option.help)
+}
+
+/// The number that an option was given, which the parse found within its range.
+pub(crate) fn number_of(matches: &ArgMatches<'_>, option: &NumberOption) -> u32
+    requires { 1 ≤ option.now.most }
+    ensures least { 1 ≤ result }
+    ensures most { result ≤ option.now.most }
+    ensures given { (t : List ℕ) → IsSignedIn (pos 1) (pos option.now.most) t
+        → one_text (found_of matches.now) option.now.name.now ≡ Some (without_minus t)
+        → result ≡ number_in (without_minus t) }
+{
+    let given: Option<u32> = matches.get_one(option.name);
+    given.unwrap_or(option.default).clamp(1, option.most)
+}

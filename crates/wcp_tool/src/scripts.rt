@@ -1,0 +1,180 @@
+//! A run of the threads of a script.
+ghost use Rattle.std.specs.Prelude.{◌≡◌, ◌≢◌, ◌⊎◌, ◌≤◌, true, false};
+ghost use Rattle.wcp_tool.specs.Endings.{status_of};
+ghost use Rattle.wcp_tool.specs.Running.{Reports, limits_with};
+ghost use Rattle.event_core.specs.declared.bounds.Roots.TheVariants.{OnlyMain};
+
+use crate::bounds::{TURNS, limits_of};
+use crate::endings::{Ending, summary_ending};
+use crate::naming::are_named;
+use crate::requests::Settings;
+use event_core::Roots;
+use live_monitor::Closed;
+use rapid_text::{Device, Input, Names, Output, write_all, write_fault};
+use script_drive::{DriveFault, FreeGate, drive};
+use script_text::{Script, ScriptCause, ScriptFault};
+use std::fs;
+use std::fs::Files;
+use std::sync::Wait;
+use std::thread::Threads;
+use trace_report::{refusal_word, report};
+
+/// Writes `line N: WORD`, and ends so.
+fn tell<O: Output>(writer: &mut O, line: u64, word: &str, ending: Ending) -> Ending
+    requires writes { O.failed writer.old ≡ false }
+    requires ending { (ending ≡ Ending.BrokenScript) ⊎ (ending ≡ Ending.Refused) }
+    ensures ends { (result ≡ Ending.BrokenScript)
+        ⊎ ((result ≡ Ending.Refused) ⊎ (result ≡ Ending.WriteFault)) }
+    ensures write_fault { result ≡ Ending.WriteFault → O.failed writer.new ≡ true }
+    ensures written { result ≢ Ending.WriteFault → O.failed writer.new ≡ false }
+{
+    match write_fault(writer, line, word) {
+        Ok(()) => ending,
+        Err(_) => Ending::WriteFault,
+    }
+}
+
+/// Tells why a script was not read.
+fn explain_script<O: Output>(writer: &mut O, fault: &ScriptFault) -> Ending
+    requires writes { O.failed writer.old ≡ false }
+    ensures ran { (result ≢ Ending.Done) × (result ≢ Ending.Races) }
+    ensures usage { result ≢ Ending.WrongUsage }
+    ensures quiet { (result ≡ Ending.ReadFault) ⊎ (result ≡ Ending.OutOfMemory) → writer.new ≡ writer.old }
+    ensures write_fault { result ≡ Ending.WriteFault → O.failed writer.new ≡ true }
+    ensures written { result ≢ Ending.WriteFault → O.failed writer.new ≡ false }
+{
+    match fault.cause {
+        ScriptCause::Read => Ending::ReadFault,
+        ScriptCause::OutOfMemory => Ending::OutOfMemory,
+        cause => tell(writer, fault.line, cause.word(), Ending::BrokenScript),
+    }
+}
+
+/// Tells why a script was not run to its end.
+fn explain_drive<O: Output>(writer: &mut O, fault: &DriveFault) -> Ending
+    requires writes { O.failed writer.old ≡ false }
+    ensures ran { (result ≢ Ending.Done) × (result ≢ Ending.Races) }
+    ensures usage { result ≢ Ending.WrongUsage }
+    ensures quiet { (result ≡ Ending.ReadFault) ⊎ (result ≡ Ending.OutOfMemory) → writer.new ≡ writer.old }
+    ensures write_fault { result ≡ Ending.WriteFault → O.failed writer.new ≡ true }
+    ensures written { result ≢ Ending.WriteFault → O.failed writer.new ≡ false }
+{
+    match fault {
+        DriveFault::Stuck { line, .. } => tell(writer, *line, "Stuck", Ending::BrokenScript),
+        DriveFault::NoWorker { line } => tell(writer, *line, "NoWorker", Ending::BrokenScript),
+        DriveFault::Refused { line, refusal, .. } => {
+            tell(writer, *line, refusal_word(*refusal), Ending::Refused)
+        }
+        DriveFault::OutOfMemory => Ending::OutOfMemory,
+    }
+}
+
+/// Reports what the threads did.
+fn report_closed<O: Output>(writer: &mut O, closed: &Closed, names: &Names) -> Ending
+    requires writes { O.failed writer.old ≡ false }
+    ensures reports { (result ≡ Ending.Done) ⊎ (result ≡ Ending.Races) → Reports closed.now.limits
+        (O.written writer.old) (O.written writer.new) (status_of result) }
+    ensures usage { result ≢ Ending.WrongUsage }
+    ensures quiet { (result ≢ Ending.ReadFault) × (result ≢ Ending.OutOfMemory) }
+    ensures write_fault { result ≡ Ending.WriteFault → O.failed writer.new ≡ true }
+    ensures written { result ≢ Ending.WriteFault → O.failed writer.new ≡ false }
+{
+    let log = closed.log();
+    // The threads made the calls of the script's lines, whose numbers all have names. So this does not occur.
+    if !are_named(names, log) {
+        return Ending::BrokenScript;
+    }
+    match report(writer, log, closed.verdicts(), names) {
+        Ok(summary) => summary_ending(&summary),
+        Err(_) => Ending::WriteFault,
+    }
+}
+
+/// Runs the script that the reader gives, and reports what its threads did.
+fn run_lines<R: AllocGlobal + Threads + Wait + Sync, I: Input, O: Output>(
+    rt: &R,
+    script: &mut I,
+    writer: &mut O,
+    settings: &Settings,
+) -> Ending
+    requires threads { (1 ≤ settings.now.threads) × (settings.now.threads ≤ 1024) }
+    requires reads { I.failed script.old ≡ false }
+    requires writes { O.failed writer.old ≡ false }
+    ensures reports { (result ≡ Ending.Done) ⊎ (result ≡ Ending.Races)
+        → Reports (limits_with settings.now.threads OnlyMain) (O.written writer.old) (O.written writer.new)
+        (status_of result) }
+    ensures usage { result ≢ Ending.WrongUsage }
+    ensures quiet { (result ≡ Ending.ReadFault) ⊎ (result ≡ Ending.OutOfMemory) → writer.new ≡ writer.old }
+    ensures write_fault { result ≡ Ending.WriteFault → O.failed writer.new ≡ true }
+    ensures written { result ≢ Ending.WriteFault → O.failed writer.new ≡ false }
+{
+    let limits = limits_of(settings.threads, Roots::OnlyMain);
+    let script = match Script::read(rt.alloc(), script, limits, TURNS) {
+        Ok(script) => script,
+        Err(fault) => return explain_script(writer, &fault),
+    };
+    match drive(
+        rt,
+        rt.alloc(),
+        &script,
+        &limits,
+        &FreeGate,
+        settings.patience,
+    ) {
+        Ok(closed) => report_closed(writer, &closed, script.names()),
+        Err(fault) => explain_drive(writer, &fault),
+    }
+}
+
+/// Runs the script at the path.
+pub(crate) fn run_file<R: AllocGlobal + Files + Threads + Wait + Sync, O: Output>(
+    rt: &R,
+    path: &str,
+    writer: &mut O,
+    settings: &Settings,
+) -> Ending
+    requires threads { (1 ≤ settings.now.threads) × (settings.now.threads ≤ 1024) }
+    requires writes { O.failed writer.old ≡ false }
+    ensures reports { (result ≡ Ending.Done) ⊎ (result ≡ Ending.Races)
+        → Reports (limits_with settings.now.threads OnlyMain) (O.written writer.old) (O.written writer.new)
+        (status_of result) }
+    ensures usage { result ≢ Ending.WrongUsage }
+    ensures quiet { (result ≡ Ending.ReadFault) ⊎ (result ≡ Ending.OutOfMemory) → writer.new ≡ writer.old }
+    ensures write_fault { result ≡ Ending.WriteFault → O.failed writer.new ≡ true }
+    ensures written { result ≢ Ending.WriteFault → O.failed writer.new ≡ false }
+{
+    let Ok(file) = fs::open(rt, path) else {
+        return Ending::ReadFault;
+    };
+    run_lines(rt, &mut Device::new(file), writer, settings)
+}
+
+/// The command `run` over a reader of the script: its threads are run, each line is tried as often as the
+/// patience of the settings says, and what the threads did is reported. The answer is the exit status.
+///
+/// What the threads did depends on the schedule, and so does the status: nothing is said of which log it is.
+pub fn run_script<R: AllocGlobal + Threads + Wait + Sync, I: Input, O: Output, E: Output>(
+    rt: &R,
+    script: &mut I,
+    writer: &mut O,
+    errors: &mut E,
+    settings: &Settings,
+) -> u8
+    requires threads { (1 ≤ settings.now.threads) × (settings.now.threads ≤ 1024) }
+    requires patience { (1 ≤ settings.now.patience) × (settings.now.patience ≤ 4294967295) }
+    requires reads { I.failed script.old ≡ false }
+    requires writes { O.failed writer.old ≡ false }
+    // With status 0 or 1 it wrote the report of a well-formed log, and nothing else.
+    ensures reports { (result ≡ 0) ⊎ (result ≡ 1) → Reports (limits_with settings.now.threads OnlyMain)
+        (O.written writer.old) (O.written writer.new) result }
+    // Nothing is written to standard output where memory ran out.
+    ensures quiet { result ≡ 5 → writer.new ≡ writer.old }
+    // Status 4 tells that the writer failed or took no byte, or else that the script was not read to its end,
+    // and then nothing is written.
+    ensures devices { result ≡ 4 → (O.failed writer.new ≡ true) ⊎ (writer.new ≡ writer.old) }
+    ensures written { result ≢ 4 → O.failed writer.new ≡ false }
+{
+    let ending = run_lines(rt, script, writer, settings);
+    let _ = write_all(errors, ending.message().as_bytes());
+    ending.status()
+}
