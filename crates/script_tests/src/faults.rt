@@ -7,6 +7,30 @@ use std::alloc::Global;
 use std::process::Abort;
 use std::test::Fail;
 
+/// A text, and the line and the cause of its fault.
+static FAULTS: [(&str, u64, ScriptCause); 20] = [
+    ("m r x\na r x", 2, ScriptCause::NoFork),
+    ("m r x\na r x\nm", 3, ScriptCause::BadLine),
+    ("m r x\na fork b\nb fork a", 2, ScriptCause::NoFork),
+    ("m fork a\nm fork a", 2, ScriptCause::BadFork),
+    ("m fork m", 1, ScriptCause::BadFork),
+    ("m w x 18446744073709551616", 1, ScriptCause::BadNumber),
+    ("m swap x -1", 1, ScriptCause::BadNumber),
+    ("m w x 000000000000000000001", 1, ScriptCause::BadNumber),
+    ("m w x ", 1, ScriptCause::BadNumber),
+    ("m fork a\nm join m", 2, ScriptCause::BadJoin),
+    ("m fork a\na join a", 2, ScriptCause::BadJoin),
+    ("m fork a\nm join a\n\nm join a", 4, ScriptCause::BadJoin),
+    ("m  r x", 1, ScriptCause::BadLine),
+    ("m r x ", 1, ScriptCause::BadLine),
+    ("m w x", 1, ScriptCause::BadLine),
+    ("m w x 5 6", 1, ScriptCause::BadLine),
+    ("m\rr x", 1, ScriptCause::BadLine),
+    ("m r x|y", 1, ScriptCause::BadLine),
+    ("m begin x", 1, ScriptCause::BadLine),
+    ("m fork a\nm fork b\nm fork c", 3, ScriptCause::TooManyNames),
+];
+
 /// The reading with so many turns has this fault.
 fn expect_fault(
     rt: &impl Abort,
@@ -27,30 +51,11 @@ fn expect_fault(
 
 #[test]
 fn the_first_cause_is_told(rt: HostRuntime) -> Result<(), Fail> {
-    let cases = [
-        ("m r x\na r x", 2, ScriptCause::NoFork),
-        ("m r x\na r x\nm", 3, ScriptCause::BadLine),
-        ("m r x\na fork b\nb fork a", 2, ScriptCause::NoFork),
-        ("m fork a\nm fork a", 2, ScriptCause::BadFork),
-        ("m fork m", 1, ScriptCause::BadFork),
-        ("m w x 18446744073709551616", 1, ScriptCause::BadNumber),
-        ("m swap x -1", 1, ScriptCause::BadNumber),
-        ("m w x 000000000000000000001", 1, ScriptCause::BadNumber),
-        ("m w x ", 1, ScriptCause::BadNumber),
-        ("m fork a\nm join m", 2, ScriptCause::BadJoin),
-        ("m fork a\na join a", 2, ScriptCause::BadJoin),
-        ("m fork a\nm join a\n\nm join a", 4, ScriptCause::BadJoin),
-        ("m  r x", 1, ScriptCause::BadLine),
-        ("m r x ", 1, ScriptCause::BadLine),
-        ("m w x", 1, ScriptCause::BadLine),
-        ("m w x 5 6", 1, ScriptCause::BadLine),
-        ("m\rr x", 1, ScriptCause::BadLine),
-        ("m r x|y", 1, ScriptCause::BadLine),
-        ("m begin x", 1, ScriptCause::BadLine),
-        ("m fork a\nm fork b\nm fork c", 3, ScriptCause::TooManyNames),
-    ];
-    for (text, line, cause) in cases {
-        let fault = ScriptFault { line, cause };
+    for (text, line, cause) in &FAULTS {
+        let fault = ScriptFault {
+            line: *line,
+            cause: *cause,
+        };
         expect_fault(&rt, rt.alloc(), Reading::whole(text.as_bytes()), 100, fault)?;
         expect_fault(
             &rt,
@@ -65,27 +70,24 @@ fn the_first_cause_is_told(rt: HostRuntime) -> Result<(), Fail> {
 
 #[test]
 fn lines_and_names_have_a_greatest_length(rt: HostRuntime) -> Result<(), Fail> {
-    let name = "a".repeat(rt.alloc(), 256)?;
-    let line = "a".repeat(rt.alloc(), 1026)?;
+    let mut name = "a".repeat(rt.alloc(), 256)?;
+    name.push_str(" r x\na r x")?;
+    let mut line = "a".repeat(rt.alloc(), 1026)?;
+    line.push_str("\r\n")?;
     let cases = [
-        (&name.as_bytes()[..255], false, ScriptCause::BadLine),
-        (&line.as_bytes()[..1024], false, ScriptCause::BadLine),
-        (&line.as_bytes()[..1025], false, ScriptCause::LineTooLong),
-        (&line.as_bytes()[..1025], true, ScriptCause::Read),
-        (line.as_bytes(), true, ScriptCause::LineTooLong),
+        (&name.as_bytes()[1..], false, 2, ScriptCause::NoFork),
+        (name.as_bytes(), false, 1, ScriptCause::BadLine),
+        (&line.as_bytes()[2..], false, 1, ScriptCause::BadLine),
+        (&line.as_bytes()[1..], false, 1, ScriptCause::LineTooLong),
+        (&line.as_bytes()[..1025], true, 1, ScriptCause::Read),
+        (&line.as_bytes()[..1026], true, 1, ScriptCause::LineTooLong),
     ];
-    for (text, fails, cause) in cases {
+    for (text, fails, line, cause) in cases {
         let reading = Reading {
             fails,
             ..Reading::whole(text)
         };
-        expect_fault(
-            &rt,
-            rt.alloc(),
-            reading,
-            100,
-            ScriptFault { line: 1, cause },
-        )?;
+        expect_fault(&rt, rt.alloc(), reading, 100, ScriptFault { line, cause })?;
     }
     Ok(())
 }
