@@ -97,7 +97,7 @@ module _ (w at : ℕ) (rows : List (List ℕ)) (row : List ℕ) (within : at < l
   wide_at = width_at at ∙ row_same at (length row) (widths_of rows) ∙ ap length is
       ∙ length-replicate {A = ℕ} w 0
 
-  wide_other : (t : ℕ) → (t ≡ at → ⊥) → widths_of (set rows at row) t ≡ widths_of rows t
+  pub wide_other : (t : ℕ) → (t ≡ at → ⊥) → widths_of (set rows at row) t ≡ widths_of rows t
   wide_other t n = width_at t ∙ row_other at (length row) (widths_of rows) t n
 
   pub made_row : IsMade w (set rows at row) at

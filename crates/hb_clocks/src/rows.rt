@@ -136,6 +136,7 @@ pub fn make_row(
     ensures same { rows_of rows.new.items ≡ rows_of rows.old.items }
     ensures wide { AreWide width rows.new.items }
     ensures kept { (t : ℕ) → IsMade width rows.old.items t → IsMade width rows.new.items t }
+    ensures others { (t : ℕ) → t ≢ at → widths_of rows.new.items t ≡ widths_of rows.old.items t }
     ensures made { OnOk result (IsMade width rows.new.items at) }
 {
     grow(rows, alloc, at + 1)?;

@@ -1,135 +1,32 @@
 //! A text in any pieces, cut into lines.
 //!
-//! A line that lies whole in a piece is judged in place. Of a line whose end was not seen at most 1,025 bytes
-//! are kept, and with one more byte the line is too long: a content of at most 1,024 bytes and a CR is
-//! shorter. So memory does not grow with the text but for new names.
+//! A line that lies whole in a piece is judged in place, and of a line whose end was not seen no more is kept
+//! than can still be a line. So memory does not grow with the text but for new names.
 //!
 //! The way of a line that lies whole in a piece is inlined from here to its event, since an answer that is
 //! handed up through memory costs more than the judgement. What is rare stands in functions of its own.
-ghost use Rattle.std.specs.Prelude.{◌≡◌, ℕ, ◌+◌, ◌<◌, ◌≤◌, ◌⊎◌, ◌++◌, [], List, length, drop, IfOk};
-ghost use Rattle.std.specs.Prelude.{IfErr, OnOk, OnErr, Ok, None, Some, IfSome, option_map};
+ghost use Rattle.std.specs.Prelude.{◌≡◌, ℕ, ◌+◌, ◌<◌, ◌≤◌, length, IfOk, IfErr, OnOk, Ok, None, Some};
+ghost use Rattle.std.specs.Prelude.{IfSome};
 ghost use Rattle.std.specs.Result.{IsErrOf};
-ghost use Rattle.event_core.specs.Bounds.{Bounds};
-ghost use Rattle.rapid_line.specs.Cut.{Lacks, cut};
+ghost use Rattle.rapid_line.specs.Cut.{Lacks};
 ghost use Rattle.rapid_line.specs.Marks.{IsKnown};
-ghost use Rattle.rapid_text.specs.Tables.{no_names, TablesGrow};
-ghost use Rattle.rapid_text.specs.Events.{content, reading, Fails, IsOfNames};
-ghost use Rattle.rapid_text.specs.Cutting.{Cutting, judged, most, Pushes, FailsAt, Closes, begun};
-ghost use Rattle.rapid_text.specs.Cutting.{TooLongOrMemory, EndsLine, LineFails, Keeps, RestFails};
-ghost use Rattle.rapid_text.specs.Cutting.{ClosesAt, failed_at};
+ghost use Rattle.rapid_text.specs.Tables.{TablesGrow};
+ghost use Rattle.rapid_text.specs.Events.{IsOfNames};
+ghost use Rattle.rapid_text.specs.Cutting.{Cutting, most, begun, Pushes, FailsAt, Closes, ClosesAt};
+ghost use Rattle.rapid_text.specs.Cutting.{failed_at, EndsLine, LineFails, Keeps, RestFails};
 ghost use Rattle.rapid_text.specs.declared.causes.Cause.TheVariants.{Read};
 
 use crate::causes::{Cause, TextFault};
 use crate::event_lines::line_event;
+use crate::kept_lines::{MOST_KEPT, cut_line, keep, unmarked, whole_line};
 use crate::names::Names;
 use event_core::{Event, Limits, OutOfMemory};
-use memchr::memchr;
-use rapid_line::{Line, LineFault, first_line};
+use rapid_line::Line;
 use std::alloc::Global;
 use std::marker::Model;
 
 /// The most bytes that a cutter takes, 2 to the 60th, so that no number of a line or of bytes overflows.
 const MOST_BYTES: u64 = 1152921504606846976;
-
-/// The most bytes of an unfinished line that may still end as a content of 1,024 bytes: those and a CR.
-const MOST_KEPT: usize = 1025;
-
-/// The bytes before the first LF, with their bars where one look tells them, and those after it.
-#[inline(always)]
-fn cut_line(bytes: &[u8]) -> Option<(Line<'_>, &[u8])>
-    ensures cut { option_map (λ p. (p.0.bytes.now, p.1.now)) result ≡ cut 10 bytes.now }
-    ensures known { IfSome result (λ p. IsKnown p.0) }
-{
-    if let Some(found) = first_line(bytes) {
-        return Some(found);
-    }
-    search_line(bytes)
-}
-
-/// The same, where one look does not tell.
-#[inline(never)]
-fn search_line(bytes: &[u8]) -> Option<(Line<'_>, &[u8])>
-    ensures cut { option_map (λ p. (p.0.bytes.now, p.1.now)) result ≡ cut 10 bytes.now }
-    ensures known { IfSome result (λ p. IsKnown p.0) }
-{
-    let at = memchr(b'\n', bytes)?;
-    Some((unmarked(&bytes[..at]), &bytes[at + 1..]))
-}
-
-/// A line of whose bars nothing is known.
-fn unmarked(bytes: &[u8]) -> Line<'_>
-    ensures bytes { result.bytes.now ≡ bytes.now }
-    ensures known { IsKnown result }
-{
-    Line { bytes, bars: None }
-}
-
-/// Adds the bytes to the line whose end was not seen.
-#[tactic(auto, using(crate::proofs::Lines::lacks_both))]
-fn keep(kept: &mut Vec<u8>, bytes: &[u8]) -> Result<(), Cause>
-    requires kept_lf { Lacks 10 kept.old.items }
-    requires lf { Lacks 10 bytes.now }
-    requires short { length kept.old.items ≤ 1025 }
-    ensures ok { OnOk result (kept.new.items ≡ kept.old.items ++ bytes.now) }
-    ensures fault { IfErr result (λ f. TooLongOrMemory f (kept.old.items ++ bytes.now)) }
-    ensures kept_lf { Lacks 10 kept.new.items }
-    ensures short { length kept.new.items ≤ 1025 }
-    ensures err { OnErr result (kept.new.items ≡ kept.old.items) }
-{
-    if bytes.len() > MOST_KEPT - kept.len() {
-        return Err(Cause::Line(LineFault::LineTooLong));
-    }
-    if kept.extend_from_slice(bytes).is_err() {
-        return Err(Cause::OutOfMemory);
-    }
-    Ok(())
-}
-
-/// What the line comes to that is kept and ends with these bytes.
-#[inline(always)]
-fn whole_line(names: &mut Names, kept: &mut Vec<u8>, line: Line<'_>) -> Result<Option<Event>, Cause>
-    requires kept_lf { Lacks 10 kept.old.items }
-    requires lf { Lacks 10 line.bytes.now }
-    requires known { IsKnown line }
-    requires short { length kept.old.items ≤ 1025 }
-    ensures ok { IfOk result (λ e.
-        reading names.old (content (kept.old.items ++ line.entry.bytes.now)) ≡ Ok (e, names.new)) }
-    ensures empty { OnOk result (kept.new.items ≡ []) }
-    ensures fault { IfErr result (λ f.
-        Fails f (reading names.old (content (kept.old.items ++ line.entry.bytes.now)))) }
-    ensures kept_lf { Lacks 10 kept.new.items }
-    ensures short { length kept.new.items ≤ length kept.old.items }
-    ensures grows { TablesGrow names.old names.new }
-    ensures named { IfOk result (λ e. IfSome e (IsOfNames names.new)) }
-{
-    if kept.is_empty() {
-        return line_event(names, line);
-    }
-    kept_line(names, kept, line)
-}
-
-/// The same, where its first bytes are kept.
-#[inline(never)]
-fn kept_line(names: &mut Names, kept: &mut Vec<u8>, line: Line<'_>) -> Result<Option<Event>, Cause>
-    requires kept_lf { Lacks 10 kept.old.items }
-    requires lf { Lacks 10 line.bytes.now }
-    requires known { IsKnown line }
-    requires short { length kept.old.items ≤ 1025 }
-    ensures ok { IfOk result (λ e.
-        reading names.old (content (kept.old.items ++ line.entry.bytes.now)) ≡ Ok (e, names.new)) }
-    ensures empty { OnOk result (kept.new.items ≡ []) }
-    ensures fault { IfErr result (λ f.
-        Fails f (reading names.old (content (kept.old.items ++ line.entry.bytes.now)))) }
-    ensures kept_lf { Lacks 10 kept.new.items }
-    ensures short { length kept.new.items ≤ length kept.old.items }
-    ensures grows { TablesGrow names.old names.new }
-    ensures named { IfOk result (λ e. IfSome e (IsOfNames names.new)) }
-{
-    keep(kept, line.bytes)?;
-    let event = line_event(names, unmarked(kept.as_slice()));
-    kept.clear();
-    event
-}
 
 /// The line of the last answer.
 #[inline(always)]

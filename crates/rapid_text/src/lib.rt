@@ -7,6 +7,7 @@ mod device;
 mod event_lines;
 mod guesses;
 mod input;
+mod kept_lines;
 mod laws;
 mod names;
 mod output;

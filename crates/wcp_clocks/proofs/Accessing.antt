@@ -21,7 +21,7 @@ use Rattle.section_sum.specs.Sums.{KeepsRoom as sum_rooms}
 use Rattle.wcp_laws.specs.Step.{turn, join_all}
 use Rattle.wcp_clocks.specs.declared.parts.Parts.{Parts}
 use Rattle.wcp_clocks.specs.HeldLists.{list_at, numbers_of, held_of}
-use Rattle.wcp_clocks.specs.StrictRows.{StrictTables, strict_of, below_of, KeepsRoom}
+use Rattle.wcp_clocks.specs.StrictRows.{StrictTables, strict_of, below_of, SameRoom}
 use Rattle.wcp_clocks.specs.Parts.{hb_of, state_of, Fits, HasNamed, KeepsReady}
 use Rattle.wcp_clocks.specs.Stepping.{IsStepBy, strict_clock, below_clock}
 use Rattle.wcp_clocks.proofs.Taking.{room_then}
@@ -67,22 +67,24 @@ module _ (e : Event) (x : VarId) (k : AccessKind) (old : Parts) (told : turn e (
       (closed_of old.queues)) x.0 k t)
       (numbers_of locks)))
       (strict_of old.rows).thread
-      → (strict_of taken).lock ≡ (strict_of old.rows).lock → KeepsRoom old.rows taken
+      → (strict_of taken).lock ≡ (strict_of old.rows).lock → SameRoom old.rows taken
       → joined.joins ≤ old.work.joins + 2 * length locks → joined.comparisons ≡ old.work.comparisons
       → ((v l y : ℕ) (j : AccessKind) → noted_of sums v l y j
       ≡ (noted_of old.sums v l y j || is_access t locks x.0 k v l y j))
       → SameOthers old.sums sums → AreNumbers old.sums (closed_of old.queues)
       → hb_tables.state_of tables ≡ hb.after e (hb_of old) → tables.width ≡ old.hb.width
+      → hb_tables.KeepsRoom old.hb tables
       → work ≡ more_joins (hb.joins_of (hb.turn e (hb_of old))) joined
       → strict_of rows ≡ strict_of taken
       → below_of rows ≡ with_row t (below_clock e (Accesses x k) old) (below_of old.rows)
-      → KeepsRoom taken rows
+      → SameRoom taken rows
       → IsStepBy e (Accesses x k) old
       (record { hb = tables; rows = rows; sums = sums; queues = old.queues; held = old.held; work = work })
   access_step locks taken rows tables sums joined work of threads lock room joins comparisons noted others
-      numbers exact width done strict below kept =
+      numbers exact width order done strict below kept =
       record {
         hb = exact;
+        order_room = order;
         threads = ap (λ r. r.thread) strict ∙ taken_row locks taken of threads;
         locks = ap (λ r. r.lock) strict ∙ lock;
         below = below;
@@ -109,7 +111,7 @@ module _ (e : Event) (x : VarId) (k : AccessKind) (old : Parts) (told : turn e (
 
 -- what was ready stays so
 pub access_keeps : (old : Parts) (rows : StrictTables) (tables : hb_tables.Tables) (sums : Sums) (work : Done)
-    → hb_tables.KeepsRoom old.hb tables → KeepsRoom old.rows rows → sum_rooms old.sums sums
+    → hb_tables.KeepsRoom old.hb tables → SameRoom old.rows rows → sum_rooms old.sums sums
     → KeepsReady old (record {
       hb = tables;
       rows = rows;

@@ -15,24 +15,29 @@ use Rattle.event_core.specs.declared.events.AccessKind.{AccessKind}
 use Rattle.event_core.specs.Bounds.{Bounds}
 use Rattle.event_core.specs.Rows.{Rows, join, with_row, no_rows, no_clock}
 use Rattle.hb_clocks.specs.State.{HbState, empty as hb_empty}
+use Rattle.hb_clocks.specs.Tables as hb
 use Rattle.section_sum.specs.Sums.{HasRoom, is_held, noted_of, others_of}
 use Rattle.lock_queues.specs.Queues.{Tables as Queues, SameMeaning, closed_of, opened_of, has_room}
 use Rattle.wcp_laws.specs.State.{empty}
 use Rattle.wcp_clocks.specs.declared.parts.Parts.{Parts}
 use Rattle.wcp_clocks.specs.HeldLists.{list_at, numbers_of, held_of}
-use Rattle.wcp_clocks.specs.StrictRows.{strict_of, below_of}
+use Rattle.wcp_clocks.specs.StrictRows.{StrictTables, strict_of, below_of, HasThread, HasLock}
+use Rattle.wcp_clocks.specs.StrictRows.{SameClocks, KeepsRoom}
 use Rattle.event_core.specs.Closed.{Closed}
 use Rattle.wcp_clocks.specs.Met.{release_at, thread_at, met_threads}
 use Rattle.wcp_clocks.specs.Whole.{AreWhole}
 use Rattle.wcp_clocks.proofs.Wholeness.{none_whole}
 use Rattle.wcp_clocks.specs.Parts.{hb_of, state_of, HasNamed, KeepsReady, SameLimits, SameNumbers, AreParts}
+use Rattle.wcp_clocks.specs.Parts.{AreOrdered, HasNamedClock, HasClocks}
 use Rattle.wcp_clocks.specs.Growth.{HasGrown}
+use Rattle.wcp_clocks.proofs.Ordered.{ordered_more}
 
 pub grown_then : (a b c : Parts) → HasGrown a b → HasGrown b c → HasGrown a c
 grown_then a b c p q = record {
   order = q.order ∙ p.order;
   order_width = q.order_width ∙ p.order_width;
   order_room = λ t op r. q.order_room t op (p.order_room t op r);
+  ordered = λ o. q.ordered (p.ordered o);
   rows = record { strict = q.rows.strict ∙ p.rows.strict; below = q.rows.below ∙ p.rows.below };
   rows_room = record {
     width = q.rows_room.width ∙ p.rows_room.width;
@@ -128,6 +133,7 @@ grown_parts old new g a = record {
       (a.held_thread t l (subst (λ (s : HbState). 0 < s.depth t l) g.order up));
   held_lock = λ t l up. g.rows_room.lock l
       (a.held_lock t l (subst (λ (s : HbState). 0 < s.depth t l) g.order up));
+  ordered = g.ordered a.ordered;
 }
 
 -- a table with one place more that is true
@@ -166,6 +172,7 @@ queues_grown old new same kept = record {
   order = refl;
   order_width = refl;
   order_room = λ t op r. r;
+  ordered = λ o. o;
   rows = record { strict = refl; below = refl };
   rows_room = record { width = refl; thread = λ t r. r; lock = λ l r. r };
   noted = λ t l v k. refl;
@@ -178,13 +185,67 @@ queues_grown old new same kept = record {
   work = refl;
 }
 
+-- room is made in the clocks of happens-before
+pub order_grown : (old : Parts) (new : hb.Tables) → hb.state_of new ≡ hb.state_of old.hb
+    → new.width ≡ old.hb.width → hb.KeepsRoom old.hb new → HasGrown old (record old { hb = new })
+order_grown old new same width kept = record {
+  order = same;
+  order_width = width;
+  order_room = kept;
+  ordered = ordered_more old.rows old.hb new kept;
+  rows = record { strict = refl; below = refl };
+  rows_room = record { width = refl; thread = λ t r. r; lock = λ l r. r };
+  noted = λ t l v k. refl;
+  others = λ l v k t. refl;
+  sums_room = λ l v r. r;
+  queues = record { closed = refl; opened = refl; found = refl; limits = refl };
+  queues_room = λ t l r. r;
+  held = refl;
+  held_room = λ t r. r;
+  work = refl;
+}
+
+-- and in the strict clocks
+pub rows_grown : (old : Parts) (new : StrictTables) → SameClocks old.rows new → KeepsRoom old.rows new
+    → (AreOrdered old.rows old.hb → AreOrdered new old.hb) → HasGrown old (record old { rows = new })
+rows_grown old new same kept ordered = record {
+  order = refl;
+  order_width = refl;
+  order_room = λ t op r. r;
+  ordered = ordered;
+  rows = same;
+  rows_room = kept;
+  noted = λ t l v k. refl;
+  others = λ l v k t. refl;
+  sums_room = λ l v r. r;
+  queues = record { closed = refl; opened = refl; found = refl; limits = refl };
+  queues_room = λ t l r. r;
+  held = refl;
+  held_room = λ t r. r;
+  work = refl;
+}
+
+-- the clocks that an event needs stay
+pub clocks_kept : (old new : StrictTables) (t : ThreadId) (op : Op) → KeepsRoom old new → HasClocks old t op
+    → HasClocks new t op
+clocks_kept old new t op kept has = record { thread = kept.thread t.0 has.thread; named = go op has.named }
+  where
+    go : (op : Op) → HasNamedClock old op → HasNamedClock new op
+    go (Load x) n = tt
+    go (Store x) n = tt
+    go (Acquire l) n = kept.lock l.0 n
+    go (Release l) n = kept.lock l.0 n
+    go (Fork u) n = kept.thread u.0 n
+    go (Join u) n = kept.thread u.0 n
+
 -- parts of one width, without numbers
 pub are_parts : (p : Parts) (width : ℕ) → p.hb.width ≡ width → hb_of p ≡ hb_empty
     → p.rows.width ≡ width → strict_of p.rows ≡ no_rows → below_of p.rows ≡ (λ _. no_clock)
     → p.queues.limits.threads ≡ width
     → ((l x : ℕ) (k : AccessKind) (t : ℕ) → others_of p.sums l x k t ≡ 0)
-    → ((l : ℕ) → closed_of p.queues l ≡ []) → AreParts p
-are_parts p width hb_width hb rows_width strict below queues others closed = record {
+    → ((l : ℕ) → closed_of p.queues l ≡ []) → ((t : ℕ) → HasThread p.rows t → ⊥)
+    → ((l : ℕ) → HasLock p.rows l → ⊥) → AreParts p
+are_parts p width hb_width hb rows_width strict below queues others closed no_thread no_lock = record {
   rows = rows_width ∙ sym hb_width;
   queues = queues ∙ sym hb_width;
   below = λ t. ap (λ (f : ℕ → ℕ → ℕ). f t) below
@@ -198,6 +259,7 @@ are_parts p width hb_width hb rows_width strict below queues others closed = rec
       closed;
   held_thread = λ t l up. absurd (none t l up);
   held_lock = λ t l up. absurd (none t l up);
+  ordered = record { thread = λ t has. absurd (no_thread t.0 has); lock = λ l has. absurd (no_lock l.0 has) };
 }
   where
     none : (t l : ℕ) → 0 < (hb_of p).depth t l → ⊥

@@ -7,6 +7,7 @@ mod Kept
 mod Latest
 mod Lists
 pub mod Named
+mod Ordered
 mod OwnClocks
 mod Passing
 pub mod Replaying

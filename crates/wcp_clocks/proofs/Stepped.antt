@@ -21,6 +21,7 @@ use Rattle.wcp_clocks.specs.Parts.{FewComparisons, Fits, IsAccess, KeepsReady}
 use Rattle.lock_queues.specs.Queues.{closed_of}
 use Rattle.wcp_clocks.specs.Met.{met_threads}
 use Rattle.wcp_clocks.specs.Whole.{AreWhole, by_after}
+use Rattle.wcp_clocks.proofs.Ordered.{ordered_more, ordered_same}
 use Rattle.wcp_clocks.proofs.Wholeness.{whole_after}
 use Rattle.wcp_clocks.specs.Stepping.{IsStep, IsStepBy, strict_clock}
 
@@ -145,6 +146,8 @@ module _ (e : Event) (k : Turn) (old new : Parts) (told : turn e (state_of old)
     whole = whole parts fits;
     held_thread = λ t l h. thread l t (held_before e.thread.0 e.op (hb_of old).depth t l (was t l h));
     held_lock = λ t l h. lock l t (held_before e.thread.0 e.op (hb_of old).depth t l (was t l h));
+    ordered = ordered_more new.rows old.hb new.hb by.order_room
+        (ordered_same old.rows new.rows old.hb by.room.had_thread by.room.had_lock parts.ordered);
   }
     where
       was : (t l : ℕ) → 0 < (hb_of new).depth t l → 0 < hb.depth_after e.thread.0 e.op (hb_of old).depth t l

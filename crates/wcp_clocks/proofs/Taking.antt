@@ -20,16 +20,24 @@ use Rattle.wcp_clocks.specs.Met.{IsMet, IsWholeIn, AreWholeIn}
 use Rattle.wcp_clocks.proofs.Wholeness.{whole_join}
 use Rattle.wcp_laws.specs.Step.{join_all}
 use Rattle.wcp_clocks.proofs.Rows.{row_kept, row_again, join_nothing}
-use Rattle.wcp_clocks.specs.StrictRows.{StrictTables, below_of, KeepsRoom}
+use Rattle.wcp_clocks.specs.StrictRows.{StrictTables, below_of, SameRoom}
 
-pub room_same : (c : StrictTables) → KeepsRoom c c
-room_same c = record { width = refl; thread = λ t r. r; lock = λ l r. r }
+pub room_same : (c : StrictTables) → SameRoom c c
+room_same c = record {
+  width = refl;
+  thread = λ t r. r;
+  lock = λ l r. r;
+  had_thread = λ t r. r;
+  had_lock = λ l r. r;
+}
 
-pub room_then : (a b c : StrictTables) → KeepsRoom a b → KeepsRoom b c → KeepsRoom a c
+pub room_then : (a b c : StrictTables) → SameRoom a b → SameRoom b c → SameRoom a c
 room_then a b c p q = record {
   width = q.width ∙ p.width;
   thread = λ t r. q.thread t (p.thread t r);
   lock = λ l r. q.lock l (p.lock l r);
+  had_thread = λ t r. p.had_thread t (q.had_thread t r);
+  had_lock = λ l r. p.had_lock l (q.had_lock l r);
 }
 
 -- the section with a number that is not 0
@@ -78,7 +86,7 @@ pub record IsTaking (s : Sums) (closed : ℕ → List Closed) (l x t : ℕ) (sou
   pub lock : rows_of now.lock ≡ rows_of old.lock
   pub below : below_of now ≡ below_of old
   pub none : taken ≡ false → rows_of now.thread ≡ rows_of old.thread
-  pub kept : KeepsRoom old now
+  pub kept : SameRoom old now
   pub met : All (IsMet s l x t) rest
   pub whole : IsWholeIn s closed (rows_of now.thread t)
   pub joins : after.joins + length rest ≤ before.joins + 2
@@ -177,7 +185,7 @@ pub taking_on : (s : Sums) (closed : ℕ → List Closed) (l x t : ℕ) (source 
     → IsTaking s closed l x t source old now before after (n ∷ rest) taken
     → rows_of new.thread ≡ with_row t (join (rows_of now.thread t) (release_at (closed l) n))
     (rows_of now.thread)
-    → rows_of new.lock ≡ rows_of now.lock → below_of new ≡ below_of now → KeepsRoom now new
+    → rows_of new.lock ≡ rows_of now.lock → below_of new ≡ below_of now → SameRoom now new
     → done ≡ record after { joins = after.joins + 1 }
     → IsTaking s closed l x t source old new before done rest true
 taking_on s closed l x t source old now new before after done n rest taken each is threads lock below kept
@@ -223,7 +231,7 @@ pub record HasTaken (s : Sums) (closed : ℕ → List Closed) (t : ℕ) (source 
   pub lock : rows_of now.lock ≡ rows_of old.lock
   pub below : below_of now ≡ below_of old
   pub none : taken ≡ false → rows_of now.thread ≡ rows_of old.thread
-  pub kept : KeepsRoom old now
+  pub kept : SameRoom old now
   pub whole : IsWholeIn s closed (rows_of now.thread t)
   pub joins : after.joins ≤ before.joins + 2 * length locks
   pub comparisons : after.comparisons ≡ before.comparisons
@@ -267,7 +275,7 @@ pub taken_on : (s : Sums) (closed : ℕ → List Closed) (t : ℕ) (source : ℕ
     (locks : List ℕ) (l : ℕ) (taken one both : Bool) → IsWholeIn s closed (source l)
     → HasTaken s closed t source old now before after locks taken
     → rows_of new.thread ≡ with_row t (join (rows_of now.thread t) (source l)) (rows_of now.thread)
-    → rows_of new.lock ≡ rows_of now.lock → below_of new ≡ below_of now → KeepsRoom now new
+    → rows_of new.lock ≡ rows_of now.lock → below_of new ≡ below_of now → SameRoom now new
     → (one ≡ false → rows_of new.thread ≡ rows_of now.thread)
     → (both ≡ false → (taken ≡ false) × (one ≡ false))
     → done.joins ≤ after.joins + 2 → done.comparisons ≡ after.comparisons

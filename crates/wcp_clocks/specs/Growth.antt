@@ -6,12 +6,14 @@ use Rattle.lock_queues.specs.Queues.{SameMeaning, has_room}
 use Rattle.wcp_clocks.specs.declared.parts.Parts.{Parts}
 use Rattle.wcp_clocks.specs.HeldLists.{held_of, KeepsPlaces}
 use Rattle.wcp_clocks.specs.StrictRows.{SameClocks, KeepsRoom}
+use Rattle.wcp_clocks.specs.Parts.{AreOrdered}
 
 -- each part has as much room as before, or more, and its numbers are as they were
 pub record HasGrown (old new : Parts) : Type 0 where
   pub order : order_of new.hb ≡ order_of old.hb
   pub order_width : new.hb.width ≡ old.hb.width
   pub order_room : KeepsOrder old.hb new.hb
+  pub ordered : AreOrdered old.rows old.hb → AreOrdered new.rows new.hb
   pub rows : SameClocks old.rows new.rows
   pub rows_room : KeepsRoom old.rows new.rows
   pub noted : SameNoted old.sums new.sums

@@ -19,7 +19,7 @@ use Rattle.wcp_laws.specs.Step.{turn, hb_row, after}
 use Rattle.wcp_laws.specs.Conditions.{IsSound, CursorsStand}
 use Rattle.wcp_clocks.specs.declared.parts.Parts.{Parts}
 use Rattle.wcp_clocks.specs.HeldLists.{list_at, held_of, room_at}
-use Rattle.wcp_clocks.specs.StrictRows.{strict_of, below_of, HasThread, HasLock}
+use Rattle.wcp_clocks.specs.StrictRows.{StrictTables, strict_of, below_of, HasThread, HasLock}
 use Rattle.wcp_clocks.specs.Met.{met_clocks, met_threads, AreNumbers}
 use Rattle.wcp_clocks.specs.Whole.{AreWhole, own_of}
 
@@ -44,6 +44,12 @@ state_of p = record {
 abbrev pub found_in : Parts → ℕ → ℕ → ℕ
 found_in p = found_of p.queues
 
+-- what has a strict clock has those of happens-before: a thread has both, and a lock is ready for the release
+-- of some thread
+pub record AreOrdered (rows : StrictTables) (order : hb.Tables) : Type 0 where
+  pub thread : (t : ThreadId) → HasThread rows t.0 → hb.HasThread order.width order.po order.hb t.0
+  pub lock : (l : LockId) → HasLock rows l.0 → (t : ThreadId) × hb.IsReady order t (Release l)
+
 -- the room that the operation needs beside that of happens-before and of its thread's clocks
 abbrev pub HasNamed : Parts → ThreadId → Op → Type 0
 HasNamed p t (Load x) = HasRoom p.sums (list_at p.held t.0).locks x.0
@@ -52,6 +58,26 @@ HasNamed p t (Acquire l) = HasLock p.rows l.0 × IsTrue (has_room p.queues t.0 l
 HasNamed p t (Release l) = HasLock p.rows l.0
 HasNamed p t (Fork u) = HasThread p.rows u.0
 HasNamed p t (Join u) = HasThread p.rows u.0
+
+-- the lock or the thread that the operation names has its strict clocks
+abbrev pub HasNamedClock : StrictTables → Op → Type 0
+HasNamedClock rows (Acquire l) = HasLock rows l.0
+HasNamedClock rows (Release l) = HasLock rows l.0
+HasNamedClock rows (Fork u) = HasThread rows u.0
+HasNamedClock rows (Join u) = HasThread rows u.0
+HasNamedClock rows _ = Unit {0}
+
+-- and so has the operation's thread
+pub record HasClocks (rows : StrictTables) (t : ThreadId) (op : Op) : Type 0 where
+  pub thread : HasThread rows t.0
+  pub named : HasNamedClock rows op
+
+-- what the operation needs beside clocks
+abbrev pub HasPlaces : Parts → ThreadId → Op → Type 0
+HasPlaces p t (Load x) = HasRoom p.sums (list_at p.held t.0).locks x.0
+HasPlaces p t (Store x) = HasRoom p.sums (list_at p.held t.0).locks x.0
+HasPlaces p t (Acquire l) = IsTrue (has_room p.queues t.0 l.0) × (0 < room_at p.held t.0)
+HasPlaces p t _ = Unit {0}
 
 -- there is room for the event
 pub record IsReady (p : Parts) (e : Event) : Type 0 where
@@ -101,6 +127,7 @@ pub record AreParts (p : Parts) : Type 0 where
   -- a lock that is held has its clock, and so has its holder
   pub held_thread : (t l : ℕ) → 0 < (hb_of p).depth t l → HasThread p.rows t
   pub held_lock : (t l : ℕ) → 0 < (hb_of p).depth t l → HasLock p.rows l
+  pub ordered : AreOrdered p.rows p.hb
 
 -- what was ready stays so
 abbrev pub KeepsReady : Parts → Parts → Type 0

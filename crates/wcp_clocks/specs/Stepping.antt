@@ -4,6 +4,7 @@ use Rattle.event_core.specs.declared.events.Event.{Event}
 use Rattle.event_core.specs.Rows.{join, with_row, to_child, to_lock}
 use Rattle.event_core.specs.Turn.{Turn}
 use Rattle.hb_clocks.specs.State as hb
+use Rattle.hb_clocks.specs.Tables.{KeepsRoom as KeepsOrder}
 use Rattle.section_sum.specs.Sums.{noted_of}
 use Rattle.lock_queues.specs.Queues.{closed_of, opened_of}
 use Rattle.wcp_laws.specs.Step.{turn, after, hb_row, extra, opened_after, held_after, noted_after}
@@ -11,7 +12,7 @@ use Rattle.wcp_laws.specs.Step.{others_after, closed_after}
 use Rattle.wcp_laws.specs.Conditions.{found_at}
 use Rattle.wcp_clocks.specs.declared.parts.Parts.{Parts}
 use Rattle.wcp_clocks.specs.HeldLists.{held_of}
-use Rattle.wcp_clocks.specs.StrictRows.{strict_of, below_of, KeepsRoom}
+use Rattle.wcp_clocks.specs.StrictRows.{strict_of, below_of, SameRoom}
 use Rattle.wcp_clocks.specs.Parts.{hb_of, state_of, found_in, AreParts, SameLimits, most_joins}
 use Rattle.wcp_clocks.specs.Parts.{FewComparisons, IsAccess, KeepsReady}
 use Rattle.wcp_clocks.specs.Met.{met_clocks, met_threads, AreNumbers}
@@ -40,6 +41,7 @@ below_clock e k p = join (strict_clock e k p) (hb.po_row e (hb_of p))
 -- the step part by part, where the turn is k
 pub record IsStepBy (e : Event) (k : Turn) (old new : Parts) : Type 0 where
   pub hb : hb_of new ≡ hb.after e (hb_of old)
+  pub order_room : KeepsOrder old.hb new.hb
   pub threads : (strict_of new.rows).thread ≡ to_child k (strict_clock e k old)
       (with_row e.thread.0 (strict_clock e k old) (strict_of old.rows).thread)
   pub locks : (strict_of new.rows).lock ≡ to_lock k (strict_clock e k old) (strict_of old.rows).lock
@@ -58,5 +60,5 @@ pub record IsStepBy (e : Event) (k : Turn) (old new : Parts) : Type 0 where
   pub found : found_in new ≡ found_at e.thread k (state_of old) (found_in old)
   pub joins : new.work.joins ≤ old.work.joins + most_joins k (length (held_of old.held e.thread.0))
   pub comparisons : FewComparisons e.thread k old new
-  pub room : KeepsRoom old.rows new.rows
+  pub room : SameRoom old.rows new.rows
   pub limits : SameLimits old new

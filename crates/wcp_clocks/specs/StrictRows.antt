@@ -33,6 +33,14 @@ pub record KeepsRoom (old new : StrictTables) : Type 0 where
   pub thread : (t : ℕ) → HasThread old t → HasThread new t
   pub lock : (l : ℕ) → HasLock old l → HasLock new l
 
+-- there is room where there was, and nowhere else, in clocks of the same width
+pub record SameRoom (old new : StrictTables) : Type 0 where
+  pub width : new.width ≡ old.width
+  pub thread : (t : ℕ) → HasThread old t → HasThread new t
+  pub lock : (l : ℕ) → HasLock old l → HasLock new l
+  pub had_thread : (t : ℕ) → HasThread new t → HasThread old t
+  pub had_lock : (l : ℕ) → HasLock new l → HasLock old l
+
 -- there may be other room, and all else is as it was
 pub record SameClocks (old new : StrictTables) : Type 0 where
   pub strict : strict_of new ≡ strict_of old
@@ -45,3 +53,5 @@ pub record AreTables (width : ℕ) (zeros : List ℕ) (thread below lock : List 
   pub thread_wide : AreWide width thread
   pub below_wide : AreWide width below
   pub lock_wide : AreWide width lock
+  -- a thread's clock with program order is made after its strict clock
+  pub strict_made : (t : ℕ) → IsMade width below t → IsMade width thread t

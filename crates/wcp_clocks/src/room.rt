@@ -9,7 +9,10 @@ ghost use Rattle.wcp_laws.specs.State.{empty};
 ghost use Rattle.wcp_clocks.specs.HeldLists.{list_at, room_at};
 ghost use Rattle.wcp_clocks.specs.StrictRows.{HasThread, HasLock};
 ghost use Rattle.wcp_clocks.specs.Parts.{hb_of, state_of, found_in, IsReady, HasNamed, IsWithin, AreParts};
-ghost use Rattle.wcp_clocks.specs.Parts.{event_by, IsReadyToSwap};
+ghost use Rattle.wcp_clocks.specs.Parts.{event_by, IsReadyToSwap, NamesWithin, HasClocks};
+ghost use Rattle.wcp_clocks.specs.Parts.{HasPlaces, HasNamedClock};
+ghost use Rattle.event_core.specs.declared.ids.ThreadId.{ThreadId as AThread};
+ghost use Rattle.event_core.specs.declared.events.Op.TheVariants.{Release};
 ghost use Rattle.wcp_clocks.specs.Growth.{HasGrown};
 
 use crate::holdings::Holdings;
@@ -54,26 +57,17 @@ pub(crate) fn prepare_parts(parts: &mut Parts, event: &Event) -> Result<(), OutO
     ensures grown { HasGrown parts.old parts.new }
     ensures ready { OnOk result (IsReady parts.new event.now) }
 {
-    let thread = event.thread;
-    make_order(parts, event)?;
-    make_thread(parts, thread)?;
-    match event.op {
-        Op::Load(var) | Op::Store(var) => make_access(parts, thread, var),
-        Op::Acquire(lock) => make_section(parts, thread, lock),
-        Op::Release(lock) => make_lock(parts, lock),
-        Op::Fork(child) | Op::Join(child) => make_thread(parts, child),
-    }
+    make_clocks(parts, event)?;
+    make_places(parts, event.thread, event.op)
 }
 
-// Whether there is room for the event.
+// Whether there is room for the event. Where there are strict clocks there are those of happens-before.
 pub(crate) fn are_ready(parts: &Parts, event: &Event) -> bool
+    requires parts { AreParts parts.now }
     ensures ready { IsTrue result ↔ IsReady parts.now event.now }
-    ensures releases { AreParts parts.now → IsHeldRelease (hb_of parts.now) event.now.thread event.now.op
-        → IsTrue result }
+    ensures releases { IsHeldRelease (hb_of parts.now) event.now.thread event.now.op → IsTrue result }
 {
-    parts.hb.ready(event)
-        && parts.rows.has_thread(event.thread)
-        && has_named(parts, event.thread, event.op)
+    parts.rows.has_thread(event.thread) && has_named(parts, event.thread, event.op)
 }
 
 // An event by the thread. Room does not depend on its site and its value.
@@ -106,6 +100,7 @@ pub(crate) fn prepare_both(
 
 // Whether there is room for both events of a swap.
 pub(crate) fn are_both_ready(parts: &Parts, thread: ThreadId, var: VarId) -> bool
+    requires parts { AreParts parts.now }
     ensures { IsTrue result ↔ IsReadyToSwap parts.now thread var }
 {
     are_ready(parts, &event_by(thread, Op::Load(var)))
@@ -140,6 +135,47 @@ fn has_section(parts: &Parts, thread: ThreadId, lock: LockId) -> bool
     parts.rows.has_lock(lock) && parts.queues.has_room(thread, lock) && parts.held.has_room(thread)
 }
 
+// Whether the strict clocks of the event's thread and of what it names were made.
+fn has_clocks(rows: &StrictRows, thread: ThreadId, op: Op) -> bool
+    ensures { IsTrue result ↔ HasClocks rows.now thread op }
+{
+    rows.has_thread(thread)
+        && match op {
+            Op::Acquire(lock) | Op::Release(lock) => rows.has_lock(lock),
+            Op::Fork(child) | Op::Join(child) => rows.has_thread(child),
+            Op::Load(_) | Op::Store(_) => true,
+        }
+}
+
+// Makes the clocks of the event's thread and of what it names where one is missing, those of happens-before
+// first.
+#[tactic(auto, using(crate::proofs::Growth::grown_then))]
+fn make_clocks(parts: &mut Parts, event: &Event) -> Result<(), OutOfMemory>
+    requires { hb.IsWithin parts.old.hb.width event.now }
+    ensures grown { HasGrown parts.old parts.new }
+    ensures made { OnOk result (HasClocks parts.new.rows event.now.thread event.now.op) }
+{
+    if has_clocks(&parts.rows, event.thread, event.op) {
+        return Ok(());
+    }
+    make_order(parts, event)?;
+    make_thread(parts, event.thread)?;
+    make_named(parts, event.op)
+}
+
+// Makes the strict clocks of what the operation names.
+fn make_named(parts: &mut Parts, op: Op) -> Result<(), OutOfMemory>
+    requires { (t : AThread) × hb.IsReady parts.old.hb t op }
+    ensures grown { HasGrown parts.old parts.new }
+    ensures made { OnOk result (HasNamedClock parts.new.rows op) }
+{
+    match op {
+        Op::Acquire(lock) | Op::Release(lock) => make_lock(parts, lock),
+        Op::Fork(child) | Op::Join(child) => make_thread(parts, child),
+        Op::Load(_) | Op::Store(_) => Ok(()),
+    }
+}
+
 // Makes the clocks of program order and of happens-before.
 fn make_order(parts: &mut Parts, event: &Event) -> Result<(), OutOfMemory>
     requires { hb.IsWithin parts.old.hb.width event.now }
@@ -149,20 +185,36 @@ fn make_order(parts: &mut Parts, event: &Event) -> Result<(), OutOfMemory>
     parts.hb.prepare(event)
 }
 
-// Makes the thread's strict clocks.
+// Makes the strict clocks of a thread that has its clocks of happens-before.
 fn make_thread(parts: &mut Parts, thread: ThreadId) -> Result<(), OutOfMemory>
+    requires { hb.HasThread parts.old.hb.width parts.old.hb.po parts.old.hb.hb thread.0 }
     ensures grown { HasGrown parts.old parts.new }
     ensures made { OnOk result (HasThread parts.new.rows thread.0) }
 {
     parts.rows.make_thread(thread)
 }
 
-// Makes the lock's strict clock.
+// Makes the strict clock of a lock that some thread is ready to release.
 fn make_lock(parts: &mut Parts, lock: LockId) -> Result<(), OutOfMemory>
+    requires { (t : AThread) × hb.IsReady parts.old.hb t (Release lock) }
     ensures grown { HasGrown parts.old parts.new }
     ensures made { OnOk result (HasLock parts.new.rows lock.0) }
 {
     parts.rows.make_lock(lock)
+}
+
+// Makes room for what the operation needs beside clocks.
+fn make_places(parts: &mut Parts, thread: ThreadId, op: Op) -> Result<(), OutOfMemory>
+    requires thread { thread.0 < parts.old.queues.limits.threads }
+    requires named { NamesWithin parts.old op }
+    ensures grown { HasGrown parts.old parts.new }
+    ensures made { OnOk result (HasPlaces parts.new thread op) }
+{
+    match op {
+        Op::Load(var) | Op::Store(var) => make_access(parts, thread, var),
+        Op::Acquire(lock) => make_section(parts, thread, lock),
+        Op::Release(_) | Op::Fork(_) | Op::Join(_) => Ok(()),
+    }
 }
 
 // Makes room for the access in each section that is open at it, and for those sections' ends.
@@ -180,10 +232,9 @@ fn make_section(parts: &mut Parts, thread: ThreadId, lock: LockId) -> Result<(),
     requires thread { thread.0 < parts.old.queues.limits.threads }
     requires lock { lock.0 < parts.old.queues.limits.locks }
     ensures grown { HasGrown parts.old parts.new }
-    ensures made { OnOk result (HasLock parts.new.rows lock.0
-        × IsTrue (has_room parts.new.queues thread.0 lock.0) × (0 < room_at parts.new.held thread.0)) }
+    ensures made { OnOk result (IsTrue (has_room parts.new.queues thread.0 lock.0)
+        × (0 < room_at parts.new.held thread.0)) }
 {
-    make_lock(parts, lock)?;
     make_queue(parts, thread, lock)?;
     make_place(parts, thread)
 }

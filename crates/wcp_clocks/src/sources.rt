@@ -7,7 +7,7 @@ ghost use Rattle.lock_queues.specs.Queues.{closed_of};
 ghost use Rattle.wcp_laws.specs.Step.{join_all};
 ghost use Rattle.wcp_clocks.specs.HeldLists.{numbers_of};
 ghost use Rattle.wcp_clocks.specs.Met.{met_clocks, met_under, AreNumbers, IsWholeIn, AreWholeIn};
-ghost use Rattle.wcp_clocks.specs.StrictRows.{strict_of, below_of, HasThread, KeepsRoom};
+ghost use Rattle.wcp_clocks.specs.StrictRows.{strict_of, below_of, HasThread, SameRoom};
 
 use crate::strict::StrictRows;
 use event_core::{AccessKind, LockId, ThreadId, VarId};
@@ -41,7 +41,7 @@ fn take_under(
     ensures locks { (strict_of rows.new).lock ≡ (strict_of rows.old).lock }
     ensures below { below_of rows.new ≡ below_of rows.old }
     ensures none { result ≡ false → (strict_of rows.new).thread ≡ (strict_of rows.old).thread }
-    ensures kept { KeepsRoom rows.old rows.new }
+    ensures kept { SameRoom rows.old rows.new }
     ensures joins { work.new.joins ≤ work.old.joins + 2 }
     ensures comparisons { work.new.comparisons ≡ work.old.comparisons }
 {
@@ -82,7 +82,7 @@ pub(crate) fn take_sources(
     ensures locks { (strict_of rows.new).lock ≡ (strict_of rows.old).lock }
     ensures below { below_of rows.new ≡ below_of rows.old }
     ensures none { result ≡ false → (strict_of rows.new).thread ≡ (strict_of rows.old).thread }
-    ensures kept { KeepsRoom rows.old rows.new }
+    ensures kept { SameRoom rows.old rows.new }
     ensures joins { work.new.joins ≤ work.old.joins + 2 * length held.now }
     ensures comparisons { work.new.comparisons ≡ work.old.comparisons }
 {

@@ -6,7 +6,8 @@ ghost use Rattle.event_core.specs.Rows.{join, bump, with_row, no_rows, no_clock}
 ghost use Rattle.hb_clocks.specs.Counts.{counts_of};
 ghost use Rattle.hb_clocks.specs.State.{HbState};
 ghost use Rattle.hb_clocks.specs.Tables.{state_of as hb_state, rows_of, widths_of};
-ghost use Rattle.wcp_clocks.specs.StrictRows.{strict_of, below_of, HasThread, HasLock, KeepsRoom, SameClocks};
+ghost use Rattle.wcp_clocks.specs.StrictRows.{strict_of, below_of, HasThread, HasLock, KeepsRoom, SameRoom};
+ghost use Rattle.wcp_clocks.specs.StrictRows.{SameClocks};
 
 use event_core::{LockId, OutOfMemory, ThreadId};
 use hb_clocks::rows::{
@@ -53,6 +54,8 @@ impl StrictRows {
         ensures width { IfOk result (λ made. made.width ≡ width) }
         ensures strict { IfOk result (λ made. strict_of made ≡ no_rows) }
         ensures below { IfOk result (λ made. below_of made ≡ (λ _. no_clock)) }
+        ensures no_thread { IfOk result (λ made. (t : ℕ) → HasThread made t → ⊥) }
+        ensures no_lock { IfOk result (λ made. (l : ℕ) → HasLock made l → ⊥) }
     {
         let zeros = Clock::new(alloc, width)?;
         Ok(StrictRows {
@@ -65,11 +68,13 @@ impl StrictRows {
         })
     }
 
-    // Makes both clocks of the thread.
+    // Makes both clocks of the thread, the strict one first.
     pub(crate) fn make_thread(&mut self, thread: ThreadId) -> Result<(), OutOfMemory>
         ensures same { SameClocks self.old self.new }
         ensures kept { KeepsRoom self.old self.new }
         ensures made { OnOk result (HasThread self.new thread.0) }
+        ensures others { (t : ℕ) → t ≢ thread.0 → HasThread self.new t → HasThread self.old t }
+        ensures locks { (l : ℕ) → HasLock self.new l → HasLock self.old l }
     {
         let at = thread.0 as usize;
         make_row(&mut self.threads, self.alloc, self.width, at)?;
@@ -81,16 +86,17 @@ impl StrictRows {
         ensures same { SameClocks self.old self.new }
         ensures kept { KeepsRoom self.old self.new }
         ensures made { OnOk result (HasLock self.new lock.0) }
+        ensures others { (l : ℕ) → l ≢ lock.0 → HasLock self.new l → HasLock self.old l }
+        ensures threads { (t : ℕ) → HasThread self.new t → HasThread self.old t }
     {
         make_row(&mut self.locks, self.alloc, self.width, lock.0 as usize)
     }
 
-    // Whether both clocks of the thread were made.
+    // Whether both clocks of the thread were made: the second is made after the first.
     pub(crate) fn has_thread(&self, thread: ThreadId) -> bool
         ensures { IsTrue result ↔ HasThread self.now thread.0 }
     {
-        let at = thread.0 as usize;
-        is_made(&self.threads, self.width, at) && is_made(&self.below, self.width, at)
+        is_made(&self.below, self.width, thread.0 as usize)
     }
 
     // Whether the clock of the lock was made.
@@ -134,7 +140,7 @@ impl StrictRows {
             (strict_of self.old).thread }
         ensures locks { (strict_of self.new).lock ≡ (strict_of self.old).lock }
         ensures below { below_of self.new ≡ below_of self.old }
-        ensures kept { KeepsRoom self.old self.new }
+        ensures kept { SameRoom self.old self.new }
         ensures work { work.new ≡ record work.old { joins = work.old.joins + 1 } }
     {
         join_row_counts(&mut self.threads, thread.0 as usize, release, work);
@@ -150,7 +156,7 @@ impl StrictRows {
             (strict_of self.old).thread }
         ensures locks { (strict_of self.new).lock ≡ (strict_of self.old).lock }
         ensures below { below_of self.new ≡ below_of self.old }
-        ensures kept { KeepsRoom self.old self.new }
+        ensures kept { SameRoom self.old self.new }
         ensures work { work.new ≡ record work.old { joins = work.old.joins + 1 } }
     {
         join_row(
@@ -172,7 +178,7 @@ impl StrictRows {
             (strict_of self.old).thread }
         ensures locks { (strict_of self.new).lock ≡ (strict_of self.old).lock }
         ensures below { below_of self.new ≡ below_of self.old }
-        ensures kept { KeepsRoom self.old self.new }
+        ensures kept { SameRoom self.old self.new }
         ensures work { work.new ≡ record work.old { joins = work.old.joins + 1 } }
     {
         join_rows(&mut self.threads, thread.0 as usize, other.0 as usize, work);
@@ -188,7 +194,7 @@ impl StrictRows {
         ensures locks { (strict_of self.new).lock ≡ (strict_of self.old).lock }
         ensures below { below_of self.new ≡ with_row child.0 (below_of self.old thread.0)
             (below_of self.old) }
-        ensures kept { KeepsRoom self.old self.new }
+        ensures kept { SameRoom self.old self.new }
     {
         let from = thread.0 as usize;
         let to = child.0 as usize;
@@ -204,7 +210,7 @@ impl StrictRows {
         ensures locks { (strict_of self.new).lock ≡ with_row lock.0 ((strict_of self.old).thread thread.0)
             (strict_of self.old).lock }
         ensures below { below_of self.new ≡ below_of self.old }
-        ensures kept { KeepsRoom self.old self.new }
+        ensures kept { SameRoom self.old self.new }
     {
         copy_row(
             &mut self.locks,
@@ -222,7 +228,7 @@ impl StrictRows {
         ensures below { below_of self.new ≡ with_row thread.0
             (join ((strict_of self.old).thread thread.0) ((hb_state hb.now).po thread.0))
             (below_of self.old) }
-        ensures kept { KeepsRoom self.old self.new }
+        ensures kept { SameRoom self.old self.new }
     {
         let at = thread.0 as usize;
         follow_row(&mut self.below, at, &self.threads[at], thread, hb);
@@ -236,7 +242,7 @@ impl StrictRows {
         ensures strict { strict_of self.new ≡ strict_of self.old }
         ensures below { below_of self.new ≡ with_row thread.0
             (bump thread.0 (below_of self.old thread.0)) (below_of self.old) }
-        ensures kept { KeepsRoom self.old self.new }
+        ensures kept { SameRoom self.old self.new }
     {
         bump_row(&mut self.below, thread);
     }

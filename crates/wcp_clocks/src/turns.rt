@@ -8,7 +8,7 @@ ghost use Rattle.event_core.specs.Rows.{join, with_row};
 ghost use Rattle.event_core.specs.Closed.{below_closed, number_counted};
 ghost use Rattle.lock_queues.specs.Queues.{closed_of, opened_of, found_of};
 ghost use Rattle.lock_queues.specs.Searched.{CountsEarlier, FindsCounted};
-ghost use Rattle.wcp_clocks.specs.StrictRows.{strict_of, below_of, HasThread, KeepsRoom};
+ghost use Rattle.wcp_clocks.specs.StrictRows.{strict_of, below_of, HasThread, SameRoom};
 
 use crate::parts::Parts;
 use crate::sources::take_sources;
@@ -182,7 +182,7 @@ fn take_closed(
         (strict_of rows.old).thread }
     ensures locks { (strict_of rows.new).lock ≡ (strict_of rows.old).lock }
     ensures below { below_of rows.new ≡ below_of rows.old }
-    ensures kept { KeepsRoom rows.old rows.new }
+    ensures kept { SameRoom rows.old rows.new }
     ensures found { FindsCounted queues.old queues.new thread.0 lock.0
         (number_counted ((strict_of rows.old).thread thread.0) (closed_of queues.old lock.0)) }
     ensures joins { work.new.joins ≤ work.old.joins + 1 }

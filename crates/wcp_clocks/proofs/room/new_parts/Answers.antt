@@ -18,6 +18,7 @@ returns-clause-parts c =
     (c.in_ok-rows.ensures.width ∙ c.threads.ensures.is) c.in_ok-rows.ensures.strict c.in_ok-rows.ensures.below
     (ap (λ (b : Bounds). b.threads) c.in_ok-queues.ensures.limits)
     c.new-sums.ensures.no_others (λ l. ap (λ (f : ℕ → List Closed). f l) c.in_ok-queues.ensures.closed)
+    c.in_ok-rows.ensures.no_thread c.in_ok-rows.ensures.no_lock
 
 pub returns-clause-state : goal.returns-clause-state
 returns-clause-state c =

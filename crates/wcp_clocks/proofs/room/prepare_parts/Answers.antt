@@ -1,26 +1,26 @@
-use Rattle.wcp_clocks.proofs.Growth.{grown_then}
+use Rattle.hb_clocks.proofs.Room.{on_ok}
+use Rattle.wcp_clocks.specs.Parts.{HasPlaces, IsReady}
+use Rattle.wcp_clocks.proofs.Growth.{grown_then, grown_limits, clocks_kept}
+use Rattle.wcp_clocks.proofs.Ordered.{names_kept, ready_of}
 use Rattle.wcp_clocks.proofs.room.prepare_parts.Goals as goal
 
-pub returns-in_err-make_thread-clause-grown : goal.returns-in_err-make_thread-clause-grown
-returns-in_err-make_thread-clause-grown c =
-    grown_then _ _ _ c.make_order.ensures.grown c.make_thread.ensures.grown
+pub make_places-requires-clause-named : goal.make_places-requires-clause-named
+make_places-requires-clause-named c =
+    let old = c.args.parts.now in
+    let new = c.make_clocks.new.parts in
+    names_kept old new c.args.event.now.op (grown_limits old new c.make_clocks.ensures.grown)
+    c.requires.within.1
 
-pub returns-in-Acquire-clause-grown : goal.returns-in-Acquire-clause-grown
-returns-in-Acquire-clause-grown c =
-    grown_then _ _ _ c.make_order.ensures.grown
-    (grown_then _ _ _ c.make_thread.ensures.grown c.make_section.ensures.grown)
+pub returns-clause-grown : goal.returns-clause-grown
+returns-clause-grown c = grown_then _ _ _ c.make_clocks.ensures.grown c.make_places.ensures.grown
 
-pub returns-in-Release-clause-grown : goal.returns-in-Release-clause-grown
-returns-in-Release-clause-grown c =
-    grown_then _ _ _ c.make_order.ensures.grown
-    (grown_then _ _ _ c.make_thread.ensures.grown c.make_lock.ensures.grown)
-
-pub returns-in-Fork-clause-grown : goal.returns-in-Fork-clause-grown
-returns-in-Fork-clause-grown c =
-    grown_then _ _ _ c.make_order.ensures.grown
-    (grown_then _ _ _ c.make_thread.ensures.grown c.make_thread-in-Fork.ensures.grown)
-
-pub returns-in-Load-clause-grown : goal.returns-in-Load-clause-grown
-returns-in-Load-clause-grown c =
-    grown_then _ _ _ c.make_order.ensures.grown
-    (grown_then _ _ _ c.make_thread.ensures.grown c.make_access.ensures.grown)
+pub returns-clause-ready : goal.returns-clause-ready
+returns-clause-ready c =
+    let e = c.args.event.now in
+    let made = c.make_clocks in
+    let new = c.make_places.new.parts in
+    let more = c.make_places.ensures.grown in
+    on_ok c.make_places.result (HasPlaces new e.thread e.op) (IsReady new e)
+    (ready_of new e (more.ordered (made.ensures.grown.ordered c.requires.parts.ordered))
+    (clocks_kept made.new.parts.rows new.rows e.thread e.op more.rows_room c.in_ok-make_clocks.ensures.made))
+    c.make_places.ensures.made

@@ -26,7 +26,7 @@ returns-then-taken-clause-step c =
     c.follow.new.self c.advance.new.self c.note.new.self s.new.work c.advance.new.work c.of-held.ensures
     s.ensures.threads s.ensures.locks s.ensures.kept s.ensures.joins s.ensures.comparisons
     c.note.ensures.noted c.note.ensures.others c.requires.parts.numbers
-    c.advance.ensures.exact c.advance.ensures.width
+    c.advance.ensures.exact c.advance.ensures.width c.advance.ensures.kept
     c.advance.ensures.work c.follow.ensures.strict
     (c.follow.ensures.below ∙ followed_below e (Accesses c.args.var c.args.kind) old s.new.rows
     c.advance.new.self
@@ -43,7 +43,7 @@ returns-else-taken-clause-step c =
     c.count_own.new.self c.advance.new.self c.note.new.self s.new.work c.advance.new.work c.of-held.ensures
     s.ensures.threads s.ensures.locks s.ensures.kept s.ensures.joins s.ensures.comparisons
     c.note.ensures.noted c.note.ensures.others c.requires.parts.numbers
-    c.advance.ensures.exact c.advance.ensures.width
+    c.advance.ensures.exact c.advance.ensures.width c.advance.ensures.kept
     c.advance.ensures.work c.count_own.ensures.strict
     (c.count_own.ensures.below ∙ counted_below e (Accesses c.args.var c.args.kind) old s.new.rows
     c.requires.turn

@@ -75,6 +75,7 @@ returns c =
     (record { 0 = u }) c.requires.turn in
     record {
       hb = c.advance.ensures.exact;
+      order_room = c.advance.ensures.kept;
       threads = c.give_lock.ensures.threads ∙ ap (λ r. r.thread) strict ∙ taken.ensures.threads;
       locks = c.give_lock.ensures.locks
           ∙ ap₂ (λ (a : ℕ → ℕ) (f : ℕ → ℕ → ℕ). with_row l a f)

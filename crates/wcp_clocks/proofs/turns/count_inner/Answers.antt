@@ -15,6 +15,7 @@ returns c =
     let old = c.args.parts.now in
     record {
       hb = c.advance.ensures.exact;
+      order_room = c.advance.ensures.kept;
       threads = ap (λ r. r.thread) c.count_own.ensures.strict ∙ plain_threads e Inner old refl;
       locks = ap (λ r. r.lock) c.count_own.ensures.strict;
       below = c.count_own.ensures.below ∙ counted_below e Inner old old.rows c.requires.turn refl

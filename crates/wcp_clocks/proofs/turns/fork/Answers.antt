@@ -27,6 +27,7 @@ returns c =
     (plain_strict e k old refl) c.requires.fits c.requires.parts refl in
     record {
       hb = c.advance.ensures.exact;
+      order_room = c.advance.ensures.kept;
       threads = give.threads
           ∙ ap₂ (λ (g : ℕ → ℕ) (f : ℕ → ℕ → ℕ). with_row c.args.child.0 g f)
           (ap (λ (f : ℕ → ℕ → ℕ). f t) threads ∙ sym (plain_strict e k old refl))

@@ -20,6 +20,7 @@ returns c =
     let strict = c.follow.ensures.strict in
     record {
       hb = c.advance.ensures.exact;
+      order_room = c.advance.ensures.kept;
       threads = ap (λ r. r.thread) strict ∙ taken.ensures.threads;
       locks = ap (λ r. r.lock) strict ∙ taken.ensures.locks;
       below = c.follow.ensures.below ∙ followed_below e k old taken.new.self c.advance.new.self

@@ -34,6 +34,7 @@ returns c =
     ∙ sym c.requires.fits.own_next in
     record {
       hb = c.advance.ensures.exact;
+      order_room = c.advance.ensures.kept;
       threads = ap (λ r. r.thread) strict ∙ taken.ensures.threads;
       locks = ap (λ r. r.lock) strict ∙ taken.ensures.locks;
       below = c.follow.ensures.below ∙ followed_below e k old taken.new.self c.advance.new.self

@@ -2,7 +2,7 @@ use Rattle.std.proofs.Common.{refl, ap, subst, ◌∙◌}
 use Rattle.std.proofs.lemmas.List.{with_items_is}
 use Rattle.std.specs.Vec.{with_items}
 use Rattle.hb_clocks.specs.Tables.{widths_of}
-use Rattle.wcp_clocks.specs.StrictRows.{StrictTables, KeepsRoom}
+use Rattle.wcp_clocks.specs.StrictRows.{StrictTables, SameRoom}
 use Rattle.wcp_clocks.proofs.Kept.{SameWidths, room_kept, tables_kept}
 use Rattle.wcp_clocks.proofs.strict.StrictRows.give_lock.Goals as goal
 
@@ -32,5 +32,5 @@ pub invariant_of-self : goal.invariant_of-self
 invariant_of-self c = tables_kept (found c) (left c) c.self.inside.zeros (same c) c.self.invariant
 
 pub returns-clause-kept : goal.returns-clause-kept
-returns-clause-kept c = subst (λ (v : StrictTables). KeepsRoom v (left c)) c.self.view_is
+returns-clause-kept c = subst (λ (v : StrictTables). SameRoom v (left c)) c.self.view_is
     (room_kept (found c) (left c) (same c))

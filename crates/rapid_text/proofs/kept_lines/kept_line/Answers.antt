@@ -1,7 +1,7 @@
 use Rattle.std.proofs.Common.{◌++◌}
 use Rattle.std.proofs.lemmas.Result.{err_from_is_err_and}
 use Rattle.rapid_text.proofs.Pieces.{too_long_fails}
-use Rattle.rapid_text.proofs.cutter.kept_line.Goals as goal
+use Rattle.rapid_text.proofs.kept_lines.kept_line.Goals as goal
 
 pub returns-in_err-keep-clause-fault : goal.returns-in_err-keep-clause-fault
 returns-in_err-keep-clause-fault c =

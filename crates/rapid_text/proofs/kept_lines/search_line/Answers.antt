@@ -1,6 +1,6 @@
 use Rattle.std.proofs.Common.{sym, arith}
 use Rattle.rapid_line.proofs.Cuts.{cut_first_byte, cut_nowhere}
-use Rattle.rapid_text.proofs.cutter.search_line.Goals as goal
+use Rattle.rapid_text.proofs.kept_lines.search_line.Goals as goal
 
 pub returns-in_err-at-clause-cut : goal.returns-in_err-at-clause-cut
 returns-in_err-at-clause-cut c = rw c.from_residual.ensures (sym
