@@ -12,8 +12,6 @@
 mod accesses;
 mod lasts;
 mod tables;
-#[cfg(test)]
-mod tests;
 mod touches;
 
 pub use accesses::Accesses;

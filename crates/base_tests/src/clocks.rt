@@ -27,8 +27,8 @@ const Y: VarId = VarId(1);
 
 /// The clocks of three threads. A call takes an event, compares a mark or joins a clock.
 #[derive(Drop)]
-struct Run {
-    clocks: HbClocks,
+pub struct Run {
+    pub clocks: HbClocks,
     work: Work,
     calls: u64,
     ghost width: { clocks.width ≡ 3 },
@@ -50,7 +50,7 @@ impl Run {
         })
     }
 
-    fn begin(alloc: Global) -> Result<Run, OutOfMemory> {
+    pub fn begin(alloc: Global) -> Result<Run, OutOfMemory> {
         let Ok(limits) = Limits::new(3, 2, 2, 64, Roots::Free) else {
             return Err(OutOfMemory);
         };
@@ -62,7 +62,7 @@ impl Run {
 
     // Makes room for the event, and takes it.
     #[tactic(auto, using(crate::proofs::FewJoins::few_joins))]
-    fn take(&mut self, rt: &impl Abort, thread: ThreadId, op: Op) {
+    pub fn take(&mut self, rt: &impl Abort, thread: ThreadId, op: Op) {
         let event = event(thread, op);
         assert!(rt; self.calls < 100);
         assert!(rt; is_within(&event));
@@ -140,7 +140,7 @@ impl Run {
     }
 }
 
-fn event(thread: ThreadId, op: Op) -> Event
+pub fn event(thread: ThreadId, op: Op) -> Event
     ensures thread { result.thread ≡ thread }
     ensures op { result.op ≡ op }
 {

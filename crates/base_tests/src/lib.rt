@@ -1,10 +1,12 @@
 //! Tests of the crates below the monitors: the limits, the log and the steps of `event_core`, the memory of
-//! traced programs, the clocks of happens-before, and the passes over a shared log.
+//! traced programs, the clocks of happens-before, the verdicts on accesses, and the passes over a shared log.
 //!
 //! The crate has tests alone, and they see no more of those crates than any caller does. They stand here
 //! and not in the crates themselves since a crate is proved once more with its tests.
 #![tactic(auto)]
 
+#[cfg(test)]
+mod accesses;
 #[cfg(test)]
 mod clocks;
 #[cfg(test)]

@@ -193,14 +193,12 @@ tells_end old new left rest o is a =
     t.text
 
 -- the finding of a text is that of its judgement
-pub finding_is : (m k : Limits) (turns : ℕ) (p : Pulling) (left : Option (List ℕ))
-    → (x : Result Counts CheckFault) → p ≡ unpulled m turns → k ≡ m
-    → IfSome (to_judge p left) (λ w. x ≡ finding_in k w) → IfSome left (λ text. x ≡ finding m text)
+pub finding_is : (m : Limits) (turns : ℕ) (p : Pulling) (left : Option (List ℕ))
+    → (x : Result Counts CheckFault) → p ≡ unpulled m turns
+    → IfSome (to_judge p left) (λ w. x ≡ finding_in m w) → IfSome left (λ text. x ≡ finding m text)
 unfolding finding
-finding_is m k turns p left x is same h =
-    let of_start = subst (λ (q : Pulling). IfSome (to_judge q left) (λ w. x ≡ finding_in k w)) is h in
-    let start = to_judge (unpulled m turns) left in
-    first left (subst (λ (l : Limits). IfSome start (λ w. x ≡ finding_in l w)) same of_start)
+finding_is m turns p left x is h =
+    first left (subst (λ (q : Pulling). IfSome (to_judge q left) (λ w. x ≡ finding_in m w)) is h)
   where
     first : (o : Option (List ℕ)) → IfSome (to_judge (unpulled m turns) o) (λ w. x ≡ finding_in m w)
         → IfSome o (λ text. x ≡ finding m text)

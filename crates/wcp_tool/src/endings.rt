@@ -10,7 +10,7 @@ use rapid_text::Cause;
 use trace_report::{ReplayFault, Summary};
 
 /// How the program ends.
-#[derive(Clone, Copy, Debug, PartialEq, Eq)]
+#[derive(Clone, Copy)]
 pub(crate) enum Ending {
     /// What was asked for stands on standard output.
     Done,

@@ -96,6 +96,30 @@ fn judge_lines<I: Input>(
     }
 }
 
+/// Judges the text with a memory in which nothing has happened.
+fn judge<I: Input>(
+    alloc: Global,
+    text: &mut Puller,
+    reader: &mut I,
+    limits: Limits,
+) -> Result<Counts, CheckFault>
+    requires begins { text.old.failed ≡ None }
+    ensures finds { gives_up result ≡ false
+        → IfSome (to_judge text.old (I.left reader.old)) (λ whole. result ≡ finding_in limits whole) }
+    ensures read { is_short result ≡ true → (I.failed reader.new ≡ true)
+        ⊎ TakeBytes text.old.turns (I.left reader.old) 0 (I.left reader.new) }
+    ensures healthy { OnOk result (I.failed reader.new ≡ I.failed reader.old) }
+    ensures unwritten { result ≢ Err CheckFault.Write }
+{
+    match Memory::new(alloc, limits) {
+        Ok(mut memory) => judge_lines(text, reader, &mut memory, &limits),
+        Err(_) => Err(CheckFault::Refused {
+            line: 1,
+            refusal: Refusal::OutOfMemory,
+        }),
+    }
+}
+
 /// What the text comes to that the reader has left.
 pub(crate) fn find<I: Input>(
     alloc: Global,
@@ -111,17 +135,11 @@ pub(crate) fn find<I: Input>(
     ensures healthy { OnOk result (I.failed reader.new ≡ I.failed reader.old) }
     ensures unwritten { result ≢ Err CheckFault.Write }
 {
-    let Ok(mut text) = Puller::new(alloc, limits, turns) else {
-        return Err(CheckFault::Text(TextFault {
+    match Puller::new(alloc, limits, turns) {
+        Ok(mut text) => judge(alloc, &mut text, reader, limits),
+        Err(_) => Err(CheckFault::Text(TextFault {
             line: 1,
             cause: Cause::OutOfMemory,
-        }));
-    };
-    let Ok(mut memory) = Memory::new(alloc, limits) else {
-        return Err(CheckFault::Refused {
-            line: 1,
-            refusal: Refusal::OutOfMemory,
-        });
-    };
-    judge_lines(&mut text, reader, &mut memory, &limits)
+        })),
+    }
 }

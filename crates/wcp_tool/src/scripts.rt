@@ -8,7 +8,7 @@ use crate::bounds::{TURNS, limits_of};
 use crate::endings::{Ending, summary_ending};
 use crate::naming::are_named;
 use crate::requests::Settings;
-use event_core::Roots;
+use event_core::{Limits, Roots};
 use live_monitor::Closed;
 use rapid_text::{Device, Input, Names, Output, write_all, write_fault};
 use script_drive::{DriveFault, FreeGate, drive};
@@ -90,6 +90,29 @@ fn report_closed<O: Output>(writer: &mut O, closed: &Closed, names: &Names) -> E
     }
 }
 
+/// Runs the threads of the script, and reports what they did.
+fn run_threads<R: AllocGlobal + Threads + Wait + Sync, O: Output>(
+    rt: &R,
+    script: &Script,
+    limits: &Limits,
+    patience: u32,
+    writer: &mut O,
+) -> Ending
+    requires only_main { limits.now.roots ≡ OnlyMain }
+    requires writes { O.failed writer.old ≡ false }
+    ensures reports { (result ≡ Ending.Done) ⊎ (result ≡ Ending.Races) → Reports limits.now
+        (O.written writer.old) (O.written writer.new) (status_of result) }
+    ensures usage { result ≢ Ending.WrongUsage }
+    ensures quiet { (result ≡ Ending.ReadFault) ⊎ (result ≡ Ending.OutOfMemory) → writer.new ≡ writer.old }
+    ensures write_fault { result ≡ Ending.WriteFault → O.failed writer.new ≡ true }
+    ensures written { result ≢ Ending.WriteFault → O.failed writer.new ≡ false }
+{
+    match drive(rt, rt.alloc(), script, limits, &FreeGate, patience) {
+        Ok(closed) => report_closed(writer, &closed, script.names()),
+        Err(fault) => explain_drive(writer, &fault),
+    }
+}
+
 /// Runs the script that the reader gives, and reports what its threads did.
 fn run_lines<R: AllocGlobal + Threads + Wait + Sync, I: Input, O: Output>(
     rt: &R,
@@ -109,20 +132,9 @@ fn run_lines<R: AllocGlobal + Threads + Wait + Sync, I: Input, O: Output>(
     ensures written { result ≢ Ending.WriteFault → O.failed writer.new ≡ false }
 {
     let limits = limits_of(settings.threads, Roots::OnlyMain);
-    let script = match Script::read(rt.alloc(), script, limits, TURNS) {
-        Ok(script) => script,
-        Err(fault) => return explain_script(writer, &fault),
-    };
-    match drive(
-        rt,
-        rt.alloc(),
-        &script,
-        &limits,
-        &FreeGate,
-        settings.patience,
-    ) {
-        Ok(closed) => report_closed(writer, &closed, script.names()),
-        Err(fault) => explain_drive(writer, &fault),
+    match Script::read(rt.alloc(), script, limits, TURNS) {
+        Ok(script) => run_threads(rt, &script, &limits, settings.patience, writer),
+        Err(fault) => explain_script(writer, &fault),
     }
 }
 

@@ -1,17 +1,11 @@
-use Rattle.std.proofs.Common.{◌∙◌, inl, inr, subst}
+use Rattle.std.proofs.Common.{subst}
 use Rattle.event_core.specs.declared.bounds.Limits.{Limits}
 use Rattle.wcp_tool.specs.Endings.{status_of}
 use Rattle.wcp_tool.specs.Running.{Reports}
 use Rattle.wcp_tool.proofs.scripts.run_lines.Goals as goal
 
-pub returns-in-Ok-drive-clause-reports : goal.returns-in-Ok-drive-clause-reports
-returns-in-Ok-drive-clause-reports g c h =
+pub returns-in-Ok-clause-reports : goal.returns-in-Ok-clause-reports
+returns-in-Ok-clause-reports g c h =
     subst (λ (m : Limits). Reports m (g.O.Output.written c.args.writer.now)
-    (g.O.Output.written c.report_closed.new.writer) (status_of c.report_closed.result))
-    (c.in-Ok-drive.ensures.limits ∙ c.limits_of-limits.ensures) (c.report_closed.ensures.reports h)
-
-pub returns-in-Ok-drive-clause-quiet : goal.returns-in-Ok-drive-clause-quiet
-returns-in-Ok-drive-clause-quiet g c h = elim h [
-  | inl read ↦ absurd (c.report_closed.ensures.quiet.0 read)
-  | inr memory ↦ absurd (c.report_closed.ensures.quiet.1 memory)
-]
+    (g.O.Output.written c.run_threads.new.writer) (status_of c.run_threads.result))
+    c.limits_of-limits.ensures (c.run_threads.ensures.reports h)
