@@ -91,6 +91,7 @@ impl Accesses {
     }
 
     /// Whether there is room for the event.
+    #[inline(always)]
     pub fn is_ready(&self, event: &Event) -> bool
         ensures { IsTrue result ↔ HasRoom self.now event.now.thread event.now.op }
     {
@@ -103,6 +104,7 @@ impl Accesses {
             }
     }
 
+    #[inline(always)]
     fn is_ready_at(&self, thread: ThreadId, var: VarId, kind: AccessKind) -> bool
         ensures { IsTrue result ↔ RoomAt self.now.vars thread var.0 kind }
     {
@@ -110,6 +112,7 @@ impl Accesses {
         var < self.vars.len() && self.vars[var].is_ready(thread, kind)
     }
 
+    #[inline(always)]
     fn find(&self, event: &Event, clock: &Clock) -> Verdict
         requires { length clock.now ≡ self.now.limits.threads }
         ensures { result ≡ verdict_of self.now.vars event.now.thread event.now.op (counts_of clock.now) }
@@ -136,6 +139,7 @@ impl Accesses {
     /// The verdict on the event that is next, by a clock of what is ordered before it: the greatest index of
     /// an earlier access that conflicts with it and is not counted. The clock is that of the finished event.
     /// It takes no memory.
+    #[inline(always)]
     pub fn verdict(&self, event: &Event, clock: &Clock) -> Verdict
         requires { length clock.now ≡ self.now.limits.threads }
         ensures exact { result
@@ -148,6 +152,7 @@ impl Accesses {
         self.find(event, clock)
     }
 
+    #[inline(always)]
     fn record(&mut self, event: &Event, index: u64, verdict: Verdict)
         requires room { HasRoom self.old event.now.thread event.now.op }
         requires few { count_at self.old.counts event.now.thread.0 + 1 < 2 ^ 64 }
@@ -163,6 +168,7 @@ impl Accesses {
     /// whatever one of them races with later, the store races with too, at a greater index. It is called for
     /// every event, so that positions are counted. It takes no memory, and no room that was made for its
     /// thread's other events.
+    #[inline(always)]
     pub fn note(&mut self, event: &Event, index: u64, verdict: Verdict)
         requires room { HasRoom self.old event.now.thread event.now.op }
         requires few { count_at self.old.counts event.now.thread.0 + 1 < 2 ^ 64 }

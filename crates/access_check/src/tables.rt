@@ -79,6 +79,7 @@ pub(crate) fn grow_at(
 }
 
 // An access, on which there was that verdict, is noted at its variable.
+#[inline(always)]
 fn note_at(vars: &mut [Touches], var: usize, kind: AccessKind, last: Last, verdict: Verdict)
     requires { RoomAt vars.old last.thread var kind }
     ensures room { (x : ℕ) (k : Kind) → RoomAt vars.old last.thread x k → RoomAt vars.new last.thread x k }
@@ -91,6 +92,7 @@ fn note_at(vars: &mut [Touches], var: usize, kind: AccessKind, last: Last, verdi
 }
 
 /// The verdict on the thread's access of that kind.
+#[inline(always)]
 pub(crate) fn verdict_at_var(
     vars: &[Touches],
     var: usize,
@@ -113,6 +115,7 @@ pub(crate) fn verdict_at_var(
 }
 
 /// One more event of the thread: its position.
+#[inline(always)]
 pub(crate) fn count_event(counts: &mut [u64], thread: usize) -> u64
     requires within { thread < length counts.old }
     requires few { count_at counts.old thread + 1 < 2 ^ 64 }
@@ -126,6 +129,7 @@ pub(crate) fn count_event(counts: &mut [u64], thread: usize) -> u64
 }
 
 /// The event, on which there was that verdict, is noted where it is an access.
+#[inline(always)]
 #[tactic(auto, using(crate::proofs::Room::room_for))]
 pub(crate) fn note_access(vars: &mut [Touches], event: &Event, access: Access, verdict: Verdict)
     requires { RoomFor vars.old event.now.thread event.now.op }

@@ -44,6 +44,7 @@ impl Touches {
     }
 
     /// Whether there is room for an access of that kind by the thread.
+    #[inline(always)]
     pub fn is_ready(&self, thread: ThreadId, kind: AccessKind) -> bool
         ensures { result ≡ has_room thread (of_kind kind self.now) }
     {
@@ -55,6 +56,7 @@ impl Touches {
 
     /// The access of that kind is its thread's last one. Where it is a store that does not race, all earlier
     /// accesses are ordered before it, and are forgotten. No room is taken but that of its kind.
+    #[inline(always)]
     pub fn note(&mut self, kind: AccessKind, last: Last, verdict: Verdict)
         requires { IsTrue (has_room last.thread (of_kind kind self.old)) }
         ensures touches { (k : Kind) → kept k self.new ≡ kept_after verdict kind last k self.old }
@@ -73,6 +75,7 @@ impl Touches {
     }
 
     /// The greatest index of an access that races with one of that kind by the thread.
+    #[inline(always)]
     pub fn latest_racing(&self, thread: ThreadId, kind: AccessKind, clock: &Clock) -> Option<u64>
         requires loads { AreNarrow (length clock.now) self.now.loads.items }
         requires stores { AreNarrow (length clock.now) self.now.stores.items }

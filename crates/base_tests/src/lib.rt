@@ -1,5 +1,6 @@
-//! Tests of the crates below the monitors: the limits, the log and the steps of `event_core`, the memory of
-//! traced programs, the clocks of happens-before, the verdicts on accesses, and the passes over a shared log.
+//! Tests of the crates below the monitors and the reports: the limits, the log and the steps of `event_core`,
+//! traces as text, the memory of traced programs, the clocks of happens-before, the verdicts on accesses, and
+//! the passes over a shared log.
 //!
 //! The crate has tests alone, and they see no more of those crates than any caller does. They stand here
 //! and not in the crates themselves since a crate is proved once more with its tests.
@@ -15,3 +16,5 @@ mod logs;
 mod memory;
 #[cfg(test)]
 mod passes;
+#[cfg(test)]
+mod texts;

@@ -4,6 +4,8 @@
 //! the three rules as they are written (Kini, Mathur, Viswanathan, "Dynamic Race Prediction in Linear Time",
 //! PLDI 2017), and look for each event's race among all earlier events. Nothing is shared with the monitor
 //! but the words of events. Each verdict has to be the one that the monitor's `step` answered.
+//!
+//! Beside them stand the worked cases of the monitor's calls, runs and swaps: what each is answered.
 #![tactic(auto)]
 
 #[cfg(test)]
@@ -24,5 +26,9 @@ mod random_logs;
 mod runs;
 #[cfg(test)]
 mod sections;
+#[cfg(test)]
+mod steps;
+#[cfg(test)]
+mod swaps;
 #[cfg(test)]
 mod worked_logs;

@@ -1,7 +1,7 @@
 //! The same calls by `step` and by `run`.
 //!
 //! What is refused memory once is made once more, but for releases: they take none.
-use crate::calls::{acquire, fork, load, release, store};
+use crate::calls::{acquire, clear, fork, load, racy, refused, release, store, storing};
 use crate::generator::Generator;
 use event_core::{Call, Limits, Op, OutOfMemory, Outcome, Refusal, Reply, Roots, Verdict};
 use seq_monitor::Monitor;
@@ -28,15 +28,20 @@ pub fn accepted(index: u64, verdict: Verdict) -> Outcome {
     })
 }
 
-fn step(monitor: &mut Monitor, call: Call) -> Outcome {
-    let answer = match (call.op, monitor.step(call)) {
-        (Op::Release(_), answer) => answer,
-        (_, Err(Refusal::OutOfMemory)) => monitor.step(call),
-        (_, answer) => answer,
-    };
-    match answer {
+/// What becomes of the call at the first try.
+pub fn step_once(monitor: &mut Monitor, call: Call) -> Outcome {
+    match monitor.step(call) {
         Ok(reply) => Outcome::Accepted(reply),
         Err(refusal) => Outcome::Refused(refusal),
+    }
+}
+
+/// What becomes of the call.
+pub fn step(monitor: &mut Monitor, call: Call) -> Outcome {
+    match (call.op, step_once(monitor, call)) {
+        (Op::Release(_), outcome) => outcome,
+        (_, Outcome::Refused(Refusal::OutOfMemory)) => step_once(monitor, call),
+        (_, outcome) => outcome,
     }
 }
 
@@ -50,11 +55,34 @@ fn run(monitor: &mut Monitor, calls: &[Call], outcomes: &mut Vec<Outcome>) {
     }
 }
 
-fn monitor(alloc: Global, limits: &Limits) -> Result<Monitor, OutOfMemory> {
+/// A monitor with these limits.
+pub fn monitor(alloc: Global, limits: &Limits) -> Result<Monitor, OutOfMemory> {
     match Monitor::new(alloc, limits) {
         Ok(monitor) => Ok(monitor),
         Err(OutOfMemory) => Monitor::new(alloc, limits),
     }
+}
+
+// Makes the calls one by one. Each has the outcome beside it.
+fn expect_steps(rt: &impl Abort, monitor: &mut Monitor, calls: &[Call], outcomes: &[Outcome]) {
+    for (call, outcome) in calls.iter().zip(outcomes) {
+        assert_eq!(rt; step(monitor, *call), *outcome, "{call:?}");
+    }
+}
+
+// A monitor of its own gives the calls these outcomes by `step`, and their events these verdicts.
+fn compare(
+    rt: &impl Abort,
+    alloc: Global,
+    limits: &Limits,
+    calls: &[Call],
+    outcomes: &[Outcome],
+    verdicts: &[Verdict],
+) -> Result<(), OutOfMemory> {
+    let mut stepped = monitor(alloc, limits)?;
+    expect_steps(rt, &mut stepped, calls, outcomes);
+    assert!(rt; stepped.verdicts() == verdicts);
+    Ok(())
 }
 
 /// The outcomes of the calls by `run`, which are those by `step`.
@@ -64,15 +92,11 @@ pub fn outcomes(
     limits: &Limits,
     calls: &[Call],
 ) -> Result<Vec<Outcome>, Fail> {
-    let mut stepped = monitor(alloc, limits)?;
     let mut ran = monitor(alloc, limits)?;
     let mut outcomes = Vec::new(alloc);
     run(&mut ran, calls, &mut outcomes);
     assert_eq!(rt; outcomes.len(), calls.len());
-    for (call, outcome) in calls.iter().zip(&outcomes) {
-        assert_eq!(rt; step(&mut stepped, *call), *outcome, "{call:?}");
-    }
-    assert!(rt; stepped.verdicts() == ran.verdicts());
+    compare(rt, alloc, limits, calls, &outcomes, ran.verdicts())?;
     Ok(outcomes)
 }
 
@@ -90,10 +114,29 @@ fn a_slot_is_kept_for_the_release(rt: HostRuntime) -> Result<(), Fail> {
     let expected = [
         accepted(0, CLEAR),
         accepted(1, CLEAR),
-        Outcome::Refused(Refusal::LogFull),
+        refused(Refusal::LogFull),
         accepted(2, CLEAR),
-        Outcome::Refused(Refusal::LogFull),
-        Outcome::Refused(Refusal::NotHolder),
+        refused(Refusal::LogFull),
+        refused(Refusal::NotHolder),
+    ];
+    assert!(rt; outcomes(&rt, rt.alloc(), &limits, &calls)?.as_slice() == expected.as_slice());
+    Ok(())
+}
+
+#[test]
+fn a_run_gives_the_outcomes_of_its_calls(rt: HostRuntime) -> Result<(), Fail> {
+    let limits = Limits::new(2, 1, 1, 64, Roots::OnlyMain)?;
+    let calls = [
+        fork(0, 1),
+        storing(0, X, 7),
+        release(1, L),
+        storing(1, X, 8),
+    ];
+    let expected = [
+        clear(0, 0),
+        clear(1, 7),
+        refused(Refusal::NotHolder),
+        racy(2, 8, 1),
     ];
     assert!(rt; outcomes(&rt, rt.alloc(), &limits, &calls)?.as_slice() == expected.as_slice());
     Ok(())

@@ -124,6 +124,7 @@ impl HbClocks {
 
     /// The event joins the log that the clocks stand for. An outer acquire is one join and a join of a
     /// thread two, and nothing else is one.
+    #[inline(always)]
     pub fn advance(&mut self, event: &Event, work: &mut Work)
         requires ready { IsReady self.old event.now.thread event.now.op }
         requires admits { Admits (state_of self.old) event.now.thread event.now.op }

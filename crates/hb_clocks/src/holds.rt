@@ -13,6 +13,7 @@ pub struct Hold {
 }
 
 // Counts an acquire or a release, and tells whether it is an outer one.
+#[inline(always)]
 pub(crate) fn count_depth(holds: &mut [Hold], thread: ThreadId, op: Op) -> bool
     requires room { HasHold (length holds.old) op }
     requires few { (l : ℕ) → (hold_at holds.old l).depth + 1 < 2 ^ 64 }

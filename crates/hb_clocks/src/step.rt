@@ -16,6 +16,7 @@ use event_core::{Event, Op, ThreadId};
 
 // An outer acquire takes the clock of the lock's latest outer release, and a join the clocks of the
 // thread that it names.
+#[inline(always)]
 fn take(
     po: &mut [Clock],
     hb: &mut [Clock],
@@ -56,6 +57,7 @@ fn take(
 }
 
 // A fork gives its thread's clocks to the child, and an outer release leaves its clock at the lock.
+#[inline(always)]
 fn give(
     po: &mut [Clock],
     hb: &mut [Clock],
@@ -92,6 +94,7 @@ fn give(
 }
 
 // The step of an event.
+#[inline(always)]
 pub(crate) fn advance_tables(
     po: &mut [Clock],
     hb: &mut [Clock],

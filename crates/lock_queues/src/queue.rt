@@ -116,7 +116,7 @@ impl Queue {
     {
         let at = find(&self.rooms, thread);
         let room = &mut self.rooms[at];
-        room.opened = Some(mark);
+        room.enter(mark);
     }
 
     // The thread's open section is closed with the clock.

@@ -1,5 +1,5 @@
 //! The rooms that threads have made for their sections on one lock.
-ghost use Rattle.std.specs.Prelude.{◌≡◌, ℕ, ◌<◌, length};
+ghost use Rattle.std.specs.Prelude.{◌≡◌, ℕ, ◌<◌, length, Some};
 ghost use Rattle.lock_queues.specs.Rooms.{place_in};
 
 use event_core::ThreadId;
@@ -10,6 +10,16 @@ use hb_clocks::Mark;
 pub(crate) struct Room {
     pub(crate) thread: ThreadId,
     pub(crate) opened: Option<Mark>,
+}
+
+impl Room {
+    // The thread's section is open from the event on.
+    pub(crate) fn enter(&mut self, mark: Mark)
+        ensures thread { self.new.thread ≡ self.old.thread }
+        ensures opened { self.new.opened ≡ Some mark }
+    {
+        self.opened = Some(mark);
+    }
 }
 
 // Where the thread's room stands, or how many rooms there are if it has none.

@@ -7,6 +7,7 @@ use Rattle.std.proofs.Common.{
   ◌∷◌,
   ◌++◌,
   Option,
+  Some,
   Result,
   Ok,
   Err,
@@ -15,48 +16,44 @@ use Rattle.std.proofs.Common.{
   ◌∙◌,
   append_assoc,
 }
-use Rattle.std.specs.Prelude.{OnOk}
+use Rattle.std.specs.Prelude.{OnOk, slice_get}
 use Rattle.std.specs.Io.KnownBytes.{Appends}
 use Rattle.std.proofs.KnownBytes.{Appends-trans}
-use Rattle.rapid_line.specs.Grammar.{Named, spelling, content_of}
+use Rattle.rapid_line.specs.Grammar.{Named, operation, content_of}
+use Rattle.rapid_text.specs.declared.causes.Kind.{Kind}
 use Rattle.rapid_text.specs.declared.output.WriteFault.{WriteFault}
+use Rattle.rapid_text.specs.Tables.{Tables, space, name_at}
 
-joined : (t s a l : List ℕ)
-    → ((((((t ++ 124 ∷ []) ++ s) ++ 40 ∷ []) ++ a) ++ 41 ∷ 124 ∷ []) ++ l) ++ 10 ∷ []
-    ≡ (t ++ 124 ∷ ((s ++ 40 ∷ (a ++ 41 ∷ [])) ++ 124 ∷ l)) ++ 10 ∷ []
-joined t s a l = simp append_assoc
+-- the bytes at a number are the name with that number
+pub name_found : (t : Tables) (kind : Kind) (n : ℕ) (name : List ℕ)
+    → slice_get (space t kind).names n ≡ Some name → name ≡ name_at t kind n
+name_found t kind n name is = rw is refl
 
--- what was written before the last part of a line
-pub record Parts (o p : Option (List ℕ)) (t s a l : List ℕ) : Type 0 where
-  pub all : Appends o p ((((((t ++ 124 ∷ []) ++ s) ++ 40 ∷ []) ++ a) ++ 41 ∷ 124 ∷ []) ++ l)
+joined : (t p l : List ℕ)
+    → (((t ++ 124 ∷ []) ++ (p ++ 124 ∷ [])) ++ l) ++ 10 ∷ [] ≡ (t ++ 124 ∷ (p ++ 124 ∷ l)) ++ 10 ∷ []
+joined t p l = simp append_assoc
 
-pub parts : (o₀ o₁ o₂ o₃ o₄ o₅ o₆ o₇ : Option (List ℕ)) (t s a l : List ℕ)
-    → Appends o₀ o₁ t → Appends o₁ o₂ (124 ∷ []) → Appends o₂ o₃ s → Appends o₃ o₄
-    (40 ∷ []) → Appends o₄ o₅ a
-    → Appends o₅ o₆ (41 ∷ 124 ∷ []) → Appends o₆ o₇ l → Parts o₀ o₇ t s a l
-parts o₀ o₁ o₂ o₃ o₄ o₅ o₆ o₇ t s a l h₁ h₂ h₃ h₄ h₅ h₆ h₇ =
+-- what was written before the end of a line
+pub record Parts (o n : Option (List ℕ)) (t p l : List ℕ) : Type 0 where
+  pub all : Appends o n (((t ++ 124 ∷ []) ++ (p ++ 124 ∷ [])) ++ l)
+
+pub parts : (o₀ o₁ o₂ o₃ o₄ : Option (List ℕ)) (t p l : List ℕ)
+    → Appends o₀ o₁ t → Appends o₁ o₂ (124 ∷ []) → Appends o₂ o₃ (p ++ 124 ∷ []) → Appends o₃ o₄ l
+    → Parts o₀ o₄ t p l
+parts o₀ o₁ o₂ o₃ o₄ t p l h₁ h₂ h₃ h₄ =
     let a₂ = Appends-trans o₀ o₁ o₂ t (124 ∷ []) h₁ h₂ in
-    let a₃ = Appends-trans o₀ o₂ o₃ (t ++ 124 ∷ []) s a₂ h₃ in
-    let a₄ = Appends-trans o₀ o₃ o₄ ((t ++ 124 ∷ []) ++ s) (40 ∷ []) a₃ h₄ in
-    let a₅ = Appends-trans o₀ o₄ o₅ (((t ++ 124 ∷ []) ++ s) ++ 40 ∷ []) a a₄ h₅ in
-    let a₆ = Appends-trans o₀ o₅ o₆ ((((t ++ 124 ∷ []) ++ s) ++ 40 ∷ []) ++ a) (41 ∷ 124 ∷ []) a₅ h₆ in
-    record {
-      all = Appends-trans o₀ o₆ o₇
-          (((((t ++ 124 ∷ []) ++ s) ++ 40 ∷ []) ++ a) ++ 41 ∷ 124 ∷ []) l a₆ h₇;
-    }
+    let a₃ = Appends-trans o₀ o₂ o₃ (t ++ 124 ∷ []) (p ++ 124 ∷ []) a₂ h₃ in
+    record { all = Appends-trans o₀ o₃ o₄ ((t ++ 124 ∷ []) ++ (p ++ 124 ∷ [])) l a₃ h₄ }
 
 -- the parts are those of the named event
-spelled : (t s a l : List ℕ) (e : Named) → t ≡ e.thread → s ≡ spelling e.word → a ≡ e.argument
-    → l ≡ e.location
-    → (t ++ 124 ∷ ((s ++ 40 ∷ (a ++ 41 ∷ [])) ++ 124 ∷ l)) ++ 10 ∷ [] ≡ content_of e ++ 10 ∷ []
-spelled t s a l e p q r z = rw (p, q, r, z) refl
+spelled : (t p l : List ℕ) (e : Named) → t ≡ e.thread → p ≡ operation e.word e.argument → l ≡ e.location
+    → (t ++ 124 ∷ (p ++ 124 ∷ l)) ++ 10 ∷ [] ≡ content_of e ++ 10 ∷ []
+spelled t p l e a b c = rw (a, b, c) refl
 
-pub line_written : (o p n : Option (List ℕ)) (t s a l : List ℕ) (e : Named)
-    (r : Result (Unit {0}) WriteFault) → Parts o p t s a l
-    → t ≡ e.thread → s ≡ spelling e.word → a ≡ e.argument → l ≡ e.location
-    → OnOk r (Appends p n (10 ∷ [])) → OnOk r (Appends o n (content_of e ++ 10 ∷ []))
-line_written o p n t s a l e (Err f) h a₁ a₂ a₃ a₄ k = tt
-line_written o p n t s a l e (Ok u) h a₁ a₂ a₃ a₄ k =
-    let all = Appends-trans o p n (((((((t ++ 124 ∷ []) ++ s) ++ 40 ∷ []) ++ a) ++ 41 ∷ 124 ∷ []) ++ l))
-    (10 ∷ []) h.all k in
-    subst (λ (bytes : List ℕ). Appends o n bytes) (joined t s a l ∙ spelled t s a l e a₁ a₂ a₃ a₄) all
+pub line_written : (o m n : Option (List ℕ)) (t p l : List ℕ) (e : Named) (r : Result (Unit {0}) WriteFault)
+    → Parts o m t p l → t ≡ e.thread → p ≡ operation e.word e.argument → l ≡ e.location
+    → OnOk r (Appends m n (10 ∷ [])) → OnOk r (Appends o n (content_of e ++ 10 ∷ []))
+line_written o m n t p l e (Err f) h a b c k = tt
+line_written o m n t p l e (Ok u) h a b c k =
+    let all = Appends-trans o m n (((t ++ 124 ∷ []) ++ (p ++ 124 ∷ [])) ++ l) (10 ∷ []) h.all k in
+    subst (λ (bytes : List ℕ). Appends o n bytes) (joined t p l ∙ spelled t p l e a b c) all

@@ -14,8 +14,6 @@ mod output;
 mod puller;
 mod reader;
 mod spaces;
-#[cfg(test)]
-mod tests;
 mod window;
 mod writing;
 

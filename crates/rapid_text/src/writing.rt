@@ -1,7 +1,7 @@
 //! Lines that are written: events as `thread|word(argument)|location`, and faults as `line N: word`.
 ghost use Rattle.std.specs.Prelude.{◌≡◌, ◌∷◌, [], ◌++◌, OnOk, OnErr, true};
 ghost use Rattle.std.specs.Io.KnownBytes.{Appends};
-ghost use Rattle.rapid_line.specs.Grammar.{content_of, IsWellFormed};
+ghost use Rattle.rapid_line.specs.Grammar.{content_of, operation, IsWellFormed};
 ghost use Rattle.rapid_text.specs.Events.{named_by, word_of_op, target_of, HasNames};
 ghost use Rattle.rapid_text.specs.Faults.{fault_line};
 
@@ -27,6 +27,19 @@ fn word_and_target(op: Op) -> (Word, u32)
     }
 }
 
+/// Writes `word(argument)|`, the field of an operation and the bar after it.
+fn write_operation<W: Output>(w: &mut W, word: Word, argument: &[u8]) -> Result<(), WriteFault>
+    ensures ok { OnOk result (Appends (W.written w.old) (W.written w.new)
+        (operation word argument.now ++ 124 ∷ [])) }
+    ensures healthy { OnOk result (W.failed w.new ≡ W.failed w.old) }
+    ensures failed { OnErr result (W.failed w.new ≡ true) }
+{
+    write_all(w, word.spelled())?;
+    write_all(w, b"(")?;
+    write_all(w, argument)?;
+    write_all(w, b")|")
+}
+
 /// Writes the line of an event, whose numbers have names. It takes no memory.
 pub fn write_event<W: Output>(w: &mut W, event: &Event, names: &Names) -> Result<(), WriteFault>
     requires { HasNames names.now event.now }
@@ -45,10 +58,7 @@ pub fn write_event<W: Output>(w: &mut W, event: &Event, names: &Names) -> Result
     let location = names.name(Kind::Site, event.site.0);
     write_all(w, thread)?;
     write_all(w, b"|")?;
-    write_all(w, word.spelled())?;
-    write_all(w, b"(")?;
-    write_all(w, argument)?;
-    write_all(w, b")|")?;
+    write_operation(w, word, argument)?;
     write_all(w, location)?;
     write_all(w, b"\n")
 }

@@ -2,7 +2,6 @@
 use Rattle.std.proofs.Common.{◌≡◌, ℕ, ◌+◌, ◌^◌, ◌<◌, ◌≤◌, List, [], ◌∷◌, ◌++◌, None, true}
 use Rattle.std.proofs.Common.{length}
 use Rattle.std.proofs.Common.{refl, sym, ap, subst, ◌∙◌, take, nat_eq, nat_lt, arith}
-use Rattle.std.specs.Prelude.{Result, Ok, Err, OnOk}
 use Rattle.std.proofs.lemmas.Bool.{ltb-true, leb-false}
 use Rattle.std.proofs.lemmas.List.Sums.{count_by-le-length}
 use Rattle.std.proofs.lemmas.Option.{slice_get_within}
@@ -185,19 +184,17 @@ last_is_latest log e = record {
 }
 
 -- by clocks that stand for the log with the event, the verdict is on that event
-pub judged : (e : Event) (old new : Clocks) (accesses : AccessTables) (count : ℕ → ℕ) (v : Verdict)
-    → ((limits : Limits) (log : List Event) → WellFormed limits (log ++ e ∷ []) → ClocksStandFor log old
-    → ClocksStandFor (log ++ e ∷ []) new)
-    → ((limits : Limits) (log : List Event) (j : ℕ) → WellFormed limits log → ClocksStandFor log new
+pub judged : (e : Event) (clocks : Clocks) (accesses : AccessTables) (count : ℕ → ℕ) (v : Verdict)
+    → ((limits : Limits) (log : List Event) (j : ℕ) → WellFormed limits log → ClocksStandFor log clocks
     → IsLatest log e.thread j → Counted log (λ i. Below log i j) count)
     → ((log : List Event) → AccessesStand log accesses
     → Counted (log ++ e ∷ []) (λ i. Below (log ++ e ∷ []) i (length log)) count
     → IsVerdict (log ++ e ∷ []) (length log) v)
-    → (limits : Limits) (log : List Event) → WellFormed limits (log ++ e ∷ []) → ClocksStandFor log old
-    → AccessesStand log accesses → IsVerdict (log ++ e ∷ []) (length log) v
-judged e old new accesses count v advance latest verdict limits log well stands made =
-    verdict log made (latest limits (log ++ e ∷ []) (length log) well (advance limits log well stands)
-    (last_is_latest log e))
+    → (limits : Limits) (log : List Event) → WellFormed limits (log ++ e ∷ [])
+    → ClocksStandFor (log ++ e ∷ []) clocks → AccessesStand log accesses
+    → IsVerdict (log ++ e ∷ []) (length log) v
+judged e clocks accesses count v latest verdict limits log well stands made =
+    verdict log made (latest limits (log ++ e ∷ []) (length log) well stands (last_is_latest log e))
 
 -- a thread's position is a number
 pub position_fits : (m : Limits) (log : List Event) (p : Parts) (vs : List Verdict) (holds : ℕ) (t : ThreadId)
@@ -343,8 +340,3 @@ pub opened_after : (log : List Event) (c : Call) (old new : MemoryTables) → St
 opened_after log c old new before longer means =
     sym (ap (λ (x : Meaning). x.holds) longer.means)
     ∙ (ap (λ (x : Meaning). x.holds) means ∙ ap (λ (x : Meaning). holds_after c.op x.holds) before.means)
-
--- a fact that holds anyway
-pub on_ok_anyway : {T E P : Type 0} (r : Result T E) → P → OnOk r P
-on_ok_anyway (Ok x) p = p
-on_ok_anyway (Err e) p = tt

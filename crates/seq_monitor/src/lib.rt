@@ -9,7 +9,5 @@
 mod monitor;
 mod parts;
 mod runs;
-#[cfg(test)]
-mod tests;
 
 pub use monitor::Monitor;

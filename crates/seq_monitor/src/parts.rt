@@ -19,17 +19,19 @@ ghost use Rattle.event_core.specs.declared.events.Op.{Op as Operation};
 ghost use Rattle.wcp_clocks.specs.Parts.{SameNumbers, SameLimits, IsAccess, KeepsReady, Fits};
 ghost use Rattle.wcp_clocks.specs.Parts.{IsWithin as ClocksAreWithin};
 ghost use Rattle.wcp_clocks.specs.Parts.{IsReady as ClocksAreReady};
+ghost use Rattle.wcp_clocks.specs.Parts.{IsReadyToSwap as ClocksAreReadyToSwap};
 ghost use Rattle.wcp_clocks.specs.StandsFor.{StandsFor as ClocksStandFor};
 ghost use Rattle.wcp_clocks.specs.WorkWithin.{IsWorkOf};
 ghost use Rattle.seq_monitor.specs.Monitored.{slots_for};
 ghost use Rattle.seq_monitor.specs.Monitored.{event_by as an_event_by};
 
 use access_check::Accesses;
-use event_core::{Call, Event, Log, Op, OutOfMemory, SiteId, ThreadId, VarId, Verdict};
+use event_core::{Call, Event, Log, Op, OutOfMemory, Reply, SiteId, ThreadId, VarId, Verdict};
 use traced_mem::Memory;
 use wcp_clocks::WcpClocks;
 
 /// The event of the call, with the value that it has.
+#[inline(always)]
 pub(crate) fn event_with(call: &Call, value: u64) -> Event
     ensures { result ≡ record {
       thread = call.now.thread;
@@ -47,6 +49,7 @@ pub(crate) fn event_with(call: &Call, value: u64) -> Event
 }
 
 /// An event of the call's thread with its operation, for which room is asked.
+#[inline(always)]
 pub(crate) fn event_by(call: &Call) -> Event
     ensures { result ≡ an_event_by call.now.thread call.now.op }
 {
@@ -58,7 +61,20 @@ pub(crate) fn event_by(call: &Call) -> Event
     }
 }
 
+/// The reply to the call of the event, which has the index and the verdict.
+#[inline(always)]
+pub(crate) fn reply_with(index: u64, event: &Event, verdict: Verdict) -> Reply
+    ensures { result ≡ record { index = index; value = event.now.value; verdict = verdict } }
+{
+    Reply {
+        index,
+        value: event.value,
+        verdict,
+    }
+}
+
 /// How many acquires are still to be released after the operation.
+#[inline(always)]
 pub(crate) fn count_holds(holds: u64, op: Op) -> u64
     requires few { holds ≤ 4294967296 }
     requires some { HoldsFit holds op }
@@ -72,6 +88,7 @@ pub(crate) fn count_holds(holds: u64, op: Op) -> u64
 }
 
 /// How many slots are to be there for the operation and for all releases to come.
+#[inline(always)]
 pub(crate) fn count_slots(holds: u64, op: Op) -> usize
     requires { holds ≤ 4294967296 }
     ensures { result ≡ slots_for holds op }
@@ -84,8 +101,21 @@ pub(crate) fn count_slots(holds: u64, op: Op) -> usize
     }
 }
 
+// The verdict on the last event of the log that the clocks stand for, while the accesses stand for the log
+// without it.
+#[inline(always)]
+fn verdict_on_last(clocks: &WcpClocks, accesses: &Accesses, event: &Event) -> Verdict
+    requires { clocks.now.hb.width ≡ accesses.now.limits.threads }
+    ensures { (limits : Bounds) (past : List AnEvent) → WellFormed limits (past ++ event.now ∷ [])
+        → ClocksStandFor (past ++ event.now ∷ []) clocks.now → AccessesStand past accesses.now
+        → IsVerdict (past ++ event.now ∷ []) (length past) result }
+{
+    accesses.verdict(event, clocks.clock(event.thread))
+}
+
 /// The event is the next one of the log that the clocks and the accesses stand for. The clocks advance by it,
 /// and the verdict is by its thread's clock after that.
+#[inline(always)]
 pub(crate) fn judge(clocks: &mut WcpClocks, accesses: &Accesses, event: &Event) -> Verdict
     requires ready { ClocksAreReady clocks.old event.now }
     requires fits { Fits event.now clocks.old }
@@ -100,7 +130,7 @@ pub(crate) fn judge(clocks: &mut WcpClocks, accesses: &Accesses, event: &Event) 
     ensures limits { SameLimits clocks.old clocks.new }
 {
     clocks.advance(event);
-    accesses.verdict(event, clocks.clock(event.thread))
+    verdict_on_last(clocks, accesses, event)
 }
 
 // Makes room for so many more verdicts.
@@ -176,10 +206,7 @@ pub(crate) fn grow_for_swap(
     ensures memory_ready { OnOk result (MemoryIsReadyToSwap memory.new thread var) }
     ensures numbers { SameNumbers clocks.old clocks.new }
     ensures clock_limits { SameLimits clocks.old clocks.new }
-    ensures ready_to_load { OnOk result
-        (ClocksAreReady clocks.new (an_event_by thread (Operation.Load var))) }
-    ensures ready_to_store { OnOk result
-        (ClocksAreReady clocks.new (an_event_by thread (Operation.Store var))) }
+    ensures clocks_ready { OnOk result (ClocksAreReadyToSwap clocks.new thread var) }
     ensures accesses_same { Grown accesses.old accesses.new }
     ensures accesses_ready { OnOk result (AccessesHaveRoomToSwap accesses.new thread var) }
     ensures events { log.new.events ≡ log.old.events }
@@ -191,32 +218,8 @@ pub(crate) fn grow_for_swap(
     ensures verdict_room { OnOk result (slots ≤ vec_capacity verdicts.new - vec_len verdicts.new) }
 {
     memory.prepare_swap(thread, var)?;
-    prepare_clocks(clocks, thread, var)?;
+    clocks.prepare_swap(thread, var)?;
     accesses.make_room_swap(thread, var)?;
     log.reserve(slots)?;
     reserve(verdicts, slots)
-}
-
-// Makes room for both events of a swap in the clocks.
-fn prepare_clocks(clocks: &mut WcpClocks, thread: ThreadId, var: VarId) -> Result<(), OutOfMemory>
-    requires { thread.0 < clocks.old.hb.width }
-    ensures numbers { SameNumbers clocks.old clocks.new }
-    ensures limits { SameLimits clocks.old clocks.new }
-    ensures ready_to_load { OnOk result
-        (ClocksAreReady clocks.new (an_event_by thread (Operation.Load var))) }
-    ensures ready_to_store { OnOk result
-        (ClocksAreReady clocks.new (an_event_by thread (Operation.Store var))) }
-{
-    clocks.prepare(&Event {
-        thread,
-        op: Op::Load(var),
-        site: SiteId(0),
-        value: 0,
-    })?;
-    clocks.prepare(&Event {
-        thread,
-        op: Op::Store(var),
-        site: SiteId(0),
-        value: 0,
-    })
 }

@@ -1,5 +1,5 @@
 //! The lines of a report, put on a page.
-ghost use Rattle.std.specs.Prelude.{◌≡◌, ℕ, ◌<◌, ◌++◌, ◌∷◌, [], length, OnOk, OnErr, true};
+ghost use Rattle.std.specs.Prelude.{◌≡◌, ℕ, ◌+◌, ◌<◌, ◌++◌, ◌∷◌, [], length, decimal, OnOk, OnErr, true};
 ghost use Rattle.event_core.specs.declared.replies.Verdict.TheVariants.{Racy};
 ghost use Rattle.rapid_text.specs.Events.{word_of_op, kind_of, target_of};
 ghost use Rattle.trace_report.specs.Pages.{Puts};
@@ -63,6 +63,18 @@ fn parts_of(op: Op) -> (Word, Kind, u32)
     }
 }
 
+/// Puts the number of the event at an index. Events are numbered from 1.
+fn put_number<W: Output>(page: &mut Page, writer: &mut W, index: u64) -> Result<(), WriteFault>
+    requires room { index < 18446744073709551615 }
+    ensures ok { OnOk result (Puts (W.written writer.old) page.old (W.written writer.new) page.new
+        (decimal (index + 1))) }
+    ensures healthy { OnOk result (W.failed writer.new ≡ W.failed writer.old) }
+    ensures failed { OnErr result (W.failed writer.new ≡ true) }
+{
+    let mut digits = Buffer::new();
+    page.put(writer, digits.format(index + 1).as_bytes())
+}
+
 /// Puts the number of an event, counted from 1, and its line without an ending.
 fn put_event<W: Output>(
     page: &mut Page,
@@ -83,8 +95,7 @@ fn put_event<W: Output>(
         return Ok(());
     };
     let (word, kind, number) = parts_of(event.op);
-    let mut digits = Buffer::new();
-    page.put(writer, digits.format(index + 1).as_bytes())?;
+    put_number(page, writer, index)?;
     page.put(writer, b"|")?;
     page.put(writer, names.name(Kind::Thread, event.thread.0))?;
     page.put(writer, b"|")?;

@@ -1,7 +1,7 @@
 //! A text that is replayed in pieces, however it is cut.
 ghost use Rattle.std.specs.Prelude.{◌≡◌, ◌≢◌, ℕ, ◌+◌, ◌↔◌, ◌++◌, ◌∷◌, []};
 ghost use Rattle.std.specs.Prelude.{List, length, Ok, Err, None, Some, true, false};
-ghost use Rattle.std.specs.Prelude.{IfOk, IfErr, IfSome, OnOk, OnErr, IsTrue, ◌<◌};
+ghost use Rattle.std.specs.Prelude.{IfOk, IfErr, IfSome, OnOk, OnErr, IsTrue, ◌<◌, ◌≤◌, drop};
 ghost use Rattle.std.specs.Io.KnownBytes.{Appends};
 ghost use Rattle.event_core.specs.Refusal.{WellFormed, event_of, refusal};
 ghost use Rattle.rapid_text.specs.Cutting.{judged, most};
@@ -40,6 +40,15 @@ fn accept(monitor: &mut Monitor, event: &Event) -> Result<(), Refusal>
     Ok(())
 }
 
+/// What is left of a piece after so many of its bytes.
+#[inline(always)]
+fn rest_after(piece: &[u8], used: usize) -> &[u8]
+    requires within { used ≤ length piece.now }
+    ensures { result.now ≡ drop used piece.now }
+{
+    &piece[used..]
+}
+
 /// Takes the lines that end in the piece, up to the first that has no event or whose event is refused.
 fn feed_lines(cutter: &mut Cutter, monitor: &mut Monitor, piece: &[u8]) -> Result<(), ReplayFault>
     requires live { cutter.old.failed ≡ None }
@@ -70,7 +79,7 @@ fn feed_lines(cutter: &mut Cutter, monitor: &mut Monitor, piece: &[u8]) -> Resul
                 refusal,
             });
         }
-        rest = &rest[used..];
+        rest = rest_after(rest, used);
     }
 }
 

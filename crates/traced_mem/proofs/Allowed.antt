@@ -20,7 +20,7 @@ use Rattle.traced_mem.specs.Meaning.{Meaning}
 use Rattle.traced_mem.specs.Refusals.{refusal_at, reasons_at, held_at, not_holder_at, log_full_at}
 use Rattle.traced_mem.specs.After.{holds_after}
 use Rattle.traced_mem.specs.Tables.{Tables, AreTables, Allows, lock_of, lock_at, blank_lock, total, meaning}
-use Rattle.traced_mem.specs.Room.{DepthFits, HoldsFit}
+use Rattle.traced_mem.specs.Room.{DepthFits, HoldsFit, IsReady}
 
 pub record Allowed (k : Limits) (m : Meaning) (u : ThreadId) (o : Op) : Type 0 where
   pub no_holder : held_at m u o ≡ None
@@ -130,7 +130,7 @@ step_fits t u o inv small h = record {
     holds_fit _ a = tt
 
 -- a release that is allowed has room
-pub release_ready : (t : Tables) (u : ThreadId) (o : Op) (l : LockId)
+release_ready : (t : Tables) (u : ThreadId) (o : Op) (l : LockId)
     → AreTables t.limits t.length t.holds t.threads t.locks
     → o ≡ Release l → Allows t u o → (u.0 < length t.threads) × (l.0 < length t.locks)
 release_ready t u o l inv e h =
@@ -141,6 +141,14 @@ release_ready t u o l inv e h =
     (subst (λ (v : ThreadId). v.0 < length t.threads) p.1 (inv.held l.0 p.0), held_within t.locks l.0 p.0)
 
 -- the same, where the tables are given by their fields
+pub release_room : (t s : Tables) (u : ThreadId) (o : Op) (l : LockId) → t ≡ s
+    → AreTables t.limits t.length t.holds t.threads t.locks → o ≡ Release l → Allows s u o → IsReady s u o
+release_room t s u o l same inv e h =
+    let r = release_ready t u o l inv e (subst (λ (x : Tables). Allows x u o) (sym same) h) in
+    subst (λ (x : Tables). IsReady x u o) same
+    (subst (IsReady t u) (sym e) (record { caller = r.0; room = r.1 }))
+
+-- what a step needs, where the tables are given by their fields
 pub fits_inside : (t s : Tables) (u : ThreadId) (o : Op) → t ≡ s
     → AreTables t.limits t.length t.holds t.threads t.locks → t.limits.events ≤ 4294967296
     → Allows s u o → StepFits t o

@@ -5,9 +5,9 @@ ghost use Rattle.event_core.specs.declared.events.Op.{Op as Operation};
 ghost use Rattle.event_core.specs.declared.ids.ThreadId.{ThreadId as Thread};
 ghost use Rattle.event_core.specs.Refusal.{value_of, event_of};
 ghost use Rattle.traced_mem.specs.Meaning.{nothing};
-ghost use Rattle.traced_mem.specs.After.{after, value_at};
+ghost use Rattle.traced_mem.specs.After.{after, value_at, holds_after};
 ghost use Rattle.traced_mem.specs.Tables.{meaning, Allows, AllowsSwap};
-ghost use Rattle.traced_mem.specs.Room.{IsReady, IsReadyToSwap, GrownFor, takes_place};
+ghost use Rattle.traced_mem.specs.Room.{IsReady, IsReadyToSwap, GrownFor, HoldsFit, takes_place};
 ghost use Rattle.traced_mem.specs.OfLog.{StandsFor};
 
 mod permission;
@@ -15,7 +15,7 @@ mod queries;
 
 use crate::growth::grow;
 use crate::rows::{LockRow, ThreadRow};
-use crate::step::{apply_rows, count_holds};
+use crate::step::apply_rows;
 use event_core::{Call, Limits, Op, OutOfMemory, ThreadId, VarId};
 use std::alloc::Global;
 use std::marker::Model;
@@ -61,7 +61,14 @@ impl Memory {
         ensures means { IfOk result (λ memory. meaning memory ≡ nothing) }
         ensures stands { IfOk result (λ memory. StandsFor memory []) }
     {
-        Ok(Memory {
+        Ok(Memory::empty(alloc, limits))
+    }
+
+    fn empty(alloc: Global, limits: Limits) -> Memory
+        ensures limits { result.limits ≡ limits }
+        ensures means { meaning result ≡ nothing }
+    {
+        Memory {
             alloc,
             limits,
             length: 0,
@@ -69,7 +76,7 @@ impl Memory {
             threads: Vec::new(alloc),
             locks: Vec::new(alloc),
             cells: Vec::new(alloc),
-        })
+        }
     }
 
     /// Makes room for a call that is allowed. Nothing else changes.
@@ -155,10 +162,23 @@ impl Memory {
             Op::Store(_) => call.arg,
             _ => 0,
         };
-        let holds = count_holds(call.op, self.holds);
+        let holds = self.count_holds(call.op);
         apply_rows(&mut self.threads, &mut self.locks, &mut self.cells, call);
         self.holds = holds;
         self.length += 1;
         value
+    }
+
+    // How many acquires are still to be released after the operation: each needs a slot of the log.
+    #[inline(always)]
+    fn count_holds(&self, op: Op) -> u64
+        requires { HoldsFit self.now.holds op }
+        ensures { result ≡ holds_after op self.now.holds }
+    {
+        match op {
+            Op::Acquire(_) => self.holds + 1,
+            Op::Release(_) => self.holds - 1,
+            _ => self.holds,
+        }
     }
 }

@@ -9,24 +9,13 @@ ghost use Rattle.traced_mem.specs.After.{
   holds_after,
 };
 ghost use Rattle.traced_mem.specs.Tables.{threads_of, locks_of, cells_of, thread_at, total, HeldBelow};
-ghost use Rattle.traced_mem.specs.Room.{HasRoom, DepthFits, HoldsFit};
+ghost use Rattle.traced_mem.specs.Room.{HasRoom, DepthFits};
 
 use crate::rows::{LockRow, ThreadRow, deepen, fork, gain, join, lessen, lose, mention, write};
 use event_core::{Call, Op};
 
-/// How many acquires are still to be released after the operation.
-pub fn count_holds(op: Op, holds: u64) -> u64
-    requires { HoldsFit holds op }
-    ensures { result ≡ holds_after op holds }
-{
-    match op {
-        Op::Acquire(_) => holds + 1,
-        Op::Release(_) => holds - 1,
-        _ => holds,
-    }
-}
-
 /// The call's step, on the tables. They have room for it.
+#[inline(always)]
 pub fn apply_rows(threads: &mut [ThreadRow], locks: &mut [LockRow], cells: &mut [u64], call: &Call)
     requires caller { call.now.thread.0 < length threads.old }
     requires room { HasRoom threads.old (length locks.old) (length cells.old) call.now.thread call.now.op }

@@ -14,7 +14,7 @@ pub mod Replaying
 mod Rows
 mod SourcesCount
 pub mod Standing
-mod Stepped
+pub mod Stepped
 mod Taking
 mod TurnWords
 mod Wholeness

@@ -1,5 +1,9 @@
 -- Rows that are written.
 use Rattle.std.proofs.Common.{◌≡◌, ℕ, ◌+◌, ◌≤◌, max, Bool, true, false, nat_eq, cond, sym, subst, ◌∙◌, arith}
+use Rattle.std.proofs.Common.{List, length, ap}
+use Rattle.std.proofs.lemmas.List.{ext_get_or}
+use Rattle.hb_clocks.specs.Counts.{counts_of}
+use Rattle.hb_clocks.specs.Tables.{row_at, rows_of, IsMade}
 use Rattle.std.proofs.Common.{inl, inr, ◌⊎◌}
 use Rattle.std.proofs.lemmas.Bool.{cases_eq, cases_Bool, eqb-true}
 use Rattle.event_core.specs.Rows.{no_clock, join, bump, with_row, to_child}
@@ -57,3 +61,9 @@ join_nothing f i u = go u i
   where
     go : (u : ℕ) → max (f u) 0 ≡ f u
     go u = omega arith
+
+-- a clock with the numbers of a row that was made is that row
+pub row_is : (rows : List (List ℕ)) (t width : ℕ) (clock : List ℕ) → length clock ≡ width
+    → counts_of clock ≡ rows_of rows t → IsMade width rows t → clock ≡ row_at rows t
+row_is rows t width clock wide counts made =
+    ext_get_or 0 clock (row_at rows t) (wide ∙ sym made.wide) (λ i within. ap (λ (f : ℕ → ℕ). f i) counts)

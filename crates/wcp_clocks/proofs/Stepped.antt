@@ -177,14 +177,50 @@ module _ (e : Event) (k : Turn) (old new : Parts) (told : turn e (state_of old)
   }
 
 -- the turn of an acquire and of a release, by the depth that the thread holds the lock to
-pub outer_acquire : (d : ℕ → ℕ) (l : LockId) → d l.0 ≡ 0 → turn_of d (Acquire l) ≡ Opens l
+outer_acquire : (d : ℕ → ℕ) (l : LockId) → d l.0 ≡ 0 → turn_of d (Acquire l) ≡ Opens l
 outer_acquire d l e = ap (λ b. cond b (Opens l) Inner) (eq-eqb (d l.0) 0 e)
 
-pub inner_acquire : (d : ℕ → ℕ) (l : LockId) → (d l.0 ≡ 0 → ⊥) → turn_of d (Acquire l) ≡ Inner
+inner_acquire : (d : ℕ → ℕ) (l : LockId) → (d l.0 ≡ 0 → ⊥) → turn_of d (Acquire l) ≡ Inner
 inner_acquire d l n = ap (λ b. cond b (Opens l) Inner) (ne_eqb (d l.0) 0 n)
 
-pub outer_release : (d : ℕ → ℕ) (l : LockId) → d l.0 ≡ 1 → turn_of d (Release l) ≡ Closes l
+outer_release : (d : ℕ → ℕ) (l : LockId) → d l.0 ≡ 1 → turn_of d (Release l) ≡ Closes l
 outer_release d l e = ap (λ b. cond b (Closes l) Inner) (eq-eqb (d l.0) 1 e)
 
-pub inner_release : (d : ℕ → ℕ) (l : LockId) → (d l.0 ≡ 1 → ⊥) → turn_of d (Release l) ≡ Inner
+inner_release : (d : ℕ → ℕ) (l : LockId) → (d l.0 ≡ 1 → ⊥) → turn_of d (Release l) ≡ Inner
 inner_release d l n = ap (λ b. cond b (Closes l) Inner) (ne_eqb (d l.0) 1 n)
+
+-- the step of an outer acquire
+pub opened : (e : Event) (l : LockId) (old new : Parts) → e.op ≡ Acquire l
+    → (hb_of old).depth e.thread.0 l.0 ≡ 0 → IsStepBy e (Opens l) old new
+    → AreParts old → IsReady old e → Fits e old → IsStep e old new
+opened e l old new op depth by parts ready fits =
+    stepped e (Opens l) old new
+    (ap (turn_of ((hb_of old).depth e.thread.0)) op ∙ outer_acquire ((hb_of old).depth e.thread.0) l depth)
+    by parts ready fits (λ a. absurd (subst IsAccess op a))
+
+-- and of an inner one
+pub acquired_again : (e : Event) (l : LockId) (old new : Parts) → e.op ≡ Acquire l
+    → ((hb_of old).depth e.thread.0 l.0 ≡ 0 → ⊥) → IsStepBy e Inner old new
+    → AreParts old → IsReady old e → Fits e old → IsStep e old new
+acquired_again e l old new op depth by parts ready fits =
+    stepped e Inner old new
+    (ap (turn_of ((hb_of old).depth e.thread.0)) op ∙ inner_acquire ((hb_of old).depth e.thread.0) l depth)
+    by parts ready fits (λ a. absurd (subst IsAccess op a))
+
+-- the step of an outer release
+pub closed : (e : Event) (l : LockId) (old new : Parts) → e.op ≡ Release l
+    → (hb_of old).depth e.thread.0 l.0 ≡ 1 → IsStepBy e (Closes l) old new
+    → AreParts old → IsReady old e → Fits e old → IsStep e old new
+closed e l old new op depth by parts ready fits =
+    stepped e (Closes l) old new
+    (ap (turn_of ((hb_of old).depth e.thread.0)) op ∙ outer_release ((hb_of old).depth e.thread.0) l depth)
+    by parts ready fits (λ a. absurd (subst IsAccess op a))
+
+-- and of an inner one
+pub released_again : (e : Event) (l : LockId) (old new : Parts) → e.op ≡ Release l
+    → ((hb_of old).depth e.thread.0 l.0 ≡ 1 → ⊥) → IsStepBy e Inner old new
+    → AreParts old → IsReady old e → Fits e old → IsStep e old new
+released_again e l old new op depth by parts ready fits =
+    stepped e Inner old new
+    (ap (turn_of ((hb_of old).depth e.thread.0)) op ∙ inner_release ((hb_of old).depth e.thread.0) l depth)
+    by parts ready fits (λ a. absurd (subst IsAccess op a))

@@ -27,6 +27,7 @@ ghost use Rattle.wcp_clocks.specs.Parts.{most_joins, FewComparisons, IsWithin, I
 ghost use Rattle.wcp_clocks.specs.Parts.{IsReadyToSwap};
 ghost use Rattle.wcp_clocks.specs.StandsFor.{StandsFor};
 
+use crate::numbers::{below_clock, below_number, strict_number};
 use crate::parts::Parts;
 use crate::room::{are_both_ready, are_ready, new_parts, prepare_both, prepare_parts};
 use crate::turns::step;
@@ -81,6 +82,7 @@ impl WcpClocks {
     }
 
     /// Whether there is room for the event. There is for each release by a holder.
+    #[inline(always)]
     pub fn ready(&self, event: &Event) -> bool
         ensures ready { IsTrue result ↔ IsReady self.now event.now }
         ensures releases { IsHeldRelease (hb_of self.now) event.now.thread event.now.op → IsTrue result }
@@ -112,6 +114,7 @@ impl WcpClocks {
     /// It takes at most three joins of clocks, or at an access two for each lock that its thread holds. A
     /// release that ends a section makes at most one comparison more than the sections that it newly
     /// finds below it, and nothing else makes one.
+    #[inline(always)]
     pub fn advance(&mut self, event: &Event)
         requires ready { IsReady self.old event.now }
         requires fits { Fits event.now self.old }
@@ -140,7 +143,7 @@ impl WcpClocks {
             → StandsFor log self.now → IsLatest log thread j
             → Counts log other (λ i. Strict log i j) result }
     {
-        self.parts.rows.strict(thread).at(other)
+        strict_number(&self.parts, thread, other)
     }
 
     /// How many events of `other` are below the thread's latest event: strictly, or by program order.
@@ -153,10 +156,11 @@ impl WcpClocks {
             → StandsFor log self.now → IsLatest log thread j
             → Counts log other (λ i. Below log i j) result }
     {
-        self.clock(thread).at(other)
+        below_number(&self.parts, thread, other)
     }
 
     /// The thread's clock, which counts the events that are below its latest one.
+    #[inline(always)]
     pub fn clock(&self, thread: ThreadId) -> &Clock
         ensures width { length result.now ≡ self.now.hb.width }
         ensures exact { counts_of result.now
@@ -165,6 +169,6 @@ impl WcpClocks {
             → StandsFor log self.now → IsLatest log thread j
             → Counted log (λ i. Below log i j) (counts_of result.now) }
     {
-        self.parts.rows.below(thread)
+        below_clock(&self.parts, thread)
     }
 }

@@ -4,6 +4,7 @@
 mod clocks;
 mod holdings;
 pub mod laws;
+mod numbers;
 mod parts;
 mod room;
 mod sources;

@@ -62,6 +62,7 @@ pub(crate) fn prepare_parts(parts: &mut Parts, event: &Event) -> Result<(), OutO
 }
 
 // Whether there is room for the event. Where there are strict clocks there are those of happens-before.
+#[inline(always)]
 pub(crate) fn are_ready(parts: &Parts, event: &Event) -> bool
     requires parts { AreParts parts.now }
     ensures ready { IsTrue result ↔ IsReady parts.now event.now }
@@ -108,6 +109,7 @@ pub(crate) fn are_both_ready(parts: &Parts, thread: ThreadId, var: VarId) -> boo
 }
 
 // Whether there is room for what the operation names.
+#[inline(always)]
 fn has_named(parts: &Parts, thread: ThreadId, op: Op) -> bool
     ensures { IsTrue result ↔ HasNamed parts.now thread op }
 {
@@ -120,6 +122,7 @@ fn has_named(parts: &Parts, thread: ThreadId, op: Op) -> bool
 }
 
 // Whether there is room for the access in each section that is open at it.
+#[inline(always)]
 fn has_access(parts: &Parts, thread: ThreadId, var: VarId) -> bool
     ensures { IsTrue result ↔ HasRoom parts.now.sums (list_at parts.now.held thread.0).locks var.0 }
 {

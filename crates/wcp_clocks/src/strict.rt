@@ -5,7 +5,7 @@ ghost use Rattle.std.specs.Prelude.{◌&&◌, nat_lt, nat_le};
 ghost use Rattle.event_core.specs.Rows.{join, bump, with_row, no_rows, no_clock};
 ghost use Rattle.hb_clocks.specs.Counts.{counts_of};
 ghost use Rattle.hb_clocks.specs.State.{HbState};
-ghost use Rattle.hb_clocks.specs.Tables.{state_of as hb_state, rows_of, widths_of};
+ghost use Rattle.hb_clocks.specs.Tables.{state_of as hb_state, row_at, rows_of, widths_of};
 ghost use Rattle.wcp_clocks.specs.StrictRows.{strict_of, below_of, HasThread, HasLock, KeepsRoom, SameRoom};
 ghost use Rattle.wcp_clocks.specs.StrictRows.{SameClocks};
 
@@ -110,6 +110,8 @@ impl StrictRows {
     pub(crate) fn strict(&self, thread: ThreadId) -> &Clock
         ensures width { length result.now ≡ self.now.width }
         ensures counts { counts_of result.now ≡ (strict_of self.now).thread thread.0 }
+        ensures at { (u : ℕ) → counts_of result.now u ≡ (strict_of self.now).thread thread.0 u }
+        ensures row { HasThread self.now thread.0 → result.now ≡ row_at self.now.thread thread.0 }
     {
         row_or(&self.threads, thread.0 as usize, &self.zeros)
     }

@@ -1,7 +1,12 @@
 //! The step of an event, by what the event is to the clocks.
-ghost use Rattle.std.specs.Prelude.{◌≡◌, ◌+◌, ◌<◌, ◌≤◌, ◌^◌, length};
+ghost use Rattle.std.specs.Prelude.{◌≡◌, ℕ, ◌+◌, ◌*◌, ◌<◌, ◌≤◌, ◌^◌, ◌||◌, length, false};
+ghost use Rattle.event_core.specs.declared.events.Op.TheVariants.{Acquire, Release};
 ghost use Rattle.event_core.specs.Turn.{Accesses, Opens, Closes, Forks, Joins, Inner};
-ghost use Rattle.wcp_laws.specs.Step.{turn};
+ghost use Rattle.section_sum.specs.Sums.{HasRoom, IsAlone, KeepsRoom, SameOthers, noted_of, is_access};
+ghost use Rattle.wcp_laws.specs.Step.{turn, join_all};
+ghost use Rattle.wcp_clocks.specs.HeldLists.{numbers_of};
+ghost use Rattle.wcp_clocks.specs.Met.{met_clocks, met_under, AreNumbers, IsWholeIn, AreWholeIn};
+ghost use Rattle.event_core.specs.declared.events.AccessKind.{AccessKind as Kind};
 ghost use Rattle.wcp_clocks.specs.Parts.{state_of, AreParts, IsReady, Fits, KeepsReady};
 ghost use Rattle.wcp_clocks.specs.Stepping.{IsStepBy, IsStep};
 ghost use Rattle.event_core.specs.Rows.{join, with_row};
@@ -16,38 +21,59 @@ use crate::strict::StrictRows;
 use event_core::{AccessKind, Event, LockId, Op, ThreadId, VarId};
 use hb_clocks::Work;
 use lock_queues::Queues;
+use section_sum::Summaries;
 
 /// The step of the event.
+#[inline(always)]
 pub(crate) fn step(parts: &mut Parts, event: &Event)
     requires parts { AreParts parts.old }
     requires ready { IsReady parts.old event.now }
     requires fits { Fits event.now parts.old }
     ensures { IsStep event.now parts.old parts.new }
 {
-    let thread = event.thread;
     match event.op {
         Op::Load(var) => access(parts, event, var, AccessKind::Read),
         Op::Store(var) => access(parts, event, var, AccessKind::Write),
-        Op::Acquire(lock) => {
-            if parts.hb.depth(thread, lock) == 0 {
-                open(parts, event, lock);
-            } else {
-                count_inner(parts, event);
-            }
-        }
-        Op::Release(lock) => {
-            if parts.hb.depth(thread, lock) == 1 {
-                close(parts, event, lock);
-            } else {
-                count_inner(parts, event);
-            }
-        }
+        Op::Acquire(lock) => acquire(parts, event, lock),
+        Op::Release(lock) => release(parts, event, lock),
         Op::Fork(child) => fork(parts, event, child),
         Op::Join(child) => join(parts, event, child),
     }
 }
 
-// An access: by rule (a) its strict clock takes the sources under each lock that its thread holds.
+// An acquire. The outer one opens a section.
+#[tactic(auto, using(crate::proofs::Stepped::opened, crate::proofs::Stepped::acquired_again))]
+fn acquire(parts: &mut Parts, event: &Event, lock: LockId)
+    requires op { event.now.op ≡ Acquire lock }
+    requires parts { AreParts parts.old }
+    requires ready { IsReady parts.old event.now }
+    requires fits { Fits event.now parts.old }
+    ensures { IsStep event.now parts.old parts.new }
+{
+    if parts.hb.depth(event.thread, lock) == 0 {
+        open(parts, event, lock);
+    } else {
+        count_inner(parts, event);
+    }
+}
+
+// A release. The outer one closes its section.
+#[tactic(auto, using(crate::proofs::Stepped::closed, crate::proofs::Stepped::released_again))]
+fn release(parts: &mut Parts, event: &Event, lock: LockId)
+    requires op { event.now.op ≡ Release lock }
+    requires parts { AreParts parts.old }
+    requires ready { IsReady parts.old event.now }
+    requires fits { Fits event.now parts.old }
+    ensures { IsStep event.now parts.old parts.new }
+{
+    if parts.hb.depth(event.thread, lock) == 1 {
+        close(parts, event, lock);
+    } else {
+        count_inner(parts, event);
+    }
+}
+
+// An access: it meets the sections that its thread has open, and its thread counts it.
 pub(crate) fn access(parts: &mut Parts, event: &Event, var: VarId, kind: AccessKind)
     requires turn { turn event.now (state_of parts.old) ≡ Accesses var kind }
     requires parts { AreParts parts.old }
@@ -58,9 +84,9 @@ pub(crate) fn access(parts: &mut Parts, event: &Event, var: VarId, kind: AccessK
 {
     let thread = event.thread;
     let held = parts.held.of(thread);
-    let taken = take_sources(
+    let taken = meet_sections(
         &mut parts.rows,
-        &parts.sums,
+        &mut parts.sums,
         &parts.queues,
         thread,
         held,
@@ -68,13 +94,53 @@ pub(crate) fn access(parts: &mut Parts, event: &Event, var: VarId, kind: AccessK
         kind,
         &mut parts.work,
     );
-    parts.sums.note(thread, held, var, kind);
     parts.hb.advance(event, &mut parts.work);
     if taken {
         parts.rows.follow(thread, &parts.hb);
     } else {
         parts.rows.count_own(thread);
     }
+}
+
+// The access in the sections that are open at it: by rule (a) its strict clock takes the sources under
+// each lock, and it is noted in each. Tells whether a clock was taken.
+fn meet_sections(
+    rows: &mut StrictRows,
+    sums: &mut Summaries,
+    queues: &Queues,
+    thread: ThreadId,
+    held: &[LockId],
+    var: VarId,
+    kind: AccessKind,
+    work: &mut Work,
+) -> bool
+    requires room { HasThread rows.old thread.0 }
+    requires places { HasRoom sums.old held.now var.0 }
+    requires alone { IsAlone sums.old thread.0 held.now }
+    requires wide { queues.now.limits.threads ≡ rows.old.width }
+    requires few { work.old.joins + 2 * length held.now < 2 ^ 63 }
+    requires numbers { AreNumbers sums.old (closed_of queues.now) }
+    requires whole { IsWholeIn sums.old (closed_of queues.now) ((strict_of rows.old).thread thread.0) }
+    requires releases { AreWholeIn sums.old (closed_of queues.now) }
+    ensures threads { (strict_of rows.new).thread ≡ with_row thread.0
+        (join ((strict_of rows.old).thread thread.0)
+        (join_all (met_under (met_clocks sums.old (closed_of queues.now)) var.0 kind thread.0)
+        (numbers_of held.now)))
+        (strict_of rows.old).thread }
+    ensures locks { (strict_of rows.new).lock ≡ (strict_of rows.old).lock }
+    ensures below { below_of rows.new ≡ below_of rows.old }
+    ensures none { result ≡ false → (strict_of rows.new).thread ≡ (strict_of rows.old).thread }
+    ensures kept { SameRoom rows.old rows.new }
+    ensures noted { (t l v : ℕ) (k : Kind) → noted_of sums.new t l v k
+        ≡ (noted_of sums.old t l v k || is_access thread.0 held.now var.0 kind t l v k) }
+    ensures others { SameOthers sums.old sums.new }
+    ensures places { KeepsRoom sums.old sums.new }
+    ensures joins { work.new.joins ≤ work.old.joins + 2 * length held.now }
+    ensures comparisons { work.new.comparisons ≡ work.old.comparisons }
+{
+    let taken = take_sources(rows, sums, queues, thread, held, var, kind, work);
+    sums.note(thread, held, var, kind);
+    taken
 }
 
 // An outer acquire: its clocks take those of the lock, and a section is opened.

@@ -8,7 +8,7 @@ ghost use Rattle.wcp_tool.specs.CommandLine.{file_argument as file_rule};
 ghost use Rattle.wcp_tool.specs.CommandLine.{TellsKind, faults_of, asked, asked_by, IsFaultAt};
 
 use crate::help_texts::{CHECK_TEXTS, REPLAY_TEXTS, RUN_TEXTS, STATUSES};
-use crate::options::{PATIENCE, THREADS, number_of, number_option};
+use crate::options::{DEFAULT_PATIENCE, patience_of, patience_option, threads_of, threads_option};
 use crate::requests::{Command, Settings, UsageFault};
 use clap::error::ErrorKind;
 use clap::{Arg, ArgAction, ArgMatches};
@@ -24,7 +24,7 @@ fn check_command<'a>(alloc: Global) -> Result<clap::Command<'a>, AllocError>
         .about("Says whether the trace on standard input is legal, or which line is not and why")
         .override_usage("wcp check [OPTIONS] < TRACE")
         .after_help(CHECK_TEXTS)
-        .arg(number_option(alloc, &THREADS))
+        .arg(threads_option(alloc))
 }
 
 /// The command that reports the races of a trace.
@@ -36,7 +36,7 @@ fn replay_command<'a>(alloc: Global) -> Result<clap::Command<'a>, AllocError>
         .about("Reports the races of the trace on standard input")
         .override_usage("wcp replay [OPTIONS] < TRACE")
         .after_help(REPLAY_TEXTS)
-        .arg(number_option(alloc, &THREADS))
+        .arg(threads_option(alloc))
 }
 
 /// The path of a script.
@@ -68,8 +68,8 @@ fn run_command<'a>(alloc: Global) -> Result<clap::Command<'a>, AllocError>
 {
     bare_run(alloc)
         .arg(file_argument(alloc))?
-        .arg(number_option(alloc, &THREADS))?
-        .arg(number_option(alloc, &PATIENCE))
+        .arg(threads_option(alloc))?
+        .arg(patience_option(alloc))
 }
 
 /// The program, before its commands are added.
@@ -166,12 +166,12 @@ pub fn settings<'a, S: AsStr>(alloc: Global, words: &'a [S]) -> Result<Settings,
         Err(error) => return Err(fault_of(alloc, &error)),
     };
     let (name, given) = command_met(&matches);
-    let threads = number_of(given, &THREADS);
+    let threads = threads_of(given);
     if name != "run" {
         return Ok(Settings {
             command: command_of(name),
             threads,
-            patience: PATIENCE.default,
+            patience: DEFAULT_PATIENCE,
         });
     }
     let Ok(file) = String::from_str(alloc, file_of(given)) else {
@@ -180,6 +180,6 @@ pub fn settings<'a, S: AsStr>(alloc: Global, words: &'a [S]) -> Result<Settings,
     Ok(Settings {
         command: Command::Run(file),
         threads,
-        patience: number_of(given, &PATIENCE),
+        patience: patience_of(given),
     })
 }

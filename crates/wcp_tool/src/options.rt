@@ -1,22 +1,24 @@
 //! The options of the commands. The value of each is a number.
-ghost use Rattle.std.specs.Prelude.{◌≡◌, ◌≤◌, ℕ, List, Some, false, pos};
+ghost use Rattle.std.specs.Prelude.{◌≡◌, ◌≤◌, ℕ, List, Some, codes, false, pos};
 ghost use Rattle.clap.specs.Words.{IsSignedIn, found_of, one_text, rule_of, without_minus};
 ghost use Rattle.wcp_tool.specs.CommandLine.{number_option as rule_for, number_of as number_in};
+ghost use Rattle.wcp_tool.specs.CommandLine.{threads_option as threads_rule};
+ghost use Rattle.wcp_tool.specs.CommandLine.{patience_option as patience_rule};
 
 use clap::{Arg, ArgAction, ArgMatches, value_parser};
 use std::alloc::Global;
 
 /// An option whose value is a number from 1 to the greatest.
 #[derive(Clone, Copy)]
-pub(crate) struct NumberOption {
-    pub(crate) name: &'static str,
-    pub(crate) most: u32,
-    pub(crate) default: u32,
-    pub(crate) default_text: &'static str,
-    pub(crate) help: &'static str,
+struct NumberOption {
+    name: &'static str,
+    most: u32,
+    default: u32,
+    default_text: &'static str,
+    help: &'static str,
 }
 
-pub(crate) const THREADS: NumberOption = NumberOption {
+const THREADS: NumberOption = NumberOption {
     name: "threads",
     most: 1024,
     default: 64,
@@ -24,16 +26,19 @@ pub(crate) const THREADS: NumberOption = NumberOption {
     help: "How many threads may be named, from 1 to 1024",
 };
 
-pub(crate) const PATIENCE: NumberOption = NumberOption {
+/// The patience where none is given.
+pub(crate) const DEFAULT_PATIENCE: u32 = 1000000;
+
+const PATIENCE: NumberOption = NumberOption {
     name: "patience",
     most: 4294967295,
-    default: 1000000,
+    default: DEFAULT_PATIENCE,
     default_text: "1000000",
     help: "How often a line is tried before its thread is stuck, from 1 to 4294967295",
 };
 
 /// The option as clap is told of it.
-pub(crate) fn number_option<'a>(alloc: Global, option: &NumberOption) -> Arg<'a>
+fn number_option<'a>(alloc: Global, option: &NumberOption) -> Arg<'a>
     ensures local { result.global ≡ false }
     ensures rule { rule_of result
         ≡ rule_for option.now.name.now option.now.most option.now.default_text.now }
@@ -48,7 +53,7 @@ pub(crate) fn number_option<'a>(alloc: Global, option: &NumberOption) -> Arg<'a>
 }
 
 /// The number that an option was given, which the parse found within its range.
-pub(crate) fn number_of(matches: &ArgMatches<'_>, option: &NumberOption) -> u32
+fn number_of(matches: &ArgMatches<'_>, option: &NumberOption) -> u32
     requires { 1 ≤ option.now.most }
     ensures least { 1 ≤ result }
     ensures most { result ≤ option.now.most }
@@ -58,4 +63,41 @@ pub(crate) fn number_of(matches: &ArgMatches<'_>, option: &NumberOption) -> u32
 {
     let given: Option<u32> = matches.get_one(option.name);
     given.unwrap_or(option.default).clamp(1, option.most)
+}
+
+/// How many threads may be named, as clap is told of it.
+pub(crate) fn threads_option<'a>(alloc: Global) -> Arg<'a>
+    ensures local { result.global ≡ false }
+    ensures rule { rule_of result ≡ threads_rule }
+{
+    number_option(alloc, &THREADS)
+}
+
+/// How often a line is tried, as clap is told of it.
+pub(crate) fn patience_option<'a>(alloc: Global) -> Arg<'a>
+    ensures local { result.global ≡ false }
+    ensures rule { rule_of result ≡ patience_rule }
+{
+    number_option(alloc, &PATIENCE)
+}
+
+/// How many threads may be named.
+pub(crate) fn threads_of(matches: &ArgMatches<'_>) -> u32
+    ensures least { 1 ≤ result }
+    ensures most { result ≤ 1024 }
+    ensures given { (t : List ℕ) → IsSignedIn (pos 1) (pos 1024) t
+        → one_text (found_of matches.now) (codes "threads") ≡ Some (without_minus t)
+        → result ≡ number_in (without_minus t) }
+{
+    number_of(matches, &THREADS)
+}
+
+/// How often a line is tried before its thread is stuck.
+pub(crate) fn patience_of(matches: &ArgMatches<'_>) -> u32
+    ensures least { 1 ≤ result }
+    ensures given { (t : List ℕ) → IsSignedIn (pos 1) (pos 4294967295) t
+        → one_text (found_of matches.now) (codes "patience") ≡ Some (without_minus t)
+        → result ≡ number_in (without_minus t) }
+{
+    number_of(matches, &PATIENCE)
 }

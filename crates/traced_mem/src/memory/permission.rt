@@ -87,6 +87,7 @@ impl Memory {
         Ok(())
     }
 
+    #[inline(always)]
     fn is_forked(&self, thread: ThreadId) -> bool
         ensures { result ≡ forked_at self.now.limits.roots (meaning self.now) thread }
     {
@@ -109,6 +110,7 @@ impl Memory {
         }
     }
 
+    #[inline(always)]
     fn is_joined(&self, thread: ThreadId) -> bool
         ensures { result ≡ ((meaning self.now).thread thread.0).joined }
     {
@@ -116,6 +118,7 @@ impl Memory {
         at < self.threads.len() && self.threads[at].joined
     }
 
+    #[inline(always)]
     fn is_in_range(&self, op: Op) -> bool
         ensures { result ≡ in_range self.now.limits op }
     {
@@ -126,6 +129,7 @@ impl Memory {
         }
     }
 
+    #[inline(always)]
     fn against_caller(&self, thread: ThreadId) -> Option<Refusal>
         ensures { result ≡ caller_refusal self.now.limits (meaning self.now) thread }
     {
@@ -140,6 +144,7 @@ impl Memory {
         }
     }
 
+    #[inline(always)]
     fn against_target(&self, thread: ThreadId, op: Op) -> Option<Refusal>
         ensures { result ≡ target_refusal self.now.limits (meaning self.now) thread op }
     {
@@ -174,6 +179,7 @@ impl Memory {
         }
     }
 
+    #[inline(always)]
     fn against_log(&self, op: Op) -> Option<Refusal>
         ensures { result ≡ log_full_at self.now.limits (meaning self.now) op }
     {
@@ -184,6 +190,7 @@ impl Memory {
         }
     }
 
+    #[inline(always)]
     fn against_slots(&self, needed: u64) -> Option<Refusal>
         requires { needed ≤ 2 }
         ensures { result ≡ full_at self.now.limits (meaning self.now) needed }

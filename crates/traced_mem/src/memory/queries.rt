@@ -1,12 +1,12 @@
 //! What is asked of a memory: values, holders, depths, the locks of a thread, and room.
-ghost use Rattle.std.specs.Prelude.{◌≡◌, ℕ, ◌↔◌, IsTrue, List};
+ghost use Rattle.std.specs.Prelude.{◌≡◌, ℕ, ◌<◌, ◌↔◌, IsTrue, List, length};
 ghost use Rattle.event_core.specs.declared.events.Event.{Event};
 ghost use Rattle.event_core.specs.declared.events.Op.{Op as Operation};
 ghost use Rattle.event_core.specs.declared.ids.LockId.{LockId as Lock};
 ghost use Rattle.event_core.specs.Refusal.{last_value, lock_depth};
 ghost use Rattle.event_core.specs.Refusal.{holder as holder_of};
 ghost use Rattle.traced_mem.specs.Tables.{meaning, Allows};
-ghost use Rattle.traced_mem.specs.Room.{IsReady, IsReadyToSwap};
+ghost use Rattle.traced_mem.specs.Room.{HasRoom, IsReady, IsReadyToSwap};
 ghost use Rattle.traced_mem.specs.OfLog.{StandsFor};
 ghost use Rattle.traced_mem.specs.Held.{AreHeld};
 
@@ -15,6 +15,7 @@ use event_core::{Call, LockId, Op, ThreadId, VarId};
 
 impl Memory {
     /// The value of the variable's last store, and 0 before any.
+    #[inline(always)]
     pub fn value(&self, var: VarId) -> u64
         ensures means { result ≡ (meaning self.now).cell var.0 }
         ensures last { (log : List Event) → StandsFor self.now log → result ≡ last_value log var }
@@ -47,6 +48,7 @@ impl Memory {
     }
 
     /// Whether there is room for the call. There is for each release that is allowed.
+    #[inline(always)]
     pub fn ready(&self, call: &Call) -> bool
         ensures room { IsTrue result ↔ IsReady self.now call.now.thread call.now.op }
         ensures release { (lock : Lock) → call.now.op ≡ Operation.Release lock
@@ -68,22 +70,30 @@ impl Memory {
         ensures release { (lock : Lock) → op ≡ Operation.Release lock
             → Allows self.now thread op → IsTrue result }
     {
-        let threads = self.threads.len();
-        let at = thread.0 as usize;
-        at < threads
-            && match op {
-                Op::Load(_) => true,
-                Op::Store(var) => (var.0 as usize) < self.cells.len(),
-                Op::Acquire(lock) => (lock.0 as usize) < self.locks.len()
-                    && {
-                        let held = &self.threads[at].held;
-                        held.len() < held.capacity()
-                    },
-                Op::Release(lock) => (lock.0 as usize) < self.locks.len(),
-                Op::Fork(child) | Op::Join(child) => (child.0 as usize) < threads,
-            }
+        (thread.0 as usize) < self.threads.len() && self.has_room_for(thread, op)
     }
 
+    // Whether the tables have room for what the operation names; the thread has a row.
+    #[inline(always)]
+    fn has_room_for(&self, thread: ThreadId, op: Op) -> bool
+        requires { thread.0 < length self.now.threads }
+        ensures { IsTrue result
+            ↔ HasRoom self.now.threads (length self.now.locks) (length self.now.cells) thread op }
+    {
+        match op {
+            Op::Load(_) => true,
+            Op::Store(var) => (var.0 as usize) < self.cells.len(),
+            Op::Acquire(lock) => (lock.0 as usize) < self.locks.len()
+                && {
+                    let held = &self.threads[thread.0 as usize].held;
+                    held.len() < held.capacity()
+                },
+            Op::Release(lock) => (lock.0 as usize) < self.locks.len(),
+            Op::Fork(child) | Op::Join(child) => (child.0 as usize) < self.threads.len(),
+        }
+    }
+
+    #[inline(always)]
     fn find_value(&self, var: VarId) -> u64
         ensures { result ≡ (meaning self.now).cell var.0 }
     {

@@ -1,10 +1,11 @@
-use Rattle.std.proofs.Common.{◌≡◌, ◌∙◌, ap, sym, ℕ, List, [], Option}
-use Rattle.std.specs.Prelude.{unwrap_or}
-use Rattle.rapid_line.specs.Grammar.{spelling}
+use Rattle.std.proofs.Common.{◌≡◌, ◌∙◌, ap, ℕ, List}
+use Rattle.rapid_line.specs.declared.words.Word.{Word}
+use Rattle.rapid_line.specs.Grammar.{operation}
 use Rattle.rapid_text.specs.declared.causes.Kind.{Kind}
+use Rattle.rapid_text.specs.declared.causes.Kind.TheVariants as kinds
 use Rattle.rapid_text.specs.Tables.{name_at}
-use Rattle.rapid_text.specs.Events.{named_by, kind_of, word_of_op}
-use Rattle.rapid_text.proofs.Written.{parts, line_written}
+use Rattle.rapid_text.specs.Events.{named_by, kind_of}
+use Rattle.rapid_text.proofs.Written.{name_found, parts, line_written}
 use Rattle.rapid_text.proofs.writing.write_event.Goals as goal
 
 pub returns-clause-ok : goal.returns-clause-ok
@@ -12,28 +13,25 @@ returns-clause-ok g c =
     let names = c.args.names.now in
     let e = named_by names c.args.event.now in
     let t = c.name-thread.result.now in
-    let s = c.spelled.result.now in
+    let w = c.word_and_target-word.result.0 in
     let a = c.name-argument.result.now in
     let l = c.name-location.result.now in
-    let named : t ≡ e.thread = sym (ap (λ (o : Option
-    (List ℕ)). unwrap_or o []) c.name-thread.ensures.is) in
-    let word : s ≡ spelling e.word = c.spelled.ensures ∙ ap spelling c.word_and_target-word.ensures.word in
-    let argument : a ≡ e.argument =
-    sym (ap (λ (o : Option (List ℕ)). unwrap_or o []) c.name-argument.ensures.is)
-    ∙ ap (λ (k : Kind). name_at names k c.word_and_target-word.result.1)
-    (c.kind_at.ensures ∙ ap kind_of c.word_and_target-word.ensures.word)
-    ∙ ap (λ (n : ℕ). name_at names (kind_of
-    (word_of_op c.args.event.now.op)) n) c.word_and_target-word.ensures.target in
-    let location : l ≡ e.location = sym (ap (λ (o : Option
-    (List ℕ)). unwrap_or o []) c.name-location.ensures.is) in
+    let n = c.word_and_target-word.result.1 in
+    let named : t ≡ e.thread =
+    name_found names kinds.Thread c.args.event.now.thread.0 t c.name-thread.ensures.is in
+    let word : w ≡ e.word = c.word_and_target-word.ensures.word in
+    let kind : c.kind_at.result ≡ kind_of e.word = c.kind_at.ensures ∙ ap kind_of word in
+    let argument : a ≡ e.argument = name_found names c.kind_at.result n a c.name-argument.ensures.is
+    ∙ ap (λ (k : Kind). name_at names k n) kind
+    ∙ ap (λ (m : ℕ). name_at names (kind_of e.word) m) c.word_and_target-word.ensures.target in
+    let location : l ≡ e.location =
+    name_found names kinds.Site c.args.event.now.site.0 l c.name-location.ensures.is in
+    let spelled : operation w a ≡ operation e.word e.argument =
+    ap (λ (v : Word). operation v a) word ∙ ap (λ (n : List ℕ). operation e.word n) argument in
     let o = g.W.Output.written in
     let before = parts (o c.args.w.now) (o c.write_all.new.w) (o c.write_all-2.new.w)
-    (o c.write_all-3.new.w)
-    (o c.write_all-4.new.w) (o c.write_all-5.new.w) (o c.write_all-6.new.w)
-    (o c.write_all-7.new.w) t s a l
-    c.in_ok-write_all.ensures.ok c.in_ok-write_all-2.ensures.ok c.in_ok-write_all-3.ensures.ok
-    c.in_ok-write_all-4.ensures.ok c.in_ok-write_all-5.ensures.ok c.in_ok-write_all-6.ensures.ok
-    c.in_ok-write_all-7.ensures.ok in
-    line_written (o c.args.w.now) (o c.write_all-7.new.w)
-    (o c.write_all-8.new.w) t s a l e c.write_all-8.result before
-    named word argument location c.write_all-8.ensures.ok
+    (o c.write_operation.new.w) (o c.write_all-3.new.w) t (operation w a) l
+    c.in_ok-write_all.ensures.ok c.in_ok-write_all-2.ensures.ok c.in_ok-write_operation.ensures.ok
+    c.in_ok-write_all-3.ensures.ok in
+    line_written (o c.args.w.now) (o c.write_all-3.new.w) (o c.write_all-4.new.w) t (operation w a) l e
+    c.write_all-4.result before named spelled location c.write_all-4.ensures.ok

@@ -1,8 +1,8 @@
-use Rattle.std.proofs.Common.{◌≡◌, ◌∙◌, ◌+◌, ap, sym, ℕ, List, [], ◌∷◌, ◌++◌, Option, Some}
+use Rattle.std.proofs.Common.{◌≡◌, ◌∙◌, ◌+◌, ap, sym, ℕ, List, [], Option, Some}
 use Rattle.std.specs.Prelude.{unwrap_or, decimal, slice_get}
 use Rattle.event_core.specs.declared.events.Event.{Event}
 use Rattle.std.proofs.lemmas.Result.{on_ok_weaker}
-use Rattle.rapid_line.specs.Grammar.{Named, spelling, content_of}
+use Rattle.rapid_line.specs.Grammar.{Named, spelling}
 use Rattle.rapid_text.specs.declared.causes.Kind.{Kind}
 use Rattle.rapid_text.specs.Tables.{name_at}
 use Rattle.rapid_text.specs.Events.{named_by, kind_of, word_of_op}
@@ -16,7 +16,7 @@ returns-clause-ok g c =
     let names = c.args.names.now in
     let event : Event = c.in-Some.event in
     let e : Named = named_by names event in
-    let d = c.as_bytes.result.now in
+    let d = decimal (c.args.index + 1) in
     let t = c.name.result.now in
     let s = c.spelled.result.now in
     let a = c.name-2.result.now in
@@ -28,15 +28,13 @@ returns-clause-ok g c =
     ∙ ap (λ (k : Kind). name_at names k c.parts_of-word.result.2) c.parts_of-word.ensures.kind
     ∙ ap (λ (n : ℕ). name_at names (kind_of (word_of_op event.op)) n) c.parts_of-word.ensures.number in
     let location : l ≡ e.location = sym (ap or_none c.name-3.ensures.is) in
-    let number : d ≡ decimal (c.args.index + 1) = c.as_bytes.ensures.value ∙ c.format.ensures.text in
     let found : Some event ≡ slice_get c.args.log.now.events c.args.index =
     sym c.in-Some.is ∙ c.get.ensures in
     let is = event_parts d t s a l e thread word argument location
-    ∙ ap (λ (x : List ℕ). x ++ 124 ∷ content_of e) number
     ∙ ap (numbered names c.args.index) found in
-    on_ok_weaker c.put-9.result
-    (λ h. put_same is (put_both c.in_ok-put.ensures.ok (put_both c.in_ok-put-2.ensures.ok
-    (put_both c.in_ok-put-3.ensures.ok (put_both c.in_ok-put-4.ensures.ok
-    (put_both c.in_ok-put-5.ensures.ok (put_both c.in_ok-put-6.ensures.ok
-    (put_both c.in_ok-put-7.ensures.ok (put_both c.in_ok-put-8.ensures.ok h)))))))))
-    c.put-9.ensures.ok
+    on_ok_weaker c.put-8.result
+    (λ h. put_same is (put_both c.in_ok-put_number.ensures.ok (put_both c.in_ok-put.ensures.ok
+    (put_both c.in_ok-put-2.ensures.ok (put_both c.in_ok-put-3.ensures.ok
+    (put_both c.in_ok-put-4.ensures.ok (put_both c.in_ok-put-5.ensures.ok
+    (put_both c.in_ok-put-6.ensures.ok (put_both c.in_ok-put-7.ensures.ok h)))))))))
+    c.put-8.ensures.ok

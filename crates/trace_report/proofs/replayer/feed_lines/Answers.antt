@@ -1,6 +1,6 @@
 use Rattle.std.proofs.Common.{◌≡◌, ◌≤◌, ◌+◌, ◌++◌, List, ℕ, ap, sym, subst, ◌∙◌}
 use Rattle.std.proofs.Common.{Option, length, length-append, drop, arith, [], ◌∷◌}
-use Rattle.std.proofs.lemmas.List.{take_rest, length-drop}
+use Rattle.std.proofs.lemmas.List.{length-drop}
 use Rattle.std.specs.Prelude.{IfSome}
 use Rattle.event_core.specs.declared.bounds.Limits.{Limits}
 use Rattle.event_core.specs.declared.events.Event.{Event}
@@ -79,7 +79,7 @@ line_taken c =
     let allowed = ap (λ (k : Limits). refusal k log (call_of event)) (sym c.lines.invariant.limits)
     ∙ c.in_default-accept.ensures.allowed in
     let is = sym c.in_default-accept.ensures.log in
-    let waits = sym (take_rest rest used) in
+    let waits = sym c.rest_after-rest.ensures in
     let named = subst (λ (o : Option Event). IfSome o (IsOfNames names)) c.in-Some.is c.in-Ok.ensures.named in
     record {
       limits = c.accept.ensures.limits ∙ c.lines.invariant.limits;

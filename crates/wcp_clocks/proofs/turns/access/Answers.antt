@@ -5,27 +5,27 @@ use Rattle.wcp_clocks.proofs.Taking.{room_then}
 use Rattle.wcp_clocks.proofs.OwnClocks.{few_below, counted_below, followed_below}
 use Rattle.wcp_clocks.proofs.turns.access.Goals as goal
 
-pub take_sources-taken-requires-clause-whole : goal.take_sources-taken-requires-clause-whole
-take_sources-taken-requires-clause-whole c =
+pub meet_sections-taken-requires-clause-whole : goal.meet_sections-taken-requires-clause-whole
+meet_sections-taken-requires-clause-whole c =
     (c.requires.parts.whole.strict c.args.event.now.thread.0).whole
 
-pub take_sources-taken-requires-clause-releases : goal.take_sources-taken-requires-clause-releases
-take_sources-taken-requires-clause-releases c = λ l x k t. (c.requires.parts.whole.others l x k t).whole
+pub meet_sections-taken-requires-clause-releases : goal.meet_sections-taken-requires-clause-releases
+meet_sections-taken-requires-clause-releases c = λ l x k t. (c.requires.parts.whole.others l x k t).whole
 
 pub count_own-requires-clause-few : goal.count_own-requires-clause-few
 count_own-requires-clause-few c =
     few_below c.args.event.now c.args.parts.now c.requires.fits c.requires.parts
-    c.take_sources-taken.new.rows c.take_sources-taken.ensures.below
+    c.meet_sections-taken.new.rows c.meet_sections-taken.ensures.below
 
 pub returns-then-taken-clause-step : goal.returns-then-taken-clause-step
 returns-then-taken-clause-step c =
     let e = c.args.event.now in
     let old = c.args.parts.now in
-    let s = c.take_sources-taken in
+    let s = c.meet_sections-taken in
     access_step e c.args.var c.args.kind old c.requires.turn c.requires.fits c.of-held.result.now s.new.rows
-    c.follow.new.self c.advance.new.self c.note.new.self s.new.work c.advance.new.work c.of-held.ensures
+    c.follow.new.self c.advance.new.self s.new.sums s.new.work c.advance.new.work c.of-held.ensures
     s.ensures.threads s.ensures.locks s.ensures.kept s.ensures.joins s.ensures.comparisons
-    c.note.ensures.noted c.note.ensures.others c.requires.parts.numbers
+    s.ensures.noted s.ensures.others c.requires.parts.numbers
     c.advance.ensures.exact c.advance.ensures.width c.advance.ensures.kept
     c.advance.ensures.work c.follow.ensures.strict
     (c.follow.ensures.below ∙ followed_below e (Accesses c.args.var c.args.kind) old s.new.rows
@@ -38,11 +38,11 @@ pub returns-else-taken-clause-step : goal.returns-else-taken-clause-step
 returns-else-taken-clause-step c =
     let e = c.args.event.now in
     let old = c.args.parts.now in
-    let s = c.take_sources-taken in
+    let s = c.meet_sections-taken in
     access_step e c.args.var c.args.kind old c.requires.turn c.requires.fits c.of-held.result.now s.new.rows
-    c.count_own.new.self c.advance.new.self c.note.new.self s.new.work c.advance.new.work c.of-held.ensures
+    c.count_own.new.self c.advance.new.self s.new.sums s.new.work c.advance.new.work c.of-held.ensures
     s.ensures.threads s.ensures.locks s.ensures.kept s.ensures.joins s.ensures.comparisons
-    c.note.ensures.noted c.note.ensures.others c.requires.parts.numbers
+    s.ensures.noted s.ensures.others c.requires.parts.numbers
     c.advance.ensures.exact c.advance.ensures.width c.advance.ensures.kept
     c.advance.ensures.work c.count_own.ensures.strict
     (c.count_own.ensures.below ∙ counted_below e (Accesses c.args.var c.args.kind) old s.new.rows
@@ -55,16 +55,16 @@ returns-else-taken-clause-step c =
 
 pub returns-then-taken-clause-kept : goal.returns-then-taken-clause-kept
 returns-then-taken-clause-kept c =
-    let s = c.take_sources-taken in
-    access_keeps c.args.parts.now c.follow.new.self c.advance.new.self c.note.new.self c.advance.new.work
+    let s = c.meet_sections-taken in
+    access_keeps c.args.parts.now c.follow.new.self c.advance.new.self s.new.sums c.advance.new.work
     c.advance.ensures.kept (room_then c.args.parts.now.rows s.new.rows c.follow.new.self s.ensures.kept
     c.follow.ensures.kept)
-    c.note.ensures.kept
+    s.ensures.places
 
 pub returns-else-taken-clause-kept : goal.returns-else-taken-clause-kept
 returns-else-taken-clause-kept c =
-    let s = c.take_sources-taken in
-    access_keeps c.args.parts.now c.count_own.new.self c.advance.new.self c.note.new.self c.advance.new.work
+    let s = c.meet_sections-taken in
+    access_keeps c.args.parts.now c.count_own.new.self c.advance.new.self s.new.sums c.advance.new.work
     c.advance.ensures.kept (room_then c.args.parts.now.rows s.new.rows c.count_own.new.self s.ensures.kept
     c.count_own.ensures.kept)
-    c.note.ensures.kept
+    s.ensures.places

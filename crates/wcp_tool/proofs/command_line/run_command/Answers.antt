@@ -12,18 +12,18 @@ returns-clause-local c =
     let first = both_false _ _ _ c.in_ok-arg.ensures.globals c.bare_run.ensures.local
     c.file_argument.ensures.local
     in
-    let second = both_false _ _ _ c.in_ok-arg-2.ensures.globals first c.number_option.ensures.local in
+    let second = both_false _ _ _ c.in_ok-arg-2.ensures.globals first c.threads_option.ensures.local in
     IfOk-weaker c.arg-3.result _ _
-    (λ x h. both_false _ _ _ h.globals second c.number_option-2.ensures.local)
+    (λ x h. both_false _ _ _ h.globals second c.patience_option.ensures.local)
     c.arg-3.ensures
 
 pub returns-clause-shape : goal.returns-clause-shape
 returns-clause-shape c =
     let file = c.in_ok-arg.ensures.shape c.file_argument.ensures.local
     ∙ ap₂ with_rule c.bare_run.ensures.app c.file_argument.ensures.rule in
-    let threads = c.in_ok-arg-2.ensures.shape c.number_option.ensures.local
-    ∙ ap₂ with_rule file c.number_option.ensures.rule in
+    let threads = c.in_ok-arg-2.ensures.shape c.threads_option.ensures.local
+    ∙ ap₂ with_rule file c.threads_option.ensures.rule in
     IfOk-weaker c.arg-3.result _ _
-    (λ x h. ap (λ (a : App). a.top) (h.shape c.number_option-2.ensures.local
-    ∙ ap₂ with_rule threads c.number_option-2.ensures.rule))
+    (λ x h. ap (λ (a : App). a.top) (h.shape c.patience_option.ensures.local
+    ∙ ap₂ with_rule threads c.patience_option.ensures.rule))
     c.arg-3.ensures

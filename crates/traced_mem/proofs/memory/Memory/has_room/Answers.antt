@@ -1,44 +1,16 @@
-use Rattle.std.proofs.Common.{◌≡◌, ◌<◌, length, ap, sym, subst, ◌∙◌, arith}
-use Rattle.std.proofs.lemmas.Bool.{lt-ltb}
-use Rattle.event_core.specs.declared.ids.LockId.{LockId}
-use Rattle.event_core.specs.declared.events.Op.TheVariants.{Release}
-use Rattle.traced_mem.specs.Tables.{Tables, Allows}
-use Rattle.traced_mem.proofs.Allowed.{release_ready}
+use Rattle.std.proofs.Common.{length, ap, arith}
+use Rattle.traced_mem.specs.Tables.{Tables}
+use Rattle.traced_mem.proofs.Allowed.{release_room}
 use Rattle.traced_mem.proofs.memory.Memory.has_room.Goals as goal
 
-pub returns-in-Release-clause-release : goal.returns-in-Release-clause-release
-returns-in-Release-clause-release c lock e h =
-    let t : Tables = record {
-      limits = c.self.inside.limits;
-      length = c.self.inside.length;
-      holds = c.self.inside.holds;
-      threads = c.self.inside.threads.items;
-      locks = c.self.inside.locks.items;
-      cells = c.self.inside.cells.items;
-    } in
-    let r = release_ready t c.args.thread c.args.op lock c.self.invariant e
-    (subst (λ (s : Tables). Allows s c.args.thread c.args.op) (sym c.self.view_is) h) in
-    let same : Release lock ≡ Release c.in-Release.lock = sym e ∙ c.in-Release.is in
-    let same_lock : lock ≡ c.in-Release.lock = cc in
-    let within : lock.0 < length c.self.inside.locks.items = r.1 in
-    let n = c.len-in-Release.ensures in
-    let lt : c.in-Release.lock.0 < c.len-in-Release.result
-    = omega (arith, ap (λ (l : LockId). l.0) same_lock) in
-    lt-ltb _ _ lt
+pub returns-then-thread-len-clause-release : goal.returns-then-thread-len-clause-release
+returns-then-thread-len-clause-release c lock e h =
+    c.has_room_for.ensures.1 (release_room _ _ _ _ lock c.self.view_is c.self.invariant e h).room
 
-pub returns-else-at-threads-clause-release : goal.returns-else-at-threads-clause-release
-returns-else-at-threads-clause-release c lock e h =
-    let t : Tables = record {
-      limits = c.self.inside.limits;
-      length = c.self.inside.length;
-      holds = c.self.inside.holds;
-      threads = c.self.inside.threads.items;
-      locks = c.self.inside.locks.items;
-      cells = c.self.inside.cells.items;
-    } in
-    let r = release_ready t c.args.thread c.args.op lock c.self.invariant e
-    (subst (λ (s : Tables). Allows s c.args.thread c.args.op) (sym c.self.view_is) h) in
-    let within : c.args.thread.0 < length c.self.inside.threads.items = r.0 in
-    let n = c.len-threads.ensures in
-    let f = c.if-at-threads.false in
+pub returns-else-thread-len-clause-release : goal.returns-else-thread-len-clause-release
+returns-else-thread-len-clause-release c lock e h =
+    let within = (release_room _ _ _ _ lock c.self.view_is c.self.invariant e h).caller in
+    let seen = ap (λ (t : Tables). length t.threads) c.self.view_is in
+    let len = c.len.ensures in
+    let past = c.if-thread-len.false in
     absurd (omega arith)

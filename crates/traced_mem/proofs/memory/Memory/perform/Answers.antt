@@ -3,7 +3,7 @@ use Rattle.traced_mem.specs.declared.rows.ThreadRow.{ThreadRow}
 use Rattle.traced_mem.specs.declared.rows.LockRow.{LockRow}
 use Rattle.traced_mem.specs.After.{holds_after}
 use Rattle.traced_mem.specs.Tables.{Tables, AreTables, HeldBelow, total, locks_of}
-use Rattle.traced_mem.specs.Room.{DepthFits, IsReady}
+use Rattle.traced_mem.specs.Room.{DepthFits, HoldsFit, IsReady}
 use Rattle.traced_mem.proofs.Allowed.{fits_inside}
 use Rattle.traced_mem.proofs.Stepping.{refilled, still_ready, ready_of_parts}
 use Rattle.traced_mem.proofs.memory.Memory.perform.Goals as goal
@@ -11,6 +11,7 @@ use Rattle.traced_mem.proofs.memory.Memory.perform.Goals as goal
 pub count_holds-holds-requires : goal.count_holds-holds-requires
 count_holds-holds-requires c =
     let small : c.self.inside.limits.events ≤ 4294967296 = omega arith in
+    subst (λ (s : Tables). HoldsFit s.holds c.args.call.now.op) c.self.view_is
     (fits_inside _ _ _ _ c.self.view_is c.self.invariant small c.requires.allowed).fits_holds
 
 pub apply_rows-requires-clause-fits : goal.apply_rows-requires-clause-fits
@@ -29,9 +30,11 @@ invariant_of-self c =
     let all_locks = refilled c.self.inside.locks.len c.apply_rows.new.locks c.self.inside.locks.items
     (c.apply_rows.ensures.same_locks ∙ ap length c.deref_mut-2.ensures.value)
     (sym c.deref_mut-2.ensures.len ∙ ap length c.deref_mut-2.ensures.value) in
-    let holds = c.count_holds-holds.ensures in
-    let sum : c.count_holds-holds.result ≡ total c.apply_rows.new.locks
+    let holds : c.count_holds-holds.result ≡ holds_after c.args.call.now.op c.self.inside.holds
     = c.count_holds-holds.ensures
+    ∙ ap (λ (s : Tables). holds_after c.args.call.now.op s.holds) (sym c.self.view_is) in
+    let sum : c.count_holds-holds.result ≡ total c.apply_rows.new.locks
+    = holds
     ∙ ap (holds_after c.args.call.now.op) (c.self.invariant.sum ∙ ap total (sym c.deref_mut-2.ensures.value))
     ∙ sym c.apply_rows.ensures.total in
     let held : HeldBelow (length c.apply_rows.new.threads) c.apply_rows.new.locks

@@ -8,7 +8,7 @@ use Rattle.wcp_clocks.proofs.clocks.WcpClocks.clock.Goals as goal
 
 pub returns-clause-exact : goal.returns-clause-exact
 returns-clause-exact c =
-    c.below.ensures.counts ∙ c.self.invariant.below c.args.thread.0
+    c.below_clock.ensures.counts
     ∙ ap (λ (p : Parts). join ((state_of p).strict.thread c.args.thread.0) ((hb_of p).po c.args.thread.0))
     c.self.view_is
 

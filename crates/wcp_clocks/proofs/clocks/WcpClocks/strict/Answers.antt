@@ -1,4 +1,4 @@
-use Rattle.std.proofs.Common.{ℕ, ap, sym, subst, ◌∙◌}
+use Rattle.std.proofs.Common.{ap, sym, subst, ◌∙◌}
 use Rattle.event_core.specs.Count.{Counts}
 use Rattle.event_core.specs.Wcp.{Strict}
 use Rattle.wcp_laws.proofs.Ordering.{strict_is_latest}
@@ -9,7 +9,7 @@ use Rattle.wcp_clocks.proofs.clocks.WcpClocks.strict.Goals as goal
 
 pub returns-clause-exact : goal.returns-clause-exact
 returns-clause-exact c =
-    c.at.ensures ∙ ap (λ (f : ℕ → ℕ). f c.args.other.0) c.strict.ensures.counts
+    c.strict_number.ensures
     ∙ ap (λ (p : Parts). (strict_of p.rows).thread c.args.thread.0 c.args.other.0) c.self.view_is
 
 pub returns-clause-latest : goal.returns-clause-latest

@@ -1,8 +1,8 @@
 //! Texts with a fault, each with the line and the cause.
 use super::doubles::Pieces;
 use super::told::{expect, expect_told, fault, long, told};
-use crate::{Cause, Kind, LineFault, NamedLine, Word, read_line};
 use event_core::{LockId, Op, OutOfMemory, ThreadId, VarId};
+use rapid_text::{Cause, Kind, LineFault, NamedLine, Word, read_line};
 
 /// Each cause, and where two apply the first in their order.
 #[test]

@@ -2,7 +2,7 @@
 ghost use Rattle.rapid_text.specs.Tables.{IsNameOf};
 
 use super::told::limits;
-use crate::{Kind, NameFault, Names};
+use rapid_text::{Kind, NameFault, Names};
 
 /// The number of the name, which is asked for again where a growth was refused.
 fn number(names: &mut Names, kind: Kind, name: &[u8]) -> Result<u32, NameFault>

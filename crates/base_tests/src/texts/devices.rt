@@ -1,8 +1,8 @@
 //! Readers that fail, and turns that are used up.
 use super::doubles::{byte_by_byte, that_fails};
 use super::told::{END, expect_told, fault, told};
-use crate::{Cause, LineFault};
 use event_core::{Op, VarId};
+use rapid_text::{Cause, LineFault};
 
 /// The events of whole lines come first, and no byte of a line without an end is judged.
 #[test]

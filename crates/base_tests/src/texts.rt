@@ -14,8 +14,8 @@ macro_rules! again {
 mod cutters;
 mod devices;
 mod doubles;
+mod faultless;
 mod faults;
 mod names;
-mod texts;
 mod told;
 mod written;

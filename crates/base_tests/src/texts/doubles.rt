@@ -1,7 +1,7 @@
 //! An input that gives a text in pieces, and an output that looks for a text.
 ghost use Rattle.std.specs.Prelude.{◌≡◌, None, false};
 
-use crate::{Input, Output, ReadFailed, WriteFailed};
+use rapid_text::{Input, Output, ReadFailed, WriteFailed};
 
 /// How a text comes: first a piece of so many bytes, then all others of another size. At the end of the text
 /// the input says so, or it fails.

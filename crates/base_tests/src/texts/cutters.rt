@@ -1,7 +1,7 @@
 //! A cutter whose text comes piece by piece.
 use super::told::{event, limits};
-use crate::{Cause, Cutter, LineFault, TextFault};
 use event_core::{Event, Limits, LockId, Op, OutOfMemory, VarId};
+use rapid_text::{Cause, Cutter, LineFault, TextFault};
 use std::alloc::Global;
 
 /// How many bytes were taken and the event, or a fault.

@@ -1,7 +1,7 @@
 //! What a reader answers, one call after another.
 use super::doubles::{Pieces, Source, byte_by_byte, cut, whole};
-use crate::{Cause, Reader, TextFault};
 use event_core::{Event, Limits, Op, OutOfMemory, Roots, SiteId, ThreadId, VarId};
+use rapid_text::{Cause, Reader, TextFault};
 use std::alloc::Global;
 use std::process::Abort;
 

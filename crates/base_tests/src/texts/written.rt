@@ -1,8 +1,8 @@
 //! Lines that are written, and read again.
 use super::doubles::Page;
 use super::told::limits;
-use crate::{Device, Output, Reader, write_event, write_fault};
 use event_core::{Limits, OutOfMemory};
+use rapid_text::{Device, Output, Reader, write_event, write_fault};
 use std::alloc::Global;
 
 /// Reads an event and writes its line: false at the end of the text, and where the output failed.
