@@ -17,6 +17,13 @@ fn event(thread: u32, op: Op) -> Event {
     }
 }
 
+fn store(value: u64) -> Event {
+    Event {
+        value,
+        ..event(0, Op::Store(VarId(0)))
+    }
+}
+
 // Where a growth is refused, it is asked for once more.
 fn reserve(log: &mut Log, additional: usize) -> Result<(), OutOfMemory>
     ensures { OnOk result (additional ≤ log.new.room) }
@@ -80,6 +87,24 @@ fn a_log_grows_where_there_is_room(rt: HostRuntime) -> Result<(), Fail> {
     assert!(rt; log.len() == 2 && !log.is_empty());
     let found = [log.get(0), log.get(1), log.get(2), log.get(4294967296)];
     assert_eq!(rt; found, [Some(first), Some(second), None, None]);
+    Ok(())
+}
+
+#[test]
+fn each_event_of_a_log_has_its_own_value(rt: HostRuntime) -> Result<(), Fail> {
+    let mut log = Log::new(rt.alloc());
+    reserve(&mut log, 4)?;
+    let fork = event(0, Op::Fork(ThreadId(1)));
+    let load = event(1, Op::Load(VarId(0)));
+    log.push(fork);
+    log.push(store(7));
+    log.push(load);
+    log.push(store(9));
+    let found = [log.get(0), log.get(1), log.get(2), log.get(3), log.get(4)];
+    assert_eq!(rt;
+        found,
+        [Some(fork), Some(store(7)), Some(load), Some(store(9)), None]
+    );
     Ok(())
 }
 

@@ -31,3 +31,4 @@ pub mod OwnCount
 pub mod NewestFacts
 pub mod StepLaws
 pub mod Members
+pub mod Keeping

@@ -22,6 +22,7 @@ pub mod PlainWcp
 -- what contracts see of limits and of a log that grows
 pub mod Bounds
 pub mod Recorded
+pub mod Kept
 -- the laws
 pub mod Laws
 pub mod OrderLaws

@@ -3,7 +3,7 @@ ghost use Rattle.std.specs.Prelude.{◌≡◌, ℕ, ◌<◌, ◌≤◌, length, 
 ghost use Rattle.script_text.specs.Lines.{is_of};
 ghost use Rattle.script_text.specs.Scripts.{Parsed, IsScript, IsFirstUnreached, IsDraft, script_of};
 ghost use Rattle.script_text.specs.Rows.{AreRows};
-ghost use Rattle.script_text.specs.Readings.{IsFault, Incomplete};
+ghost use Rattle.script_text.specs.Readings.{IsFault, Incomplete, unread};
 
 use crate::causes::{ScriptCause, ScriptFault};
 use crate::lines::ScriptLine;
@@ -27,6 +27,32 @@ fn no_memory() -> ScriptFault
     }
 }
 
+/// Takes the text that the reader has left, to its end.
+fn read_text<I: Input>(
+    alloc: Global,
+    reading: &mut Reading,
+    reader: &mut I,
+    limits: Limits,
+    turns: u64,
+) -> Result<(), ScriptFault>
+    requires unread { reading.old ≡ unread limits }
+    requires turns { turns ≤ 17592186044416 }
+    requires works { I.failed reader.old ≡ false }
+    ensures ok { OnOk result (IfSome (I.left reader.old) (λ text.
+        script_of limits text ≡ Ok reading.new.parsed)) }
+    ensures draft { OnOk result (IsDraft reading.new.parsed) }
+    ensures fault { IfErr result (λ f.
+        IsFault limits (I.left reader.old) (I.left reader.new) turns (I.failed reader.new) f f.cause) }
+    ensures healthy { OnOk result (I.failed reader.new ≡ false) }
+{
+    let Ok(mut piece) = vec![in alloc; 0u8; PIECE] else {
+        return Err(no_memory());
+    };
+    reading.read_all(reader, piece.as_mut_slice(), turns)?;
+    reading.finish()?;
+    Ok(())
+}
+
 /// The names and the lines of the text that the reader has left.
 fn read_lines<I: Input>(
     alloc: Global,
@@ -44,12 +70,10 @@ fn read_lines<I: Input>(
     ensures healthy { OnOk result (I.failed reader.new ≡ false) }
 {
     let mut reading = Reading::new(alloc, limits);
-    let Ok(mut piece) = vec![in alloc; 0u8; PIECE] else {
-        return Err(no_memory());
-    };
-    reading.read_all(reader, piece.as_mut_slice(), turns)?;
-    reading.finish()?;
-    Ok(reading.parts())
+    match read_text(alloc, &mut reading, reader, limits, turns) {
+        Ok(()) => Ok(reading.parts()),
+        Err(fault) => Err(fault),
+    }
 }
 
 /// Whether forks lead from thread 0 to each thread that a line names.
@@ -70,6 +94,25 @@ fn check_forks(alloc: Global, names: &Names, lines: &[ScriptLine]) -> Result<(),
     Ok(())
 }
 
+/// The lines of each thread, of lines that were judged one after another and to whose threads forks lead.
+fn checked_rows(
+    alloc: Global,
+    names: &Names,
+    lines: &[ScriptLine],
+) -> Result<Vec<Vec<ScriptLine>>, ScriptFault>
+    requires { IsDraft (record { names = names.now; lines = lines.now }) }
+    ensures script { OnOk result (IsScript (record { names = names.now; lines = lines.now })) }
+    ensures count { IfOk result (λ by_thread. length by_thread.items ≡ length names.now.threads.names) }
+    ensures rows { IfOk result (λ by_thread. AreRows by_thread.items lines.now) }
+    ensures fault { IfErr result (λ f. Incomplete lines.now f) }
+{
+    check_forks(alloc, names, lines)?;
+    match rows(alloc, lines, names.count(Kind::Thread)) {
+        Ok(by_thread) => Ok(by_thread),
+        Err(_) => Err(no_memory()),
+    }
+}
+
 /// The script of lines that were judged one after another.
 fn whole_script(alloc: Global, names: Names, lines: Vec<ScriptLine>) -> Result<Script, ScriptFault>
     requires { IsDraft (record { names = names; lines = lines.items }) }
@@ -77,15 +120,14 @@ fn whole_script(alloc: Global, names: Names, lines: Vec<ScriptLine>) -> Result<S
     ensures script { IfOk result (λ s. IsScript s) }
     ensures fault { IfErr result (λ f. Incomplete lines.items f) }
 {
-    check_forks(alloc, &names, lines.as_slice())?;
-    let Ok(by_thread) = rows(alloc, lines.as_slice(), names.count(Kind::Thread)) else {
-        return Err(no_memory());
-    };
-    Ok(Script {
-        names,
-        lines,
-        by_thread,
-    })
+    match checked_rows(alloc, &names, lines.as_slice()) {
+        Ok(by_thread) => Ok(Script {
+            names,
+            lines,
+            by_thread,
+        }),
+        Err(fault) => Err(fault),
+    }
 }
 
 /// A script without fault: its names, and its lines in order, also by thread.

@@ -1,5 +1,5 @@
 //! A text that is replayed in pieces, however it is cut.
-ghost use Rattle.std.specs.Prelude.{◌≡◌, ◌≢◌, ℕ, ◌+◌, ◌↔◌, ◌++◌, ◌∷◌, []};
+ghost use Rattle.std.specs.Prelude.{◌≡◌, ◌≢◌, ◌⊎◌, ℕ, ◌+◌, ◌↔◌, ◌++◌, ◌∷◌, []};
 ghost use Rattle.std.specs.Prelude.{List, length, Ok, Err, None, Some, true, false};
 ghost use Rattle.std.specs.Prelude.{IfOk, IfErr, IfSome, OnOk, OnErr, IsTrue, ◌<◌, ◌≤◌, drop};
 ghost use Rattle.std.specs.Io.KnownBytes.{Appends};
@@ -128,6 +128,7 @@ fn end_text(
         → fault_or fault (finding_after monitor.old.limits monitor.old.log (judged cutter.old [])) ≡ Err f) }
     ensures whole { IfErr result (λ f. is_short f ≡ true → fault ≡ Some f) }
     ensures stands { OnOk result (fault ≡ None) }
+    ensures answered { IfSome fault (λ f. result ≡ Err f) }
     ensures unwritten { result ≢ Err ReplayFault.Write }
 {
     if let Some(fault) = fault {
@@ -184,6 +185,7 @@ fn finish_parts<W: Output>(
     ensures quiet { answer_gives_up result ≡ true → result ≢ Err ReplayFault.Write → writer.new ≡ writer.old }
     ensures read { IfErr result (λ f. is_short f ≡ true → fault ≡ Some f) }
     ensures ok { OnOk result (fault ≡ None) }
+    ensures answered { IfSome fault (λ f. (result ≡ Err f) ⊎ (result ≡ Err ReplayFault.Write)) }
     ensures healthy { result ≢ Err ReplayFault.Write → W.failed writer.new ≡ W.failed writer.old }
     ensures failed { result ≡ Err ReplayFault.Write → W.failed writer.new ≡ true }
 {
@@ -286,6 +288,8 @@ impl Replayer {
         // A read fault is answered only where one stands.
         ensures read { IfErr result (λ f. is_short f ≡ true → self.fault ≡ Some f) }
         ensures ok { OnOk result (self.fault ≡ None) }
+        // A fault that stands is the answer, unless its line could not be written.
+        ensures answered { IfSome self.fault (λ f. (result ≡ Err f) ⊎ (result ≡ Err ReplayFault.Write)) }
         // It is a fault of the writer exactly where the writer failed or took no byte.
         ensures healthy { result ≢ Err ReplayFault.Write → W.failed writer.new ≡ W.failed writer.old }
         ensures failed { result ≡ Err ReplayFault.Write → W.failed writer.new ≡ true }

@@ -9,3 +9,4 @@ pub mod Given
 pub mod Asking
 pub mod Hindrance
 pub mod Obeying
+pub mod ScriptRuns

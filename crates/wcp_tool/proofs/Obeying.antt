@@ -1,5 +1,5 @@
 -- What the program does for its words, by the ending of what it did.
-use Rattle.std.proofs.Common.{◌≡◌, ◌⊎◌, ◌∙◌, ℕ, List, [], Bool, true, false, Option, Some, refl}
+use Rattle.std.proofs.Common.{◌≡◌, ◌≤◌, ◌⊎◌, ◌∙◌, ℕ, arith, List, [], Bool, true, false, Option, Some, refl}
 use Rattle.std.proofs.Common.{sym, ap, subst}
 use Rattle.std.proofs.Common.{inl, inr}
 use Rattle.std.specs.Prelude.{◌≢◌, IfSome, IsSomeAnd}
@@ -53,6 +53,16 @@ is_device WriteFault is = inl refl
 is_device OutOfMemory is = absurd (cc)
 is_device BrokenScript is = absurd (cc)
 
+pub is_refused : (e : Ending) → status_of e ≡ 3 → e ≡ Refused
+is_refused Done is = absurd (cc)
+is_refused Races is = absurd (cc)
+is_refused WrongUsage is = absurd (cc)
+is_refused Refused is = refl
+is_refused ReadFault is = absurd (cc)
+is_refused WriteFault is = absurd (cc)
+is_refused OutOfMemory is = absurd (cc)
+is_refused BrokenScript is = absurd (cc)
+
 pub is_done : (e : Ending) → status_of e ≡ 0 → e ≡ Done
 is_done Done is = refl
 is_done Races is = absurd (cc)
@@ -78,6 +88,17 @@ is_report BrokenScript h = elim h [ inl e ↦ absurd (cc) | inr e ↦ absurd (cc
 
 pub was_written : (e : Ending) → e ≡ Done → e ≢ WriteFault
 was_written e is w = let bad : Done ≡ WriteFault = sym is ∙ w in cc
+
+-- there are no other statuses than 0 to 6
+pub is_within : (e : Ending) → status_of e ≤ 6
+is_within Done = omega arith
+is_within Races = omega arith
+is_within WrongUsage = omega arith
+is_within Refused = omega arith
+is_within ReadFault = omega arith
+is_within WriteFault = omega arith
+is_within OutOfMemory = omega arith
+is_within BrokenScript = omega arith
 
 -- ---- words that ask for settings
 

@@ -4,3 +4,4 @@ pub mod Checked
 pub mod Endings
 pub mod CommandLine
 pub mod Running
+pub mod ScriptRuns

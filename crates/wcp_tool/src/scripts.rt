@@ -1,7 +1,12 @@
 //! A run of the threads of a script.
-ghost use Rattle.std.specs.Prelude.{◌≡◌, ◌≢◌, ◌⊎◌, ◌≤◌, true, false};
+ghost use Rattle.std.specs.Prelude.{◌≡◌, ◌≢◌, ◌⊎◌, ◌≤◌, Err, true, false, IfSome};
+ghost use Rattle.std.specs.Io.KnownBytes.{Appends};
+ghost use Rattle.rapid_text.specs.Faults.{fault_line};
+ghost use Rattle.script_text.specs.declared.causes.ScriptFault.{ScriptFault as Why};
+ghost use Rattle.script_text.specs.Scripts.{script_of};
 ghost use Rattle.wcp_tool.specs.Endings.{status_of};
 ghost use Rattle.wcp_tool.specs.Running.{Reports, limits_with};
+ghost use Rattle.wcp_tool.specs.ScriptRuns.{Ran, ReportsLog, RunsText, TellsFault, TellsRefusal};
 ghost use Rattle.event_core.specs.declared.bounds.Roots.TheVariants.{OnlyMain};
 
 use crate::bounds::{TURNS, limits_of};
@@ -23,8 +28,9 @@ use trace_report::{refusal_word, report};
 fn tell<O: Output>(writer: &mut O, line: u64, word: &str, ending: Ending) -> Ending
     requires writes { O.failed writer.old ≡ false }
     requires ending { (ending ≡ Ending.BrokenScript) ⊎ (ending ≡ Ending.Refused) }
-    ensures ends { (result ≡ Ending.BrokenScript)
-        ⊎ ((result ≡ Ending.Refused) ⊎ (result ≡ Ending.WriteFault)) }
+    ensures ends { (result ≡ ending) ⊎ (result ≡ Ending.WriteFault) }
+    ensures told { result ≢ Ending.WriteFault
+        → Appends (O.written writer.old) (O.written writer.new) (fault_line line word.now) }
     ensures write_fault { result ≡ Ending.WriteFault → O.failed writer.new ≡ true }
     ensures written { result ≢ Ending.WriteFault → O.failed writer.new ≡ false }
 {
@@ -37,6 +43,10 @@ fn tell<O: Output>(writer: &mut O, line: u64, word: &str, ending: Ending) -> End
 /// Tells why a script was not read.
 fn explain_script<O: Output>(writer: &mut O, fault: &ScriptFault) -> Ending
     requires writes { O.failed writer.old ≡ false }
+    ensures tells { TellsFault fault.now (O.written writer.old) (O.written writer.new) (status_of result) }
+    ensures hindered { (fault.now.cause ≡ ScriptCause.Read) ⊎ (fault.now.cause ≡ ScriptCause.OutOfMemory)
+        → (status_of result ≡ 4) ⊎ (status_of result ≡ 5) }
+    ensures refused { result ≢ Ending.Refused }
     ensures ran { (result ≢ Ending.Done) × (result ≢ Ending.Races) }
     ensures usage { result ≢ Ending.WrongUsage }
     ensures quiet { (result ≡ Ending.ReadFault) ⊎ (result ≡ Ending.OutOfMemory) → writer.new ≡ writer.old }
@@ -53,6 +63,7 @@ fn explain_script<O: Output>(writer: &mut O, fault: &ScriptFault) -> Ending
 /// Tells why a script was not run to its end.
 fn explain_drive<O: Output>(writer: &mut O, fault: &DriveFault) -> Ending
     requires writes { O.failed writer.old ≡ false }
+    ensures refused { result ≡ Ending.Refused → TellsRefusal (O.written writer.old) (O.written writer.new) }
     ensures ran { (result ≢ Ending.Done) × (result ≢ Ending.Races) }
     ensures usage { result ≢ Ending.WrongUsage }
     ensures quiet { (result ≡ Ending.ReadFault) ⊎ (result ≡ Ending.OutOfMemory) → writer.new ≡ writer.old }
@@ -72,8 +83,9 @@ fn explain_drive<O: Output>(writer: &mut O, fault: &DriveFault) -> Ending
 /// Reports what the threads did.
 fn report_closed<O: Output>(writer: &mut O, closed: &Closed, names: &Names) -> Ending
     requires writes { O.failed writer.old ≡ false }
-    ensures reports { (result ≡ Ending.Done) ⊎ (result ≡ Ending.Races) → Reports closed.now.limits
+    ensures reports { (result ≡ Ending.Done) ⊎ (result ≡ Ending.Races) → ReportsLog names.now closed.now.log
         (O.written writer.old) (O.written writer.new) (status_of result) }
+    ensures refused { result ≢ Ending.Refused }
     ensures usage { result ≢ Ending.WrongUsage }
     ensures quiet { (result ≢ Ending.ReadFault) × (result ≢ Ending.OutOfMemory) }
     ensures write_fault { result ≡ Ending.WriteFault → O.failed writer.new ≡ true }
@@ -100,8 +112,9 @@ fn run_threads<R: AllocGlobal + Threads + Wait + Sync, O: Output>(
 ) -> Ending
     requires only_main { limits.now.roots ≡ OnlyMain }
     requires writes { O.failed writer.old ≡ false }
-    ensures reports { (result ≡ Ending.Done) ⊎ (result ≡ Ending.Races) → Reports limits.now
+    ensures ran { (result ≡ Ending.Done) ⊎ (result ≡ Ending.Races) → Ran limits.now script.now
         (O.written writer.old) (O.written writer.new) (status_of result) }
+    ensures refused { result ≡ Ending.Refused → TellsRefusal (O.written writer.old) (O.written writer.new) }
     ensures usage { result ≢ Ending.WrongUsage }
     ensures quiet { (result ≡ Ending.ReadFault) ⊎ (result ≡ Ending.OutOfMemory) → writer.new ≡ writer.old }
     ensures write_fault { result ≡ Ending.WriteFault → O.failed writer.new ≡ true }
@@ -123,9 +136,13 @@ fn run_lines<R: AllocGlobal + Threads + Wait + Sync, I: Input, O: Output>(
     requires threads { (1 ≤ settings.now.threads) × (settings.now.threads ≤ 1024) }
     requires reads { I.failed script.old ≡ false }
     requires writes { O.failed writer.old ≡ false }
-    ensures reports { (result ≡ Ending.Done) ⊎ (result ≡ Ending.Races)
-        → Reports (limits_with settings.now.threads OnlyMain) (O.written writer.old) (O.written writer.new)
-        (status_of result) }
+    ensures ran { (result ≡ Ending.Done) ⊎ (result ≡ Ending.Races)
+        → RunsText (limits_with settings.now.threads OnlyMain) (I.left script.old) (O.written writer.old)
+        (O.written writer.new) (status_of result) }
+    ensures refused { result ≡ Ending.Refused → TellsRefusal (O.written writer.old) (O.written writer.new) }
+    ensures fault { IfSome (I.left script.old) (λ text. (f : Why)
+        → script_of (limits_with settings.now.threads OnlyMain) text ≡ Err f
+        → TellsFault f (O.written writer.old) (O.written writer.new) (status_of result)) }
     ensures usage { result ≢ Ending.WrongUsage }
     ensures quiet { (result ≡ Ending.ReadFault) ⊎ (result ≡ Ending.OutOfMemory) → writer.new ≡ writer.old }
     ensures write_fault { result ≡ Ending.WriteFault → O.failed writer.new ≡ true }
@@ -164,7 +181,8 @@ pub(crate) fn run_file<R: AllocGlobal + Files + Threads + Wait + Sync, O: Output
 /// The command `run` over a reader of the script: its threads are run, each line is tried as often as the
 /// patience of the settings says, and what the threads did is reported. The answer is the exit status.
 ///
-/// What the threads did depends on the schedule, and so does the status: nothing is said of which log it is.
+/// What the threads did depends on the schedule, and so does the status: of the log it is said only that it
+/// is well formed, and which events the first thread has, and each thread that this one joins.
 pub fn run_script<R: AllocGlobal + Threads + Wait + Sync, I: Input, O: Output, E: Output>(
     rt: &R,
     script: &mut I,
@@ -179,6 +197,17 @@ pub fn run_script<R: AllocGlobal + Threads + Wait + Sync, I: Input, O: Output, E
     // With status 0 or 1 it wrote the report of a well-formed log, and nothing else.
     ensures reports { (result ≡ 0) ⊎ (result ≡ 1) → Reports (limits_with settings.now.threads OnlyMain)
         (O.written writer.old) (O.written writer.new) result }
+    // The report is of the script that the reader had left: it has the script's names, and the lines of the
+    // first thread, and of each that this one joins, in order.
+    ensures ran { (result ≡ 0) ⊎ (result ≡ 1) → RunsText (limits_with settings.now.threads OnlyMain)
+        (I.left script.old) (O.written writer.old) (O.written writer.new) result }
+    // With status 3 it wrote the one line that tells which call is refused and why.
+    ensures refused { result ≡ 3 → TellsRefusal (O.written writer.old) (O.written writer.new) }
+    // The first fault of a text that has one is told, unless memory ran out or a device failed.
+    ensures fault { IfSome (I.left script.old) (λ text. (f : Why)
+        → script_of (limits_with settings.now.threads OnlyMain) text ≡ Err f
+        → TellsFault f (O.written writer.old) (O.written writer.new) result) }
+    ensures range { result ≤ 6 }
     // Nothing is written to standard output where memory ran out.
     ensures quiet { result ≡ 5 → writer.new ≡ writer.old }
     // Status 4 tells that the writer failed or took no byte, or else that the script was not read to its end,

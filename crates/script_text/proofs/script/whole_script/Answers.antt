@@ -1,4 +1,4 @@
-use Rattle.std.proofs.Common.{◌∙◌, List, subst}
+use Rattle.std.proofs.Common.{List, subst}
 use Rattle.script_text.specs.declared.lines.ScriptLine.{ScriptLine}
 use Rattle.script_text.specs.Scripts.{IsScript}
 use Rattle.script_text.specs.Rows.{AreRows}
@@ -8,8 +8,8 @@ pub invariant_of-result : goal.invariant_of-result
 invariant_of-result c = (
   subst (λ (ls : List ScriptLine). IsScript (record { names = c.args.names; lines = ls }))
       c.as_slice.ensures.value
-      c.in_ok-check_forks.ensures.ok,
-  c.in-Ok.ensures.len ∙ c.count.ensures.is,
-  subst (λ (ls : List ScriptLine). AreRows c.in-Ok.by_thread.items ls) c.as_slice-2.ensures.value
+      c.in-Ok.ensures.script,
+  c.in-Ok.ensures.count,
+  subst (λ (ls : List ScriptLine). AreRows c.in-Ok.by_thread.items ls) c.as_slice.ensures.value
       c.in-Ok.ensures.rows,
 )

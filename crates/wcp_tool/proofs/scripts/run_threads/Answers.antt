@@ -1,14 +1,19 @@
 use Rattle.std.proofs.Common.{inl, inr, subst}
-use Rattle.event_core.specs.declared.bounds.Limits.{Limits}
+use Rattle.rapid_text.specs.Tables.{Tables}
 use Rattle.wcp_tool.specs.Endings.{status_of}
-use Rattle.wcp_tool.specs.Running.{Reports}
+use Rattle.wcp_tool.specs.ScriptRuns.{ReportsLog}
 use Rattle.wcp_tool.proofs.scripts.run_threads.Goals as goal
 
-pub returns-in-Ok-clause-reports : goal.returns-in-Ok-clause-reports
-returns-in-Ok-clause-reports g c h =
-    subst (λ (m : Limits). Reports m (g.O.Output.written c.args.writer.now)
-    (g.O.Output.written c.report_closed.new.writer) (status_of c.report_closed.result))
-    c.in-Ok.ensures.limits (c.report_closed.ensures.reports h)
+pub returns-in-Ok-clause-ran : goal.returns-in-Ok-clause-ran
+returns-in-Ok-clause-ran g c h = record {
+  log = c.in-Ok.closed.log;
+  well_formed = c.in-Ok.ensures.well_formed;
+  first = c.in-Ok.ensures.main;
+  joined = c.in-Ok.ensures.joined;
+  reports = subst (λ (t : Tables). ReportsLog t c.in-Ok.closed.log (g.O.Output.written c.args.writer.now)
+      (g.O.Output.written c.report_closed.new.writer) (status_of c.report_closed.result)) c.names.ensures
+      (c.report_closed.ensures.reports h);
+}
 
 pub returns-in-Ok-clause-quiet : goal.returns-in-Ok-clause-quiet
 returns-in-Ok-clause-quiet g c h = elim h [

@@ -1,0 +1,65 @@
+-- What a run of a script writes, and the status that it ends with.
+use Rattle.std.specs.Prelude.{◌≡◌, ◌⊎◌, ℕ, List, Option, Ok, true, IfSome}
+use Rattle.std.specs.Io.KnownBytes.{Appends}
+use Rattle.std.specs.List.{list_any}
+use Rattle.event_core.specs.declared.bounds.Limits.{Limits}
+use Rattle.event_core.specs.declared.events.Event.{Event}
+use Rattle.event_core.specs.declared.ids.ThreadId.{ThreadId}
+use Rattle.event_core.specs.declared.replies.Refusal.{Refusal}
+use Rattle.event_core.specs.declared.replies.Verdict.{Verdict}
+use Rattle.event_core.specs.Refusal.{WellFormed}
+use Rattle.event_core.specs.Steps.{own_events}
+use Rattle.rapid_text.specs.Faults.{fault_line}
+use Rattle.rapid_text.specs.Tables.{Tables}
+use Rattle.script_drive.specs.Lines.{Follows, lines_by}
+use Rattle.script_text.specs.declared.causes.ScriptFault.{ScriptFault}
+use Rattle.script_text.specs.Faults.{cause_word}
+use Rattle.script_text.specs.Lines.{joins}
+use Rattle.script_text.specs.Scripts.{IsScript, Parsed, script_of}
+use Rattle.seq_monitor.specs.Monitored.{AreVerdicts}
+use Rattle.trace_report.specs.Reports.{AreNamed, report_of, summary_of}
+use Rattle.trace_report.specs.Words.{refusal_word}
+use Rattle.wcp_tool.specs.Endings.{status_of, summary_ending}
+
+-- the report of this log was written, with the definition's verdict on each event, and so ends the program
+pub record ReportsLog (names : Tables) (log : List Event) (old new : Option (List ℕ)) (status : ℕ)
+    : Type 0 where
+  pub verdicts : List Verdict
+  pub judged : AreVerdicts log verdicts
+  pub named : AreNamed names log
+  pub written : Appends old new (report_of names log verdicts)
+  pub ends : status ≡ status_of (summary_ending (summary_of names log verdicts))
+
+-- the thread of a script's first line
+abbrev pub first_thread : ThreadId
+first_thread = record { 0 = 0 }
+
+-- the threads of the script were run, and the well-formed log of what they did was reported. Its events of
+-- the first thread, and of each thread that this one joins, are those of that thread's lines in order.
+pub record Ran (m : Limits) (script : Parsed) (old new : Option (List ℕ)) (status : ℕ) : Type 0 where
+  pub log : List Event
+  pub well_formed : WellFormed m log
+  pub first : Follows (own_events first_thread log) (lines_by first_thread script.lines)
+  pub joined : (u : ThreadId) → list_any (joins u.0) (lines_by first_thread script.lines) ≡ true
+      → Follows (own_events u log) (lines_by u script.lines)
+  pub reports : ReportsLog script.names log old new status
+
+-- the text that the reader had left is a script, and its threads were run
+pub record RunsText (m : Limits) (left old new : Option (List ℕ)) (status : ℕ) : Type 0 where
+  pub script : Parsed
+  pub is_of : IfSome left (λ text. script_of m text ≡ Ok script)
+  pub is : IsScript script
+  pub ran : Ran m script old new status
+
+-- the one line that names this fault of a script was written, and the status is 6; unless it could not be
+-- written, the script not be read to its end, or memory ran out
+abbrev pub TellsFault : ScriptFault → Option (List ℕ) → Option (List ℕ) → ℕ → Type 0
+TellsFault f old new status =
+    ((status ≡ 6) × Appends old new (fault_line f.line (cause_word f.cause)))
+    ⊎ ((status ≡ 4) ⊎ (status ≡ 5))
+
+-- one line was written, which names the call that is refused and why
+pub record TellsRefusal (old new : Option (List ℕ)) : Type 0 where
+  pub line : ℕ
+  pub refusal : Refusal
+  pub written : Appends old new (fault_line line (refusal_word refusal))
