@@ -203,7 +203,7 @@ pub fn run_script<R: AllocGlobal + Threads + Wait + Sync, I: Input, O: Output, E
         (I.left script.old) (O.written writer.old) (O.written writer.new) result }
     // With status 3 it wrote the one line that tells which call is refused and why.
     ensures refused { result ≡ 3 → TellsRefusal (O.written writer.old) (O.written writer.new) }
-    // The first fault of a text that has one is told, unless memory ran out or a device failed.
+    // The first fault of the script's lines is told, unless memory ran out or a device failed.
     ensures fault { IfSome (I.left script.old) (λ text. (f : Why)
         → script_of (limits_with settings.now.threads OnlyMain) text ≡ Err f
         → TellsFault f (O.written writer.old) (O.written writer.new) result) }
