@@ -80,7 +80,7 @@ admits_legal limits log e s w st = record {
     by_self (Store x) p = tt
     by_self (Release l) p = tt
 
-events_within : (log : List Event) (u : ThreadId) → events_of log u ≤ length log
+pub events_within : (log : List Event) (u : ThreadId) → events_of log u ≤ length log
 unfolding events_of
 events_within log u = count_by-le-length (λ (e : Event). nat_eq e.thread.0 u.0) log
 

@@ -6,6 +6,7 @@ pub mod HbSteps
 pub mod HoldLaws
 pub mod LegalSteps
 pub mod PoSteps
+pub mod Releases
 pub mod Room
 pub mod RowLaws
 pub mod TableLaws

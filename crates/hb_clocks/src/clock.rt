@@ -2,8 +2,8 @@
 //!
 //! A clock keeps beside its numbers how far it is in use, so that a join and a copy go no further
 //! than the threads that there are, however many there may be.
-ghost use Rattle.std.specs.Prelude.{◌≡◌, ◌+◌, ◌<◌, ◌≤◌, ◌^◌, [], length, replicate, slice_set, IfOk};
-ghost use Rattle.event_core.specs.Rows.{join};
+ghost use Rattle.std.specs.Prelude.{◌≡◌, ◌+◌, ◌<◌, ◌≤◌, ◌^◌, [], length, max, replicate, slice_set, IfOk};
+ghost use Rattle.event_core.specs.Rows.{join, bump, with_row};
 ghost use Rattle.hb_clocks.specs.Counts.{counts_of, IsUnusedFrom};
 
 use crate::work::Work;
@@ -57,7 +57,8 @@ impl Clock {
         ensures greater { counts_of self.new ≡ join (counts_of self.old) (counts_of other.now) }
         ensures work { work.new ≡ record work.old { joins = work.old.joins + 1 } }
     {
-        self.join_counts(other.counts(), work);
+        work.add_join();
+        self.raise(other);
     }
 
     /// The numbers of the threads in use, from thread 0 on. Beyond them each number is 0.
@@ -68,17 +69,21 @@ impl Clock {
         &self.counts[..self.used]
     }
 
-    /// Takes the greater number of each thread from a list of numbers, beyond which each is 0. It is one
+    /// Takes the greater number of each thread from the clock of a release by the thread, of which the list
+    /// has the numbers just before it: the release is one more. Beyond the list each number is 0. It is one
     /// join.
-    pub fn join_counts(&mut self, counts: &[u64], work: &mut Work)
-        requires within { length counts.now ≤ length self.old }
+    pub fn join_release(&mut self, by: ThreadId, before: &[u32], work: &mut Work)
+        requires own { by.0 < length before.now }
+        requires within { length before.now ≤ length self.old }
         requires few { work.old.joins < 2 ^ 63 }
         ensures width { length self.new ≡ length self.old }
-        ensures greater { counts_of self.new ≡ join (counts_of self.old) (counts_of counts.now) }
+        ensures greater { counts_of self.new
+            ≡ join (counts_of self.old) (bump by.0 (counts_of before.now)) }
         ensures work { work.new ≡ record work.old { joins = work.old.joins + 1 } }
     {
         work.add_join();
-        self.raise_counts(counts);
+        self.raise_before(before);
+        self.count_release(by, before[by.0 as usize]);
     }
 
     /// Takes the other clock's numbers.
@@ -133,6 +138,31 @@ impl Clock {
         }
     }
 
+    // The same from a list of short numbers.
+    fn raise_before(&mut self, before: &[u32])
+        requires within { length before.now ≤ length self.old }
+        ensures width { length self.new ≡ length self.old }
+        ensures greater { counts_of self.new ≡ join (counts_of self.old) (counts_of before.now) }
+    {
+        take_greater_of_short(&mut self.counts, before);
+        if self.used < before.len() {
+            self.used = before.len();
+        }
+    }
+
+    // Counts a release by the thread, before which the thread has so many events.
+    fn count_release(&mut self, by: ThreadId, before: u32)
+        requires { by.0 < length self.old }
+        ensures width { length self.new ≡ length self.old }
+        ensures greater { counts_of self.new ≡ with_row by.0
+            (max (counts_of self.old by.0) (before + 1)) (counts_of self.old) }
+    {
+        let count = before as u64 + 1;
+        if self.at(by) < count {
+            self.set(by, count);
+        }
+    }
+
     // Sets the number of a thread.
     pub(crate) fn set(&mut self, thread: ThreadId, count: u64)
         requires { thread.0 < length self.old }
@@ -154,6 +184,16 @@ fn take_greater(mine: &mut [u64], theirs: &[u64])
 {
     for u in 0..theirs.len() {
         mine[u] = mine[u].max(theirs[u]);
+    }
+}
+
+// The same from short numbers.
+fn take_greater_of_short(mine: &mut [u64], theirs: &[u32])
+    requires within { length theirs.now ≤ length mine.old }
+    ensures { counts_of mine.new ≡ join (counts_of mine.old) (counts_of theirs.now) }
+{
+    for u in 0..theirs.len() {
+        mine[u] = mine[u].max(theirs[u] as u64);
     }
 }
 

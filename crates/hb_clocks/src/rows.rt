@@ -22,17 +22,25 @@ pub fn join_row(rows: &mut [Clock], at: usize, other: &Clock, work: &mut Work)
     rows[at].join(other, work);
 }
 
-/// The row takes the greater numbers of a list, beyond which each is 0, counted as one join.
-pub fn join_row_counts(rows: &mut [Clock], at: usize, counts: &[u64], work: &mut Work)
+/// The row takes the greater numbers of the clock of a release by the thread, of which the list has the
+/// numbers just before it, counted as one join. Beyond the list each number is 0.
+pub fn join_row_release(
+    rows: &mut [Clock],
+    at: usize,
+    by: ThreadId,
+    before: &[u32],
+    work: &mut Work,
+)
     requires room { at < length rows.old }
-    requires within { length counts.now ≤ widths_of rows.old at }
+    requires own { by.0 < length before.now }
+    requires within { length before.now ≤ widths_of rows.old at }
     requires few { work.old.joins < 2 ^ 63 }
     ensures rows { rows_of rows.new
-        ≡ with_row at (join (rows_of rows.old at) (counts_of counts.now)) (rows_of rows.old) }
+        ≡ with_row at (join (rows_of rows.old at) (bump by.0 (counts_of before.now))) (rows_of rows.old) }
     ensures widths { widths_of rows.new ≡ widths_of rows.old }
     ensures work { work.new ≡ record work.old { joins = work.old.joins + 1 } }
 {
-    rows[at].join_counts(counts, work);
+    rows[at].join_release(by, before, work);
 }
 
 /// The row becomes the clock, uncounted.

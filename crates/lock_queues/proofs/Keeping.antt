@@ -95,7 +95,8 @@ rising_push closed x rising above k m u le lt = go (cases_lt m (length closed)) 
 -- the thread leaves
 pub kept_left : {w : ℕ} {closed : List Section} {rooms : List Room} {found : List ℕ} {m : Memory} {t i : ℕ}
     (x : Section) (left : Memory)
-    → IsKept w closed rooms found m → Placed rooms t i → length x.release ≤ w → x.acquire.thread < w
+    → IsKept w closed rooms found m → Placed rooms t i → length x.release ≤ w
+    → x.acquire.thread < length x.release
     → IsAboveAll (counts_of x.release) (map closed_as closed) → IsLarger (length x.release) m left
     → IsKept w (closed ++ x ∷ []) (remove rooms i) found left
 kept_left {w = w} {closed = closed} {rooms = rooms} {found = found} {m = m} {t = t} {i = i} x left kept p wide
@@ -106,7 +107,7 @@ kept_left {w = w} {closed = closed} {rooms = rooms} {found = found} {m = m} {t =
       threads = kept.threads;
       within = λ v. (let h = kept.within v in omega arith);
       wide = each_pushed (λ (s : Section). length s.release ≤ w) closed x kept.wide wide;
-      marked = each_pushed (λ (s : Section). s.acquire.thread < w) closed x kept.marked own;
+      marked = each_pushed (λ (s : Section). s.acquire.thread < length s.release) closed x kept.marked own;
       rising = rising_push closed x kept.rising above;
       own =
           subst (λ k. AreRooms (length found) (remove rooms k)) (sym p.at)

@@ -1,5 +1,6 @@
 pub mod Placing
 pub mod Lookup
+pub mod Lowering
 pub mod Packing
 pub mod Sparing
 pub mod Counting

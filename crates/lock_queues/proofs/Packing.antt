@@ -1,12 +1,19 @@
 -- Sections whose numbers stand one after another.
-use Rattle.std.proofs.Common.{◌≡◌, ℕ, zero, suc, ◌+◌, ◌-◌, ◌<◌, ◌≤◌, List, [], ◌∷◌, ◌++◌, length, take, drop}
+use Rattle.std.proofs.Common.{◌≡◌, ℕ, zero, suc, ◌+◌, ◌-◌, ◌<◌, ◌≤◌, ◌⊎◌, List, [], ◌∷◌, ◌++◌, length, take}
+use Rattle.std.proofs.Common.{drop}
 use Rattle.std.proofs.Common.{get_or}
 use Rattle.std.proofs.Common.{refl, sym, ap, ap₂, subst, ◌∙◌, arith, length-drop}
 use Rattle.std.proofs.Math.Seq.{drop-append_seam, take-length}
-use Rattle.std.proofs.lemmas.List.{take-append-le, drop-append-le, get_or_read}
+use Rattle.std.proofs.lemmas.Bool.{cases_lt}
+use Rattle.std.proofs.lemmas.List.{take-append-le, drop-append-le, get_or_read, get_or_append_left}
+use Rattle.std.proofs.lemmas.List.{get_or_push}
+use Rattle.std.proofs.lemmas.List.{length_push}
+use mathlib.Core.Logic.{inl, inr}
 use Rattle.lock_queues.specs.declared.sections.Entry.{Entry}
 use Rattle.lock_queues.specs.Sections.{Section, section_at, section_from, sections_from, AreRanges}
-use Rattle.lock_queues.specs.Sections.{entry_at, start_of, no_entry}
+use Rattle.lock_queues.specs.Sections.{entry_at, start_of, no_entry, no_section, raised, AreOwn}
+use Rattle.hb_clocks.specs.Counts.{counts_of}
+use Rattle.hb_clocks.specs.Marks.{Named}
 
 pub length_from : (start : ℕ) (es : List Entry) (ns : List ℕ)
     → length (sections_from start es ns) ≡ length es
@@ -20,9 +27,13 @@ acquire_at start [] ns k = refl
 acquire_at start (e ∷ es) ns zero = refl
 acquire_at start (e ∷ es) ns (suc k) = acquire_at e.ends es ns k
 
+thread_at : (start : ℕ) (es : List Entry) (ns : List ℕ) (k : ℕ)
+    → (section_at (sections_from start es ns) k).acquire.thread ≡ (entry_at es k).acquire.thread
+thread_at start es ns k = ap (λ (m : Named). m.thread) (acquire_at start es ns k)
+
 pub release_at : (start : ℕ) (es : List Entry) (ns : List ℕ) (k : ℕ) → k < length es
-    → (section_at (sections_from start es ns) k).release
-    ≡ take ((entry_at es k).ends - start_of start es k) (drop (start_of start es k) ns)
+    → (section_at (sections_from start es ns) k).release ≡ raised (entry_at es k).acquire.thread
+    (take ((entry_at es k).ends - start_of start es k) (drop (start_of start es k) ns))
 release_at start [] ns k lt = absurd (omega arith)
 release_at start (e ∷ es) ns zero lt = refl
 release_at start (e ∷ es) ns (suc zero) lt = release_at e.ends es ns zero (omega arith)
@@ -56,17 +67,17 @@ ranges_push start (e ∷ es) x n are le = (are.0, ranges_push e.ends es x n are.
 -- one section more, whose numbers come after the others
 pub sections_push : (start : ℕ) (es : List Entry) (ns ms : List ℕ) (x : Entry) (s : Section)
     → AreRanges start es (length ns) → x.ends ≡ length ns + length ms → s.acquire ≡ x.acquire
-    → s.release ≡ ms
+    → s.release ≡ raised x.acquire.thread ms
     → sections_from start (es ++ x ∷ []) (ns ++ ms) ≡ sections_from start es ns ++ s ∷ []
 sections_push start [] ns ms x s are ends acquire release = ap (λ (q : Section). q ∷ []) read
   where
     few : x.ends - start ≡ length ms
     few = omega arith
 
-    numbers : take (x.ends - start) (drop start (ns ++ ms)) ≡ s.release
+    numbers : raised x.acquire.thread (take (x.ends - start) (drop start (ns ++ ms))) ≡ s.release
     numbers =
-        ap₂ (λ n k. take n (drop k (ns ++ ms))) few are
-        ∙ ap (take (length ms)) (drop-append_seam ns ms) ∙ take-length ms ∙ sym release
+        ap (raised x.acquire.thread) (ap₂ (λ n k. take n (drop k (ns ++ ms))) few are
+        ∙ ap (take (length ms)) (drop-append_seam ns ms) ∙ take-length ms) ∙ sym release
 
     read : section_from start x (ns ++ ms) ≡ s
     read = λ i. record { acquire = sym acquire i; release = numbers i }
@@ -87,7 +98,7 @@ sections_push start (e ∷ es) ns ms x s are ends acquire release =
         ∙ take-append-le (e.ends - start) (drop start ns) ms within
 
     first : section_from start e (ns ++ ms) ≡ section_from start e ns
-    first = λ i. record { acquire = e.acquire; release = numbers i }
+    first = λ i. record { acquire = e.acquire; release = raised e.acquire.thread (numbers i) }
 
 -- the entries and the numbers as a step leaves them
 pub ranges_pushed : (es fs : List Entry) (ns ms : List ℕ) (x : Entry) → fs ≡ es ++ x ∷ []
@@ -101,7 +112,8 @@ ranges_pushed es fs ns ms x entries ends le are =
 pub record IsRead (es : List Entry) (ns : List ℕ) (k start ends : ℕ) : Type 0 where
   pub within : start ≤ ends
   pub most : ends ≤ length ns
-  pub numbers : take (ends - start) (drop start ns) ≡ (section_at (sections_from 0 es ns) k).release
+  pub numbers : (section_at (sections_from 0 es ns) k).release
+      ≡ raised (section_at (sections_from 0 es ns) k).acquire.thread (take (ends - start) (drop start ns))
 
 pub range_read : (es seen : List Entry) (ns : List ℕ) (k start : ℕ) (x : Entry)
     → AreRanges 0 es (length ns) → k < length es → seen ≡ es → start ≡ start_of 0 seen k
@@ -116,7 +128,10 @@ range_read es seen ns k start x are lt is begins read =
     record {
       within = omega arith;
       most = omega arith;
-      numbers = ap₂ (λ n m. take (n - m) (drop m ns)) last first ∙ sym (release_at 0 es ns k lt);
+      numbers = release_at 0 es ns k lt
+          ∙ ap₂ (λ n m. raised (entry_at es k).acquire.thread (take (n - m) (drop m ns))) (sym last)
+          (sym first)
+          ∙ ap (λ t. raised t (take (x.ends - start) (drop start ns))) (sym (thread_at 0 es ns k));
     }
 
 -- a slice of the entries shows the sections' acquires
@@ -129,3 +144,23 @@ pub acquire_seen : (es seen : List Entry) (ns : List ℕ) (ss : List Section) (k
 acquire_seen es seen ns ss k is read =
     sym (ap (λ (xs : List Section). (section_at xs k).acquire) is) ∙ acquire_at 0 es ns k
     ∙ sym (ap (λ (xs : List Entry). (entry_at xs k).acquire) read)
+
+-- a section more with its number
+pub own_pushed : (es : List Entry) (ss : List Section) (x : Entry) (s : Section) → length ss ≡ length es
+    → AreOwn es ss → counts_of s.release s.acquire.thread ≡ x.own + 1 → AreOwn (es ++ x ∷ []) (ss ++ s ∷ [])
+own_pushed es ss x s same own is k lt = go (cases_lt k (length es))
+  where
+    Own : Section → Entry → Type 0
+    Own q e = counts_of q.release q.acquire.thread ≡ e.own + 1
+
+    go : (k < length es) ⊎ (length es ≤ k)
+        → Own (section_at (ss ++ s ∷ []) k) (entry_at (es ++ x ∷ []) k)
+    go (inl below) =
+        subst (λ q. Own q (entry_at (es ++ x ∷ []) k))
+        (sym (get_or_append_left ss (s ∷ []) no_section k (omega arith)))
+        (subst (Own (section_at ss k)) (sym (get_or_append_left es (x ∷ []) no_entry k below)) (own k below))
+    go (inr past) =
+        let longer = length_push es x in
+        let last : length es ≡ k = omega arith in
+        subst (λ q. Own q (entry_at (es ++ x ∷ []) k)) (sym (get_or_push ss s no_section k (omega arith)))
+        (subst (Own s) (sym (get_or_push es x no_entry k last)) is)

@@ -9,9 +9,9 @@ use Rattle.event_core.specs.declared.ids.SiteId.{SiteId}
 use Rattle.event_core.specs.declared.events.Event.{Event}
 use Rattle.event_core.specs.declared.events.Op.TheVariants.{Load}
 use Rattle.event_core.specs.Closed.{Closed, Has, first, later, is_counted}
-use Rattle.event_core.specs.Rows.{with_row}
+use Rattle.event_core.specs.Rows.{bump, no_clock, with_row}
 use Rattle.event_core.proofs.Growing.{row_same}
-use Rattle.hb_clocks.specs.State.{empty, after, po_row}
+use Rattle.hb_clocks.specs.State.{empty, after, po_row, hb_row}
 use Rattle.hb_clocks.specs.Stands.{IsFew}
 use Rattle.lock_queues.specs.Searched.{CountsEarlier, IsAboveAll}
 
@@ -31,6 +31,14 @@ one_load t x s v =
     let e : Event = record { thread = t; op = Load x; site = s; value = v } in
     let here : (after e empty).po t.0 ≡ po_row e empty = row_same t.0 (po_row e empty) empty.po in
     ap (λ (f : ℕ → ℕ). f t.0) here ∙ ap (λ (b : Bool). cond {A = ℕ} b 1 0) (eq-eqb t.0 t.0 refl)
+
+-- and its clock counts it alone
+pub first_clock : (t : ThreadId) (x : VarId) (s : SiteId) (v : ℕ)
+    → let e : Event = record { thread = t; op = Load x; site = s; value = v } in (after e empty).hb.thread t.0
+    ≡ bump t.0 no_clock
+first_clock t x s v =
+    let e : Event = record { thread = t; op = Load x; site = s; value = v } in
+    row_same t.0 (hb_row e empty) empty.hb.thread
 
 -- a table that was written at a thread and a lock
 pub written : {A : Type 0} (f g : ℕ → ℕ → A) (t l : ℕ) (x : A) → f ≡ with_row t (with_row l x (g t)) g

@@ -20,7 +20,8 @@ pub record IsKept (width : ℕ) (closed : List Section) (rooms : List Room) (fou
   pub threads : length found ≤ width
   pub within : (t : ℕ) → slice_index found t ≤ length closed
   pub wide : (k : ℕ) → k < length closed → length (section_at closed k).release ≤ width
-  pub marked : (k : ℕ) → k < length closed → (section_at closed k).acquire.thread < width
+  pub marked : (k : ℕ) → k < length closed
+      → (section_at closed k).acquire.thread < length (section_at closed k).release
   pub rising : AreRising closed
   pub own : AreRooms (length found) rooms
   pub spare : HasSpare closed memory (length rooms) width

@@ -1,7 +1,8 @@
 -- What a search of a lock's closed sections asks and does.
-use Rattle.std.specs.Prelude.{ℕ, ◌≡◌, ◌-◌, ◌<◌, ◌≤◌, List, IsTrue, Some, None}
+use Rattle.std.specs.Prelude.{ℕ, ◌≡◌, ◌-◌, ◌<◌, ◌≤◌, List, length, IsTrue, Some, None}
 use Rattle.event_core.specs.Closed.{Closed, Has, is_counted, below_closed}
-use Rattle.event_core.specs.Rows.{with_row, no_clock}
+use Rattle.event_core.specs.Rows.{with_row, bump, no_clock}
+use Rattle.hb_clocks.specs.Counts.{counts_of}
 use Rattle.lock_queues.specs.Sections.{closed_at, latest_counted}
 use Rattle.lock_queues.specs.Queues.{Tables, closed_of, opened_of, found_of, has_room}
 
@@ -14,6 +15,15 @@ CountsEarlier c qs =
 -- the clock is at or above the release clock of each section
 abbrev pub IsAboveAll : (ℕ → ℕ) → List Closed → Type 0
 IsAboveAll c qs = (q : Closed) (u : ℕ) → Has q qs → q.release u ≤ c u
+
+-- what is told of a closed section: its thread, the numbers of no more threads than there are from just before
+-- its release, which is one more event of that thread, and that thread's number once more
+pub record IsSection (by own : ℕ) (before : List ℕ) (width : ℕ) (q : Closed) : Type 0 where
+  pub thread : by ≡ q.thread
+  pub counted : by < length before
+  pub number : own ≡ counts_of before by
+  pub release : bump by (counts_of before) ≡ q.release
+  pub within : length before ≤ width
 
 -- the thread has found so many of the lock's sections counted, and nothing else has changed
 pub record FindsCounted (old new : Tables) (thread lock number : ℕ) : Type 0 where

@@ -1,9 +1,10 @@
 -- The closed sections of one lock, as they are kept and as clocks see them.
 use Rattle.std.specs.Prelude.{ℕ, zero, suc, ◌≡◌, ◌+◌, ◌*◌, ◌-◌, ◌≤◌, ◌<◌, List, [], ◌∷◌, length}
-use Rattle.std.specs.Prelude.{slice_index_or, Option, Some, None, cond}
+use Rattle.std.specs.Prelude.{slice_index_or, slice_set, Option, Some, None, cond}
 use Rattle.std.specs.Option.{option_or}
 use Rattle.std.proofs.Math.ListN.{take, drop}
 use Rattle.event_core.specs.Closed.{Closed, is_counted}
+use Rattle.event_core.specs.Rows.{with_row}
 use Rattle.hb_clocks.specs.Counts.{counts_of}
 use Rattle.hb_clocks.specs.Marks.{Named}
 use Rattle.lock_queues.specs.declared.sections.Entry.{Entry}
@@ -49,11 +50,22 @@ abbrev pub latest_counted : (ℕ → ℕ) → List Closed → Option Closed
 latest_counted c [] = None
 latest_counted c (q ∷ qs) = option_or (latest_counted c qs) (cond (is_counted c q) (Some q) None)
 
--- the section whose numbers begin at the start
+-- the clock just before a release by the thread, which is one more event of its own
+abbrev pub before : ℕ → (ℕ → ℕ) → ℕ → ℕ
+before t c = with_row t (c t - 1) c
+
+-- the same in lists: the numbers just before, and those of the release again
+abbrev pub lowered : ℕ → List ℕ → List ℕ
+lowered t counts = slice_set counts t (counts_of counts t - 1)
+
+abbrev pub raised : ℕ → List ℕ → List ℕ
+raised t counts = slice_set counts t (counts_of counts t + 1)
+
+-- the section whose numbers begin at the start: those just before its release are kept
 abbrev pub section_from : ℕ → Entry → List ℕ → Section
 section_from start e counts = record {
   acquire = e.acquire;
-  release = take (e.ends - start) (drop start counts);
+  release = raised e.acquire.thread (take (e.ends - start) (drop start counts));
 }
 
 -- sections whose numbers stand one after another, from the start on
@@ -67,10 +79,21 @@ AreRanges start [] numbers = start ≡ numbers
 AreRanges start (e ∷ es) numbers = (start ≤ e.ends) × AreRanges e.ends es numbers
 
 abbrev pub no_entry : Entry
-no_entry = record { acquire = record { thread = 0; position = 0 }; ends = 0 }
+no_entry = record { acquire = record { thread = 0; position = 0 }; own = 0; ends = 0 }
 
 abbrev pub entry_at : List Entry → ℕ → Entry
 entry_at entries k = slice_index_or entries k no_entry
+
+-- each has how many events of its thread there were before its release
+abbrev pub AreOwn : List Entry → List Section → Type 0
+AreOwn entries sections = (k : ℕ) → k < length entries
+    → counts_of (section_at sections k).release (section_at sections k).acquire.thread
+    ≡ (entry_at entries k).own + 1
+
+-- what the fields keep
+pub record ArePacked (entries : List Entry) (counts : List ℕ) : Type 0 where
+  pub ranges : AreRanges 0 entries (length counts)
+  pub own : AreOwn entries (sections_from 0 entries counts)
 
 -- where the numbers of the section at the place begin
 abbrev pub start_of : ℕ → List Entry → ℕ → ℕ

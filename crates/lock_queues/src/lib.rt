@@ -2,13 +2,15 @@
 //! clock counts, and by their numbers those that rule (a) asks for.
 #![tactic(auto)]
 
+mod before;
 mod queue;
 mod queues;
 mod rooms;
 mod search;
 mod sections;
 
-pub use queues::{ClosedSection, Queues};
+pub use queues::Queues;
+pub use sections::ClosedSection;
 
 #[cfg(test)]
 mod tests;

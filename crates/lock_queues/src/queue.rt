@@ -6,7 +6,7 @@
 ghost use Rattle.std.specs.Prelude.{◌≡◌, ◌≤◌, length, max, slice_index, OnOk};
 
 use crate::rooms::{Room, find};
-use crate::sections::Sections;
+use crate::sections::{ClosedSection, Sections};
 use event_core::{OutOfMemory, ThreadId};
 use hb_clocks::{Clock, Mark, Work};
 use std::alloc::Global;
@@ -47,8 +47,8 @@ impl Queue {
     ghost use Rattle.event_core.specs.Rows.{with_row};
     ghost use Rattle.hb_clocks.specs.Counts.{counts_of};
     ghost use Rattle.lock_queues.specs.Rooms.{has_room_in, opened_in};
-    ghost use Rattle.lock_queues.specs.Sections.{closed_as, closed_at, HasSpare};
-    ghost use Rattle.lock_queues.specs.Searched.{CountsEarlier, IsAboveAll, IsLatestBefore};
+    ghost use Rattle.lock_queues.specs.Sections.{closed_as, closed_at, before, HasSpare};
+    ghost use Rattle.lock_queues.specs.Searched.{CountsEarlier, IsAboveAll, IsLatestBefore, IsSection};
     ghost use Rattle.lock_queues.specs.Queue.{SameMeaning, no_queue};
 
     // No sections.
@@ -124,6 +124,8 @@ impl Queue {
         requires entered { 0 < opened_in self.old.rooms thread.0 }
         requires width { length clock.now ≡ self.old.width }
         requires above { IsAboveAll (counts_of clock.now) (map closed_as self.old.closed) }
+        requires counted { 0 < counts_of clock.now thread.0 }
+        requires few { (u : ℕ) → before thread.0 (counts_of clock.now) u < 2 ^ 32 }
         ensures closed { map closed_as self.new.closed
             ≡ map closed_as self.old.closed ++ record {
               thread = thread.0;
@@ -167,21 +169,19 @@ impl Queue {
         self.found[at] = more;
     }
 
-    // The release of the latest section that the thread has found.
-    pub(crate) fn latest(&self, thread: ThreadId) -> Option<&[u64]>
+    // The latest section that the thread has found.
+    pub(crate) fn latest(&self, thread: ThreadId) -> Option<ClosedSection<'_>>
         requires room { IsTrue (has_room_in self.now.rooms thread.0) }
         ensures { MatchOption result (slice_index self.now.found thread.0 ≡ 0)
             (λ answer. (0 < slice_index self.now.found thread.0)
-            × (counts_of answer.now
-            ≡ (closed_at (map closed_as self.now.closed)
-            (slice_index self.now.found thread.0 - 1)).release)
-            × (length answer.now ≤ self.now.width)) }
+            × IsSection answer.by.0 answer.own answer.before.now self.now.width
+            (closed_at (map closed_as self.now.closed) (slice_index self.now.found thread.0 - 1))) }
     {
         let number = self.found[thread.0 as usize];
         if number == 0 {
             return None;
         }
-        Some(self.closed.release(number - 1))
+        Some(self.section(number - 1))
     }
 
     // How many sections are closed.
@@ -191,21 +191,17 @@ impl Queue {
         self.closed.len()
     }
 
-    // The thread whose the closed section at the place was.
-    pub(crate) fn thread(&self, place: usize) -> ThreadId
+    // The closed section at the place.
+    pub(crate) fn section(&self, place: usize) -> ClosedSection<'_>
         requires within { place < length self.now.closed }
-        ensures { result.0 ≡ (closed_at (map closed_as self.now.closed) place).thread }
+        ensures { IsSection result.by.0 result.own result.before.now self.now.width
+            (closed_at (map closed_as self.now.closed) place) }
     {
-        self.closed.thread(place)
-    }
-
-    // The numbers of its release.
-    pub(crate) fn release(&self, place: usize) -> &[u64]
-        requires within { place < length self.now.closed }
-        ensures counts { counts_of result.now ≡ (closed_at (map closed_as self.now.closed) place).release }
-        ensures width { length result.now ≤ self.now.width }
-    {
-        self.closed.release(place)
+        ClosedSection {
+            by: self.closed.thread(place),
+            own: self.closed.own(place),
+            before: self.closed.before(place),
+        }
     }
 }
 

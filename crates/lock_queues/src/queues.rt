@@ -15,17 +15,11 @@ ghost use Rattle.lock_queues.specs.Queue.{AreAlike};
 ghost use Rattle.lock_queues.specs.Queues.{AreWide};
 
 use crate::queue::Queue;
+use crate::sections::ClosedSection;
 use event_core::{Limits, LockId, OutOfMemory, ThreadId};
 use hb_clocks::{Clock, Mark, Work};
 use std::alloc::Global;
 use std::marker::Model;
-
-/// A closed section: the thread whose it was, and the numbers of its release's clock, beyond which each is 0.
-#[derive(Clone, Copy)]
-pub struct ClosedSection<'a> {
-    pub by: ThreadId,
-    pub release: &'a [u64],
-}
 
 /// Of each lock its closed critical sections in the order of their releases, and of each thread how
 /// many of them it has found counted.
@@ -56,12 +50,13 @@ impl Queues {
     ghost use Rattle.std.specs.Borrow.{sem};
     ghost use Rattle.std.specs.Io.BufRead.{Rests};
     ghost use Rattle.event_core.specs.Closed.{below_closed};
-    ghost use Rattle.event_core.specs.Rows.{no_clock, with_row};
+    ghost use Rattle.event_core.specs.Rows.{bump, no_clock, with_row};
     ghost use Rattle.hb_clocks.specs.Counts.{counts_of};
     ghost use Rattle.lock_queues.specs.Queues.{closed_of, opened_of, found_of, has_room, counted_of};
     ghost use Rattle.lock_queues.specs.Queues.{SameMeaning};
-    ghost use Rattle.lock_queues.specs.Sections.{closed_at, latest_counted};
+    ghost use Rattle.lock_queues.specs.Sections.{before, closed_at, latest_counted};
     ghost use Rattle.lock_queues.specs.Searched.{CountsEarlier, FindsCounted, IsAboveAll, IsLatestBefore};
+    ghost use Rattle.lock_queues.specs.Searched.{IsSection};
     ghost use Rattle.lock_queues.specs.contracts.queues.Queues.{the_row};
 
     /// No sections. It takes no memory.
@@ -128,9 +123,8 @@ impl Queues {
         queue.enter(thread, mark);
     }
 
-    /// The release of the latest closed section on the lock whose acquire the clock counts, if there is one:
-    /// the numbers of its clock, beyond which each is 0. It is asked at the release of the thread's open
-    /// section, before `leave`.
+    /// The latest closed section on the lock whose acquire the clock counts, if there is one. It is asked at
+    /// the release of the thread's open section, before `leave`.
     ///
     /// The search begins after the sections that the thread has found before, and stops at the first
     /// that is not counted: at most one comparison more than the sections newly found.
@@ -140,7 +134,7 @@ impl Queues {
         lock: LockId,
         clock: &Clock,
         work: &mut Work,
-    ) -> Option<&[u64]>
+    ) -> Option<ClosedSection<'_>>
         requires entered { 0 < opened_of self.old thread.0 lock.0 }
         requires width { length clock.now ≡ self.old.limits.threads }
         requires before { found_of self.old lock.0 thread.0 ≤ counted_of self.old lock.0 clock.now }
@@ -153,12 +147,14 @@ impl Queues {
         ensures latest { MatchOption result
             (latest_counted (counts_of clock.now) (closed_of self.old lock.0) ≡ None)
             (λ answer. IsSomeAnd (latest_counted (counts_of clock.now) (closed_of self.old lock.0))
-            (λ section. section.release ≡ counts_of answer.now)) }
+            (λ section. section.release ≡ bump answer.by.0 (counts_of answer.before.now))) }
         ensures below { MatchOption result
             (below_closed (counts_of clock.now) (closed_of self.old lock.0) ≡ no_clock)
-            (λ answer. counts_of answer.now
+            (λ answer. bump answer.by.0 (counts_of answer.before.now)
             ≡ below_closed (counts_of clock.now) (closed_of self.old lock.0)) }
-        ensures width { IfSome result (λ answer. length answer.now ≤ self.old.limits.threads) }
+        ensures within { IfSome result (λ answer. answer.by.0 < length answer.before.now) }
+        ensures own { IfSome result (λ answer. answer.own ≡ counts_of answer.before.now answer.by.0) }
+        ensures width { IfSome result (λ answer. length answer.before.now ≤ self.old.limits.threads) }
 
         // What it costs.
         ensures comparisons { work.new.comparisons + found_of self.old lock.0 thread.0
@@ -173,11 +169,14 @@ impl Queues {
         self.latest(thread, lock)
     }
 
-    /// The thread's open section on the lock is closed, and the clock is that of its release.
+    /// The thread's open section on the lock is closed, and the clock is that of its release, which it
+    /// counts too. Just before it no thread has 2^32 events: a log has at most so many with the release.
     pub fn leave(&mut self, thread: ThreadId, lock: LockId, clock: &Clock)
         requires entered { 0 < opened_of self.old thread.0 lock.0 }
         requires width { length clock.now ≡ self.old.limits.threads }
         requires above { IsAboveAll (counts_of clock.now) (closed_of self.old lock.0) }
+        requires counted { 0 < counts_of clock.now thread.0 }
+        requires few { (u : ℕ) → before thread.0 (counts_of clock.now) u < 2 ^ 32 }
         ensures closed { closed_of self.new
             ≡ with_row lock.0 (closed_of self.old lock.0 ++ record {
               thread = thread.0;
@@ -213,16 +212,14 @@ impl Queues {
         requires some { 0 < number }
         requires within { number ≤ length (closed_of self.now lock.0) }
         ensures by { result.by.0 ≡ (closed_at (closed_of self.now lock.0) (number - 1)).thread }
-        ensures release { counts_of result.release.now
+        ensures within { result.by.0 < length result.before.now }
+        ensures own { result.own ≡ counts_of result.before.now result.by.0 }
+        ensures release { bump result.by.0 (counts_of result.before.now)
             ≡ (closed_at (closed_of self.now lock.0) (number - 1)).release }
-        ensures width { length result.release.now ≤ self.now.limits.threads }
+        ensures width { length result.before.now ≤ self.now.limits.threads }
     {
-        let queue = &self.queues[lock.0 as usize];
         let place = number as usize - 1;
-        ClosedSection {
-            by: queue.thread(place),
-            release: queue.release(place),
-        }
+        self.queues[lock.0 as usize].section(place)
     }
 
     // The thread finds how many of the lock's sections the clock counts.
@@ -244,14 +241,13 @@ impl Queues {
         queue.seek(thread, clock, work);
     }
 
-    // The release of the latest section that the thread has found.
-    fn latest(&self, thread: ThreadId, lock: LockId) -> Option<&[u64]>
+    // The latest section that the thread has found.
+    fn latest(&self, thread: ThreadId, lock: LockId) -> Option<ClosedSection<'_>>
         requires entered { 0 < opened_of self.now thread.0 lock.0 }
         ensures { MatchOption result (found_of self.now lock.0 thread.0 ≡ 0)
             (λ answer. (0 < found_of self.now lock.0 thread.0)
-            × (counts_of answer.now
-            ≡ (closed_at (closed_of self.now lock.0) (found_of self.now lock.0 thread.0 - 1)).release)
-            × (length answer.now ≤ self.now.limits.threads)) }
+            × IsSection answer.by.0 answer.own answer.before.now self.now.limits.threads
+            (closed_at (closed_of self.now lock.0) (found_of self.now lock.0 thread.0 - 1))) }
     {
         self.queues[lock.0 as usize].latest(thread)
     }

@@ -2,33 +2,49 @@
 //!
 //! The numbers of all release clocks stand one after another in one list, each clock as far as it is in
 //! use. So a section takes no block of memory of its own, and numbers for no more threads than there were.
+//! Each number is that from just before the release, which is one more event of its own thread: so all fit
+//! in 32 bits, since a log has at most 2^32 events.
 ghost use Rattle.std.specs.Prelude.{◌≡◌, ◌<◌, length};
 ghost use Rattle.lock_queues.specs.Sections.{start_of};
 
+use crate::before::{number_before, push_before};
 use crate::search::search;
 use event_core::{OutOfMemory, ThreadId};
 use hb_clocks::{Clock, Mark, Work};
 use std::alloc::Global;
 use std::marker::Model;
 
-/// A closed section: the mark of its acquire, and where the numbers of its release end. They begin where
-/// those of the section before it end.
+/// A closed section: the mark of its acquire, how many events of its own thread happened before its release,
+/// and where the numbers of its release end. They begin where those of the section before it end.
 #[derive(Clone, Copy)]
 pub(crate) struct Entry {
     pub(crate) acquire: Mark,
+    pub(crate) own: u32,
     pub(crate) ends: usize,
+}
+
+/// A closed section: the thread whose it was, and of each thread how many events happened before its
+/// release. The release is one more event of its own thread. Beyond the list each number is 0.
+///
+/// The thread's own number stands beside the list too: who asks whether the release is counted needs no
+/// other, and the list lies elsewhere in memory.
+#[derive(Clone, Copy)]
+pub struct ClosedSection<'a> {
+    pub by: ThreadId,
+    pub own: u32,
+    pub before: &'a [u32],
 }
 
 /// The closed sections. Only `reserve` takes memory.
 #[derive(Drop)]
 pub(crate) struct Sections {
     entries: Vec<Entry>,
-    counts: Vec<u64>,
+    counts: Vec<u32>,
 }
 
 impl Model for Sections {
     ghost use Rattle.std.specs.Prelude.{length};
-    ghost use Rattle.lock_queues.specs.Sections.{Packed, sections_from, AreRanges};
+    ghost use Rattle.lock_queues.specs.Sections.{Packed, sections_from, ArePacked};
 
     ghost Value = { Packed };
 
@@ -41,12 +57,14 @@ impl Model for Sections {
       };
     } };
 
-    ghost invariant = { λ s. AreRanges 0 s.entries.items (length s.counts.items) };
+    ghost invariant = { λ s. ArePacked s.entries.items s.counts.items };
 }
 
 impl Sections {
     ghost use Rattle.std.specs.Prelude.{◌≡◌, ℕ, ◌+◌, ◌<◌, ◌≤◌, ◌^◌, ◌∷◌, ◌++◌, [], length, OnOk};
+    ghost use Rattle.hb_clocks.specs.Counts.{counts_of};
     ghost use Rattle.lock_queues.specs.Sections.{section_at, no_sections, IsCounted, HasSpare, HasMore};
+    ghost use Rattle.lock_queues.specs.Sections.{before, raised};
 
     // No sections.
     pub(crate) fn new(alloc: Global) -> Sections
@@ -79,15 +97,20 @@ impl Sections {
     // One section more: the mark of its acquire, and the numbers of its release.
     pub(crate) fn push(&mut self, acquire: Mark, release: &[u64])
         requires spare { HasSpare self.old.sections self.old.memory 1 (length release.now) }
+        requires own { acquire.thread < length release.now }
+        requires counted { 0 < counts_of release.now acquire.thread }
+        requires few { (u : ℕ) → before acquire.thread (counts_of release.now) u < 2 ^ 32 }
         ensures sections { self.new.sections
             ≡ self.old.sections ++ record { acquire = acquire; release = release.now } ∷ [] }
         ensures numbers { self.new.memory.numbers ≡ self.old.memory.numbers + length release.now }
         ensures most_sections { self.old.memory.most_sections ≤ self.new.memory.most_sections }
         ensures most_numbers { self.old.memory.most_numbers ≤ self.new.memory.most_numbers }
     {
-        self.counts.extend_from_slice(release).unwrap();
+        let by = acquire.thread();
+        push_before(&mut self.counts, release, by);
+        let own = number_before(release, by, by.0 as usize);
         let ends = self.counts.len();
-        self.entries.push_reserved(Entry { acquire, ends });
+        self.entries.push_reserved(Entry { acquire, own, ends });
     }
 
     // How many sections there are.
@@ -105,10 +128,20 @@ impl Sections {
         self.entries[place].acquire.thread()
     }
 
-    // The numbers of the release of the section at the place.
-    pub(crate) fn release(&self, place: usize) -> &[u64]
+    // How many events of its own thread there were just before the release of the section at the place.
+    pub(crate) fn own(&self, place: usize) -> u32
         requires within { place < length self.now.sections }
-        ensures { result.now ≡ (section_at self.now.sections place).release }
+        ensures { counts_of (section_at self.now.sections place).release
+            (section_at self.now.sections place).acquire.thread ≡ result + 1 }
+    {
+        self.entries[place].own
+    }
+
+    // The numbers just before the release of the section at the place.
+    pub(crate) fn before(&self, place: usize) -> &[u32]
+        requires within { place < length self.now.sections }
+        ensures { (section_at self.now.sections place).release
+            ≡ raised (section_at self.now.sections place).acquire.thread result.now }
     {
         let start = find_start(&self.entries, place);
         &self.counts[start..self.entries[place].ends]

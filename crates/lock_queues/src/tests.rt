@@ -1,7 +1,7 @@
 //! What no clause says: that there can be memory, that the conditions can be met, and how much a
 //! section takes.
 ghost use Rattle.std.specs.Prelude.{◌≡◌, ◌<◌, ◌≤◌, ◌^◌, [], length, true, IfOk, OnOk};
-ghost use Rattle.event_core.specs.Rows.{with_row};
+ghost use Rattle.event_core.specs.Rows.{bump, no_clock, with_row};
 ghost use Rattle.hb_clocks.specs.Tables.{state_of};
 ghost use Rattle.lock_queues.specs.Queues.{closed_of, found_of, has_room, SameMeaning};
 
@@ -24,6 +24,7 @@ fn count_one(
     requires { thread.0 < limits.now.threads }
     ensures width { IfOk result (λ made. made.0.width ≡ limits.now.threads) }
     ensures one { IfOk result (λ made. (state_of made.0).po thread.0 thread.0 ≡ 1) }
+    ensures counts { IfOk result (λ made. (state_of made.0).hb.thread thread.0 ≡ bump thread.0 no_clock) }
     ensures work { IfOk result (λ made. made.1.comparisons ≡ 0) }
 {
     let event = Event {
@@ -58,6 +59,7 @@ fn close_one(queues: &mut Queues, clocks: &HbClocks, thread: ThreadId) -> Result
     requires lock { 0 < queues.old.limits.locks }
     requires width { clocks.now.width ≡ queues.old.limits.threads }
     requires marked { 0 < (state_of clocks.now).po thread.0 thread.0 }
+    requires counts { (state_of clocks.now).hb.thread thread.0 ≡ bump thread.0 no_clock }
     requires none { closed_of queues.old 0 ≡ [] }
     ensures one { OnOk result (length (closed_of queues.new 0) ≡ 1) }
     ensures found { found_of queues.new ≡ found_of queues.old }
@@ -69,15 +71,15 @@ fn close_one(queues: &mut Queues, clocks: &HbClocks, thread: ThreadId) -> Result
     Ok(())
 }
 
-// What a release of the thread finds of thread 0, where there is one section and its clock is the
-// one given.
+// What a release of the thread finds, where there is one section and its clock is the one given: the
+// section's thread, and how many events of it there were before its release.
 fn ask(
     queues: &mut Queues,
     clocks: &HbClocks,
     thread: ThreadId,
     clock: &Clock,
     work: &mut Work,
-) -> Result<Option<u64>, OutOfMemory>
+) -> Result<Option<(ThreadId, u32)>, OutOfMemory>
     requires thread { thread.0 < queues.old.limits.threads }
     requires lock { 0 < queues.old.limits.locks }
     requires width { length clock.now ≡ queues.old.limits.threads }
@@ -91,12 +93,12 @@ fn ask(
     let Some(below) = queues.last_below(thread, LOCK, clock, work) else {
         return Ok(None);
     };
-    Ok(below.first().copied())
+    Ok(Some((below.by, below.own)))
 }
 
 #[test]
-fn a_section_takes_24_bytes_and_8_for_each_thread_in_use(rt: HostRuntime) {
-    assert_eq!(rt; size_of::<Entry>(), 24);
+fn a_section_takes_32_bytes_and_4_for_each_thread_in_use(rt: HostRuntime) {
+    assert_eq!(rt; size_of::<Entry>(), 32);
 }
 
 #[test]
@@ -137,7 +139,7 @@ fn another_thread_finds_the_section(rt: HostRuntime) -> Result<(), Fail> {
         first.hb(ThreadId(0)),
         &mut work,
     )?;
-    assert_eq!(rt; answer, Some(1));
+    assert_eq!(rt; answer, Some((ThreadId(0), 0)));
     Ok(())
 }
 
@@ -151,6 +153,7 @@ fn a_closed_section_is_found_by_its_number(rt: HostRuntime) -> Result<(), Fail> 
     assert_eq!(rt; queues.count(LOCK), 1);
     let section = queues.section(LOCK, 1);
     assert_eq!(rt; section.by, ThreadId(1));
-    assert_eq!(rt; section.release, [0, 1].as_slice());
+    assert_eq!(rt; section.own, 0);
+    assert_eq!(rt; section.before, [0, 0].as_slice());
     Ok(())
 }

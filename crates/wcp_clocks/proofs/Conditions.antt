@@ -21,7 +21,7 @@ use Rattle.event_core.specs.Refusal.{open_acquires}
 use Rattle.hb_clocks.specs.State.{HbState, turn, hb_row, po_row, after}
 use Rattle.hb_clocks.specs.Stands.{Stands as OrderStands}
 use Rattle.hb_clocks.proofs.LegalSteps.{step_stands}
-use Rattle.hb_clocks.proofs.Conditions.{admits_legal, few_in_log}
+use Rattle.hb_clocks.proofs.Conditions.{admits_legal, few_in_log, events_within}
 use Rattle.section_sum.specs.Sums.{IsAlone, noted_of}
 use Rattle.event_core.specs.Count.{events_of}
 use Rattle.event_core.proofs.Counting.{events_grow, grown_length}
@@ -148,6 +148,18 @@ few_closed limits log e p most w st l told =
     let within : length (log ++ e ∷ []) ≤ limits.events = log_within limits (log ++ e ∷ []) w in
     omega arith
 
+-- the thread's clock counts no more than the events before this one
+few_counts : (limits : Limits) (log : List Event) (e : Event) (p : Parts) → limits.events ≤ 4294967296
+    → WellFormed limits (log ++ e ∷ []) → StandsFor log p → (u : ℕ)
+    → (hb_of p).hb.thread e.thread.0 u < 4294967296
+few_counts limits log e p most w st u =
+    let other : ThreadId = record { 0 = u } in
+    let counted = (st.hb.hb.thread e.thread other).within in
+    let events = events_within log other in
+    let grown : length (log ++ e ∷ []) ≡ length log + 1 = grown_length log e in
+    let within : length (log ++ e ∷ []) ≤ limits.events = log_within limits (log ++ e ∷ []) w in
+    omega arith
+
 pub fits_where_legal : FitsWhereLegal
 fits_where_legal limits log e p bounds w st little =
     let front : WellFormed limits log = well_formed_front limits log (e ∷ []) w in
@@ -162,6 +174,7 @@ fits_where_legal limits log e p bounds w st little =
       own_grows = own_grows limits log e (state_of p) w st.strict;
       alone = alone limits log p e.thread front st;
       held = λ l. held l;
+      few_counts = few_counts limits log e p most w st;
       few_closed = few_closed limits log e p most w st;
       cursors = st.found.counted;
       joins = little.joins;

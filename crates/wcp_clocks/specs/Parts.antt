@@ -106,6 +106,8 @@ pub record Fits (e : Event) (p : Parts) : Type 0 where
   pub own_grows : (u : ℕ) → own_of (state_of p) u ≤ own_of (after e (state_of p)) u
   -- no other thread has an access in an open section on a lock that the thread holds
   pub alone : IsAlone p.sums e.thread.0 (list_at p.held e.thread.0).locks
+  -- before its thread's event it counts fewer events than a log may have
+  pub few_counts : (u : ℕ) → (hb_of p).hb.thread e.thread.0 u < 4294967296
   -- a section that is closed has a number
   pub few_closed : (l : LockId) → turn e (state_of p) ≡ Closes l
       → length (closed_of p.queues l.0) + 1 < 4294967296

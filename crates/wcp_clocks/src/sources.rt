@@ -48,8 +48,8 @@ fn take_under(
     let mut taken = false;
     for number in sums.sources(thread, lock, var, kind) {
         let section = queues.section(lock, number);
-        if !rows.counts(thread, section.by, section.release) {
-            rows.take_release(thread, section.release, work);
+        if !rows.counts(thread, section.by, section.own) {
+            rows.take_release(thread, section.by, section.before, work);
             taken = true;
         }
     }

@@ -1,7 +1,7 @@
 //! The clocks of the strict relation: a row for each thread and each lock, and beside each thread's
 //! row the clock that counts program order too.
 ghost use Rattle.std.specs.Prelude.{◌≡◌, ◌≢◌, ℕ, ◌+◌, ◌*◌, ◌<◌, ◌≤◌, ◌^◌, ◌↔◌, length, IfOk, OnOk, IsTrue};
-ghost use Rattle.std.specs.Prelude.{◌&&◌, nat_lt, nat_le};
+ghost use Rattle.std.specs.Prelude.{nat_le};
 ghost use Rattle.event_core.specs.Rows.{join, bump, with_row, no_rows, no_clock};
 ghost use Rattle.hb_clocks.specs.Counts.{counts_of};
 ghost use Rattle.hb_clocks.specs.State.{HbState};
@@ -11,7 +11,7 @@ ghost use Rattle.wcp_clocks.specs.StrictRows.{SameClocks};
 
 use event_core::{LockId, OutOfMemory, ThreadId};
 use hb_clocks::rows::{
-    bump_row, copy_row, copy_rows, is_made, join_row, join_row_counts, join_rows, make_row, row_or,
+    bump_row, copy_row, copy_rows, is_made, join_row, join_row_release, join_rows, make_row, row_or,
 };
 use hb_clocks::{Clock, HbClocks, Work};
 use std::alloc::Global;
@@ -124,28 +124,36 @@ impl StrictRows {
         row_or(&self.below, thread.0 as usize, &self.zeros)
     }
 
-    // Whether the thread's strict clock counts the release, which is by the other thread.
-    pub(crate) fn counts(&self, thread: ThreadId, by: ThreadId, release: &[u64]) -> bool
-        ensures { result ≡ (nat_lt by.0 self.now.width
-            && nat_le (counts_of release.now by.0) ((strict_of self.now).thread thread.0 by.0)) }
+    // Whether the thread's strict clock counts the release by the other thread, which had so many events
+    // before it.
+    pub(crate) fn counts(&self, thread: ThreadId, by: ThreadId, own: u32) -> bool
+        requires within { by.0 < self.now.width }
+        ensures { result ≡ nat_le (own + 1) ((strict_of self.now).thread thread.0 by.0) }
     {
-        (by.0 as usize) < self.width && is_at_least(self.strict(thread), release, by)
+        own as u64 + 1 <= self.strict(thread).at(by)
     }
 
-    // The thread's strict clock takes the greater numbers of the release. It is one join.
-    pub(crate) fn take_release(&mut self, thread: ThreadId, release: &[u64], work: &mut Work)
+    // The thread's strict clock takes the greater numbers of the release, and counts it. It is one join.
+    pub(crate) fn take_release(
+        &mut self,
+        thread: ThreadId,
+        by: ThreadId,
+        before: &[u32],
+        work: &mut Work,
+    )
         requires room { HasThread self.old thread.0 }
-        requires within { length release.now ≤ self.old.width }
+        requires own { by.0 < length before.now }
+        requires within { length before.now ≤ self.old.width }
         requires few { work.old.joins < 2 ^ 63 }
         ensures threads { (strict_of self.new).thread ≡ with_row thread.0
-            (join ((strict_of self.old).thread thread.0) (counts_of release.now))
+            (join ((strict_of self.old).thread thread.0) (bump by.0 (counts_of before.now)))
             (strict_of self.old).thread }
         ensures locks { (strict_of self.new).lock ≡ (strict_of self.old).lock }
         ensures below { below_of self.new ≡ below_of self.old }
         ensures kept { SameRoom self.old self.new }
         ensures work { work.new ≡ record work.old { joins = work.old.joins + 1 } }
     {
-        join_row_counts(&mut self.threads, thread.0 as usize, release, work);
+        join_row_release(&mut self.threads, thread.0 as usize, by, before, work);
     }
 
     // The thread's strict clock takes the greater numbers of the lock's. It is one join.
@@ -248,15 +256,6 @@ impl StrictRows {
     {
         bump_row(&mut self.below, thread);
     }
-}
-
-// Whether the clock counts as many events of the thread as the release, or more.
-fn is_at_least(clock: &Clock, release: &[u64], thread: ThreadId) -> bool
-    requires within { thread.0 < length clock.now }
-    ensures { result ≡ nat_le (counts_of release.now thread.0) (counts_of clock.now thread.0) }
-{
-    let at = thread.0 as usize;
-    release.len() <= at || release[at] <= clock.at(thread)
 }
 
 // The row becomes the strict clock, and takes the greater numbers of the thread's program order.

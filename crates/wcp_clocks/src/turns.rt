@@ -257,7 +257,7 @@ fn take_closed(
         + number_counted ((strict_of rows.old).thread thread.0) (closed_of queues.old lock.0) + 1 }
 {
     let latest = queues.last_below(thread, lock, rows.strict(thread), work);
-    if let Some(release) = latest {
-        rows.take_release(thread, release, work);
+    if let Some(section) = latest {
+        rows.take_release(thread, section.by, section.before, work);
     }
 }

@@ -8,6 +8,7 @@ use Rattle.hb_clocks.specs.Counts.{counts_of}
 use Rattle.hb_clocks.specs.Work.{Done}
 use Rattle.event_core.specs.declared.events.AccessKind.{AccessKind}
 use Rattle.lock_queues.specs.Queues.{closed_of, opened_of, found_of}
+use Rattle.lock_queues.specs.Sections.{before}
 use Rattle.wcp_clocks.specs.Met.{met_clocks}
 use Rattle.wcp_laws.specs.Step.{hb_row}
 use Rattle.wcp_clocks.specs.Parts.{hb_of, state_of}
@@ -15,6 +16,7 @@ use Rattle.wcp_clocks.proofs.Taking.{room_then}
 use Rattle.wcp_clocks.proofs.OwnClocks.{followed_below}
 use Rattle.wcp_clocks.proofs.TurnWords.{own_happens_before, closed_noted}
 use Rattle.wcp_clocks.proofs.Closing.{closing_clocks, closing_threads, closing_numbers}
+use Rattle.wcp_clocks.proofs.Closing.{before_closing, counts_itself}
 use Rattle.wcp_clocks.proofs.Passing.{own_written, joins_told}
 use Rattle.wcp_clocks.proofs.turns.close.Goals as goal
 
@@ -41,6 +43,24 @@ leave-requires-clause-above c q u has =
     (c.requires.fits.sound.above_closed c.args.lock q (record { 0 = u }) c.requires.turn
     (subst (λ (f : ℕ → List Closed). Has q (f c.args.lock.0))
     c.take_closed.ensures.found.closed has))
+
+pub leave-requires-clause-counted : goal.leave-requires-clause-counted
+leave-requires-clause-counted c =
+    let e = c.args.event.now in
+    let old = hb_of c.args.parts.now in
+    subst (λ (f : ℕ → ℕ). 0 < f e.thread.0)
+    (sym (c.hb-clock.ensures.exact ∙ own_happens_before e old _ c.advance.ensures.exact))
+    (counts_itself e old)
+
+pub leave-requires-clause-few : goal.leave-requires-clause-few
+leave-requires-clause-few c u =
+    let e = c.args.event.now in
+    let old = hb_of c.args.parts.now in
+    subst (λ (f : ℕ → ℕ). before e.thread.0 f u < 4294967296)
+    (sym (c.hb-clock.ensures.exact ∙ own_happens_before e old _ c.advance.ensures.exact))
+    (let same = before_closing e old c.args.lock c.requires.turn u in
+    let few = c.requires.fits.few_counts u in
+    omega arith)
 
 pub returns : goal.returns
 returns c =

@@ -1,12 +1,10 @@
-use Rattle.std.proofs.Common.{◌≡◌, ◌-◌, ◌<◌, length, ap, sym, ◌∙◌, arith, map}
+use Rattle.std.proofs.Common.{◌≡◌, ◌-◌, ◌<◌, length, ap, subst, ◌∙◌, arith, map}
 use Rattle.std.specs.Prelude.{slice_index}
 use Rattle.std.proofs.lemmas.List.{get_or_read}
-use Rattle.event_core.specs.Closed.{Closed}
-use Rattle.hb_clocks.specs.Counts.{counts_of}
 use Rattle.lock_queues.specs.Rooms.{has_room_in}
 use Rattle.lock_queues.specs.Sections.{closed_as, closed_at}
 use Rattle.lock_queues.specs.Queue.{Kept}
-use Rattle.lock_queues.proofs.Counting.{closed_at_is}
+use Rattle.lock_queues.specs.Searched.{IsSection}
 use Rattle.lock_queues.proofs.Keeping.{thread_within}
 use Rattle.lock_queues.proofs.queue.Queue.latest.Goals as goal
 
@@ -17,13 +15,14 @@ index-number-requires c =
     let len = c.self.inside.found.ok.0 in
     omega arith
 
-pub release-requires : goal.release-requires
-release-requires c =
+pub section-requires : goal.section-requires
+section-requires c =
     let same = ap (λ (k : Kept). has_room_in k.rooms c.args.thread.0) c.self.view_is in
     let lt = thread_within c.args.thread.0 c.self.invariant (same ∙ c.requires.room) in
     let is = get_or_read c.self.inside.found.items c.args.thread.0 _ lt c.index-number.ensures 0 in
     let le = c.self.invariant.within c.args.thread.0 in
     let some : 0 < c.index-number.result.now = omega (arith, c.if-number-eq0.false) in
+    let closed = ap (λ (k : Kept). length k.closed) c.self.view_is in
     record { within = omega arith }
 
 pub returns : goal.returns
@@ -34,17 +33,9 @@ returns c =
     = get_or_read c.self.inside.found.items c.args.thread.0 _ lt c.index-number.ensures 0 in
     let is : c.index-number.result.now ≡ slice_index c.args.self.now.found c.args.thread.0
     = here ∙ ap (λ (k : Kept). slice_index k.found c.args.thread.0) c.self.view_is in
-    let some : 0 < c.index-number.result.now = omega (arith, c.if-number-eq0.false) in
-    let le = c.self.invariant.within c.args.thread.0 in
-    let last = c.index-number.result.now - 1 in
-    let within : last < length c.self.inside.closed.sections = omega arith in
-    let wide = c.self.invariant.wide last within in
-    let long = ap length c.release.ensures in
-    let width = ap (λ (k : Kept). k.width) c.self.view_is in (
+    let some : 0 < c.index-number.result.now = omega (arith, c.if-number-eq0.false) in (
       omega arith,
-      ap counts_of c.release.ensures
-          ∙ ap (λ (q : Closed). q.release) (sym (closed_at_is c.self.inside.closed.sections last))
-          ∙ ap (λ (k : Kept). (closed_at (map closed_as k.closed) last).release) c.self.view_is
-          ∙ ap (λ n. (closed_at (map closed_as c.args.self.now.closed) (n - 1)).release) is,
-      omega arith,
+      subst (λ n. IsSection c.section.result.by.0 c.section.result.own c.section.result.before.now
+          c.args.self.now.width
+          (closed_at (map closed_as c.args.self.now.closed) (n - 1))) is c.section.ensures,
     )

@@ -1,16 +1,18 @@
-use Rattle.std.proofs.Common.{◌≡◌, ℕ, ◌++◌, ◌∷◌, [], false, ap, sym, subst, ◌∙◌, arith, List, map}
+use Rattle.std.proofs.Common.{◌≡◌, ℕ, ◌<◌, ◌++◌, ◌∷◌, [], false, ap, sym, subst, ◌∙◌, arith, List, length}
+use Rattle.std.proofs.Common.{map}
 use Rattle.std.proofs.lemmas.List.{map_push}
 use Rattle.std.specs.List.{remove}
 use Rattle.event_core.specs.Closed.{Closed}
 use Rattle.event_core.specs.Rows.{with_row}
 use Rattle.hb_clocks.specs.Counts.{counts_of}
 use Rattle.lock_queues.specs.declared.rooms.Room.{Room}
-use Rattle.lock_queues.specs.Sections.{Section, closed_as}
+use Rattle.lock_queues.specs.Sections.{Section, closed_as, before}
 use Rattle.lock_queues.specs.Rooms.{has_room_in, opened_in, position_of}
 use Rattle.lock_queues.specs.Queue.{Kept, IsKept}
 use Rattle.lock_queues.specs.Searched.{IsAboveAll}
 use Rattle.lock_queues.proofs.Placing.{placed_entered, placed_within, room_read}
 use Rattle.lock_queues.proofs.Keeping.{kept_left}
+use Rattle.lock_queues.proofs.Lowering.{counted_within}
 use Rattle.lock_queues.proofs.Sparing.{spare_one}
 use Rattle.lock_queues.proofs.Changes.{some_opened, mark_of, opened_remove, has_remove}
 use Rattle.lock_queues.proofs.queue.Queue.leave.Goals as goal
@@ -37,11 +39,25 @@ pub push-requires : goal.push-requires
 push-requires c =
     let rooms_is = ap (λ (k : Kept). k.rooms) c.self.view_is in
     let p = placed_entered _ _ _ _ _ rooms_is c.deref.ensures.value c.find-at.ensures c.requires.entered in
+    let room = room_read c.remove-room.result c.self.invariant.own p c.remove-room.ensures.value in
+    let thread : c.unwrap-acquire.result.thread ≡ c.args.thread.0
+    = mark_of c.remove-room.result.opened c.unwrap-acquire.result _ c.unwrap-acquire.ensures room.own
+    ∙ sym room.thread in
     let lt = placed_within p in
     let width = ap (λ (k : Kept). k.width) c.self.view_is in
     let wide = c.requires.width in
     let within = c.counts.ensures.within in
-    record { spare = spare_one _ _ _ _ _ c.self.invariant.spare (omega arith) (omega arith) }
+    let counted : 0 < counts_of c.counts.result.now c.unwrap-acquire.result.thread
+    = subst (λ t. 0 < counts_of c.counts.result.now t) (sym thread)
+    (subst (λ (f : ℕ → ℕ). 0 < f c.args.thread.0) (sym c.counts.ensures.counts) c.requires.counted) in
+    record {
+      spare = spare_one _ _ _ _ _ c.self.invariant.spare (omega arith) (omega arith);
+      own = counted_within c.counts.result.now c.unwrap-acquire.result.thread counted;
+      counted = counted;
+      few = subst (λ t. (u : ℕ) → before t (counts_of c.counts.result.now) u < 4294967296) (sym thread)
+          (subst (λ (f : ℕ → ℕ). (u : ℕ) → before c.args.thread.0 f u < 4294967296)
+          (sym c.counts.ensures.counts) c.requires.few);
+    }
 
 pub invariant_of-self : goal.invariant_of-self
 invariant_of-self c =
@@ -50,9 +66,10 @@ invariant_of-self c =
     let p = placed_entered _ _ _ _ _ rooms_is c.deref.ensures.value c.find-at.ensures c.requires.entered in
     let room = room_read c.remove-room.result c.self.invariant.own p c.remove-room.ensures.value in
     let marked = mark_of c.remove-room.result.opened x.acquire _ c.unwrap-acquire.ensures room.own in
-    let thread = room.thread in
-    let within = room.within in
-    let few = c.self.invariant.threads in
+    let thread : x.acquire.thread ≡ c.args.thread.0 = marked ∙ sym room.thread in
+    let own : x.acquire.thread < length x.release
+    = counted_within x.release x.acquire.thread (subst (λ t. 0 < counts_of x.release t) (sym thread)
+    (subst (λ (f : ℕ → ℕ). 0 < f c.args.thread.0) (sym c.counts.ensures.counts) c.requires.counted)) in
     let width = ap (λ (k : Kept). k.width) c.self.view_is in
     let wide = c.requires.width in
     let used = c.counts.ensures.within in
@@ -65,7 +82,7 @@ invariant_of-self c =
     = λ ss rs. IsKept c.self.inside.width ss rs c.self.inside.found.items c.push.new.self.memory in
     subst (λ rs. Keeps c.push.new.self.sections rs) (sym c.remove-room.ensures.items)
     (subst (λ ss. Keeps ss (remove c.self.inside.rooms.items c.find-at.result)) (sym c.push.ensures.sections)
-    (kept_left x c.push.new.self.memory c.self.invariant p (omega arith) (omega arith) above (record {
+    (kept_left x c.push.new.self.memory c.self.invariant p (omega arith) own above (record {
       numbers = c.push.ensures.numbers;
       most_sections = c.push.ensures.most_sections;
       most_numbers = c.push.ensures.most_numbers;

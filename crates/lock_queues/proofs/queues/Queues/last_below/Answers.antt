@@ -1,11 +1,13 @@
 use Rattle.std.proofs.Common.{◌≡◌, ℕ, ◌-◌, ◌<◌, ◌≤◌, length, ap, refl, sym, subst, ◌∙◌}
-use Rattle.std.proofs.Common.{List, Option, None, Bor}
+use Rattle.std.proofs.Common.{List, Option, None}
 use Rattle.std.specs.Prelude.{MatchOption, IsSomeAnd}
 use Rattle.event_core.specs.Closed.{Closed, number_counted, below_closed}
-use Rattle.event_core.specs.Rows.{with_row, no_clock}
+use Rattle.event_core.specs.Rows.{with_row, bump, no_clock}
 use Rattle.event_core.proofs.Growing.{row_same}
 use Rattle.hb_clocks.specs.Counts.{counts_of}
 use Rattle.lock_queues.specs.Sections.{closed_at, latest_counted}
+use Rattle.lock_queues.specs.Searched.{IsSection}
+use Rattle.lock_queues.specs.declared.sections.ClosedSection.{ClosedSection}
 use Rattle.lock_queues.specs.Queues.{Tables, closed_of, found_of}
 use Rattle.lock_queues.proofs.Answering.{match_option, if_some}
 use Rattle.lock_queues.proofs.queues.Queues.last_below.Goals as goal
@@ -31,8 +33,8 @@ returns c =
     ∙ row_same t n (found_of old l) in
     let closed : closed_of new l ≡ qs = ap (λ (f : ℕ → List Closed). f l) c.seek.ensures.found.closed in
     let wide : new.limits.threads ≡ threads = ap (λ b. b.threads) c.seek.ensures.found.limits in
-    let Reads : ℕ → List Closed → ℕ → Bor (List ℕ) → Type 0
-    = λ k xs w r. (0 < k) × (counts_of r.now ≡ (closed_at xs (k - 1)).release) × (length r.now ≤ w) in
+    let Reads : ℕ → List Closed → ℕ → ClosedSection → Type 0
+    = λ k xs w r. (0 < k) × IsSection r.by.0 r.own r.before.now w (closed_at xs (k - 1)) in
     let known : MatchOption c.latest.result (n ≡ 0) (Reads n qs threads)
     = subst (λ (w : ℕ). MatchOption c.latest.result (n ≡ 0) (Reads n qs w)) wide
     (subst (λ (xs : List Closed). MatchOption c.latest.result (n ≡ 0) (Reads n xs new.limits.threads))
@@ -46,17 +48,22 @@ returns c =
         number = answer (n ≡ 0) (Reads n qs threads) (λ _. 0 < n) (λ z. z) (λ r h. h.0) known;
         latest =
             answer (latest_counted clock qs ≡ None) (Reads n qs threads)
-            (λ r. IsSomeAnd (latest_counted clock qs) (λ q. q.release ≡ counts_of r.now))
+            (λ r. IsSomeAnd (latest_counted clock qs) (λ q. q.release ≡ bump r.by.0 (counts_of r.before.now)))
             (λ z. before.none_latest z)
-            (λ r h. subst (λ (o : Option Closed). IsSomeAnd o (λ q. q.release ≡ counts_of r.now))
-            (sym (before.latest h.0)) (sym h.1))
+            (λ r h. subst
+            (λ (o : Option Closed). IsSomeAnd o (λ q. q.release ≡ bump r.by.0 (counts_of r.before.now)))
+            (sym (before.latest h.0)) (sym h.1.release))
             known;
         below =
             answer (below_closed clock qs ≡ no_clock) (Reads n qs threads)
-            (λ r. counts_of r.now ≡ below_closed clock qs) (λ z. before.none_below z)
-            (λ r h. h.1 ∙ sym (before.below h.0)) known;
-        width = if_some c.latest.result (n ≡ 0) (Reads n qs threads) (λ r. length r.now ≤ threads)
-            (λ r h. h.2) known;
+            (λ r. bump r.by.0 (counts_of r.before.now) ≡ below_closed clock qs) (λ z. before.none_below z)
+            (λ r h. h.1.release ∙ sym (before.below h.0)) known;
+        within = if_some c.latest.result (n ≡ 0) (Reads n qs threads) (λ r. r.by.0 < length r.before.now)
+            (λ r h. h.1.counted) known;
+        own = if_some c.latest.result (n ≡ 0) (Reads n qs threads)
+            (λ r. r.own ≡ counts_of r.before.now r.by.0) (λ r h. h.1.number) known;
+        width = if_some c.latest.result (n ≡ 0) (Reads n qs threads) (λ r. length r.before.now ≤ threads)
+            (λ r h. h.1.within) known;
         comparisons = c.seek.ensures.comparisons;
         joins = c.seek.ensures.joins;
         after = tt;

@@ -16,14 +16,14 @@ found c = record {
 }
 
 abbrev left : goal.After-self-1 → StrictTables
-left c = record (found c) { thread = (with_items c.self.inside.threads c.join_row_counts.new.rows).items }
+left c = record (found c) { thread = (with_items c.self.inside.threads c.join_row_release.new.rows).items }
 
 same : (c : goal.After-self-1) → SameWidths (found c) (left c)
 same c = record {
   width = refl;
-  thread = ap widths_of (with_items_is c.self.inside.threads c.join_row_counts.new.rows
-      (c.join_row_counts.auto.rows ∙ c.deref_mut.ensures.len))
-      ∙ c.join_row_counts.ensures.widths ∙ ap widths_of c.deref_mut.ensures.value;
+  thread = ap widths_of (with_items_is c.self.inside.threads c.join_row_release.new.rows
+      (c.join_row_release.auto.rows ∙ c.deref_mut.ensures.len))
+      ∙ c.join_row_release.ensures.widths ∙ ap widths_of c.deref_mut.ensures.value;
   below = refl;
   lock = refl;
 }

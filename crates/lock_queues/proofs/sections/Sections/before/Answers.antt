@@ -1,7 +1,7 @@
-use Rattle.std.proofs.Common.{◌<◌, length, take, drop, ◌-◌, ap, ◌∙◌, arith}
-use Rattle.lock_queues.specs.Sections.{Packed, section_at}
+use Rattle.std.proofs.Common.{◌≡◌, ◌<◌, length, take, drop, ◌-◌, ap, sym, subst, ◌∙◌, arith}
+use Rattle.lock_queues.specs.Sections.{Packed, section_at, sections_from, raised}
 use Rattle.lock_queues.proofs.Packing.{length_from, range_read}
-use Rattle.lock_queues.proofs.sections.Sections.release.Goals as goal
+use Rattle.lock_queues.proofs.sections.Sections.before.Goals as goal
 
 pub find_start-start-requires : goal.find_start-start-requires
 find_start-start-requires c =
@@ -28,11 +28,19 @@ returns c =
     let within = c.requires.within in
     let lt : c.args.place < length es = omega arith in
     let read
-    = range_read es _ ns c.args.place _ _ c.self.invariant lt c.deref.ensures.value c.find_start-start.ensures
+    = range_read es _ ns c.args.place _ _ c.self.invariant.ranges lt c.deref.ensures.value
+    c.find_start-start.ensures
     c.index.ensures in
-    ap (λ xs. take (c.index.result.now.ends - c.find_start-start.result) (drop c.find_start-start.result xs))
-    c.deref-2.ensures.value
-    ∙ read.numbers ∙ ap (λ (p : Packed). (section_at p.sections c.args.place).release) c.self.view_is
+    let start = c.find_start-start.result in
+    let ends = c.index.result.now.ends in
+    subst (λ (p : Packed). (section_at p.sections c.args.place).release
+    ≡ raised (section_at p.sections c.args.place).acquire.thread
+    (take (ends - start) (drop start c.deref-2.result.now)))
+    c.self.view_is
+    (read.numbers
+    ∙ ap (λ xs. raised (section_at (sections_from 0 es ns) c.args.place).acquire.thread
+    (take (ends - start) (drop start xs)))
+    (sym c.deref-2.ensures.value))
 
 pub offset_bounds-deref-start : goal.offset_bounds-deref-start
 offset_bounds-deref-start c =
@@ -43,7 +51,8 @@ offset_bounds-deref-start c =
     let within = c.requires.within in
     let lt : c.args.place < length es = omega arith in
     let read
-    = range_read es _ ns c.args.place _ _ c.self.invariant lt c.deref.ensures.value c.find_start-start.ensures
+    = range_read es _ ns c.args.place _ _ c.self.invariant.ranges lt c.deref.ensures.value
+    c.find_start-start.ensures
     c.index.ensures in
     let low = read.within in
     let high = read.most in
@@ -59,7 +68,8 @@ slice_bounds-result-count c =
     let within = c.requires.within in
     let lt : c.args.place < length es = omega arith in
     let read
-    = range_read es _ ns c.args.place _ _ c.self.invariant lt c.deref.ensures.value c.find_start-start.ensures
+    = range_read es _ ns c.args.place _ _ c.self.invariant.ranges lt c.deref.ensures.value
+    c.find_start-start.ensures
     c.index.ensures in
     let low = read.within in
     let high = read.most in
@@ -75,7 +85,8 @@ slice_bounds-result-start c =
     let within = c.requires.within in
     let lt : c.args.place < length es = omega arith in
     let read
-    = range_read es _ ns c.args.place _ _ c.self.invariant lt c.deref.ensures.value c.find_start-start.ensures
+    = range_read es _ ns c.args.place _ _ c.self.invariant.ranges lt c.deref.ensures.value
+    c.find_start-start.ensures
     c.index.ensures in
     let low = read.within in
     let high = read.most in
@@ -91,7 +102,8 @@ slice_bounds-result-end c =
     let within = c.requires.within in
     let lt : c.args.place < length es = omega arith in
     let read
-    = range_read es _ ns c.args.place _ _ c.self.invariant lt c.deref.ensures.value c.find_start-start.ensures
+    = range_read es _ ns c.args.place _ _ c.self.invariant.ranges lt c.deref.ensures.value
+    c.find_start-start.ensures
     c.index.ensures in
     let low = read.within in
     let high = read.most in

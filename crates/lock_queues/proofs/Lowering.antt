@@ -1,0 +1,75 @@
+-- The numbers of a release's clock just before the release, and with it again.
+use Rattle.std.proofs.Common.{◌≡◌, ℕ, suc, ◌+◌, ◌-◌, ◌<◌, ◌≤◌, ◌⊎◌, List, [], ◌∷◌, ◌++◌, length, set, take}
+use Rattle.std.proofs.Common.{get_or, cond, nat_eq, sym, ap, subst, ◌∙◌, arith, length-set, append_assoc}
+use Rattle.std.proofs.Math.Seq.{take-suc, take-length}
+use Rattle.std.proofs.lemmas.Bool.{cases_lt, cases_eq}
+use Rattle.std.proofs.lemmas.List.{get_or_past, get_or-set_same, set-set, set-get_or}
+use mathlib.Core.Logic.{inl, inr}
+use Rattle.event_core.specs.Rows.{bump, with_row}
+use Rattle.event_core.proofs.Growing.{row_same, row_other}
+use Rattle.hb_clocks.specs.Counts.{counts_of}
+use Rattle.hb_clocks.proofs.Releases.{bump_same, bump_other}
+use Rattle.lock_queues.specs.Sections.{before, lowered, raised}
+use Rattle.lock_queues.proofs.Changes.{found_set}
+
+-- a thread that is counted has a number
+pub counted_within : (ns : List ℕ) (t : ℕ) → 0 < counts_of ns t → t < length ns
+counted_within ns t some = go (cases_lt t (length ns))
+  where
+    go : (t < length ns) ⊎ (length ns ≤ t) → t < length ns
+    go (inl lt) = lt
+    go (inr le) = let none : counts_of ns t ≡ 0 = get_or_past ns t 0 le in absurd (omega arith)
+
+pub lowered_at : (t : ℕ) (ns : List ℕ) → t < length ns → counts_of (lowered t ns) ≡ before t (counts_of ns)
+lowered_at t ns lt = found_set ns t (counts_of ns t - 1) lt
+
+-- a clock with one event more, just before that event
+pub before_bumped : (t : ℕ) (f : ℕ → ℕ) (u : ℕ) → before t (bump t f) u ≡ f u
+before_bumped t f u = go (cases_eq u t)
+  where
+    go : (u ≡ t) ⊎ (u ≡ t → ⊥) → before t (bump t f) u ≡ f u
+    go (inl e) =
+        subst (λ v. before t (bump t f) v ≡ f v) (sym e)
+        (let one : bump t f t ≡ f t + 1 = bump_same t f in
+        let own : before t (bump t f) t ≡ bump t f t - 1 = row_same t (bump t f t - 1) (bump t f) in
+        omega arith)
+    go (inr n) = row_other t (bump t f t - 1) (bump t f) u n ∙ bump_other t f u n
+
+-- the release counts as one more event of its thread
+row_bumped : (t : ℕ) (f : ℕ → ℕ) → with_row t (f t + 1) f ≡ bump t f
+row_bumped t f i u = go (cases_eq u t) i
+  where
+    go : (u ≡ t) ⊎ (u ≡ t → ⊥) → with_row t (f t + 1) f u ≡ bump t f u
+    go (inl e) = ap (λ v. cond (nat_eq u t) (f v + 1) (f u)) (sym e)
+    go (inr n) = row_other t (f t + 1) f u n ∙ sym (row_other t (f u + 1) f u n)
+
+pub raised_at : (t : ℕ) (ns : List ℕ) → t < length ns → counts_of (raised t ns) ≡ bump t (counts_of ns)
+raised_at t ns lt = found_set ns t (counts_of ns t + 1) lt ∙ row_bumped t (counts_of ns)
+
+pub raised_lowered : (t : ℕ) (ns : List ℕ) → 0 < counts_of ns t → raised t (lowered t ns) ≡ ns
+raised_lowered t ns some =
+    let low : counts_of (lowered t ns) t ≡ counts_of ns t - 1
+    = get_or-set_same ns t (counts_of ns t - 1) 0 (counted_within ns t some) in
+    let own : counts_of (lowered t ns) t + 1 ≡ counts_of ns t = omega arith in
+    set-set ns t (counts_of ns t - 1) (counts_of (lowered t ns) t + 1) ∙ ap (set ns t) own
+    ∙ set-get_or ns t 0
+
+-- a number joins those that have
+pub joined_next : (t u x : ℕ) (ns old new : List ℕ) → t < length ns → u < length ns
+    → x ≡ before t (counts_of ns) u → new ≡ (old ++ take u (lowered t ns)) ++ x ∷ []
+    → new ≡ old ++ take (u + 1) (lowered t ns)
+joined_next t u x ns old new own lt is new_is =
+    let len : length (lowered t ns) ≡ length ns = length-set ns t (counts_of ns t - 1) in
+    let next : suc u ≡ u + 1 = omega arith in
+    let number : get_or (lowered t ns) u 0 ≡ x = ap (λ f. f u) (lowered_at t ns own) ∙ sym is in
+    new_is ∙ append_assoc old (take u (lowered t ns)) (x ∷ [])
+    ∙ ap (λ n. old ++ (take u (lowered t ns) ++ n ∷ [])) (sym number)
+    ∙ ap (λ xs. old ++ xs) (sym (take-suc (lowered t ns) u 0 (omega arith)))
+    ∙ ap (λ k. old ++ take k (lowered t ns)) next
+
+-- and in the end all have joined
+pub joined_all : (t u : ℕ) (ns old new : List ℕ) → u ≡ length ns → new ≡ old ++ take u (lowered t ns)
+    → new ≡ old ++ lowered t ns
+joined_all t u ns old new all is =
+    let len : u ≡ length (lowered t ns) = all ∙ sym (length-set ns t (counts_of ns t - 1)) in
+    is ∙ ap (λ n. old ++ take n (lowered t ns)) len ∙ ap (λ xs. old ++ xs) (take-length (lowered t ns))
