@@ -17,12 +17,8 @@ pub reports_text : (m : Limits) (left old new : Option (List ℕ)) (status : ℕ
 reports_text m left old new status r = record {
   names = r.script.names;
   log = r.ran.log;
-  verdicts = r.ran.reports.verdicts;
   well_formed = r.ran.well_formed;
-  judged = r.ran.reports.judged;
-  named = r.ran.reports.named;
-  written = r.ran.reports.written;
-  ends = r.ran.reports.ends;
+  reports = r.ran.reports;
 }
 
 -- the text has no other fault than the one that is told

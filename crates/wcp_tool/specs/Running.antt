@@ -8,11 +8,8 @@ use Rattle.event_core.specs.declared.bounds.Limits.{Limits}
 use Rattle.event_core.specs.declared.bounds.Roots.{Roots}
 use Rattle.event_core.specs.declared.bounds.Roots.TheVariants.{Free, OnlyMain}
 use Rattle.event_core.specs.declared.events.Event.{Event}
-use Rattle.event_core.specs.declared.replies.Verdict.{Verdict}
 use Rattle.event_core.specs.Refusal.{WellFormed}
 use Rattle.rapid_text.specs.Tables.{Tables}
-use Rattle.seq_monitor.specs.Monitored.{AreVerdicts}
-use Rattle.trace_report.specs.Reports.{AreNamed, report_of, summary_of}
 use Rattle.clap.specs.Words.{Text}
 use Rattle.trace_report.specs.declared.faults.ReplayFault.{ReplayFault}
 use Rattle.trace_report.specs.declared.summary.Summary.{Summary}
@@ -23,7 +20,8 @@ use Rattle.wcp_tool.specs.declared.endings.Ending.{Ending}
 use Rattle.wcp_tool.specs.declared.endings.Ending.TheVariants.{Done, WrongUsage, WriteFault, OutOfMemory}
 use Rattle.wcp_tool.specs.Checked.{checked, finding}
 use Rattle.wcp_tool.specs.CommandLine.{Request, asked, check, faults_of, is_answer, is_mistake, replay, run}
-use Rattle.wcp_tool.specs.Endings.{ending_for, replay_ending, status_of, summary_ending}
+use Rattle.wcp_tool.specs.Endings.{ending_for, replay_ending, status_of}
+use Rattle.wcp_tool.specs.ScriptRuns.{ReportsLog}
 
 -- ---- a run of a command
 
@@ -54,12 +52,8 @@ pub record Replays (m : Limits) (text : List ℕ) (old new : Option (List ℕ)) 
 pub record Reports (m : Limits) (old new : Option (List ℕ)) (status : ℕ) : Type 0 where
   pub names : Tables
   pub log : List Event
-  pub verdicts : List Verdict
   pub well_formed : WellFormed m log
-  pub judged : AreVerdicts log verdicts
-  pub named : AreNamed names log
-  pub written : Appends old new (report_of names log verdicts)
-  pub ends : status ≡ status_of (summary_ending (summary_of names log verdicts))
+  pub reports : ReportsLog names log old new status
 
 -- what is done for a request with so many threads, where the reader had this text left
 abbrev pub Performs : Request → ℕ → Option (List ℕ) → Option (List ℕ) → Option (List ℕ) → ℕ → Type 0

@@ -169,6 +169,7 @@ pub fn tool<
     // It performs what the words ask for on the whole text that the reader has left, or answers them.
     ensures runs { Runs (map S.text words.now) (I.left reader.old) (O.written writer.old)
         (O.written writer.new) (I.failed reader.new) (O.failed writer.new) result }
+    ensures range { result ≤ 6 }
     // Nothing is written to standard output where the words are wrong or memory ran out.
     ensures quiet { (result ≡ 2) ⊎ (result ≡ 5) → writer.new ≡ writer.old }
     // Status 4 tells that the writer failed or took no byte, or else that the input was not read to its end,
@@ -214,6 +215,7 @@ pub fn program<
     ensures runs { ((words : List Text) × Runs words (I.left reader.old) (O.written writer.old)
         (O.written writer.new) (I.failed reader.new) (O.failed writer.new) result)
         ⊎ ((result ≡ 2) ⊎ (result ≡ 5)) }
+    ensures range { result ≤ 6 }
     ensures quiet { (result ≡ 2) ⊎ (result ≡ 5) → writer.new ≡ writer.old }
     ensures devices { result ≡ 4 → (O.failed writer.new ≡ true) ⊎ (writer.new ≡ writer.old) }
     ensures read { result ≡ 0 → I.failed reader.new ≡ false }
