@@ -16,8 +16,8 @@ CountsEarlier c qs =
 abbrev pub IsAboveAll : (ℕ → ℕ) → List Closed → Type 0
 IsAboveAll c qs = (q : Closed) (u : ℕ) → Has q qs → q.release u ≤ c u
 
--- what is told of a closed section: its thread, the numbers of no more threads than there are from just before
--- its release, which is one more event of that thread, and that thread's number once more
+-- what is told of a closed section: its thread, the numbers from just before its release, of no more threads
+-- than there are, and that thread's number once more. The release is one more event of its thread.
 pub record IsSection (by own : ℕ) (before : List ℕ) (width : ℕ) (q : Closed) : Type 0 where
   pub thread : by ≡ q.thread
   pub counted : by < length before

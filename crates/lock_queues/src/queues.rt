@@ -147,7 +147,8 @@ impl Queues {
         ensures latest { MatchOption result
             (latest_counted (counts_of clock.now) (closed_of self.old lock.0) ≡ None)
             (λ answer. IsSomeAnd (latest_counted (counts_of clock.now) (closed_of self.old lock.0))
-            (λ section. section.release ≡ bump answer.by.0 (counts_of answer.before.now))) }
+            (λ section. (section.thread ≡ answer.by.0)
+            × (section.release ≡ bump answer.by.0 (counts_of answer.before.now)))) }
         ensures below { MatchOption result
             (below_closed (counts_of clock.now) (closed_of self.old lock.0) ≡ no_clock)
             (λ answer. bump answer.by.0 (counts_of answer.before.now)

@@ -26,7 +26,7 @@ use Rattle.wcp_clocks.specs.Parts.{hb_of, state_of, Fits, HasNamed, KeepsReady}
 use Rattle.wcp_clocks.specs.Stepping.{IsStepBy, strict_clock, below_clock}
 use Rattle.wcp_clocks.proofs.Taking.{room_then}
 use Rattle.wcp_clocks.specs.Met.{met_clocks, met_under, AreNumbers}
-use Rattle.wcp_clocks.proofs.TurnWords.{same_sources, same_noted, same_clocks, same_threads, same_numbers}
+use Rattle.wcp_clocks.proofs.TurnWords.{same_sources, same_noted, same_clocks, same_numbers}
 
 module _ (e : Event) (x : VarId) (k : AccessKind) (old : Parts) (told : turn e (state_of old) ≡ Accesses x k)
     (fits : Fits e old) where
@@ -94,7 +94,6 @@ module _ (e : Event) (x : VarId) (k : AccessKind) (old : Parts) (told : turn e (
             (λ l. subst (λ ls. Has l.0 (numbers_of ls) ↔ (0 < (hb_of old).depth t l.0))
             (sym of) (fits.held l)) noted;
         others = same_clocks old.sums sums (closed_of old.queues) others;
-        by = same_threads old.sums sums (closed_of old.queues) others;
         numbers = same_numbers old.sums sums (closed_of old.queues) others numbers;
         closed = refl;
         found = refl;

@@ -18,7 +18,7 @@ use Rattle.event_core.proofs.Growing.{row_same, row_other}
 use Rattle.lock_queues.specs.Sections.{closed_as, no_section, before}
 use Rattle.lock_queues.proofs.Lowering.{before_bumped}
 use Rattle.section_sum.specs.Sums.{Sums, noted_of, others_of}
-use Rattle.wcp_clocks.specs.Met.{release_at, thread_at, met_clocks, met_threads, AreNumbers}
+use Rattle.wcp_clocks.specs.Met.{release_at, met_clocks, AreNumbers}
 
 -- just before a closing release its thread has the clock that it had
 pub before_closing : (e : Event) (s : HbState) (l : LockId) → turn e s ≡ Closes l → (u : ℕ)
@@ -44,17 +44,8 @@ earlier_release qs q zero le = refl
 earlier_release qs q (suc n) le =
     ap (λ (c : Closed). c.release) (get_or-append qs (q ∷ []) (closed_as no_section) n (omega arith))
 
-earlier_thread : (qs : List Closed) (q : Closed) (n : ℕ) → n ≤ length qs
-    → thread_at (qs ++ q ∷ []) n ≡ thread_at qs n
-earlier_thread qs q zero le = refl
-earlier_thread qs q (suc n) le =
-    ap (λ (c : Closed). c.thread) (get_or-append qs (q ∷ []) (closed_as no_section) n (omega arith))
-
 last_release : (qs : List Closed) (q : Closed) → release_at (qs ++ q ∷ []) (suc (length qs)) ≡ q.release
 last_release qs q = ap (λ (c : Closed). c.release) (get_or-append_seam qs q [] (closed_as no_section))
-
-last_thread : (qs : List Closed) (q : Closed) → thread_at (qs ++ q ∷ []) (suc (length qs)) ≡ q.thread
-last_thread qs q = ap (λ (c : Closed). c.thread) (get_or-append_seam qs q [] (closed_as no_section))
 
 -- the thread's section on the lock m is closed as q, and has the number after those before it
 module _ (old new : Sums) (t m number : ℕ) (q : Closed) (closed after : ℕ → List Closed)
@@ -135,26 +126,3 @@ module _ (old new : Sums) (t m number : ℕ) (q : Closed) (closed after : ℕ �
       go (inr n) =
           ap₂ (λ qs n. release_at qs n) (elsewhere l n) (is_old l x k v (unlike l x k v n))
           ∙ sym (ap (Joined l) (unlike l x k v n))
-
-  pub closing_threads : q.thread ≡ t
-      → met_threads new after ≡ (λ l x k v. cond (newest l x k v) t (met_threads old closed l x k v))
-  closing_threads is i l x k v = go (cases_eq l m) i
-    where
-      Named : ℕ → Bool → ℕ
-      Named l b = cond b t (met_threads old closed l x k v)
-
-      at_lock : (newest m x k v ≡ true) ⊎ (newest m x k v ≡ false)
-          → met_threads new after m x k v ≡ Named m (newest m x k v)
-      at_lock (inl e) =
-          ap₂ (λ qs n. thread_at qs n) here (is_next m x k v e) ∙ last_thread (closed m) q ∙ is
-          ∙ sym (ap (Named m) e)
-      at_lock (inr e) =
-          ap₂ (λ qs n. thread_at qs n) here (is_old m x k v e)
-          ∙ earlier_thread (closed m) q (others_of old m x k v) (are m x k v) ∙ sym (ap (Named m) e)
-
-      go : (l ≡ m) ⊎ (l ≡ m → ⊥) → met_threads new after l x k v ≡ Named l (newest l x k v)
-      go (inl e) = subst (λ a. met_threads new after a x k v ≡ Named a (newest a x k v)) (sym e)
-          (at_lock (cases_Bool (newest m x k v)))
-      go (inr n) =
-          ap₂ (λ qs n. thread_at qs n) (elsewhere l n) (is_old l x k v (unlike l x k v n))
-          ∙ sym (ap (Named l) (unlike l x k v n))

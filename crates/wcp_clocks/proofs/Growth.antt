@@ -24,7 +24,7 @@ use Rattle.wcp_clocks.specs.HeldLists.{list_at, numbers_of, held_of}
 use Rattle.wcp_clocks.specs.StrictRows.{StrictTables, strict_of, below_of, HasThread, HasLock}
 use Rattle.wcp_clocks.specs.StrictRows.{SameClocks, KeepsRoom}
 use Rattle.event_core.specs.Closed.{Closed}
-use Rattle.wcp_clocks.specs.Met.{release_at, thread_at, met_threads}
+use Rattle.wcp_clocks.specs.Met.{release_at}
 use Rattle.wcp_clocks.specs.Whole.{AreWhole}
 use Rattle.wcp_clocks.proofs.Wholeness.{none_whole}
 use Rattle.wcp_clocks.specs.Parts.{hb_of, state_of, HasNamed, KeepsReady, SameLimits, SameNumbers, AreParts}
@@ -76,10 +76,6 @@ grown_numbers old new g = record {
   work = g.work;
 }
 
-grown_threads : (old new : Parts) → HasGrown old new
-    → met_threads new.sums (closed_of new.queues) ≡ met_threads old.sums (closed_of old.queues)
-grown_threads old new g i l v k t = thread_at (g.queues.closed i l) (g.others l v k t i)
-
 pub grown_limits : (old new : Parts) → HasGrown old new → SameLimits old new
 grown_limits old new g = record { width = g.order_width; limits = g.queues.limits }
 
@@ -126,9 +122,7 @@ grown_parts old new g a = record {
       let n = a.numbers l x k t in
       let w = ap (λ (f : ℕ → List Closed). length (f l)) g.queues.closed in
       omega arith);
-  whole = subst (λ s. AreWhole s (met_threads new.sums (closed_of new.queues)))
-      (sym (grown_numbers old new g).state)
-      (subst (AreWhole (state_of old)) (sym (grown_threads old new g)) a.whole);
+  whole = subst AreWhole (sym (grown_numbers old new g).state) a.whole;
   held_thread = λ t l up. g.rows_room.thread t
       (a.held_thread t l (subst (λ (s : HbState). 0 < s.depth t l) g.order up));
   held_lock = λ t l up. g.rows_room.lock l
@@ -252,7 +246,7 @@ are_parts p width hb_width hb rows_width strict below queues others closed no_th
       ∙ ap (λ (r : Rows). join (r.thread t) no_clock) (sym strict)
       ∙ ap (λ (s : HbState). join ((strict_of p.rows).thread t) (s.po t)) (sym hb);
   numbers = λ l x k t. (let e = others l x k t in omega arith);
-  whole = none_whole (state_of p) (met_threads p.sums (closed_of p.queues))
+  whole = none_whole (state_of p)
       (λ l x k t u. ap (λ n. release_at (closed_of p.queues l) n u) (others l x k t))
       (λ t u. ap (λ (r : Rows). r.thread t u) strict) (λ l u. ap (λ (r : Rows). r.lock l u) strict)
       (λ t u. ap (λ (s : HbState). s.hb.thread t u) hb) (λ l u. ap (λ (s : HbState). s.hb.lock l u) hb)

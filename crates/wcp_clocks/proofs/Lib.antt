@@ -10,6 +10,7 @@ pub mod Named
 mod Ordered
 mod OwnClocks
 mod Passing
+pub mod Releasing
 pub mod Replaying
 mod Rows
 mod SourcesCount

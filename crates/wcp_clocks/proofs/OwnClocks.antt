@@ -36,15 +36,13 @@ followed_below e k old rows tables own exact same =
     ap₂ (λ (c : ℕ → ℕ) (f : ℕ → ℕ → ℕ). with_row e.thread.0 c f)
     (ap₂ join own (own_program_order e (hb_of old) (hb_tables.state_of tables) exact)) same
 
--- with one more, where the strict clock is as it was and nothing is brought
-pub counted_below : (e : Event) (k : Turn) (old : Parts) (rows : StrictTables) → turn e (state_of old) ≡ k
+-- one event more makes the clock of the event, where the strict clock is as it was and nothing is brought
+counted_clock : (e : Event) (k : Turn) (old : Parts) (rows : StrictTables) → turn e (state_of old) ≡ k
     → brought k (hb.without_locks (hb_of old).po) ≡ no_clock
     → strict_clock e k old ≡ (strict_of old.rows).thread e.thread.0
     → Fits e old → AreParts old → below_of rows ≡ below_of old.rows
-    → with_row e.thread.0 (bump e.thread.0 (below_of rows e.thread.0)) (below_of rows)
-    ≡ with_row e.thread.0 (below_clock e k old) (below_of old.rows)
-counted_below e k old rows told none own fits parts same =
-    ap₂ (λ (c : ℕ → ℕ) (f : ℕ → ℕ → ℕ). with_row t c f) clock same
+    → bump e.thread.0 (below_of rows e.thread.0) ≡ below_clock e k old
+counted_clock e k old rows told none own fits parts same = clock
   where
     t : ℕ
     t = e.thread.0
@@ -62,3 +60,25 @@ counted_below e k old rows told none own fits parts same =
     clock = ap (λ (c : ℕ → ℕ). bump t c) (ap (λ (f : ℕ → ℕ → ℕ). f t) same ∙ parts.below t)
         ∙ bump_join t s p low
         ∙ ap₂ join (sym own) (sym (plain_row e (hb_of old) k told none))
+
+pub counted_below : (e : Event) (k : Turn) (old : Parts) (rows : StrictTables) → turn e (state_of old) ≡ k
+    → brought k (hb.without_locks (hb_of old).po) ≡ no_clock
+    → strict_clock e k old ≡ (strict_of old.rows).thread e.thread.0
+    → Fits e old → AreParts old → below_of rows ≡ below_of old.rows
+    → with_row e.thread.0 (bump e.thread.0 (below_of rows e.thread.0)) (below_of rows)
+    ≡ with_row e.thread.0 (below_clock e k old) (below_of old.rows)
+counted_below e k old rows told none own fits parts same =
+    ap₂ (λ (c : ℕ → ℕ) (f : ℕ → ℕ → ℕ). with_row e.thread.0 c f)
+    (counted_clock e k old rows told none own fits parts same) same
+
+-- so it is the strict clock with program order
+pub unchanged_clock : (e : Event) (k : Turn) (old : Parts) (rows : StrictTables) (tables : hb_tables.Tables)
+    → turn e (state_of old) ≡ k → brought k (hb.without_locks (hb_of old).po) ≡ no_clock
+    → (strict_of rows).thread e.thread.0 ≡ strict_clock e k old
+    → (strict_of rows).thread ≡ (strict_of old.rows).thread → Fits e old → AreParts old
+    → hb_tables.state_of tables ≡ hb.after e (hb_of old) → below_of rows ≡ below_of old.rows
+    → bump e.thread.0 (below_of rows e.thread.0)
+    ≡ join ((strict_of rows).thread e.thread.0) ((hb_tables.state_of tables).po e.thread.0)
+unchanged_clock e k old rows tables told none own kept fits parts exact same =
+    counted_clock e k old rows told none (sym own ∙ ap (λ (f : ℕ → ℕ → ℕ). f e.thread.0) kept) fits parts same
+    ∙ sym (ap₂ join own (own_program_order e (hb_of old) (hb_tables.state_of tables) exact))

@@ -19,8 +19,7 @@ use Rattle.wcp_clocks.specs.StrictRows.{strict_of, below_of, HasThread, HasLock}
 use Rattle.wcp_clocks.specs.Parts.{hb_of, state_of, found_in, AreParts, IsReady, HasNamed, most_joins}
 use Rattle.wcp_clocks.specs.Parts.{FewComparisons, Fits, IsAccess, KeepsReady}
 use Rattle.lock_queues.specs.Queues.{closed_of}
-use Rattle.wcp_clocks.specs.Met.{met_threads}
-use Rattle.wcp_clocks.specs.Whole.{AreWhole, by_after}
+use Rattle.wcp_clocks.specs.Whole.{AreWhole}
 use Rattle.wcp_clocks.proofs.Ordered.{ordered_more, ordered_same}
 use Rattle.wcp_clocks.proofs.Wholeness.{whole_after}
 use Rattle.wcp_clocks.specs.Stepping.{IsStep, IsStepBy, strict_clock}
@@ -126,16 +125,8 @@ module _ (e : Event) (k : Turn) (old new : Parts) (told : turn e (state_of old)
           ∙ ap (λ k. to_child k (hb.po_row e (hb_of old)) (with_row e.thread.0 (hb.po_row e (hb_of old))
           (hb_of old).po)) told
 
-  whole : AreParts old → Fits e old → AreWhole (state_of new) (met_threads new.sums (closed_of new.queues))
-  whole parts fits =
-      subst (λ s. AreWhole s (met_threads new.sums (closed_of new.queues))) (sym exact)
-      (subst (AreWhole (after e (state_of old)))
-      (sym (by.by ∙ ap (λ k. by_after e.thread.0 k (state_of old)
-      (met_threads old.sums (closed_of old.queues))) (sym told)))
-      (whole_after e (state_of old) (met_threads old.sums (closed_of old.queues)) parts.whole
-      (λ m told x j v u. fits.sound.above_others m (record { 0 = x }) j (record { 0 = v }) (record { 0 = u })
-      told)
-      fits.own_grows))
+  whole : AreParts old → Fits e old → AreWhole (state_of new)
+  whole parts fits = subst AreWhole (sym exact) (whole_after e (state_of old) parts.whole fits.own_grows)
 
   kept_parts : AreParts old → IsReady old e → Fits e old → AreParts new
   kept_parts parts ready fits = record {

@@ -11,12 +11,13 @@ use Rattle.hb_clocks.specs.Tables.{rows_of}
 use Rattle.hb_clocks.specs.Work.{Done}
 use Rattle.event_core.specs.declared.events.AccessKind.{AccessKind}
 use Rattle.event_core.specs.declared.events.AccessKind.TheVariants.{Read, Write}
-use Rattle.event_core.specs.Closed.{Closed}
+use Rattle.event_core.specs.Closed.{Closed, Has, first, later}
 use Rattle.lock_queues.specs.Sections.{closed_at}
 use Rattle.section_sum.specs.Newest.{section}
 use Rattle.section_sum.specs.Sums.{Sums, others_of, sources_of}
-use Rattle.wcp_clocks.specs.Met.{release_at, thread_at, met_clocks, met_threads, met_under, joined_all}
-use Rattle.wcp_clocks.specs.Met.{IsMet, IsWholeIn, AreWholeIn}
+use Rattle.wcp_clocks.specs.Met.{release_at, thread_at, met_clocks, met_under, joined_all}
+use Rattle.wcp_clocks.specs.Met.{IsMet, AreNumbers, AreWholeIn}
+use Rattle.wcp_clocks.specs.Whole.{IsWhole}
 use Rattle.wcp_clocks.proofs.Wholeness.{whole_join}
 use Rattle.wcp_laws.specs.Step.{join_all}
 use Rattle.wcp_clocks.proofs.Rows.{row_kept, row_again, join_nothing}
@@ -55,27 +56,36 @@ thread_is qs (suc n) some = ap (λ k. (closed_at qs k).thread) less
     less : suc n - 1 ≡ n
     less = omega arith
 
+has_closed : (qs : List Closed) (n : ℕ) → n < length qs → Has (closed_at qs n) qs
+has_closed [] n lt = absurd (omega arith)
+has_closed (q ∷ qs) zero lt = first q qs refl
+has_closed (q ∷ qs) (suc n) lt = later q qs (has_closed qs n (omega arith))
+
 -- the section's clock is whole
 met_whole : (s : Sums) (closed : ℕ → List Closed) (l x t n : ℕ) → AreWholeIn s closed → IsMet s l x t n
-    → IsWholeIn s closed (release_at (closed l) n)
+    → IsWhole closed (release_at (closed l) n)
 met_whole s closed l x t n each m =
-    subst (λ i. IsWholeIn s closed (release_at (closed l) i)) (sym m.number) (each l x m.kind t)
+    subst (λ i. IsWhole closed (release_at (closed l) i)) (sym m.number) (each l x m.kind t)
 
 -- and a clock that counts the release is at or above it
-counted : (s : Sums) (closed : ℕ → List Closed) (l x t n : ℕ) (f : ℕ → ℕ) → IsWholeIn s closed f
-    → IsMet s l x t n → release_at (closed l) n (thread_at (closed l) n) ≤ f (thread_at (closed l) n)
+counted : (s : Sums) (closed : ℕ → List Closed) (l x t n : ℕ) (f : ℕ → ℕ) → AreNumbers s closed
+    → IsWhole closed f → IsMet s l x t n
+    → release_at (closed l) n (thread_at (closed l) n) ≤ f (thread_at (closed l) n)
     → f ≡ join f (release_at (closed l) n)
-counted s closed l x t n f whole m le i u = at i
+counted s closed l x t n f are whole m le i u = at i
   where
-    Above : ℕ → Type 0
-    Above i = release_at (closed l) i (thread_at (closed l) i) ≤ f (thread_at (closed l) i)
-        → release_at (closed l) i u ≤ f u
-
-    above : Above n
-    above = subst Above (sym m.number) (whole l x m.kind t u)
+    above : (n : ℕ) → 0 < n → n ≤ length (closed l)
+        → release_at (closed l) n (thread_at (closed l) n) ≤ f (thread_at (closed l) n)
+        → release_at (closed l) n u ≤ f u
+    above zero some lt h = absurd (omega (arith, some))
+    above (suc j) some lt h = whole l (closed_at (closed l) j) (has_closed (closed l) j (omega arith)) h u
 
     at : f u ≡ max (f u) (release_at (closed l) n u)
-    at = let p = above le in omega arith
+    at =
+        let within = are l x m.kind t in
+        let number = m.number in
+        let p = above n m.some (omega arith) le in
+        omega arith
 
 -- what has been taken of the source, where the rest is still to be taken
 pub record IsTaking (s : Sums) (closed : ℕ → List Closed) (l x t : ℕ) (source : ℕ → ℕ)
@@ -88,7 +98,7 @@ pub record IsTaking (s : Sums) (closed : ℕ → List Closed) (l x t : ℕ) (sou
   pub none : taken ≡ false → rows_of now.thread ≡ rows_of old.thread
   pub kept : SameRoom old now
   pub met : All (IsMet s l x t) rest
-  pub whole : IsWholeIn s closed (rows_of now.thread t)
+  pub whole : IsWhole closed (rows_of now.thread t)
   pub joins : after.joins + length rest ≤ before.joins + 2
   pub comparisons : after.comparisons ≡ before.comparisons
 
@@ -142,7 +152,7 @@ sources_met s l x t Write =
 
 pub taking_begins : (s : Sums) (closed : ℕ → List Closed) (l x t : ℕ) (k : AccessKind) (old : StrictTables)
     (before : Done) (rest : List ℕ) (taken : Bool) → rest ≡ sources_of s l x k t → length rest ≤ 2
-    → IsWholeIn s closed (rows_of old.thread t)
+    → IsWhole closed (rows_of old.thread t)
     → IsTaking s closed l x t (met_under (met_clocks s closed) x k t l) old old before before rest taken
 taking_begins s closed l x t k old before rest taken is few whole = record {
   shape = row_kept t (rows_of old.thread);
@@ -160,14 +170,15 @@ taking_begins s closed l x t k old before rest taken is few whole = record {
 
 -- a release that is counted brings nothing
 pub taking_past : (s : Sums) (closed : ℕ → List Closed) (l x t : ℕ) (source : ℕ → ℕ) (old now : StrictTables)
-    (before after : Done) (n : ℕ) (rest : List ℕ) (taken : Bool)
+    (before after : Done) (n : ℕ) (rest : List ℕ) (taken : Bool) → AreNumbers s closed
     → IsTaking s closed l x t source old now before after (n ∷ rest) taken
     → release_at (closed l) n (thread_at (closed l) n) ≤ rows_of now.thread t (thread_at (closed l) n)
     → IsTaking s closed l x t source old now before after rest taken
-taking_past s closed l x t source old now before after n rest taken is le = record {
+taking_past s closed l x t source old now before after n rest taken are is le = record {
   shape = is.shape;
   joined = λ u. ap (λ (g : ℕ → ℕ). joined_all (closed l) g rest u)
-      (counted s closed l x t n (rows_of now.thread t) is.whole (All-head (IsMet s l x t) n rest is.met) le)
+      (counted s closed l x t n (rows_of now.thread t) are is.whole (All-head
+      (IsMet s l x t) n rest is.met) le)
       ∙ is.joined u;
   lock = is.lock;
   below = is.below;
@@ -201,8 +212,8 @@ taking_on s closed l x t source old now new before after done n rest taken each 
       none = λ e. absurd (cc e);
       kept = room_then old now new is.kept kept;
       met = All-tail (IsMet s l x t) n rest is.met;
-      whole = subst (IsWholeIn s closed) (sym own)
-          (whole_join (met_clocks s closed) (met_threads s closed) (rows_of now.thread t)
+      whole = subst (IsWhole closed) (sym own)
+          (whole_join closed (rows_of now.thread t)
           (release_at (closed l) n) is.whole
           (met_whole s closed l x t n each (All-head (IsMet s l x t) n rest is.met)));
       joins = (let w = ap (λ (d : Done). d.joins) work in let j = is.joins in omega arith);
@@ -232,7 +243,7 @@ pub record HasTaken (s : Sums) (closed : ℕ → List Closed) (t : ℕ) (source 
   pub below : below_of now ≡ below_of old
   pub none : taken ≡ false → rows_of now.thread ≡ rows_of old.thread
   pub kept : SameRoom old now
-  pub whole : IsWholeIn s closed (rows_of now.thread t)
+  pub whole : IsWhole closed (rows_of now.thread t)
   pub joins : after.joins ≤ before.joins + 2 * length locks
   pub comparisons : after.comparisons ≡ before.comparisons
 
@@ -248,7 +259,7 @@ join_all_more source f locks l i u = go f locks u i
 
 pub taken_begins : (s : Sums) (closed : ℕ → List Closed) (t : ℕ) (source : ℕ → ℕ
     → ℕ) (old : StrictTables) (before : Done)
-    (taken : Bool) → IsWholeIn s closed (rows_of old.thread t)
+    (taken : Bool) → IsWhole closed (rows_of old.thread t)
     → HasTaken s closed t source old old before before [] taken
 taken_begins s closed t source old before taken whole = record {
   threads = row_kept t (rows_of old.thread) ∙ ap (λ g. with_row t g (rows_of old.thread)) (sym (join_nothing
@@ -264,15 +275,15 @@ taken_begins s closed t source old before taken whole = record {
 
 -- the sources under a lock are whole
 pub sources_whole : (s : Sums) (closed : ℕ → List Closed) (l x t : ℕ) (k : AccessKind) → AreWholeIn s closed
-    → IsWholeIn s closed (met_under (met_clocks s closed) x k t l)
+    → IsWhole closed (met_under (met_clocks s closed) x k t l)
 sources_whole s closed l x t Read each = each l x Write t
 sources_whole s closed l x t Write each =
-    whole_join (met_clocks s closed) (met_threads s closed) (met_clocks s closed l x Read t)
+    whole_join closed (met_clocks s closed l x Read t)
     (met_clocks s closed l x Write t) (each l x Read t) (each l x Write t)
 
 pub taken_on : (s : Sums) (closed : ℕ → List Closed) (t : ℕ) (source : ℕ → ℕ
     → ℕ) (old now new : StrictTables) (before after done : Done)
-    (locks : List ℕ) (l : ℕ) (taken one both : Bool) → IsWholeIn s closed (source l)
+    (locks : List ℕ) (l : ℕ) (taken one both : Bool) → IsWhole closed (source l)
     → HasTaken s closed t source old now before after locks taken
     → rows_of new.thread ≡ with_row t (join (rows_of now.thread t) (source l)) (rows_of now.thread)
     → rows_of new.lock ≡ rows_of now.lock → below_of new ≡ below_of now → SameRoom now new
@@ -292,10 +303,10 @@ taken_on s closed t source old now new before after done locks l taken one both 
       below = below ∙ is.below;
       none = λ e. none (parts e).1 ∙ is.none (parts e).0;
       kept = room_then old now new is.kept kept;
-      whole = subst (IsWholeIn s closed)
+      whole = subst (IsWhole closed)
           (sym (ap (λ (f : ℕ → ℕ → ℕ). f t) threads
           ∙ row_same t (join (rows_of now.thread t) (source l)) (rows_of now.thread)))
-          (whole_join (met_clocks s closed) (met_threads s closed) (rows_of now.thread t)
+          (whole_join closed (rows_of now.thread t)
           (source l) is.whole whole);
       joins = (let n = length_push locks l in let j = is.joins in omega arith);
       comparisons = comparisons ∙ is.comparisons;

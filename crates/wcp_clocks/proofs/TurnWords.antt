@@ -18,7 +18,7 @@ use Rattle.section_sum.specs.Sums.{Sums, noted_of, is_held, is_access, SameOther
 use Rattle.wcp_laws.specs.State.{State}
 use Rattle.wcp_laws.specs.Step.{sources, kind_eq, noted_after}
 use Rattle.wcp_clocks.specs.HeldLists.{numbers_of}
-use Rattle.wcp_clocks.specs.Met.{release_at, thread_at, met_clocks, met_threads, met_under, AreNumbers}
+use Rattle.wcp_clocks.specs.Met.{release_at, met_clocks, met_under, AreNumbers}
 use Rattle.wcp_clocks.proofs.Rows.{own_row}
 
 -- the thread's clock of program order after its event
@@ -88,11 +88,6 @@ same_noted old new d t locks x k held noted i v l y j =
 pub same_clocks : (old new : Sums) (closed : ℕ → List Closed) → SameOthers old new
     → met_clocks new closed ≡ met_clocks old closed
 same_clocks old new closed same i l v k t = release_at (closed l) (same l v k t i)
-
--- and the threads
-pub same_threads : (old new : Sums) (closed : ℕ → List Closed) → SameOthers old new
-    → met_threads new closed ≡ met_threads old closed
-same_threads old new closed same i l v k t = thread_at (closed l) (same l v k t i)
 
 -- and each number is that of a closed section
 pub same_numbers : (old new : Sums) (closed : ℕ → List Closed) → SameOthers old new → AreNumbers old closed

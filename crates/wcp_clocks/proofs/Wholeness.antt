@@ -15,53 +15,51 @@ use Rattle.event_core.proofs.Members.{has_split}
 use Rattle.hb_clocks.specs.State.{clock_after}
 use Rattle.wcp_laws.specs.State.{State}
 use Rattle.wcp_laws.specs.Step.{turn, after, hb_row, sources, join_all, extra, others_after, closed_after}
-use Rattle.wcp_clocks.specs.Whole.{Clocks, Threads, IsWhole, IsWholeWithin, AreWhole, own_of, by_after}
+use Rattle.wcp_clocks.specs.Whole.{IsWhole, IsWholeWithin, AreWhole, own_of}
 use Rattle.wcp_clocks.proofs.Rows.{own_row}
 
 -- the join of two whole clocks
-pub whole_join : (others : Clocks) (by : Threads) (f g : ℕ → ℕ) → IsWhole others by f → IsWhole others by g
-    → IsWhole others by (join f g)
-whole_join others by f g a b l x k t u h =
-    go (cases_lt (f (by l x k t)) (others l x k t (by l x k t)))
+pub whole_join : (closed : ℕ → List Closed) (f g : ℕ → ℕ) → IsWhole closed f → IsWhole closed g
+    → IsWhole closed (join f g)
+whole_join closed f g a b l q has h u = go (cases_lt (f q.thread) (q.release q.thread))
   where
-    go : (f (by l x k t) < others l x k t (by l x k t)) ⊎ (others l x k t (by l x k t) ≤ f (by l x k t))
-        → others l x k t u ≤ max (f u) (g u)
-    go (inr le) = let c = a l x k t u le in omega arith
-    go (inl lt) = let c = b l x k t u (omega arith) in omega arith
+    go : (f q.thread < q.release q.thread) ⊎ (q.release q.thread ≤ f q.thread) → q.release u ≤ max (f u) (g u)
+    go (inr le) = let c = a l q has le u in omega arith
+    go (inl lt) = let c = b l q has (omega arith) u in omega arith
 
-within_join : (own : ℕ → ℕ) (others : Clocks) (by : Threads) (f g : ℕ → ℕ) → IsWholeWithin own others by f
-    → IsWholeWithin own others by g → IsWholeWithin own others by (join f g)
-within_join own others by f g a b = record {
+within_join : (own : ℕ → ℕ) (closed : ℕ → List Closed) (f g : ℕ → ℕ) → IsWholeWithin own closed f
+    → IsWholeWithin own closed g → IsWholeWithin own closed (join f g)
+within_join own closed f g a b = record {
   within = λ u. (let p = a.within u in let q = b.within u in omega arith);
-  whole = whole_join others by f g a.whole b.whole;
+  whole = whole_join closed f g a.whole b.whole;
 }
 
 -- where there are no releases
-pub none_whole : (s : State) (by : Threads)
-    → ((l x : ℕ) (k : AccessKind) (t u : ℕ) → s.others l x k t u ≡ 0)
+pub none_whole : (s : State) → ((l x : ℕ) (k : AccessKind) (t u : ℕ) → s.others l x k t u ≡ 0)
     → ((t u : ℕ) → s.strict.thread t u ≡ 0) → ((l u : ℕ) → s.strict.lock l u ≡ 0)
     → ((t u : ℕ) → s.hb.thread t u ≡ 0) → ((l u : ℕ) → s.hb.lock l u ≡ 0)
-    → ((l : ℕ) → s.closed l ≡ []) → AreWhole s by
-none_whole s by others strict strict_lock hb hb_lock closed = record {
+    → ((l : ℕ) → s.closed l ≡ []) → AreWhole s
+none_whole s others strict strict_lock hb hb_lock closed = record {
   none = it no_clock (λ u. refl);
   strict = λ t. it (s.strict.thread t) (strict t);
   strict_lock = λ l. it (s.strict.lock l) (strict_lock l);
   hb = λ t. it (s.hb.thread t) (hb t);
   hb_lock = λ l. it (s.hb.lock l) (hb_lock l);
   others = λ l x k t. it (s.others l x k t) (others l x k t);
-  closed = λ l q h. elim (subst (Has q) (closed l) h) [ ];
+  closed = λ l q h. absurd (empty l q h);
 }
   where
-    it : (f : ℕ → ℕ) → ((u : ℕ) → f u ≡ 0) → IsWholeWithin (own_of s) s.others by f
+    empty : (l : ℕ) (q : Closed) → Has q (s.closed l) → ⊥
+    empty l q h = elim (subst (Has q) (closed l) h) [ ]
+
+    it : (f : ℕ → ℕ) → ((u : ℕ) → f u ≡ 0) → IsWholeWithin (own_of s) s.closed f
     it f z = record {
       within = λ u. (let e = z u in omega arith);
-      whole = λ l x k t u h. (let e = others l x k t u in omega arith);
+      whole = λ l q has h u. absurd (empty l q has);
     }
 
 -- an event of the thread, where it is turn k
-module _ (s : State) (by : Threads) (t : ThreadId) (k : Turn) (w : AreWhole s by)
-    (above : (m : LockId) → k ≡ Closes m → (x : ℕ) (j : AccessKind) (v u : ℕ)
-    → s.others m.0 x j v u ≤ clock_after t k s.hb u)
+module _ (s : State) (t : ThreadId) (k : Turn) (w : AreWhole s)
     (grows : (u : ℕ) → s.hb.thread u u
     ≤ to_child k (clock_after t k s.hb) (with_row t.0 (clock_after t k s.hb) s.hb.thread) u u) where
   -- what is at or below the event, but for itself
@@ -78,16 +76,16 @@ module _ (s : State) (by : Threads) (t : ThreadId) (k : Turn) (w : AreWhole s by
   own u = to_child k g (with_row t.0 g s.hb.thread) u u
 
   abbrev It : (ℕ → ℕ) → Type 0
-  It f = IsWholeWithin (own_of s) s.others by f
+  It f = IsWholeWithin (own_of s) s.closed f
 
   abbrev Next : (ℕ → ℕ) → Type 0
-  Next f = IsWholeWithin own (others_after t.0 k g s) (by_after t.0 k s by) f
+  Next f = IsWholeWithin own (closed_after t.0 k g s) f
 
   both : (f h : ℕ → ℕ) → It f → It h → It (join f h)
-  both f h a b = within_join (own_of s) s.others by f h a b
+  both f h a b = within_join (own_of s) s.closed f h a b
 
   next_both : (f h : ℕ → ℕ) → Next f → Next h → Next (join f h)
-  next_both f h a b = within_join own (others_after t.0 k g s) (by_after t.0 k s by) f h a b
+  next_both f h a b = within_join own (closed_after t.0 k g s) f h a b
 
   -- the event is its thread's next
   one_more : g t.0 ≡ met t.0 + 1
@@ -107,27 +105,47 @@ module _ (s : State) (by : Threads) (t : ThreadId) (k : Turn) (w : AreWhole s by
   unseen : (f : ℕ → ℕ) → It f → f t.0 < g t.0
   unseen f a = let p = a.within t.0 in let m = one_more in omega arith
 
+  -- a section that is closed after the event was so before, or is the one that the event closes
+  abbrev Either : Closed → Type 0
+  Either q = ((m : ℕ) × Has q (s.closed m)) ⊎ ((q.thread ≡ t.0) × (q.release ≡ g))
+
+  member : (l : ℕ) (q : Closed) → Has q (closed_after t.0 k g s l) → Either q
+  member l q = go k
+    where
+      go : (r : Turn) → Has q (closed_after t.0 r g s l) → Either q
+      go (Closes m) h = either (nat_eq l m.0) h
+        where
+          new : Closed
+          new = record { thread = t.0; position = s.opened t.0 m.0; release = g }
+
+          split : Has q (s.closed m.0) ⊎ (q ≡ new) → Either q
+          split (inl h) = inl (m.0, h)
+          split (inr e) = inr (ap (λ (p : Closed). p.thread) e, ap (λ (p : Closed). p.release) e)
+
+          either : (b : Bool) → Has q (cond b (s.closed m.0 ++ new ∷ []) (s.closed l)) → Either q
+          either true h = split (has_split q (s.closed m.0) new h)
+          either false h = inl (l, h)
+      go (Forks u) h = inl (l, h)
+      go (Accesses y i) h = inl (l, h)
+      go (Opens m) h = inl (l, h)
+      go (Joins y) h = inl (l, h)
+      go Inner h = inl (l, h)
+
   -- so each is whole after it too
   kept : (f : ℕ → ℕ) → It f → Next f
   kept f a = record {
     within = λ u. (let p = a.within u in let q = grows u in omega arith);
-    whole = λ l x j v u h. go k refl l x j v u h;
+    whole = λ l q has h u. go q (member l q has) h u;
   }
     where
-      closes : (b : Bool) (o : ℕ → ℕ) (n : ℕ) → (o n ≤ f n → (u : ℕ) → o u ≤ f u)
-          → cond b (join o g) o (cond b t.0 n) ≤ f (cond b t.0 n) → (u : ℕ) → cond b (join o g) o u ≤ f u
-      closes true o n was h u = let lt = unseen f a in absurd (omega (arith, h, lt))
-      closes false o n was h u = was h u
-
-      go : (r : Turn) → r ≡ k → IsWhole (others_after t.0 r g s) (by_after t.0 r s by) f
-      go (Closes m) e l x j v u h =
-          closes (nat_eq l m.0 && (not (nat_eq v t.0) && s.noted t.0 l x j)) (s.others l x j v) (by l x j v)
-          (λ h u. a.whole l x j v u h) h u
-      go (Accesses y i) e l x j v u h = a.whole l x j v u h
-      go (Opens m) e l x j v u h = a.whole l x j v u h
-      go (Forks y) e l x j v u h = a.whole l x j v u h
-      go (Joins y) e l x j v u h = a.whole l x j v u h
-      go Inner e l x j v u h = a.whole l x j v u h
+      go : (q : Closed) → Either q → q.release q.thread ≤ f q.thread → (u : ℕ) → q.release u ≤ f u
+      go q (inl old) h u = a.whole old.0 q old.1 h u
+      go q (inr new) h u =
+          let lt = unseen f a in
+          let mine = ap f new.0 in
+          let theirs = ap q.release new.0 in
+          let counts = ap (λ (c : ℕ → ℕ). c t.0) new.1 in
+          absurd (omega arith)
 
   brought_whole : (r : Rows) → ((u : ℕ) → It (r.thread u)) → ((l : ℕ) → It (r.lock l)) → It (brought k r)
   brought_whole r threads locks = go k
@@ -144,23 +162,22 @@ module _ (s : State) (by : Threads) (t : ThreadId) (k : Turn) (w : AreWhole s by
   met_whole = both (s.hb.thread t.0) (brought k s.hb) (w.hb t.0) (brought_whole s.hb w.hb w.hb_lock)
 
   -- the event's own clock counts the releases before it
-  old_whole : IsWhole s.others by g
-  old_whole l x j v u h = go (cases_eq (by l x j v) t.0)
+  old_whole : IsWhole s.closed g
+  old_whole l q has h u = go (cases_eq q.thread t.0)
     where
-      from : s.others l x j v (by l x j v) ≤ met (by l x j v) → s.others l x j v u ≤ g u
-      from le = let p = met_whole.whole l x j v u le in let q = met_below u in omega arith
+      from : q.release q.thread ≤ met q.thread → q.release u ≤ g u
+      from le = let p = met_whole.whole l q has le u in let b = met_below u in omega arith
 
-      go : (by l x j v ≡ t.0) ⊎ (by l x j v ≡ t.0 → ⊥) → s.others l x j v u ≤ g u
-      go (inl e) = from (subst (λ n. s.others l x j v n ≤ met n) (sym e)
-          (let p = (w.others l x j v).within t.0 in omega arith))
-      go (inr n) = from (let m = unlike (by l x j v) n in omega arith)
-
-  left_true : (a b : Bool) → (a && b) ≡ true → a ≡ true
-  left_true true b e = refl
-  left_true false b e = e
+      go : (q.thread ≡ t.0) ⊎ (q.thread ≡ t.0 → ⊥) → q.release u ≤ g u
+      go (inl e) = from (subst (λ n. q.release n ≤ met n) (sym e)
+          (let p = (w.closed l q has).within t.0 in omega arith))
+      go (inr n) = from (let m = unlike q.thread n in omega arith)
 
   new_whole : Next g
-  new_whole = record { within = λ u. within u (cases_eq u t.0); whole = λ l x j v u h. go k refl l x j v u h }
+  new_whole = record {
+    within = λ u. within u (cases_eq u t.0);
+    whole = λ l q has h u. go q (member l q has) h u;
+  }
     where
       within : (u : ℕ) → (u ≡ t.0) ⊎ (u ≡ t.0 → ⊥) → g u ≤ own u
       within u (inl e) = subst (λ v. g v ≤ own v) (sym e)
@@ -168,23 +185,9 @@ module _ (s : State) (by : Threads) (t : ThreadId) (k : Turn) (w : AreWhole s by
       within u (inr n) =
           let m = unlike u n in let p = met_whole.within u in let q = grows u in omega arith
 
-      closes : (b : Bool) (o : ℕ → ℕ) (n : ℕ) → (b ≡ true → (u : ℕ) → o u ≤ g u)
-          → (o n ≤ g n → (u : ℕ) → o u ≤ g u)
-          → cond b (join o g) o (cond b t.0 n) ≤ g (cond b t.0 n) → (u : ℕ) → cond b (join o g) o u ≤ g u
-      closes true o n low was h u = let p = low refl u in omega arith
-      closes false o n low was h u = was h u
-
-      go : (r : Turn) → k ≡ r → IsWhole (others_after t.0 r g s) (by_after t.0 r s by) g
-      go (Closes m) e l x j v u h =
-          closes (nat_eq l m.0 && (not (nat_eq v t.0) && s.noted t.0 l x j)) (s.others l x j v) (by l x j v)
-          (λ on u. subst (λ n. s.others n x j v u ≤ g u) (sym (eqb-true l m.0 (left_true _ _ on)))
-          (above m e x j v u))
-          (λ h u. old_whole l x j v u h) h u
-      go (Accesses y i) e l x j v u h = old_whole l x j v u h
-      go (Opens m) e l x j v u h = old_whole l x j v u h
-      go (Forks y) e l x j v u h = old_whole l x j v u h
-      go (Joins y) e l x j v u h = old_whole l x j v u h
-      go Inner e l x j v u h = old_whole l x j v u h
+      go : (q : Closed) → Either q → q.release q.thread ≤ g q.thread → (u : ℕ) → q.release u ≤ g u
+      go q (inl old) h u = old_whole old.0 q old.1 h u
+      go q (inr new) h u = let is = ap (λ (c : ℕ → ℕ). c u) new.1 in omega arith
 
   -- what the event adds to its thread's strict clock
   sources_whole : (x : VarId) (j : AccessKind) (l : ℕ) → It (sources s x j t l)
@@ -275,50 +278,29 @@ module _ (s : State) (by : Threads) (t : ThreadId) (k : Turn) (w : AreWhole s by
       go Inner = old
 
   next_closed : (l : ℕ) (q : Closed) → Has q (closed_after t.0 k g s l) → Next q.release
-  next_closed l q = go k
+  next_closed l q has = go (member l q has)
     where
-      old : (l : ℕ) → Has q (s.closed l) → Next q.release
-      old l h = kept q.release (w.closed l q h)
-
-      go : (r : Turn) → Has q (closed_after t.0 r g s l) → Next q.release
-      go (Closes m) = either (nat_eq l m.0)
-        where
-          new : Closed
-          new = record { thread = t.0; position = s.opened t.0 m.0; release = g }
-
-          split : Has q (s.closed m.0) ⊎ (q ≡ new) → Next q.release
-          split (inl h) = old m.0 h
-          split (inr e) = subst (λ (p : Closed). Next p.release) (sym e) new_whole
-
-          either : (b : Bool) → Has q (cond b (s.closed m.0 ++ new ∷ []) (s.closed l)) → Next q.release
-          either true h = split (has_split q (s.closed m.0) new h)
-          either false h = old l h
-      go (Forks u) = old l
-      go (Accesses y i) = old l
-      go (Opens m) = old l
-      go (Joins y) = old l
-      go Inner = old l
+      go : Either q → Next q.release
+      go (inl old) = kept q.release (w.closed old.0 q old.1)
+      go (inr new) = subst Next (sym new.1) new_whole
 
 -- after the event all clocks are whole
-pub whole_after : (e : Event) (s : State) (by : Threads) → AreWhole s by
-    → ((m : LockId) → turn e s ≡ Closes m → (x : ℕ) (j : AccessKind) (v u : ℕ)
-    → s.others m.0 x j v u ≤ hb_row e s u)
-    → ((u : ℕ) → own_of s u ≤ own_of (after e s) u)
-    → AreWhole (after e s) (by_after e.thread.0 (turn e s) s by)
-whole_after e s by w above grows = record {
-  none = kept s by t k w above grows no_clock w.none;
-  strict = to_threads s by t k w above grows s.strict.thread (c s by t k w above grows)
-      (λ u. kept s by t k w above grows (s.strict.thread u) (w.strict u))
-      (kept s by t k w above grows (c s by t k w above grows) (strict_whole s by t k w above grows));
-  strict_lock = to_locks s by t k w above grows s.strict.lock (c s by t k w above grows)
-      (λ l. kept s by t k w above grows (s.strict.lock l) (w.strict_lock l))
-      (kept s by t k w above grows (c s by t k w above grows) (strict_whole s by t k w above grows));
-  hb = to_threads s by t k w above grows s.hb.thread (hb_row e s)
-      (λ u. kept s by t k w above grows (s.hb.thread u) (w.hb u)) (new_whole s by t k w above grows);
-  hb_lock = to_locks s by t k w above grows s.hb.lock (hb_row e s)
-      (λ l. kept s by t k w above grows (s.hb.lock l) (w.hb_lock l)) (new_whole s by t k w above grows);
-  others = next_others s by t k w above grows;
-  closed = next_closed s by t k w above grows;
+pub whole_after : (e : Event) (s : State) → AreWhole s → ((u : ℕ) → own_of s u ≤ own_of (after e s) u)
+    → AreWhole (after e s)
+whole_after e s w grows = record {
+  none = kept s t k w grows no_clock w.none;
+  strict = to_threads s t k w grows s.strict.thread (c s t k w grows)
+      (λ u. kept s t k w grows (s.strict.thread u) (w.strict u))
+      (kept s t k w grows (c s t k w grows) (strict_whole s t k w grows));
+  strict_lock = to_locks s t k w grows s.strict.lock (c s t k w grows)
+      (λ l. kept s t k w grows (s.strict.lock l) (w.strict_lock l))
+      (kept s t k w grows (c s t k w grows) (strict_whole s t k w grows));
+  hb = to_threads s t k w grows s.hb.thread (hb_row e s)
+      (λ u. kept s t k w grows (s.hb.thread u) (w.hb u)) (new_whole s t k w grows);
+  hb_lock = to_locks s t k w grows s.hb.lock (hb_row e s)
+      (λ l. kept s t k w grows (s.hb.lock l) (w.hb_lock l)) (new_whole s t k w grows);
+  others = next_others s t k w grows;
+  closed = next_closed s t k w grows;
 }
   where
     t : ThreadId

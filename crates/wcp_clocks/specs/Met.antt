@@ -6,7 +6,11 @@ use Rattle.event_core.specs.Closed.{Closed}
 use Rattle.event_core.specs.Rows.{no_clock, join}
 use Rattle.section_sum.specs.Sums.{Sums, others_of}
 use Rattle.lock_queues.specs.Sections.{closed_at}
-use Rattle.wcp_clocks.specs.Whole.{Clocks, Threads, IsWhole}
+use Rattle.wcp_clocks.specs.Whole.{IsWhole}
+
+-- of a lock, a variable, a kind and a thread: the clock of the releases that an access of the thread meets
+abbrev pub Clocks : Type 0
+Clocks = ℕ → ℕ → AccessKind → ℕ → ℕ → ℕ
 
 -- the release clock of the section with the number, and zeros where the number is 0
 abbrev pub release_at : List Closed → ℕ → ℕ → ℕ
@@ -22,21 +26,13 @@ thread_at qs (suc n) = (closed_at qs n).thread
 abbrev pub met_clocks : Sums → (ℕ → List Closed) → Clocks
 met_clocks s closed l x k t = release_at (closed l) (others_of s l x k t)
 
--- and their threads
-abbrev pub met_threads : Sums → (ℕ → List Closed) → Threads
-met_threads s closed l x k t = thread_at (closed l) (others_of s l x k t)
-
 -- each number is 0 or that of a closed section on its lock
 abbrev pub AreNumbers : Sums → (ℕ → List Closed) → Type 0
 AreNumbers s closed = (l x : ℕ) (k : AccessKind) (t : ℕ) → others_of s l x k t ≤ length (closed l)
 
--- where the clock counts a release that the summaries name, it is at or above its clock
-abbrev pub IsWholeIn : Sums → (ℕ → List Closed) → (ℕ → ℕ) → Type 0
-IsWholeIn s closed = IsWhole (met_clocks s closed) (met_threads s closed)
-
--- as is each of those clocks
+-- each of those clocks counts with a release all that is below it
 abbrev pub AreWholeIn : Sums → (ℕ → List Closed) → Type 0
-AreWholeIn s closed = (l x : ℕ) (k : AccessKind) (t : ℕ) → IsWholeIn s closed (met_clocks s closed l x k t)
+AreWholeIn s closed = (l x : ℕ) (k : AccessKind) (t : ℕ) → IsWhole closed (met_clocks s closed l x k t)
 
 -- the clock of the sections that an access of the kind by the thread meets under the lock: a load meets the
 -- stores, and a store both

@@ -20,7 +20,7 @@ use Rattle.wcp_laws.specs.Conditions.{IsSound, CursorsStand}
 use Rattle.wcp_clocks.specs.declared.parts.Parts.{Parts}
 use Rattle.wcp_clocks.specs.HeldLists.{list_at, held_of, room_at}
 use Rattle.wcp_clocks.specs.StrictRows.{StrictTables, strict_of, below_of, HasThread, HasLock}
-use Rattle.wcp_clocks.specs.Met.{met_clocks, met_threads, AreNumbers}
+use Rattle.wcp_clocks.specs.Met.{met_clocks, AreNumbers}
 use Rattle.wcp_clocks.specs.Whole.{AreWhole, own_of}
 
 -- program order, happens-before and the depths of locks
@@ -125,7 +125,7 @@ pub record AreParts (p : Parts) : Type 0 where
   -- the summaries name closed sections
   pub numbers : AreNumbers p.sums (closed_of p.queues)
   -- a clock that counts a release counts all that is below it
-  pub whole : AreWhole (state_of p) (met_threads p.sums (closed_of p.queues))
+  pub whole : AreWhole (state_of p)
   -- a lock that is held has its clock, and so has its holder
   pub held_thread : (t l : ℕ) → 0 < (hb_of p).depth t l → HasThread p.rows t
   pub held_lock : (t l : ℕ) → 0 < (hb_of p).depth t l → HasLock p.rows l

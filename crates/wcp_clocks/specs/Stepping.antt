@@ -15,8 +15,7 @@ use Rattle.wcp_clocks.specs.HeldLists.{held_of}
 use Rattle.wcp_clocks.specs.StrictRows.{strict_of, below_of, SameRoom}
 use Rattle.wcp_clocks.specs.Parts.{hb_of, state_of, found_in, AreParts, SameLimits, most_joins}
 use Rattle.wcp_clocks.specs.Parts.{FewComparisons, IsAccess, KeepsReady}
-use Rattle.wcp_clocks.specs.Met.{met_clocks, met_threads, AreNumbers}
-use Rattle.wcp_clocks.specs.Whole.{by_after}
+use Rattle.wcp_clocks.specs.Met.{met_clocks, AreNumbers}
 
 -- the step of the event
 pub record IsStep (e : Event) (old new : Parts) : Type 0 where
@@ -53,8 +52,6 @@ pub record IsStepBy (e : Event) (k : Turn) (old new : Parts) : Type 0 where
   pub noted : noted_of new.sums ≡ noted_after e.thread.0 k (hb_of old).depth (noted_of old.sums)
   pub others : met_clocks new.sums (closed_of new.queues)
       ≡ others_after e.thread.0 k (hb_row e (state_of old)) (state_of old)
-  pub by : met_threads new.sums (closed_of new.queues)
-      ≡ by_after e.thread.0 k (state_of old) (met_threads old.sums (closed_of old.queues))
   pub numbers : AreNumbers new.sums (closed_of new.queues)
   pub closed : closed_of new.queues ≡ closed_after e.thread.0 k (hb_row e (state_of old)) (state_of old)
   pub found : found_in new ≡ found_at e.thread k (state_of old) (found_in old)

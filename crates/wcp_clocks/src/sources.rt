@@ -6,7 +6,8 @@ ghost use Rattle.event_core.specs.Rows.{join, with_row};
 ghost use Rattle.lock_queues.specs.Queues.{closed_of};
 ghost use Rattle.wcp_laws.specs.Step.{join_all};
 ghost use Rattle.wcp_clocks.specs.HeldLists.{numbers_of};
-ghost use Rattle.wcp_clocks.specs.Met.{met_clocks, met_under, AreNumbers, IsWholeIn, AreWholeIn};
+ghost use Rattle.wcp_clocks.specs.Met.{met_clocks, met_under, AreNumbers, AreWholeIn};
+ghost use Rattle.wcp_clocks.specs.Whole.{IsWhole};
 ghost use Rattle.wcp_clocks.specs.StrictRows.{strict_of, below_of, HasThread, SameRoom};
 
 use crate::strict::StrictRows;
@@ -32,7 +33,7 @@ fn take_under(
     requires wide { queues.now.limits.threads ≡ rows.old.width }
     requires few { work.old.joins + 2 < 2 ^ 63 }
     requires numbers { AreNumbers sums.now (closed_of queues.now) }
-    requires whole { IsWholeIn sums.now (closed_of queues.now) ((strict_of rows.old).thread thread.0) }
+    requires whole { IsWhole (closed_of queues.now) ((strict_of rows.old).thread thread.0) }
     requires releases { AreWholeIn sums.now (closed_of queues.now) }
     ensures threads { (strict_of rows.new).thread ≡ with_row thread.0
         (join ((strict_of rows.old).thread thread.0)
@@ -72,7 +73,7 @@ pub(crate) fn take_sources(
     requires wide { queues.now.limits.threads ≡ rows.old.width }
     requires few { work.old.joins + 2 * length held.now < 2 ^ 63 }
     requires numbers { AreNumbers sums.now (closed_of queues.now) }
-    requires whole { IsWholeIn sums.now (closed_of queues.now) ((strict_of rows.old).thread thread.0) }
+    requires whole { IsWhole (closed_of queues.now) ((strict_of rows.old).thread thread.0) }
     requires releases { AreWholeIn sums.now (closed_of queues.now) }
     ensures threads { (strict_of rows.new).thread ≡ with_row thread.0
         (join ((strict_of rows.old).thread thread.0)

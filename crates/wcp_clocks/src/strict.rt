@@ -1,7 +1,7 @@
 //! The clocks of the strict relation: a row for each thread and each lock, and beside each thread's
 //! row the clock that counts program order too.
 ghost use Rattle.std.specs.Prelude.{◌≡◌, ◌≢◌, ℕ, ◌+◌, ◌*◌, ◌<◌, ◌≤◌, ◌^◌, ◌↔◌, length, IfOk, OnOk, IsTrue};
-ghost use Rattle.std.specs.Prelude.{nat_le};
+ghost use Rattle.std.specs.Prelude.{nat_le, false};
 ghost use Rattle.event_core.specs.Rows.{join, bump, with_row, no_rows, no_clock};
 ghost use Rattle.hb_clocks.specs.Counts.{counts_of};
 ghost use Rattle.hb_clocks.specs.State.{HbState};
@@ -255,6 +255,28 @@ impl StrictRows {
         ensures kept { SameRoom self.old self.new }
     {
         bump_row(&mut self.below, thread);
+    }
+
+    // The thread's clock with program order, after its event: made again where its strict clock has changed,
+    // and else with that event more.
+    pub(crate) fn count_event(&mut self, thread: ThreadId, hb: &HbClocks, changed: bool)
+        requires room { HasThread self.old thread.0 }
+        requires within { thread.0 < self.old.width }
+        requires wide { hb.now.width ≡ self.old.width }
+        requires few { below_of self.old thread.0 thread.0 + 1 < 2 ^ 64 }
+        requires unchanged { changed ≡ false → bump thread.0 (below_of self.old thread.0)
+            ≡ join ((strict_of self.old).thread thread.0) ((hb_state hb.now).po thread.0) }
+        ensures strict { strict_of self.new ≡ strict_of self.old }
+        ensures below { below_of self.new ≡ with_row thread.0
+            (join ((strict_of self.old).thread thread.0) ((hb_state hb.now).po thread.0))
+            (below_of self.old) }
+        ensures kept { SameRoom self.old self.new }
+    {
+        if changed {
+            self.follow(thread, hb);
+        } else {
+            self.count_own(thread);
+        }
     }
 }
 

@@ -5,7 +5,8 @@ ghost use Rattle.event_core.specs.Turn.{Accesses, Opens, Closes, Forks, Joins, I
 ghost use Rattle.section_sum.specs.Sums.{HasRoom, IsAlone, KeepsRoom, SameOthers, noted_of, is_access};
 ghost use Rattle.wcp_laws.specs.Step.{turn, join_all};
 ghost use Rattle.wcp_clocks.specs.HeldLists.{numbers_of};
-ghost use Rattle.wcp_clocks.specs.Met.{met_clocks, met_under, AreNumbers, IsWholeIn, AreWholeIn};
+ghost use Rattle.wcp_clocks.specs.Met.{met_clocks, met_under, AreNumbers, AreWholeIn};
+ghost use Rattle.wcp_clocks.specs.Whole.{IsWhole};
 ghost use Rattle.event_core.specs.declared.events.AccessKind.{AccessKind as Kind};
 ghost use Rattle.wcp_clocks.specs.Parts.{state_of, AreParts, IsReady, Fits, KeepsReady};
 ghost use Rattle.wcp_clocks.specs.Stepping.{IsStepBy, IsStep};
@@ -95,11 +96,7 @@ pub(crate) fn access(parts: &mut Parts, event: &Event, var: VarId, kind: AccessK
         &mut parts.work,
     );
     parts.hb.advance(event, &mut parts.work);
-    if taken {
-        parts.rows.follow(thread, &parts.hb);
-    } else {
-        parts.rows.count_own(thread);
-    }
+    parts.rows.count_event(thread, &parts.hb, taken);
 }
 
 // The access in the sections that are open at it: by rule (a) its strict clock takes the sources under
@@ -120,7 +117,7 @@ fn meet_sections(
     requires wide { queues.now.limits.threads ≡ rows.old.width }
     requires few { work.old.joins + 2 * length held.now < 2 ^ 63 }
     requires numbers { AreNumbers sums.old (closed_of queues.now) }
-    requires whole { IsWholeIn sums.old (closed_of queues.now) ((strict_of rows.old).thread thread.0) }
+    requires whole { IsWhole (closed_of queues.now) ((strict_of rows.old).thread thread.0) }
     requires releases { AreWholeIn sums.old (closed_of queues.now) }
     ensures threads { (strict_of rows.new).thread ≡ with_row thread.0
         (join ((strict_of rows.old).thread thread.0)
@@ -169,7 +166,7 @@ pub(crate) fn close(parts: &mut Parts, event: &Event, lock: LockId)
     ensures { IsStepBy event.now (Closes lock) parts.old parts.new }
 {
     let thread = event.thread;
-    take_closed(
+    let taken = take_closed(
         &mut parts.rows,
         &mut parts.queues,
         thread,
@@ -177,7 +174,7 @@ pub(crate) fn close(parts: &mut Parts, event: &Event, lock: LockId)
         &mut parts.work,
     );
     parts.hb.advance(event, &mut parts.work);
-    parts.rows.follow(thread, &parts.hb);
+    parts.rows.count_event(thread, &parts.hb, taken);
     parts.rows.give_lock(thread, lock);
     let clock = parts.hb.hb(thread);
     parts.queues.leave(thread, lock, clock);
@@ -226,14 +223,14 @@ pub(crate) fn count_inner(parts: &mut Parts, event: &Event)
 }
 
 // The thread's strict clock takes the release clock of the latest section on the lock whose acquire it
-// counts, if there is one.
+// counts, if there is one that it does not count already. Tells whether a clock was taken.
 fn take_closed(
     rows: &mut StrictRows,
     queues: &mut Queues,
     thread: ThreadId,
     lock: LockId,
     work: &mut Work,
-)
+) -> bool
     requires room { HasThread rows.old thread.0 }
     requires entered { 0 < opened_of queues.old thread.0 lock.0 }
     requires wide { queues.old.limits.threads ≡ rows.old.width }
@@ -241,6 +238,7 @@ fn take_closed(
         ≤ number_counted ((strict_of rows.old).thread thread.0) (closed_of queues.old lock.0) }
     requires earlier { CountsEarlier ((strict_of rows.old).thread thread.0) (closed_of queues.old lock.0) }
     requires few { work.old.comparisons + length (closed_of queues.old lock.0) < 2 ^ 63 }
+    requires whole { IsWhole (closed_of queues.old) ((strict_of rows.old).thread thread.0) }
     requires few_joins { work.old.joins < 2 ^ 62 }
     ensures threads { (strict_of rows.new).thread ≡ with_row thread.0
         (join ((strict_of rows.old).thread thread.0)
@@ -248,6 +246,7 @@ fn take_closed(
         (strict_of rows.old).thread }
     ensures locks { (strict_of rows.new).lock ≡ (strict_of rows.old).lock }
     ensures below { below_of rows.new ≡ below_of rows.old }
+    ensures none { result ≡ false → (strict_of rows.new).thread ≡ (strict_of rows.old).thread }
     ensures kept { SameRoom rows.old rows.new }
     ensures found { FindsCounted queues.old queues.new thread.0 lock.0
         (number_counted ((strict_of rows.old).thread thread.0) (closed_of queues.old lock.0)) }
@@ -257,7 +256,12 @@ fn take_closed(
         + number_counted ((strict_of rows.old).thread thread.0) (closed_of queues.old lock.0) + 1 }
 {
     let latest = queues.last_below(thread, lock, rows.strict(thread), work);
-    if let Some(section) = latest {
-        rows.take_release(thread, section.by, section.before, work);
+    let Some(section) = latest else {
+        return false;
+    };
+    if rows.counts(thread, section.by, section.own) {
+        return false;
     }
+    rows.take_release(thread, section.by, section.before, work);
+    true
 }

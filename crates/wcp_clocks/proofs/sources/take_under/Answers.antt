@@ -82,7 +82,7 @@ loop-number-preserved c =
     = bump_same c.section-section.result.by.0 (counts_of c.section-section.result.before.now)
     ∙ ap (λ n. n + 1) (sym c.section-section.ensures.own) in
     taking_past sums closed l x t source c.args.rows.now now c.args.work.now c.loop-number.work n rest
-    c.loop-number.taken here
+    c.loop-number.taken c.requires.numbers here
     (subst (λ b. release_at (closed l) n b ≤ rows_of now.thread t b) by
     (subst (λ (g : ℕ → ℕ). g c.section-section.result.by.0
     ≤ rows_of now.thread t c.section-section.result.by.0) clock

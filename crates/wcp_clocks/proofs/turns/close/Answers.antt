@@ -13,9 +13,9 @@ use Rattle.wcp_clocks.specs.Met.{met_clocks}
 use Rattle.wcp_laws.specs.Step.{hb_row}
 use Rattle.wcp_clocks.specs.Parts.{hb_of, state_of}
 use Rattle.wcp_clocks.proofs.Taking.{room_then}
-use Rattle.wcp_clocks.proofs.OwnClocks.{followed_below}
+use Rattle.wcp_clocks.proofs.OwnClocks.{few_below, followed_below, unchanged_clock}
 use Rattle.wcp_clocks.proofs.TurnWords.{own_happens_before, closed_noted}
-use Rattle.wcp_clocks.proofs.Closing.{closing_clocks, closing_threads, closing_numbers}
+use Rattle.wcp_clocks.proofs.Closing.{closing_clocks, closing_numbers}
 use Rattle.wcp_clocks.proofs.Closing.{before_closing, counts_itself}
 use Rattle.wcp_clocks.proofs.Passing.{own_written, joins_told}
 use Rattle.wcp_clocks.proofs.turns.close.Goals as goal
@@ -24,16 +24,16 @@ pub count-requires : goal.count-requires
 count-requires c =
     let l : ℕ = c.args.lock.0 in
     let few = c.requires.fits.few_closed c.args.lock c.requires.turn in
-    let was = ap (λ (f : ℕ → List Closed). length (f l)) c.take_closed.ensures.found.closed in
+    let was = ap (λ (f : ℕ → List Closed). length (f l)) c.take_closed-taken.ensures.found.closed in
     let at = ap (λ (f : ℕ → List Closed). length (f l)) c.leave.ensures.closed
-    ∙ ap (λ (qs : List Closed). length qs) (row_same l _ (closed_of c.take_closed.new.queues))
-    ∙ length-append (closed_of c.take_closed.new.queues l) _ in
+    ∙ ap (λ (qs : List Closed). length qs) (row_same l _ (closed_of c.take_closed-taken.new.queues))
+    ∙ length-append (closed_of c.take_closed-taken.new.queues l) _ in
     omega arith
 
 pub leave-requires-clause-entered : goal.leave-requires-clause-entered
 leave-requires-clause-entered c =
     subst (λ (f : ℕ → ℕ → ℕ). 0 < f c.args.event.now.thread.0 c.args.lock.0)
-    (sym c.take_closed.ensures.found.opened) (c.requires.fits.sound.opened c.args.lock c.requires.turn)
+    (sym c.take_closed-taken.ensures.found.opened) (c.requires.fits.sound.opened c.args.lock c.requires.turn)
 
 pub leave-requires-clause-above : goal.leave-requires-clause-above
 leave-requires-clause-above c q u has =
@@ -42,7 +42,7 @@ leave-requires-clause-above c q u has =
     ∙ own_happens_before c.args.event.now (hb_of c.args.parts.now) _ c.advance.ensures.exact))
     (c.requires.fits.sound.above_closed c.args.lock q (record { 0 = u }) c.requires.turn
     (subst (λ (f : ℕ → List Closed). Has q (f c.args.lock.0))
-    c.take_closed.ensures.found.closed has))
+    c.take_closed-taken.ensures.found.closed has))
 
 pub leave-requires-clause-counted : goal.leave-requires-clause-counted
 leave-requires-clause-counted c =
@@ -62,6 +62,24 @@ leave-requires-clause-few c u =
     let few = c.requires.fits.few_counts u in
     omega arith)
 
+pub count_event-requires-clause-few : goal.count_event-requires-clause-few
+count_event-requires-clause-few c =
+    few_below c.args.event.now c.args.parts.now c.requires.fits c.requires.parts c.take_closed-taken.new.rows
+    c.take_closed-taken.ensures.below
+
+pub count_event-requires-clause-unchanged : goal.count_event-requires-clause-unchanged
+count_event-requires-clause-unchanged c none =
+    let e = c.args.event.now in
+    let old = c.args.parts.now in
+    let k : Turn = Closes c.args.lock in
+    let taken = c.take_closed-taken in
+    unchanged_clock e k old taken.new.rows c.advance.new.self c.requires.turn refl
+    (own_written e k old taken.new.rows taken.ensures.threads) (taken.ensures.none none) c.requires.fits
+    c.requires.parts c.advance.ensures.exact taken.ensures.below
+
+pub take_closed-taken-requires-clause-whole : goal.take_closed-taken-requires-clause-whole
+take_closed-taken-requires-clause-whole c = (c.requires.parts.whole.strict c.args.event.now.thread.0).whole
+
 pub returns : goal.returns
 returns c =
     let e = c.args.event.now in
@@ -69,9 +87,9 @@ returns c =
     let k : Turn = Closes c.args.lock in
     let t : ℕ = e.thread.0 in
     let l : ℕ = c.args.lock.0 in
-    let taken = c.take_closed in
+    let taken = c.take_closed-taken in
     let left = c.leave.ensures in
-    let strict = c.follow.ensures.strict in
+    let strict = c.count_event.ensures.strict in
     let own = own_written e k old taken.new.rows taken.ensures.threads in
     let g = c.hb-clock.ensures.exact ∙ own_happens_before e (hb_of old) _ c.advance.ensures.exact in
     let q : Closed = record {
@@ -83,7 +101,7 @@ returns c =
     ≡ with_row l (closed_of old.queues l ++ q ∷ []) (closed_of old.queues)
     = left.closed ∙ ap (λ (f : ℕ → List Closed). with_row l (f l ++ q ∷ []) f) taken.ensures.found.closed in
     let next : c.count.result ≡ suc (length (closed_of old.queues l))
-    = (let n = c.count.ensures in
+    = (let n = c.count_event.ensures in
     let w = ap (λ (f : ℕ → List Closed). length (f l)) longer
     ∙ ap (λ (qs : List Closed). length qs) (row_same l (closed_of old.queues l ++ q ∷ [])
     (closed_of old.queues))
@@ -100,7 +118,7 @@ returns c =
       locks = c.give_lock.ensures.locks
           ∙ ap₂ (λ (a : ℕ → ℕ) (f : ℕ → ℕ → ℕ). with_row l a f)
           (ap (λ r. r.thread t) strict ∙ own) (ap (λ r. r.lock) strict ∙ taken.ensures.locks);
-      below = c.give_lock.ensures.below ∙ c.follow.ensures.below
+      below = c.give_lock.ensures.below ∙ c.count_event.ensures.below
           ∙ followed_below e k old taken.new.rows c.advance.new.self own c.advance.ensures.exact
           taken.ensures.below;
       opened = left.opened
@@ -111,8 +129,6 @@ returns c =
       others = closing_clocks old.sums c.close.new.self t l c.count.result q (closed_of old.queues)
           (closed_of c.leave.new.self) c.requires.parts.numbers next longer c.close.ensures.others
           (hb_row e (state_of old)) g above;
-      by = closing_threads old.sums c.close.new.self t l c.count.result q (closed_of old.queues)
-          (closed_of c.leave.new.self) c.requires.parts.numbers next longer c.close.ensures.others refl;
       numbers = closing_numbers old.sums c.close.new.self t l c.count.result q (closed_of old.queues)
           (closed_of c.leave.new.self) c.requires.parts.numbers next longer c.close.ensures.others;
       closed = left.closed
@@ -132,7 +148,7 @@ returns c =
           ∙ row_same t _ (found_of old.queues l) in
           omega arith);
       room = room_then old.rows taken.new.rows c.give_lock.new.self taken.ensures.kept
-          (room_then taken.new.rows c.follow.new.self c.give_lock.new.self c.follow.ensures.kept
+          (room_then taken.new.rows c.count_event.new.self c.give_lock.new.self c.count_event.ensures.kept
           c.give_lock.ensures.kept);
       limits = record { width = c.advance.ensures.width; limits = left.limits ∙ taken.ensures.found.limits };
     }

@@ -41,7 +41,6 @@ returns c =
       held = refl;
       noted = refl;
       others = refl;
-      by = refl;
       numbers = c.requires.parts.numbers;
       closed = refl;
       found = refl;

@@ -30,7 +30,6 @@ returns c =
       held = refl;
       noted = refl;
       others = refl;
-      by = refl;
       numbers = c.requires.parts.numbers;
       closed = refl;
       found = refl;

@@ -4,7 +4,7 @@ use Rattle.event_core.specs.Turn.{Turn, Opens}
 use Rattle.hb_clocks.specs.Work.{Done}
 use Rattle.lock_queues.specs.Queues.{opened_of}
 use Rattle.wcp_laws.specs.Step.{hb_row}
-use Rattle.wcp_clocks.specs.Met.{met_clocks, met_threads, AreNumbers}
+use Rattle.wcp_clocks.specs.Met.{met_clocks, AreNumbers}
 use Rattle.wcp_clocks.specs.Parts.{hb_of, state_of}
 use Rattle.wcp_clocks.proofs.Taking.{room_then}
 use Rattle.wcp_clocks.proofs.OwnClocks.{followed_below}
@@ -47,7 +47,6 @@ returns c =
       held = c.add.ensures;
       noted = refl;
       others = ap (met_clocks old.sums) c.enter.ensures.closed;
-      by = ap (met_threads old.sums) c.enter.ensures.closed;
       numbers = subst (AreNumbers old.sums) (sym c.enter.ensures.closed) c.requires.parts.numbers;
       closed = c.enter.ensures.closed;
       found = c.enter.ensures.found;

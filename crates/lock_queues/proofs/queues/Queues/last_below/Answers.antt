@@ -35,6 +35,8 @@ returns c =
     let wide : new.limits.threads ≡ threads = ap (λ b. b.threads) c.seek.ensures.found.limits in
     let Reads : ℕ → List Closed → ℕ → ClosedSection → Type 0
     = λ k xs w r. (0 < k) × IsSection r.by.0 r.own r.before.now w (closed_at xs (k - 1)) in
+    let Told : ClosedSection → Closed → Type 0
+    = λ r q. (q.thread ≡ r.by.0) × (q.release ≡ bump r.by.0 (counts_of r.before.now)) in
     let known : MatchOption c.latest.result (n ≡ 0) (Reads n qs threads)
     = subst (λ (w : ℕ). MatchOption c.latest.result (n ≡ 0) (Reads n qs w)) wide
     (subst (λ (xs : List Closed). MatchOption c.latest.result (n ≡ 0) (Reads n xs new.limits.threads))
@@ -48,11 +50,10 @@ returns c =
         number = answer (n ≡ 0) (Reads n qs threads) (λ _. 0 < n) (λ z. z) (λ r h. h.0) known;
         latest =
             answer (latest_counted clock qs ≡ None) (Reads n qs threads)
-            (λ r. IsSomeAnd (latest_counted clock qs) (λ q. q.release ≡ bump r.by.0 (counts_of r.before.now)))
+            (λ r. IsSomeAnd (latest_counted clock qs) (Told r))
             (λ z. before.none_latest z)
-            (λ r h. subst
-            (λ (o : Option Closed). IsSomeAnd o (λ q. q.release ≡ bump r.by.0 (counts_of r.before.now)))
-            (sym (before.latest h.0)) (sym h.1.release))
+            (λ r h. subst (λ (o : Option Closed). IsSomeAnd o (Told r)) (sym (before.latest h.0))
+            (sym h.1.thread, sym h.1.release))
             known;
         below =
             answer (below_closed clock qs ≡ no_clock) (Reads n qs threads)
