@@ -8,7 +8,9 @@ ghost use Rattle.section_sum.specs.Sources.{left, most_sources};
 
 use crate::sources::Sources;
 use crate::table::Table;
-use crate::tables::{close_under, has_room_held, make_room_held, note_held, sources_under};
+use crate::tables::{
+    close_under, has_room_held, make_room_held, note_held, seek_held, sources_under,
+};
 use event_core::{AccessKind, LockId, OutOfMemory, ThreadId, VarId};
 use std::alloc::Global;
 use std::marker::Model;
@@ -59,6 +61,17 @@ impl Summaries {
         ensures { IsTrue result ↔ HasRoom self.now held.now var.0 }
     {
         has_room_held(&self.tables, held, var)
+    }
+
+    /// The same, told with what it finds being kept: where such accesses need no memory, `sources` and `note` for the
+    /// variable under these locks take no hash until another variable is named. Takes no memory.
+    #[inline(always)]
+    #[tactic(auto, unfolding(crate::specs::Sums::room_of))]
+    pub fn seek(&mut self, held: &[LockId], var: VarId) -> bool
+        ensures room { IsTrue result ↔ HasRoom self.old held.now var.0 }
+        ensures same { self.new ≡ self.old }
+    {
+        seek_held(&mut self.tables, held, var)
     }
 
     /// The thread, which has open sections on the locks, has such an access in each of them. Takes no memory.

@@ -129,6 +129,20 @@ impl Table {
         self.find(var).is_some()
     }
 
+    /// The same. Where they need none, the calls on the variable that come next find its place by no hash.
+    pub fn seek(&mut self, var: VarId) -> bool
+        ensures room { result ≡ room_at self.old var.0 }
+        ensures same { self.new ≡ self.old }
+    {
+        match self.find(var) {
+            Some(at) => {
+                self.last = at;
+                true
+            }
+            None => false,
+        }
+    }
+
     /// The sections that such an access meets: the newest by another thread with a store, and for a store
     /// also that with a load.
     #[tactic(auto, unfolding(crate::specs::Sources::left))]

@@ -87,6 +87,29 @@ fn has_room_under(tables: &[Table], lock: LockId, var: VarId) -> bool
     at < tables.len() && tables[at].has_room(var)
 }
 
+/// The same. Where they need none, the calls on the variable that come next find its places by no hash.
+pub fn seek_held(tables: &mut [Table], held: &[LockId], var: VarId) -> bool
+    ensures room { IsTrue result ↔ ((l : ℕ) → is_held held.now l ≡ true
+        → room_at (table_at tables.old l) var.0 ≡ true) }
+    ensures same { tables.new ≡ tables.old }
+{
+    for lock in held {
+        if !seek_under(tables, *lock, var) {
+            return false;
+        }
+    }
+    true
+}
+
+// Whether accesses to the variable need no memory under the lock. Its place is kept.
+fn seek_under(tables: &mut [Table], lock: LockId, var: VarId) -> bool
+    ensures room { result ≡ room_at (table_at tables.old lock.0) var.0 }
+    ensures same { tables.new ≡ tables.old }
+{
+    let at = lock.0 as usize;
+    at < tables.len() && tables[at].seek(var)
+}
+
 /// The access is noted under each of the locks.
 pub fn note_held(
     tables: &mut Vec<Table>,

@@ -68,6 +68,13 @@ pub record HasRoom (m : Monitored) (t : ThreadId) (o : Op) : Type 0 where
   pub events : slots_for (open_acquires m.log) o ≤ m.parts.events
   pub verdicts : slots_for (open_acquires m.log) o ≤ m.parts.verdicts
 
+-- there is room for it in each part but the clocks
+pub record HasOtherRoom (m : Monitored) (t : ThreadId) (o : Op) : Type 0 where
+  pub memory : MemoryIsReady m.parts.memory t o
+  pub accesses : AccessHasRoom m.parts.accesses t o
+  pub events : slots_for (open_acquires m.log) o ≤ m.parts.events
+  pub verdicts : slots_for (open_acquires m.log) o ≤ m.parts.verdicts
+
 -- there is room for both events of a swap
 pub record HasRoomToSwap (m : Monitored) (t : ThreadId) (x : VarId) : Type 0 where
   pub load : HasRoom m t (Load x)

@@ -29,7 +29,7 @@ ghost use Rattle.wcp_clocks.specs.StandsFor.{StandsFor};
 
 use crate::numbers::{below_clock, below_number, strict_number};
 use crate::parts::Parts;
-use crate::room::{are_both_ready, are_ready, new_parts, prepare_both, prepare_parts};
+use crate::room::{are_both_ready, are_ready, new_parts, prepare_both, prepare_parts, seek};
 use crate::turns::step;
 use event_core::{Event, Limits, OutOfMemory, ThreadId, VarId};
 use hb_clocks::Clock;
@@ -88,6 +88,16 @@ impl WcpClocks {
         ensures releases { IsHeldRelease (hb_of self.now) event.now.thread event.now.op → IsTrue result }
     {
         are_ready(&self.parts, event)
+    }
+
+    /// The same. Where there is room, `advance` finds the places of an access by no search, if it comes next.
+    #[inline(always)]
+    pub fn seek(&mut self, event: &Event) -> bool
+        ensures ready { IsTrue result ↔ IsReady self.old event.now }
+        ensures releases { IsHeldRelease (hb_of self.old) event.now.thread event.now.op → IsTrue result }
+        ensures same { self.new ≡ self.old }
+    {
+        seek(&mut self.parts, event)
     }
 
     /// Makes room for both events of a swap, a load and then a store of the variable. No number changes,

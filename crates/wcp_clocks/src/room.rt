@@ -130,6 +130,39 @@ fn has_access(parts: &Parts, thread: ThreadId, var: VarId) -> bool
     parts.sums.is_ready(held, var)
 }
 
+// The same as `are_ready`. The places of an access are kept for the step that comes next.
+#[inline(always)]
+pub(crate) fn seek(parts: &mut Parts, event: &Event) -> bool
+    requires parts { AreParts parts.old }
+    ensures ready { IsTrue result ↔ IsReady parts.old event.now }
+    ensures releases { IsHeldRelease (hb_of parts.old) event.now.thread event.now.op → IsTrue result }
+    ensures same { parts.new ≡ parts.old }
+{
+    parts.rows.has_thread(event.thread) && seek_named(parts, event.thread, event.op)
+}
+
+// Whether there is room for what the operation names. The places of an access are kept.
+#[inline(always)]
+fn seek_named(parts: &mut Parts, thread: ThreadId, op: Op) -> bool
+    ensures named { IsTrue result ↔ HasNamed parts.old thread op }
+    ensures same { parts.new ≡ parts.old }
+{
+    match op {
+        Op::Load(var) | Op::Store(var) => seek_access(parts, thread, var),
+        _ => has_named(parts, thread, op),
+    }
+}
+
+// Whether there is room for the access in each section that is open at it. Its places are kept.
+#[inline(always)]
+fn seek_access(parts: &mut Parts, thread: ThreadId, var: VarId) -> bool
+    ensures room { IsTrue result ↔ HasRoom parts.old.sums (list_at parts.old.held thread.0).locks var.0 }
+    ensures same { parts.new ≡ parts.old }
+{
+    let held = parts.held.of(thread);
+    parts.sums.seek(held, var)
+}
+
 // Whether there is room for a section on the lock.
 fn has_section(parts: &Parts, thread: ThreadId, lock: LockId) -> bool
     ensures { IsTrue result ↔ (HasLock parts.now.rows lock.0
