@@ -63,8 +63,8 @@ impl Summaries {
         has_room_held(&self.tables, held, var)
     }
 
-    /// The same, told with what it finds being kept: where such accesses need no memory, `sources` and `note` for the
-    /// variable under these locks take no hash until another variable is named. Takes no memory.
+    /// The same. Where they need none, the calls for the variable under these locks that come next look
+    /// nothing up. Takes no memory.
     #[inline(always)]
     #[tactic(auto, unfolding(crate::specs::Sums::room_of))]
     pub fn seek(&mut self, held: &[LockId], var: VarId) -> bool

@@ -160,7 +160,7 @@ fn seek_access(parts: &mut Parts, thread: ThreadId, var: VarId) -> bool
     ensures same { parts.new ≡ parts.old }
 {
     let held = parts.held.of(thread);
-    parts.sums.seek(held, var)
+    held.is_empty() || parts.sums.seek(held, var)
 }
 
 // Whether there is room for a section on the lock.

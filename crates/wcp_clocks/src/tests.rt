@@ -245,3 +245,15 @@ fn room_is_made_for_one_event(rt: HostRuntime) -> Result<(), Fail> {
     assert!(rt; clocks.ready_swap(CHILD, X));
     Ok(())
 }
+
+#[test]
+fn places_are_sought_where_there_is_room(rt: HostRuntime) -> Result<(), Fail> {
+    let mut clocks = begin(rt.alloc())?;
+    let load = event(MAIN, Op::Load(X));
+    assert!(rt; !clocks.seek(&load));
+    make_room(&mut clocks, &load)?;
+    assert!(rt; clocks.seek(&load));
+    assert!(rt; !clocks.seek(&event(CHILD, Op::Load(X))));
+    assert!(rt; !clocks.seek(&event(MAIN, Op::Acquire(L))));
+    Ok(())
+}

@@ -65,6 +65,7 @@ impl Memory {
         self.has_room(thread, Op::Store(var))
     }
 
+    #[inline(always)]
     fn has_room(&self, thread: ThreadId, op: Op) -> bool
         ensures room { IsTrue result ↔ IsReady self.now thread op }
         ensures release { (lock : Lock) → op ≡ Operation.Release lock
