@@ -138,6 +138,18 @@ impl Run {
         clock.join(self.clocks.hb(thread), &mut self.work);
         self.calls += 1;
     }
+
+    // The clock takes the numbers of a release by the thread. Just before it they are these.
+    fn join_release(&mut self, rt: &impl Abort, by: ThreadId, before: &[u32], clock: &mut Clock)
+        requires own { by.0 < length before.now }
+        requires within { length before.now ≤ 3 }
+        requires width { length clock.old ≡ 3 }
+        ensures { length clock.new ≡ 3 }
+    {
+        assert!(rt; self.calls < 100);
+        clock.join_release(by, before, &mut self.work);
+        self.calls += 1;
+    }
 }
 
 pub fn event(thread: ThreadId, op: Op) -> Event
@@ -289,6 +301,19 @@ fn clocks_take_the_greater_numbers(rt: HostRuntime) -> Result<(), Fail> {
     expect_numbers(&rt, &clock, [2, 0, 0]);
     run.join(&rt, T2, &mut clock);
     expect_numbers(&rt, &clock, [2, 0, 1]);
+    Ok(())
+}
+
+#[test]
+fn a_release_is_one_more_than_the_numbers_before_it(rt: HostRuntime) -> Result<(), Fail> {
+    let mut run = Run::begin(rt.alloc())?;
+    run.take_all(&rt, &[(T0, Op::Store(X)), (T0, Op::Store(Y))]);
+    let mut clock = zeros(rt.alloc())?;
+    clock.copy_from(run.clocks.po(T0));
+    run.join_release(&rt, T1, &[1, 4], &mut clock);
+    expect_numbers(&rt, &clock, [2, 5, 0]);
+    run.join_release(&rt, T1, &[3, 2, 6], &mut clock);
+    expect_numbers(&rt, &clock, [3, 5, 6]);
     Ok(())
 }
 
