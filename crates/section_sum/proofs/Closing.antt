@@ -33,10 +33,8 @@ use Rattle.std.proofs.lemmas.Bool.{cases_eq, eq-eqb}
 use Rattle.std.proofs.lemmas.List.{length_push}
 use Rattle.std.proofs.lemmas.List.Sums.{sum_by-set, count_by-le-length}
 use Rattle.section_sum.specs.declared.cell.Cell.{Cell}
-use Rattle.section_sum.specs.declared.cell.Side.{Side}
 use Rattle.event_core.specs.declared.events.AccessKind.{AccessKind}
 use Rattle.event_core.specs.declared.events.AccessKind.TheVariants.{Read, Write}
-use Rattle.section_sum.specs.Newest.{closed_two}
 use Rattle.section_sum.specs.Cells.{
   no_cell,
   cell_at,

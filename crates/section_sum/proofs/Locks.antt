@@ -1,7 +1,7 @@
 -- The tables of all locks after a call on one of them.
 use Rattle.std.proofs.Common.{◌≡◌, ℕ, ◌+◌, ◌<◌, ◌≤◌, Bool, true, false, not, inl, inr, cond, ◌&&◌, ◌||◌}
 use Rattle.std.proofs.Common.{◌⊎◌, List, [], ◌∷◌, ◌++◌, length, suc, zero, nat_eq, get_or, set, take, refl}
-use Rattle.std.proofs.Common.{sym, ap, ap₂, subst, ◌∙◌, arith}
+use Rattle.std.proofs.Common.{sym, ap, subst, ◌∙◌, arith}
 use Rattle.std.proofs.lemmas.Bool.{cases_eq, cases_lt, eq-eqb, eqb-true}
 use Rattle.std.proofs.lemmas.List.{get_or_append_left, get_or_default, get_or_past, length_push}
 use Rattle.std.proofs.Math.Seq.{get_or-append_seam}
@@ -10,20 +10,10 @@ use Rattle.event_core.specs.declared.ids.LockId.{LockId}
 use Rattle.event_core.specs.declared.events.AccessKind.{AccessKind}
 use Rattle.event_core.specs.declared.events.AccessKind.TheVariants.{Read, Write}
 use Rattle.section_sum.specs.declared.cell.Cell.{Cell}
-use Rattle.section_sum.specs.Newest.{others_at, section}
+use Rattle.section_sum.specs.Newest.{others_at}
 use Rattle.section_sum.specs.Cells.{no_cell, side, is_kind}
-use Rattle.section_sum.specs.Entries.{
-  Entries,
-  cell_of,
-  noted_at,
-  others_on,
-  sources_on,
-  room_at,
-  IsAlone,
-  HasGrown,
-  HasNoted,
-  HasClosed,
-}
+use Rattle.section_sum.specs.Entries.{Entries, cell_of, noted_at, others_on, room_at, IsAlone, HasGrown}
+use Rattle.section_sum.specs.Entries.{HasNoted, HasClosed}
 use Rattle.section_sum.specs.Sums.{no_entries, table_at, is_held, is_access}
 use Rattle.section_sum.specs.Tables.{HaveGrown, HaveNoted, HaveClosed}
 use Rattle.section_sum.proofs.Basics.{ne_eqb, false_true, or_true, or_false, and_true, and_false, at_set}

@@ -18,7 +18,6 @@ use Rattle.wcp_clocks.specs.HeldLists.{held_of}
 use Rattle.wcp_clocks.specs.StrictRows.{strict_of, below_of, HasThread, HasLock}
 use Rattle.wcp_clocks.specs.Parts.{hb_of, state_of, found_in, AreParts, IsReady, HasNamed, most_joins}
 use Rattle.wcp_clocks.specs.Parts.{FewComparisons, Fits, IsAccess, KeepsReady}
-use Rattle.lock_queues.specs.Queues.{closed_of}
 use Rattle.wcp_clocks.specs.Whole.{AreWhole}
 use Rattle.wcp_clocks.proofs.Ordered.{ordered_more, ordered_same}
 use Rattle.wcp_clocks.proofs.Wholeness.{whole_after}

@@ -1,4 +1,4 @@
-use Rattle.std.proofs.Common.{ℕ, sym, ap, ◌∙◌, refl}
+use Rattle.std.proofs.Common.{◌∙◌, refl}
 use Rattle.event_core.specs.Turn.{Accesses}
 use Rattle.wcp_clocks.proofs.Accessing.{own_taken, access_step, access_keeps}
 use Rattle.wcp_clocks.proofs.Taking.{room_then}
