@@ -63,8 +63,8 @@ impl Summaries {
         has_room_held(&self.tables, held, var)
     }
 
-    /// The same. Where they need none, the calls for the variable under these locks that come next look
-    /// nothing up. Takes no memory.
+    /// Whether such accesses need no memory, as `is_ready` tells. Where they need none, the next calls of
+    /// `sources` and `note` for the variable under these locks take no hash. Takes no memory.
     #[inline(always)]
     #[tactic(auto, unfolding(crate::specs::Sums::room_of))]
     pub fn seek(&mut self, held: &[LockId], var: VarId) -> bool

@@ -129,7 +129,8 @@ impl Table {
         self.find(var).is_some()
     }
 
-    /// The same. Where they need none, the calls on the variable that come next find its place by no hash.
+    /// Whether accesses to the variable need no memory, as `has_room` tells. Where they need none, the next
+    /// calls for the variable find its place by no hash.
     pub fn seek(&mut self, var: VarId) -> bool
         ensures room { result ≡ room_at self.old var.0 }
         ensures same { self.new ≡ self.old }

@@ -87,7 +87,8 @@ fn has_room_under(tables: &[Table], lock: LockId, var: VarId) -> bool
     at < tables.len() && tables[at].has_room(var)
 }
 
-/// The same. Where they need none, the calls on the variable that come next find its places by no hash.
+/// Whether accesses to the variable need no memory under each of the locks, as `has_room_held` tells. Where
+/// they need none, the next calls for the variable find its places by no hash.
 pub fn seek_held(tables: &mut [Table], held: &[LockId], var: VarId) -> bool
     ensures room { IsTrue result ↔ ((l : ℕ) → is_held held.now l ≡ true
         → room_at (table_at tables.old l) var.0 ≡ true) }

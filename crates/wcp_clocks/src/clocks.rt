@@ -90,7 +90,8 @@ impl WcpClocks {
         are_ready(&self.parts, event)
     }
 
-    /// The same. Where there is room, `advance` finds the places of an access by no search, if it comes next.
+    /// Whether there is room for the event, as `ready` tells. Where there is, an `advance` that comes next
+    /// does not search again for the places of an access.
     #[inline(always)]
     pub fn seek(&mut self, event: &Event) -> bool
         ensures ready { IsTrue result ↔ IsReady self.old event.now }
