@@ -8,10 +8,8 @@ use Rattle.std.proofs.lemmas.List.{get_or_append_left, get_or_past, length_push}
 use Rattle.std.proofs.Math.Seq.{get_or-append_seam}
 use Rattle.std.proofs.lemmas.List.Sums.{passes_at_first, prefix_len-le-length, sum_by-append}
 use Rattle.std.proofs.lemmas.List.Folds.{position_or_len_push}
-use Rattle.std.proofs.lemmas.Option.{slice_get_within, get_or_from_slice_get}
 use Rattle.std.proofs.lemmas.Grind.{common_steps}
 use Rattle.section_sum.specs.declared.cell.Cell.{Cell}
-use Rattle.std.specs.Prelude.{Some, slice_get}
 use Rattle.section_sum.specs.Cells.{no_cell, cell_at, is_noted, AreKept, AreFew}
 use Rattle.section_sum.specs.Entries.{place_of, IsGrown, AreUnique}
 use Rattle.section_sum.proofs.Basics.{ne_eqb}
@@ -30,12 +28,6 @@ same_place vars var v h = elim (cases_eq v var) [
       here ∙ ap (λ b. get_or vars b 0) q ∙ sym there))
       ∙ sym (ne_eqb v var n)
 ]
-
-pub place_at : (vars : List ℕ) (i v : ℕ) → AreUnique vars → slice_get vars i ≡ Some v
-    → (i ≡ place_of vars v) × (i < length vars)
-place_at vars i v un e =
-    let l : i < length vars = slice_get_within vars i v e in
-    (sym (un i l) ∙ ap (place_of vars) (get_or_from_slice_get vars i v 0 e), l)
 
 place_left : (vars : List ℕ) (var v : ℕ) → place_of vars v < length vars
     → place_of (vars ++ var ∷ []) v ≡ place_of vars v

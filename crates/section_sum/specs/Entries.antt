@@ -17,11 +17,14 @@ use Rattle.std.specs.Prelude.{
   nat_eq,
   nat_lt,
   slice_index,
+  Option,
+  IfSome,
 }
 use Rattle.std.specs.List.{position_or_len}
 use Rattle.section_sum.specs.Newest.{others_at, section}
 use Rattle.section_sum.specs.Cells.{cell_at, side, is_kind, AreKept, AreFew}
 use Rattle.section_sum.specs.declared.cell.Cell.{Cell}
+use Rattle.section_sum.specs.declared.table.Sought.{Sought}
 use Rattle.event_core.specs.declared.events.AccessKind.{AccessKind}
 use Rattle.event_core.specs.declared.events.AccessKind.TheVariants.{Read, Write}
 
@@ -61,13 +64,20 @@ IsAlone p t = (u v : ℕ) (k : AccessKind) → (u ≡ t → ⊥) → noted_at p 
 abbrev pub AreUnique : List ℕ → Type 0
 AreUnique vars = (i : ℕ) → i < length vars → place_of vars (slice_index vars i) ≡ i
 
+-- what was sought stands there
+abbrev pub IsSought : List ℕ → Option Sought → Type 0
+IsSought vars sought = IfSome sought (λ s. (s.at ≡ place_of vars s.var) × (s.at < length vars))
+
 -- what the fields of a table keep
-pub record AreEntries (vars : List ℕ) (cells : List Cell) (listed : List ℕ) (most : ℕ) : Type 0 where
+pub record AreEntries (vars : List ℕ) (cells : List Cell) (listed : List ℕ) (most : ℕ)
+    (sought : Option Sought)
+    : Type 0 where
   pub same : length cells ≡ length vars
   pub unique : AreUnique vars
   pub kept : AreKept cells listed
   pub few : AreFew cells listed
   pub capacity : length cells ≤ most
+  pub sought_is : IsSought vars sought
 
 -- a variable joined, or none, and each says the same as before
 pub record IsGrown (vars : List ℕ) (cells : List Cell) (vars_after : List ℕ) (cells_after : List Cell)

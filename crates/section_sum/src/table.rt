@@ -9,6 +9,7 @@ ghost use Rattle.std.specs.Prelude.{true, if◌then◌else◌, OnOk, MatchOption
 ghost use Rattle.section_sum.specs.Cells.{closed, marked_as, no_cell};
 ghost use Rattle.section_sum.specs.Entries.{sources_on, room_at, place_of, cell_of};
 ghost use Rattle.section_sum.specs.Entries.{IsAlone, IsGrown, HasGrown, HasNoted, HasClosed, AreUnique};
+ghost use Rattle.section_sum.specs.Entries.{IsSought};
 ghost use Rattle.section_sum.specs.Sources.{left};
 
 use crate::cell::{Cell, close_cells, new_cell, note_cell};
@@ -26,8 +27,15 @@ pub struct Table {
     cells: Vec<Cell>,
     by: ThreadId,
     listed: Vec<usize>,
-    // Where the variable stands that was looked up last, if it is within.
-    last: usize,
+    // What was looked up last, if it was found since a variable joined.
+    sought: Option<Sought>,
+}
+
+/// A variable, and where it stands.
+#[derive(Clone, Copy)]
+pub struct Sought {
+    pub(crate) var: u32,
+    pub(crate) at: usize,
 }
 
 impl Model for Table {
@@ -37,7 +45,8 @@ impl Model for Table {
 
     ghost view = { λ a. record { vars = a.vars.keys; cells = a.cells.items; by = a.by.0 } };
 
-    ghost invariant = { λ a. AreEntries a.vars.keys a.cells.items a.listed.items a.listed.cap };
+    ghost invariant = { λ a.
+        AreEntries a.vars.keys a.cells.items a.listed.items a.listed.cap a.sought };
 }
 
 impl Table {
@@ -50,7 +59,7 @@ impl Table {
             cells: Vec::new(alloc),
             by: ThreadId(0),
             listed: Vec::new(alloc),
-            last: 0,
+            sought: None,
         }
     }
 
@@ -60,7 +69,7 @@ impl Table {
         ensures place { MatchOption result (length self.now.cells ≤ place_of self.now.vars var.0)
             (λ i. (i ≡ place_of self.now.vars var.0) × (i < length self.now.cells)) }
     {
-        find_place(&self.vars, self.last, var)
+        find_place(&self.vars, self.sought, var)
     }
 
     // The thread's open section has such an access.
@@ -73,7 +82,7 @@ impl Table {
         if let Some(at) = self.find(var) {
             note_cell(&mut self.cells, &mut self.listed, at, kind);
             self.by = thread;
-            self.last = at;
+            self.sought = Some(Sought { var: var.0, at });
         }
     }
 
@@ -111,14 +120,9 @@ impl Table {
         ensures grown { HasGrown self.old self.new }
         ensures room { OnOk result (room_at self.new var.0 ≡ true) }
     {
-        let at = make_cell(
-            &mut self.vars,
-            &mut self.cells,
-            &mut self.listed,
-            self.last,
-            var,
-        )?;
-        self.last = at;
+        self.sought = None;
+        let at = make_cell(&mut self.vars, &mut self.cells, &mut self.listed, var)?;
+        self.sought = Some(Sought { var: var.0, at });
         Ok(())
     }
 
@@ -137,7 +141,7 @@ impl Table {
     {
         match self.find(var) {
             Some(at) => {
-                self.last = at;
+                self.sought = Some(Sought { var: var.0, at });
                 true
             }
             None => false,
@@ -168,27 +172,19 @@ impl Table {
     }
 }
 
-// Where the variable stands: mostly where the one before stood, and else by one hash.
-fn find_place(vars: &IndexSet<u32>, last: usize, var: VarId) -> Option<usize>
-    requires unique { AreUnique vars.now.keys }
+// Where the variable stands: it was sought before, or is found by one hash.
+#[inline(always)]
+fn find_place(vars: &IndexSet<u32>, sought: Option<Sought>, var: VarId) -> Option<usize>
+    requires sought { IsSought vars.now.keys sought }
     ensures { MatchOption result (length vars.now.keys ≤ place_of vars.now.keys var.0)
         (λ i. (i ≡ place_of vars.now.keys var.0) × (i < length vars.now.keys)) }
 {
-    if is_at(vars, last, var) {
-        return Some(last);
+    if let Some(known) = sought {
+        if known.var == var.0 {
+            return Some(known.at);
+        }
     }
     vars.get_index_of(&var.0)
-}
-
-#[tactic(auto, using(crate::proofs::Places::place_at))]
-fn is_at(vars: &IndexSet<u32>, place: usize, var: VarId) -> bool
-    requires unique { AreUnique vars.now.keys }
-    ensures { IsTrue result → (place ≡ place_of vars.now.keys var.0) × (place < length vars.now.keys) }
-{
-    match vars.get_index(place) {
-        Some(known) => *known == var.0,
-        None => false,
-    }
 }
 
 // The variable has a cell. Answers its number.
@@ -196,7 +192,6 @@ fn make_cell(
     vars: &mut IndexSet<u32>,
     cells: &mut Vec<Cell>,
     listed: &mut Vec<usize>,
-    last: usize,
     var: VarId,
 ) -> Result<usize, OutOfMemory>
     requires same { length cells.old.items ≡ length vars.old.keys }
@@ -207,7 +202,7 @@ fn make_cell(
     ensures listed { listed.new.items ≡ listed.old.items }
     ensures capacity { length cells.new.items ≤ listed.new.cap }
 {
-    if let Some(at) = find_place(vars, last, var) {
+    if let Some(at) = find_place(vars, None, var) {
         return Ok(at);
     }
     let at = cells.len();

@@ -18,6 +18,11 @@ invariant_of-self c =
     let whole_length = ap length w in
     let most = c.self.invariant.capacity in
     let cap = c.note_cell.ensures.capacity in
+    let at : c.in-Some.at ≡ place_of c.self.inside.vars.keys c.args.var.0
+    = c.in-Some.ensures.place.0 ∙ ap (λ (p : Entries). place_of p.vars c.args.var.0) (sym c.self.view_is) in
+    let known = subst (λ i. i < length c.self.inside.vars.keys) (sym at)
+    (ltb-true _ _ (subst (λ (p : Entries). room_at p c.args.var.0 ≡ true) (sym c.self.view_is)
+    c.requires.room)) in
     record {
       same = ap length w ∙ long ∙ c.self.invariant.same;
       unique = c.self.invariant.unique;
@@ -25,6 +30,7 @@ invariant_of-self c =
       few = subst (λ (xs : List Cell). AreFew xs c.note_cell.new.listed.items) (sym w)
           c.note_cell.ensures.few;
       capacity = omega (arith, whole_length, long, most, cap);
+      sought_is = (at, known);
     }
 
 pub returns-in-Some-clause-cells : goal.returns-in-Some-clause-cells
