@@ -6,7 +6,10 @@ pub mod Reading
 pub mod Shortage
 pub mod Keeping
 pub mod Given
-pub mod Asking
+pub mod CommandArguments
+pub mod CommandWords
+pub mod CommandSettings
+pub mod CommandFaults
 pub mod Hindrance
 pub mod Obeying
 pub mod ScriptRuns

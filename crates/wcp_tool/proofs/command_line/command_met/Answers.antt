@@ -3,7 +3,7 @@ use Rattle.std.specs.Prelude.{option_map}
 use Rattle.std.specs.Box.{box_value}
 use Rattle.clap.specs.Words.{Row, Text, found_of, rows_of}
 use Rattle.clap.specs.declared.parser.matches.ArgMatches.TheViews.{out-ArgMatches, out-SubCommand}
-use Rattle.wcp_tool.proofs.Asking.{some_is}
+use Rattle.wcp_tool.proofs.CommandSettings.{some_is}
 use Rattle.wcp_tool.proofs.command_line.command_met.Goals as goal
 
 pairs : {A : Type 0} (s : Option A) (f : A → Text) (g : A → List Row) (name : Text) (rows : List Row)

@@ -1,7 +1,7 @@
 use Rattle.std.proofs.Common.{◌∙◌, ap, codes}
 use Rattle.clap.specs.Words.{found_of}
 use Rattle.clap.proofs.WalkLemmas.{first_value-rows}
-use Rattle.wcp_tool.proofs.Asking.{found_text}
+use Rattle.wcp_tool.proofs.CommandSettings.{found_text}
 use Rattle.wcp_tool.proofs.command_line.file_of.Goals as goal
 
 pub returns : goal.returns

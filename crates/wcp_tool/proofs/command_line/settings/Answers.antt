@@ -2,8 +2,8 @@ use Rattle.std.proofs.Common.{◌≡◌, ◌∙◌, sym, map, codes, rules}
 use Rattle.std.specs.String.{string_bytes}
 use Rattle.clap.specs.Words.{app_of, found_of, rows_of}
 use Rattle.clap.proofs.WalkLemmas.{one_text-rows}
-use Rattle.wcp_tool.proofs.Asking.{fault_is, has_command, has_fault, has_no_fault, run_settings}
-use Rattle.wcp_tool.proofs.Asking.{trace_settings, was_met}
+use Rattle.wcp_tool.proofs.CommandFaults.{fault_is, has_command, has_fault, has_no_fault, was_met}
+use Rattle.wcp_tool.proofs.CommandSettings.{run_settings, trace_settings}
 use Rattle.wcp_tool.proofs.command_line.settings.Goals as goal
 
 pub command_met-requires : goal.command_met-requires

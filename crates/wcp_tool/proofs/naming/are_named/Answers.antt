@@ -5,7 +5,7 @@ use Rattle.std.proofs.lemmas.Bool.{cases_lt}
 use Rattle.std.proofs.lemmas.Option.{slice_get_within}
 use Rattle.event_core.specs.declared.events.Event.{Event}
 use Rattle.rapid_text.specs.Events.{HasNames}
-use Rattle.wcp_tool.proofs.Asking.{some_is}
+use Rattle.wcp_tool.proofs.CommandSettings.{some_is}
 use Rattle.wcp_tool.proofs.naming.are_named.Goals as goal
 
 pub events-preserved : goal.events-preserved
