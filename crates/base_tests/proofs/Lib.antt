@@ -1,2 +1,4 @@
 pub mod FewJoins
 pub mod QuietLogs
+pub mod WorkedLogs
+pub mod OneSection

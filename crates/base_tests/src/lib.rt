@@ -1,6 +1,6 @@
 //! Tests of the crates below the monitors and the reports: the limits, the log and the steps of `event_core`,
-//! traces as text, the memory of traced programs, the clocks of happens-before, the verdicts on accesses, and
-//! the passes over a shared log.
+//! traces as text, the memory of traced programs, the clocks of happens-before and of weak causal precedence,
+//! the closed sections that these stand on, the verdicts on accesses, and the passes over a shared log.
 //!
 //! The crate has tests alone, and they see no more of those crates than any caller does. They stand here
 //! and not in the crates themselves since a crate is proved once more with its tests.
@@ -16,5 +16,11 @@ mod logs;
 mod memory;
 #[cfg(test)]
 mod passes;
+#[cfg(test)]
+mod queues;
+#[cfg(test)]
+mod strict_clocks;
+#[cfg(test)]
+mod summaries;
 #[cfg(test)]
 mod texts;

@@ -9,4 +9,3 @@ pub mod Keeping
 pub mod Changes
 pub mod Lifting
 pub mod Answering
-pub mod Testing

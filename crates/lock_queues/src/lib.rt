@@ -11,6 +11,3 @@ mod sections;
 
 pub use queues::Queues;
 pub use sections::ClosedSection;
-
-#[cfg(test)]
-mod tests;

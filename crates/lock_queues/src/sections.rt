@@ -13,6 +13,7 @@ use event_core::{OutOfMemory, ThreadId};
 use hb_clocks::{Clock, Mark, Work};
 use std::alloc::Global;
 use std::marker::Model;
+use std::mem::size_of;
 
 /// A closed section: the mark of its acquire, how many events of its own thread happened before its release,
 /// and where the numbers of its release end. They begin where those of the section before it end.
@@ -22,6 +23,9 @@ pub(crate) struct Entry {
     pub(crate) own: u32,
     pub(crate) ends: usize,
 }
+
+// A closed section takes so many bytes, and beside them 4 for each number of its release.
+const _: () = prove!(size_of::<Entry>() == 32);
 
 /// A closed section: the thread whose it was, and of each thread how many events happened before its
 /// release. The release is one more event of its own thread. Beyond the list each number is 0.

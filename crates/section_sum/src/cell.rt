@@ -6,6 +6,7 @@ ghost use Rattle.section_sum.specs.Cells.{cell_at, no_cell, AreKept, AreFew};
 
 use crate::newest::Newest;
 use event_core::{AccessKind, ThreadId};
+use std::mem::size_of;
 
 /// Whether the open section has an access of a kind, and the newest closed ones with such an access.
 #[derive(Clone, Copy)]
@@ -20,6 +21,9 @@ pub struct Cell {
     pub reads: Side,
     pub writes: Side,
 }
+
+// A variable takes so many bytes under a lock.
+const _: () = prove!(size_of::<Cell>() == 32);
 
 /// No accesses.
 pub fn new_cell() -> Cell

@@ -23,8 +23,6 @@ mod sources;
 mod summaries;
 mod table;
 mod tables;
-#[cfg(test)]
-mod tests;
 
 pub use sources::Sources;
 pub use summaries::Summaries;

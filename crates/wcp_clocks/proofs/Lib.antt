@@ -20,4 +20,3 @@ mod Taking
 mod TurnWords
 mod Wholeness
 pub mod WorkLaws
-pub mod WorkedLogs

@@ -8,4 +8,3 @@ pub mod Stepping
 pub mod StrictRows
 pub mod Whole
 pub mod WorkWithin
-pub mod WorkedLogs

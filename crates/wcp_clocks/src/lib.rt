@@ -9,8 +9,6 @@ mod parts;
 mod room;
 mod sources;
 mod strict;
-#[cfg(test)]
-mod tests;
 mod turns;
 
 pub use clocks::WcpClocks;

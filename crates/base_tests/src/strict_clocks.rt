@@ -7,13 +7,13 @@ ghost use Rattle.std.specs.Prelude.{◌≡◌, ◌<◌, IfOk, OnOk, Some, [], le
 ghost use Rattle.event_core.specs.Refusal.{WellFormed};
 ghost use Rattle.wcp_clocks.specs.Parts.{IsReady, IsReadyToSwap, IsWithin, SameLimits, SameNumbers, event_by};
 ghost use Rattle.wcp_clocks.specs.StandsFor.{StandsFor};
-ghost use Rattle.wcp_clocks.specs.WorkedLogs.{small, log_of};
+ghost use Rattle.base_tests.specs.WorkedLogs.{small, log_of};
 
-use crate::clocks::WcpClocks;
 use event_core::{Event, Limits, LockId, Op, OutOfMemory, Roots, SiteId, ThreadId, VarId};
 use std::alloc::Global;
 use std::process::Abort;
 use std::test::Fail;
+use wcp_clocks::WcpClocks;
 
 const MAIN: ThreadId = ThreadId(0);
 

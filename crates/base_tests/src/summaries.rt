@@ -3,10 +3,8 @@ ghost use Rattle.std.specs.Prelude.{◌≡◌, ℕ, false, OnOk};
 ghost use Rattle.event_core.specs.declared.events.AccessKind.{AccessKind as Kind};
 ghost use Rattle.section_sum.specs.Sums.{noted_of, HasRoom, SameNoted, SameOthers};
 
-use crate::Summaries;
-use crate::cell::Cell;
 use event_core::{AccessKind, LockId, OutOfMemory, ThreadId, VarId};
-use std::mem::size_of;
+use section_sum::Summaries;
 use std::test::Fail;
 
 const A: LockId = LockId(0);
@@ -68,11 +66,6 @@ fn met(
         .sources(ThreadId(thread), lock, var, kind);
     let first = sources.next();
     [first, sources.next()]
-}
-
-#[test]
-fn a_variable_takes_32_bytes_under_a_lock(rt: HostRuntime) {
-    assert_eq!(rt; size_of::<Cell>(), 32);
 }
 
 #[test]

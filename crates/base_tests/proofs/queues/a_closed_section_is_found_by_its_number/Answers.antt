@@ -1,6 +1,6 @@
 use Rattle.std.proofs.Common.{ℕ, List, length, ap, arith}
 use Rattle.event_core.specs.Closed.{Closed}
-use Rattle.lock_queues.proofs.tests.a_closed_section_is_found_by_its_number.Goals as goal
+use Rattle.base_tests.proofs.queues.a_closed_section_is_found_by_its_number.Goals as goal
 
 pub count-requires : goal.count-requires
 count-requires g c =

@@ -3,8 +3,8 @@ use Rattle.event_core.specs.declared.events.Event.{Event}
 use Rattle.event_core.specs.declared.events.Op.TheVariants.{Load}
 use Rattle.hb_clocks.specs.State.{HbState, after}
 use Rattle.hb_clocks.specs.Stands.{IsFew}
-use Rattle.lock_queues.proofs.Testing.{few_empty, one_load, first_clock}
-use Rattle.lock_queues.proofs.tests.count_one.Goals as goal
+use Rattle.base_tests.proofs.OneSection.{few_empty, one_load, first_clock}
+use Rattle.base_tests.proofs.queues.count_one.Goals as goal
 
 pub advance-requires-clause-admits : goal.advance-requires-clause-admits
 advance-requires-clause-admits c = record { alone = tt; apart = tt }

@@ -1,16 +1,13 @@
-//! What no clause says: that there can be memory, that the conditions can be met, and how much a
-//! section takes.
+//! Closed sections: what no clause says, that there can be memory, and that the conditions can be met.
 ghost use Rattle.std.specs.Prelude.{◌≡◌, ◌<◌, ◌≤◌, ◌^◌, [], length, true, IfOk, OnOk};
 ghost use Rattle.event_core.specs.Rows.{bump, no_clock, with_row};
 ghost use Rattle.hb_clocks.specs.Tables.{state_of};
 ghost use Rattle.lock_queues.specs.Queues.{closed_of, found_of, has_room, SameMeaning};
 
-use crate::queues::Queues;
-use crate::sections::Entry;
 use event_core::{Event, Limits, LockId, Op, OutOfMemory, Roots, SiteId, ThreadId, VarId};
 use hb_clocks::{Clock, HbClocks, Work};
+use lock_queues::Queues;
 use std::alloc::Global;
-use std::mem::size_of;
 use std::test::Fail;
 
 const LOCK: LockId = LockId(0);
@@ -94,11 +91,6 @@ fn ask(
         return Ok(None);
     };
     Ok(Some((below.by, below.own)))
-}
-
-#[test]
-fn a_section_takes_32_bytes_and_4_for_each_thread_in_use(rt: HostRuntime) {
-    assert_eq!(rt; size_of::<Entry>(), 32);
 }
 
 #[test]

@@ -1,8 +1,8 @@
 use Rattle.std.proofs.Common.{ℕ, List, true, length, ap, ◌∙◌, arith}
 use Rattle.event_core.specs.Closed.{Closed}
 use Rattle.lock_queues.specs.Queues.{opened_of, has_room}
-use Rattle.lock_queues.proofs.Testing.{written, earlier_one}
-use Rattle.lock_queues.proofs.tests.ask.Goals as goal
+use Rattle.base_tests.proofs.OneSection.{written, earlier_one}
+use Rattle.base_tests.proofs.queues.ask.Goals as goal
 
 pub enter-requires-clause-room : goal.enter-requires-clause-room
 enter-requires-clause-room c =

@@ -1,6 +1,6 @@
 use Rattle.std.proofs.Common.{ℕ, List, ap, ◌∙◌}
 use Rattle.event_core.specs.Closed.{Closed}
-use Rattle.lock_queues.proofs.tests.another_thread_finds_the_section.Goals as goal
+use Rattle.base_tests.proofs.queues.another_thread_finds_the_section.Goals as goal
 
 pub close_one-requires-clause-none : goal.close_one-requires-clause-none
 close_one-requires-clause-none g c = ap (λ (f : ℕ → List Closed). f 0) c.in_ok-queues.ensures.closed

@@ -9,7 +9,7 @@ use Rattle.event_core.specs.declared.replies.Refusal.{Refusal as Reason}
 use Rattle.event_core.specs.Refusal.{WellFormed, Legal, refusal, value_of}
 use Rattle.event_core.specs.Steps.{MayFollow}
 use Rattle.event_core.proofs.StepLaws.{follow_formed}
-use Rattle.wcp_clocks.specs.WorkedLogs.{small}
+use Rattle.base_tests.specs.WorkedLogs.{small}
 
 -- the call whose event it is
 abbrev pub call_of : Event → Call

@@ -1,7 +1,7 @@
 use Rattle.std.proofs.Common.{◌≡◌, ℕ, Bool, true, OnOk, subst}
 use Rattle.event_core.specs.Rows.{with_row}
 use Rattle.lock_queues.specs.Queues.{has_room}
-use Rattle.lock_queues.proofs.tests.make_room.Goals as goal
+use Rattle.base_tests.proofs.queues.make_room.Goals as goal
 
 pub returns-in-Err-clause-ok : goal.returns-in-Err-clause-ok
 returns-in-Err-clause-ok c =

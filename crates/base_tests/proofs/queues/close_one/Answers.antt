@@ -5,8 +5,8 @@ use Rattle.hb_clocks.proofs.Releases.{bump_same}
 use Rattle.lock_queues.specs.Sections.{before}
 use Rattle.lock_queues.proofs.Lowering.{before_bumped}
 use Rattle.lock_queues.specs.Queues.{closed_of, opened_of, has_room}
-use Rattle.lock_queues.proofs.Testing.{written, above_none, one_closed}
-use Rattle.lock_queues.proofs.tests.close_one.Goals as goal
+use Rattle.base_tests.proofs.OneSection.{written, above_none, one_closed}
+use Rattle.base_tests.proofs.queues.close_one.Goals as goal
 
 pub enter-requires-clause-room : goal.enter-requires-clause-room
 enter-requires-clause-room c =

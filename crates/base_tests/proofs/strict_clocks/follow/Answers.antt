@@ -1,8 +1,8 @@
 use Rattle.std.proofs.Common.{◌∙◌, arith}
 use Rattle.wcp_clocks.specs.StandsFor.{IsBounded}
-use Rattle.wcp_clocks.specs.WorkedLogs.{small}
+use Rattle.base_tests.specs.WorkedLogs.{small}
 use Rattle.wcp_clocks.proofs.Replaying.{replay_begins, replay_within, replay_prepared, replay_fits, replay_on}
-use Rattle.wcp_clocks.proofs.tests.follow.Goals as goal
+use Rattle.base_tests.proofs.strict_clocks.follow.Goals as goal
 
 bounded : IsBounded small
 bounded = record {
