@@ -1,5 +1,8 @@
 pub mod SpaceLaws
 pub mod NameLaws
+pub mod Places
+pub mod Ends
+pub mod NoteLaws
 pub mod Lines
 pub mod Pieces
 pub mod WindowLaws

@@ -1,38 +1,5 @@
 -- Names are only added, and the numbers of an event have the names that its line gave.
-use Rattle.std.proofs.Common.{
-  ◌≡◌,
-  ℕ,
-  zero,
-  suc,
-  ◌+◌,
-  ◌<◌,
-  ◌≤◌,
-  List,
-  [],
-  ◌∷◌,
-  ◌++◌,
-  length,
-  Option,
-  Some,
-  None,
-  Result,
-  Ok,
-  Err,
-  Bool,
-  true,
-  false,
-  cond,
-  refl,
-  sym,
-  ap,
-  subst,
-  ◌∙◌,
-  append-nil,
-  append_assoc,
-  arith,
-  inl,
-  inr,
-}
+use Rattle.std.proofs.Common.{◌≡◌, ℕ, suc, ◌+◌, ◌<◌, ◌≤◌, List, [], ◌∷◌, ◌++◌, length, Option, Some, None, Result, Ok, Err, Bool, true, false, cond, refl, sym, ap, subst, ◌∙◌, append-nil, append_assoc, arith, inl, inr}
 use Rattle.std.specs.Prelude.{IfOk, OnErr, unwrap_or, slice_get, nat_lt, ◌==◌, not}
 use Rattle.std.specs.List.{position, prefix_len}
 use Rattle.std.specs.Str.{bytes_eq}
@@ -68,6 +35,7 @@ use Rattle.rapid_text.specs.Events.{
   HasNames,
 }
 use Rattle.rapid_text.proofs.NameLaws.{numbers, grows}
+use Rattle.rapid_text.proofs.Places.{get_before, get_last}
 
 -- ---- names are only added
 
@@ -138,10 +106,6 @@ placed name xs i e =
       | inr past ↦ let none : None ≡ Some i = rw past at e in absurd cc
     ]
 
-last_of : (xs : List (List ℕ)) (name : List ℕ) → slice_get (xs ++ name ∷ []) (length xs) ≡ Some name
-last_of [] name = refl
-last_of (x ∷ xs) name = last_of xs name
-
 new_placed : (b : Bool) (s : Numbered) (name : List ℕ) (i : ℕ) (t : Numbered)
     → cond b (let o : Option (ℕ × Numbered) = Some (length s.names, with_name s name) in o) None ≡ Some
     (i, t)
@@ -151,7 +115,7 @@ new_placed true s name i t e =
     let names : with_name s name ≡ t = ap (λ (o : Option (ℕ × Numbered)). (unwrap_or o (i, t)).1) e in
     subst (λ (m : ℕ). slice_get t.names m ≡ Some name) number
     (subst (λ (u : Numbered). slice_get u.names (length s.names) ≡ Some name) names
-    (last_of s.names name))
+    (get_last s.names name))
 new_placed false s name i t e = absurd cc
 
 found_placed : (o : Option ℕ) (s : Numbered) (name : List ℕ) (i : ℕ) (t : Numbered) → place_of s name ≡ o
@@ -201,13 +165,21 @@ pub gives : (t : Tables) (kind : Kind) (name : List ℕ) (n : ℕ) (u : Tables)
 unfolding number_in
 gives t kind name n u e = gives_by t kind name n u (number_of (space t kind) name) refl e
 
--- ---- an event's names
+with_same : (t : Tables) (kind : Kind) → with_space t kind (space t kind) ≡ t
+with_same t kinds.Thread = refl
+with_same t kinds.Lock = refl
+with_same t kinds.Variable = refl
+with_same t kinds.Site = refl
 
-slice_get_left : (xs more : List (List ℕ)) (i : ℕ) (x : List ℕ) → slice_get xs i ≡ Some x
-    → slice_get (xs ++ more) i ≡ Some x
-slice_get_left [] more i x e = absurd cc
-slice_get_left (y ∷ xs) more zero x e = e
-slice_get_left (y ∷ xs) more (suc i) x e = slice_get_left xs more i x e
+-- a name that its kind has changes nothing
+pub number_found : (t : Tables) (kind : Kind) (name : List ℕ) (n : ℕ)
+    → number_of (space t kind) name ≡ Some (n, space t kind) → number_in t kind name ≡ Some (n, t)
+unfolding number_in
+number_found t kind name n is =
+    ap (λ (o : Option (ℕ × Numbered)). put_back t kind o) is
+    ∙ ap (λ (u : Tables). let o : Option (ℕ × Tables) = Some (n, u) in o) (with_same t kind)
+
+-- ---- an event's names
 
 -- a name keeps its number
 pub kept_name : (t u : Tables) (kind : Kind) (n : ℕ) (name : List ℕ) → TablesGrow t u
@@ -215,7 +187,7 @@ pub kept_name : (t u : Tables) (kind : Kind) (n : ℕ) (name : List ℕ) → Tab
     → slice_get (space u kind).names n ≡ Some name
 kept_name t u kind n name g e =
     let h = g kind in
-    ap (λ (xs : List (List ℕ)). slice_get xs n) h.names ∙ slice_get_left
+    ap (λ (xs : List (List ℕ)). slice_get xs n) h.names ∙ get_before
     (space t kind).names h.more n name e
 
 -- an event keeps its names

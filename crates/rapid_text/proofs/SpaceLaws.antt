@@ -73,6 +73,15 @@ numbered_full limit ks name e le =
     ap (λ (o : Option ℕ). found_or o (names_in limit ks) name)
     (position-map (λ k. k.items) (λ n. bytes_eq name n) ks ∙ e) ∙ (rw test refl)
 
+-- an insertion of a new key adds it at the end
+pub pushed : (ks new : List (Vec ℕ Global)) (key : Vec ℕ Global) (name : List ℕ) → key.items ≡ name
+    → false ≡ list_any (λ k. bytes_eq name k.items) ks
+    → new ≡ cond (list_any (λ k. bytes_eq key.items k.items) ks) ks (ks ++ key ∷ []) → new ≡ ks ++ key ∷ []
+pushed ks new key name same none is =
+    let absent : list_any (λ (k : Vec ℕ Global). bytes_eq key.items k.items) ks ≡ false = rw same
+    (sym none) in
+    rw absent at is
+
 pub numbered_new : (limit : ℕ) (ks new : List (Vec ℕ Global)) (key : Vec ℕ Global) (name : List ℕ)
     → position (λ k. bytes_eq name k.items) ks ≡ None → length ks < limit → key.items ≡ name
     → false ≡ list_any (λ k. bytes_eq name k.items) ks
@@ -83,12 +92,11 @@ numbered_new limit ks new key name e lt same none is =
     let len : length (map (λ (k : Vec ℕ Global). k.items) ks) ≡ length ks = length-map ks (λ k. k.items) in
     let test : nat_lt (length (map (λ (k : Vec ℕ Global). k.items) ks)) limit ≡ true = lt-ltb
     (length (map (λ (k : Vec ℕ Global). k.items) ks)) limit (omega arith) in
-    let absent : list_any (λ (k : Vec ℕ Global). bytes_eq key.items k.items) ks ≡ false = rw same
-    (sym none) in
-    let pushed : new ≡ ks ++ key ∷ [] = rw absent at is in
     let names : map (λ (k : Vec ℕ Global). k.items) new ≡ map
     (λ (k : Vec ℕ Global). k.items) ks ++ name ∷ [] =
-    ap (λ (l : List (Vec ℕ Global)). map (λ (k : Vec ℕ Global). k.items) l) pushed ∙ map-append
+    ap (λ (l : List (Vec ℕ Global)). map (λ (k : Vec ℕ Global). k.items) l)
+    (pushed ks new key name same none is)
+    ∙ map-append
     (λ (k : Vec ℕ Global). k.items) ks (key ∷ []) ∙ ap
     (λ (n : List ℕ). map (λ (k : Vec ℕ Global). k.items) ks ++ n ∷ []) same in
     ap (λ (o : Option ℕ). found_or o (names_in limit ks) name)

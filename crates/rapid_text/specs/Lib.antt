@@ -1,4 +1,5 @@
 pub mod Numbers
+pub mod Notes
 pub mod Tables
 pub mod Faults
 pub mod Events

@@ -1,66 +1,226 @@
 //! Guesses at the numbers of names.
 //!
-//! A set of names is searched by a hash that takes a name byte by byte. Here a name has a place by a hash
-//! that takes up to sixteen bytes at a time, and at each place stands the number of one name. Several names
-//! can share a place, so a guess is used only after the bytes were compared.
-ghost use Rattle.std.specs.Prelude.{◌<◌};
+//! A set of names is searched by a hash that takes a name byte by byte. Here a name has a place by a hash that
+//! takes many bytes at a time, and at each place stands a note of one name. A name of up to eight bytes is told
+//! by its length and one word, which the note holds: so it is found by one read of memory, and without a
+//! comparison byte by byte. Where two short names have one place, the second goes to the place beside it. Of a
+//! longer name a note is a guess, which is used only after the bytes were compared.
+ghost use Rattle.std.specs.Prelude.{◌≡◌, ◌↔◌, ◌<◌, ◌≤◌, ◌⊎◌, List, [], length, IfSome, IsTrue};
+ghost use Rattle.std.specs.Int.{to_le_bytes, w64};
+ghost use Rattle.rapid_text.specs.Notes.{IsOneOf, IsNoteOf, IsFound, ends_of};
+ghost use Rattle.rapid_text.specs.declared.guesses.Note.{Note as ANote};
 
 use std::alloc::{AllocError, Global};
 use std::hash::{FoldHasher, Hasher};
+use std::marker::Model;
 
 /// How many places there are for the first names.
 const FEWEST_PLACES: usize = 256;
 
-/// The place of a name among so many, which are a power of two.
+/// The most bytes of a name that is told by a word.
+const MOST_HELD: usize = 8;
+
+/// Whether a word tells the name.
 #[inline(always)]
+fn is_short(name: &[u8]) -> bool
+    ensures { IsTrue result ↔ (0 < length name.now) × (length name.now ≤ 8) }
+{
+    !name.is_empty() && name.len() <= MOST_HELD
+}
+
+/// The word of a short name: its first four bytes and its last four, which may be partly the same. Of a name
+/// with fewer than four, it has the first, the middle and the last.
+#[inline(always)]
+fn word_of(name: &[u8]) -> u64
+    requires { 0 < length name.now }
+    ensures { to_le_bytes w64 result ≡ ends_of name.now }
+{
+    let n = name.len();
+    let bytes = if n < 4 {
+        [name[0], name[n / 2], name[n - 1], 0, 0, 0, 0, 0]
+    } else {
+        [
+            name[0],
+            name[1],
+            name[2],
+            name[3],
+            name[n - 4],
+            name[n - 3],
+            name[n - 2],
+            name[n - 1],
+        ]
+    };
+    u64::from_le_bytes(bytes)
+}
+
+/// The place of the word among so many, which are a power of two.
+#[inline(always)]
+fn place_of_word(word: u64, places: usize) -> usize
+    requires { 0 < places }
+    ensures { result < places }
+{
+    // An odd number whose bits are those of the golden ratio: the higher bits of the product depend on all of the
+    // word.
+    let mixed = word.wrapping_mul(0x9e37_79b9_7f4a_7c15);
+    (mixed >> 32 ^ mixed >> 52) as usize & (places - 1)
+}
+
+/// The place of a name among so many, which are a power of two.
 fn place_of(name: &[u8], places: usize) -> usize
     requires { 0 < places }
     ensures { result < places }
 {
+    if is_short(name) {
+        return place_of_word(word_of(name), places);
+    }
     let mut hasher = FoldHasher::default();
     hasher.write(name);
     hasher.finish() as usize & (places - 1)
 }
 
-/// By the place of a name, the number that was noted last.
+/// The place beside another among so many, which are a power of two.
+#[inline(always)]
+fn beside(place: usize, places: usize) -> usize
+    requires { 0 < places }
+    ensures { result < places }
+{
+    (place ^ 1) & (places - 1)
+}
+
+/// A name's number, and its length and its word if it is short. Else the length is 0.
+#[derive(Clone, Copy)]
+pub struct Note {
+    pub(crate) word: u64,
+    pub(crate) number: u32,
+    pub(crate) length: u8,
+}
+
+impl Note {
+    // A note of no name.
+    fn none() -> Note
+        ensures { result.length ≡ 0 }
+    {
+        Note {
+            word: 0,
+            number: 0,
+            length: 0,
+        }
+    }
+
+    // A note of the name.
+    fn of(name: &[u8], number: u32) -> Note
+        ensures { IsNoteOf number name.now result }
+    {
+        if is_short(name) {
+            return Note {
+                word: word_of(name),
+                number,
+                length: name.len() as u8,
+            };
+        }
+        Note {
+            word: 0,
+            number,
+            length: 0,
+        }
+    }
+
+    // Whether it holds the name of the length with the word.
+    #[inline(always)]
+    fn is_of(&self, word: u64, length: usize) -> bool
+        ensures { IsTrue result ↔ (self.now.word ≡ word) × (self.now.length ≡ length) }
+    {
+        self.word == word && self.length as usize == length
+    }
+}
+
+/// Where the note of the name goes: to its place, or beside it where a short name gives way to another.
+fn place_to_note(notes: &[Note], name: &[u8]) -> usize
+    requires { 0 < length notes.now }
+    ensures { result < length notes.now }
+{
+    let places = notes.len();
+    let place = place_of(name, places);
+    let other = beside(place, places);
+    if is_short(name) && notes[place].length > 0 && notes[other].length == 0 {
+        return other;
+    }
+    place
+}
+
+/// By the places of names, the notes that were made last.
 #[derive(Drop)]
 pub struct Guesses {
-    numbers: Vec<u32>,
+    notes: Vec<Note>,
+}
+
+impl Model for Guesses {
+    ghost Value = { List ANote };
+
+    ghost view = { λ g. g.notes.items };
 }
 
 impl Guesses {
     /// No guesses, and no places.
-    pub fn new(alloc: Global) -> Guesses {
+    pub fn new(alloc: Global) -> Guesses
+        ensures { result ≡ [] }
+    {
         Guesses {
-            numbers: Vec::new(alloc),
+            notes: Vec::new(alloc),
         }
+    }
+
+    /// The number of a short name, if one of its notes is there.
+    #[inline(always)]
+    pub fn find(&self, name: &[u8]) -> Option<u32>
+        ensures { IfSome result (λ number. IsFound self.now number name.now) }
+    {
+        let places = self.notes.len();
+        if places == 0 || !is_short(name) {
+            return None;
+        }
+        let word = word_of(name);
+        let place = place_of_word(word, places);
+        let note = &self.notes[place];
+        if note.is_of(word, name.len()) {
+            return Some(note.number);
+        }
+        let other = &self.notes[beside(place, places)];
+        if other.is_of(word, name.len()) {
+            return Some(other.number);
+        }
+        None
     }
 
     /// What may be the number of the name.
-    #[inline(always)]
     pub fn guess(&self, name: &[u8]) -> u32 {
-        let places = self.numbers.len();
+        let places = self.notes.len();
         if places == 0 {
             return 0;
         }
-        self.numbers[place_of(name, places)]
+        self.notes[place_of(name, places)].number
     }
 
     /// Notes the number of the name.
-    pub fn note(&mut self, name: &[u8], number: u32) {
-        let places = self.numbers.len();
-        if places > 0 {
-            self.numbers[place_of(name, places)] = number;
+    pub fn note(&mut self, name: &[u8], number: u32)
+        ensures { (note : ANote) → IsOneOf self.new note
+            → IsOneOf self.old note ⊎ IsNoteOf number name.now note }
+    {
+        if !self.notes.is_empty() {
+            let place = place_to_note(&self.notes, name);
+            self.notes[place] = Note::of(name, number);
         }
     }
 
-    /// Makes four places or more for each of so many names. New places forget what was noted.
-    pub fn make_room(&mut self, alloc: Global, names: u32) -> Result<(), AllocError> {
-        if self.numbers.len() as u64 >= names as u64 * 4 {
+    /// Makes two places or more for each of so many names. New places forget what was noted.
+    pub fn make_room(&mut self, alloc: Global, names: u32) -> Result<(), AllocError>
+        ensures { (note : ANote) → IsOneOf self.new note → IsOneOf self.old note ⊎ (note.length ≡ 0) }
+    {
+        if self.notes.len() as u64 >= names as u64 * 2 {
             return Ok(());
         }
-        let places = (names as usize * 8).next_power_of_two().max(FEWEST_PLACES);
-        self.numbers = vec![in alloc; 0u32; places]?;
+        let places = (names as usize * 4).next_power_of_two().max(FEWEST_PLACES);
+        self.notes = vec![in alloc; Note::none(); places]?;
         Ok(())
     }
 }

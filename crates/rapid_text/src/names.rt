@@ -57,10 +57,23 @@ impl Names {
         }
     }
 
-    /// The number of the name in the space of its kind.
+    // The names of the kind.
     #[inline(always)]
+    fn space(&self, kind: Kind) -> &Space
+        ensures { result.now ≡ space self.now kind }
+    {
+        match kind {
+            Kind::Thread => &self.threads,
+            Kind::Lock => &self.locks,
+            Kind::Variable => &self.variables,
+            Kind::Site => &self.sites,
+        }
+    }
+
+    // The number of a name that no note holds, in the space of its kind.
+    #[inline(never)]
     #[tactic(auto, unfolding(crate::specs::Tables::number_in))]
-    fn number_in_space(&mut self, kind: Kind, name: &[u8]) -> Result<u32, NameFault>
+    fn search(&mut self, kind: Kind, name: &[u8]) -> Result<u32, NameFault>
         requires { IsNameOf kind name.now }
         ensures ok { IfOk result (λ n. number_in self.old kind name.now ≡ Some (n, self.new)) }
         ensures too_many { IsErrOf result NameFault.TooMany → number_in self.old kind name.now ≡ None }
@@ -73,6 +86,21 @@ impl Names {
             Kind::Variable => self.variables.number(name),
             Kind::Site => self.sites.number(name),
         }
+    }
+
+    // The number of the name in the space of its kind.
+    #[inline(always)]
+    fn number_in_space(&mut self, kind: Kind, name: &[u8]) -> Result<u32, NameFault>
+        requires { IsNameOf kind name.now }
+        ensures ok { IfOk result (λ n. number_in self.old kind name.now ≡ Some (n, self.new)) }
+        ensures too_many { IsErrOf result NameFault.TooMany → number_in self.old kind name.now ≡ None }
+        ensures err { OnErr result (self.new ≡ self.old) }
+        ensures new_only { OnErr result (place_of (space self.old kind) name.now ≡ None) }
+    {
+        if let Some(number) = self.space(kind).find(name) {
+            return Ok(number);
+        }
+        self.search(kind, name)
     }
 
     /// The number of the name, which is the next one where the name is new. An `Err` changes nothing.

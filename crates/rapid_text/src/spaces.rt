@@ -1,9 +1,10 @@
 //! The names of one kind, numbered from 0 in the order of their first appearance.
-ghost use Rattle.std.specs.Prelude.{◌≡◌, ℕ, ◌<◌, ◌≤◌, [], map, length, slice_get, Some, None, IfOk};
+ghost use Rattle.std.specs.Prelude.{◌≡◌, ℕ, ◌<◌, ◌≤◌, [], map, length, slice_get, Some, None, IfOk, IfSome};
 ghost use Rattle.std.specs.Prelude.{OnErr, IsTrue};
 ghost use Rattle.std.specs.Result.{IsErrOf};
 ghost use Rattle.std.specs.declared.vec.Vec.{Vec};
 ghost use Rattle.std.specs.declared.alloc.Global.{Global};
+ghost use Rattle.rapid_text.specs.Notes.{AreRight};
 ghost use Rattle.rapid_text.specs.Numbers.{Numbered, number_of, place_of};
 
 use crate::causes::NameFault;
@@ -37,7 +38,7 @@ impl Model for Space {
 
     ghost view = { λ s. record { limit = s.limit; names = map (λ k. k.items) s.keys.keys } };
 
-    ghost invariant = { λ s. length s.keys.keys ≤ s.limit };
+    ghost invariant = { λ s. (length s.keys.keys ≤ s.limit) × AreRight s.keys.keys s.guesses };
 }
 
 impl Space {
@@ -61,8 +62,16 @@ impl Space {
         self.keys.len() as u32
     }
 
-    /// The number of the name, which is a new one where the name is.
+    /// The number of the name, where a note holds it.
     #[inline(always)]
+    pub fn find(&self, name: &[u8]) -> Option<u32>
+        ensures { IfSome result (λ i. number_of self.now name.now ≡ Some (i, self.now)) }
+    {
+        let _unique = self.keys.as_slice();
+        self.guesses.find(name)
+    }
+
+    /// The number of the name, which is a new one where the name is.
     pub fn number(&mut self, name: &[u8]) -> Result<u32, NameFault>
         ensures ok { IfOk result (λ i. number_of self.old name.now ≡ Some (i, self.new)) }
         ensures too_many { IsErrOf result NameFault.TooMany → number_of self.old name.now ≡ None }
@@ -73,17 +82,6 @@ impl Space {
         if is_at(self.keys.as_slice(), guess as usize, name) {
             return Ok(guess);
         }
-        self.search(name)
-    }
-
-    /// The same, where no guess was right.
-    #[inline(never)]
-    fn search(&mut self, name: &[u8]) -> Result<u32, NameFault>
-        ensures ok { IfOk result (λ i. number_of self.old name.now ≡ Some (i, self.new)) }
-        ensures too_many { IsErrOf result NameFault.TooMany → number_of self.old name.now ≡ None }
-        ensures err { OnErr result (self.new ≡ self.old) }
-        ensures new_only { OnErr result (place_of self.old name.now ≡ None) }
-    {
         if let Some(i) = self.keys.get_index_of(name) {
             self.guesses.note(name, i as u32);
             return Ok(i as u32);
