@@ -20,6 +20,7 @@ use Rattle.wcp_tool.specs.CommandLine.{is_mistake, replay, request_of, run}
 use Rattle.wcp_tool.specs.Endings.{status_of}
 use Rattle.wcp_tool.specs.Running.{Checks, EndsAs, IsCut, Performs, Replays, Reports, Runs, is_help}
 use Rattle.wcp_tool.specs.Running.{limits_with}
+use Rattle.wcp_tool.specs.ScriptRuns.{TellsRefusal}
 
 -- ---- statuses
 
@@ -216,7 +217,9 @@ with_replay left old new e request threads m is same h =
 pub with_run : (left old new : Option (List ℕ)) (e : Ending) (path : Text) (request : Request) (threads : ℕ)
     → request ≡ run path
     → ((e ≡ Done) ⊎ (e ≡ Races) → Reports (limits_with threads OnlyMain) old new (status_of e))
-    → Performs request threads left old new (status_of e)
-with_run left old new e path request threads is h =
-    subst (λ (x : Request). Performs x threads left old new (status_of e)) (sym is)
-    (λ status. h (is_report e status))
+    → (e ≡ Refused → TellsRefusal old new) → Performs request threads left old new (status_of e)
+with_run left old new e path request threads is reports refused =
+    subst (λ (x : Request). Performs x threads left old new (status_of e)) (sym is) (record {
+      reports = λ status. reports (is_report e status);
+      refused = λ status. refused (is_refused e status);
+    })

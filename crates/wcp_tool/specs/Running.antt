@@ -21,7 +21,7 @@ use Rattle.wcp_tool.specs.declared.endings.Ending.TheVariants.{Done, WrongUsage,
 use Rattle.wcp_tool.specs.Checked.{checked, finding}
 use Rattle.wcp_tool.specs.CommandLine.{Request, asked, check, faults_of, is_answer, is_mistake, replay, run}
 use Rattle.wcp_tool.specs.Endings.{ending_for, replay_ending, status_of}
-use Rattle.wcp_tool.specs.ScriptRuns.{ReportsLog}
+use Rattle.wcp_tool.specs.ScriptRuns.{ReportsLog, TellsRefusal}
 
 -- ---- a run of a command
 
@@ -55,14 +55,18 @@ pub record Reports (m : Limits) (old new : Option (List ℕ)) (status : ℕ) : T
   pub well_formed : WellFormed m log
   pub reports : ReportsLog names log old new status
 
+-- what a run of a script's threads writes: a report, or the one line that tells which call is refused and why
+pub record PerformsRun (m : Limits) (old new : Option (List ℕ)) (status : ℕ) : Type 0 where
+  pub reports : (status ≡ 0) ⊎ (status ≡ 1) → Reports m old new status
+  pub refused : status ≡ 3 → TellsRefusal old new
+
 -- what is done for a request with so many threads, where the reader had this text left
 abbrev pub Performs : Request → ℕ → Option (List ℕ) → Option (List ℕ) → Option (List ℕ) → ℕ → Type 0
 Performs check threads left old new status =
     IfSome left (λ text. Checks (limits_with threads Free) text old new status)
 Performs replay threads left old new status =
     IfSome left (λ text. Replays (limits_with threads Free) text old new status)
-Performs (run path) threads left old new status =
-    (status ≡ 0) ⊎ (status ≡ 1) → Reports (limits_with threads OnlyMain) old new status
+Performs (run path) threads left old new status = PerformsRun (limits_with threads OnlyMain) old new status
 
 -- the trace was not read to its end: a read failed, or it has as many bytes as there are turns. What a script
 -- gave is not known.

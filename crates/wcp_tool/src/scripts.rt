@@ -167,6 +167,7 @@ pub(crate) fn run_file<R: AllocGlobal + Files + Threads + Wait + Sync, O: Output
     ensures reports { (result ≡ Ending.Done) ⊎ (result ≡ Ending.Races)
         → Reports (limits_with settings.now.threads OnlyMain) (O.written writer.old) (O.written writer.new)
         (status_of result) }
+    ensures refused { result ≡ Ending.Refused → TellsRefusal (O.written writer.old) (O.written writer.new) }
     ensures usage { result ≢ Ending.WrongUsage }
     ensures quiet { (result ≡ Ending.ReadFault) ⊎ (result ≡ Ending.OutOfMemory) → writer.new ≡ writer.old }
     ensures write_fault { result ≡ Ending.WriteFault → O.failed writer.new ≡ true }

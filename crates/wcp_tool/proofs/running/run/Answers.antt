@@ -22,4 +22,4 @@ returns-in-Run-clause-performs g c r w o =
     with_run (g.I.Input.left c.args.reader.now) (g.O.Output.written c.args.writer.now)
     (g.O.Output.written c.run_file.new.writer) c.run_file.result _
     (request_of c.args.settings.now.command) c.args.settings.now.threads
-    (ap request_of c.in-Run.is) c.run_file.ensures.reports
+    (ap request_of c.in-Run.is) c.run_file.ensures.reports c.run_file.ensures.refused
