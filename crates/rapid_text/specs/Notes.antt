@@ -4,7 +4,7 @@ use Rattle.std.specs.Prelude.{if◌then◌else◌, nat_lt}
 use Rattle.std.specs.Int.{to_le_bytes, w64}
 use Rattle.std.specs.declared.vec.Vec.{Vec}
 use Rattle.std.specs.declared.alloc.Global.{Global}
-use Rattle.rapid_text.specs.declared.guesses.Note.{Note}
+use Rattle.rapid_text.specs.declared.notes.Note.{Note}
 
 -- the bytes at the ends of a name of so many bytes: the first four and the last four, and of fewer than four the
 -- first, the middle and the last

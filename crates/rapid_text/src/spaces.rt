@@ -8,7 +8,7 @@ ghost use Rattle.rapid_text.specs.Notes.{AreRight};
 ghost use Rattle.rapid_text.specs.Numbers.{Numbered, number_of, place_of};
 
 use crate::causes::NameFault;
-use crate::guesses::Guesses;
+use crate::notes::Notes;
 use indexmap::IndexSet;
 use std::alloc::Global;
 use std::marker::Model;
@@ -28,7 +28,7 @@ fn is_at(keys: &[Vec<u8>], number: usize, name: &[u8]) -> bool
 #[derive(Drop)]
 pub struct Space {
     keys: IndexSet<Vec<u8>>,
-    guesses: Guesses,
+    notes: Notes,
     alloc: Global,
     limit: u32,
 }
@@ -38,7 +38,7 @@ impl Model for Space {
 
     ghost view = { λ s. record { limit = s.limit; names = map (λ k. k.items) s.keys.keys } };
 
-    ghost invariant = { λ s. (length s.keys.keys ≤ s.limit) × AreRight s.keys.keys s.guesses };
+    ghost invariant = { λ s. (length s.keys.keys ≤ s.limit) × AreRight s.keys.keys s.notes };
 }
 
 impl Space {
@@ -47,7 +47,7 @@ impl Space {
     {
         Space {
             keys: IndexSet::new(alloc),
-            guesses: Guesses::new(alloc),
+            notes: Notes::new(alloc),
             alloc,
             limit,
         }
@@ -68,7 +68,7 @@ impl Space {
         ensures { IfSome result (λ i. number_of self.now name.now ≡ Some (i, self.now)) }
     {
         let _unique = self.keys.as_slice();
-        self.guesses.find(name)
+        self.notes.find(name)
     }
 
     /// The number of the name, which is a new one where the name is.
@@ -78,12 +78,12 @@ impl Space {
         ensures err { OnErr result (self.new ≡ self.old) }
         ensures new_only { OnErr result (place_of self.old name.now ≡ None) }
     {
-        let guess = self.guesses.guess(name);
+        let guess = self.notes.guess(name);
         if is_at(self.keys.as_slice(), guess as usize, name) {
             return Ok(guess);
         }
         if let Some(i) = self.keys.get_index_of(name) {
-            self.guesses.note(name, i as u32);
+            self.notes.note(name, i as u32);
             return Ok(i as u32);
         }
         let count = self.keys.len();
@@ -91,7 +91,7 @@ impl Space {
             return Err(NameFault::TooMany);
         }
         let number = count as u32;
-        if self.guesses.make_room(self.alloc, number).is_err() {
+        if self.notes.make_room(self.alloc, number).is_err() {
             return Err(NameFault::OutOfMemory);
         }
         let Ok(key) = Vec::from_slice(self.alloc, name) else {
@@ -100,7 +100,7 @@ impl Space {
         let Ok(_) = self.keys.insert(key) else {
             return Err(NameFault::OutOfMemory);
         };
-        self.guesses.note(name, number);
+        self.notes.note(name, number);
         Ok(number)
     }
 

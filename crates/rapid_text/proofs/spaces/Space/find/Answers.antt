@@ -10,10 +10,10 @@ pub returns : goal.returns
 returns c =
     let keys = c.self.inside.keys.keys in
     let name = c.args.name.now in
-    let known : (n : ℕ) → IsFound c.self.inside.guesses n name
+    let known : (n : ℕ) → IsFound c.self.inside.notes n name
     → number_of c.args.self.now name ≡ Some (n, c.args.self.now) =
     λ n found.
-    let key = key_held keys c.self.inside.guesses n name c.self.invariant.1 found in
+    let key = key_held keys c.self.inside.notes n name c.self.invariant.1 found in
     let place = place_of_key name keys n key.0 c.as_slice-unique.ensures.unique key.1 key.2 in
     rw (← c.self.view_is) (numbered_found c.self.inside.limit keys name n place) in
     IfSome_then c.find.result c.find.ensures known

@@ -1,4 +1,4 @@
-//! Guesses at the numbers of names.
+//! Notes of the numbers of names.
 //!
 //! A set of names is searched by a hash that takes a name byte by byte. Here a name has a place by a hash that
 //! takes many bytes at a time, and at each place stands a note of one name. A name of up to eight bytes is told
@@ -8,7 +8,7 @@
 ghost use Rattle.std.specs.Prelude.{◌≡◌, ◌↔◌, ◌<◌, ◌≤◌, ◌⊎◌, List, [], length, IfSome, IsTrue};
 ghost use Rattle.std.specs.Int.{to_le_bytes, w64};
 ghost use Rattle.rapid_text.specs.Notes.{IsOneOf, IsNoteOf, IsFound, ends_of};
-ghost use Rattle.rapid_text.specs.declared.guesses.Note.{Note as ANote};
+ghost use Rattle.rapid_text.specs.declared.notes.Note.{Note as ANote};
 
 use std::alloc::{AllocError, Global};
 use std::hash::{FoldHasher, Hasher};
@@ -150,23 +150,23 @@ fn place_to_note(notes: &[Note], name: &[u8]) -> usize
 
 /// By the places of names, the notes that were made last.
 #[derive(Drop)]
-pub struct Guesses {
-    notes: Vec<Note>,
+pub struct Notes {
+    list: Vec<Note>,
 }
 
-impl Model for Guesses {
+impl Model for Notes {
     ghost Value = { List ANote };
 
-    ghost view = { λ g. g.notes.items };
+    ghost view = { λ n. n.list.items };
 }
 
-impl Guesses {
-    /// No guesses, and no places.
-    pub fn new(alloc: Global) -> Guesses
+impl Notes {
+    /// No notes, and no places.
+    pub fn new(alloc: Global) -> Notes
         ensures { result ≡ [] }
     {
-        Guesses {
-            notes: Vec::new(alloc),
+        Notes {
+            list: Vec::new(alloc),
         }
     }
 
@@ -175,17 +175,17 @@ impl Guesses {
     pub fn find(&self, name: &[u8]) -> Option<u32>
         ensures { IfSome result (λ number. IsFound self.now number name.now) }
     {
-        let places = self.notes.len();
+        let places = self.list.len();
         if places == 0 || !is_short(name) {
             return None;
         }
         let word = word_of(name);
         let place = place_of_word(word, places);
-        let note = &self.notes[place];
+        let note = &self.list[place];
         if note.is_of(word, name.len()) {
             return Some(note.number);
         }
-        let other = &self.notes[beside(place, places)];
+        let other = &self.list[beside(place, places)];
         if other.is_of(word, name.len()) {
             return Some(other.number);
         }
@@ -194,11 +194,11 @@ impl Guesses {
 
     /// What may be the number of the name.
     pub fn guess(&self, name: &[u8]) -> u32 {
-        let places = self.notes.len();
+        let places = self.list.len();
         if places == 0 {
             return 0;
         }
-        self.notes[place_of(name, places)].number
+        self.list[place_of(name, places)].number
     }
 
     /// Notes the number of the name.
@@ -206,9 +206,9 @@ impl Guesses {
         ensures { (note : ANote) → IsOneOf self.new note
             → IsOneOf self.old note ⊎ IsNoteOf number name.now note }
     {
-        if !self.notes.is_empty() {
-            let place = place_to_note(&self.notes, name);
-            self.notes[place] = Note::of(name, number);
+        if !self.list.is_empty() {
+            let place = place_to_note(&self.list, name);
+            self.list[place] = Note::of(name, number);
         }
     }
 
@@ -216,11 +216,11 @@ impl Guesses {
     pub fn make_room(&mut self, alloc: Global, names: u32) -> Result<(), AllocError>
         ensures { (note : ANote) → IsOneOf self.new note → IsOneOf self.old note ⊎ (note.length ≡ 0) }
     {
-        if self.notes.len() as u64 >= names as u64 * 2 {
+        if self.list.len() as u64 >= names as u64 * 2 {
             return Ok(());
         }
         let places = (names as usize * 4).next_power_of_two().max(FEWEST_PLACES);
-        self.notes = vec![in alloc; Note::none(); places]?;
+        self.list = vec![in alloc; Note::none(); places]?;
         Ok(())
     }
 }
