@@ -10,7 +10,7 @@ use Rattle.event_core.specs.declared.events.Op.TheVariants.{Acquire, Fork, Join}
 use Rattle.event_core.specs.Log.{Does, Of, depth}
 use Rattle.event_core.specs.Order.{Hb}
 use Rattle.event_core.specs.Count.{Past, LockPast}
-use Rattle.event_core.proofs.Growth.{get_last}
+use Rattle.event_core.proofs.Places.{get_last}
 use Rattle.event_core.proofs.LogFacts.{does_op}
 use Rattle.event_core.proofs.Stable.{Agree, longer, back, of, does, releases_it, hb_too}
 use Rattle.event_core.proofs.CountLaws.{Brought, itself, own, by_join, by_lock, hb_brought, brought_hb}

@@ -10,7 +10,7 @@ use Rattle.event_core.specs.declared.events.Op.{Op}
 use Rattle.event_core.specs.Log.{Does, Of}
 use Rattle.event_core.specs.Count.{events_of, Counts}
 use Rattle.event_core.proofs.Depth.{count_snoc, same_thread_id, thread_cases}
-use Rattle.event_core.proofs.Growth.{get_last}
+use Rattle.event_core.proofs.Places.{get_last}
 use Rattle.event_core.proofs.LogFacts.{of_one, does_op}
 use Rattle.event_core.proofs.Stable.{longer, back, of}
 use Rattle.event_core.proofs.CountLaws.{counts_none, counts_union, counts_all, counts_same, counts_longer}

@@ -16,10 +16,7 @@ use Rattle.event_core.specs.Refusal.{Legal, WellFormed, event_of}
 use Rattle.event_core.specs.Verdict.{IsOutcome, log_after, IsRun}
 use Rattle.event_core.proofs.Stable.{longer}
 use Rattle.event_core.proofs.MoreLaws.{one_verdict}
-
-pub get_last : (xs : List Event) (e : Event) → slice_get (xs ++ e ∷ []) (length xs) ≡ Some e
-get_last [] e = refl
-get_last (x ∷ xs) e = get_last xs e
+use Rattle.event_core.proofs.Places.{get_last}
 
 pub well_formed_front : (m : Limits) (log more : List Event) → WellFormed m (log ++ more) → WellFormed m log
 well_formed_front m log more w = record { legal = legal }

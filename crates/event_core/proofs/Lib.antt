@@ -1,3 +1,4 @@
+pub mod Places
 pub mod LogFacts
 pub mod Chains
 pub mod Search

@@ -1,6 +1,5 @@
 pub mod SpaceLaws
 pub mod NameLaws
-pub mod Places
 pub mod Ends
 pub mod NoteLaws
 pub mod Lines

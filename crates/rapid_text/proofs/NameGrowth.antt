@@ -1,5 +1,7 @@
 -- Names are only added, and the numbers of an event have the names that its line gave.
-use Rattle.std.proofs.Common.{◌≡◌, ℕ, suc, ◌+◌, ◌<◌, ◌≤◌, List, [], ◌∷◌, ◌++◌, length, Option, Some, None, Result, Ok, Err, Bool, true, false, cond, refl, sym, ap, subst, ◌∙◌, append-nil, append_assoc, arith, inl, inr}
+use Rattle.std.proofs.Common.{◌≡◌, ℕ, suc, ◌+◌, ◌<◌, ◌≤◌, List, [], ◌∷◌, ◌++◌, length, Option, Some, None, Result}
+use Rattle.std.proofs.Common.{Ok, Err, Bool, true, false, cond, refl, sym, ap, subst, ◌∙◌, append-nil}
+use Rattle.std.proofs.Common.{append_assoc, arith, inl, inr}
 use Rattle.std.specs.Prelude.{IfOk, OnErr, unwrap_or, slice_get, nat_lt, ◌==◌, not}
 use Rattle.std.specs.List.{position, prefix_len}
 use Rattle.std.specs.Str.{bytes_eq}
@@ -35,7 +37,7 @@ use Rattle.rapid_text.specs.Events.{
   HasNames,
 }
 use Rattle.rapid_text.proofs.NameLaws.{numbers, grows}
-use Rattle.rapid_text.proofs.Places.{get_before, get_last}
+use Rattle.event_core.proofs.Places.{get_before, get_last}
 
 -- ---- names are only added
 

@@ -2,8 +2,6 @@
 use Rattle.std.proofs.Common.{
   ◌≡◌,
   ℕ,
-  zero,
-  suc,
   List,
   [],
   ◌∷◌,
@@ -29,6 +27,7 @@ use Rattle.std.proofs.Common.{
   inr,
 }
 use Rattle.std.specs.Prelude.{unwrap_or, slice_get, nat_lt, IfOk, OnErr, ◌⊎◌}
+use Rattle.event_core.proofs.Places.{front_or_last}
 use Rattle.rapid_line.specs.Grammar.{IsField, IsName}
 use Rattle.rapid_text.specs.declared.causes.NameFault.{NameFault}
 use Rattle.rapid_text.specs.Numbers.{
@@ -78,18 +77,10 @@ grows s name t n =
 abbrev Each : (List ℕ → Type 0) → List (List ℕ) → Type 0
 Each P names = (i : ℕ) (name : List ℕ) → slice_get names i ≡ Some name → P name
 
-slice_get_push : (xs : List (List ℕ)) (y : List ℕ) (i : ℕ) (x : List ℕ)
-    → slice_get (xs ++ y ∷ []) i ≡ Some x
-    → (slice_get xs i ≡ Some x) ⊎ (y ≡ x)
-slice_get_push [] y zero x e = inr cc
-slice_get_push [] y (suc i) x e = absurd cc
-slice_get_push (z ∷ xs) y zero x e = inl e
-slice_get_push (z ∷ xs) y (suc i) x e = slice_get_push xs y i x e
-
 Each-push : (P : List ℕ → Type 0) (xs : List (List ℕ)) (y : List ℕ) → Each P xs → P y
     → Each P (xs ++ y ∷ [])
 Each-push P xs y h p = λ i x e. elim
-    (slice_get_push xs y i x e) [ inl old ↦ h i x old | inr new ↦ subst P new p ]
+    (front_or_last xs y i x e) [ inl old ↦ h i x old | inr new ↦ subst P (sym new.1) p ]
 
 Each-numbers : (P : List ℕ → Type 0) (s : Numbered) (name : List ℕ) (t : Numbered) → Numbers s name t
     → Each P s.names → P name → Each P t.names

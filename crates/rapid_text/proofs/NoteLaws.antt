@@ -11,7 +11,7 @@ use mathlib.Core.Logic.{inl, inr}
 use Rattle.rapid_text.specs.declared.notes.Note.{Note}
 use Rattle.rapid_text.specs.Notes.{Holds, IsOneOf, IsNoteOf, IsFound, IsRight, AreRight}
 use Rattle.rapid_text.proofs.Ends.{same_name}
-use Rattle.rapid_text.proofs.Places.{get_before}
+use Rattle.event_core.proofs.Places.{get_before}
 
 -- a note of the key with its number is right
 of_key : (keys : List (Vec ℕ Global)) (number : ℕ) (key : Vec ℕ Global) (name : List ℕ) (note : Note)

@@ -39,6 +39,7 @@ use Rattle.std.proofs.lemmas.Bool.{eqb-true, cases_Bool, or_parts}
 use Rattle.std.proofs.lemmas.Option.{slice_get_within}
 use Rattle.event_core.specs.declared.ids.ThreadId.{ThreadId}
 use Rattle.event_core.specs.Bounds.{Bounds}
+use Rattle.event_core.proofs.Places.{front_or_last}
 use Rattle.rapid_text.specs.declared.causes.Kind.{Kind}
 use Rattle.rapid_text.specs.declared.causes.Kind.TheVariants as kinds
 use Rattle.rapid_text.specs.Numbers.{Numbered, number_of, with_name}
@@ -83,19 +84,6 @@ number_ok (Some q) p e = ap (λ (r : Result (ℕ × Tables) ScriptCause). Some (
 
 -- ---- one line more
 
--- a place in a list with one more at its end
-pub last_or_before : {X : Type 0} (xs : List X) (y z : X) (k : ℕ) → slice_get (xs ++ y ∷ []) k ≡ Some z
-    → (slice_get xs k ≡ Some z) ⊎ ((k ≡ length xs) × (z ≡ y))
-last_or_before [] y z zero e = inr (refl, sym (ap (λ o. unwrap_or o y) e))
-last_or_before [] y z (suc k) e = absurd cc
-last_or_before (x ∷ xs) y z zero e = inl e
-last_or_before (x ∷ xs) y z (suc k) e = later (last_or_before xs y z k e)
-  where
-    later : (slice_get xs k ≡ Some z) ⊎ ((k ≡ length xs) × (z ≡ y))
-        → (slice_get xs k ≡ Some z) ⊎ ((suc k ≡ suc (length xs)) × (z ≡ y))
-    later (inl h) = inl h
-    later (inr h) = inr (ap suc h.0, h.1)
-
 -- none of the list passes a test that no element passes
 none_passes : (p : ScriptLine → Bool) (xs : List ScriptLine) (k : ℕ) (x : ScriptLine) → list_any p xs ≡ false
     → slice_get xs k ≡ Some x → p x ≡ false
@@ -118,7 +106,7 @@ IsNew of lines l = (u k : ℕ) (m : ScriptLine) → is_thread u (of l) ≡ true 
 once_more : (of : ScriptLine → Option ThreadId) (lines : List ScriptLine) (new : ScriptLine) → Once of lines
     → IsNew of lines new → Once of (lines ++ new ∷ [])
 once_more of lines new h fresh j k u l m atj atk namesl namesm =
-    both (last_or_before lines new l j atj) (last_or_before lines new m k atk)
+    both (front_or_last lines new j l atj) (front_or_last lines new k m atk)
   where
     both : (slice_get lines j ≡ Some l) ⊎ ((j ≡ length lines) × (l ≡ new))
         → (slice_get lines k ≡ Some m) ⊎ ((k ≡ length lines) × (m ≡ new)) → j ≡ k
@@ -177,7 +165,7 @@ join_not_own lines own (Some v) h =
 each_more : (P : ScriptLine → Type 0) (lines : List ScriptLine) (new : ScriptLine)
     → ((k : ℕ) (l : ScriptLine) → slice_get lines k ≡ Some l → P l) → P new
     → (k : ℕ) (l : ScriptLine) → slice_get (lines ++ new ∷ []) k ≡ Some l → P l
-each_more P lines new h last k l at = by (last_or_before lines new l k at)
+each_more P lines new h last k l at = by (front_or_last lines new k l at)
   where
     by : (slice_get lines k ≡ Some l) ⊎ ((k ≡ length lines) × (l ≡ new)) → P l
     by (inl a) = h k l a

@@ -3,15 +3,15 @@ use Rattle.std.proofs.Common.{◌≡◌, ℕ, ◌++◌, List, [], ◌∷◌, Som
 use Rattle.std.specs.Prelude.{slice_get, filter}
 use Rattle.std.specs.declared.vec.Vec.{Vec}
 use Rattle.std.specs.declared.alloc.Global.{Global}
+use Rattle.event_core.proofs.Places.{front_or_last}
 use Rattle.script_text.specs.declared.lines.ScriptLine.{ScriptLine}
 use Rattle.script_text.specs.Lines.{is_of}
 use Rattle.script_text.specs.Rows.{AreRows}
-use Rattle.script_text.proofs.Legal.{last_or_before}
 
 pub row_more : (rows : List (Vec ScriptLine Global)) (new : Vec ScriptLine Global) (lines : List ScriptLine)
     (u : ℕ) → length rows ≡ u → AreRows rows lines → new.items ≡ filter (is_of u) lines
     → AreRows (rows ++ new ∷ []) lines
-row_more rows new lines u len h is k row at = by (last_or_before rows new row k at)
+row_more rows new lines u len h is k row at = by (front_or_last rows new k row at)
   where
     by : (slice_get rows k ≡ Some row) ⊎ ((k ≡ length rows) × (row ≡ new))
         → row.items ≡ filter (is_of k) lines

@@ -1,6 +1,5 @@
 -- One verdict more.
-use Rattle.std.proofs.Common.{◌≡◌, ℕ, zero, suc, ◌+◌, ◌<◌, List, [], ◌∷◌, ◌++◌, Some, None, length, refl, sym}
-use Rattle.std.proofs.Common.{ap}
+use Rattle.std.proofs.Common.{◌≡◌, ℕ, ◌+◌, ◌<◌, List, [], ◌∷◌, ◌++◌, Some, None, length, refl, sym, ap}
 use Rattle.std.proofs.Common.{subst, ◌∙◌, ◌⊎◌, slice_get, arith}
 use Rattle.std.proofs.lemmas.List.{length_push}
 use Rattle.std.proofs.lemmas.Option.{slice_get_within}
@@ -9,21 +8,9 @@ use Rattle.event_core.specs.declared.events.Event.{Event}
 use Rattle.event_core.specs.declared.replies.Verdict.{Verdict}
 use Rattle.event_core.specs.Verdict.{IsVerdict}
 use Rattle.event_core.proofs.Counting.{grown_length}
+use Rattle.event_core.proofs.Places.{front_or_last}
 use Rattle.event_core.proofs.Stable.{verdict_too, longer}
 use Rattle.seq_monitor.specs.Monitored.{AreVerdicts}
-
--- an element of a longer list is one of the shorter, or the last
-front_or_last : {A : Type 0} (xs : List A) (x : A) (j : ℕ) (y : A) → slice_get (xs ++ x ∷ []) j ≡ Some y
-    → (slice_get xs j ≡ Some y) ⊎ ((j ≡ length xs) × (y ≡ x))
-front_or_last [] x zero y is = inr (refl, cc)
-front_or_last [] x (suc j) y is = absurd cc
-front_or_last (z ∷ zs) x zero y is = inl is
-front_or_last (z ∷ zs) x (suc j) y is = go (front_or_last zs x j y is)
-  where
-    go : (slice_get zs j ≡ Some y) ⊎ ((j ≡ length zs) × (y ≡ x))
-        → (slice_get zs j ≡ Some y) ⊎ ((suc j ≡ length (z ∷ zs)) × (y ≡ x))
-    go (inl h) = inl h
-    go (inr h) = inr (ap suc h.0, h.1)
 
 pub no_verdicts : AreVerdicts [] []
 no_verdicts = record { all = refl; each = λ j v is. absurd (let q : None ≡ Some v = is in cc) }

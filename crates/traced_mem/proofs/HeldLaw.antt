@@ -19,7 +19,8 @@ use Rattle.event_core.proofs.Stable.{longer}
 use Rattle.event_core.specs.declared.events.Op.{Op}
 use Rattle.event_core.specs.declared.events.Op.TheVariants.{Load, Store, Acquire, Release, Fork, Join}
 use Rattle.event_core.specs.Refusal.{WellFormed}
-use Rattle.event_core.proofs.Growth.{get_last, well_formed_front}
+use Rattle.event_core.proofs.Growth.{well_formed_front}
+use Rattle.event_core.proofs.Places.{get_last}
 use Rattle.event_core.proofs.Legality.{holder_depth}
 use Rattle.traced_mem.specs.OfLog.{held_after, held_from, held_in}
 use Rattle.traced_mem.proofs.OneMore.{same_depth, deeper_by_one, shallower_by_one, held_snoc}
