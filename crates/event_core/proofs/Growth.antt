@@ -1,18 +1,24 @@
--- A log is well formed when its beginning is and its last event is legal after it; a run has one answer.
+-- A log is well formed when its beginning is and its last event is legal after it; who has started stays so;
+-- a run has one answer.
 use Rattle.std.proofs.Common.{◌≡◌, ℕ, ◌<◌, ◌≤◌, ◌+◌, List, [], ◌∷◌, ◌++◌, length, refl, sym, ap, subst, ◌∙◌}
-use Rattle.std.proofs.Common.{arith, take, ◌⊎◌, slice_get, Some, None, length-append}
-use Rattle.std.proofs.lemmas.Bool.{cases_lt}
+use Rattle.std.proofs.Common.{arith, take, ◌⊎◌, slice_get, Some, None, length-append, true, nat_eq}
+use Rattle.std.proofs.lemmas.Bool.{cases_lt, or_left, or_right, or_cases}
 use Rattle.std.proofs.lemmas.List.{take-append-le}
+use Rattle.std.proofs.lemmas.List.Folds.{list_any-append}
 use Rattle.std.proofs.lemmas.Option.{slice_get_within}
 use Rattle.std.proofs.Math.Seq.{take-append_seam}
+use Rattle.std.specs.List.{list_any}
 use mathlib.Core.Logic.{inl, inr}
+use Rattle.event_core.specs.declared.ids.ThreadId.{ThreadId}
 use Rattle.event_core.specs.declared.events.Event.{Event}
 use Rattle.event_core.specs.declared.events.Call.{Call}
 use Rattle.event_core.specs.declared.bounds.Limits.{Limits}
+use Rattle.event_core.specs.declared.bounds.Roots.{Roots}
+use Rattle.event_core.specs.declared.bounds.Roots.TheVariants.{OnlyMain, Free}
 use Rattle.event_core.specs.declared.replies.Reply.{Reply}
 use Rattle.event_core.specs.declared.replies.Outcome.{Outcome}
 use Rattle.event_core.specs.declared.replies.Outcome.TheVariants.{Accepted, Refused}
-use Rattle.event_core.specs.Refusal.{Legal, WellFormed, event_of}
+use Rattle.event_core.specs.Refusal.{Legal, WellFormed, event_of, forked, forks}
 use Rattle.event_core.specs.Verdict.{IsOutcome, log_after, IsRun}
 use Rattle.event_core.proofs.Stable.{longer}
 use Rattle.event_core.proofs.MoreLaws.{one_verdict}
@@ -50,6 +56,16 @@ well_formed_grown m log e w l = record { legal = λ i x at. go i x at (cases_lt 
         subst (λ y. Legal m (take i (log ++ e ∷ [])) y) same
         (subst (λ k. Legal m (take k (log ++ e ∷ [])) e) is
         (subst (λ xs. Legal m xs e) (sym (take-append_seam log (e ∷ []))) l))
+
+-- who has started has started in every longer log
+pub still_forked : (r : Roots) (log more : List Event) (u : ThreadId) → forked r log u ≡ true
+    → forked r (log ++ more) u ≡ true
+still_forked Free log more u h = refl
+still_forked OnlyMain log more u h = go (or_cases (nat_eq u.0 0) (list_any (forks u) log) h)
+  where
+    go : (nat_eq u.0 0 ≡ true) ⊎ (list_any (forks u) log ≡ true) → forked OnlyMain (log ++ more) u ≡ true
+    go (inl t) = or_left _ _ t
+    go (inr t) = or_right (nat_eq u.0 0) _ (list_any-append (forks u) log more ∙ or_left _ _ t)
 
 same_reply : (a b : Reply) → a.index ≡ b.index → a.value ≡ b.value → a.verdict ≡ b.verdict → a ≡ b
 same_reply a b p q r = λ i. record { index = p i; value = q i; verdict = r i }

@@ -2,7 +2,7 @@
 use Rattle.std.proofs.Common.{◌≡◌, ℕ, suc, zero, ◌<◌, ◌≤◌, ◌+◌, List, [], ◌∷◌, ◌++◌, Bool, true, false}
 use Rattle.std.proofs.Common.{length, refl, sym, ap, subst, ◌∙◌, arith, take, cond, ◌⊎◌, get_or, not}
 use Rattle.std.proofs.Common.{take_all, nat_lt, nat_eq, ◌||◌, count_by, option_and_then, Option, Some, None}
-use Rattle.std.proofs.Common.{slice_get, if◌then◌else◌}
+use Rattle.std.proofs.Common.{slice_get, if◌then◌else◌, nat_le}
 use Rattle.std.proofs.lemmas.Bool.{cases_lt, cases_Bool, eqb-true, eq-eqb, lt-ltb, ltb-true, or_parts}
 use Rattle.std.proofs.lemmas.Bool.{or_cases, or_left, or_right, cond-true, cond-false}
 use Rattle.std.proofs.lemmas.Option.{slice_get_cases, cond_some}
@@ -16,8 +16,8 @@ use Rattle.event_core.specs.declared.bounds.Limits.{Limits}
 use Rattle.event_core.specs.declared.bounds.Roots.{Roots}
 use Rattle.event_core.specs.declared.bounds.Roots.TheVariants.{OnlyMain, Free}
 use Rattle.event_core.specs.declared.replies.Refusal.{Refusal}
-use Rattle.event_core.specs.declared.replies.Refusal.TheVariants.{NotStarted, TargetRange, Held, NotHolder}
-use Rattle.event_core.specs.declared.replies.Refusal.TheVariants.{SelfTarget, AlreadyStarted}
+use Rattle.event_core.specs.declared.replies.Refusal.TheVariants.{ThreadRange, NotStarted, TargetRange, Held}
+use Rattle.event_core.specs.declared.replies.Refusal.TheVariants.{NotHolder, SelfTarget, AlreadyStarted}
 use Rattle.event_core.specs.declared.events.Op.{Op}
 use Rattle.event_core.specs.declared.events.Op.TheVariants.{Acquire, Release, Fork}
 use Rattle.event_core.specs.Log.{Does, Of, depth, acquires, releases, op_acquires}
@@ -30,6 +30,7 @@ use Rattle.event_core.proofs.Depth.{count_snoc}
 
 -- none of the reasons that the laws need applies
 pub record Reasons (m : Limits) (log : List Event) (u : ThreadId) (o : Op) : Type 0 where
+  pub thread_on_table : when (nat_le m.threads u.0) ThreadRange ≡ None
   pub may_act : when (not (forked m.roots log u)) NotStarted ≡ None
   pub on_table : when (not (in_range m o)) TargetRange ≡ None
   pub no_holder : held log u o ≡ None
@@ -59,6 +60,7 @@ legal_reasons m log e legal =
     let r : AllNone (reasons m log c) = all_none (reasons m log c) legal.allowed in
     let at_call : Reasons m log c.thread c.op
     = record {
+      thread_on_table = r.0;
       may_act = r.1.0;
       on_table = r.1.1.1.0;
       no_holder = r.1.1.1.1.0;

@@ -26,6 +26,7 @@ pub mod Counting
 pub mod Turning
 pub mod Growing
 pub mod EndedLaw
+pub mod HolderLaw
 pub mod Swaps
 pub mod RunFacts
 pub mod OwnCount

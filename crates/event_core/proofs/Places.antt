@@ -1,5 +1,5 @@
 -- What stands at a place of a list that grows at its end.
-use Rattle.std.proofs.Common.{◌≡◌, ℕ, zero, suc, List, [], ◌∷◌, ◌++◌, ◌⊎◌, Some, None, length, refl, ap}
+use Rattle.std.proofs.Common.{◌≡◌, ℕ, zero, suc, List, [], ◌∷◌, ◌++◌, ◌⊎◌, Some, length, refl, ap}
 use Rattle.std.specs.Prelude.{slice_get}
 use mathlib.Core.Logic.{inl, inr}
 

@@ -1,8 +1,8 @@
 -- When a swap is refused, and that its two events are legal, one after the other.
 use Rattle.std.proofs.Common.{◌≡◌, ℕ, ◌<◌, ◌≤◌, ◌+◌, List, [], ◌∷◌, ◌++◌, Bool, true, false, length, refl}
-use Rattle.std.proofs.Common.{sym, ap, ◌∙◌, arith, ◌⊎◌, count_by, nat_eq, nat_le, not, ◌||◌, Option}
+use Rattle.std.proofs.Common.{sym, ap, ◌∙◌, arith, ◌⊎◌, count_by, nat_le, not, ◌||◌, Option}
 use Rattle.std.proofs.Common.{Some, None, length-append}
-use Rattle.std.proofs.lemmas.Bool.{leb-true, leb-false, le-leb, lt-leb, or_left, or_right, or_cases}
+use Rattle.std.proofs.lemmas.Bool.{leb-true, leb-false, le-leb, lt-leb}
 use Rattle.std.proofs.lemmas.List.Folds.{list_any-append}
 use Rattle.std.specs.List.{list_any}
 use mathlib.Core.Logic.{inl, inr}
@@ -13,18 +13,16 @@ use Rattle.event_core.specs.declared.events.Event.{Event}
 use Rattle.event_core.specs.declared.events.Call.{Call}
 use Rattle.event_core.specs.declared.events.Op.TheVariants.{Load, Store}
 use Rattle.event_core.specs.declared.bounds.Limits.{Limits}
-use Rattle.event_core.specs.declared.bounds.Roots.{Roots}
-use Rattle.event_core.specs.declared.bounds.Roots.TheVariants.{OnlyMain, Free}
 use Rattle.event_core.specs.declared.replies.Refusal.{Refusal}
 use Rattle.event_core.specs.declared.replies.Refusal.TheVariants.{ThreadRange, NotStarted, Ended, TargetRange}
 use Rattle.event_core.specs.declared.replies.Refusal.TheVariants.{LogFull}
-use Rattle.event_core.specs.Refusal.{refusal, first_of, when, forked, forks, joins, in_range, held_depths}
+use Rattle.event_core.specs.Refusal.{refusal, first_of, when, forked, joins, in_range, held_depths}
 use Rattle.event_core.specs.Refusal.{open_acquires, op_is_acquire, op_is_release, Legal, WellFormed}
 use Rattle.event_core.specs.Steps.{MayFollow}
 use Rattle.event_core.specs.Acts.{swap_refusal, swap_load, swap_store, load_call}
 use Rattle.event_core.proofs.Depth.{count_snoc}
 use Rattle.event_core.proofs.Holds.{depths_are_open}
-use Rattle.event_core.proofs.Growth.{well_formed_grown}
+use Rattle.event_core.proofs.Growth.{well_formed_grown, still_forked}
 
 -- the reasons to refuse an access, by their tests
 abbrev chain : Bool → Bool → Bool → Bool → Bool → Option Refusal
@@ -167,16 +165,6 @@ swap_full_from m log u x site s short =
     go (inl n) = inl (sym (load_chain m log u x site) ∙ n)
     go (inr f) = inr (sym (load_chain m log u x site) ∙ f)
 
--- who has started has started in every longer log
-still_forked : (r : Roots) (log : List Event) (e : Event) (u : ThreadId) → forked r log u ≡ true
-    → forked r (log ++ e ∷ []) u ≡ true
-still_forked Free log e u h = refl
-still_forked OnlyMain log e u h = go (or_cases (nat_eq u.0 0) (list_any (forks u) log) h)
-  where
-    go : (nat_eq u.0 0 ≡ true) ⊎ (list_any (forks u) log ≡ true) → forked OnlyMain (log ++ e ∷ []) u ≡ true
-    go (inl t) = or_left _ _ t
-    go (inr t) = or_right (nat_eq u.0 0) _ (list_any-append (forks u) log (e ∷ []) ∙ or_left _ _ t)
-
 -- a load opens and closes nothing
 load_opens : (log : List Event) (u : ThreadId) (x : VarId) (site : SiteId)
     → open_acquires (log ++ swap_load log u x site ∷ []) ≡ open_acquires log
@@ -229,7 +217,7 @@ swap_legal m log u x site arg w h = (first, (second, tt))
 
         started : not (forked m.roots new u) ≡ false
         started =
-            ap not (still_forked m.roots log (swap_load log u x site) u (not_false _ parts.1))
+            ap not (still_forked m.roots log (swap_load log u x site ∷ []) u (not_false _ parts.1))
 
         not_joined : list_any (joins u) new ≡ false
         not_joined =

@@ -5,6 +5,7 @@ pub use Rattle.event_core.specs.StrictLaws.{StrictGoesForward, StrictIsClosed, S
 pub use Rattle.event_core.specs.StrictLaws.{StrictIsLeastOfTests, FirstAreBelow, PremiseOfB}
 pub use Rattle.event_core.specs.StrictLaws.{EarlierSectionsToo, RecurrenceIsLeast, RelationsStay}
 pub use Rattle.event_core.specs.LogLaws.{GrowsByLegalEvents, SlotsAreKept, OpenAcquiresAreDepths}
+pub use Rattle.event_core.specs.LogLaws.{HoldersMayRelease, JoinedHoldersHaveEnded}
 pub use Rattle.event_core.specs.LogLaws.{InsideByReleases, EndedThreadsRest, OwnStepsAreOwnEvents}
 pub use Rattle.event_core.specs.LogLaws.{OnesAreTheirEvents, OwnEventsAreCounted}
 pub use Rattle.event_core.specs.RunLaws.{OneVerdict, VerdictsStay, OneOutcome, OneRun, RunsKeepLogsWellFormed}

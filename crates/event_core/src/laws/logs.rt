@@ -3,6 +3,8 @@ ghost use Rattle.event_core.specs.LogLaws.{
   GrowsByLegalEvents,
   SlotsAreKept,
   OpenAcquiresAreDepths,
+  HoldersMayRelease,
+  JoinedHoldersHaveEnded,
   InsideByReleases,
   EndedThreadsRest,
   OwnStepsAreOwnEvents,
@@ -23,6 +25,18 @@ pub fn slots_are_kept()
 /// The depths of all held locks come to the acquires less the releases of the log.
 pub fn open_acquires_are_depths()
     ensures { OpenAcquiresAreDepths }
+{}
+
+/// A release by the lock's holder is not refused, unless the holder has been joined.
+///
+/// So a thread that has not ended can always give back what it holds, however full the log is.
+pub fn holders_may_release()
+    ensures { HoldersMayRelease }
+{}
+
+/// A release by a holder that has been joined is refused as `Ended`.
+pub fn joined_holders_have_ended()
+    ensures { JoinedHoldersHaveEnded }
 {}
 
 /// An event is inside a section exactly when no outer release stands between.
