@@ -126,7 +126,13 @@ impl Lasts {
         if self.has_room(thread) {
             return Ok(());
         }
-        match self.list.reserve(1) {
+        // Most variables are touched by one thread alone, so the first place is asked for without more.
+        let reserved = if self.list.is_empty() {
+            self.list.reserve_exact(1)
+        } else {
+            self.list.reserve(1)
+        };
+        match reserved {
             Ok(()) => Ok(()),
             Err(_) => Err(OutOfMemory),
         }

@@ -26,9 +26,7 @@ pub(crate) fn number_before(release: &[u64], by: ThreadId, u: usize) -> u32
     requires few { before by.0 (counts_of release.now) u < 2 ^ 32 }
     ensures { result ≡ before by.0 (counts_of release.now) u }
 {
-    if u == by.0 as usize {
-        (release[u] - 1) as u32
-    } else {
-        release[u] as u32
-    }
+    // The choice is of a number, so that the loop over the numbers has no branch.
+    let own = if u == by.0 as usize { 1 } else { 0 };
+    (release[u] - own) as u32
 }

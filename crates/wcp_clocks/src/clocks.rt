@@ -38,7 +38,7 @@ use std::marker::Model;
 
 /// The clocks of the strict relation, and of all that it stands on.
 ///
-/// Each call but `new` and `prepare` takes no memory.
+/// Each call but `new`, `prepare` and `prepare_swap` takes no memory.
 #[derive(Drop)]
 pub struct WcpClocks {
     parts: Parts,
