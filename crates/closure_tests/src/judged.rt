@@ -1,7 +1,8 @@
 //! A log with the monitor's verdicts on it.
 use crate::closure::Closure;
 use crate::pairs::MOST_EVENTS;
-use event_core::{Call, Event, Limits, Roots, Verdict};
+use crate::runs::{self, step};
+use event_core::{Call, Event, Limits, Outcome, Roots, Verdict};
 use seq_monitor::Monitor;
 use std::alloc::{AllocError, Global};
 use std::process::Abort;
@@ -21,13 +22,14 @@ pub fn judge(alloc: Global, calls: &[Call], most: usize) -> Result<Judged, Fail>
         log: Vec::new(alloc),
         verdicts: Vec::new(alloc),
     };
-    let mut monitor = Monitor::new(alloc, &limits)?;
+    let mut monitor = runs::monitor(alloc, &limits)?;
     judged.fill(&mut monitor, calls, most)?;
     Ok(judged)
 }
 
 impl Judged {
-    // Makes the calls, and keeps the verdicts that are answered and the events that are logged.
+    // Makes the calls, and keeps the verdicts that are answered and the events that are logged. A call that
+    // is refused memory is made once more.
     fn fill(
         &mut self,
         monitor: &mut Monitor,
@@ -36,7 +38,7 @@ impl Judged {
     ) -> Result<(), AllocError> {
         for call in calls {
             if self.verdicts.len() < most
-                && let Ok(reply) = monitor.step(*call)
+                && let Outcome::Accepted(reply) = step(monitor, *call)
             {
                 self.verdicts.push(reply.verdict)?;
             }

@@ -153,3 +153,20 @@ fn what_is_ready_needs_no_memory(rt: HostRuntime) -> Result<(), Fail> {
     assert!(rt; monitor.ready(&load(1, X)), "a call that is refused");
     Ok(())
 }
+
+#[test]
+fn room_for_one_call_stays_where_room_is_made_for_another(rt: HostRuntime) -> Result<(), Fail> {
+    let mut monitor = monitor(rt.alloc(), 2, 2, 64)?;
+    let first = storing(0, X, 9);
+    let second = acquire(0, L);
+    assert!(rt; prepare(&mut monitor, &first));
+    assert!(rt; !monitor.ready(&second));
+    assert!(rt; prepare(&mut monitor, &second));
+    assert!(rt;
+        prepare(&mut monitor, &load(1, X)),
+        "a call that is refused"
+    );
+    assert!(rt; monitor.ready(&first));
+    assert!(rt; monitor.ready(&second));
+    Ok(())
+}

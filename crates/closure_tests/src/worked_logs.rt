@@ -31,20 +31,30 @@ fn expected(races: &[(usize, u64)], index: usize) -> Verdict {
     Verdict::Clear
 }
 
-// The monitor accepts all the calls, by `step` and by `run`. Its verdicts are these races, and those of the
-// closure.
+// The monitor accepts all the calls. Its verdicts are these races, and those of the closure.
 fn expect_races(
     rt: &impl Abort,
     alloc: Global,
     calls: &[Call],
     races: &[(usize, u64)],
 ) -> Result<(), Fail> {
+    expect_outcomes(rt, alloc, calls, races)?;
     let judged = judge(alloc, calls, calls.len())?;
     assert_eq!(rt; judged.verdicts.len(), calls.len());
     for (index, verdict) in judged.verdicts.iter().enumerate() {
         assert_eq!(rt; *verdict, expected(races, index), "event {index}");
     }
     judged.compare(rt, alloc, 0)?;
+    Ok(())
+}
+
+// So it is by `step` and by `run`, also where a growth is refused once.
+fn expect_outcomes(
+    rt: &impl Abort,
+    alloc: Global,
+    calls: &[Call],
+    races: &[(usize, u64)],
+) -> Result<(), Fail> {
     let limits = Limits::new(3, 4, 3, 64, Roots::Free)?;
     for (index, outcome) in outcomes(rt, alloc, &limits, calls)?.iter().enumerate() {
         let verdict = expected(races, index);

@@ -1,4 +1,5 @@
 pub mod Verdicts
+pub mod Growing
 pub mod Releases
 pub mod ClockLaws
 pub mod Replaying

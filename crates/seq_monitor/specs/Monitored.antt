@@ -86,6 +86,14 @@ pub record HasRoomToSwap (m : Monitored) (t : ThreadId) (x : VarId) : Type 0 whe
 abbrev pub IsReady : Monitored → Call → Type 0
 IsReady m c = refusal m.limits m.log c ≡ None → HasRoom m c.thread c.op
 
+-- what there was room for, there still is room for
+abbrev pub KeepsRoom : Monitored → Monitored → Type 0
+KeepsRoom old new = (t : ThreadId) (o : Op) → HasRoom old t o → HasRoom new t o
+
+-- what was ready stays so
+abbrev pub KeepsReady : Monitored → Monitored → Type 0
+KeepsReady old new = (c : Call) → IsReady old c → IsReady new c
+
 -- each verdict is that on its event
 pub record AreVerdicts (log : List Event) (verdicts : List Verdict) : Type 0 where
   pub all : length verdicts ≡ length log

@@ -3,6 +3,7 @@ ghost use Rattle.std.specs.Prelude.{◌≡◌, ℕ, ◌+◌, ◌-◌, ◌<◌, �
 ghost use Rattle.std.specs.Prelude.{vec_capacity};
 ghost use Rattle.event_core.specs.declared.bounds.Limits.{Limits as Bounds};
 ghost use Rattle.event_core.specs.declared.events.Event.{Event as AnEvent};
+ghost use Rattle.event_core.specs.declared.ids.ThreadId.{ThreadId as Thread};
 ghost use Rattle.event_core.specs.Refusal.{WellFormed};
 ghost use Rattle.event_core.specs.Verdict.{IsVerdict};
 ghost use Rattle.traced_mem.specs.After.{holds_after};
@@ -164,9 +165,12 @@ pub(crate) fn grow(
     ensures memory_limits { memory.new.limits ≡ memory.old.limits }
     ensures memory_stands { (past : List AnEvent) → StandsFor memory.old past → StandsFor memory.new past }
     ensures memory_ready { OnOk result (MemoryIsReady memory.new call.now.thread call.now.op) }
+    ensures memory_kept { (u : Thread) (o : Operation)
+        → MemoryIsReady memory.old u o → MemoryIsReady memory.new u o }
     ensures numbers { SameNumbers clocks.old clocks.new }
     ensures clock_limits { SameLimits clocks.old clocks.new }
     ensures clocks_ready { OnOk result (ClocksAreReady clocks.new (an_event_by call.now.thread call.now.op)) }
+    ensures clocks_kept { KeepsReady clocks.old clocks.new }
     ensures accesses_same { Grown accesses.old accesses.new }
     ensures accesses_ready { OnOk result (AccessesHaveRoom accesses.new call.now.thread call.now.op) }
     ensures events { log.new.events ≡ log.old.events }
@@ -204,9 +208,12 @@ pub(crate) fn grow_for_swap(
     ensures memory_limits { memory.new.limits ≡ memory.old.limits }
     ensures memory_stands { (past : List AnEvent) → StandsFor memory.old past → StandsFor memory.new past }
     ensures memory_ready { OnOk result (MemoryIsReadyToSwap memory.new thread var) }
+    ensures memory_kept { (u : Thread) (o : Operation)
+        → MemoryIsReady memory.old u o → MemoryIsReady memory.new u o }
     ensures numbers { SameNumbers clocks.old clocks.new }
     ensures clock_limits { SameLimits clocks.old clocks.new }
     ensures clocks_ready { OnOk result (ClocksAreReadyToSwap clocks.new thread var) }
+    ensures clocks_kept { KeepsReady clocks.old clocks.new }
     ensures accesses_same { Grown accesses.old accesses.new }
     ensures accesses_ready { OnOk result (AccessesHaveRoomToSwap accesses.new thread var) }
     ensures events { log.new.events ≡ log.old.events }
