@@ -1,6 +1,6 @@
 //! The start: a monitor before it has a name, and then the one that threads share.
 ghost use Rattle.std.specs.Prelude.{◌≡◌, ◌↔◌, [], IfOk, IfErr};
-ghost use Rattle.event_core.specs.declared.bounds.Roots.TheVariants.{Free};
+ghost use Rattle.event_core.specs.declared.bounds.Roots.TheVariants.{Free, OnlyMain};
 ghost use Rattle.log_pass.specs.Views.{main, new_pass};
 
 use crate::book::Book;
@@ -46,6 +46,8 @@ impl Unnamed {
     /// and where a growth is.
     pub fn new(alloc: Global, limits: Limits) -> Result<Unnamed, StartFault>
         ensures limits { IfOk result (λ unnamed. unnamed.limits ≡ limits) }
+        ensures only_main { IfOk result (λ _. limits.roots ≡ OnlyMain) }
+        ensures made_only_main { IfOk result (λ unnamed. unnamed.limits.roots ≡ OnlyMain) }
         ensures roots { IfErr result (λ fault. (fault ≡ StartFault.RootsFree) ↔ (limits.roots ≡ Free)) }
     {
         if limits.roots() == Roots::Free {

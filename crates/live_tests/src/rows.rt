@@ -4,7 +4,7 @@ ghost use Rattle.std.specs.Prelude.{◌≡◌};
 use crate::actors::{Actor, Ask};
 use Ask::{Acquire, Load, Release, Store};
 use Deed::{Accepted, Found, Refused, Swapped};
-use Turn::{Child, Fork, Join, Main};
+use Turn::{Child, DropChild, Fork, Join, Main};
 use Verdict::{Clear, Racy};
 use event_core::{Limits, Refusal, Reply, Roots, SwapReply, ThreadId, Verdict};
 use live_monitor::{Closed, Shared, StartFault, Unnamed, start};
@@ -24,13 +24,15 @@ enum Deed {
     Found(u64),
 }
 
-/// What thread 0 does, or thread 1, or that thread 0 forks or joins thread 1, with the index.
+/// What thread 0 does, or thread 1, or that thread 0 forks or joins thread 1, with the index. Or that the
+/// pass of thread 1 is dropped.
 #[derive(Clone, Copy)]
 enum Turn {
     Main(Deed),
     Child(Deed),
     Fork(u64),
     Join(u64),
+    DropChild,
 }
 
 /// Thread 1 may acquire the lock only after thread 0 released it.
@@ -82,10 +84,11 @@ static NESTED_SECTIONS: [Turn; 13] = [
     Child(Accepted(Load(1), 12, 4, Clear)),
 ];
 
-/// Thread 1 is never joined, and keeps its lock.
-static STAYS_HELD: [Turn; 3] = [
+/// Thread 1 is never joined. Its pass is dropped, and it keeps its lock.
+static STAYS_HELD: [Turn; 4] = [
     Fork(0),
     Child(Accepted(Acquire(0), 1, 0, Clear)),
+    DropChild,
     Main(Refused(Acquire(0), Refusal::Held { by: ThreadId(1) })),
 ];
 
@@ -193,6 +196,10 @@ fn take_turn<N: Name, R: Wait + Abort>(
         }
         Fork(index) => fork(rt, shared, main, index),
         Join(index) => join(rt, shared, main, child.expect(rt, "the child"), index),
+        DropChild => {
+            drop(child.expect(rt, "the child"));
+            (main, None)
+        }
     }
 }
 
