@@ -9,7 +9,7 @@ use Rattle.std.proofs.lemmas.Option.{slice_get-get_or}
 use Rattle.std.proofs.lemmas.Slice.Eq.{bytes_eq-Decides}
 use mathlib.Core.Logic.{inl, inr}
 use Rattle.rapid_text.specs.declared.notes.Note.{Note}
-use Rattle.rapid_text.specs.Notes.{Holds, IsOneOf, IsNoteOf, IsFound, IsRight, AreRight}
+use Rattle.rapid_text.specs.Notes.{Holds, HoldsNone, IsOneOf, IsNoteOf, IsFound, IsRight, AreRight}
 use Rattle.rapid_text.proofs.Ends.{same_name}
 use Rattle.event_core.proofs.Places.{get_before}
 
@@ -34,10 +34,10 @@ right_noted keys old new number key name at is right made note one = go (made no
 
 -- new places hold nothing
 pub right_grown : (keys : List (Vec ℕ Global)) (old new : List Note) → AreRight keys old
-    → ((note : Note) → IsOneOf new note → IsOneOf old note ⊎ (note.length ≡ 0)) → AreRight keys new
+    → ((note : Note) → IsOneOf new note → IsOneOf old note ⊎ HoldsNone note) → AreRight keys new
 right_grown keys old new right made note one = go (made note one)
   where
-    go : IsOneOf old note ⊎ (note.length ≡ 0) → IsRight keys note
+    go : IsOneOf old note ⊎ HoldsNone note → IsRight keys note
     go (inl was) = right note was
     go (inr none) = λ some. absurd (omega (arith, some, none))
 

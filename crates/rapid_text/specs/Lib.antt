@@ -1,3 +1,4 @@
+pub mod Devices
 pub mod Numbers
 pub mod Notes
 pub mod Tables

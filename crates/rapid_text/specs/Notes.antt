@@ -6,15 +6,15 @@ use Rattle.std.specs.declared.vec.Vec.{Vec}
 use Rattle.std.specs.declared.alloc.Global.{Global}
 use Rattle.rapid_text.specs.declared.notes.Note.{Note}
 
--- the bytes at the ends of a name of so many bytes: the first four and the last four, and of fewer than four the
--- first, the middle and the last
+-- the bytes at the ends of a name of so many bytes: the first four and the last four, and of fewer than four
+-- the first, the middle and the last
 abbrev pub ends_among : ℕ → List ℕ → List ℕ
 ends_among n name =
     if nat_lt n 4
     then slice_index name 0 ∷ slice_index name (n / 2) ∷ slice_index name (n - 1) ∷ 0 ∷ 0 ∷ 0 ∷ 0 ∷ 0 ∷ []
     else slice_index name 0 ∷ slice_index name 1 ∷ slice_index name 2 ∷ slice_index name 3
-    ∷ slice_index name (n - 4) ∷ slice_index name (n - 3) ∷ slice_index name (n - 2) ∷ slice_index name (n - 1)
-    ∷ []
+    ∷ slice_index name (n - 4) ∷ slice_index name (n - 3)
+    ∷ slice_index name (n - 2) ∷ slice_index name (n - 1) ∷ []
 
 abbrev pub ends_of : List ℕ → List ℕ
 ends_of name = ends_among (length name) name
@@ -22,6 +22,10 @@ ends_of name = ends_among (length name) name
 -- the note is one of the list
 abbrev pub IsOneOf : List Note → Note → Type 0
 IsOneOf notes note = (i : ℕ) × (slice_get notes i ≡ Some note)
+
+-- the note holds no name
+abbrev pub HoldsNone : Note → Type 0
+HoldsNone note = note.length ≡ 0
 
 -- the note has the length and the ends of the short name
 pub record Holds (name : List ℕ) (note : Note) : Type 0 where

@@ -1,15 +1,23 @@
 //! Any reader or writer of std as an input or an output.
 ghost use Rattle.std.specs.Prelude.{◌≡◌, false};
+ghost use Rattle.rapid_text.specs.Devices.{DeviceView};
 
 use crate::input::{Input, ReadFailed};
 use crate::output::{Output, WriteFailed};
 use std::io::{Read, Write};
+use std::marker::Model;
 
 /// A reader as an input, or a writer as an output. Each pull is one `read`, and each put one `write`.
 #[derive(Drop)]
 pub struct Device<T> {
     inner: T,
     failed: bool,
+}
+
+impl<T> Model for Device<T> {
+    ghost Value = { DeviceView T };
+
+    ghost view = { λ d. record { inner = d.inner; failed = d.failed } };
 }
 
 impl<T> Device<T> {

@@ -1,13 +1,13 @@
 //! Notes of the numbers of names.
 //!
-//! A set of names is searched by a hash that takes a name byte by byte. Here a name has a place by a hash that
-//! takes many bytes at a time, and at each place stands a note of one name. A name of up to eight bytes is told
-//! by its length and one word, which the note holds: so it is found by one read of memory, and without a
-//! comparison byte by byte. Where two short names have one place, the second goes to the place beside it. Of a
-//! longer name a note is a guess, which is used only after the bytes were compared.
+//! A set of names is searched by a hash that takes a name byte by byte. Here a name has a place by a hash
+//! that takes many bytes at a time, and at each place stands a note of one name. A name of up to eight bytes
+//! is told by its length and one word, which the note holds: so it is found by one read of memory, and
+//! without a comparison byte by byte. Where two short names have one place, the second goes to the place
+//! beside it. Of a longer name a note is a guess, which is used only after the bytes were compared.
 ghost use Rattle.std.specs.Prelude.{◌≡◌, ◌↔◌, ◌<◌, ◌≤◌, ◌⊎◌, List, [], length, IfSome, IsTrue};
 ghost use Rattle.std.specs.Int.{to_le_bytes, w64};
-ghost use Rattle.rapid_text.specs.Notes.{IsOneOf, IsNoteOf, IsFound, ends_of};
+ghost use Rattle.rapid_text.specs.Notes.{IsOneOf, IsNoteOf, IsFound, HoldsNone, ends_of};
 ghost use Rattle.rapid_text.specs.declared.notes.Note.{Note as ANote};
 
 use std::alloc::{AllocError, Global};
@@ -59,8 +59,8 @@ fn place_of_word(word: u64, places: usize) -> usize
     requires { 0 < places }
     ensures { result < places }
 {
-    // An odd number whose bits are those of the golden ratio: the higher bits of the product depend on all of the
-    // word.
+    // An odd number whose bits are those of the golden ratio: the higher bits of the product depend on all of
+    // the word.
     let mixed = word.wrapping_mul(0x9e37_79b9_7f4a_7c15);
     (mixed >> 32 ^ mixed >> 52) as usize & (places - 1)
 }
@@ -214,7 +214,7 @@ impl Notes {
 
     /// Makes two places or more for each of so many names. New places forget what was noted.
     pub fn make_room(&mut self, alloc: Global, names: u32) -> Result<(), AllocError>
-        ensures { (note : ANote) → IsOneOf self.new note → IsOneOf self.old note ⊎ (note.length ≡ 0) }
+        ensures { (note : ANote) → IsOneOf self.new note → IsOneOf self.old note ⊎ HoldsNone note }
     {
         if self.list.len() as u64 >= names as u64 * 2 {
             return Ok(());

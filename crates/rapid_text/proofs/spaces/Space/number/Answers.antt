@@ -1,8 +1,10 @@
-use Rattle.std.proofs.Common.{◌≡◌, ℕ, ◌+◌, ◌++◌, ◌∷◌, [], List, Vec, Global, Some, length, sym, ◌∙◌, arith, ap, refl}
+use Rattle.std.proofs.Common.{◌≡◌, ℕ, ◌+◌, ◌++◌, ◌∷◌, [], List, Vec, Global, Some, length, sym, ◌∙◌, arith}
+use Rattle.std.proofs.Common.{ap, refl}
 use Rattle.std.specs.Prelude.{slice_get}
 use Rattle.std.proofs.lemmas.List.{length_push}
 use Rattle.std.specs.Option.{is_some}
-use Rattle.rapid_text.proofs.SpaceLaws.{numbered_found, numbered_full, numbered_new, no_place, place_of_key, pushed}
+use Rattle.rapid_text.proofs.SpaceLaws.{numbered_found, numbered_full, numbered_new, no_place}
+use Rattle.rapid_text.proofs.SpaceLaws.{place_of_key, pushed}
 use Rattle.rapid_text.proofs.NoteLaws.{right_noted, right_grown, right_more, found_key}
 use Rattle.event_core.proofs.Places.{get_last}
 use Rattle.rapid_text.proofs.spaces.Space.number.Goals as goal
