@@ -47,7 +47,6 @@ impl Unnamed {
     pub fn new(alloc: Global, limits: Limits) -> Result<Unnamed, StartFault>
         ensures limits { IfOk result (λ unnamed. unnamed.limits ≡ limits) }
         ensures only_main { IfOk result (λ _. limits.roots ≡ OnlyMain) }
-        ensures made_only_main { IfOk result (λ unnamed. unnamed.limits.roots ≡ OnlyMain) }
         ensures roots { IfErr result (λ fault. (fault ≡ StartFault.RootsFree) ↔ (limits.roots ≡ Free)) }
     {
         if limits.roots() == Roots::Free {
