@@ -2,7 +2,9 @@
 ghost use Rattle.std.specs.Prelude.{◌≡◌, ◌≤◌, false};
 
 use crate::doubles::{Page, Pieces, Ran, run};
+use std::fs;
 use std::sync::Wait;
+use std::test::Fail;
 use std::thread::Threads;
 use wcp_tool::{Command, Settings, run_script};
 
@@ -193,4 +195,37 @@ fn answers_a_missing_file_with_a_read_fault(rt: HostRuntime) {
     let words = ["run", "there/is/no/such/script"];
     let ran = run(&rt, words.as_slice(), Pieces::whole(b""));
     ran.expect(&rt, "a missing file", b"", "read fault\n", 4);
+}
+
+/// Words that run the script in the file, its text, what is printed, and the status.
+static IN_A_FILE: [(&[&str], &str, &str, u8); 3] = [
+    (
+        &["run", "worked.script"],
+        "m fork a\na w x 5\nm join a\nm r x\n",
+        "events 4 threads 2 locks 0 variables 1 races 0\n",
+        0,
+    ),
+    (
+        &["run", "worked.script"],
+        "m r x\na r x\n",
+        "line 2: NoFork\n",
+        6,
+    ),
+    (
+        &["run", "worked.script", "--patience", "1"],
+        "m acq l\nm fork a\na acq l\n",
+        "line 3: Stuck\n",
+        6,
+    ),
+];
+
+#[test]
+fn runs_the_script_in_a_file(rt: HostRuntime) -> Result<(), Fail> {
+    for (words, text, output, status) in &IN_A_FILE {
+        fs::write(&rt, "worked.script", *text)?;
+        let ran = run(&rt, *words, Pieces::whole(b""));
+        ran.expect(&rt, text, output.as_bytes(), "", *status);
+    }
+    fs::remove_file(&rt, "worked.script")?;
+    Ok(())
 }

@@ -6,7 +6,7 @@ pub type Legal = (&'static str, &'static str, &'static str, &'static str, u8);
 /// What the trace is, its text, and the line of its fault.
 pub type Refused = (&'static str, &'static str, &'static str);
 
-pub static LEGAL: [Legal; 20] = [
+pub static LEGAL: [Legal; 21] = [
     (
         "an empty text",
         "",
@@ -166,6 +166,13 @@ pub static LEGAL: [Legal; 20] = [
         "events 2 threads 2 locks 0 variables 1 races 1\n\
          2|T1|r(a(b))|é with 1|T0|w(a(b))|\n",
         1,
+    ),
+    (
+        "a store by a child that is joined",
+        "m|fork(a)|1\na|w(x)|2\nm|join(a)|3\nm|r(x)|4\n",
+        "events 4 threads 2 locks 0 variables 1\n",
+        "events 4 threads 2 locks 0 variables 1 races 0\n",
+        0,
     ),
 ];
 

@@ -16,7 +16,7 @@ use Rattle.clap.specs.Simple.{Shape, built, filled_from, help_rule, version_rule
 use Rattle.clap.specs.Faults.{check_fault, defaults_fault, entered_fault, step_fault, other_fault}
 use Rattle.clap.specs.Faults.{settle_fault, turn_fault, walk_fault, word_fault}
 use Rattle.clap.specs.declared.error.kind.ErrorKind.TheVariants as kind
-use Rattle.wcp_tool.specs.CommandLine.{check, faults_of, replay, run, wcp}
+use Rattle.wcp_tool.specs.CommandLine.{faults_of, wcp}
 use Rattle.wcp_tool.proofs.Keeping.{both_none}
 use Rattle.wcp_tool.proofs.CommandArguments.{HasNumber, IsRun, run_given, run_rules, top, trace_number}
 use Rattle.wcp_tool.proofs.CommandArguments.{trace_rules}

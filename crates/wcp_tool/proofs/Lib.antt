@@ -10,6 +10,3 @@ pub mod CommandArguments
 pub mod CommandWords
 pub mod CommandSettings
 pub mod CommandFaults
-pub mod Hindrance
-pub mod Obeying
-pub mod ScriptRuns

@@ -1,7 +1,6 @@
 -- What the program does for its words, and the status that it ends with.
 use Rattle.std.specs.Prelude.{◌≡◌, ◌≢◌, ◌≤◌, ◌⊎◌, ℕ, List, [], Option, Bool, true, false, Result, length}
-use Rattle.std.specs.Prelude.{IfSome}
-use Rattle.std.specs.Prelude.{IsSomeAnd}
+use Rattle.std.specs.Prelude.{IfSome, IsSomeAnd, None}
 use Rattle.std.specs.List.{list_any}
 use Rattle.std.specs.Io.KnownBytes.{Appends}
 use Rattle.event_core.specs.declared.bounds.Limits.{Limits}
@@ -21,7 +20,7 @@ use Rattle.wcp_tool.specs.declared.endings.Ending.TheVariants.{Done, WrongUsage,
 use Rattle.wcp_tool.specs.Checked.{checked, finding}
 use Rattle.wcp_tool.specs.CommandLine.{Request, asked, check, faults_of, is_answer, is_mistake, replay, run}
 use Rattle.wcp_tool.specs.Endings.{ending_for, replay_ending, status_of}
-use Rattle.wcp_tool.specs.ScriptRuns.{ReportsLog, TellsRefusal}
+use Rattle.wcp_tool.specs.ScriptRuns.{ReportsLog, RunsText, TellsRefusal}
 
 -- ---- a run of a command
 
@@ -58,6 +57,8 @@ pub record Reports (m : Limits) (old new : Option (List ℕ)) (status : ℕ) : T
 -- what a run of a script's threads writes: a report, or the one line that tells which call is refused and why
 pub record PerformsRun (m : Limits) (old new : Option (List ℕ)) (status : ℕ) : Type 0 where
   pub reports : (status ≡ 0) ⊎ (status ≡ 1) → Reports m old new status
+  -- the report is that of what the threads of some script did: what the file held is not known
+  pub ran : (status ≡ 0) ⊎ (status ≡ 1) → RunsText m None old new status
   pub refused : status ≡ 3 → TellsRefusal old new
 
 -- what is done for a request with so many threads, where the reader had this text left

@@ -6,7 +6,7 @@ ghost use Rattle.wcp_tool.specs.Endings.{summary_ending as for_summary};
 
 use crate::answers::{CheckFault, Counts};
 use event_core::Refusal;
-use rapid_text::Cause;
+use rapid_text::{Cause, Output, write_all};
 use trace_report::{ReplayFault, Summary};
 
 /// How the program ends.
@@ -26,7 +26,7 @@ pub(crate) enum Ending {
     WriteFault,
     /// A growth was refused.
     OutOfMemory,
-    /// The script is broken, or one of its threads is stuck.
+    /// The script is broken, or one of its threads is stuck or could not be started.
     BrokenScript,
 }
 
@@ -59,6 +59,15 @@ impl Ending {
             Ending::OutOfMemory => "out of memory\n",
         }
     }
+}
+
+/// Says on standard error what there is to say of the ending, and answers the exit status. A standard error
+/// that cannot be written changes nothing.
+pub(crate) fn finish<E: Output>(ending: Ending, errors: &mut E) -> u8
+    ensures { result ≡ status_of ending }
+{
+    let _ = write_all(errors, ending.message().as_bytes());
+    ending.status()
 }
 
 fn cause_ending(cause: Cause) -> Ending

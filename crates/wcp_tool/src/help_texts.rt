@@ -8,7 +8,7 @@ Exit status:
   3  A line of the trace, or a call of the script, is refused
   4  The input or the script could not be read, or standard output could not be written
   5  Out of memory
-  6  The script is broken, or one of its threads is stuck";
+  6  The script is broken, or one of its threads is stuck or could not be started";
 
 pub(crate) const CHECK_TEXTS: &str = "\
 A trace has a line for each event: the thread, the operation with its argument, and the location, as
@@ -51,14 +51,15 @@ makes the calls of its own lines, in order and beside the other threads. So the 
 two threads may differ from run to run.
 
 Standard output has the report of these calls, as replay gives it; their locations are line numbers.
-Or it has one line, where a script is broken, one of its threads is stuck, or a call is refused:
+Or it has one line, where a script is broken, one of its threads is stuck or could not be started,
+or a call is refused:
   line N: LineTooLong   The line has more than 1024 bytes
   line N: BadLine       It is none of the seven
-  line N: BadNumber     Its number is not from 0 to 18446744073709551615
+  line N: BadNumber     Its number has not 1 to 20 decimal digits, or is above 18446744073709551615
   line N: TooManyNames  It names a thread, lock or variable too many; --threads allows for more threads
   line N: BadFork       It forks a thread that was forked before, or is there from the beginning
   line N: BadJoin       It joins its own thread, one that was joined before, or the first
-  line N: NoFork        It names a thread that no line forks
+  line N: NoFork        It names a thread to which no forks lead from the first line's thread
   line N: Stuck         Its lock, or the thread that it joins, was not to be had in --patience tries
   line N: NoWorker      The thread that it forks could not be started
   line N: NotHolder     It releases a lock that its thread does not hold

@@ -4,15 +4,17 @@ ghost use Rattle.std.specs.Prelude.{map};
 ghost use Rattle.clap.specs.Words.{Text};
 ghost use Rattle.wcp_tool.specs.Endings.{status_of};
 ghost use Rattle.wcp_tool.specs.CommandLine.{request_of};
-ghost use Rattle.wcp_tool.specs.Running.{Checks, Replays, Performs, IsCut, Runs, EndsAs, is_help};
+ghost use Rattle.wcp_tool.specs.Running.{Checks, Replays, Performs, IsCut, IsUnhindered, Runs, EndsAs};
+ghost use Rattle.wcp_tool.specs.Running.{is_help, limits_with};
+ghost use Rattle.event_core.specs.declared.bounds.Roots.TheVariants.{Free};
 
 use crate::bounds::{TURNS, limits_of};
 use crate::checking::check;
 use crate::command_line::settings;
-use crate::endings::{Ending, ending_of, ending_of_replay};
+use crate::endings::{Ending, ending_of, ending_of_replay, finish};
 use crate::requests::{Command, Settings, UsageFault};
 use crate::scripts::run_file;
-use event_core::{Limits, Roots};
+use event_core::Roots;
 use rapid_text::{Input, Output, write_all};
 use std::alloc::Global;
 use std::convert::AsStr;
@@ -24,16 +26,18 @@ use std::sync::Wait;
 use std::thread::Threads;
 use trace_report::replay;
 
+/// The command `check`.
 fn run_check<I: Input, O: Output>(
     alloc: Global,
-    limits: Limits,
+    threads: u32,
     reader: &mut I,
     writer: &mut O,
 ) -> Ending
+    requires threads { (1 ≤ threads) × (threads ≤ 1024) }
     requires reads { I.failed reader.old ≡ false }
     requires writes { O.failed writer.old ≡ false }
     ensures performs { result ≢ Ending.ReadFault → result ≢ Ending.WriteFault → result ≢ Ending.OutOfMemory
-        → IfSome (I.left reader.old) (λ text. Checks limits text (O.written writer.old)
+        → IfSome (I.left reader.old) (λ text. Checks (limits_with threads Free) text (O.written writer.old)
         (O.written writer.new) (status_of result)) }
     ensures usage { result ≢ Ending.WrongUsage }
     ensures quiet { (result ≡ Ending.ReadFault) ⊎ (result ≡ Ending.OutOfMemory) → writer.new ≡ writer.old }
@@ -43,20 +47,23 @@ fn run_check<I: Input, O: Output>(
     ensures write_fault { result ≡ Ending.WriteFault → O.failed writer.new ≡ true }
     ensures written { result ≢ Ending.WriteFault → O.failed writer.new ≡ false }
 {
+    let limits = limits_of(threads, Roots::Free);
     let answer = check(alloc, reader, writer, limits, TURNS);
     ending_of(&answer)
 }
 
+/// The command `replay`.
 fn run_replay<I: Input, O: Output>(
     alloc: Global,
-    limits: Limits,
+    threads: u32,
     reader: &mut I,
     writer: &mut O,
 ) -> Ending
+    requires threads { (1 ≤ threads) × (threads ≤ 1024) }
     requires reads { I.failed reader.old ≡ false }
     requires writes { O.failed writer.old ≡ false }
     ensures performs { result ≢ Ending.ReadFault → result ≢ Ending.WriteFault → result ≢ Ending.OutOfMemory
-        → IfSome (I.left reader.old) (λ text. Replays limits text (O.written writer.old)
+        → IfSome (I.left reader.old) (λ text. Replays (limits_with threads Free) text (O.written writer.old)
         (O.written writer.new) (status_of result)) }
     ensures usage { result ≢ Ending.WrongUsage }
     ensures quiet { (result ≡ Ending.ReadFault) ⊎ (result ≡ Ending.OutOfMemory) → writer.new ≡ writer.old }
@@ -66,46 +73,44 @@ fn run_replay<I: Input, O: Output>(
     ensures write_fault { result ≡ Ending.WriteFault → O.failed writer.new ≡ true }
     ensures written { result ≢ Ending.WriteFault → O.failed writer.new ≡ false }
 {
+    let limits = limits_of(threads, Roots::Free);
     let answer = replay(alloc, reader, writer, limits, TURNS);
     ending_of_replay(&answer)
 }
 
-/// Does what the settings ask for.
-fn run<R: AllocGlobal + Files + Threads + Wait + Sync, I: Input, O: Output>(
+/// Does what the settings ask for. The answer is the exit status.
+fn run<R: AllocGlobal + Files + Threads + Wait + Sync, I: Input, O: Output, E: Output>(
     rt: &R,
     settings: &Settings,
     reader: &mut I,
     writer: &mut O,
-) -> Ending
-    requires least { 1 ≤ settings.now.threads }
-    requires most { settings.now.threads ≤ 1024 }
+    errors: &mut E,
+) -> u8
+    requires threads { (1 ≤ settings.now.threads) × (settings.now.threads ≤ 1024) }
+    requires patience { (1 ≤ settings.now.patience) × (settings.now.patience ≤ 4294967295) }
     requires reads { I.failed reader.old ≡ false }
     requires writes { O.failed writer.old ≡ false }
-    ensures performs { result ≢ Ending.ReadFault → result ≢ Ending.WriteFault → result ≢ Ending.OutOfMemory
-        → Performs (request_of settings.now.command) settings.now.threads (I.left reader.old)
-        (O.written writer.old) (O.written writer.new) (status_of result) }
-    ensures usage { result ≢ Ending.WrongUsage }
-    ensures quiet { (result ≡ Ending.ReadFault) ⊎ (result ≡ Ending.OutOfMemory) → writer.new ≡ writer.old }
-    ensures short { result ≡ Ending.ReadFault
-        → IsCut (request_of settings.now.command) (I.left reader.old) (I.failed reader.new) }
-    ensures read { result ≡ Ending.Done → I.failed reader.new ≡ false }
-    ensures write_fault { result ≡ Ending.WriteFault → O.failed writer.new ≡ true }
-    ensures written { result ≢ Ending.WriteFault → O.failed writer.new ≡ false }
+    ensures performs { IsUnhindered result → Performs (request_of settings.now.command) settings.now.threads
+        (I.left reader.old) (O.written writer.old) (O.written writer.new) result }
+    ensures hindered { result ≡ 4 → (O.failed writer.new ≡ true)
+        ⊎ IsCut (request_of settings.now.command) (I.left reader.old) (I.failed reader.new) }
+    ensures range { result ≤ 6 }
+    ensures usage { result ≢ 2 }
+    ensures quiet { result ≡ 5 → writer.new ≡ writer.old }
+    ensures devices { result ≡ 4 → (O.failed writer.new ≡ true) ⊎ (writer.new ≡ writer.old) }
+    ensures read { result ≡ 0 → I.failed reader.new ≡ false }
+    ensures written { result ≢ 4 → O.failed writer.new ≡ false }
 {
     match &settings.command {
-        Command::Check => run_check(
-            rt.alloc(),
-            limits_of(settings.threads, Roots::Free),
-            reader,
-            writer,
-        ),
-        Command::Replay => run_replay(
-            rt.alloc(),
-            limits_of(settings.threads, Roots::Free),
-            reader,
-            writer,
-        ),
-        Command::Run(path) => run_file(rt, path.as_str(), writer, settings),
+        Command::Check => {
+            let ending = run_check(rt.alloc(), settings.threads, reader, writer);
+            finish(ending, errors)
+        }
+        Command::Replay => {
+            let ending = run_replay(rt.alloc(), settings.threads, reader, writer);
+            finish(ending, errors)
+        }
+        Command::Run(path) => run_file(rt, path.as_str(), writer, errors, settings),
     }
 }
 
@@ -127,30 +132,6 @@ fn explain<O: Output, E: Output>(fault: &UsageFault, writer: &mut O, errors: &mu
             Ending::WrongUsage
         }
         UsageFault::OutOfMemory => Ending::OutOfMemory,
-    }
-}
-
-/// Does what the words ask for.
-fn obey<R: AllocGlobal + Files + Threads + Wait + Sync, S: AsStr, I: Input, O: Output, E: Output>(
-    rt: &R,
-    words: &[S],
-    reader: &mut I,
-    writer: &mut O,
-    errors: &mut E,
-) -> Ending
-    requires reads { I.failed reader.old ≡ false }
-    requires writes { O.failed writer.old ≡ false }
-    ensures runs { Runs (map S.text words.now) (I.left reader.old) (O.written writer.old)
-        (O.written writer.new) (I.failed reader.new) (O.failed writer.new) (status_of result) }
-    ensures quiet { (result ≡ Ending.WrongUsage) ⊎ (result ≡ Ending.OutOfMemory) → writer.new ≡ writer.old }
-    ensures short { result ≡ Ending.ReadFault → writer.new ≡ writer.old }
-    ensures read { result ≡ Ending.Done → I.failed reader.new ≡ false }
-    ensures write_fault { result ≡ Ending.WriteFault → O.failed writer.new ≡ true }
-    ensures written { result ≢ Ending.WriteFault → O.failed writer.new ≡ false }
-{
-    match settings(rt.alloc(), words) {
-        Ok(settings) => run(rt, &settings, reader, writer),
-        Err(fault) => explain(&fault, writer, errors),
     }
 }
 
@@ -179,9 +160,10 @@ pub fn tool<
     ensures read { result ≡ 0 → I.failed reader.new ≡ false }
     ensures written { result ≡ 0 → O.failed writer.new ≡ false }
 {
-    let ending = obey(rt, words, reader, writer, errors);
-    let _ = write_all(errors, ending.message().as_bytes());
-    ending.status()
+    match settings(rt.alloc(), words) {
+        Ok(settings) => run(rt, &settings, reader, writer, errors),
+        Err(fault) => finish(explain(&fault, writer, errors), errors),
+    }
 }
 
 /// The words that the process was started with, but for the program's own name.
@@ -223,10 +205,6 @@ pub fn program<
 {
     match words(rt) {
         Ok(words) => tool(rt, words.as_slice(), reader, writer, errors),
-        Err(fault) => {
-            let ending = explain(&fault, writer, errors);
-            let _ = write_all(errors, ending.message().as_bytes());
-            ending.status()
-        }
+        Err(fault) => finish(explain(&fault, writer, errors), errors),
     }
 }

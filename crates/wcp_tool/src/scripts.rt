@@ -5,17 +5,17 @@ ghost use Rattle.rapid_text.specs.Faults.{fault_line};
 ghost use Rattle.script_text.specs.declared.causes.ScriptFault.{ScriptFault as Why};
 ghost use Rattle.script_text.specs.Scripts.{script_of};
 ghost use Rattle.wcp_tool.specs.Endings.{status_of};
-ghost use Rattle.wcp_tool.specs.Running.{Reports, limits_with};
+ghost use Rattle.wcp_tool.specs.Running.{PerformsRun, Reports, limits_with};
 ghost use Rattle.wcp_tool.specs.ScriptRuns.{Ran, ReportsLog, RunsText, TellsFault, TellsRefusal};
 ghost use Rattle.event_core.specs.declared.bounds.Roots.TheVariants.{OnlyMain};
 
 use crate::bounds::{TURNS, limits_of};
-use crate::endings::{Ending, summary_ending};
+use crate::endings::{Ending, finish, summary_ending};
 use crate::naming::are_named;
 use crate::requests::Settings;
 use event_core::{Limits, Roots};
 use live_monitor::Closed;
-use rapid_text::{Device, Input, Names, Output, write_all, write_fault};
+use rapid_text::{Device, Input, Names, Output, write_fault};
 use script_drive::{DriveFault, FreeGate, drive};
 use script_text::{Script, ScriptCause, ScriptFault};
 use std::fs;
@@ -155,30 +155,6 @@ fn run_lines<R: AllocGlobal + Threads + Wait + Sync, I: Input, O: Output>(
     }
 }
 
-/// Runs the script at the path.
-pub(crate) fn run_file<R: AllocGlobal + Files + Threads + Wait + Sync, O: Output>(
-    rt: &R,
-    path: &str,
-    writer: &mut O,
-    settings: &Settings,
-) -> Ending
-    requires threads { (1 ≤ settings.now.threads) × (settings.now.threads ≤ 1024) }
-    requires writes { O.failed writer.old ≡ false }
-    ensures reports { (result ≡ Ending.Done) ⊎ (result ≡ Ending.Races)
-        → Reports (limits_with settings.now.threads OnlyMain) (O.written writer.old) (O.written writer.new)
-        (status_of result) }
-    ensures refused { result ≡ Ending.Refused → TellsRefusal (O.written writer.old) (O.written writer.new) }
-    ensures usage { result ≢ Ending.WrongUsage }
-    ensures quiet { (result ≡ Ending.ReadFault) ⊎ (result ≡ Ending.OutOfMemory) → writer.new ≡ writer.old }
-    ensures write_fault { result ≡ Ending.WriteFault → O.failed writer.new ≡ true }
-    ensures written { result ≢ Ending.WriteFault → O.failed writer.new ≡ false }
-{
-    let Ok(file) = fs::open(rt, path) else {
-        return Ending::ReadFault;
-    };
-    run_lines(rt, &mut Device::new(file), writer, settings)
-}
-
 /// The command `run` over a reader of the script: its threads are run, each line is tried as often as the
 /// patience of the settings says, and what the threads did is reported. The answer is the exit status.
 ///
@@ -209,6 +185,8 @@ pub fn run_script<R: AllocGlobal + Threads + Wait + Sync, I: Input, O: Output, E
         → script_of (limits_with settings.now.threads OnlyMain) text ≡ Err f
         → TellsFault f (O.written writer.old) (O.written writer.new) result) }
     ensures range { result ≤ 6 }
+    // The settings are given, so that no word can be wrong.
+    ensures usage { result ≢ 2 }
     // Nothing is written to standard output where memory ran out.
     ensures quiet { result ≡ 5 → writer.new ≡ writer.old }
     // Status 4 tells that the writer failed or took no byte, or else that the script was not read to its end,
@@ -216,7 +194,30 @@ pub fn run_script<R: AllocGlobal + Threads + Wait + Sync, I: Input, O: Output, E
     ensures devices { result ≡ 4 → (O.failed writer.new ≡ true) ⊎ (writer.new ≡ writer.old) }
     ensures written { result ≢ 4 → O.failed writer.new ≡ false }
 {
-    let ending = run_lines(rt, script, writer, settings);
-    let _ = write_all(errors, ending.message().as_bytes());
-    ending.status()
+    finish(run_lines(rt, script, writer, settings), errors)
+}
+
+/// The command `run` over the path of the script. What the file held is not known to a contract.
+pub(crate) fn run_file<R: AllocGlobal + Files + Threads + Wait + Sync, O: Output, E: Output>(
+    rt: &R,
+    path: &str,
+    writer: &mut O,
+    errors: &mut E,
+    settings: &Settings,
+) -> u8
+    requires threads { (1 ≤ settings.now.threads) × (settings.now.threads ≤ 1024) }
+    requires patience { (1 ≤ settings.now.patience) × (settings.now.patience ≤ 4294967295) }
+    requires writes { O.failed writer.old ≡ false }
+    ensures performs { PerformsRun (limits_with settings.now.threads OnlyMain) (O.written writer.old)
+        (O.written writer.new) result }
+    ensures range { result ≤ 6 }
+    ensures usage { result ≢ 2 }
+    ensures quiet { result ≡ 5 → writer.new ≡ writer.old }
+    ensures devices { result ≡ 4 → (O.failed writer.new ≡ true) ⊎ (writer.new ≡ writer.old) }
+    ensures written { result ≢ 4 → O.failed writer.new ≡ false }
+{
+    let Ok(file) = fs::open(rt, path) else {
+        return finish(Ending::ReadFault, errors);
+    };
+    run_script(rt, &mut Device::new(file), writer, errors, settings)
 }

@@ -1,4 +1,4 @@
-use Rattle.std.proofs.Common.{inl, inr, subst}
+use Rattle.std.proofs.Common.{subst}
 use Rattle.rapid_text.specs.Tables.{Tables}
 use Rattle.wcp_tool.specs.Endings.{status_of}
 use Rattle.wcp_tool.specs.ScriptRuns.{ReportsLog}
@@ -14,9 +14,3 @@ returns-in-Ok-clause-ran g c h = record {
       (g.O.Output.written c.report_closed.new.writer) (status_of c.report_closed.result)) c.names.ensures
       (c.report_closed.ensures.reports h);
 }
-
-pub returns-in-Ok-clause-quiet : goal.returns-in-Ok-clause-quiet
-returns-in-Ok-clause-quiet g c h = elim h [
-  | inl read ↦ absurd (c.report_closed.ensures.quiet.0 read)
-  | inr memory ↦ absurd (c.report_closed.ensures.quiet.1 memory)
-]
