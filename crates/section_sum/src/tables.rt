@@ -111,9 +111,7 @@ fn seek_under(tables: &mut [Table], lock: LockId, var: VarId) -> bool
     at < tables.len() && tables[at].seek(var)
 }
 
-/// The access is noted under each of the locks. It is inlined, so that an access outside all sections makes
-/// no call.
-#[inline(always)]
+/// The access is noted under each of the locks.
 pub fn note_held(
     tables: &mut Vec<Table>,
     thread: ThreadId,

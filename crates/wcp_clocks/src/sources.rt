@@ -19,7 +19,6 @@ use section_sum::Summaries;
 // The thread's strict clock takes what its access meets under the lock, at most two clocks. A clock that
 // counts a release counts all that is below it, so a release that is counted already brings nothing.
 // Tells whether a clock was taken.
-#[inline(never)]
 fn take_under(
     rows: &mut StrictRows,
     sums: &Summaries,
@@ -59,8 +58,7 @@ fn take_under(
 }
 
 // The thread's strict clock takes what its access meets under each of the locks. Tells whether a clock
-// was taken. It is inlined as far as the loop, so that an access outside all sections makes no call.
-#[inline(always)]
+// was taken.
 pub(crate) fn take_sources(
     rows: &mut StrictRows,
     sums: &Summaries,
