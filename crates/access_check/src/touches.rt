@@ -77,8 +77,8 @@ impl Touches {
     /// The greatest index of an access that races with one of that kind by the thread.
     #[inline(always)]
     pub fn latest_racing(&self, thread: ThreadId, kind: AccessKind, clock: &Clock) -> Option<u64>
-        requires loads { AreNarrow (length clock.now) self.now.loads.items }
-        requires stores { AreNarrow (length clock.now) self.now.stores.items }
+        requires loads { AreNarrow (length clock.now) (kept AccessKind.Read self.now) }
+        requires stores { AreNarrow (length clock.now) (kept AccessKind.Write self.now) }
         ensures { result ≡ latest_racing thread kind (counts_of clock.now) self.now }
     {
         let stores = self.stores.latest_racing(thread, clock);

@@ -1,5 +1,5 @@
 //! The numbers of a release's clock from just before it, in 32 bits each.
-ghost use Rattle.std.specs.Prelude.{◌≡◌, ℕ, ◌+◌, ◌<◌, ◌≤◌, ◌^◌, ◌++◌, length};
+ghost use Rattle.std.specs.Prelude.{◌≡◌, ℕ, ◌+◌, ◌<◌, ◌≤◌, ◌^◌, ◌++◌, length, vec_capacity};
 ghost use Rattle.hb_clocks.specs.Counts.{counts_of};
 ghost use Rattle.lock_queues.specs.Sections.{before, lowered};
 
@@ -7,12 +7,12 @@ use event_core::ThreadId;
 
 // The numbers just before the release by the thread join the others, for which there is memory.
 pub(crate) fn push_before(numbers: &mut Vec<u32>, release: &[u64], by: ThreadId)
-    requires room { length numbers.old.items + length release.now ≤ numbers.old.cap }
+    requires room { length numbers.old.items + length release.now ≤ vec_capacity numbers.old }
     requires own { by.0 < length release.now }
     requires counted { 0 < counts_of release.now by.0 }
     requires few { (u : ℕ) → before by.0 (counts_of release.now) u < 2 ^ 32 }
     ensures items { numbers.new.items ≡ numbers.old.items ++ lowered by.0 release.now }
-    ensures memory { numbers.new.cap ≡ numbers.old.cap }
+    ensures memory { vec_capacity numbers.new ≡ vec_capacity numbers.old }
 {
     for u in 0..release.len() {
         numbers.push_reserved(number_before(release, by, u));

@@ -47,7 +47,7 @@ pub(crate) struct Sections {
 }
 
 impl Model for Sections {
-    ghost use Rattle.std.specs.Prelude.{length};
+    ghost use Rattle.std.specs.Prelude.{length, vec_capacity};
     ghost use Rattle.lock_queues.specs.Sections.{Packed, sections_from, ArePacked};
 
     ghost Value = { Packed };
@@ -56,8 +56,8 @@ impl Model for Sections {
       sections = sections_from 0 s.entries.items s.counts.items;
       memory = record {
         numbers = length s.counts.items;
-        most_sections = s.entries.cap;
-        most_numbers = s.counts.cap;
+        most_sections = vec_capacity s.entries;
+        most_numbers = vec_capacity s.counts;
       };
     } };
 

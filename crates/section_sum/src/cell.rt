@@ -1,6 +1,6 @@
 //! What is kept of a variable under a lock: of each kind of access, whether the open section has one,
 //! and the newest closed sections with one.
-ghost use Rattle.std.specs.Prelude.{◌≡◌, ℕ, ◌<◌, ◌≤◌, length, not, nat_eq, []};
+ghost use Rattle.std.specs.Prelude.{◌≡◌, ℕ, ◌<◌, ◌≤◌, length, vec_capacity, not, nat_eq, []};
 ghost use Rattle.section_sum.specs.Cells.{closed_side, closed, marked, marked_as, is_noted};
 ghost use Rattle.section_sum.specs.Cells.{cell_at, no_cell, AreKept, AreFew};
 
@@ -77,7 +77,7 @@ pub fn close_cells(cells: &mut [Cell], listed: &mut Vec<usize>, thread: ThreadId
     ensures exact { (i : ℕ) → cell_at cells.new i ≡ closed thread.0 number (cell_at cells.old i) }
     ensures kept { AreKept cells.new listed.new.items }
     ensures empty { listed.new.items ≡ [] }
-    ensures capacity { listed.new.cap ≡ listed.old.cap }
+    ensures capacity { vec_capacity listed.new ≡ vec_capacity listed.old }
 {
     'closing: while let Some(at) = listed.pop() {
         let cell = &mut cells[at];
@@ -90,12 +90,12 @@ pub fn close_cells(cells: &mut [Cell], listed: &mut Vec<usize>, thread: ThreadId
 pub fn note_cell(cells: &mut [Cell], listed: &mut Vec<usize>, at: usize, kind: AccessKind)
     requires within { at < length cells.old }
     requires few { AreFew cells.old listed.old.items }
-    requires capacity { length cells.old ≤ listed.old.cap }
+    requires capacity { length cells.old ≤ vec_capacity listed.old }
     ensures same { length cells.new ≡ length cells.old }
     ensures exact { (i : ℕ) → cell_at cells.new i ≡ marked_as (nat_eq i at) kind (cell_at cells.old i) }
     ensures kept { AreKept cells.old listed.old.items → AreKept cells.new listed.new.items }
     ensures few { AreFew cells.new listed.new.items }
-    ensures capacity { listed.new.cap ≡ listed.old.cap }
+    ensures capacity { vec_capacity listed.new ≡ vec_capacity listed.old }
 {
     let cell = &mut cells[at];
     let first = mark(cell, kind);

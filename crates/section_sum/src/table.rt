@@ -4,7 +4,7 @@
 //! by none where the variable is the one looked up before. The cells with an access in the open section
 //! are listed, so that its end goes over them alone and allocates nothing: a list never has more cells than
 //! there are, and room for all is made with each cell.
-ghost use Rattle.std.specs.Prelude.{◌≡◌, ℕ, ◌<◌, ◌≤◌, ◌++◌, ◌∷◌, [], length, nat_eq};
+ghost use Rattle.std.specs.Prelude.{◌≡◌, ℕ, ◌<◌, ◌≤◌, ◌++◌, ◌∷◌, [], length, nat_eq, vec_capacity};
 ghost use Rattle.std.specs.Prelude.{true, if◌then◌else◌, OnOk, MatchOption, IfOk, IsTrue, is_ok, is_some};
 ghost use Rattle.section_sum.specs.Cells.{closed, marked_as, no_cell};
 ghost use Rattle.section_sum.specs.Entries.{sources_on, room_at, place_of, cell_of};
@@ -39,6 +39,7 @@ pub struct Sought {
 }
 
 impl Model for Table {
+    ghost use Rattle.std.specs.Prelude.{vec_capacity};
     ghost use Rattle.section_sum.specs.Entries.{Entries, AreEntries};
 
     ghost Value = { Entries };
@@ -46,7 +47,7 @@ impl Model for Table {
     ghost view = { λ a. record { vars = a.vars.keys; cells = a.cells.items; by = a.by.0 } };
 
     ghost invariant = { λ a.
-        AreEntries a.vars.keys a.cells.items a.listed.items a.listed.cap a.sought };
+        AreEntries a.vars.keys a.cells.items a.listed.items (vec_capacity a.listed) a.sought };
 }
 
 impl Table {
@@ -196,11 +197,11 @@ fn make_cell(
 ) -> Result<usize, OutOfMemory>
     requires same { length cells.old.items ≡ length vars.old.keys }
     requires unique { AreUnique vars.old.keys }
-    requires capacity { length cells.old.items ≤ listed.old.cap }
+    requires capacity { length cells.old.items ≤ vec_capacity listed.old }
     ensures grown { IsGrown vars.old.keys cells.old.items vars.new.keys cells.new.items }
     ensures ok { IfOk result (λ at. (at ≡ place_of vars.new.keys var.0) × (at < length vars.new.keys)) }
     ensures listed { listed.new.items ≡ listed.old.items }
-    ensures capacity { length cells.new.items ≤ listed.new.cap }
+    ensures capacity { length cells.new.items ≤ vec_capacity listed.new }
 {
     if let Some(at) = find_place(vars, None, var) {
         return Ok(at);

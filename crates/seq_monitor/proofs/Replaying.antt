@@ -48,7 +48,7 @@ use Rattle.traced_mem.proofs.SameRefusals.{same_refusal}
 use Rattle.traced_mem.specs.Tables.{Allows}
 use Rattle.traced_mem.specs.Tables.{Tables as MemoryTables}
 use Rattle.wcp_clocks.specs.declared.parts.Parts.{Parts as Clocks}
-use Rattle.wcp_clocks.specs.Parts.{hb_of, Fits, NamesWithin, SameLimits}
+use Rattle.wcp_clocks.specs.Parts.{hb_of, width_of, limits_of, Fits, NamesWithin, SameLimits}
 use Rattle.wcp_clocks.specs.Parts.{IsWithin as ClocksAreWithin}
 use Rattle.wcp_clocks.specs.StandsFor.{FitsWhereLegal}
 use Rattle.wcp_clocks.specs.StandsFor.{StandsFor as ClocksStandFor}
@@ -104,14 +104,14 @@ accesses_within m t (Release l) lt is = record { thread = lt; var = tt }
 accesses_within m t (Fork u) lt is = record { thread = lt; var = tt }
 accesses_within m t (Join u) lt is = record { thread = lt; var = tt }
 
-pub clocks_within : (m : Limits) (t : ThreadId) (o : Op) (p : Clocks) → p.hb.width ≡ m.threads
-    → p.queues.limits ≡ m → t.0 < m.threads → in_range m o ≡ true → ClocksAreWithin p (event_by t o)
+pub clocks_within : (m : Limits) (t : ThreadId) (o : Op) (p : Clocks) → width_of p ≡ m.threads
+    → limits_of p ≡ m → t.0 < m.threads → in_range m o ≡ true → ClocksAreWithin p (event_by t o)
 clocks_within m t o p width limits lt is = (subst (λ (n : ℕ). t.0 < n) (sym width) lt, go o is)
   where
-    lock : (l : LockId) → nat_lt l.0 m.locks ≡ true → l.0 < p.queues.limits.locks
+    lock : (l : LockId) → nat_lt l.0 m.locks ≡ true → l.0 < (limits_of p).locks
     lock l is = subst (λ (k : Limits). l.0 < k.locks) (sym limits) (ltb-true l.0 m.locks is)
 
-    other : (u : ThreadId) → nat_lt u.0 m.threads ≡ true → u.0 < p.hb.width
+    other : (u : ThreadId) → nat_lt u.0 m.threads ≡ true → u.0 < width_of p
     other u is = subst (λ (n : ℕ). u.0 < n) (sym width) (ltb-true u.0 m.threads is)
 
     go : (o : Op) → in_range m o ≡ true → NamesWithin p o

@@ -18,6 +18,7 @@ use Rattle.access_check.specs.Tables.{Tables as AccessTables, HasRoom as AccessH
 use Rattle.access_check.specs.Standing.{Stands as AccessesStand}
 use Rattle.wcp_laws.specs.Found.{threads_in}
 use Rattle.wcp_clocks.specs.declared.parts.Parts.{Parts as Clocks}
+use Rattle.wcp_clocks.specs.Parts.{width_of, limits_of, work_of}
 use Rattle.wcp_clocks.specs.Parts.{IsReady as ClocksIsReady}
 use Rattle.wcp_clocks.specs.StandsFor.{StandsFor as ClocksStandFor}
 use Rattle.wcp_clocks.specs.WorkWithin.{WorkWithin}
@@ -102,8 +103,8 @@ pub record AreVerdicts (log : List Event) (verdicts : List Verdict) : Type 0 whe
 -- the clocks stand for the log, and their work is within its bounds
 pub record IsClocksReplay (limits : Limits) (log : List Event) (clocks : Clocks) : Type 0 where
   pub stands : ClocksStandFor log clocks
-  pub width : clocks.hb.width ≡ limits.threads
-  pub limits_of : clocks.queues.limits ≡ limits
+  pub width : width_of clocks ≡ limits.threads
+  pub limits_of : limits_of clocks ≡ limits
   pub work : WorkWithin limits log clocks
 
 -- the parts stand for the log, which is well formed, and the slots of all releases to come are kept
@@ -123,4 +124,4 @@ pub record IsReplay (limits : Limits) (log : List Event) (parts : Parts) (verdic
 -- n events by k threads took at most n * k + n comparisons of an acquire with a clock
 abbrev pub HasFewComparisons : Monitored → Type 0
 HasFewComparisons m =
-    m.parts.clocks.work.comparisons ≤ length m.log * threads_in m.limits.threads m.log + length m.log
+    (work_of m.parts.clocks).comparisons ≤ length m.log * threads_in m.limits.threads m.log + length m.log

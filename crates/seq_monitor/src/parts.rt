@@ -17,7 +17,7 @@ ghost use Rattle.access_check.specs.Tables.{Grown, IsWithin};
 ghost use Rattle.access_check.specs.Tables.{HasRoom as AccessesHaveRoom};
 ghost use Rattle.access_check.specs.Tables.{HasRoomToSwap as AccessesHaveRoomToSwap};
 ghost use Rattle.event_core.specs.declared.events.Op.{Op as Operation};
-ghost use Rattle.wcp_clocks.specs.Parts.{SameNumbers, SameLimits, IsAccess, KeepsReady, Fits};
+ghost use Rattle.wcp_clocks.specs.Parts.{width_of, SameNumbers, SameLimits, IsAccess, KeepsReady, Fits};
 ghost use Rattle.wcp_clocks.specs.Parts.{IsWithin as ClocksAreWithin};
 ghost use Rattle.wcp_clocks.specs.Parts.{IsReady as ClocksAreReady};
 ghost use Rattle.wcp_clocks.specs.Parts.{IsReadyToSwap as ClocksAreReadyToSwap};
@@ -106,7 +106,7 @@ pub(crate) fn count_slots(holds: u64, op: Op) -> usize
 // without it.
 #[inline(always)]
 fn verdict_on_last(clocks: &WcpClocks, accesses: &Accesses, event: &Event) -> Verdict
-    requires { clocks.now.hb.width ≡ accesses.now.limits.threads }
+    requires { width_of clocks.now ≡ accesses.now.limits.threads }
     ensures { (limits : Bounds) (past : List AnEvent) → WellFormed limits (past ++ event.now ∷ [])
         → ClocksStandFor (past ++ event.now ∷ []) clocks.now → AccessesStand past accesses.now
         → IsVerdict (past ++ event.now ∷ []) (length past) result }
@@ -120,7 +120,7 @@ fn verdict_on_last(clocks: &WcpClocks, accesses: &Accesses, event: &Event) -> Ve
 pub(crate) fn judge(clocks: &mut WcpClocks, accesses: &Accesses, event: &Event) -> Verdict
     requires ready { ClocksAreReady clocks.old event.now }
     requires fits { Fits event.now clocks.old }
-    requires width { clocks.old.hb.width ≡ accesses.now.limits.threads }
+    requires width { width_of clocks.old ≡ accesses.now.limits.threads }
     ensures verdict { (limits : Bounds) (past : List AnEvent) → WellFormed limits (past ++ event.now ∷ [])
         → ClocksStandFor past clocks.old → AccessesStand past accesses.now
         → IsVerdict (past ++ event.now ∷ []) (length past) result }
@@ -202,7 +202,7 @@ pub(crate) fn grow_for_swap(
     slots: usize,
 ) -> Result<(), OutOfMemory>
     requires allowed { AllowsSwap memory.old thread var }
-    requires clocks { thread.0 < clocks.old.hb.width }
+    requires clocks { thread.0 < width_of clocks.old }
     requires accesses { IsWithin accesses.old.limits thread (Operation.Load var) }
     ensures memory { meaning memory.new ≡ meaning memory.old }
     ensures memory_limits { memory.new.limits ≡ memory.old.limits }

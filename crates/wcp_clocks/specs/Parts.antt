@@ -6,12 +6,14 @@ use Rattle.event_core.specs.declared.ids.VarId.{VarId}
 use Rattle.event_core.specs.declared.events.Op.{Op}
 use Rattle.event_core.specs.declared.events.Op.TheVariants.{Load, Store, Acquire, Release, Fork, Join}
 use Rattle.event_core.specs.declared.events.Event.{Event}
+use Rattle.event_core.specs.declared.bounds.Limits.{Limits}
 use Rattle.event_core.specs.Rows.{join}
 use Rattle.event_core.specs.Closed.{Has}
 use Rattle.event_core.specs.Turn.{Turn, Accesses, Closes}
 use Rattle.hb_clocks.specs.State.{HbState, po_row}
 use Rattle.hb_clocks.specs.Stands.{Admits, IsFew}
 use Rattle.hb_clocks.specs.Tables as hb
+use Rattle.hb_clocks.specs.Work.{Done}
 use Rattle.section_sum.specs.Sums.{noted_of, HasRoom, IsAlone}
 use Rattle.lock_queues.specs.Queues.{closed_of, opened_of, found_of, has_room}
 use Rattle.wcp_laws.specs.State.{State}
@@ -39,6 +41,18 @@ state_of p = record {
   others = met_clocks p.sums (closed_of p.queues);
   closed = closed_of p.queues;
 }
+
+-- how many threads the clocks count
+abbrev pub width_of : Parts → ℕ
+width_of p = p.hb.width
+
+-- the limits that they were made with
+abbrev pub limits_of : Parts → Limits
+limits_of p = p.queues.limits
+
+-- the work that was done for them
+abbrev pub work_of : Parts → Done
+work_of p = p.work
 
 -- how many of each lock's closed sections each thread has found counted
 abbrev pub found_in : Parts → ℕ → ℕ → ℕ
@@ -137,8 +151,8 @@ KeepsReady old new = (e : Event) → IsReady old e → IsReady new e
 
 -- the same limits
 pub record SameLimits (old new : Parts) : Type 0 where
-  pub width : new.hb.width ≡ old.hb.width
-  pub limits : new.queues.limits ≡ old.queues.limits
+  pub width : width_of new ≡ width_of old
+  pub limits : limits_of new ≡ limits_of old
 
 -- how many joins an event takes at most, where its thread holds so many locks
 abbrev pub most_joins : Turn → ℕ → ℕ
@@ -147,20 +161,20 @@ most_joins _ held = 3
 
 -- a closing release makes one comparison more than it finds sections, at most, and nothing else makes one
 abbrev pub FewComparisons : ThreadId → Turn → Parts → Parts → Type 0
-FewComparisons t (Closes l) old new = new.work.comparisons + found_in old l.0 t.0
-    ≤ old.work.comparisons + found_in new l.0 t.0 + 1
-FewComparisons t _ old new = new.work.comparisons ≡ old.work.comparisons
+FewComparisons t (Closes l) old new = (work_of new).comparisons + found_in old l.0 t.0
+    ≤ (work_of old).comparisons + found_in new l.0 t.0 + 1
+FewComparisons t _ old new = (work_of new).comparisons ≡ (work_of old).comparisons
 
 -- the numbers that the event names are within the limits
 abbrev pub NamesWithin : Parts → Op → Type 0
-NamesWithin p (Fork u) = u.0 < p.hb.width
-NamesWithin p (Join u) = u.0 < p.hb.width
-NamesWithin p (Acquire l) = l.0 < p.queues.limits.locks
-NamesWithin p (Release l) = l.0 < p.queues.limits.locks
+NamesWithin p (Fork u) = u.0 < width_of p
+NamesWithin p (Join u) = u.0 < width_of p
+NamesWithin p (Acquire l) = l.0 < (limits_of p).locks
+NamesWithin p (Release l) = l.0 < (limits_of p).locks
 NamesWithin p _ = Unit {0}
 
 abbrev pub IsWithin : Parts → Event → Type 0
-IsWithin p e = (e.thread.0 < p.hb.width) × NamesWithin p e.op
+IsWithin p e = (e.thread.0 < width_of p) × NamesWithin p e.op
 
 abbrev pub IsAccess : Op → Type 0
 IsAccess (Load x) = Unit {0}
@@ -172,4 +186,4 @@ pub record SameNumbers (old new : Parts) : Type 0 where
   pub state : state_of new ≡ state_of old
   pub hb : hb_of new ≡ hb_of old
   pub found : found_in new ≡ found_in old
-  pub work : new.work ≡ old.work
+  pub work : work_of new ≡ work_of old

@@ -13,7 +13,8 @@ use Rattle.wcp_laws.specs.State.{empty}
 use Rattle.wcp_laws.specs.Standing.{Stands}
 use Rattle.wcp_laws.specs.Found.{FoundFits}
 use Rattle.wcp_clocks.specs.declared.parts.Parts.{Parts}
-use Rattle.wcp_clocks.specs.Parts.{hb_of, state_of, found_in, Fits, IsWithin, SameNumbers}
+use Rattle.wcp_clocks.specs.Parts.{hb_of, state_of, width_of, limits_of, work_of, found_in, Fits, IsWithin}
+use Rattle.wcp_clocks.specs.Parts.{SameNumbers}
 
 -- no lock stands twice in the list of a thread
 abbrev pub AreDistinct : (ℕ → List ℕ) → Type 0
@@ -39,8 +40,9 @@ SameStand = (log : List Event) (old new : Parts) → SameNumbers old new → Sta
 
 -- the work that has been done leaves room to count that of one event more
 pub record HasLittleWork (e : Event) (p : Parts) : Type 0 where
-  pub joins : p.work.joins + 2 * length ((state_of p).held e.thread.0) < 2305843009213693952
-  pub comparisons : (l : LockId) → p.work.comparisons + length ((state_of p).closed l.0) < 9223372036854775808
+  pub joins : (work_of p).joins + 2 * length ((state_of p).held e.thread.0) < 2305843009213693952
+  pub comparisons : (l : LockId) → (work_of p).comparisons + length ((state_of p).closed l.0)
+      < 9223372036854775808
 
 -- the limits are within the greatest ones
 abbrev pub IsBounded : Limits → Type 0
@@ -59,5 +61,5 @@ HeldWithin = (limits : Limits) (log : List Event) (p : Parts) (t : ThreadId)
 -- a legal event names numbers within the limits of the clocks
 abbrev pub WithinWhereLegal : Type 0
 WithinWhereLegal = (limits : Limits) (log : List Event) (e : Event) (p : Parts)
-    → WellFormed limits (log ++ e ∷ []) → p.hb.width ≡ limits.threads → p.queues.limits ≡ limits
+    → WellFormed limits (log ++ e ∷ []) → width_of p ≡ limits.threads → limits_of p ≡ limits
     → IsWithin p e

@@ -7,26 +7,26 @@ use Rattle.wcp_laws.specs.Step.{turn}
 use Rattle.wcp_laws.specs.Conditions.{found_at}
 use Rattle.wcp_laws.specs.Found.{total_found, threads_in}
 use Rattle.wcp_clocks.specs.declared.parts.Parts.{Parts}
-use Rattle.wcp_clocks.specs.Parts.{state_of, found_in, most_joins, FewComparisons, SameNumbers}
+use Rattle.wcp_clocks.specs.Parts.{state_of, work_of, found_in, most_joins, FewComparisons, SameNumbers}
 use Rattle.wcp_clocks.specs.StandsFor.{StandsFor, HasLittleWork, IsBounded}
 
 -- each event took two joins for each lock at most, or three; and each comparison found a closed section for
 -- a thread, or was the last one of its event
 pub record WorkWithin (limits : Limits) (log : List Event) (p : Parts) : Type 0 where
-  pub joins : p.work.joins ≤ length log * (2 * limits.locks + 3)
-  pub comparisons : p.work.comparisons
+  pub joins : (work_of p).joins ≤ length log * (2 * limits.locks + 3)
+  pub comparisons : (work_of p).comparisons
       ≤ total_found limits.locks limits.threads (found_in p) + length log
 
 -- what the event found, and the work that it took at most
 pub record IsWorkOf (e : Event) (old new : Parts) : Type 0 where
   pub found : found_in new ≡ found_at e.thread (turn e (state_of old)) (state_of old) (found_in old)
-  pub joins : new.work.joins ≤ old.work.joins
+  pub joins : (work_of new).joins ≤ (work_of old).joins
       + most_joins (turn e (state_of old)) (length ((state_of old).held e.thread.0))
   pub comparisons : FewComparisons e.thread (turn e (state_of old)) old new
 
 -- no work is within the bounds of the empty log
 abbrev pub NoWork : Type 0
-NoWork = (limits : Limits) (p : Parts) → p.work ≡ record { comparisons = 0; joins = 0 }
+NoWork = (limits : Limits) (p : Parts) → work_of p ≡ record { comparisons = 0; joins = 0 }
     → WorkWithin limits [] p
 
 -- and the same work is within the same bounds
@@ -50,4 +50,4 @@ LittleWork = (limits : Limits) (log : List Event) (e : Event) (p : Parts)
 abbrev pub FewComparisonsInAll : Type 0
 FewComparisonsInAll = (limits : Limits) (log : List Event) (p : Parts)
     → StandsFor log p → WorkWithin limits log p
-    → p.work.comparisons ≤ length log * threads_in limits.threads log + length log
+    → (work_of p).comparisons ≤ length log * threads_in limits.threads log + length log

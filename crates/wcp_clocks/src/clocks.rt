@@ -22,9 +22,9 @@ ghost use Rattle.hb_clocks.specs.Stands.{IsHeldRelease};
 ghost use Rattle.wcp_laws.specs.State.{empty};
 ghost use Rattle.wcp_laws.specs.Step.{after, turn};
 ghost use Rattle.wcp_laws.specs.Conditions.{found_at};
-ghost use Rattle.wcp_clocks.specs.Parts.{hb_of, state_of, found_in, IsReady, Fits, KeepsReady, SameLimits};
-ghost use Rattle.wcp_clocks.specs.Parts.{most_joins, FewComparisons, IsWithin, IsAccess, SameNumbers};
-ghost use Rattle.wcp_clocks.specs.Parts.{IsReadyToSwap};
+ghost use Rattle.wcp_clocks.specs.Parts.{hb_of, state_of, width_of, limits_of, work_of, found_in};
+ghost use Rattle.wcp_clocks.specs.Parts.{IsReady, Fits, KeepsReady, SameLimits, SameNumbers, most_joins};
+ghost use Rattle.wcp_clocks.specs.Parts.{FewComparisons, IsWithin, IsAccess, IsReadyToSwap};
 ghost use Rattle.wcp_clocks.specs.StandsFor.{StandsFor};
 
 use crate::numbers::{below_clock, below_number, strict_number};
@@ -58,11 +58,11 @@ impl Model for WcpClocks {
 impl WcpClocks {
     /// The clocks of the empty log. A refused growth is answered by `OutOfMemory`.
     pub fn new(alloc: Global, limits: &Limits) -> Result<WcpClocks, OutOfMemory>
-        ensures width { IfOk result (λ made. made.hb.width ≡ limits.now.threads) }
-        ensures limits { IfOk result (λ made. made.queues.limits ≡ limits.now) }
+        ensures width { IfOk result (λ made. width_of made ≡ limits.now.threads) }
+        ensures limits { IfOk result (λ made. limits_of made ≡ limits.now) }
         ensures empty { IfOk result (λ made. state_of made ≡ empty) }
         ensures stands { IfOk result (λ made. StandsFor [] made) }
-        ensures no_work { IfOk result (λ made. made.work ≡ record { comparisons = 0; joins = 0 }) }
+        ensures no_work { IfOk result (λ made. work_of made ≡ record { comparisons = 0; joins = 0 }) }
     {
         Ok(WcpClocks {
             parts: new_parts(alloc, limits)?,
@@ -104,7 +104,7 @@ impl WcpClocks {
     /// Makes room for both events of a swap, a load and then a store of the variable. No number changes,
     /// whether there is memory or not.
     pub fn prepare_swap(&mut self, thread: ThreadId, var: VarId) -> Result<(), OutOfMemory>
-        requires { thread.0 < self.old.hb.width }
+        requires { thread.0 < width_of self.old }
         ensures same { SameNumbers self.old self.new }
         ensures ready { OnOk result (IsReadyToSwap self.new thread var) }
         ensures kept { KeepsReady self.old self.new }
@@ -135,7 +135,7 @@ impl WcpClocks {
             (state_of self.old) (found_in self.old) }
         ensures stands { (limits : Bounds) (log : List AnEvent) → WellFormed limits (log ++ event.now ∷ [])
             → StandsFor log self.old → StandsFor (log ++ event.now ∷ []) self.new }
-        ensures joins { self.new.work.joins ≤ self.old.work.joins
+        ensures joins { (work_of self.new).joins ≤ (work_of self.old).joins
             + most_joins (turn event.now (state_of self.old))
             (length ((state_of self.old).held event.now.thread.0)) }
         ensures comparisons { FewComparisons event.now.thread (turn event.now (state_of self.old)) self.old
@@ -148,7 +148,7 @@ impl WcpClocks {
 
     /// How many events of `other` strictly precede the thread's latest event.
     pub fn strict(&self, thread: ThreadId, other: ThreadId) -> u64
-        requires { other.0 < self.now.hb.width }
+        requires { other.0 < width_of self.now }
         ensures exact { result ≡ (state_of self.now).strict.thread thread.0 other.0 }
         ensures latest { (limits : Bounds) (log : List AnEvent) (j : ℕ) → WellFormed limits log
             → StandsFor log self.now → IsLatest log thread j
@@ -159,7 +159,7 @@ impl WcpClocks {
 
     /// How many events of `other` are below the thread's latest event: strictly, or by program order.
     pub fn below(&self, thread: ThreadId, other: ThreadId) -> u64
-        requires { other.0 < self.now.hb.width }
+        requires { other.0 < width_of self.now }
         ensures exact { result
             ≡ max ((state_of self.now).strict.thread thread.0 other.0)
             ((hb_of self.now).po thread.0 other.0) }
@@ -173,7 +173,7 @@ impl WcpClocks {
     /// The thread's clock, which counts the events that are below its latest one.
     #[inline(always)]
     pub fn clock(&self, thread: ThreadId) -> &Clock
-        ensures width { length result.now ≡ self.now.hb.width }
+        ensures width { length result.now ≡ width_of self.now }
         ensures exact { counts_of result.now
             ≡ join ((state_of self.now).strict.thread thread.0) ((hb_of self.now).po thread.0) }
         ensures latest { (limits : Bounds) (log : List AnEvent) (j : ℕ) → WellFormed limits log

@@ -1,4 +1,4 @@
-use Rattle.std.proofs.Common.{◌≡◌, ◌+◌, ◌++◌, length, take}
+use Rattle.std.proofs.Common.{◌≡◌, ◌+◌, ◌++◌, length, take, vec_capacity}
 use Rattle.lock_queues.specs.Sections.{lowered}
 use Rattle.lock_queues.proofs.before.push_before.Given as goal
 
@@ -7,5 +7,5 @@ abbrev pub invariant-loop-u : goal.invariant-loop-u
 invariant-loop-u l = record {
   items : l.numbers.items ≡ l.initial.numbers.items ++ take l.u (lowered l.by.0 l.release);
   longer : length l.numbers.items ≡ length l.initial.numbers.items + l.u;
-  memory : l.numbers.cap ≡ l.initial.numbers.cap;
+  memory : vec_capacity l.numbers ≡ vec_capacity l.initial.numbers;
 }
