@@ -3,7 +3,7 @@ use crate::lasts::Access;
 use crate::tables::{count_event, grow_at, grow_counts, note_access, verdict_at_var};
 use crate::touches::Touches;
 use event_core::{AccessKind, Event, Limits, Op, OutOfMemory, ThreadId, VarId, Verdict};
-use hb_clocks::Clock;
+use hb_clocks::JoinedClocks;
 use std::alloc::Global;
 use std::marker::Model;
 
@@ -113,7 +113,7 @@ impl Accesses {
     }
 
     #[inline(always)]
-    fn find(&self, event: &Event, clock: &Clock) -> Verdict
+    fn find(&self, event: &Event, clock: &JoinedClocks) -> Verdict
         requires { length clock.now ≡ self.now.limits.threads }
         ensures { result ≡ verdict_of self.now.vars event.now.thread event.now.op (counts_of clock.now) }
     {
@@ -140,7 +140,7 @@ impl Accesses {
     /// an earlier access that conflicts with it and is not counted. The clock is that of the finished event.
     /// It takes no memory.
     #[inline(always)]
-    pub fn verdict(&self, event: &Event, clock: &Clock) -> Verdict
+    pub fn verdict(&self, event: &Event, clock: &JoinedClocks) -> Verdict
         requires { length clock.now ≡ self.now.limits.threads }
         ensures exact { result
             ≡ verdict_of self.now.vars event.now.thread event.now.op (counts_of clock.now) }

@@ -5,7 +5,7 @@ ghost use Rattle.hb_clocks.specs.Counts.{counts_of};
 ghost use Rattle.access_check.specs.Lasts.{is_of, later, racing, latest, AreNarrow};
 
 use event_core::{OutOfMemory, ThreadId};
-use hb_clocks::Clock;
+use hb_clocks::JoinedClocks;
 use std::alloc::Global;
 use std::marker::Model;
 
@@ -35,7 +35,7 @@ pub fn greater(first: Option<u64>, second: Option<u64>) -> Option<u64>
 }
 
 // The access's index, where it is of another thread, and the clock does not count it.
-fn racing_index(last: &Last, thread: ThreadId, clock: &Clock) -> Option<u64>
+fn racing_index(last: &Last, thread: ThreadId, clock: &JoinedClocks) -> Option<u64>
     requires { last.now.thread.0 < length clock.now }
     ensures { result ≡ racing thread (counts_of clock.now) last.now }
 {
@@ -50,7 +50,12 @@ fn racing_index(last: &Last, thread: ThreadId, clock: &Clock) -> Option<u64>
 
 // The greater of the index that was found before and that of the access, where it races.
 #[tactic(auto, using(crate::proofs::Latest::later_none))]
-fn with_racing(found: Option<u64>, last: &Last, thread: ThreadId, clock: &Clock) -> Option<u64>
+fn with_racing(
+    found: Option<u64>,
+    last: &Last,
+    thread: ThreadId,
+    clock: &JoinedClocks,
+) -> Option<u64>
     requires { last.now.thread.0 < length clock.now }
     ensures { result ≡ later found (racing thread (counts_of clock.now) last.now) }
 {
@@ -62,7 +67,7 @@ fn with_racing(found: Option<u64>, last: &Last, thread: ThreadId, clock: &Clock)
 }
 
 // The latest racing access of all.
-fn latest_racing(lasts: &[Last], thread: ThreadId, clock: &Clock) -> Option<u64>
+fn latest_racing(lasts: &[Last], thread: ThreadId, clock: &JoinedClocks) -> Option<u64>
     requires { AreNarrow (length clock.now) lasts.now }
     ensures { result ≡ latest thread (counts_of clock.now) lasts.now }
 {
@@ -173,7 +178,7 @@ impl Lasts {
     }
 
     /// The greatest index of an access that races with one by the thread.
-    pub fn latest_racing(&self, thread: ThreadId, clock: &Clock) -> Option<u64>
+    pub fn latest_racing(&self, thread: ThreadId, clock: &JoinedClocks) -> Option<u64>
         requires { AreNarrow (length clock.now) self.now.items }
         ensures { result ≡ latest thread (counts_of clock.now) self.now.items }
     {

@@ -11,7 +11,7 @@ ghost use Rattle.access_check.specs.Tables.{count_at, touches_at, touched_after,
 use crate::lasts::{Access, Last};
 use crate::touches::Touches;
 use event_core::{AccessKind, Event, Op, OutOfMemory, ThreadId, Verdict};
-use hb_clocks::Clock;
+use hb_clocks::JoinedClocks;
 use std::alloc::Global;
 
 /// So many threads have a count.
@@ -98,7 +98,7 @@ pub(crate) fn verdict_at_var(
     var: usize,
     thread: ThreadId,
     kind: AccessKind,
-    clock: &Clock,
+    clock: &JoinedClocks,
 ) -> Verdict
     requires { (x : ℕ) (k : Kind) → AreNarrow (length clock.now) (kept k (touches_at vars.now x)) }
     ensures { result

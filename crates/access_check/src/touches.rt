@@ -2,7 +2,7 @@
 //! does not race nothing that was before it.
 use crate::lasts::{Last, Lasts, greater};
 use event_core::{AccessKind, OutOfMemory, ThreadId, Verdict};
-use hb_clocks::Clock;
+use hb_clocks::JoinedClocks;
 use std::alloc::Global;
 
 /// The threads that touched a variable.
@@ -76,7 +76,12 @@ impl Touches {
 
     /// The greatest index of an access that races with one of that kind by the thread.
     #[inline(always)]
-    pub fn latest_racing(&self, thread: ThreadId, kind: AccessKind, clock: &Clock) -> Option<u64>
+    pub fn latest_racing(
+        &self,
+        thread: ThreadId,
+        kind: AccessKind,
+        clock: &JoinedClocks,
+    ) -> Option<u64>
         requires loads { AreNarrow (length clock.now) (kept AccessKind.Read self.now) }
         requires stores { AreNarrow (length clock.now) (kept AccessKind.Write self.now) }
         ensures { result ≡ latest_racing thread kind (counts_of clock.now) self.now }

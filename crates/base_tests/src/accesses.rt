@@ -7,7 +7,7 @@ ghost use Rattle.access_check.specs.Tables.{count_at, IsWithin};
 use crate::clocks::{Run, event};
 use access_check::Accesses;
 use event_core::{Event, Limits, LockId, Op, OutOfMemory, Roots, ThreadId, VarId, Verdict};
-use hb_clocks::Clock;
+use hb_clocks::JoinedClocks;
 use std::alloc::Global;
 use std::process::Abort;
 use std::test::Fail;
@@ -84,7 +84,7 @@ impl Log {
     }
 
     // The verdict on the event, where the clock counts what is ordered before it.
-    fn step(&mut self, rt: &impl Abort, event: &Event, clock: &Clock) -> Verdict
+    fn step(&mut self, rt: &impl Abort, event: &Event, clock: &JoinedClocks) -> Verdict
         requires { length clock.now ≡ 3 }
     {
         assert!(rt; self.is_within(event));
@@ -105,7 +105,8 @@ impl Log {
     ) -> Result<(), OutOfMemory> {
         for (thread, op, counted, wanted) in cases {
             let run = counting(rt, alloc, *counted)?;
-            let verdict = self.step(rt, &event(*thread, *op), run.clocks.po(T0));
+            let clock = JoinedClocks::new(run.clocks.po(T1), run.clocks.po(T0));
+            let verdict = self.step(rt, &event(*thread, *op), &clock);
             assert_eq!(rt; verdict, *wanted, "event {}", self.length);
         }
         Ok(())

@@ -6,7 +6,7 @@ ghost use Rattle.hb_clocks.specs.Stands.{IsAtMost};
 ghost use Rattle.hb_clocks.specs.Tables.{state_of, IsReady, IsWithin, NamesWithin};
 
 use event_core::{Event, Limits, LockId, Op, OutOfMemory, Roots, SiteId, ThreadId, VarId};
-use hb_clocks::{Clock, HbClocks, Mark, Work};
+use hb_clocks::{Clock, HbClocks, JoinedClocks, Mark, Work};
 use std::alloc::Global;
 use std::process::Abort;
 use std::test::Fail;
@@ -295,12 +295,24 @@ fn clocks_take_the_greater_numbers(rt: HostRuntime) -> Result<(), Fail> {
     expect_numbers(&rt, &clock, [0, 0, 0]);
     clock.copy_from(run.clocks.po(T2));
     expect_numbers(&rt, &clock, [0, 0, 1]);
-    run.clocks.raise(T0, &mut clock);
-    expect_numbers(&rt, &clock, [2, 0, 1]);
     clock.copy_from(run.clocks.po(T0));
     expect_numbers(&rt, &clock, [2, 0, 0]);
     run.join(&rt, T2, &mut clock);
     expect_numbers(&rt, &clock, [2, 0, 1]);
+    Ok(())
+}
+
+#[test]
+fn two_clocks_are_read_as_their_join(rt: HostRuntime) -> Result<(), Fail> {
+    let mut run = Run::begin(rt.alloc())?;
+    run.take_all(
+        &rt,
+        &[(T0, Op::Store(X)), (T0, Op::Store(Y)), (T2, Op::Store(X))],
+    );
+    let joined = JoinedClocks::new(run.clocks.po(T0), run.clocks.po(T2));
+    assert_eq!(rt; joined.at(T0), 2);
+    assert_eq!(rt; joined.at(T1), 0);
+    assert_eq!(rt; joined.at(T2), 1);
     Ok(())
 }
 

@@ -4,6 +4,7 @@ pub mod Depths
 pub mod Growth
 pub mod HbSteps
 pub mod HoldLaws
+pub mod JoinLaws
 pub mod LegalSteps
 pub mod PoSteps
 pub mod Releases

@@ -150,9 +150,9 @@ impl HbClocks {
 
     /// The thread's clock of program order.
     pub fn po(&self, thread: ThreadId) -> &Clock
-        requires { thread.0 < self.now.width }
         ensures width { length result.now ≡ self.now.width }
         ensures exact { counts_of result.now ≡ (state_of self.now).po thread.0 }
+        ensures at { (u : ℕ) → counts_of result.now u ≡ (state_of self.now).po thread.0 u }
         ensures latest { (limits : Bounds) (log : List AnEvent) (j : ℕ) → WellFormed limits log
             → Stands log (state_of self.now) → IsLatest log thread j
             → Counted log (λ i. Po log i j) (counts_of result.now) }
@@ -162,7 +162,6 @@ impl HbClocks {
 
     /// The thread's clock of happens-before.
     pub fn hb(&self, thread: ThreadId) -> &Clock
-        requires { thread.0 < self.now.width }
         ensures width { length result.now ≡ self.now.width }
         ensures exact { counts_of result.now ≡ (state_of self.now).hb.thread thread.0 }
         ensures latest { (limits : Bounds) (log : List AnEvent) (j : ℕ) → WellFormed limits log
@@ -181,17 +180,6 @@ impl HbClocks {
     {
         let row = &self.po[thread.0 as usize];
         Mark::new(thread, row.at(thread))
-    }
-
-    /// The clock takes the greater numbers of the thread's clock of program order, uncounted.
-    pub fn raise(&self, thread: ThreadId, clock: &mut Clock)
-        requires within { thread.0 < self.now.width }
-        requires widths { length clock.old ≡ self.now.width }
-        ensures width { length clock.new ≡ length clock.old }
-        ensures greater { counts_of clock.new
-            ≡ join (counts_of clock.old) ((state_of self.now).po thread.0) }
-    {
-        clock.raise(self.po(thread));
     }
 
     /// How often the thread holds the lock.

@@ -5,6 +5,7 @@
 mod clock;
 mod hb;
 mod holds;
+mod joined;
 pub mod laws;
 mod mark;
 pub mod rows;
@@ -13,5 +14,6 @@ mod work;
 
 pub use clock::Clock;
 pub use hb::HbClocks;
+pub use joined::JoinedClocks;
 pub use mark::Mark;
 pub use work::Work;

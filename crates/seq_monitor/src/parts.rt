@@ -111,7 +111,7 @@ fn verdict_on_last(clocks: &WcpClocks, accesses: &Accesses, event: &Event) -> Ve
         → ClocksStandFor (past ++ event.now ∷ []) clocks.now → AccessesStand past accesses.now
         → IsVerdict (past ++ event.now ∷ []) (length past) result }
 {
-    accesses.verdict(event, clocks.clock(event.thread))
+    accesses.verdict(event, &clocks.clock(event.thread))
 }
 
 /// The event is the next one of the log that the clocks and the accesses stand for. The clocks advance by it,

@@ -11,7 +11,6 @@ use Rattle.event_core.specs.declared.events.Op.TheVariants.{Load, Store, Acquire
 use Rattle.event_core.specs.Closed.{Has}
 use Rattle.event_core.specs.Rows.{join, with_row}
 use Rattle.event_core.specs.Turn.{Accesses}
-use Rattle.event_core.proofs.Growing.{row_same}
 use Rattle.hb_clocks.specs.State as hb
 use Rattle.hb_clocks.specs.Tables as hb_tables
 use Rattle.hb_clocks.specs.Work.{Done, more_joins}
@@ -21,10 +20,9 @@ use Rattle.section_sum.specs.Sums.{KeepsRoom as sum_rooms}
 use Rattle.wcp_laws.specs.Step.{turn, join_all}
 use Rattle.wcp_clocks.specs.declared.parts.Parts.{Parts}
 use Rattle.wcp_clocks.specs.HeldLists.{list_at, numbers_of, held_of}
-use Rattle.wcp_clocks.specs.StrictRows.{StrictTables, strict_of, below_of, SameRoom}
+use Rattle.wcp_clocks.specs.StrictRows.{StrictTables, strict_of, SameRoom}
 use Rattle.wcp_clocks.specs.Parts.{hb_of, state_of, Fits, HasNamed, KeepsReady}
-use Rattle.wcp_clocks.specs.Stepping.{IsStepBy, strict_clock, below_clock}
-use Rattle.wcp_clocks.proofs.Taking.{room_then}
+use Rattle.wcp_clocks.specs.Stepping.{IsStepBy, strict_clock}
 use Rattle.wcp_clocks.specs.Met.{met_clocks, met_under, AreNumbers}
 use Rattle.wcp_clocks.proofs.TurnWords.{same_sources, same_noted, same_clocks, same_numbers}
 
@@ -48,18 +46,7 @@ module _ (e : Event) (x : VarId) (k : AccessKind) (old : Parts) (told : turn e (
       (strict_of old.rows).thread)
       (same_sources (state_of old) x k e.thread) (ap numbers_of of)
 
-  pub own_taken : (locks : List LockId) (rows : StrictTables) → locks ≡ (list_at old.held t).locks
-      → (strict_of rows).thread ≡ with_row t
-      (join ((strict_of old.rows).thread t) (join_all (met_under (met_clocks old.sums
-      (closed_of old.queues)) x.0 k t)
-      (numbers_of locks)))
-      (strict_of old.rows).thread
-      → (strict_of rows).thread t ≡ strict_clock e (Accesses x k) old
-  own_taken locks rows of taken =
-      ap (λ (f : ℕ → ℕ → ℕ). f t) (taken_row locks rows of taken)
-      ∙ row_same t (strict_clock e (Accesses x k) old) (strict_of old.rows).thread
-
-  pub access_step : (locks : List LockId) (taken rows : StrictTables) (tables : hb_tables.Tables)
+  pub access_step : (locks : List LockId) (taken : StrictTables) (tables : hb_tables.Tables)
       (sums : Sums)
       (joined work : Done) → locks ≡ (list_at old.held t).locks
       → (strict_of taken).thread ≡ with_row t
@@ -75,19 +62,15 @@ module _ (e : Event) (x : VarId) (k : AccessKind) (old : Parts) (told : turn e (
       → hb_tables.state_of tables ≡ hb.after e (hb_of old) → tables.width ≡ old.hb.width
       → hb_tables.KeepsRoom old.hb tables
       → work ≡ more_joins (hb.joins_of (hb.turn e (hb_of old))) joined
-      → strict_of rows ≡ strict_of taken
-      → below_of rows ≡ with_row t (below_clock e (Accesses x k) old) (below_of old.rows)
-      → SameRoom taken rows
       → IsStepBy e (Accesses x k) old
-      (record { hb = tables; rows = rows; sums = sums; queues = old.queues; held = old.held; work = work })
-  access_step locks taken rows tables sums joined work of threads lock room joins comparisons noted others
-      numbers exact width order done strict below kept =
+      (record { hb = tables; rows = taken; sums = sums; queues = old.queues; held = old.held; work = work })
+  access_step locks taken tables sums joined work of threads lock room joins comparisons noted others
+      numbers exact width order done =
       record {
         hb = exact;
         order_room = order;
-        threads = ap (λ r. r.thread) strict ∙ taken_row locks taken of threads;
-        locks = ap (λ r. r.lock) strict ∙ lock;
-        below = below;
+        threads = taken_row locks taken of threads;
+        locks = lock;
         opened = refl;
         held = refl;
         noted = same_noted old.sums sums (hb_of old).depth e.thread locks x k
@@ -104,7 +87,7 @@ module _ (e : Event) (x : VarId) (k : AccessKind) (old : Parts) (told : turn e (
             ∙ ap (λ (ls : List LockId). length ls) (sym of) in
             omega arith);
         comparisons = ap (λ (d : Done). d.comparisons) done ∙ comparisons;
-        room = room_then old.rows taken rows room kept;
+        room = room;
         limits = record { width = width; limits = refl };
       }
 

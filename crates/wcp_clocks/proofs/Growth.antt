@@ -13,7 +13,7 @@ use Rattle.event_core.specs.declared.events.Op.{Op}
 use Rattle.event_core.specs.declared.events.Op.TheVariants.{Load, Store, Acquire, Release, Fork, Join}
 use Rattle.event_core.specs.declared.events.AccessKind.{AccessKind}
 use Rattle.event_core.specs.Bounds.{Bounds}
-use Rattle.event_core.specs.Rows.{Rows, join, with_row, no_rows, no_clock}
+use Rattle.event_core.specs.Rows.{Rows, with_row, no_rows}
 use Rattle.hb_clocks.specs.State.{HbState, empty as hb_empty}
 use Rattle.hb_clocks.specs.Tables as hb
 use Rattle.section_sum.specs.Sums.{HasRoom, is_held, noted_of, others_of}
@@ -21,7 +21,7 @@ use Rattle.lock_queues.specs.Queues.{Tables as Queues, SameMeaning, closed_of, o
 use Rattle.wcp_laws.specs.State.{empty}
 use Rattle.wcp_clocks.specs.declared.parts.Parts.{Parts}
 use Rattle.wcp_clocks.specs.HeldLists.{list_at, numbers_of, held_of}
-use Rattle.wcp_clocks.specs.StrictRows.{StrictTables, strict_of, below_of, HasThread, HasLock}
+use Rattle.wcp_clocks.specs.StrictRows.{StrictTables, strict_of, HasThread, HasLock}
 use Rattle.wcp_clocks.specs.StrictRows.{SameClocks, KeepsRoom}
 use Rattle.event_core.specs.Closed.{Closed}
 use Rattle.wcp_clocks.specs.Met.{release_at}
@@ -38,7 +38,7 @@ grown_then a b c p q = record {
   order_width = q.order_width ∙ p.order_width;
   order_room = λ t op r. q.order_room t op (p.order_room t op r);
   ordered = λ o. q.ordered (p.ordered o);
-  rows = record { strict = q.rows.strict ∙ p.rows.strict; below = q.rows.below ∙ p.rows.below };
+  rows = record { strict = q.rows.strict ∙ p.rows.strict };
   rows_room = record {
     width = q.rows_room.width ∙ p.rows_room.width;
     thread = λ t r. q.rows_room.thread t (p.rows_room.thread t r);
@@ -114,9 +114,6 @@ pub grown_parts : (old new : Parts) → HasGrown old new → AreParts old → Ar
 grown_parts old new g a = record {
   rows = g.rows_room.width ∙ a.rows ∙ sym g.order_width;
   queues = ap (λ (b : Bounds). b.threads) g.queues.limits ∙ a.queues ∙ sym g.order_width;
-  below = λ t. ap (λ (f : ℕ → ℕ → ℕ). f t) g.rows.below ∙ a.below t
-      ∙ ap (λ (r : Rows). join (r.thread t) ((hb_of old).po t)) (sym g.rows.strict)
-      ∙ ap (λ (s : HbState). join ((strict_of new.rows).thread t) (s.po t)) (sym g.order);
   numbers = λ l x k t.
       (let e = g.others l x k t in
       let n = a.numbers l x k t in
@@ -167,7 +164,7 @@ queues_grown old new same kept = record {
   order_width = refl;
   order_room = λ t op r. r;
   ordered = λ o. o;
-  rows = record { strict = refl; below = refl };
+  rows = record { strict = refl };
   rows_room = record { width = refl; thread = λ t r. r; lock = λ l r. r };
   noted = λ t l v k. refl;
   others = λ l v k t. refl;
@@ -187,7 +184,7 @@ order_grown old new same width kept = record {
   order_width = width;
   order_room = kept;
   ordered = ordered_more old.rows old.hb new kept;
-  rows = record { strict = refl; below = refl };
+  rows = record { strict = refl };
   rows_room = record { width = refl; thread = λ t r. r; lock = λ l r. r };
   noted = λ t l v k. refl;
   others = λ l v k t. refl;
@@ -234,17 +231,14 @@ clocks_kept old new t op kept has = record { thread = kept.thread t.0 has.thread
 
 -- parts of one width, without numbers
 pub are_parts : (p : Parts) (width : ℕ) → p.hb.width ≡ width → hb_of p ≡ hb_empty
-    → p.rows.width ≡ width → strict_of p.rows ≡ no_rows → below_of p.rows ≡ (λ _. no_clock)
+    → p.rows.width ≡ width → strict_of p.rows ≡ no_rows
     → p.queues.limits.threads ≡ width
     → ((l x : ℕ) (k : AccessKind) (t : ℕ) → others_of p.sums l x k t ≡ 0)
     → ((l : ℕ) → closed_of p.queues l ≡ []) → ((t : ℕ) → HasThread p.rows t → ⊥)
     → ((l : ℕ) → HasLock p.rows l → ⊥) → AreParts p
-are_parts p width hb_width hb rows_width strict below queues others closed no_thread no_lock = record {
+are_parts p width hb_width hb rows_width strict queues others closed no_thread no_lock = record {
   rows = rows_width ∙ sym hb_width;
   queues = queues ∙ sym hb_width;
-  below = λ t. ap (λ (f : ℕ → ℕ → ℕ). f t) below
-      ∙ ap (λ (r : Rows). join (r.thread t) no_clock) (sym strict)
-      ∙ ap (λ (s : HbState). join ((strict_of p.rows).thread t) (s.po t)) (sym hb);
   numbers = λ l x k t. (let e = others l x k t in omega arith);
   whole = none_whole (state_of p)
       (λ l x k t u. ap (λ n. release_at (closed_of p.queues l) n u) (others l x k t))

@@ -8,7 +8,6 @@ mod Latest
 mod Lists
 pub mod Named
 mod Ordered
-mod OwnClocks
 mod Passing
 pub mod Releasing
 pub mod Replaying

@@ -1,12 +1,12 @@
 -- Rows that are written.
-use Rattle.std.proofs.Common.{◌≡◌, ℕ, ◌+◌, ◌≤◌, max, Bool, true, false, nat_eq, cond, sym, subst, ◌∙◌, arith}
+use Rattle.std.proofs.Common.{◌≡◌, ℕ, max, sym, subst, ◌∙◌, arith}
 use Rattle.std.proofs.Common.{List, length, ap}
 use Rattle.std.proofs.lemmas.List.{ext_get_or}
 use Rattle.hb_clocks.specs.Counts.{counts_of}
 use Rattle.hb_clocks.specs.Tables.{row_at, rows_of, IsMade}
 use Rattle.std.proofs.Common.{inl, inr, ◌⊎◌}
-use Rattle.std.proofs.lemmas.Bool.{cases_eq, cases_Bool, eqb-true}
-use Rattle.event_core.specs.Rows.{no_clock, join, bump, with_row, to_child}
+use Rattle.std.proofs.lemmas.Bool.{cases_eq}
+use Rattle.event_core.specs.Rows.{no_clock, join, with_row, to_child}
 use Rattle.event_core.specs.Turn.{Turn, Accesses, Opens, Closes, Forks, Joins, Inner}
 use Rattle.event_core.proofs.Growing.{row_same, row_other}
 
@@ -39,22 +39,6 @@ own_row (Opens l) t g f = row_same t g f
 own_row (Closes l) t g f = row_same t g f
 own_row (Joins u) t g f = row_same t g f
 own_row Inner t g f = row_same t g f
-
--- a thread's own event, counted in the join of two clocks of which the second is no lower there
-pub bump_join : (t : ℕ) (s p : ℕ → ℕ) → s t ≤ p t → bump t (join s p) ≡ join s (bump t (join p no_clock))
-bump_join t s p le i u = go (cases_Bool (nat_eq u t)) i
-  where
-    Goal : Bool → Type 0
-    Goal b = cond b (max (s u) (p u) + 1) (max (s u) (p u))
-        ≡ max (s u) (cond b (max (p u) 0 + 1) (max (p u) 0))
-
-    at : nat_eq u t ≡ true → Goal true
-    at e = let q : u ≡ t = eqb-true u t e in
-        let h : s u ≤ p u = subst (λ b. s b ≤ p b) (sym q) le in omega arith
-
-    go : (nat_eq u t ≡ true) ⊎ (nat_eq u t ≡ false) → Goal (nat_eq u t)
-    go (inl e) = subst Goal (sym e) (at e)
-    go (inr e) = subst Goal (sym e) (omega arith)
 
 pub join_nothing : (f : ℕ → ℕ) → join f no_clock ≡ f
 join_nothing f i u = go u i

@@ -6,8 +6,8 @@ use Rattle.event_core.specs.declared.ids.LockId.{LockId}
 use Rattle.event_core.specs.declared.events.Event.{Event}
 use Rattle.event_core.specs.declared.events.Op.{Op}
 use Rattle.event_core.specs.declared.events.Op.TheVariants.{Load, Store, Acquire, Release, Fork, Join}
-use Rattle.event_core.specs.Rows.{join, with_row, to_child, to_lock}
-use Rattle.event_core.specs.Turn.{Turn, Accesses, Opens, Closes, Forks, Joins, Inner, turn_of}
+use Rattle.event_core.specs.Rows.{with_row, to_child, to_lock}
+use Rattle.event_core.specs.Turn.{Turn, Opens, Closes, Inner, turn_of}
 use Rattle.event_core.proofs.Growing.{row_same, row_other}
 use Rattle.hb_clocks.specs.State as hb
 use Rattle.wcp_laws.specs.Step.{turn, after, hb_row, opened_after, held_after, noted_after, others_after}
@@ -15,35 +15,13 @@ use Rattle.wcp_laws.specs.Step.{closed_after}
 use Rattle.wcp_laws.specs.Conditions.{found_at}
 use Rattle.wcp_clocks.specs.declared.parts.Parts.{Parts}
 use Rattle.wcp_clocks.specs.HeldLists.{held_of}
-use Rattle.wcp_clocks.specs.StrictRows.{strict_of, below_of, HasThread, HasLock}
+use Rattle.wcp_clocks.specs.StrictRows.{strict_of, HasThread, HasLock}
 use Rattle.wcp_clocks.specs.Parts.{hb_of, state_of, found_in, AreParts, IsReady, HasNamed, most_joins}
 use Rattle.wcp_clocks.specs.Parts.{FewComparisons, Fits, IsAccess, KeepsReady}
 use Rattle.wcp_clocks.specs.Whole.{AreWhole}
 use Rattle.wcp_clocks.proofs.Ordered.{ordered_more, ordered_same}
 use Rattle.wcp_clocks.proofs.Wholeness.{whole_after}
 use Rattle.wcp_clocks.specs.Stepping.{IsStep, IsStepBy, strict_clock}
-
--- rows that are each the join of two are so where both are written
-row_join : (t : ℕ) (a b : ℕ → ℕ) (f g h : ℕ → ℕ → ℕ) → ((x : ℕ) → h x ≡ join (f x) (g x))
-    → (x : ℕ) → with_row t (join a b) h x ≡ join (with_row t a f x) (with_row t b g x)
-row_join t a b f g h is x = go (cases_eq x t)
-  where
-    go : (x ≡ t) ⊎ (x ≡ t → ⊥) → with_row t (join a b) h x ≡ join (with_row t a f x) (with_row t b g x)
-    go (inl q) = subst (λ y. with_row t (join a b) h y ≡ join (with_row t a f y) (with_row t b g y)) (sym q)
-        (row_same t (join a b) h ∙ ap₂ join (sym (row_same t a f)) (sym (row_same t b g)))
-    go (inr n) = row_other t (join a b) h x n ∙ is x
-        ∙ ap₂ join (sym (row_other t a f x n)) (sym (row_other t b g x n))
-
-child_join : (k : Turn) (t : ℕ) (a b : ℕ → ℕ) (f g h : ℕ → ℕ → ℕ) → ((x : ℕ) → h x ≡ join (f x) (g x))
-    → (x : ℕ) → to_child k (join a b) (with_row t (join a b) h) x
-    ≡ join (to_child k a (with_row t a f) x) (to_child k b (with_row t b g) x)
-child_join (Forks u) t a b f g h is x =
-    row_join u.0 a b (with_row t a f) (with_row t b g) (with_row t (join a b) h) (row_join t a b f g h is) x
-child_join (Accesses y k) t a b f g h is x = row_join t a b f g h is x
-child_join (Opens l) t a b f g h is x = row_join t a b f g h is x
-child_join (Closes l) t a b f g h is x = row_join t a b f g h is x
-child_join (Joins u) t a b f g h is x = row_join t a b f g h is x
-child_join Inner t a b f g h is x = row_join t a b f g h is x
 
 -- a lock that is held after the operation was held before it, or is the one that it acquires
 abbrev IsTaken : ℕ → Op → ℕ → ℕ → Type 0
@@ -110,20 +88,6 @@ module _ (e : Event) (k : Turn) (old new : Parts) (told : turn e (state_of old)
         (sym told)) i;
   }
 
-  below : AreParts old → (t : ℕ) → below_of new.rows t ≡ join ((strict_of new.rows).thread t)
-      ((hb_of new).po t)
-  below parts t =
-      ap (λ (f : ℕ → ℕ → ℕ). f t) by.below
-      ∙ child_join k e.thread.0 (strict_clock e k old) (hb.po_row e (hb_of old)) (strict_of old.rows).thread
-      (hb_of old).po (below_of old.rows) parts.below t
-      ∙ ap₂ join (sym (ap (λ (f : ℕ → ℕ → ℕ). f t) by.threads)) (sym (ap (λ (f : ℕ → ℕ → ℕ). f t) po))
-    where
-      po : (hb_of new).po ≡ to_child k (hb.po_row e (hb_of old)) (with_row e.thread.0 (hb.po_row e
-          (hb_of old)) (hb_of old).po)
-      po = ap (λ (s : hb.HbState). s.po) by.hb
-          ∙ ap (λ k. to_child k (hb.po_row e (hb_of old)) (with_row e.thread.0 (hb.po_row e (hb_of old))
-          (hb_of old).po)) told
-
   whole : AreParts old → Fits e old → AreWhole (state_of new)
   whole parts fits = subst AreWhole (sym exact) (whole_after e (state_of old) parts.whole fits.own_grows)
 
@@ -131,7 +95,6 @@ module _ (e : Event) (k : Turn) (old new : Parts) (told : turn e (state_of old)
   kept_parts parts ready fits = record {
     rows = by.room.width ∙ parts.rows ∙ sym by.limits.width;
     queues = ap (λ b. b.threads) by.limits.limits ∙ parts.queues ∙ sym by.limits.width;
-    below = below parts;
     numbers = by.numbers;
     whole = whole parts fits;
     held_thread = λ t l h. thread l t (held_before e.thread.0 e.op (hb_of old).depth t l (was t l h));

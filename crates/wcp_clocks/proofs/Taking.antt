@@ -1,6 +1,6 @@
 -- A thread's strict clock takes one clock after another.
-use Rattle.std.proofs.Common.{◌≡◌, ℕ, zero, suc, ◌+◌, ◌-◌, ◌*◌, ◌<◌, ◌≤◌, List, [], ◌∷◌, ◌++◌, length, Bool}
-use Rattle.std.proofs.Common.{true, false, cond, All, max}
+use Rattle.std.proofs.Common.{◌≡◌, ℕ, zero, suc, ◌+◌, ◌-◌, ◌*◌, ◌<◌, ◌≤◌, List, [], ◌∷◌, ◌++◌, length}
+use Rattle.std.proofs.Common.{cond, All, max}
 use Rattle.std.proofs.Common.{refl, sym, ap, ap₂, subst, ◌∙◌, arith}
 use Rattle.std.proofs.lemmas.List.{length_push, append-nil}
 use Rattle.std.proofs.lemmas.List.Elements.{All-head, All-tail, All-nil, All-cons, All-append}
@@ -21,7 +21,7 @@ use Rattle.wcp_clocks.specs.Whole.{IsWhole}
 use Rattle.wcp_clocks.proofs.Wholeness.{whole_join}
 use Rattle.wcp_laws.specs.Step.{join_all}
 use Rattle.wcp_clocks.proofs.Rows.{row_kept, row_again, join_nothing}
-use Rattle.wcp_clocks.specs.StrictRows.{StrictTables, below_of, SameRoom}
+use Rattle.wcp_clocks.specs.StrictRows.{StrictTables, SameRoom}
 
 pub room_same : (c : StrictTables) → SameRoom c c
 room_same c = record {
@@ -89,13 +89,11 @@ counted s closed l x t n f are whole m le i u = at i
 
 -- what has been taken of the source, where the rest is still to be taken
 pub record IsTaking (s : Sums) (closed : ℕ → List Closed) (l x t : ℕ) (source : ℕ → ℕ)
-    (old now : StrictTables) (before after : Done) (rest : List ℕ) (taken : Bool) : Type 0 where
+    (old now : StrictTables) (before after : Done) (rest : List ℕ) : Type 0 where
   pub shape : rows_of now.thread ≡ with_row t (rows_of now.thread t) (rows_of old.thread)
   pub joined : (u : ℕ) → joined_all (closed l) (rows_of now.thread t) rest u
       ≡ join (rows_of old.thread t) source u
   pub lock : rows_of now.lock ≡ rows_of old.lock
-  pub below : below_of now ≡ below_of old
-  pub none : taken ≡ false → rows_of now.thread ≡ rows_of old.thread
   pub kept : SameRoom old now
   pub met : All (IsMet s l x t) rest
   pub whole : IsWhole closed (rows_of now.thread t)
@@ -151,16 +149,14 @@ sources_met s l x t Write =
     (section_met s l x t Read (others_of s l x Read t) refl)
 
 pub taking_begins : (s : Sums) (closed : ℕ → List Closed) (l x t : ℕ) (k : AccessKind) (old : StrictTables)
-    (before : Done) (rest : List ℕ) (taken : Bool) → rest ≡ sources_of s l x k t → length rest ≤ 2
+    (before : Done) (rest : List ℕ) → rest ≡ sources_of s l x k t → length rest ≤ 2
     → IsWhole closed (rows_of old.thread t)
-    → IsTaking s closed l x t (met_under (met_clocks s closed) x k t l) old old before before rest taken
-taking_begins s closed l x t k old before rest taken is few whole = record {
+    → IsTaking s closed l x t (met_under (met_clocks s closed) x k t l) old old before before rest
+taking_begins s closed l x t k old before rest is few whole = record {
   shape = row_kept t (rows_of old.thread);
   joined = λ u. ap (λ ns. joined_all (closed l) (rows_of old.thread t) ns u) is
       ∙ sources_joined s closed l x t k (rows_of old.thread t) u;
   lock = refl;
-  below = refl;
-  none = λ e. refl;
   kept = room_same old;
   met = subst (All (IsMet s l x t)) (sym is) (sources_met s l x t k);
   whole = whole;
@@ -170,19 +166,17 @@ taking_begins s closed l x t k old before rest taken is few whole = record {
 
 -- a release that is counted brings nothing
 pub taking_past : (s : Sums) (closed : ℕ → List Closed) (l x t : ℕ) (source : ℕ → ℕ) (old now : StrictTables)
-    (before after : Done) (n : ℕ) (rest : List ℕ) (taken : Bool) → AreNumbers s closed
-    → IsTaking s closed l x t source old now before after (n ∷ rest) taken
+    (before after : Done) (n : ℕ) (rest : List ℕ) → AreNumbers s closed
+    → IsTaking s closed l x t source old now before after (n ∷ rest)
     → release_at (closed l) n (thread_at (closed l) n) ≤ rows_of now.thread t (thread_at (closed l) n)
-    → IsTaking s closed l x t source old now before after rest taken
-taking_past s closed l x t source old now before after n rest taken are is le = record {
+    → IsTaking s closed l x t source old now before after rest
+taking_past s closed l x t source old now before after n rest are is le = record {
   shape = is.shape;
   joined = λ u. ap (λ (g : ℕ → ℕ). joined_all (closed l) g rest u)
       (counted s closed l x t n (rows_of now.thread t) are is.whole (All-head
       (IsMet s l x t) n rest is.met) le)
       ∙ is.joined u;
   lock = is.lock;
-  below = is.below;
-  none = is.none;
   kept = is.kept;
   met = All-tail (IsMet s l x t) n rest is.met;
   whole = is.whole;
@@ -191,16 +185,15 @@ taking_past s closed l x t source old now before after n rest taken are is le = 
 }
 
 pub taking_on : (s : Sums) (closed : ℕ → List Closed) (l x t : ℕ) (source : ℕ → ℕ)
-    (old now new : StrictTables) (before after done : Done) (n : ℕ) (rest : List ℕ) (taken : Bool)
+    (old now new : StrictTables) (before after done : Done) (n : ℕ) (rest : List ℕ)
     → AreWholeIn s closed
-    → IsTaking s closed l x t source old now before after (n ∷ rest) taken
+    → IsTaking s closed l x t source old now before after (n ∷ rest)
     → rows_of new.thread ≡ with_row t (join (rows_of now.thread t) (release_at (closed l) n))
     (rows_of now.thread)
-    → rows_of new.lock ≡ rows_of now.lock → below_of new ≡ below_of now → SameRoom now new
+    → rows_of new.lock ≡ rows_of now.lock → SameRoom now new
     → done ≡ record after { joins = after.joins + 1 }
-    → IsTaking s closed l x t source old new before done rest true
-taking_on s closed l x t source old now new before after done n rest taken each is threads lock below kept
-    work =
+    → IsTaking s closed l x t source old new before done rest
+taking_on s closed l x t source old now new before after done n rest each is threads lock kept work =
     record {
       shape = threads ∙ ap (with_row t (join (rows_of now.thread t) (release_at (closed l) n))) is.shape
           ∙ row_again t (join (rows_of now.thread t) (release_at (closed l) n)) (rows_of now.thread t)
@@ -208,8 +201,6 @@ taking_on s closed l x t source old now new before after done n rest taken each 
           ∙ ap (λ g. with_row t g (rows_of old.thread)) (sym own);
       joined = λ u. ap (λ (g : ℕ → ℕ). joined_all (closed l) g rest u) own ∙ is.joined u;
       lock = lock ∙ is.lock;
-      below = below ∙ is.below;
-      none = λ e. absurd (cc e);
       kept = room_then old now new is.kept kept;
       met = All-tail (IsMet s l x t) n rest is.met;
       whole = subst (IsWhole closed) (sym own)
@@ -224,24 +215,12 @@ taking_on s closed l x t source old now new before after done n rest taken each 
     own = ap (λ (f : ℕ → ℕ → ℕ). f t) threads
         ∙ row_same t (join (rows_of now.thread t) (release_at (closed l) n)) (rows_of now.thread)
 
-pub taking_ends : (s : Sums) (closed : ℕ → List Closed) (l x t : ℕ) (source : ℕ → ℕ) (old now : StrictTables)
-    (before after : Done) (rest : List ℕ) (taken : Bool)
-    → IsTaking s closed l x t source old now before after rest taken → rest ≡ []
-    → rows_of now.thread ≡ with_row t (join (rows_of old.thread t) source) (rows_of old.thread)
-taking_ends s closed l x t source old now before after rest taken is none =
-    is.shape ∙ ap (λ g. with_row t g (rows_of old.thread)) (λ i u. all u i)
-  where
-    all : (u : ℕ) → rows_of now.thread t u ≡ join (rows_of old.thread t) source u
-    all u = sym (ap (λ r. joined_all (closed l) (rows_of now.thread t) r u) none) ∙ is.joined u
-
 -- what has been taken under the first of the locks
 pub record HasTaken (s : Sums) (closed : ℕ → List Closed) (t : ℕ) (source : ℕ → ℕ → ℕ)
-    (old now : StrictTables) (before after : Done) (locks : List ℕ) (taken : Bool) : Type 0 where
+    (old now : StrictTables) (before after : Done) (locks : List ℕ) : Type 0 where
   pub threads : rows_of now.thread
       ≡ with_row t (join (rows_of old.thread t) (join_all source locks)) (rows_of old.thread)
   pub lock : rows_of now.lock ≡ rows_of old.lock
-  pub below : below_of now ≡ below_of old
-  pub none : taken ≡ false → rows_of now.thread ≡ rows_of old.thread
   pub kept : SameRoom old now
   pub whole : IsWhole closed (rows_of now.thread t)
   pub joins : after.joins ≤ before.joins + 2 * length locks
@@ -259,14 +238,12 @@ join_all_more source f locks l i u = go f locks u i
 
 pub taken_begins : (s : Sums) (closed : ℕ → List Closed) (t : ℕ) (source : ℕ → ℕ
     → ℕ) (old : StrictTables) (before : Done)
-    (taken : Bool) → IsWhole closed (rows_of old.thread t)
-    → HasTaken s closed t source old old before before [] taken
-taken_begins s closed t source old before taken whole = record {
+    → IsWhole closed (rows_of old.thread t)
+    → HasTaken s closed t source old old before before []
+taken_begins s closed t source old before whole = record {
   threads = row_kept t (rows_of old.thread) ∙ ap (λ g. with_row t g (rows_of old.thread)) (sym (join_nothing
       (rows_of old.thread t)));
   lock = refl;
-  below = refl;
-  none = λ e. refl;
   kept = room_same old;
   whole = whole;
   joins = omega arith;
@@ -283,25 +260,20 @@ sources_whole s closed l x t Write each =
 
 pub taken_on : (s : Sums) (closed : ℕ → List Closed) (t : ℕ) (source : ℕ → ℕ
     → ℕ) (old now new : StrictTables) (before after done : Done)
-    (locks : List ℕ) (l : ℕ) (taken one both : Bool) → IsWhole closed (source l)
-    → HasTaken s closed t source old now before after locks taken
+    (locks : List ℕ) (l : ℕ) → IsWhole closed (source l)
+    → HasTaken s closed t source old now before after locks
     → rows_of new.thread ≡ with_row t (join (rows_of now.thread t) (source l)) (rows_of now.thread)
-    → rows_of new.lock ≡ rows_of now.lock → below_of new ≡ below_of now → SameRoom now new
-    → (one ≡ false → rows_of new.thread ≡ rows_of now.thread)
-    → (both ≡ false → (taken ≡ false) × (one ≡ false))
+    → rows_of new.lock ≡ rows_of now.lock → SameRoom now new
     → done.joins ≤ after.joins + 2 → done.comparisons ≡ after.comparisons
-    → HasTaken s closed t source old new before done (locks ++ l ∷ []) both
-taken_on s closed t source old now new before after done locks l taken one both whole is threads lock below
-    kept none
-    parts joins comparisons =
+    → HasTaken s closed t source old new before done (locks ++ l ∷ [])
+taken_on s closed t source old now new before after done locks l whole is threads lock kept joins
+    comparisons =
     record {
       threads = threads ∙ ap₂ (λ g f. with_row t g f) own is.threads
           ∙ row_again t _ _ (rows_of old.thread)
           ∙ ap (λ g. with_row t g (rows_of old.thread)) (sym (join_all_more source
           (rows_of old.thread t) locks l));
       lock = lock ∙ is.lock;
-      below = below ∙ is.below;
-      none = λ e. none (parts e).1 ∙ is.none (parts e).0;
       kept = room_then old now new is.kept kept;
       whole = subst (IsWhole closed)
           (sym (ap (λ (f : ℕ → ℕ → ℕ). f t) threads

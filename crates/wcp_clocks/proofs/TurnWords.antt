@@ -10,8 +10,8 @@ use Rattle.event_core.specs.declared.events.Event.{Event}
 use Rattle.event_core.specs.declared.events.AccessKind.{AccessKind}
 use Rattle.event_core.specs.declared.events.AccessKind.TheVariants.{Read, Write}
 use Rattle.event_core.specs.Closed.{Closed, Has, first, later}
-use Rattle.event_core.specs.Rows.{no_clock, join, bump, brought}
-use Rattle.event_core.specs.Turn.{Turn, Accesses, Closes}
+use Rattle.event_core.specs.Rows.{join, bump, brought}
+use Rattle.event_core.specs.Turn.{Accesses, Closes}
 use Rattle.hb_clocks.specs.State as hb
 use Rattle.section_sum.specs.Cells.{is_kind}
 use Rattle.section_sum.specs.Sums.{Sums, noted_of, is_held, is_access, SameOthers}
@@ -27,14 +27,6 @@ pub own_program_order : (e : Event) (old new : hb.HbState) → new ≡ hb.after 
 own_program_order e old new is =
     ap (λ (s : hb.HbState). s.po e.thread.0) is
     ∙ own_row (hb.turn e old) e.thread.0 (hb.po_row e old) old.po
-
--- an event to which nothing is brought
-pub plain_row : (e : Event) (s : hb.HbState) (k : Turn) → hb.turn e s ≡ k
-    → brought k (hb.without_locks s.po) ≡ no_clock
-    → hb.po_row e s ≡ bump e.thread.0 (join (s.po e.thread.0) no_clock)
-plain_row e s k is none =
-    ap (λ (b : ℕ → ℕ). bump e.thread.0 (join (s.po e.thread.0) b))
-    (ap (λ k. brought k (hb.without_locks s.po)) is ∙ none)
 
 -- the sources under a lock are those of the rule
 pub same_sources : (s : State) (x : VarId) (k : AccessKind) (t : ThreadId)

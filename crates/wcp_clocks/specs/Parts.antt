@@ -7,7 +7,6 @@ use Rattle.event_core.specs.declared.events.Op.{Op}
 use Rattle.event_core.specs.declared.events.Op.TheVariants.{Load, Store, Acquire, Release, Fork, Join}
 use Rattle.event_core.specs.declared.events.Event.{Event}
 use Rattle.event_core.specs.declared.bounds.Limits.{Limits}
-use Rattle.event_core.specs.Rows.{join}
 use Rattle.event_core.specs.Closed.{Has}
 use Rattle.event_core.specs.Turn.{Turn, Accesses, Closes}
 use Rattle.hb_clocks.specs.State.{HbState, po_row}
@@ -21,7 +20,7 @@ use Rattle.wcp_laws.specs.Step.{turn, hb_row, after}
 use Rattle.wcp_laws.specs.Conditions.{IsSound, CursorsStand}
 use Rattle.wcp_clocks.specs.declared.parts.Parts.{Parts}
 use Rattle.wcp_clocks.specs.HeldLists.{list_at, held_of, room_at}
-use Rattle.wcp_clocks.specs.StrictRows.{StrictTables, strict_of, below_of, HasThread, HasLock}
+use Rattle.wcp_clocks.specs.StrictRows.{StrictTables, strict_of, HasThread, HasLock}
 use Rattle.wcp_clocks.specs.Met.{met_clocks, AreNumbers}
 use Rattle.wcp_clocks.specs.Whole.{AreWhole, own_of}
 
@@ -135,7 +134,6 @@ pub record Fits (e : Event) (p : Parts) : Type 0 where
 pub record AreParts (p : Parts) : Type 0 where
   pub rows : p.rows.width ≡ p.hb.width
   pub queues : p.queues.limits.threads ≡ p.hb.width
-  pub below : (t : ℕ) → below_of p.rows t ≡ join ((strict_of p.rows).thread t) ((hb_of p).po t)
   -- the summaries name closed sections
   pub numbers : AreNumbers p.sums (closed_of p.queues)
   -- a clock that counts a release counts all that is below it

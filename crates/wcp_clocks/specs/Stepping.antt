@@ -12,7 +12,7 @@ use Rattle.wcp_laws.specs.Step.{others_after, closed_after}
 use Rattle.wcp_laws.specs.Conditions.{found_at}
 use Rattle.wcp_clocks.specs.declared.parts.Parts.{Parts}
 use Rattle.wcp_clocks.specs.HeldLists.{held_of}
-use Rattle.wcp_clocks.specs.StrictRows.{strict_of, below_of, SameRoom}
+use Rattle.wcp_clocks.specs.StrictRows.{strict_of, SameRoom}
 use Rattle.wcp_clocks.specs.Parts.{hb_of, state_of, found_in, AreParts, SameLimits, most_joins}
 use Rattle.wcp_clocks.specs.Parts.{FewComparisons, IsAccess, KeepsReady}
 use Rattle.wcp_clocks.specs.Met.{met_clocks, AreNumbers}
@@ -33,10 +33,6 @@ pub record IsStep (e : Event) (old new : Parts) : Type 0 where
 abbrev pub strict_clock : Event → Turn → Parts → ℕ → ℕ
 strict_clock e k p = join ((strict_of p.rows).thread e.thread.0) (extra e.thread k (state_of p))
 
--- the event's clock that counts program order too
-abbrev pub below_clock : Event → Turn → Parts → ℕ → ℕ
-below_clock e k p = join (strict_clock e k p) (hb.po_row e (hb_of p))
-
 -- the step part by part, where the turn is k
 pub record IsStepBy (e : Event) (k : Turn) (old new : Parts) : Type 0 where
   pub hb : hb_of new ≡ hb.after e (hb_of old)
@@ -44,8 +40,6 @@ pub record IsStepBy (e : Event) (k : Turn) (old new : Parts) : Type 0 where
   pub threads : (strict_of new.rows).thread ≡ to_child k (strict_clock e k old)
       (with_row e.thread.0 (strict_clock e k old) (strict_of old.rows).thread)
   pub locks : (strict_of new.rows).lock ≡ to_lock k (strict_clock e k old) (strict_of old.rows).lock
-  pub below : below_of new.rows ≡ to_child k (below_clock e k old)
-      (with_row e.thread.0 (below_clock e k old) (below_of old.rows))
   pub opened : opened_of new.queues
       ≡ opened_after e.thread.0 k (hb_row e (state_of old) e.thread.0) (opened_of old.queues)
   pub held : held_of new.held ≡ held_after e.thread.0 k (held_of old.held)

@@ -3,25 +3,19 @@ use Rattle.std.specs.Prelude.{◌≡◌, ℕ, ◌<◌, List, replicate}
 use Rattle.event_core.specs.Rows.{Rows}
 use Rattle.hb_clocks.specs.Tables.{rows_of, IsMade, AreWide}
 
--- a clock for each thread, one beside it that counts program order too, and one for each lock; none of
--- numbers where none was made
+-- a clock for each thread and one for each lock; none of numbers where none was made
 pub record StrictTables : Type 0 where
   pub width : ℕ
   pub thread : List (List ℕ)
-  pub below : List (List ℕ)
   pub lock : List (List ℕ)
 
 -- what the tables mean: zeros where there is no clock
 abbrev pub strict_of : StrictTables → Rows
 strict_of c = record { thread = rows_of c.thread; lock = rows_of c.lock }
 
-abbrev pub below_of : StrictTables → ℕ → ℕ → ℕ
-below_of c = rows_of c.below
-
--- both clocks of the thread were made
+-- the clock of the thread was made
 pub record HasThread (c : StrictTables) (t : ℕ) : Type 0 where
-  pub strict : IsMade c.width c.thread t
-  pub below : IsMade c.width c.below t
+  pub made : IsMade c.width c.thread t
 
 -- the clock of the lock was made
 pub record HasLock (c : StrictTables) (l : ℕ) : Type 0 where
@@ -44,14 +38,10 @@ pub record SameRoom (old new : StrictTables) : Type 0 where
 -- there may be other room, and all else is as it was
 pub record SameClocks (old new : StrictTables) : Type 0 where
   pub strict : strict_of new ≡ strict_of old
-  pub below : below_of new ≡ below_of old
 
 -- what the fields keep
-pub record AreTables (width : ℕ) (zeros : List ℕ) (thread below lock : List (List ℕ)) : Type 0 where
+pub record AreTables (width : ℕ) (zeros : List ℕ) (thread lock : List (List ℕ)) : Type 0 where
   pub some : 0 < width
   pub only_zeros : zeros ≡ replicate width 0
   pub thread_wide : AreWide width thread
-  pub below_wide : AreWide width below
   pub lock_wide : AreWide width lock
-  -- a thread's clock with program order is made after its strict clock
-  pub strict_made : (t : ℕ) → IsMade width below t → IsMade width thread t

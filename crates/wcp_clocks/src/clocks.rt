@@ -32,7 +32,7 @@ use crate::parts::Parts;
 use crate::room::{are_both_ready, are_ready, new_parts, prepare_both, prepare_parts, seek};
 use crate::turns::step;
 use event_core::{Event, Limits, OutOfMemory, ThreadId, VarId};
-use hb_clocks::Clock;
+use hb_clocks::JoinedClocks;
 use std::alloc::Global;
 use std::marker::Model;
 
@@ -170,15 +170,16 @@ impl WcpClocks {
         below_number(&self.parts, thread, other)
     }
 
-    /// The thread's clock, which counts the events that are below its latest one.
+    /// The thread's clock, which counts the events that are below its latest one. It is lent as the join of
+    /// the strict clock and that of program order.
     #[inline(always)]
-    pub fn clock(&self, thread: ThreadId) -> &Clock
-        ensures width { length result.now ≡ width_of self.now }
-        ensures exact { counts_of result.now
+    pub fn clock(&self, thread: ThreadId) -> JoinedClocks<'_>
+        ensures width { length result ≡ width_of self.now }
+        ensures exact { counts_of result
             ≡ join ((state_of self.now).strict.thread thread.0) ((hb_of self.now).po thread.0) }
         ensures latest { (limits : Bounds) (log : List AnEvent) (j : ℕ) → WellFormed limits log
             → StandsFor log self.now → IsLatest log thread j
-            → Counted log (λ i. Below log i j) (counts_of result.now) }
+            → Counted log (λ i. Below log i j) (counts_of result) }
     {
         below_clock(&self.parts, thread)
     }

@@ -1,12 +1,12 @@
 //! What the parts say of a thread's latest event.
-ghost use Rattle.std.specs.Prelude.{◌≡◌, ℕ, ◌<◌, length, max};
+ghost use Rattle.std.specs.Prelude.{◌≡◌, ◌<◌, length, max};
 ghost use Rattle.event_core.specs.Rows.{join};
 ghost use Rattle.hb_clocks.specs.Counts.{counts_of};
 ghost use Rattle.wcp_clocks.specs.Parts.{hb_of, state_of, AreParts};
 
 use crate::parts::Parts;
 use event_core::ThreadId;
-use hb_clocks::Clock;
+use hb_clocks::JoinedClocks;
 
 // How many events of the other thread strictly precede it.
 pub(crate) fn strict_number(parts: &Parts, thread: ThreadId, other: ThreadId) -> u64
@@ -24,17 +24,17 @@ pub(crate) fn below_number(parts: &Parts, thread: ThreadId, other: ThreadId) -> 
     ensures { result ≡ max ((state_of parts.now).strict.thread thread.0 other.0)
         ((hb_of parts.now).po thread.0 other.0) }
 {
-    below_clock(parts, thread).at(other)
+    let strict = parts.rows.strict(thread).at(other);
+    strict.max(parts.hb.po(thread).at(other))
 }
 
 // The clock that counts what is below it.
-pub(crate) fn below_clock(parts: &Parts, thread: ThreadId) -> &Clock
+#[inline(always)]
+pub(crate) fn below_clock(parts: &Parts, thread: ThreadId) -> JoinedClocks<'_>
     requires parts { AreParts parts.now }
-    ensures width { length result.now ≡ parts.now.hb.width }
-    ensures counts { counts_of result.now
+    ensures width { length result ≡ parts.now.hb.width }
+    ensures counts { counts_of result
         ≡ join ((state_of parts.now).strict.thread thread.0) ((hb_of parts.now).po thread.0) }
-    ensures at { (u : ℕ) → counts_of result.now u
-        ≡ max ((state_of parts.now).strict.thread thread.0 u) ((hb_of parts.now).po thread.0 u) }
 {
-    parts.rows.below(thread)
+    JoinedClocks::new(parts.rows.strict(thread), parts.hb.po(thread))
 }

@@ -1,14 +1,14 @@
 //! Rule (a) of weak causal precedence at an access: under each lock that its thread holds, the releases
 //! of other threads' sections with an access in conflict strictly precede it (Kini, Mathur and
 //! Viswanathan, "Dynamic Race Prediction in Linear Time", PLDI 2017).
-ghost use Rattle.std.specs.Prelude.{◌≡◌, ℕ, ◌+◌, ◌*◌, ◌<◌, ◌≤◌, ◌^◌, length, false};
+ghost use Rattle.std.specs.Prelude.{◌≡◌, ℕ, ◌+◌, ◌*◌, ◌<◌, ◌≤◌, ◌^◌, length};
 ghost use Rattle.event_core.specs.Rows.{join, with_row};
 ghost use Rattle.lock_queues.specs.Queues.{closed_of};
 ghost use Rattle.wcp_laws.specs.Step.{join_all};
 ghost use Rattle.wcp_clocks.specs.HeldLists.{numbers_of};
 ghost use Rattle.wcp_clocks.specs.Met.{met_clocks, met_under, AreNumbers, AreWholeIn};
 ghost use Rattle.wcp_clocks.specs.Whole.{IsWhole};
-ghost use Rattle.wcp_clocks.specs.StrictRows.{strict_of, below_of, HasThread, SameRoom};
+ghost use Rattle.wcp_clocks.specs.StrictRows.{strict_of, HasThread, SameRoom};
 
 use crate::strict::StrictRows;
 use event_core::{AccessKind, LockId, ThreadId, VarId};
@@ -18,7 +18,6 @@ use section_sum::Summaries;
 
 // The thread's strict clock takes what its access meets under the lock, at most two clocks. A clock that
 // counts a release counts all that is below it, so a release that is counted already brings nothing.
-// Tells whether a clock was taken.
 fn take_under(
     rows: &mut StrictRows,
     sums: &Summaries,
@@ -28,7 +27,7 @@ fn take_under(
     var: VarId,
     kind: AccessKind,
     work: &mut Work,
-) -> bool
+)
     requires room { HasThread rows.old thread.0 }
     requires wide { queues.now.limits.threads ≡ rows.old.width }
     requires few { work.old.joins + 2 < 2 ^ 63 }
@@ -40,25 +39,19 @@ fn take_under(
         (met_under (met_clocks sums.now (closed_of queues.now)) var.0 kind thread.0 lock.0))
         (strict_of rows.old).thread }
     ensures locks { (strict_of rows.new).lock ≡ (strict_of rows.old).lock }
-    ensures below { below_of rows.new ≡ below_of rows.old }
-    ensures none { result ≡ false → (strict_of rows.new).thread ≡ (strict_of rows.old).thread }
     ensures kept { SameRoom rows.old rows.new }
     ensures joins { work.new.joins ≤ work.old.joins + 2 }
     ensures comparisons { work.new.comparisons ≡ work.old.comparisons }
 {
-    let mut taken = false;
     for number in sums.sources(thread, lock, var, kind) {
         let section = queues.section(lock, number);
         if !rows.counts(thread, section.by, section.own) {
             rows.take_release(thread, section.by, section.before, work);
-            taken = true;
         }
     }
-    taken
 }
 
-// The thread's strict clock takes what its access meets under each of the locks. Tells whether a clock
-// was taken.
+// The thread's strict clock takes what its access meets under each of the locks.
 pub(crate) fn take_sources(
     rows: &mut StrictRows,
     sums: &Summaries,
@@ -68,7 +61,7 @@ pub(crate) fn take_sources(
     var: VarId,
     kind: AccessKind,
     work: &mut Work,
-) -> bool
+)
     requires room { HasThread rows.old thread.0 }
     requires wide { queues.now.limits.threads ≡ rows.old.width }
     requires few { work.old.joins + 2 * length held.now < 2 ^ 63 }
@@ -81,15 +74,11 @@ pub(crate) fn take_sources(
         (numbers_of held.now)))
         (strict_of rows.old).thread }
     ensures locks { (strict_of rows.new).lock ≡ (strict_of rows.old).lock }
-    ensures below { below_of rows.new ≡ below_of rows.old }
-    ensures none { result ≡ false → (strict_of rows.new).thread ≡ (strict_of rows.old).thread }
     ensures kept { SameRoom rows.old rows.new }
     ensures joins { work.new.joins ≤ work.old.joins + 2 * length held.now }
     ensures comparisons { work.new.comparisons ≡ work.old.comparisons }
 {
-    let mut taken = false;
     for lock in held {
-        taken |= take_under(rows, sums, queues, thread, *lock, var, kind, work);
+        take_under(rows, sums, queues, thread, *lock, var, kind, work);
     }
-    taken
 }

@@ -1,19 +1,17 @@
-//! The clocks of the strict relation: a row for each thread and each lock, and beside each thread's
-//! row the clock that counts program order too.
+//! The clocks of the strict relation: a row for each thread and each lock.
 ghost use Rattle.std.specs.Prelude.{◌≡◌, ◌≢◌, ℕ, ◌+◌, ◌*◌, ◌<◌, ◌≤◌, ◌^◌, ◌↔◌, length, IfOk, OnOk, IsTrue};
-ghost use Rattle.std.specs.Prelude.{nat_le, false};
-ghost use Rattle.event_core.specs.Rows.{join, bump, with_row, no_rows, no_clock};
+ghost use Rattle.std.specs.Prelude.{nat_le};
+ghost use Rattle.event_core.specs.Rows.{join, bump, with_row, no_rows};
 ghost use Rattle.hb_clocks.specs.Counts.{counts_of};
-ghost use Rattle.hb_clocks.specs.State.{HbState};
-ghost use Rattle.hb_clocks.specs.Tables.{state_of as hb_state, row_at, rows_of, widths_of};
-ghost use Rattle.wcp_clocks.specs.StrictRows.{strict_of, below_of, HasThread, HasLock, KeepsRoom, SameRoom};
+ghost use Rattle.hb_clocks.specs.Tables.{row_at};
+ghost use Rattle.wcp_clocks.specs.StrictRows.{strict_of, HasThread, HasLock, KeepsRoom, SameRoom};
 ghost use Rattle.wcp_clocks.specs.StrictRows.{SameClocks};
 
 use event_core::{LockId, OutOfMemory, ThreadId};
 use hb_clocks::rows::{
-    bump_row, copy_row, copy_rows, is_made, join_row, join_row_release, join_rows, make_row, row_or,
+    copy_row, copy_rows, is_made, join_row, join_row_release, join_rows, make_row, row_or,
 };
-use hb_clocks::{Clock, HbClocks, Work};
+use hb_clocks::{Clock, Work};
 use std::alloc::Global;
 use std::marker::Model;
 
@@ -26,8 +24,6 @@ pub(crate) struct StrictRows {
     zeros: Clock,
     // What strictly precedes the thread's latest event.
     threads: Vec<Clock>,
-    // The same with program order.
-    below: Vec<Clock>,
     // What strictly precedes the lock's latest outer release.
     locks: Vec<Clock>,
 }
@@ -40,11 +36,10 @@ impl Model for StrictRows {
     ghost view = { λ c. record {
       width = c.width;
       thread = c.threads.items;
-      below = c.below.items;
       lock = c.locks.items;
     } };
 
-    ghost invariant = { λ c. AreTables c.width c.zeros c.threads.items c.below.items c.locks.items };
+    ghost invariant = { λ c. AreTables c.width c.zeros c.threads.items c.locks.items };
 }
 
 impl StrictRows {
@@ -53,7 +48,6 @@ impl StrictRows {
         requires { 0 < width }
         ensures width { IfOk result (λ made. made.width ≡ width) }
         ensures strict { IfOk result (λ made. strict_of made ≡ no_rows) }
-        ensures below { IfOk result (λ made. below_of made ≡ (λ _. no_clock)) }
         ensures no_thread { IfOk result (λ made. (t : ℕ) → HasThread made t → ⊥) }
         ensures no_lock { IfOk result (λ made. (l : ℕ) → HasLock made l → ⊥) }
     {
@@ -63,12 +57,11 @@ impl StrictRows {
             alloc,
             zeros,
             threads: Vec::new(alloc),
-            below: Vec::new(alloc),
             locks: Vec::new(alloc),
         })
     }
 
-    // Makes both clocks of the thread, the strict one first.
+    // Makes the clock of the thread.
     pub(crate) fn make_thread(&mut self, thread: ThreadId) -> Result<(), OutOfMemory>
         ensures same { SameClocks self.old self.new }
         ensures kept { KeepsRoom self.old self.new }
@@ -76,9 +69,7 @@ impl StrictRows {
         ensures others { (t : ℕ) → t ≢ thread.0 → HasThread self.new t → HasThread self.old t }
         ensures locks { (l : ℕ) → HasLock self.new l → HasLock self.old l }
     {
-        let at = thread.0 as usize;
-        make_row(&mut self.threads, self.alloc, self.width, at)?;
-        make_row(&mut self.below, self.alloc, self.width, at)
+        make_row(&mut self.threads, self.alloc, self.width, thread.0 as usize)
     }
 
     // Makes the clock of the lock.
@@ -92,11 +83,11 @@ impl StrictRows {
         make_row(&mut self.locks, self.alloc, self.width, lock.0 as usize)
     }
 
-    // Whether both clocks of the thread were made: the second is made after the first.
+    // Whether the clock of the thread was made.
     pub(crate) fn has_thread(&self, thread: ThreadId) -> bool
         ensures { IsTrue result ↔ HasThread self.now thread.0 }
     {
-        is_made(&self.below, self.width, thread.0 as usize)
+        is_made(&self.threads, self.width, thread.0 as usize)
     }
 
     // Whether the clock of the lock was made.
@@ -114,14 +105,6 @@ impl StrictRows {
         ensures row { HasThread self.now thread.0 → result.now ≡ row_at self.now.thread thread.0 }
     {
         row_or(&self.threads, thread.0 as usize, &self.zeros)
-    }
-
-    // The thread's clock that counts program order too.
-    pub(crate) fn below(&self, thread: ThreadId) -> &Clock
-        ensures width { length result.now ≡ self.now.width }
-        ensures counts { counts_of result.now ≡ below_of self.now thread.0 }
-    {
-        row_or(&self.below, thread.0 as usize, &self.zeros)
     }
 
     // Whether the thread's strict clock counts the release by the other thread, which had so many events
@@ -149,7 +132,6 @@ impl StrictRows {
             (join ((strict_of self.old).thread thread.0) (bump by.0 (counts_of before.now)))
             (strict_of self.old).thread }
         ensures locks { (strict_of self.new).lock ≡ (strict_of self.old).lock }
-        ensures below { below_of self.new ≡ below_of self.old }
         ensures kept { SameRoom self.old self.new }
         ensures work { work.new ≡ record work.old { joins = work.old.joins + 1 } }
     {
@@ -165,7 +147,6 @@ impl StrictRows {
             (join ((strict_of self.old).thread thread.0) ((strict_of self.old).lock lock.0))
             (strict_of self.old).thread }
         ensures locks { (strict_of self.new).lock ≡ (strict_of self.old).lock }
-        ensures below { below_of self.new ≡ below_of self.old }
         ensures kept { SameRoom self.old self.new }
         ensures work { work.new ≡ record work.old { joins = work.old.joins + 1 } }
     {
@@ -187,14 +168,13 @@ impl StrictRows {
             (join ((strict_of self.old).thread thread.0) ((strict_of self.old).thread other.0))
             (strict_of self.old).thread }
         ensures locks { (strict_of self.new).lock ≡ (strict_of self.old).lock }
-        ensures below { below_of self.new ≡ below_of self.old }
         ensures kept { SameRoom self.old self.new }
         ensures work { work.new ≡ record work.old { joins = work.old.joins + 1 } }
     {
         join_rows(&mut self.threads, thread.0 as usize, other.0 as usize, work);
     }
 
-    // A forked thread has the clocks of the thread that forked it.
+    // A forked thread has the strict clock of the thread that forked it.
     pub(crate) fn give_thread(&mut self, thread: ThreadId, child: ThreadId)
         requires room { HasThread self.old thread.0 }
         requires child_room { HasThread self.old child.0 }
@@ -202,14 +182,9 @@ impl StrictRows {
         ensures threads { (strict_of self.new).thread ≡ with_row child.0
             ((strict_of self.old).thread thread.0) (strict_of self.old).thread }
         ensures locks { (strict_of self.new).lock ≡ (strict_of self.old).lock }
-        ensures below { below_of self.new ≡ with_row child.0 (below_of self.old thread.0)
-            (below_of self.old) }
         ensures kept { SameRoom self.old self.new }
     {
-        let from = thread.0 as usize;
-        let to = child.0 as usize;
-        copy_rows(&mut self.threads, to, from);
-        copy_rows(&mut self.below, to, from);
+        copy_rows(&mut self.threads, child.0 as usize, thread.0 as usize);
     }
 
     // The lock has the strict clock of the thread that released it.
@@ -219,7 +194,6 @@ impl StrictRows {
         ensures threads { (strict_of self.new).thread ≡ (strict_of self.old).thread }
         ensures locks { (strict_of self.new).lock ≡ with_row lock.0 ((strict_of self.old).thread thread.0)
             (strict_of self.old).lock }
-        ensures below { below_of self.new ≡ below_of self.old }
         ensures kept { SameRoom self.old self.new }
     {
         copy_row(
@@ -228,71 +202,4 @@ impl StrictRows {
             &self.threads[thread.0 as usize],
         );
     }
-
-    // The thread's clock with program order, made again from its strict clock.
-    pub(crate) fn follow(&mut self, thread: ThreadId, hb: &HbClocks)
-        requires room { HasThread self.old thread.0 }
-        requires within { thread.0 < self.old.width }
-        requires wide { hb.now.width ≡ self.old.width }
-        ensures strict { strict_of self.new ≡ strict_of self.old }
-        ensures below { below_of self.new ≡ with_row thread.0
-            (join ((strict_of self.old).thread thread.0) ((hb_state hb.now).po thread.0))
-            (below_of self.old) }
-        ensures kept { SameRoom self.old self.new }
-    {
-        let at = thread.0 as usize;
-        follow_row(&mut self.below, at, &self.threads[at], thread, hb);
-    }
-
-    // The thread's clock with program order, where its strict clock has not changed: its own event.
-    pub(crate) fn count_own(&mut self, thread: ThreadId)
-        requires room { HasThread self.old thread.0 }
-        requires within { thread.0 < self.old.width }
-        requires few { below_of self.old thread.0 thread.0 + 1 < 2 ^ 64 }
-        ensures strict { strict_of self.new ≡ strict_of self.old }
-        ensures below { below_of self.new ≡ with_row thread.0
-            (bump thread.0 (below_of self.old thread.0)) (below_of self.old) }
-        ensures kept { SameRoom self.old self.new }
-    {
-        bump_row(&mut self.below, thread);
-    }
-
-    // The thread's clock with program order, after its event: made again where its strict clock has changed,
-    // and else with that event more.
-    pub(crate) fn count_event(&mut self, thread: ThreadId, hb: &HbClocks, changed: bool)
-        requires room { HasThread self.old thread.0 }
-        requires within { thread.0 < self.old.width }
-        requires wide { hb.now.width ≡ self.old.width }
-        requires few { below_of self.old thread.0 thread.0 + 1 < 2 ^ 64 }
-        requires unchanged { changed ≡ false → bump thread.0 (below_of self.old thread.0)
-            ≡ join ((strict_of self.old).thread thread.0) ((hb_state hb.now).po thread.0) }
-        ensures strict { strict_of self.new ≡ strict_of self.old }
-        ensures below { below_of self.new ≡ with_row thread.0
-            (join ((strict_of self.old).thread thread.0) ((hb_state hb.now).po thread.0))
-            (below_of self.old) }
-        ensures kept { SameRoom self.old self.new }
-    {
-        if changed {
-            self.follow(thread, hb);
-        } else {
-            self.count_own(thread);
-        }
-    }
-}
-
-// The row becomes the strict clock, and takes the greater numbers of the thread's program order.
-fn follow_row(rows: &mut [Clock], at: usize, strict: &Clock, thread: ThreadId, hb: &HbClocks)
-    requires room { at < length rows.old }
-    requires wide { widths_of rows.old at ≡ length strict.now }
-    requires within { thread.0 < hb.now.width }
-    requires widths { length strict.now ≡ hb.now.width }
-    ensures rows { rows_of rows.new ≡ with_row at
-        (join (counts_of strict.now) ((hb_state hb.now).po thread.0))
-        (rows_of rows.old) }
-    ensures widths { widths_of rows.new
-        ≡ widths_of rows.old }
-{
-    let row = &mut rows[at];
-    row.copy_from(strict);
-    hb.raise(thread, row);
 }

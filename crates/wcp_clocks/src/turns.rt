@@ -1,5 +1,5 @@
 //! The step of an event, by what the event is to the clocks.
-ghost use Rattle.std.specs.Prelude.{◌≡◌, ℕ, ◌+◌, ◌*◌, ◌<◌, ◌≤◌, ◌^◌, ◌||◌, length, false};
+ghost use Rattle.std.specs.Prelude.{◌≡◌, ℕ, ◌+◌, ◌*◌, ◌<◌, ◌≤◌, ◌^◌, ◌||◌, length};
 ghost use Rattle.event_core.specs.declared.events.Op.TheVariants.{Acquire, Release};
 ghost use Rattle.event_core.specs.Turn.{Accesses, Opens, Closes, Forks, Joins, Inner};
 ghost use Rattle.section_sum.specs.Sums.{HasRoom, IsAlone, KeepsRoom, SameOthers, noted_of, is_access};
@@ -14,7 +14,7 @@ ghost use Rattle.event_core.specs.Rows.{join, with_row};
 ghost use Rattle.event_core.specs.Closed.{below_closed, number_counted};
 ghost use Rattle.lock_queues.specs.Queues.{closed_of, opened_of, found_of};
 ghost use Rattle.lock_queues.specs.Searched.{CountsEarlier, FindsCounted};
-ghost use Rattle.wcp_clocks.specs.StrictRows.{strict_of, below_of, HasThread, SameRoom};
+ghost use Rattle.wcp_clocks.specs.StrictRows.{strict_of, HasThread, SameRoom};
 
 use crate::parts::Parts;
 use crate::sources::take_sources;
@@ -85,7 +85,7 @@ pub(crate) fn access(parts: &mut Parts, event: &Event, var: VarId, kind: AccessK
 {
     let thread = event.thread;
     let held = parts.held.of(thread);
-    let taken = meet_sections(
+    meet_sections(
         &mut parts.rows,
         &mut parts.sums,
         &parts.queues,
@@ -96,11 +96,10 @@ pub(crate) fn access(parts: &mut Parts, event: &Event, var: VarId, kind: AccessK
         &mut parts.work,
     );
     parts.hb.advance(event, &mut parts.work);
-    parts.rows.count_event(thread, &parts.hb, taken);
 }
 
 // The access in the sections that are open at it: by rule (a) its strict clock takes the sources under
-// each lock, and it is noted in each. Tells whether a clock was taken.
+// each lock, and it is noted in each.
 fn meet_sections(
     rows: &mut StrictRows,
     sums: &mut Summaries,
@@ -110,7 +109,7 @@ fn meet_sections(
     var: VarId,
     kind: AccessKind,
     work: &mut Work,
-) -> bool
+)
     requires room { HasThread rows.old thread.0 }
     requires places { HasRoom sums.old held.now var.0 }
     requires alone { IsAlone sums.old thread.0 held.now }
@@ -125,8 +124,6 @@ fn meet_sections(
         (numbers_of held.now)))
         (strict_of rows.old).thread }
     ensures locks { (strict_of rows.new).lock ≡ (strict_of rows.old).lock }
-    ensures below { below_of rows.new ≡ below_of rows.old }
-    ensures none { result ≡ false → (strict_of rows.new).thread ≡ (strict_of rows.old).thread }
     ensures kept { SameRoom rows.old rows.new }
     ensures noted { (t l v : ℕ) (k : Kind) → noted_of sums.new t l v k
         ≡ (noted_of sums.old t l v k || is_access thread.0 held.now var.0 kind t l v k) }
@@ -135,9 +132,8 @@ fn meet_sections(
     ensures joins { work.new.joins ≤ work.old.joins + 2 * length held.now }
     ensures comparisons { work.new.comparisons ≡ work.old.comparisons }
 {
-    let taken = take_sources(rows, sums, queues, thread, held, var, kind, work);
+    take_sources(rows, sums, queues, thread, held, var, kind, work);
     sums.note(thread, held, var, kind);
-    taken
 }
 
 // An outer acquire: its clocks take those of the lock, and a section is opened.
@@ -151,7 +147,6 @@ pub(crate) fn open(parts: &mut Parts, event: &Event, lock: LockId)
     let thread = event.thread;
     parts.rows.take_lock(thread, lock, &mut parts.work);
     parts.hb.advance(event, &mut parts.work);
-    parts.rows.follow(thread, &parts.hb);
     parts.queues.enter(thread, lock, parts.hb.mark(thread));
     parts.held.add(thread, lock);
 }
@@ -166,7 +161,7 @@ pub(crate) fn close(parts: &mut Parts, event: &Event, lock: LockId)
     ensures { IsStepBy event.now (Closes lock) parts.old parts.new }
 {
     let thread = event.thread;
-    let taken = take_closed(
+    take_closed(
         &mut parts.rows,
         &mut parts.queues,
         thread,
@@ -174,7 +169,6 @@ pub(crate) fn close(parts: &mut Parts, event: &Event, lock: LockId)
         &mut parts.work,
     );
     parts.hb.advance(event, &mut parts.work);
-    parts.rows.count_event(thread, &parts.hb, taken);
     parts.rows.give_lock(thread, lock);
     let clock = parts.hb.hb(thread);
     parts.queues.leave(thread, lock, clock);
@@ -192,7 +186,6 @@ pub(crate) fn fork(parts: &mut Parts, event: &Event, child: ThreadId)
 {
     let thread = event.thread;
     parts.hb.advance(event, &mut parts.work);
-    parts.rows.count_own(thread);
     parts.rows.give_thread(thread, child);
 }
 
@@ -207,7 +200,6 @@ pub(crate) fn join(parts: &mut Parts, event: &Event, child: ThreadId)
     let thread = event.thread;
     parts.rows.take_thread(thread, child, &mut parts.work);
     parts.hb.advance(event, &mut parts.work);
-    parts.rows.follow(thread, &parts.hb);
 }
 
 // An inner acquire or release is its thread's next event, and nothing else.
@@ -219,18 +211,17 @@ pub(crate) fn count_inner(parts: &mut Parts, event: &Event)
     ensures { IsStepBy event.now Inner parts.old parts.new }
 {
     parts.hb.advance(event, &mut parts.work);
-    parts.rows.count_own(event.thread);
 }
 
 // The thread's strict clock takes the release clock of the latest section on the lock whose acquire it
-// counts, if there is one that it does not count already. Tells whether a clock was taken.
+// counts, if there is one that it does not count already.
 fn take_closed(
     rows: &mut StrictRows,
     queues: &mut Queues,
     thread: ThreadId,
     lock: LockId,
     work: &mut Work,
-) -> bool
+)
     requires room { HasThread rows.old thread.0 }
     requires entered { 0 < opened_of queues.old thread.0 lock.0 }
     requires wide { queues.old.limits.threads ≡ rows.old.width }
@@ -245,8 +236,6 @@ fn take_closed(
         (below_closed ((strict_of rows.old).thread thread.0) (closed_of queues.old lock.0)))
         (strict_of rows.old).thread }
     ensures locks { (strict_of rows.new).lock ≡ (strict_of rows.old).lock }
-    ensures below { below_of rows.new ≡ below_of rows.old }
-    ensures none { result ≡ false → (strict_of rows.new).thread ≡ (strict_of rows.old).thread }
     ensures kept { SameRoom rows.old rows.new }
     ensures found { FindsCounted queues.old queues.new thread.0 lock.0
         (number_counted ((strict_of rows.old).thread thread.0) (closed_of queues.old lock.0)) }
@@ -256,12 +245,9 @@ fn take_closed(
         + number_counted ((strict_of rows.old).thread thread.0) (closed_of queues.old lock.0) + 1 }
 {
     let latest = queues.last_below(thread, lock, rows.strict(thread), work);
-    let Some(section) = latest else {
-        return false;
-    };
-    if rows.counts(thread, section.by, section.own) {
-        return false;
+    if let Some(section) = latest {
+        if !rows.counts(thread, section.by, section.own) {
+            rows.take_release(thread, section.by, section.before, work);
+        }
     }
-    rows.take_release(thread, section.by, section.before, work);
-    true
 }

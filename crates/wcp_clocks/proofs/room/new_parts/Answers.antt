@@ -15,7 +15,7 @@ returns-clause-parts c =
       held = c.new-held.result;
       work = c.in_ok-hb.work;
     }) c.args.limits.now.threads c.in_ok-hb.ensures.width c.in_ok-hb.ensures.empty
-    (c.in_ok-rows.ensures.width ∙ c.threads.ensures.is) c.in_ok-rows.ensures.strict c.in_ok-rows.ensures.below
+    (c.in_ok-rows.ensures.width ∙ c.threads.ensures.is) c.in_ok-rows.ensures.strict
     (ap (λ (b : Bounds). b.threads) c.in_ok-queues.ensures.limits)
     c.new-sums.ensures.no_others (λ l. ap (λ (f : ℕ → List Closed). f l) c.in_ok-queues.ensures.closed)
     c.in_ok-rows.ensures.no_thread c.in_ok-rows.ensures.no_lock

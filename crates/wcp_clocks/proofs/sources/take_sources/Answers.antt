@@ -1,6 +1,4 @@
-use Rattle.std.proofs.Common.{◌≡◌, ℕ, List, Bool, true, false, ◌||◌, length, take, get_or, sym, subst, ◌∙◌}
-use Rattle.std.proofs.Common.{arith}
-use Rattle.std.proofs.Common.{refl}
+use Rattle.std.proofs.Common.{◌≡◌, ℕ, List, length, take, get_or, sym, subst, ◌∙◌, arith}
 use Rattle.std.proofs.lemmas.List.{map_more, length-map, length-take-le}
 use Rattle.event_core.specs.declared.ids.LockId.{LockId}
 use Rattle.event_core.specs.Closed.{Closed}
@@ -11,16 +9,16 @@ use Rattle.wcp_clocks.proofs.Taking.{HasTaken, taken_begins, sources_whole, take
 use Rattle.wcp_clocks.proofs.sources.take_sources.Goals as goal
 
 pub loop-lock-init : goal.loop-lock-init
-loop-lock-init c = taken_begins _ _ _ _ _ _ _ c.requires.whole
+loop-lock-init c = taken_begins _ _ _ _ _ _ c.requires.whole
 
-pub take_under-taken-requires-clause-room : goal.take_under-taken-requires-clause-room
-take_under-taken-requires-clause-room c = c.loop-lock.invariant.kept.thread c.args.thread.0 c.requires.room
+pub take_under-requires-clause-room : goal.take_under-requires-clause-room
+take_under-requires-clause-room c = c.loop-lock.invariant.kept.thread c.args.thread.0 c.requires.room
 
-pub take_under-taken-requires-clause-wide : goal.take_under-taken-requires-clause-wide
-take_under-taken-requires-clause-wide c = c.requires.wide ∙ sym c.loop-lock.invariant.kept.width
+pub take_under-requires-clause-wide : goal.take_under-requires-clause-wide
+take_under-requires-clause-wide c = c.requires.wide ∙ sym c.loop-lock.invariant.kept.width
 
-pub take_under-taken-requires-clause-few : goal.take_under-taken-requires-clause-few
-take_under-taken-requires-clause-few c =
+pub take_under-requires-clause-few : goal.take_under-requires-clause-few
+take_under-requires-clause-few c =
     let i : ℕ = c.loop-lock.lock-index in
     let n : length (numbers_of (take i c.args.held.now)) ≡ length (take i c.args.held.now) =
     length-map (take i c.args.held.now) (λ (l : LockId). l.0) in
@@ -29,27 +27,20 @@ take_under-taken-requires-clause-few c =
     let j = c.loop-lock.invariant.joins in
     let few = c.requires.few in omega arith
 
-both_false : (a b : Bool) → (a || b) ≡ false → (a ≡ false) × (b ≡ false)
-both_false false b e = (refl, e)
-both_false true b e = absurd (cc e)
-
 pub loop-lock-preserved : goal.loop-lock-preserved
 loop-lock-preserved c =
     let l : LockId = get_or c.args.held.now c.loop-lock.lock-index (record { 0 = 0 }) in
     let t : ℕ = c.args.thread.0 in
     let closed : ℕ → List Closed = closed_of c.args.queues.now in
     let source : ℕ → ℕ → ℕ = met_under (met_clocks c.args.sums.now closed) c.args.var.0 c.args.kind t in
-    let e = c.take_under-taken.ensures in
-    subst (λ ns. HasTaken c.args.sums.now closed t source c.args.rows.now c.take_under-taken.new.rows
+    let e = c.take_under.ensures in
+    subst (λ ns. HasTaken c.args.sums.now closed t source c.args.rows.now c.take_under.new.rows
     c.args.work.now
-    c.take_under-taken.new.work ns (c.loop-lock.taken || c.take_under-taken.result))
+    c.take_under.new.work ns)
     (sym (map_more (λ (m : LockId). m.0) c.args.held.now c.loop-lock.lock-index
     (record { 0 = 0 }) c.loop-lock-test.true))
-    (taken_on c.args.sums.now closed t source c.args.rows.now c.loop-lock.rows c.take_under-taken.new.rows
-    c.args.work.now c.loop-lock.work c.take_under-taken.new.work (numbers_of
+    (taken_on c.args.sums.now closed t source c.args.rows.now c.loop-lock.rows c.take_under.new.rows
+    c.args.work.now c.loop-lock.work c.take_under.new.work (numbers_of
     (take c.loop-lock.lock-index c.args.held.now)) l.0
-    c.loop-lock.taken c.take_under-taken.result (c.loop-lock.taken || c.take_under-taken.result)
     (sources_whole c.args.sums.now closed l.0 c.args.var.0 t c.args.kind c.requires.releases)
-    c.loop-lock.invariant e.threads e.locks e.below e.kept e.none
-    (both_false c.loop-lock.taken c.take_under-taken.result)
-    e.joins e.comparisons)
+    c.loop-lock.invariant e.threads e.locks e.kept e.joins e.comparisons)

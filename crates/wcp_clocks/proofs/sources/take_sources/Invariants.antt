@@ -8,4 +8,4 @@ use Rattle.wcp_clocks.proofs.sources.take_sources.Given as goal
 abbrev pub invariant-loop-lock : goal.invariant-loop-lock
 invariant-loop-lock l = HasTaken l.sums (closed_of l.queues) l.thread.0
     (met_under (met_clocks l.sums (closed_of l.queues)) l.var.0 l.kind l.thread.0) l.fn.rows l.rows
-    l.fn.work l.work (numbers_of (take l.lock-index l.held)) l.taken
+    l.fn.work l.work (numbers_of (take l.lock-index l.held))

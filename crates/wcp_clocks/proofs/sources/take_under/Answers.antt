@@ -1,4 +1,4 @@
-use Rattle.std.proofs.Common.{◌≡◌, ◌+◌, ◌<◌, ◌≤◌, ℕ, false, List, sym, ap, subst, ◌∙◌}
+use Rattle.std.proofs.Common.{◌≡◌, ◌+◌, ◌<◌, ◌≤◌, ℕ, List, sym, ap, subst, ◌∙◌}
 use Rattle.std.proofs.Common.{arith}
 use Rattle.std.proofs.lemmas.Bool.{leb-true}
 use Rattle.std.proofs.lemmas.List.Elements.{All-head}
@@ -29,10 +29,10 @@ loop-number-init c =
     let source = met_under (met_clocks sums closed) c.args.var.0 c.args.kind t c.args.lock.0 in
     let s = c.sources-number-items in
     subst (λ (r : Sources). IsTaking sums closed c.args.lock.0 c.args.var.0 t source c.args.rows.now
-    c.args.rows.now c.args.work.now c.args.work.now (left r) false)
+    c.args.rows.now c.args.work.now c.args.work.now (left r))
     (sym c.into_iter-number-iterator.ensures.into_iter_gives)
     (taking_begins sums closed c.args.lock.0 c.args.var.0 t c.args.kind c.args.rows.now c.args.work.now
-    (left s.result) false s.ensures.exact
+    (left s.result) s.ensures.exact
     (let a = s.ensures.at_most in let b = at_most_two c.args.kind in omega arith) c.requires.whole)
 
 pub loop-number-preserved-then-not-counts : goal.loop-number-preserved-then-not-counts
@@ -48,15 +48,15 @@ loop-number-preserved-then-not-counts c =
     let now = c.loop-number.rows in
     let e = c.take_release.ensures in
     let here = subst (λ ns. IsTaking sums closed l x t source c.args.rows.now now c.args.work.now
-    c.loop-number.work ns c.loop-number.taken) c.in-Some.ensures.steps c.loop-number.invariant in
+    c.loop-number.work ns) c.in-Some.ensures.steps c.loop-number.invariant in
     let some : 0 < n = (All-head (IsMet sums l x t) n rest here.met).some in
     let clock : bump c.section-section.result.by.0 (counts_of c.section-section.result.before.now)
     ≡ release_at (closed l) n
     = c.section-section.ensures.release ∙ release_is (closed l) n some in
     taking_on sums closed l x t source c.args.rows.now now c.take_release.new.self c.args.work.now
-    c.loop-number.work c.take_release.new.work n rest c.loop-number.taken c.requires.releases here
+    c.loop-number.work c.take_release.new.work n rest c.requires.releases here
     (e.threads ∙ ap (λ g. with_row t (join (rows_of now.thread t) g) (rows_of now.thread)) clock)
-    e.locks e.below e.kept e.work
+    e.locks e.kept e.work
 
 pub loop-number-preserved : goal.loop-number-preserved
 loop-number-preserved c =
@@ -70,7 +70,7 @@ loop-number-preserved c =
     let source = met_under (met_clocks sums closed) x c.args.kind t l in
     let now = c.loop-number.rows in
     let here = subst (λ ns. IsTaking sums closed l x t source c.args.rows.now now c.args.work.now
-    c.loop-number.work ns c.loop-number.taken) c.in-Some.ensures.steps c.loop-number.invariant in
+    c.loop-number.work ns) c.in-Some.ensures.steps c.loop-number.invariant in
     let some : 0 < n = (All-head (IsMet sums l x t) n rest here.met).some in
     let by : c.section-section.result.by.0 ≡ thread_at (closed l) n
     = c.section-section.ensures.by ∙ thread_is (closed l) n some in
@@ -82,7 +82,7 @@ loop-number-preserved c =
     = bump_same c.section-section.result.by.0 (counts_of c.section-section.result.before.now)
     ∙ ap (λ n. n + 1) (sym c.section-section.ensures.own) in
     taking_past sums closed l x t source c.args.rows.now now c.args.work.now c.loop-number.work n rest
-    c.loop-number.taken c.requires.numbers here
+    c.requires.numbers here
     (subst (λ b. release_at (closed l) n b ≤ rows_of now.thread t b) by
     (subst (λ (g : ℕ → ℕ). g c.section-section.result.by.0
     ≤ rows_of now.thread t c.section-section.result.by.0) clock

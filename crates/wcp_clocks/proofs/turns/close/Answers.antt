@@ -1,5 +1,5 @@
 use Rattle.std.proofs.Common.{◌≡◌, ℕ, suc, ◌≤◌, ◌<◌, ◌++◌, ◌∷◌, [], List, length, length-append, ap, ap₂, sym}
-use Rattle.std.proofs.Common.{subst, ◌∙◌, arith, refl}
+use Rattle.std.proofs.Common.{subst, ◌∙◌, arith}
 use Rattle.event_core.specs.Closed.{Closed, Has}
 use Rattle.event_core.specs.Rows.{with_row}
 use Rattle.event_core.specs.Turn.{Turn, Closes}
@@ -13,7 +13,6 @@ use Rattle.wcp_clocks.specs.Met.{met_clocks}
 use Rattle.wcp_laws.specs.Step.{hb_row}
 use Rattle.wcp_clocks.specs.Parts.{hb_of, state_of}
 use Rattle.wcp_clocks.proofs.Taking.{room_then}
-use Rattle.wcp_clocks.proofs.OwnClocks.{few_below, followed_below, unchanged_clock}
 use Rattle.wcp_clocks.proofs.TurnWords.{own_happens_before, closed_noted}
 use Rattle.wcp_clocks.proofs.Closing.{closing_clocks, closing_numbers}
 use Rattle.wcp_clocks.proofs.Closing.{before_closing, counts_itself}
@@ -24,16 +23,16 @@ pub count-requires : goal.count-requires
 count-requires c =
     let l : ℕ = c.args.lock.0 in
     let few = c.requires.fits.few_closed c.args.lock c.requires.turn in
-    let was = ap (λ (f : ℕ → List Closed). length (f l)) c.take_closed-taken.ensures.found.closed in
+    let was = ap (λ (f : ℕ → List Closed). length (f l)) c.take_closed.ensures.found.closed in
     let at = ap (λ (f : ℕ → List Closed). length (f l)) c.leave.ensures.closed
-    ∙ ap (λ (qs : List Closed). length qs) (row_same l _ (closed_of c.take_closed-taken.new.queues))
-    ∙ length-append (closed_of c.take_closed-taken.new.queues l) _ in
+    ∙ ap (λ (qs : List Closed). length qs) (row_same l _ (closed_of c.take_closed.new.queues))
+    ∙ length-append (closed_of c.take_closed.new.queues l) _ in
     omega arith
 
 pub leave-requires-clause-entered : goal.leave-requires-clause-entered
 leave-requires-clause-entered c =
     subst (λ (f : ℕ → ℕ → ℕ). 0 < f c.args.event.now.thread.0 c.args.lock.0)
-    (sym c.take_closed-taken.ensures.found.opened) (c.requires.fits.sound.opened c.args.lock c.requires.turn)
+    (sym c.take_closed.ensures.found.opened) (c.requires.fits.sound.opened c.args.lock c.requires.turn)
 
 pub leave-requires-clause-above : goal.leave-requires-clause-above
 leave-requires-clause-above c q u has =
@@ -42,7 +41,7 @@ leave-requires-clause-above c q u has =
     ∙ own_happens_before c.args.event.now (hb_of c.args.parts.now) _ c.advance.ensures.exact))
     (c.requires.fits.sound.above_closed c.args.lock q (record { 0 = u }) c.requires.turn
     (subst (λ (f : ℕ → List Closed). Has q (f c.args.lock.0))
-    c.take_closed-taken.ensures.found.closed has))
+    c.take_closed.ensures.found.closed has))
 
 pub leave-requires-clause-counted : goal.leave-requires-clause-counted
 leave-requires-clause-counted c =
@@ -62,23 +61,8 @@ leave-requires-clause-few c u =
     let few = c.requires.fits.few_counts u in
     omega arith)
 
-pub count_event-requires-clause-few : goal.count_event-requires-clause-few
-count_event-requires-clause-few c =
-    few_below c.args.event.now c.args.parts.now c.requires.fits c.requires.parts c.take_closed-taken.new.rows
-    c.take_closed-taken.ensures.below
-
-pub count_event-requires-clause-unchanged : goal.count_event-requires-clause-unchanged
-count_event-requires-clause-unchanged c none =
-    let e = c.args.event.now in
-    let old = c.args.parts.now in
-    let k : Turn = Closes c.args.lock in
-    let taken = c.take_closed-taken in
-    unchanged_clock e k old taken.new.rows c.advance.new.self c.requires.turn refl
-    (own_written e k old taken.new.rows taken.ensures.threads) (taken.ensures.none none) c.requires.fits
-    c.requires.parts c.advance.ensures.exact taken.ensures.below
-
-pub take_closed-taken-requires-clause-whole : goal.take_closed-taken-requires-clause-whole
-take_closed-taken-requires-clause-whole c = (c.requires.parts.whole.strict c.args.event.now.thread.0).whole
+pub take_closed-requires-clause-whole : goal.take_closed-requires-clause-whole
+take_closed-requires-clause-whole c = (c.requires.parts.whole.strict c.args.event.now.thread.0).whole
 
 pub returns : goal.returns
 returns c =
@@ -87,9 +71,8 @@ returns c =
     let k : Turn = Closes c.args.lock in
     let t : ℕ = e.thread.0 in
     let l : ℕ = c.args.lock.0 in
-    let taken = c.take_closed-taken in
+    let taken = c.take_closed in
     let left = c.leave.ensures in
-    let strict = c.count_event.ensures.strict in
     let own = own_written e k old taken.new.rows taken.ensures.threads in
     let g = c.hb-clock.ensures.exact ∙ own_happens_before e (hb_of old) _ c.advance.ensures.exact in
     let q : Closed = record {
@@ -101,8 +84,7 @@ returns c =
     ≡ with_row l (closed_of old.queues l ++ q ∷ []) (closed_of old.queues)
     = left.closed ∙ ap (λ (f : ℕ → List Closed). with_row l (f l ++ q ∷ []) f) taken.ensures.found.closed in
     let next : c.count.result ≡ suc (length (closed_of old.queues l))
-    = (let n = c.count_event.ensures in
-    let w = ap (λ (f : ℕ → List Closed). length (f l)) longer
+    = (let w = ap (λ (f : ℕ → List Closed). length (f l)) longer
     ∙ ap (λ (qs : List Closed). length qs) (row_same l (closed_of old.queues l ++ q ∷ [])
     (closed_of old.queues))
     ∙ length-append (closed_of old.queues l) (q ∷ []) in
@@ -114,13 +96,9 @@ returns c =
     record {
       hb = c.advance.ensures.exact;
       order_room = c.advance.ensures.kept;
-      threads = c.give_lock.ensures.threads ∙ ap (λ r. r.thread) strict ∙ taken.ensures.threads;
+      threads = c.give_lock.ensures.threads ∙ taken.ensures.threads;
       locks = c.give_lock.ensures.locks
-          ∙ ap₂ (λ (a : ℕ → ℕ) (f : ℕ → ℕ → ℕ). with_row l a f)
-          (ap (λ r. r.thread t) strict ∙ own) (ap (λ r. r.lock) strict ∙ taken.ensures.locks);
-      below = c.give_lock.ensures.below ∙ c.count_event.ensures.below
-          ∙ followed_below e k old taken.new.rows c.advance.new.self own c.advance.ensures.exact
-          taken.ensures.below;
+          ∙ ap₂ (λ (a : ℕ → ℕ) (f : ℕ → ℕ → ℕ). with_row l a f) own taken.ensures.locks;
       opened = left.opened
           ∙ ap (λ (f : ℕ → ℕ → ℕ). with_row t (with_row l 0 (f t)) f) taken.ensures.found.opened;
       held = c.remove.ensures.held;
@@ -148,7 +126,6 @@ returns c =
           ∙ row_same t _ (found_of old.queues l) in
           omega arith);
       room = room_then old.rows taken.new.rows c.give_lock.new.self taken.ensures.kept
-          (room_then taken.new.rows c.count_event.new.self c.give_lock.new.self c.count_event.ensures.kept
-          c.give_lock.ensures.kept);
+          c.give_lock.ensures.kept;
       limits = record { width = c.advance.ensures.width; limits = left.limits ∙ taken.ensures.found.limits };
     }

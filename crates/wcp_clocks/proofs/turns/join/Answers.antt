@@ -1,9 +1,7 @@
 use Rattle.std.proofs.Common.{ap, ◌∙◌, arith, refl}
 use Rattle.event_core.specs.Turn.{Turn, Joins}
 use Rattle.hb_clocks.specs.Work.{Done}
-use Rattle.wcp_clocks.proofs.Taking.{room_then}
-use Rattle.wcp_clocks.proofs.OwnClocks.{followed_below}
-use Rattle.wcp_clocks.proofs.Passing.{own_written, joins_told}
+use Rattle.wcp_clocks.proofs.Passing.{joins_told}
 use Rattle.wcp_clocks.proofs.turns.join.Goals as goal
 
 pub advance-requires-clause-work : goal.advance-requires-clause-work
@@ -17,15 +15,11 @@ returns c =
     let old = c.args.parts.now in
     let k : Turn = Joins c.args.child in
     let taken = c.take_thread in
-    let strict = c.follow.ensures.strict in
     record {
       hb = c.advance.ensures.exact;
       order_room = c.advance.ensures.kept;
-      threads = ap (λ r. r.thread) strict ∙ taken.ensures.threads;
-      locks = ap (λ r. r.lock) strict ∙ taken.ensures.locks;
-      below = c.follow.ensures.below ∙ followed_below e k old taken.new.self c.advance.new.self
-          (own_written e k old taken.new.self taken.ensures.threads) c.advance.ensures.exact
-          taken.ensures.below;
+      threads = taken.ensures.threads;
+      locks = taken.ensures.locks;
       opened = refl;
       held = refl;
       noted = refl;
@@ -39,6 +33,6 @@ returns c =
           omega arith);
       comparisons = ap (λ (d : Done). d.comparisons) c.advance.ensures.work
           ∙ ap (λ (d : Done). d.comparisons) taken.ensures.work;
-      room = room_then old.rows taken.new.self c.follow.new.self taken.ensures.kept c.follow.ensures.kept;
+      room = taken.ensures.kept;
       limits = record { width = c.advance.ensures.width; limits = refl };
     }

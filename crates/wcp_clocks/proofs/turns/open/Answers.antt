@@ -6,10 +6,8 @@ use Rattle.lock_queues.specs.Queues.{opened_of}
 use Rattle.wcp_laws.specs.Step.{hb_row}
 use Rattle.wcp_clocks.specs.Met.{met_clocks, AreNumbers}
 use Rattle.wcp_clocks.specs.Parts.{hb_of, state_of}
-use Rattle.wcp_clocks.proofs.Taking.{room_then}
-use Rattle.wcp_clocks.proofs.OwnClocks.{followed_below}
 use Rattle.wcp_clocks.proofs.TurnWords.{own_program_order, own_counted}
-use Rattle.wcp_clocks.proofs.Passing.{own_written, joins_told}
+use Rattle.wcp_clocks.proofs.Passing.{joins_told}
 use Rattle.wcp_clocks.proofs.turns.open.Goals as goal
 
 pub advance-requires-clause-work : goal.advance-requires-clause-work
@@ -27,7 +25,6 @@ returns c =
     let k : Turn = Opens c.args.lock in
     let t : ℕ = e.thread.0 in
     let taken = c.take_lock in
-    let strict = c.follow.ensures.strict in
     let position : c.mark.result.position ≡ hb_row e (state_of old) t =
     ap (λ m. m.position) c.mark.ensures.exact
     ∙ ap (λ (f : ℕ → ℕ). f t) (own_program_order e (hb_of old) _ c.advance.ensures.exact)
@@ -35,11 +32,8 @@ returns c =
     record {
       hb = c.advance.ensures.exact;
       order_room = c.advance.ensures.kept;
-      threads = ap (λ r. r.thread) strict ∙ taken.ensures.threads;
-      locks = ap (λ r. r.lock) strict ∙ taken.ensures.locks;
-      below = c.follow.ensures.below ∙ followed_below e k old taken.new.self c.advance.new.self
-          (own_written e k old taken.new.self taken.ensures.threads) c.advance.ensures.exact
-          taken.ensures.below;
+      threads = taken.ensures.threads;
+      locks = taken.ensures.locks;
       opened = c.enter.ensures.opened
           ∙ ap (λ (n : ℕ). with_row t (with_row c.args.lock.0 n (opened_of old.queues t))
           (opened_of old.queues))
@@ -56,6 +50,6 @@ returns c =
           omega arith);
       comparisons = ap (λ (d : Done). d.comparisons) c.advance.ensures.work
           ∙ ap (λ (d : Done). d.comparisons) taken.ensures.work;
-      room = room_then old.rows taken.new.self c.follow.new.self taken.ensures.kept c.follow.ensures.kept;
+      room = taken.ensures.kept;
       limits = record { width = c.advance.ensures.width; limits = c.enter.ensures.limits };
     }

@@ -12,8 +12,8 @@ use Rattle.wcp_clocks.proofs.Releasing.{counted_latest}
 use Rattle.wcp_clocks.proofs.Rows.{row_kept}
 use Rattle.wcp_clocks.proofs.turns.take_closed.Goals as goal
 
-pub returns-then-counts-clause-threads : goal.returns-then-counts-clause-threads
-returns-then-counts-clause-threads c =
+pub returns-else-not-counts-clause-threads : goal.returns-else-not-counts-clause-threads
+returns-else-not-counts-clause-threads c =
     let t : ℕ = c.args.thread.0 in
     let l : ℕ = c.args.lock.0 in
     let rows : ℕ → ℕ → ℕ = rows_of c.args.rows.now.thread in
@@ -27,7 +27,7 @@ returns-then-counts-clause-threads c =
     let own : g by ≡ c.in-Some.section.own + 1
     = bump_same by (counts_of c.in-Some.section.before.now) ∙ ap (λ n. n + 1) (sym c.in-Some.ensures.own) in
     let counted : g by ≤ rows t by
-    = subst (λ n. n ≤ rows t by) (sym own) (leb-true _ _ (sym c.counts.ensures ∙ c.if-counts.true)) in
+    = subst (λ n. n ≤ rows t by) (sym own) (leb-true _ _ (sym c.counts.ensures ∙ c.if-not-counts.false)) in
     row_kept t rows
     ∙ ap (λ (f : ℕ → ℕ). with_row t f rows)
     (counted_latest closed l by (rows t) g c.requires.whole latest below counted)

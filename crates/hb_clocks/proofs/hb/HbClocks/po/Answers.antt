@@ -1,4 +1,4 @@
-use Rattle.std.proofs.Common.{ap, sym, subst, ◌∙◌}
+use Rattle.std.proofs.Common.{ℕ, ap, sym, subst, ◌∙◌}
 use Rattle.event_core.specs.Order.{Po}
 use Rattle.event_core.specs.Rows.{Counted}
 use Rattle.hb_clocks.specs.Tables.{Tables, rows_of}
@@ -9,6 +9,9 @@ pub returns-clause-exact : goal.returns-clause-exact
 returns-clause-exact c =
     c.row_or.ensures.counts ∙ ap (λ xs. rows_of xs c.args.thread.0) c.deref.ensures.value
     ∙ ap (λ (v : Tables). rows_of v.po c.args.thread.0) c.self.view_is
+
+pub returns-clause-at : goal.returns-clause-at
+returns-clause-at c u = ap (λ (f : ℕ → ℕ). f u) (returns-clause-exact c)
 
 pub returns-clause-latest : goal.returns-clause-latest
 returns-clause-latest c limits log j w st latest =

@@ -11,7 +11,6 @@ abbrev found : goal.After-self-1 → StrictTables
 found c = record {
   width = c.self.inside.width;
   thread = c.self.inside.threads.items;
-  below = c.self.inside.below.items;
   lock = c.self.inside.locks.items;
 }
 
@@ -22,7 +21,6 @@ same : (c : goal.After-self-1) → SameWidths (found c) (left c)
 same c = record {
   width = refl;
   thread = refl;
-  below = refl;
   lock = ap widths_of (with_items_is c.self.inside.locks c.copy_row.new.rows
       (c.copy_row.auto.rows ∙ c.deref_mut.ensures.len))
       ∙ c.copy_row.ensures.widths ∙ ap widths_of c.deref_mut.ensures.value;

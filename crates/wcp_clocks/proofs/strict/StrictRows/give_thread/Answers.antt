@@ -7,29 +7,24 @@ use Rattle.wcp_clocks.proofs.Kept.{SameWidths, room_kept, tables_kept}
 use Rattle.wcp_clocks.proofs.strict.StrictRows.give_thread.Goals as goal
 
 -- the tables as the step finds and as it leaves them
-abbrev found : goal.After-self-2-1 → StrictTables
+abbrev found : goal.After-self-1 → StrictTables
 found c = record {
   width = c.self.inside.width;
   thread = c.self.inside.threads.items;
-  below = c.self.inside.below.items;
   lock = c.self.inside.locks.items;
 }
 
-abbrev left : goal.After-self-2-1 → StrictTables
+abbrev left : goal.After-self-1 → StrictTables
 left c = record (found c) {
   thread = (with_items c.self.inside.threads c.copy_rows.new.rows).items;
-  below = (with_items c.self.inside.below c.copy_rows-2.new.rows).items;
 }
 
-same : (c : goal.After-self-2-1) → SameWidths (found c) (left c)
+same : (c : goal.After-self-1) → SameWidths (found c) (left c)
 same c = record {
   width = refl;
   thread = ap widths_of (with_items_is c.self.inside.threads c.copy_rows.new.rows
       (c.copy_rows.auto.rows ∙ c.deref_mut.ensures.len))
       ∙ c.copy_rows.ensures.widths ∙ ap widths_of c.deref_mut.ensures.value;
-  below = ap widths_of (with_items_is c.self.inside.below c.copy_rows-2.new.rows
-      (c.copy_rows-2.auto.rows ∙ c.deref_mut-2.ensures.len))
-      ∙ c.copy_rows-2.ensures.widths ∙ ap widths_of c.deref_mut-2.ensures.value;
   lock = refl;
 }
 

@@ -19,4 +19,4 @@ returns-clause-row c has =
     row_is c.args.self.now.thread c.args.thread.0 c.args.self.now.width c.row_or.result.now
     (c.row_or.ensures.width ∙ ap (λ (xs : List ℕ). length xs) c.self.invariant.only_zeros
     ∙ length-replicate c.self.inside.width 0 ∙ ap (λ (s : StrictTables). s.width) c.self.view_is)
-    (returns-clause-counts c) has.strict
+    (returns-clause-counts c) has.made

@@ -11,7 +11,6 @@ abbrev found : goal.After-self-1 → StrictTables
 found c = record {
   width = c.self.inside.width;
   thread = c.self.inside.threads.items;
-  below = c.self.inside.below.items;
   lock = c.self.inside.locks.items;
 }
 
@@ -24,7 +23,6 @@ same c = record {
   thread = ap widths_of (with_items_is c.self.inside.threads c.join_rows.new.rows
       (c.join_rows.auto.rows ∙ c.deref_mut.ensures.len))
       ∙ c.join_rows.ensures.widths ∙ ap widths_of c.deref_mut.ensures.value;
-  below = refl;
   lock = refl;
 }
 
