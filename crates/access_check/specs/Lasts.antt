@@ -1,10 +1,32 @@
 -- The last accesses of one kind to a variable, thread by thread: what a verdict reads in them, and what an
 -- access makes of them.
-use Rattle.std.specs.Prelude.{ℕ, ◌<◌, List, [], ◌∷◌, ◌++◌, Option, Some, None, Bool, nat_eq, nat_lt, ◌||◌}
+use Rattle.std.specs.Prelude.{◌≡◌, ℕ, ◌+◌, ◌<◌, ◌≤◌, List, [], ◌∷◌, ◌++◌, Option, Some, None, Bool}
+use Rattle.std.specs.Prelude.{nat_eq, nat_lt, ◌||◌}
 use Rattle.std.specs.Prelude.{fold, if◌then◌else◌, All, slice_set}
 use Rattle.std.specs.List.{list_any, position}
 use Rattle.event_core.specs.declared.ids.ThreadId.{ThreadId}
 use Rattle.access_check.specs.declared.lasts.Last.{Last}
+
+-- an access of a log that has at most 2^32 events
+pub record IsShort (p : Last) : Type 0 where
+  pub index : p.access.index < 4294967296
+  pub some : 0 < p.access.position
+  pub position : p.access.position ≤ 4294967296
+
+-- the first of the accesses, and those of further threads
+abbrev pub items_of : Option Last → List Last → List Last
+items_of None rest = []
+items_of (Some p) rest = p ∷ rest
+
+-- the room beside the first, where there is room for so many further threads
+abbrev pub room_of : Option Last → ℕ → ℕ
+room_of None further = further + 1
+room_of (Some p) further = further
+
+-- there are further ones only where there is a first
+abbrev pub FollowFirst : Option Last → List Last → Type 0
+FollowFirst None rest = rest ≡ []
+FollowFirst (Some p) rest = Unit {0}
 
 -- what contracts see of a list: the last accesses, and for how many more threads there is room
 pub record LastList : Type 0 where
@@ -12,7 +34,7 @@ pub record LastList : Type 0 where
   pub room : ℕ
 
 abbrev pub no_lasts : LastList
-no_lasts = record { items = []; room = 0 }
+no_lasts = record { items = []; room = 1 }
 
 -- the access is of the thread
 abbrev pub is_of : ThreadId → Last → Bool
@@ -36,9 +58,13 @@ unless_counted count p = if nat_lt count p.access.position then Some p.access.in
 abbrev pub racing : ThreadId → (ℕ → ℕ) → Last → Option ℕ
 racing t clock p = if is_of t p then None else unless_counted (clock p.thread.0) p
 
+-- the latest of those, and of the one that was found before
+abbrev pub latest_from : Option ℕ → ThreadId → (ℕ → ℕ) → List Last → Option ℕ
+latest_from found t clock ps = fold (λ (n : Option ℕ) (p : Last). later n (racing t clock p)) found ps
+
 -- the latest of those
 abbrev pub latest : ThreadId → (ℕ → ℕ) → List Last → Option ℕ
-latest t clock ps = fold (λ (n : Option ℕ) (p : Last). later n (racing t clock p)) None ps
+latest t clock ps = latest_from None t clock ps
 
 -- an access in the place of an earlier one, or at the end
 abbrev pub put_at : Option ℕ → Last → List Last → List Last

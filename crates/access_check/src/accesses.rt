@@ -155,7 +155,8 @@ impl Accesses {
     #[inline(always)]
     fn record(&mut self, event: &Event, index: u64, verdict: Verdict)
         requires room { HasRoom self.old event.now.thread event.now.op }
-        requires few { count_at self.old.counts event.now.thread.0 + 1 < 2 ^ 64 }
+        requires index { index < 2 ^ 32 }
+        requires few { count_at self.old.counts event.now.thread.0 < 2 ^ 32 }
         ensures notes { Notes self.old self.new event.now index verdict }
         ensures kept { KeepsRoom self.old self.new event.now.thread }
     {
@@ -171,7 +172,8 @@ impl Accesses {
     #[inline(always)]
     pub fn note(&mut self, event: &Event, index: u64, verdict: Verdict)
         requires room { HasRoom self.old event.now.thread event.now.op }
-        requires few { count_at self.old.counts event.now.thread.0 + 1 < 2 ^ 64 }
+        requires index { index < 2 ^ 32 }
+        requires few { count_at self.old.counts event.now.thread.0 < 2 ^ 32 }
         ensures exact { Notes self.old self.new event.now index verdict }
         ensures stands { (log : List AnEvent) → Stands log self.old → index ≡ length log
             → WellFormed self.old.limits (log ++ event.now ∷ [])

@@ -1,9 +1,12 @@
-//! The last accesses of one kind to a variable, thread by thread.
-ghost use Rattle.std.specs.Prelude.{◌≡◌, ◌<◌, length};
+//! The last accesses of one kind to a variable, thread by thread. Most variables are touched by one thread
+//! alone, or by one until a store by another: so the first of them stands in the variable's own record, and
+//! takes no memory beside it.
+ghost use Rattle.std.specs.Prelude.{◌≡◌, ◌<◌, ◌-◌, ◌||◌, length, nat_lt, vec_len, vec_capacity, IsTrue};
 ghost use Rattle.std.specs.List.{list_any, position};
 ghost use Rattle.hb_clocks.specs.Counts.{counts_of};
-ghost use Rattle.access_check.specs.Lasts.{is_of, later, racing, latest, AreNarrow};
+ghost use Rattle.access_check.specs.Lasts.{is_of, later, racing, latest_from, put, AreNarrow};
 
+use crate::packed::PackedLast;
 use event_core::{OutOfMemory, ThreadId};
 use hb_clocks::JoinedClocks;
 use std::alloc::Global;
@@ -35,15 +38,15 @@ pub fn greater(first: Option<u64>, second: Option<u64>) -> Option<u64>
 }
 
 // The access's index, where it is of another thread, and the clock does not count it.
-fn racing_index(last: &Last, thread: ThreadId, clock: &JoinedClocks) -> Option<u64>
+fn racing_index(last: &PackedLast, thread: ThreadId, clock: &JoinedClocks) -> Option<u64>
     requires { last.now.thread.0 < length clock.now }
     ensures { result ≡ racing thread (counts_of clock.now) last.now }
 {
-    if last.thread == thread {
+    if last.thread() == thread {
         return None;
     }
-    if clock.at(last.thread) < last.access.position {
-        return Some(last.access.index);
+    if clock.at(last.thread()) <= last.before() {
+        return Some(last.index());
     }
     None
 }
@@ -52,7 +55,7 @@ fn racing_index(last: &Last, thread: ThreadId, clock: &JoinedClocks) -> Option<u
 #[tactic(auto, using(crate::proofs::Latest::later_none))]
 fn with_racing(
     found: Option<u64>,
-    last: &Last,
+    last: &PackedLast,
     thread: ThreadId,
     clock: &JoinedClocks,
 ) -> Option<u64>
@@ -66,12 +69,17 @@ fn with_racing(
     }
 }
 
-// The latest racing access of all.
-fn latest_racing(lasts: &[Last], thread: ThreadId, clock: &JoinedClocks) -> Option<u64>
+// The latest racing access of all, and of the one that was found before.
+fn latest_racing(
+    before: Option<u64>,
+    lasts: &[PackedLast],
+    thread: ThreadId,
+    clock: &JoinedClocks,
+) -> Option<u64>
     requires { AreNarrow (length clock.now) lasts.now }
-    ensures { result ≡ latest thread (counts_of clock.now) lasts.now }
+    ensures { result ≡ latest_from before thread (counts_of clock.now) lasts.now }
 {
-    let mut found = None;
+    let mut found = before;
     for last in lasts {
         found = with_racing(found, last, thread, clock);
     }
@@ -79,47 +87,75 @@ fn latest_racing(lasts: &[Last], thread: ThreadId, clock: &JoinedClocks) -> Opti
 }
 
 // Where the thread's last access stands, if there is one.
-fn find(lasts: &[Last], thread: ThreadId) -> Option<usize>
+fn find(lasts: &[PackedLast], thread: ThreadId) -> Option<usize>
     ensures { result ≡ position (is_of thread) lasts.now }
 {
-    lasts.iter().position(|last| last.thread == thread)
+    lasts.iter().position(|last| last.thread() == thread)
+}
+
+// Whether there is an access by the thread.
+fn has(lasts: &[PackedLast], thread: ThreadId) -> bool
+    ensures { result ≡ list_any (is_of thread) lasts.now }
+{
+    lasts.iter().any(|last| last.thread() == thread)
+}
+
+// Whether there is a place for the thread's access, or memory for one more.
+fn has_place(lasts: &Vec<PackedLast>, thread: ThreadId) -> bool
+    ensures { result ≡ (list_any (is_of thread) lasts.now.items
+        || nat_lt 0 (vec_capacity lasts.now - vec_len lasts.now)) }
+{
+    lasts.len() < lasts.capacity() || has(lasts, thread)
+}
+
+// The access is its thread's last one.
+fn put(lasts: &mut Vec<PackedLast>, last: PackedLast)
+    requires { IsTrue (list_any (is_of last.thread) lasts.old.items
+        || nat_lt 0 (vec_capacity lasts.old - vec_len lasts.old)) }
+    ensures { lasts.new.items ≡ put last lasts.old.items }
+{
+    match find(lasts, last.thread()) {
+        Some(at) => lasts[at] = last,
+        None => lasts.push_reserved(last),
+    }
 }
 
 /// The last accesses of one kind. Contracts see them, and for how many more threads there is room.
 #[derive(Drop)]
 pub struct Lasts {
-    list: Vec<Last>,
+    first: Option<PackedLast>,
+    // Those of further threads.
+    rest: Vec<PackedLast>,
 }
 
 impl Model for Lasts {
     ghost use Rattle.std.specs.Prelude.{◌-◌, vec_len, vec_capacity};
-    ghost use Rattle.access_check.specs.Lasts.{LastList};
+    ghost use Rattle.access_check.specs.Lasts.{LastList, FollowFirst, items_of, room_of};
 
     ghost Value = { LastList };
 
-    ghost view = { λ l. record { items = l.list.items; room = vec_capacity l.list - vec_len l.list } };
+    ghost view = { λ l. record {
+      items = items_of l.first l.rest.items;
+      room = room_of l.first (vec_capacity l.rest - vec_len l.rest);
+    } };
+
+    ghost invariant = { λ l. FollowFirst l.first l.rest.items };
 }
 
 impl Lasts {
     ghost use Rattle.std.specs.Prelude.{◌≡◌, [], length, IsTrue, OnOk};
     ghost use Rattle.event_core.specs.declared.ids.ThreadId.{ThreadId as Thread};
     ghost use Rattle.hb_clocks.specs.Counts.{counts_of};
-    ghost use Rattle.access_check.specs.Lasts.{latest, put, has_room, no_lasts, AreNarrow};
+    ghost use Rattle.access_check.specs.Lasts.{latest, put, has_room, no_lasts, AreNarrow, IsShort};
 
-    /// There was no access.
+    /// There was no access. There is room for one thread.
     pub fn new(alloc: Global) -> Lasts
         ensures { result ≡ no_lasts }
     {
         Lasts {
-            list: Vec::new(alloc),
+            first: None,
+            rest: Vec::new(alloc),
         }
-    }
-
-    // Whether there was an access by the thread.
-    fn has(&self, thread: ThreadId) -> bool
-        ensures { result ≡ list_any (is_of thread) self.now.items }
-    {
-        self.list.iter().any(|last| last.thread == thread)
     }
 
     /// Makes room for an access by the thread.
@@ -131,57 +167,69 @@ impl Lasts {
         if self.has_room(thread) {
             return Ok(());
         }
-        // Most variables are touched by one thread alone, so the first place is asked for without more.
-        let reserved = if self.list.is_empty() {
-            self.list.reserve_exact(1)
-        } else {
-            self.list.reserve(1)
-        };
-        match reserved {
+        match self.rest.reserve(1) {
             Ok(()) => Ok(()),
             Err(_) => Err(OutOfMemory),
         }
     }
 
     /// Whether there is room for an access by the thread.
+    #[inline(always)]
     pub fn has_room(&self, thread: ThreadId) -> bool
         ensures { result ≡ has_room thread self.now }
     {
-        self.list.len() < self.list.capacity() || self.has(thread)
+        match &self.first {
+            None => true,
+            Some(first) => first.thread() == thread || has_place(&self.rest, thread),
+        }
     }
 
     /// The access is its thread's last one. There is room for the thread's next one.
+    #[inline(always)]
     pub fn note(&mut self, last: Last)
-        requires { IsTrue (has_room last.thread self.old) }
+        requires short { IsShort last }
+        requires room { IsTrue (has_room last.thread self.old) }
         ensures items { self.new.items ≡ put last self.old.items }
         ensures room { IsTrue (has_room last.thread self.new) }
     {
-        self.put(last);
+        self.put(PackedLast::new(last));
     }
 
-    fn put(&mut self, last: Last)
+    #[inline(always)]
+    fn put(&mut self, last: PackedLast)
         requires { IsTrue (has_room last.thread self.old) }
         ensures { self.new.items ≡ put last self.old.items }
     {
-        match find(&self.list, last.thread) {
-            Some(at) => self.list[at] = last,
-            None => self.list.push_reserved(last),
+        match &self.first {
+            Some(first) if first.thread() != last.thread() => put(&mut self.rest, last),
+            _ => self.first = Some(last),
         }
     }
 
     /// Forgets all accesses, and keeps the room for each thread that had some.
+    #[inline(always)]
     pub fn clear(&mut self)
         ensures items { self.new.items ≡ [] }
         ensures kept { (t : Thread) → IsTrue (has_room t self.old) → IsTrue (has_room t self.new) }
     {
-        self.list.clear();
+        self.first = None;
+        self.rest.clear();
     }
 
     /// The greatest index of an access that races with one by the thread.
+    #[inline(always)]
     pub fn latest_racing(&self, thread: ThreadId, clock: &JoinedClocks) -> Option<u64>
         requires { AreNarrow (length clock.now) self.now.items }
         ensures { result ≡ latest thread (counts_of clock.now) self.now.items }
     {
-        latest_racing(&self.list, thread, clock)
+        let Some(first) = &self.first else {
+            return None;
+        };
+        latest_racing(
+            racing_index(first, thread, clock),
+            &self.rest,
+            thread,
+            clock,
+        )
     }
 }

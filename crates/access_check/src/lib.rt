@@ -11,6 +11,7 @@
 
 mod accesses;
 mod lasts;
+mod packed;
 mod tables;
 mod touches;
 

@@ -4,8 +4,9 @@ ghost use Rattle.event_core.specs.declared.ids.ThreadId.{ThreadId as Thread};
 ghost use Rattle.event_core.specs.declared.events.AccessKind.{AccessKind as Kind};
 ghost use Rattle.event_core.specs.declared.events.Op.{Op as Operation};
 ghost use Rattle.hb_clocks.specs.Counts.{counts_of};
-ghost use Rattle.access_check.specs.Lasts.{AreNarrow};
+ghost use Rattle.access_check.specs.Lasts.{AreNarrow, IsShort};
 ghost use Rattle.access_check.specs.Touched.{kept, latest_racing, kept_after};
+ghost use Rattle.access_check.specs.Tables.{last_of};
 ghost use Rattle.access_check.specs.Tables.{count_at, touches_at, touched_after, verdict_at, RoomAt, RoomFor};
 
 use crate::lasts::{Access, Last};
@@ -81,7 +82,8 @@ pub(crate) fn grow_at(
 // An access, on which there was that verdict, is noted at its variable.
 #[inline(always)]
 fn note_at(vars: &mut [Touches], var: usize, kind: AccessKind, last: Last, verdict: Verdict)
-    requires { RoomAt vars.old last.thread var kind }
+    requires short { IsShort last }
+    requires room { RoomAt vars.old last.thread var kind }
     ensures room { (x : ℕ) (k : Kind) → RoomAt vars.old last.thread x k → RoomAt vars.new last.thread x k }
     ensures touches { (x : ℕ) (k : Kind) → kept k (touches_at vars.new x)
         ≡ cond (nat_eq x var) (kept_after verdict kind last k (touches_at vars.old x))
@@ -132,7 +134,8 @@ pub(crate) fn count_event(counts: &mut [u64], thread: usize) -> u64
 #[inline(always)]
 #[tactic(auto, using(crate::proofs::Room::room_for))]
 pub(crate) fn note_access(vars: &mut [Touches], event: &Event, access: Access, verdict: Verdict)
-    requires { RoomFor vars.old event.now.thread event.now.op }
+    requires short { IsShort (last_of event.now.thread access) }
+    requires room { RoomFor vars.old event.now.thread event.now.op }
     ensures touches { (x : ℕ) (k : Kind) → kept k (touches_at vars.new x)
         ≡ touched_after verdict event.now.thread event.now.op access x k (touches_at vars.old x) }
     ensures narrow { (width : ℕ) → event.now.thread.0 < width

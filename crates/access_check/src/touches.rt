@@ -4,6 +4,10 @@ use crate::lasts::{Last, Lasts, greater};
 use event_core::{AccessKind, OutOfMemory, ThreadId, Verdict};
 use hb_clocks::JoinedClocks;
 use std::alloc::Global;
+use std::mem::size_of;
+
+// A variable takes so many bytes, and no other memory while it is touched by one thread alone.
+const _: () = prove!(size_of::<Touches>() == 80);
 
 /// The threads that touched a variable.
 #[derive(Drop)]
@@ -17,7 +21,7 @@ impl Touches {
     ghost use Rattle.event_core.specs.declared.ids.ThreadId.{ThreadId as Thread};
     ghost use Rattle.event_core.specs.declared.events.AccessKind.{AccessKind as Kind};
     ghost use Rattle.hb_clocks.specs.Counts.{counts_of};
-    ghost use Rattle.access_check.specs.Lasts.{has_room, AreNarrow};
+    ghost use Rattle.access_check.specs.Lasts.{has_room, AreNarrow, IsShort};
     ghost use Rattle.access_check.specs.Touched.{no_touches, of_kind, kept, latest_racing, kept_after};
 
     /// No thread touched the variable.
@@ -58,7 +62,8 @@ impl Touches {
     /// accesses are ordered before it, and are forgotten. No room is taken but that of its kind.
     #[inline(always)]
     pub fn note(&mut self, kind: AccessKind, last: Last, verdict: Verdict)
-        requires { IsTrue (has_room last.thread (of_kind kind self.old)) }
+        requires short { IsShort last }
+        requires room { IsTrue (has_room last.thread (of_kind kind self.old)) }
         ensures touches { (k : Kind) → kept k self.new ≡ kept_after verdict kind last k self.old }
         ensures room { (k : Kind) → IsTrue (has_room last.thread (of_kind k self.old))
             → IsTrue (has_room last.thread (of_kind k self.new)) }

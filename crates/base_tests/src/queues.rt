@@ -99,15 +99,33 @@ fn room_is_made_for_one_thread_and_lock(rt: HostRuntime) -> Result<(), Fail> {
     let mut queues = Queues::new(rt.alloc(), &limits)?;
     let thread = ThreadId(1);
     assert!(rt; !queues.has_room(thread, LOCK));
+    assert!(rt;
+        !queues.seek_room(thread, LOCK),
+        "the first section needs memory"
+    );
     if queues.make_room(thread, LOCK).is_err() {
         // With one allocation refused the same call succeeds when it is made again.
         assert!(rt; !queues.has_room(thread, LOCK));
         queues.make_room(thread, LOCK)?;
     }
     assert!(rt; queues.has_room(thread, LOCK));
+    assert!(rt; queues.seek_room(thread, LOCK));
     assert!(rt; !queues.has_room(ThreadId(0), LOCK));
     assert!(rt; !queues.has_room(thread, LockId(1)));
     queues.make_room(thread, LOCK)?;
+    Ok(())
+}
+
+#[test]
+fn a_further_section_may_need_no_memory(rt: HostRuntime) -> Result<(), Fail> {
+    let limits = Limits::new(2, 1, 1, 8, Roots::Free)?;
+    let mut queues = Queues::new(rt.alloc(), &limits)?;
+    let thread = ThreadId(1);
+    let (clocks, _) = count_one(rt.alloc(), &limits, thread)?;
+    close_one(&mut queues, &clocks, thread)?;
+    assert!(rt; !queues.has_room(thread, LOCK));
+    assert!(rt; queues.seek_room(thread, LOCK));
+    assert!(rt; queues.has_room(thread, LOCK));
     Ok(())
 }
 

@@ -1,6 +1,6 @@
 -- What a queue says of each thread after a change.
 use Rattle.std.proofs.Common.{◌≡◌, ℕ, ◌<◌, ◌≤◌, ◌⊎◌, true, false, Option, Some, None, List, [], ◌∷◌, ◌++◌}
-use Rattle.std.proofs.Common.{length, set}
+use Rattle.std.proofs.Common.{length, set, Bool}
 use Rattle.std.proofs.Common.{rules, sym, ap, subst, ◌∙◌, arith}
 use Rattle.std.specs.Prelude.{IfSome, IsSome, slice_index}
 use Rattle.std.specs.List.{remove}
@@ -9,7 +9,7 @@ use Rattle.std.proofs.lemmas.List.{get_or_push, get_or_append_left, get_or_past,
 use Rattle.std.proofs.lemmas.List.{get_or-set_same, get_or-set_other}
 use mathlib.Core.Logic.{inl, inr}
 use Rattle.event_core.specs.Rows.{with_row}
-use Rattle.event_core.proofs.Growing.{row_other}
+use Rattle.event_core.proofs.Growing.{row_same, row_other}
 use Rattle.hb_clocks.specs.Marks.{Named}
 use Rattle.lock_queues.specs.declared.rooms.Room.{Room}
 use Rattle.lock_queues.specs.Rooms.{has_room_in, opened_in, position_of, AreRooms}
@@ -86,3 +86,11 @@ found_set found t n lt i u = go (cases_eq u t) i
         ap (slice_index (set found t n)) is ∙ get_or-set_same found t n 0 lt
         ∙ sym (row_here t n (slice_index found) u is)
     go (inr other) = get_or-set_other found t u n 0 other ∙ sym (row_other t n (slice_index found) u other)
+
+-- where one thread more has room, those that had have it
+pub row_true : (t : ℕ) (f : ℕ → Bool) (u : ℕ) → f u ≡ true → with_row t true f u ≡ true
+row_true t f u is = go (cases_eq u t)
+  where
+    go : (u ≡ t) ⊎ (u ≡ t → ⊥) → with_row t true f u ≡ true
+    go (inl same) = ap (with_row t true f) same ∙ row_same t true f
+    go (inr away) = row_other t true f u away ∙ is

@@ -90,6 +90,28 @@ impl Queue {
         Ok(())
     }
 
+    // Makes room for a thread that has none, where that takes no memory. Tells whether it did.
+    pub(crate) fn seek_room(&mut self, thread: ThreadId) -> bool
+        requires none { has_room_in self.old.rooms thread.0 ≡ false }
+        ensures same { SameMeaning self.old self.new }
+        ensures room { result ≡ has_room_in self.new.rooms thread.0 }
+        ensures kept { (t : ℕ) → IsTrue (has_room_in self.old.rooms t)
+            → IsTrue (has_room_in self.new.rooms t) }
+    {
+        let more = self.rooms.len() + 1;
+        if self.found.len() <= thread.0 as usize || self.rooms.capacity() < more {
+            return false;
+        }
+        if !self.closed.has_spare(more, self.width) {
+            return false;
+        }
+        self.rooms.push_reserved(Room {
+            thread,
+            opened: None,
+        });
+        true
+    }
+
     // Memory for one room more, but for the room itself.
     fn reserve(&mut self, thread: ThreadId) -> Result<(), OutOfMemory>
         requires within { thread.0 < self.old.width }

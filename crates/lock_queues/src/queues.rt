@@ -107,6 +107,24 @@ impl Queues {
         at < self.queues.len() && self.queues[at].has_room(thread)
     }
 
+    /// Whether there is room for the thread's next section on the lock, or for its open one. Room that takes
+    /// no memory is made.
+    pub fn seek_room(&mut self, thread: ThreadId, lock: LockId) -> bool
+        ensures room { result ≡ has_room self.new thread.0 lock.0 }
+        ensures same { SameMeaning self.old self.new }
+        ensures kept { (t l : ℕ) → IsTrue (has_room self.old t l) → IsTrue (has_room self.new t l) }
+    {
+        if self.has_room(thread, lock) {
+            return true;
+        }
+        let at = lock.0 as usize;
+        if self.queues.len() <= at {
+            return false;
+        }
+        let queue = &mut self.queues[at];
+        queue.seek_room(thread)
+    }
+
     /// The thread's section on the lock is open, from the event on that the mark names.
     pub fn enter(&mut self, thread: ThreadId, lock: LockId, mark: Mark)
         requires room { IsTrue (has_room self.old thread.0 lock.0) }

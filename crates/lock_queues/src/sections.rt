@@ -65,7 +65,7 @@ impl Model for Sections {
 }
 
 impl Sections {
-    ghost use Rattle.std.specs.Prelude.{◌≡◌, ℕ, ◌+◌, ◌<◌, ◌≤◌, ◌^◌, ◌∷◌, ◌++◌, [], length, OnOk};
+    ghost use Rattle.std.specs.Prelude.{◌≡◌, ℕ, ◌+◌, ◌<◌, ◌≤◌, ◌^◌, ◌∷◌, ◌++◌, [], length, OnOk, IsTrue};
     ghost use Rattle.hb_clocks.specs.Counts.{counts_of};
     ghost use Rattle.lock_queues.specs.Sections.{section_at, no_sections, IsCounted, HasSpare, HasMore};
     ghost use Rattle.lock_queues.specs.Sections.{before, raised};
@@ -96,6 +96,17 @@ impl Sections {
             return Err(OutOfMemory);
         };
         Ok(())
+    }
+
+    // Whether there is room for so many sections more, with clocks of the width.
+    pub(crate) fn has_spare(&self, more: usize, width: usize) -> bool
+        ensures { IsTrue result → HasSpare self.now.sections self.now.memory more width }
+    {
+        let Some(numbers) = more.checked_mul(width) else {
+            return false;
+        };
+        more <= self.entries.capacity() - self.entries.len()
+            && numbers <= self.counts.capacity() - self.counts.len()
     }
 
     // One section more: the mark of its acquire, and the numbers of its release.

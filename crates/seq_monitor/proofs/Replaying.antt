@@ -1,5 +1,5 @@
 -- The parts of a monitor stand for its log: what that gives at a legal call, and that it lasts.
-use Rattle.std.proofs.Common.{◌≡◌, ℕ, ◌+◌, ◌^◌, ◌<◌, ◌≤◌, List, [], ◌∷◌, ◌++◌, None, true}
+use Rattle.std.proofs.Common.{◌≡◌, ℕ, ◌+◌, ◌<◌, ◌≤◌, List, [], ◌∷◌, ◌++◌, None, true}
 use Rattle.std.proofs.Common.{length}
 use Rattle.std.proofs.Common.{refl, sym, ap, subst, ◌∙◌, take, nat_eq, nat_lt, arith}
 use Rattle.std.proofs.lemmas.Bool.{ltb-true, leb-false}
@@ -47,6 +47,7 @@ use Rattle.event_core.specs.declared.replies.Outcome.TheVariants.{Accepted}
 use Rattle.traced_mem.proofs.SameRefusals.{same_refusal}
 use Rattle.traced_mem.specs.Tables.{Allows}
 use Rattle.traced_mem.specs.Tables.{Tables as MemoryTables}
+use Rattle.wcp_clocks.proofs.Conditions.{log_within}
 use Rattle.wcp_clocks.specs.declared.parts.Parts.{Parts as Clocks}
 use Rattle.wcp_clocks.specs.Parts.{hb_of, width_of, limits_of, Fits, NamesWithin, SameLimits}
 use Rattle.wcp_clocks.specs.Parts.{IsWithin as ClocksAreWithin}
@@ -196,15 +197,27 @@ pub judged : (e : Event) (clocks : Clocks) (accesses : AccessTables) (count : �
 judged e clocks accesses count v latest verdict limits log well stands made =
     verdict log made (latest limits (log ++ e ∷ []) (length log) well stands (last_is_latest log e))
 
--- a thread's position is a number
-pub position_fits : (m : Limits) (log : List Event) (p : Parts) (vs : List Verdict) (holds : ℕ) (t : ThreadId)
-    → IsReplay m log p vs holds → count_at p.accesses.counts t.0 + 1 < 2 ^ 64
+-- before an event that is accepted the log has fewer events than it may have
+pub index_fits : (m : Limits) (log : List Event) (c : Call) (p : Parts) (vs : List Verdict) (holds : ℕ)
+    → IsReplay m log p vs holds → refusal m log c ≡ None → length log < 4294967296
+index_fits m log c p vs holds r legal =
+    let e : Event = event_of log c in
+    let grown : length (log ++ e ∷ []) ≡ length log + 1 = grown_length log e in
+    let within : length (log ++ e ∷ []) ≤ m.events
+    = log_within m (log ++ e ∷ [])
+    (well_more m log c e (well m log p vs holds r) legal refl) in
+    let events : m.events ≤ 4294967296 = r.bounds.most_events in
+    omega arith
+
+-- and so has each thread
+pub position_fits : (m : Limits) (log : List Event) (c : Call) (p : Parts) (vs : List Verdict) (holds : ℕ)
+    (t : ThreadId) → IsReplay m log p vs holds → refusal m log c ≡ None
+    → count_at p.accesses.counts t.0 < 4294967296
 unfolding events_of
-position_fits m log p vs holds t r =
+position_fits m log c p vs holds t r legal =
     let same : count_at p.accesses.counts t.0 ≡ events_of log t = r.accesses.counts t in
     let most : events_of log t ≤ length log = count_by-le-length (λ (e : Event). nat_eq e.thread.0 t.0) log in
-    let kept : length log + holds ≤ m.events = few m log p vs holds r in
-    let events : m.events ≤ 4294967296 = r.bounds.most_events in
+    let few : length log < 4294967296 = index_fits m log c p vs holds r legal in
     omega arith
 
 -- one event more

@@ -90,13 +90,15 @@ impl WcpClocks {
         are_ready(&self.parts, event)
     }
 
-    /// Whether there is room for the event, as `ready` tells. Where there is, an `advance` that comes next
-    /// does not search again for the places of an access.
+    /// Whether there is room for the event, as `ready` tells, once room that takes no memory is made. Where
+    /// there is, an `advance` that comes next does not search again for the places of an access.
     #[inline(always)]
     pub fn seek(&mut self, event: &Event) -> bool
-        ensures ready { IsTrue result ↔ IsReady self.old event.now }
+        ensures ready { IsTrue result ↔ IsReady self.new event.now }
         ensures releases { IsHeldRelease (hb_of self.old) event.now.thread event.now.op → IsTrue result }
-        ensures same { self.new ≡ self.old }
+        ensures same { SameNumbers self.old self.new }
+        ensures kept { KeepsReady self.old self.new }
+        ensures limits { SameLimits self.old self.new }
     {
         seek(&mut self.parts, event)
     }

@@ -130,27 +130,42 @@ fn has_access(parts: &Parts, thread: ThreadId, var: VarId) -> bool
     parts.sums.is_ready(held, var)
 }
 
-// The same as `are_ready`. The places of an access are kept for the step that comes next.
+// The same as `are_ready`. The places of an access are kept for the step that comes next, and room for a
+// section is made where that takes no memory.
 #[inline(always)]
 pub(crate) fn seek(parts: &mut Parts, event: &Event) -> bool
     requires parts { AreParts parts.old }
-    ensures ready { IsTrue result ↔ IsReady parts.old event.now }
+    ensures ready { IsTrue result ↔ IsReady parts.new event.now }
     ensures releases { IsHeldRelease (hb_of parts.old) event.now.thread event.now.op → IsTrue result }
-    ensures same { parts.new ≡ parts.old }
+    ensures grown { HasGrown parts.old parts.new }
 {
     parts.rows.has_thread(event.thread) && seek_named(parts, event.thread, event.op)
 }
 
-// Whether there is room for what the operation names. The places of an access are kept.
+// Whether there is room for what the operation names, as far as it takes no memory.
 #[inline(always)]
 fn seek_named(parts: &mut Parts, thread: ThreadId, op: Op) -> bool
-    ensures named { IsTrue result ↔ HasNamed parts.old thread op }
-    ensures same { parts.new ≡ parts.old }
+    ensures named { IsTrue result ↔ HasNamed parts.new thread op }
+    ensures hb { parts.new.hb ≡ parts.old.hb }
+    ensures rows { parts.new.rows ≡ parts.old.rows }
+    ensures grown { HasGrown parts.old parts.new }
 {
     match op {
         Op::Load(var) | Op::Store(var) => seek_access(parts, thread, var),
+        Op::Acquire(lock) => seek_section(parts, thread, lock),
         _ => has_named(parts, thread, op),
     }
+}
+
+// Whether there is room for a section on the lock. Room that takes no memory is made.
+fn seek_section(parts: &mut Parts, thread: ThreadId, lock: LockId) -> bool
+    ensures named { IsTrue result ↔ (HasLock parts.new.rows lock.0
+        × IsTrue (has_room parts.new.queues thread.0 lock.0) × (0 < room_at parts.new.held thread.0)) }
+    ensures hb { parts.new.hb ≡ parts.old.hb }
+    ensures rows { parts.new.rows ≡ parts.old.rows }
+    ensures grown { HasGrown parts.old parts.new }
+{
+    parts.rows.has_lock(lock) && parts.held.has_room(thread) && parts.queues.seek_room(thread, lock)
 }
 
 // Whether there is room for the access in each section that is open at it. Its places are kept.

@@ -1,5 +1,10 @@
+use Rattle.std.proofs.Common.{ap, ◌∙◌}
+use Rattle.access_check.specs.declared.lasts.Last.{Last}
+use Rattle.access_check.specs.Lasts.{put}
 use Rattle.access_check.proofs.Room.{room_put}
 use Rattle.access_check.proofs.lasts.Lasts.note.Goals as goal
 
 pub returns-clause-room : goal.returns-clause-room
-returns-clause-room c = room_put c.args.last c.args.self.now c.put.new.self c.put.ensures
+returns-clause-room c =
+    room_put c.args.last c.args.self.now c.put.new.self
+    (c.put.ensures ∙ ap (λ (p : Last). put p c.args.self.now.items) c.new.ensures)
