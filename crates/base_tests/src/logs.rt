@@ -2,7 +2,7 @@
 ghost use Rattle.std.specs.Prelude.{◌≤◌, OnOk};
 
 use event_core::{
-    Event, LimitFault, Limits, Log, Op, OutOfMemory, Roots, SiteId, Step, ThreadId, VarId,
+    Event, LimitFault, Limits, LockId, Log, Op, OutOfMemory, Roots, SiteId, Step, ThreadId, VarId,
 };
 use std::test::Fail;
 
@@ -105,6 +105,38 @@ fn each_event_of_a_log_has_its_own_value(rt: HostRuntime) -> Result<(), Fail> {
         found,
         [Some(fork), Some(store(7)), Some(load), Some(store(9)), None]
     );
+    Ok(())
+}
+
+#[test]
+fn an_event_of_any_numbers_is_given_back(rt: HostRuntime) -> Result<(), Fail> {
+    let events = [
+        event(0, Op::Fork(ThreadId(1))),
+        store(LAST as u64 + 5),
+        event(1023, Op::Load(VarId(1048575))),
+        Event {
+            site: SiteId(2147483647),
+            ..event(1, Op::Acquire(LockId(7)))
+        },
+        event(1, Op::Release(LockId(7))),
+        event(5000, Op::Store(VarId(3))),
+        event(2, Op::Load(VarId(1048576))),
+        event(LAST, Op::Acquire(LockId(LAST))),
+        Event {
+            site: SiteId(LAST),
+            ..store(9)
+        },
+        event(0, Op::Join(ThreadId(1))),
+        event(2, Op::Store(VarId(4))),
+    ];
+    let mut log = Log::new(rt.alloc());
+    reserve(&mut log, 11)?;
+    for event in events {
+        log.push(event);
+    }
+    for index in 0..11 {
+        assert_eq!(rt; log.get(index as u64), Some(events[index]), "at {index}");
+    }
     Ok(())
 }
 

@@ -34,3 +34,4 @@ pub mod NewestFacts
 pub mod StepLaws
 pub mod Members
 pub mod Keeping
+pub mod Packing

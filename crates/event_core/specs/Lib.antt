@@ -23,6 +23,8 @@ pub mod PlainWcp
 pub mod Bounds
 pub mod Recorded
 pub mod Kept
+pub mod Packing
+pub mod RowList
 -- the laws
 pub mod Laws
 pub mod OrderLaws

@@ -7,7 +7,9 @@ pub mod examples;
 mod ids;
 pub mod laws;
 mod logs;
+mod packed;
 mod replies;
+mod rows;
 mod steps;
 
 pub use bounds::{LimitFault, Limits, MOST_EVENTS, MOST_LOCKS, MOST_THREADS, MOST_VARS, Roots};
