@@ -38,6 +38,7 @@ pub fn greater(first: Option<u64>, second: Option<u64>) -> Option<u64>
 }
 
 // The access's index, where it is of another thread, and the clock does not count it.
+#[inline(always)]
 fn racing_index(last: &PackedLast, thread: ThreadId, clock: &JoinedClocks) -> Option<u64>
     requires { last.now.thread.0 < length clock.now }
     ensures { result ≡ racing thread (counts_of clock.now) last.now }
@@ -70,6 +71,7 @@ fn with_racing(
 }
 
 // The latest racing access of all, and of the one that was found before.
+#[inline(never)]
 fn latest_racing(
     before: Option<u64>,
     lasts: &[PackedLast],
@@ -225,11 +227,10 @@ impl Lasts {
         let Some(first) = &self.first else {
             return None;
         };
-        latest_racing(
-            racing_index(first, thread, clock),
-            &self.rest,
-            thread,
-            clock,
-        )
+        let found = racing_index(first, thread, clock);
+        if self.rest.is_empty() {
+            return found;
+        }
+        latest_racing(found, &self.rest, thread, clock)
     }
 }

@@ -75,6 +75,7 @@ impl Summaries {
     }
 
     /// The thread, which has open sections on the locks, has such an access in each of them. Takes no memory.
+    #[inline(always)]
     pub fn note(&mut self, thread: ThreadId, held: &[LockId], var: VarId, kind: AccessKind)
         requires room { HasRoom self.old held.now var.0 }
         requires alone { IsAlone self.old thread.0 held.now }

@@ -97,6 +97,7 @@ impl Table {
     }
 
     /// The thread's open section has such an access.
+    #[inline(never)]
     #[tactic(auto, using(crate::proofs::Says::says_noted))]
     pub fn note(&mut self, thread: ThreadId, var: VarId, kind: AccessKind)
         requires room { room_at self.old var.0 ≡ true }

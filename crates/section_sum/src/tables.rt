@@ -112,6 +112,7 @@ fn seek_under(tables: &mut [Table], lock: LockId, var: VarId) -> bool
 }
 
 /// The access is noted under each of the locks.
+#[inline(always)]
 pub fn note_held(
     tables: &mut Vec<Table>,
     thread: ThreadId,

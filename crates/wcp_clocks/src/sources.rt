@@ -18,6 +18,7 @@ use section_sum::Summaries;
 
 // The thread's strict clock takes what its access meets under the lock, at most two clocks. A clock that
 // counts a release counts all that is below it, so a release that is counted already brings nothing.
+#[inline(never)]
 fn take_under(
     rows: &mut StrictRows,
     sums: &Summaries,
@@ -52,6 +53,7 @@ fn take_under(
 }
 
 // The thread's strict clock takes what its access meets under each of the locks.
+#[inline(always)]
 pub(crate) fn take_sources(
     rows: &mut StrictRows,
     sums: &Summaries,

@@ -75,6 +75,7 @@ fn release(parts: &mut Parts, event: &Event, lock: LockId)
 }
 
 // An access: it meets the sections that its thread has open, and its thread counts it.
+#[inline(always)]
 pub(crate) fn access(parts: &mut Parts, event: &Event, var: VarId, kind: AccessKind)
     requires turn { turn event.now (state_of parts.old) ≡ Accesses var kind }
     requires parts { AreParts parts.old }
@@ -100,6 +101,7 @@ pub(crate) fn access(parts: &mut Parts, event: &Event, var: VarId, kind: AccessK
 
 // The access in the sections that are open at it: by rule (a) its strict clock takes the sources under
 // each lock, and it is noted in each.
+#[inline(always)]
 fn meet_sections(
     rows: &mut StrictRows,
     sums: &mut Summaries,
