@@ -12,7 +12,7 @@ trap 'rm -rf "$work"' EXIT
 program=$work/crates/wcp_clocks_bench
 mkdir -p "$program/src" "$program/specs" "$program/proofs/replay"
 for crate in event_core traced_mem hb_clocks section_sum lock_queues wcp_laws wcp_clocks access_check \
-    seq_monitor
+    verdict_list seq_monitor
 do
     cp -r "$top/crates/$crate" "$work/crates"
 done
@@ -31,7 +31,8 @@ lock_queues: event_core hb_clocks
 wcp_laws: event_core hb_clocks
 wcp_clocks: event_core hb_clocks section_sum lock_queues wcp_laws
 access_check: event_core hb_clocks
-seq_monitor: event_core traced_mem hb_clocks access_check wcp_laws wcp_clocks
+verdict_list: event_core
+seq_monitor: event_core traced_mem hb_clocks access_check wcp_laws wcp_clocks verdict_list
 wcp_clocks_bench: event_core hb_clocks wcp_clocks seq_monitor
 CRATES
 (cd "$program" && "${RT:-rt}" run -- 2 2) > "$work/built" 2>&1 || { cat "$work/built"; exit 1; }

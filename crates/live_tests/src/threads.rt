@@ -202,7 +202,8 @@ fn expect_replayed<R: Abort>(
     for outcome in &outcomes {
         assert!(rt; matches!(outcome, Outcome::Accepted(_)));
     }
-    assert!(rt; monitor.verdicts() == closed.verdicts());
+    assert_eq!(rt; monitor.verdicts().len(), closed.verdicts().len());
+    assert!(rt; monitor.verdicts().races() == closed.verdicts().races());
     Ok(())
 }
 

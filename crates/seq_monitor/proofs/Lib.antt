@@ -1,4 +1,4 @@
-pub mod Verdicts
+pub mod JudgedMore
 pub mod Growing
 pub mod Releases
 pub mod ClockLaws

@@ -57,7 +57,7 @@ use Rattle.wcp_clocks.specs.WorkWithin.{IsWorkOf, WorkStep, LittleWork}
 use Rattle.seq_monitor.specs.Monitored.{Parts, IsReplay, IsClocksReplay, slots_for, event_by}
 use Rattle.seq_monitor.proofs.ClockLaws.{clocks_fit, clocks_advanced}
 use Rattle.seq_monitor.proofs.Releases.{release_open, release_held, release_counted}
-use Rattle.seq_monitor.proofs.Verdicts.{one_verdict_more, no_verdicts}
+use Rattle.seq_monitor.proofs.JudgedMore.{one_verdict_more, no_verdicts}
 
 -- the log is well formed
 pub well : (m : Limits) (log : List Event) (p : Parts) (vs : List Verdict) (holds : ℕ)

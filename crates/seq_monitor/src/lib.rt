@@ -11,3 +11,4 @@ mod parts;
 mod runs;
 
 pub use monitor::Monitor;
+pub use verdict_list::{Race, Verdicts};

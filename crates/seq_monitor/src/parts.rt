@@ -1,6 +1,5 @@
 //! What is made of the parts of a monitor beside its log.
-ghost use Rattle.std.specs.Prelude.{◌≡◌, ℕ, ◌+◌, ◌-◌, ◌<◌, ◌≤◌, List, [], ◌∷◌, ◌++◌, length, OnOk, vec_len};
-ghost use Rattle.std.specs.Prelude.{vec_capacity};
+ghost use Rattle.std.specs.Prelude.{◌≡◌, ℕ, ◌+◌, ◌<◌, ◌≤◌, List, [], ◌∷◌, ◌++◌, length, OnOk};
 ghost use Rattle.event_core.specs.declared.bounds.Limits.{Limits as Bounds};
 ghost use Rattle.event_core.specs.declared.events.Event.{Event as AnEvent};
 ghost use Rattle.event_core.specs.declared.ids.ThreadId.{ThreadId as Thread};
@@ -29,6 +28,7 @@ ghost use Rattle.seq_monitor.specs.Monitored.{event_by as an_event_by};
 use access_check::Accesses;
 use event_core::{Call, Event, Log, Op, OutOfMemory, Reply, SiteId, ThreadId, VarId, Verdict};
 use traced_mem::Memory;
+use verdict_list::Verdicts;
 use wcp_clocks::WcpClocks;
 
 /// The event of the call, with the value that it has.
@@ -134,19 +134,6 @@ pub(crate) fn judge(clocks: &mut WcpClocks, accesses: &Accesses, event: &Event) 
     verdict_on_last(clocks, accesses, event)
 }
 
-// Makes room for so many more verdicts.
-fn reserve(verdicts: &mut Vec<Verdict>, additional: usize) -> Result<(), OutOfMemory>
-    ensures same { verdicts.new.items ≡ verdicts.old.items }
-    ensures more { vec_capacity verdicts.old - vec_len verdicts.old
-        ≤ vec_capacity verdicts.new - vec_len verdicts.new }
-    ensures room { OnOk result (additional ≤ vec_capacity verdicts.new - vec_len verdicts.new) }
-{
-    match verdicts.reserve(additional) {
-        Ok(()) => Ok(()),
-        Err(_) => Err(OutOfMemory),
-    }
-}
-
 /// Makes room in all parts for a call that is allowed, and in the lists for so many more events. Nothing else
 /// changes.
 pub(crate) fn grow(
@@ -154,7 +141,7 @@ pub(crate) fn grow(
     clocks: &mut WcpClocks,
     accesses: &mut Accesses,
     log: &mut Log,
-    verdicts: &mut Vec<Verdict>,
+    verdicts: &mut Verdicts,
     call: &Call,
     slots: usize,
 ) -> Result<(), OutOfMemory>
@@ -176,17 +163,16 @@ pub(crate) fn grow(
     ensures events { log.new.events ≡ log.old.events }
     ensures event_slots { log.old.room ≤ log.new.room }
     ensures event_room { OnOk result (slots ≤ log.new.room) }
-    ensures judged { verdicts.new.items ≡ verdicts.old.items }
-    ensures verdict_slots { vec_capacity verdicts.old - vec_len verdicts.old
-        ≤ vec_capacity verdicts.new - vec_len verdicts.new }
-    ensures verdict_room { OnOk result (slots ≤ vec_capacity verdicts.new - vec_len verdicts.new) }
+    ensures judged { verdicts.new.verdicts ≡ verdicts.old.verdicts }
+    ensures verdict_slots { verdicts.old.room ≤ verdicts.new.room }
+    ensures verdict_room { OnOk result (slots ≤ verdicts.new.room) }
 {
     let event = event_by(call);
     memory.prepare(call)?;
     clocks.prepare(&event)?;
     accesses.make_room(&event)?;
     log.reserve(slots)?;
-    reserve(verdicts, slots)
+    verdicts.reserve(slots)
 }
 
 /// Makes room in all parts for a swap that is allowed, and in the lists for so many more events. Nothing else
@@ -196,7 +182,7 @@ pub(crate) fn grow_for_swap(
     clocks: &mut WcpClocks,
     accesses: &mut Accesses,
     log: &mut Log,
-    verdicts: &mut Vec<Verdict>,
+    verdicts: &mut Verdicts,
     thread: ThreadId,
     var: VarId,
     slots: usize,
@@ -219,14 +205,13 @@ pub(crate) fn grow_for_swap(
     ensures events { log.new.events ≡ log.old.events }
     ensures event_slots { log.old.room ≤ log.new.room }
     ensures event_room { OnOk result (slots ≤ log.new.room) }
-    ensures judged { verdicts.new.items ≡ verdicts.old.items }
-    ensures verdict_slots { vec_capacity verdicts.old - vec_len verdicts.old
-        ≤ vec_capacity verdicts.new - vec_len verdicts.new }
-    ensures verdict_room { OnOk result (slots ≤ vec_capacity verdicts.new - vec_len verdicts.new) }
+    ensures judged { verdicts.new.verdicts ≡ verdicts.old.verdicts }
+    ensures verdict_slots { verdicts.old.room ≤ verdicts.new.room }
+    ensures verdict_room { OnOk result (slots ≤ verdicts.new.room) }
 {
     memory.prepare_swap(thread, var)?;
     clocks.prepare_swap(thread, var)?;
     accesses.make_room_swap(thread, var)?;
     log.reserve(slots)?;
-    reserve(verdicts, slots)
+    verdicts.reserve(slots)
 }

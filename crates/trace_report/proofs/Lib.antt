@@ -1,4 +1,5 @@
 pub mod Putting
+pub mod Races
 pub mod Texts
 pub mod Naming
 pub mod Playing

@@ -7,9 +7,10 @@ ghost use Rattle.trace_report.specs.Reports.{labelled, summary_line, event_at, r
 
 use crate::page::Page;
 use crate::summary::Summary;
-use event_core::{LockId, Log, Op, ThreadId, VarId, Verdict};
+use event_core::{LockId, Log, Op, ThreadId, VarId};
 use itoa::Buffer;
 use rapid_text::{Kind, Names, Output, Word, WriteFault};
+use verdict_list::Race;
 
 /// Puts a label and a number.
 fn put_count<W: Output>(
@@ -106,28 +107,25 @@ fn put_event<W: Output>(
     page.put(writer, names.name(Kind::Site, event.site.0))
 }
 
-/// Puts the line of an event that races with an earlier one, and nothing for any other.
+/// Puts the line of an event that races with an earlier one.
+#[tactic(auto, using(crate::proofs::Races::race_put))]
 pub fn put_race<W: Output>(
     page: &mut Page,
     writer: &mut W,
     log: &Log,
     names: &Names,
-    index: u64,
-    verdict: Verdict,
+    race: Race,
 ) -> Result<(), WriteFault>
-    requires within { index < length log.now.events }
-    requires earlier { (i : ℕ) → verdict ≡ Racy i → i < length log.now.events }
+    requires within { race.event < length log.now.events }
+    requires earlier { race.with < length log.now.events }
     requires named { AreNamed names.now log.now.events }
     ensures ok { OnOk result (Puts (W.written writer.old) page.old (W.written writer.new) page.new
-        (race_line names.now log.now.events index verdict)) }
+        (race_line names.now log.now.events race.event (Racy race.with))) }
     ensures healthy { OnOk result (W.failed writer.new ≡ W.failed writer.old) }
     ensures failed { OnErr result (W.failed writer.new ≡ true) }
 {
-    let Verdict::Racy(earlier) = verdict else {
-        return Ok(());
-    };
-    put_event(page, writer, log, names, index)?;
+    put_event(page, writer, log, names, race.event)?;
     page.put(writer, b" with ")?;
-    put_event(page, writer, log, names, earlier)?;
+    put_event(page, writer, log, names, race.with)?;
     page.put(writer, b"\n")
 }

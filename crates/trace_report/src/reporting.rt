@@ -7,26 +7,27 @@ ghost use Rattle.trace_report.specs.Reports.{report_of, summary_of, AreWithin, A
 use crate::lines::{put_race, put_summary};
 use crate::page::Page;
 use crate::summary::Summary;
-use event_core::{Log, Verdict};
+use event_core::Log;
 use rapid_text::{Names, Output, WriteFault};
+use verdict_list::Verdicts;
 
 /// Puts a line for each race.
 fn put_races<W: Output>(
     page: &mut Page,
     writer: &mut W,
     log: &Log,
-    verdicts: &[Verdict],
+    verdicts: &Verdicts,
     names: &Names,
 ) -> Result<(), WriteFault>
-    requires verdicts { AreWithin log.now.events verdicts.now }
+    requires verdicts { AreWithin log.now.events verdicts.now.verdicts }
     requires named { AreNamed names.now log.now.events }
     ensures ok { OnOk result (Puts (W.written writer.old) page.old (W.written writer.new) page.new
-        (race_lines names.now log.now.events 0 verdicts.now)) }
+        (race_lines names.now log.now.events 0 verdicts.now.verdicts)) }
     ensures healthy { OnOk result (W.failed writer.new ≡ W.failed writer.old) }
     ensures failed { OnErr result (W.failed writer.new ≡ true) }
 {
-    for (index, verdict) in verdicts.iter().enumerate() {
-        put_race(page, writer, log, names, index as u64, *verdict)?;
+    for race in verdicts.races() {
+        put_race(page, writer, log, names, *race)?;
     }
     Ok(())
 }
@@ -38,15 +39,15 @@ fn put_races<W: Output>(
 pub fn report<W: Output>(
     writer: &mut W,
     log: &Log,
-    verdicts: &[Verdict],
+    verdicts: &Verdicts,
     names: &Names,
 ) -> Result<Summary, WriteFault>
-    requires verdicts { AreWithin log.now.events verdicts.now }
+    requires verdicts { AreWithin log.now.events verdicts.now.verdicts }
     requires named { AreNamed names.now log.now.events }
     // What is written is the report, and nothing else.
     ensures ok { OnOk result (Appends (W.written writer.old) (W.written writer.new)
-        (report_of names.now log.now.events verdicts.now)) }
-    ensures summary { IfOk result (λ s. s ≡ summary_of names.now log.now.events verdicts.now) }
+        (report_of names.now log.now.events verdicts.now.verdicts)) }
+    ensures summary { IfOk result (λ s. s ≡ summary_of names.now log.now.events verdicts.now.verdicts) }
     ensures healthy { OnOk result (W.failed writer.new ≡ W.failed writer.old) }
     // It fails only where the writer did.
     ensures failed { OnErr result (W.failed writer.new ≡ true) }

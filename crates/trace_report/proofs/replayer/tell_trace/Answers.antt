@@ -7,8 +7,8 @@ use Rattle.trace_report.proofs.replayer.tell_trace.Goals as goal
 
 pub report-requires-clause-verdicts : goal.report-requires-clause-verdicts
 report-requires-clause-verdicts g c =
-    verdicts_within c.log.result.now.events c.verdicts.result.now
-    (subst (λ (log : List Event). AreVerdicts log c.verdicts.result.now)
+    verdicts_within c.log.result.now.events c.verdicts.result.now.verdicts
+    (subst (λ (log : List Event). AreVerdicts log c.verdicts.result.now.verdicts)
     (sym c.log.ensures.log) c.verdicts.ensures)
 
 pub report-requires-clause-named : goal.report-requires-clause-named
@@ -17,14 +17,15 @@ report-requires-clause-named g c =
 
 pub returns-in-Ok-clause-ok : goal.returns-in-Ok-clause-ok
 returns-in-Ok-clause-ok g c = record {
-  text = report_of c.args.names.now c.log.result.now.events c.verdicts.result.now;
+  text = report_of c.args.names.now c.log.result.now.events c.verdicts.result.now.verdicts;
   tells = record {
-    verdicts = c.verdicts.result.now;
+    verdicts = c.verdicts.result.now.verdicts;
     are = c.verdicts.ensures;
-    text_is = ap (λ (log : List Event). report_of c.args.names.now log c.verdicts.result.now)
+    text_is = ap (λ (log : List Event). report_of c.args.names.now log c.verdicts.result.now.verdicts)
         c.log.ensures.log;
     summary = c.in-Ok.ensures.summary
-        ∙ ap (λ (log : List Event). summary_of c.args.names.now log c.verdicts.result.now) c.log.ensures.log;
+        ∙ ap (λ (log : List Event). summary_of c.args.names.now log c.verdicts.result.now.verdicts)
+        c.log.ensures.log;
   };
   written = c.in-Ok.ensures.ok;
 }

@@ -1,11 +1,11 @@
 use Rattle.std.proofs.Common.{◌≡◌, take}
 use Rattle.trace_report.specs.Pages.{Puts}
-use Rattle.trace_report.specs.Reports.{race_lines}
+use Rattle.trace_report.proofs.Races.{lines_of}
 use Rattle.trace_report.proofs.reporting.put_races.Given as goal
 
-abbrev pub invariant-loop-index : goal.invariant-loop-index
-invariant-loop-index g l = record {
+abbrev pub invariant-loop-race : goal.invariant-loop-race
+invariant-loop-race g l = record {
   lines : Puts (g.W.Output.written l.fn.writer) l.fn.page (g.W.Output.written l.writer) l.page
-      (race_lines l.names l.log.events 0 (take l.index l.verdicts));
+      (lines_of l.names l.log.events (take l.race-index l.race-items));
   healthy : g.W.Output.failed l.writer ≡ g.W.Output.failed l.fn.writer;
 }

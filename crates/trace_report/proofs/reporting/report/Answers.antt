@@ -12,8 +12,8 @@ returns-clause-ok g c =
     let start = written c.args.writer.now in
     let end = written c.flush.new.writer in
     let page = c.flush.new.self in
-    let races = race_lines c.args.names.now c.args.log.now.events 0 c.args.verdicts.now in
-    let text = report_of c.args.names.now c.args.log.now.events c.args.verdicts.now in
+    let races = race_lines c.args.names.now c.args.log.now.events 0 c.args.verdicts.now.verdicts in
+    let text = report_of c.args.names.now c.args.log.now.events c.args.verdicts.now.verdicts in
     let is = append-nil (summary_line c.of-told.result ++ races)
     ∙ ap (λ (s : Summary). summary_line s ++ races) c.of-told.ensures in
     let all = put_same is (put_both (put_both c.in_ok-put_summary.ensures.ok c.in_ok-put_races.ensures.ok)

@@ -10,7 +10,7 @@ use Rattle.wcp_tool.proofs.scripts.report_closed.Goals as goal
 
 pub report-requires-clause-verdicts : goal.report-requires-clause-verdicts
 report-requires-clause-verdicts g c =
-    subst (λ (l : List Event). AreWithin l c.verdicts.result.now) (sym c.log-log.ensures.log)
+    subst (λ (l : List Event). AreWithin l c.verdicts.result.now.verdicts) (sym c.log-log.ensures.log)
     (verdicts_within _ _ c.verdicts.ensures)
 
 pub returns-in-Ok-clause-reports : goal.returns-in-Ok-clause-reports
@@ -18,9 +18,9 @@ returns-in-Ok-clause-reports g c h =
     subst (λ (l : List Event). ReportsLog c.args.names.now l (g.O.Output.written c.args.writer.now)
     (g.O.Output.written c.report.new.writer) (status_of c.summary_ending.result)) c.log-log.ensures.log
     (record {
-      verdicts = c.verdicts.result.now;
-      judged = subst (λ (l : List Event). AreVerdicts l c.verdicts.result.now) (sym c.log-log.ensures.log)
-          c.verdicts.ensures;
+      verdicts = c.verdicts.result.now.verdicts;
+      judged = subst (λ (l : List Event). AreVerdicts l c.verdicts.result.now.verdicts)
+          (sym c.log-log.ensures.log) c.verdicts.ensures;
       named = c.are_named.ensures (search rules);
       written = c.in-Ok.ensures.ok;
       ends = ap status_of (c.summary_ending.ensures
