@@ -4,6 +4,8 @@ ghost use Rattle.std.specs.Prelude.{◌≤◌, OnOk};
 use event_core::{
     Event, LimitFault, Limits, LockId, Log, Op, OutOfMemory, Roots, SiteId, Step, ThreadId, VarId,
 };
+use std::alloc::Global;
+use std::process::Abort;
 use std::test::Fail;
 
 const LAST: u32 = 4294967295;
@@ -108,6 +110,19 @@ fn each_event_of_a_log_has_its_own_value(rt: HostRuntime) -> Result<(), Fail> {
     Ok(())
 }
 
+// A log gives the event back at each place where it was added, and another one between.
+fn expect_given_back(rt: &impl Abort, alloc: Global, given: Event) -> Result<(), OutOfMemory> {
+    let other = event(1, Op::Load(VarId(0)));
+    let mut log = Log::new(alloc);
+    reserve(&mut log, 3)?;
+    log.push(given);
+    log.push(other);
+    log.push(given);
+    let found = [log.get(0), log.get(1), log.get(2)];
+    assert_eq!(rt; found, [Some(given), Some(other), Some(given)]);
+    Ok(())
+}
+
 #[test]
 fn an_event_of_any_numbers_is_given_back(rt: HostRuntime) -> Result<(), Fail> {
     let events = [
@@ -127,15 +142,9 @@ fn an_event_of_any_numbers_is_given_back(rt: HostRuntime) -> Result<(), Fail> {
             ..store(9)
         },
         event(0, Op::Join(ThreadId(1))),
-        event(2, Op::Store(VarId(4))),
     ];
-    let mut log = Log::new(rt.alloc());
-    reserve(&mut log, 11)?;
     for event in events {
-        log.push(event);
-    }
-    for index in 0..11 {
-        assert_eq!(rt; log.get(index as u64), Some(events[index]), "at {index}");
+        expect_given_back(&rt, rt.alloc(), event)?;
     }
     Ok(())
 }
