@@ -1,7 +1,6 @@
 -- The numbers of a release's clock just before the release, and with it again.
-use Rattle.std.proofs.Common.{◌≡◌, ℕ, suc, ◌+◌, ◌-◌, ◌<◌, ◌≤◌, ◌⊎◌, List, [], ◌∷◌, ◌++◌, length, set, take}
-use Rattle.std.proofs.Common.{get_or, cond, nat_eq, sym, ap, subst, ◌∙◌, arith, length-set, append_assoc}
-use Rattle.std.proofs.Math.Seq.{take-suc, take-length}
+use Rattle.std.proofs.Common.{◌≡◌, ℕ, ◌+◌, ◌-◌, ◌<◌, ◌≤◌, ◌⊎◌, List, length, set}
+use Rattle.std.proofs.Common.{cond, nat_eq, sym, ap, subst, ◌∙◌, arith}
 use Rattle.std.proofs.lemmas.Bool.{cases_lt, cases_eq}
 use Rattle.std.proofs.lemmas.List.{get_or_past, get_or-set_same, set-set, set-get_or}
 use mathlib.Core.Logic.{inl, inr}
@@ -53,23 +52,3 @@ raised_lowered t ns some =
     let own : counts_of (lowered t ns) t + 1 ≡ counts_of ns t = omega arith in
     set-set ns t (counts_of ns t - 1) (counts_of (lowered t ns) t + 1) ∙ ap (set ns t) own
     ∙ set-get_or ns t 0
-
--- a number joins those that have
-pub joined_next : (t u x : ℕ) (ns old new : List ℕ) → t < length ns → u < length ns
-    → x ≡ before t (counts_of ns) u → new ≡ (old ++ take u (lowered t ns)) ++ x ∷ []
-    → new ≡ old ++ take (u + 1) (lowered t ns)
-joined_next t u x ns old new own lt is new_is =
-    let len : length (lowered t ns) ≡ length ns = length-set ns t (counts_of ns t - 1) in
-    let next : suc u ≡ u + 1 = omega arith in
-    let number : get_or (lowered t ns) u 0 ≡ x = ap (λ f. f u) (lowered_at t ns own) ∙ sym is in
-    new_is ∙ append_assoc old (take u (lowered t ns)) (x ∷ [])
-    ∙ ap (λ n. old ++ (take u (lowered t ns) ++ n ∷ [])) (sym number)
-    ∙ ap (λ xs. old ++ xs) (sym (take-suc (lowered t ns) u 0 (omega arith)))
-    ∙ ap (λ k. old ++ take k (lowered t ns)) next
-
--- and in the end all have joined
-pub joined_all : (t u : ℕ) (ns old new : List ℕ) → u ≡ length ns → new ≡ old ++ take u (lowered t ns)
-    → new ≡ old ++ lowered t ns
-joined_all t u ns old new all is =
-    let len : u ≡ length (lowered t ns) = all ∙ sym (length-set ns t (counts_of ns t - 1)) in
-    is ∙ ap (λ n. old ++ take n (lowered t ns)) len ∙ ap (λ xs. old ++ xs) (take-length (lowered t ns))

@@ -12,10 +12,27 @@ pub(crate) fn push_before(numbers: &mut Vec<u32>, release: &[u64], by: ThreadId)
     requires counted { 0 < counts_of release.now by.0 }
     requires few { (u : ℕ) → before by.0 (counts_of release.now) u < 2 ^ 32 }
     ensures items { numbers.new.items ≡ numbers.old.items ++ lowered by.0 release.now }
-    ensures memory { vec_capacity numbers.new ≡ vec_capacity numbers.old }
+    ensures memory { vec_capacity numbers.old ≤ vec_capacity numbers.new }
+{
+    let start = numbers.len();
+    // There is memory for them, so this takes none and succeeds.
+    if numbers.resize(start + release.len(), 0).is_ok() {
+        write_before(&mut numbers[start..], release, by);
+    }
+}
+
+// The list becomes the numbers just before the release by the thread. It is as long as the clock, so that no
+// place is tested in the loop, and it goes over several numbers at a time.
+#[inline(always)]
+fn write_before(numbers: &mut [u32], release: &[u64], by: ThreadId)
+    requires widths { length numbers.old ≡ length release.now }
+    requires own { by.0 < length release.now }
+    requires counted { 0 < counts_of release.now by.0 }
+    requires few { (u : ℕ) → before by.0 (counts_of release.now) u < 2 ^ 32 }
+    ensures { numbers.new ≡ lowered by.0 release.now }
 {
     for u in 0..release.len() {
-        numbers.push_reserved(number_before(release, by, u));
+        numbers[u] = number_before(release, by, u);
     }
 }
 
