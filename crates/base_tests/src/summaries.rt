@@ -155,14 +155,14 @@ fn room_is_made_for_a_lock_and_a_variable(rt: HostRuntime) -> Result<(), Fail> {
 }
 
 #[test]
-fn a_place_is_sought_where_there_is_room(rt: HostRuntime) -> Result<(), Fail> {
+fn room_under_one_lock_is_none_under_another(rt: HostRuntime) -> Result<(), Fail> {
     let mut summaries = Summaries::new(rt.alloc());
-    assert!(rt; !summaries.seek(&[A, B], X));
-    make_room(&mut summaries, &[A, B], Y).expect(&rt, "memory");
     make_room(&mut summaries, &[A], X).expect(&rt, "memory");
-    assert!(rt; summaries.seek(&[A, B], Y));
-    assert!(rt; summaries.seek(&[A], X));
-    assert!(rt; !summaries.seek(&[A, B], X), "one lock alone");
-    assert!(rt; summaries.seek(&[], X), "no lock");
+    make_room(&mut summaries, &[A], X).expect(&rt, "the room that is there");
+    assert!(rt; !summaries.is_ready(&[A, B], X), "one lock alone");
+    make_room(&mut summaries, &[A, B], X).expect(&rt, "memory");
+    assert!(rt; summaries.is_ready(&[A, B], X));
+    make_room(&mut summaries, &[], Y).expect(&rt, "no lock");
+    assert!(rt; !summaries.is_ready(&[A], Y));
     Ok(())
 }

@@ -17,6 +17,9 @@ use Rattle.std.proofs.Common.{
   ◌++◌,
   length,
   nat_eq,
+  Result,
+  Ok,
+  Err,
   get_or,
   set,
   refl,
@@ -25,6 +28,7 @@ use Rattle.std.proofs.Common.{
   ◌∙◌,
 }
 use Rattle.std.specs.List.{list_any}
+use Rattle.std.specs.Prelude.{OnErr}
 use Rattle.std.proofs.lemmas.Bool.{cases_eq, cases_Bool, eqb-true, eq-eqb}
 use Rattle.std.proofs.lemmas.List.{get_or-set_same, get_or-set_other}
 use Rattle.std.proofs.lemmas.List.Folds.{list_any-append}
@@ -34,6 +38,11 @@ ne_eqb a b n = elim (cases_Bool (nat_eq a b)) [ inl t ↦ absurd (n (eqb-true a 
 
 pub false_true : {X : Type 0} → false ≡ true → X
 false_true e = absurd (subst (λ b. cond {A = Type 0} b ⊥ (Unit {0})) e tt)
+
+-- what holds in any case holds of a refusal
+pub refused : {T E : Type 0} (r : Result T E) (P : Type 0) → P → OnErr r P
+refused (Ok x) P p = tt
+refused (Err e) P p = p
 
 pub or_true : (b : Bool) → (b || true) ≡ true
 or_true true = refl

@@ -1,6 +1,6 @@
 //! The summaries of all locks.
 ghost use Rattle.std.specs.Prelude.{◌≡◌, ℕ, ◌≤◌, ◌↔◌, ◌||◌, ◌&&◌, length, nat_eq, cond};
-ghost use Rattle.std.specs.Prelude.{not, false, OnOk, IsTrue};
+ghost use Rattle.std.specs.Prelude.{not, false, OnOk, OnErr, IsTrue};
 ghost use Rattle.event_core.specs.declared.events.AccessKind.{AccessKind as Kind};
 ghost use Rattle.section_sum.specs.Sums.{noted_of, others_of, sources_of, is_access, HasRoom};
 ghost use Rattle.section_sum.specs.Sums.{IsAlone, SameNoted, SameOthers, KeepsRoom};
@@ -9,7 +9,7 @@ ghost use Rattle.section_sum.specs.Sources.{left, most_sources};
 use crate::sources::Sources;
 use crate::table::Table;
 use crate::tables::{
-    close_under, has_room_held, make_room_held, note_held, seek_held, sources_under,
+    close_under, has_room_held, make_room_held, note_held, sources_under,
 };
 use event_core::{AccessKind, LockId, OutOfMemory, ThreadId, VarId};
 use std::alloc::Global;
@@ -44,9 +44,13 @@ impl Summaries {
     }
 
     /// Makes room for accesses to the variable in sections on the locks, and for those sections' ends.
-    /// A refused growth is answered by `OutOfMemory`, and the same call can be made again.
+    /// Where there is room it takes no memory. The next calls of `sources` and `note` for the variable under
+    /// these locks take no hash. A refused growth is answered by `OutOfMemory`, and the same call can be made
+    /// again.
+    #[inline(always)]
     pub fn make_room(&mut self, held: &[LockId], var: VarId) -> Result<(), OutOfMemory>
         ensures room { OnOk result (HasRoom self.new held.now var.0) }
+        ensures refused { OnErr result (HasRoom self.new held.now var.0 → ⊥) }
         ensures kept { KeepsRoom self.old self.new }
 
         // In any case the same is known.
@@ -61,17 +65,6 @@ impl Summaries {
         ensures { IsTrue result ↔ HasRoom self.now held.now var.0 }
     {
         has_room_held(&self.tables, held, var)
-    }
-
-    /// Whether such accesses need no memory, as `is_ready` tells. Where they need none, the next calls of
-    /// `sources` and `note` for the variable under these locks take no hash. Takes no memory.
-    #[inline(always)]
-    #[tactic(auto, unfolding(crate::specs::Sums::room_of))]
-    pub fn seek(&mut self, held: &[LockId], var: VarId) -> bool
-        ensures room { IsTrue result ↔ HasRoom self.old held.now var.0 }
-        ensures same { self.new ≡ self.old }
-    {
-        seek_held(&mut self.tables, held, var)
     }
 
     /// The thread, which has open sections on the locks, has such an access in each of them. Takes no memory.

@@ -5,7 +5,7 @@
 //! are listed, so that its end goes over them alone and allocates nothing: a list never has more cells than
 //! there are, and room for all is made with each cell.
 ghost use Rattle.std.specs.Prelude.{◌≡◌, ℕ, ◌<◌, ◌≤◌, ◌++◌, ◌∷◌, [], length, nat_eq, vec_capacity};
-ghost use Rattle.std.specs.Prelude.{true, if◌then◌else◌, OnOk, MatchOption, IfOk, IsTrue, is_ok, is_some};
+ghost use Rattle.std.specs.Prelude.{true, if◌then◌else◌, OnErr, MatchOption, IfOk, is_ok, is_some};
 ghost use Rattle.section_sum.specs.Cells.{closed, marked_as, no_cell};
 ghost use Rattle.section_sum.specs.Entries.{sources_on, room_at, place_of, cell_of};
 ghost use Rattle.section_sum.specs.Entries.{IsAlone, IsGrown, HasGrown, HasNoted, HasClosed, AreUnique};
@@ -117,11 +117,16 @@ impl Table {
         }
     }
 
-    /// Makes room for accesses to the variable and for the ends of sections with them.
+    /// Makes room for accesses to the variable and for the ends of sections with them. Where there is room, it
+    /// takes no memory. The next calls for the variable find its place by no hash.
     pub fn make_room(&mut self, var: VarId) -> Result<(), OutOfMemory>
         ensures grown { HasGrown self.old self.new }
-        ensures room { OnOk result (room_at self.new var.0 ≡ true) }
+        ensures room { is_ok result ≡ room_at self.new var.0 }
     {
+        if let Some(at) = find_place(&self.vars, self.sought, var) {
+            self.sought = Some(Sought { var: var.0, at });
+            return Ok(());
+        }
         self.sought = None;
         let at = make_cell(&mut self.vars, &mut self.cells, &mut self.listed, var)?;
         self.sought = Some(Sought { var: var.0, at });
@@ -133,21 +138,6 @@ impl Table {
         ensures { result ≡ room_at self.now var.0 }
     {
         self.find(var).is_some()
-    }
-
-    /// Whether accesses to the variable need no memory, as `has_room` tells. Where they need none, the next
-    /// calls for the variable find its place by no hash.
-    pub fn seek(&mut self, var: VarId) -> bool
-        ensures room { result ≡ room_at self.old var.0 }
-        ensures same { self.new ≡ self.old }
-    {
-        match self.find(var) {
-            Some(at) => {
-                self.sought = Some(Sought { var: var.0, at });
-                true
-            }
-            None => false,
-        }
     }
 
     /// The sections that such an access meets: the newest by another thread with a store, and for a store
@@ -189,24 +179,23 @@ fn find_place(vars: &IndexSet<u32>, sought: Option<Sought>, var: VarId) -> Optio
     vars.get_index_of(&var.0)
 }
 
-// The variable has a cell. Answers its number.
+// A variable without a cell gets one. Answers its number.
 fn make_cell(
     vars: &mut IndexSet<u32>,
     cells: &mut Vec<Cell>,
     listed: &mut Vec<usize>,
     var: VarId,
 ) -> Result<usize, OutOfMemory>
+    requires new { place_of vars.old.keys var.0 ≡ length vars.old.keys }
     requires same { length cells.old.items ≡ length vars.old.keys }
     requires unique { AreUnique vars.old.keys }
     requires capacity { length cells.old.items ≤ vec_capacity listed.old }
     ensures grown { IsGrown vars.old.keys cells.old.items vars.new.keys cells.new.items }
     ensures ok { IfOk result (λ at. (at ≡ place_of vars.new.keys var.0) × (at < length vars.new.keys)) }
+    ensures refused { OnErr result (vars.new.keys ≡ vars.old.keys) }
     ensures listed { listed.new.items ≡ listed.old.items }
     ensures capacity { length cells.new.items ≤ vec_capacity listed.new }
 {
-    if let Some(at) = find_place(vars, None, var) {
-        return Ok(at);
-    }
     let at = cells.len();
     if listed.reserve(at + 1).is_err() {
         return Err(OutOfMemory);

@@ -1,5 +1,5 @@
 //! The tables of all locks: a lock's number is its table's, and a lock without a table saw no access.
-ghost use Rattle.std.specs.Prelude.{◌≡◌, ℕ, ◌+◌, ◌<◌, ◌↔◌, length, true, OnOk, IsTrue};
+ghost use Rattle.std.specs.Prelude.{◌≡◌, ℕ, ◌+◌, ◌<◌, ◌≤◌, ◌↔◌, length, true, is_ok, OnOk, OnErr, IsTrue};
 ghost use Rattle.section_sum.specs.Entries.{sources_on, room_at, IsAlone};
 ghost use Rattle.section_sum.specs.Sums.{table_at, is_held};
 ghost use Rattle.section_sum.specs.Tables.{HaveGrown, HaveNoted, HaveClosed};
@@ -10,7 +10,7 @@ use crate::table::Table;
 use event_core::{AccessKind, LockId, OutOfMemory, ThreadId, VarId};
 use std::alloc::Global;
 
-/// Makes room for the variable under each of the locks.
+/// Makes room for the variable under each of the locks. Where there is room it takes no memory.
 pub fn make_room_held(
     tables: &mut Vec<Table>,
     alloc: Global,
@@ -20,6 +20,8 @@ pub fn make_room_held(
     ensures grown { HaveGrown tables.old.items tables.new.items }
     ensures room { OnOk result ((l : ℕ) → is_held held.now l ≡ true
         → room_at (table_at tables.new.items l) var.0 ≡ true) }
+    ensures refused { OnErr result (((l : ℕ) → is_held held.now l ≡ true
+        → room_at (table_at tables.new.items l) var.0 ≡ true) → ⊥) }
 {
     for lock in held {
         make_room_under(tables, alloc, *lock, var)?;
@@ -35,7 +37,7 @@ fn make_room_under(
     var: VarId,
 ) -> Result<(), OutOfMemory>
     ensures grown { HaveGrown tables.old.items tables.new.items }
-    ensures room { OnOk result (room_at (table_at tables.new.items lock.0) var.0 ≡ true) }
+    ensures room { is_ok result ≡ room_at (table_at tables.new.items lock.0) var.0 }
 {
     make_table(tables, alloc, lock)?;
     let table = &mut tables[lock.0 as usize];
@@ -47,6 +49,7 @@ fn make_room_under(
 fn make_table(tables: &mut Vec<Table>, alloc: Global, lock: LockId) -> Result<(), OutOfMemory>
     ensures grown { HaveGrown tables.old.items tables.new.items }
     ensures there { OnOk result (lock.0 < length tables.new.items) }
+    ensures refused { OnErr result (length tables.new.items ≤ lock.0) }
 {
     'growing: while tables.len() <= lock.0 as usize {
         add_table(tables, alloc)?;
@@ -58,6 +61,7 @@ fn make_table(tables: &mut Vec<Table>, alloc: Global, lock: LockId) -> Result<()
 fn add_table(tables: &mut Vec<Table>, alloc: Global) -> Result<(), OutOfMemory>
     ensures grown { HaveGrown tables.old.items tables.new.items }
     ensures longer { OnOk result (length tables.new.items ≡ length tables.old.items + 1) }
+    ensures refused { OnErr result (tables.new.items ≡ tables.old.items) }
 {
     if tables.reserve(1).is_err() {
         return Err(OutOfMemory);
@@ -85,30 +89,6 @@ fn has_room_under(tables: &[Table], lock: LockId, var: VarId) -> bool
 {
     let at = lock.0 as usize;
     at < tables.len() && tables[at].has_room(var)
-}
-
-/// Whether accesses to the variable need no memory under each of the locks, as `has_room_held` tells. Where
-/// they need none, the next calls for the variable find its places by no hash.
-pub fn seek_held(tables: &mut [Table], held: &[LockId], var: VarId) -> bool
-    ensures room { IsTrue result ↔ ((l : ℕ) → is_held held.now l ≡ true
-        → room_at (table_at tables.old l) var.0 ≡ true) }
-    ensures same { tables.new ≡ tables.old }
-{
-    for lock in held {
-        if !seek_under(tables, *lock, var) {
-            return false;
-        }
-    }
-    true
-}
-
-// Whether accesses to the variable need no memory under the lock. Its place is kept.
-fn seek_under(tables: &mut [Table], lock: LockId, var: VarId) -> bool
-    ensures room { result ≡ room_at (table_at tables.old lock.0) var.0 }
-    ensures same { tables.new ≡ tables.old }
-{
-    let at = lock.0 as usize;
-    at < tables.len() && tables[at].seek(var)
 }
 
 /// The access is noted under each of the locks.

@@ -90,8 +90,9 @@ impl WcpClocks {
         are_ready(&self.parts, event)
     }
 
-    /// Whether there is room for the event, as `ready` tells, once room that takes no memory is made. Where
-    /// there is, an `advance` that comes next does not search again for the places of an access.
+    /// Whether there is room for the event, as `ready` tells, once room for an access is made, and room for a
+    /// section where that takes no memory. Where there is, an `advance` that comes next does not search again
+    /// for the places of an access.
     #[inline(always)]
     pub fn seek(&mut self, event: &Event) -> bool
         ensures ready { IsTrue result ↔ IsReady self.new event.now }

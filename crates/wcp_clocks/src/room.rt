@@ -130,8 +130,8 @@ fn has_access(parts: &Parts, thread: ThreadId, var: VarId) -> bool
     parts.sums.is_ready(held, var)
 }
 
-// The same as `are_ready`. The places of an access are kept for the step that comes next, and room for a
-// section is made where that takes no memory.
+// The same as `are_ready`, once room for an access is made, and room for a section where that takes no memory.
+// The places of an access are kept for the step that comes next.
 #[inline(always)]
 pub(crate) fn seek(parts: &mut Parts, event: &Event) -> bool
     requires parts { AreParts parts.old }
@@ -142,7 +142,8 @@ pub(crate) fn seek(parts: &mut Parts, event: &Event) -> bool
     parts.rows.has_thread(event.thread) && seek_named(parts, event.thread, event.op)
 }
 
-// Whether there is room for what the operation names, as far as it takes no memory.
+// Whether there is room for what the operation names, once that for an access is made, and that for a section
+// as far as it takes no memory.
 #[inline(always)]
 fn seek_named(parts: &mut Parts, thread: ThreadId, op: Op) -> bool
     ensures named { IsTrue result ↔ HasNamed parts.new thread op }
@@ -168,14 +169,17 @@ fn seek_section(parts: &mut Parts, thread: ThreadId, lock: LockId) -> bool
     parts.rows.has_lock(lock) && parts.held.has_room(thread) && parts.queues.seek_room(thread, lock)
 }
 
-// Whether there is room for the access in each section that is open at it. Its places are kept.
+// Makes room for the access in each section that is open at it. Answers whether there is room. Its places are
+// kept.
 #[inline(always)]
 fn seek_access(parts: &mut Parts, thread: ThreadId, var: VarId) -> bool
-    ensures room { IsTrue result ↔ HasRoom parts.old.sums (list_at parts.old.held thread.0).locks var.0 }
-    ensures same { parts.new ≡ parts.old }
+    ensures room { IsTrue result ↔ HasRoom parts.new.sums (list_at parts.new.held thread.0).locks var.0 }
+    ensures hb { parts.new.hb ≡ parts.old.hb }
+    ensures rows { parts.new.rows ≡ parts.old.rows }
+    ensures grown { HasGrown parts.old parts.new }
 {
     let held = parts.held.of(thread);
-    held.is_empty() || parts.sums.seek(held, var)
+    held.is_empty() || parts.sums.make_room(held, var).is_ok()
 }
 
 // Whether there is room for a section on the lock.

@@ -1,7 +1,9 @@
-use Rattle.std.proofs.Common.{◌≡◌, true}
+use Rattle.std.proofs.Common.{◌≡◌, ◌<◌, true, length, get_or, sym, ◌∙◌}
+use Rattle.event_core.specs.declared.ids.LockId.{LockId}
 use Rattle.section_sum.specs.Entries.{room_at}
-use Rattle.section_sum.specs.Sums.{table_at}
-use Rattle.section_sum.proofs.Locks.{grown_then, held_each}
+use Rattle.section_sum.specs.Sums.{table_at, is_held}
+use Rattle.section_sum.proofs.Locks.{grown_then, held_each, is_held_at}
+use Rattle.section_sum.proofs.Basics.{false_true, refused}
 use Rattle.section_sum.proofs.tables.make_room_held.Goals as goal
 
 pub returns-in_err-make_room_under-clause-grown : goal.returns-in_err-make_room_under-clause-grown
@@ -15,5 +17,13 @@ loop-lock-preserved c = record {
       (λ l. room_at (table_at c.make_room_under.new.tables.items l) c.args.var.0 ≡ true)
       c.args.held.now c.loop-lock.lock-index (record { 0 = 0 }) c.loop-lock-test.true
       (λ l e. (c.make_room_under.ensures.grown l).room c.args.var.0 (c.loop-lock.invariant.room l e))
-      c.in_ok-make_room_under.ensures.room;
+      (sym c.in_ok-make_room_under.ensures.room);
 }
+
+pub returns-in_err-make_room_under-clause-refused : goal.returns-in_err-make_room_under-clause-refused
+returns-in_err-make_room_under-clause-refused c =
+    let l : LockId = get_or c.args.held.now c.loop-lock.lock-index (record { 0 = 0 }) in
+    let on : is_held c.args.held.now l.0
+    ≡ true = is_held_at c.args.held.now c.loop-lock.lock-index _ c.loop-lock-test.true in
+    refused c.from_residual.result _
+    (λ all. false_true (c.in_err-make_room_under.ensures.room ∙ all l.0 on))

@@ -7,6 +7,10 @@ pub returns-clause-room : goal.returns-clause-room
 unfolding room_of
 returns-clause-room c = c.make_room_held.ensures.room
 
+pub returns-clause-refused : goal.returns-clause-refused
+unfolding room_of
+returns-clause-refused c = c.make_room_held.ensures.refused
+
 pub returns-clause-kept : goal.returns-clause-kept
 returns-clause-kept c =
     (subst (λ (s : Sums). Grows s (sums c.make_room_held.new.tables.items)) c.self.view_is
