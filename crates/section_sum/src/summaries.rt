@@ -8,9 +8,7 @@ ghost use Rattle.section_sum.specs.Sources.{left, most_sources};
 
 use crate::sources::Sources;
 use crate::table::Table;
-use crate::tables::{
-    close_under, has_room_held, make_room_held, note_held, sources_under,
-};
+use crate::tables::{close_under, has_room_held, make_room_held, note_held, sources_under};
 use event_core::{AccessKind, LockId, OutOfMemory, ThreadId, VarId};
 use std::alloc::Global;
 use std::marker::Model;
