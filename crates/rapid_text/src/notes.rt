@@ -96,13 +96,13 @@ pub struct Note {
 }
 
 impl Note {
-    // A note of no name.
+    // A note of no name. Its number is that of none.
     fn none() -> Note
         ensures { result.length ≡ 0 }
     {
         Note {
             word: 0,
-            number: 0,
+            number: u32::MAX,
             length: 0,
         }
     }

@@ -91,7 +91,7 @@ impl Space {
             return Err(NameFault::TooMany);
         }
         let number = count as u32;
-        if self.notes.make_room(self.alloc, number).is_err() {
+        if self.notes.make_room(self.alloc, number + 1).is_err() {
             return Err(NameFault::OutOfMemory);
         }
         let Ok(key) = Vec::from_slice(self.alloc, name) else {
