@@ -1,4 +1,4 @@
-use Rattle.std.proofs.Common.{◌≡◌, ◌<◌, true, length, get_or, sym, ◌∙◌}
+use Rattle.std.proofs.Common.{◌≡◌, true, get_or, sym, ◌∙◌}
 use Rattle.event_core.specs.declared.ids.LockId.{LockId}
 use Rattle.section_sum.specs.Entries.{room_at}
 use Rattle.section_sum.specs.Sums.{table_at, is_held}
