@@ -6,6 +6,7 @@ use Rattle.std.proofs.Common.{
   Bool,
   true,
   false,
+  not,
   inl,
   inr,
   cond,
@@ -28,13 +29,10 @@ use Rattle.std.proofs.Common.{
   ◌∙◌,
 }
 use Rattle.std.specs.List.{list_any}
-use Rattle.std.specs.Prelude.{OnErr}
-use Rattle.std.proofs.lemmas.Bool.{cases_eq, cases_Bool, eqb-true, eq-eqb}
+use Rattle.std.specs.Prelude.{OnErr, IfOk, is_err}
+use Rattle.std.proofs.lemmas.Bool.{cases_eq, eq-eqb, ne_eqb}
 use Rattle.std.proofs.lemmas.List.{get_or-set_same, get_or-set_other}
 use Rattle.std.proofs.lemmas.List.Folds.{list_any-append}
-
-pub ne_eqb : (a b : ℕ) → (a ≡ b → ⊥) → nat_eq a b ≡ false
-ne_eqb a b n = elim (cases_Bool (nat_eq a b)) [ inl t ↦ absurd (n (eqb-true a b t)) | inr f ↦ f ]
 
 pub false_true : {X : Type 0} → false ≡ true → X
 false_true e = absurd (subst (λ b. cond {A = Type 0} b ⊥ (Unit {0})) e tt)
@@ -100,3 +98,33 @@ any_here xs at =
 pub any_more : (xs : List ℕ) (at i : ℕ) → list_any (nat_eq i) xs ≡ true
     → list_any (nat_eq i) (xs ++ at ∷ []) ≡ true
 any_more xs at i e = list_any-append (nat_eq i) xs (at ∷ []) ∙ or_more (list_any (nat_eq i) xs) _ e
+
+pub and_left : (a b : Bool) → (a && b) ≡ true → a ≡ true
+and_left true b e = refl
+and_left false b e = e
+
+pub and_right : (a b : Bool) → (a && b) ≡ true → b ≡ true
+and_right true b e = e
+and_right false b e = false_true e
+
+pub or_off_left : (a b : Bool) → (a || b) ≡ false → a ≡ false
+or_off_left true b e = e
+or_off_left false b e = refl
+
+pub or_off_right : (a b : Bool) → (a || b) ≡ false → b ≡ false
+or_off_right true b e = false_true (sym e)
+or_off_right false b e = e
+
+pub not_false : (b : Bool) → not b ≡ false → b ≡ true
+not_false true e = refl
+not_false false e = sym e
+
+pub not_true : (b : Bool) → not b ≡ true → b ≡ false
+not_true true e = sym e
+not_true false e = refl
+
+-- what holds of an Ok
+pub of_ok : {T E : Type 0} (r : Result T E) (P : T → Type 0) (Q : Type 0) → is_err r ≡ false
+    → ((x : T) → P x → Q) → IfOk r P → Q
+of_ok (Ok x) P Q e f h = f x h
+of_ok (Err x) P Q e f h = false_true (sym e)

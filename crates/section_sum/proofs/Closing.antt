@@ -1,177 +1,131 @@
--- Closing the listed cells one after another, and marking an access.
-use Rattle.std.proofs.Common.{
-  ◌≡◌,
-  ℕ,
-  ◌+◌,
-  ◌<◌,
-  Bool,
-  true,
-  false,
-  not,
-  inl,
-  inr,
-  cond,
-  ◌||◌,
-  List,
-  [],
-  ◌∷◌,
-  ◌++◌,
-  length,
-  nat_eq,
-  set,
-  refl,
-  sym,
-  ap,
-  subst,
-  ◌∙◌,
-  arith,
-  length-set,
-  count_by,
-}
+-- Closing the listed cells one after another.
+use Rattle.std.proofs.Common.{◌≡◌, ℕ, ◌<◌, ◌≤◌, Bool, true, false, ◌&&◌, cond, inl, inr, List, [], ◌∷◌, ◌++◌}
+use Rattle.std.proofs.Common.{length, nat_eq, refl, sym, ap, subst, ◌∙◌, arith}
 use Rattle.std.specs.List.{list_any}
-use Rattle.std.proofs.lemmas.Bool.{cases_eq, eq-eqb}
-use Rattle.std.proofs.lemmas.List.{length_push}
-use Rattle.std.proofs.lemmas.List.Sums.{sum_by-set, count_by-le-length}
+use Rattle.std.proofs.lemmas.Bool.{cases_eq, eq-eqb, ne_eqb}
+use Rattle.section_sum.specs.declared.cell.Side.{Side}
 use Rattle.section_sum.specs.declared.cell.Cell.{Cell}
-use Rattle.event_core.specs.declared.events.AccessKind.{AccessKind}
-use Rattle.event_core.specs.declared.events.AccessKind.TheVariants.{Read, Write}
-use Rattle.section_sum.specs.Cells.{
-  no_cell,
-  cell_at,
-  side,
-  is_noted,
-  closed,
-  closed_side,
-  marked,
-  marked_as,
-  AreKept,
-  AreFew,
-  Closing,
-}
-use Rattle.section_sum.proofs.Basics.{ne_eqb, false_true, at_set, any_left, any_here, any_more}
+use Rattle.section_sum.specs.declared.cells.Place.{Place}
+use Rattle.section_sum.specs.Newest.{closed_two}
+use Rattle.section_sum.specs.Cell.{cell_at, is_noted, closed, closed_side, closed_as}
+use Rattle.section_sum.specs.Cells.{Stored, lock_at, count_to}
+use Rattle.section_sum.specs.Kept.{Kept, is_own, IsSought, AreListed, IsKept}
+use Rattle.section_sum.proofs.Basics.{false_true, and_right, any_left, any_here}
+use Rattle.section_sum.proofs.Basics.{any_more, or_off_left, or_off_right}
+use Rattle.section_sum.proofs.Counts.{count_same}
+use Rattle.section_sum.proofs.Keeping.{Changed}
 
--- a fact of each cell after a write
-set_each : (P : ℕ → Cell → Type 0) (cells : List Cell) (at : ℕ) (x : Cell) → at < length cells → P at x
-    → (i : ℕ) → ((i ≡ at → ⊥) → P i (cell_at cells i)) → P i (cell_at (set cells at x) i)
-set_each P cells at x h p i q = at_set no_cell P cells at x h p i q
+-- some of the listed cells are closed, and the others are left in the list
+pub record Closing (l t n : ℕ) (before now : Stored) (left : List ℕ) : Type 0 where
+  pub places : now.places ≡ before.places
+  pub same : length now.cells ≡ length now.places
+  pub listed : AreListed l now left
+  pub exact : (i : ℕ) → closed_as (is_own l before i) t n (cell_at now.cells i)
+      ≡ closed_as (is_own l before i) t n (cell_at before.cells i)
 
-pub side_closed : (t n : ℕ) (c : Cell) (kind : AccessKind) → side kind (closed t n c)
-    ≡ closed_side t n (side kind c)
-side_closed t n c Read = refl
-side_closed t n c Write = refl
+pub begins : (l t n : ℕ) (s : Stored) (k : Kept) → IsKept l s k → Closing l t n s s k.listed
+begins l t n s k kept = record { places = refl; same = kept.same; listed = kept.listed; exact = λ i. refl }
 
-pub next_within : (n : ℕ) (xs ys : List ℕ) (at : ℕ) → ys ≡ xs ++ at ∷ []
-    → ((i : ℕ) → list_any (nat_eq i) ys ≡ true → i < n) → at < n
-next_within n xs ys at e h = h at (ap (list_any (nat_eq at)) e ∙ any_here xs at)
+pub next_within : (l t n : ℕ) (before now : Stored) (xs ys : List ℕ) (at : ℕ) → ys ≡ xs ++ at ∷ []
+    → Closing l t n before now ys → at < length now.places
+next_within l t n before now xs ys at e c =
+    (c.listed.own at (ap (list_any (nat_eq at)) e ∙ any_here xs at)).0
 
 -- a listed cell is closed
-pub next : (t n : ℕ) (before cells : List Cell) (xs ys : List ℕ) (at : ℕ) (x : Cell)
-    → ys ≡ xs ++ at ∷ [] → x ≡ closed t n (cell_at cells at) → Closing t n before cells ys
-    → Closing t n before (set cells at x) xs
-next t n before cells xs ys at x e q c =
-    let h : at < length cells = next_within (length cells) xs ys at e c.kept.within in
-    let long : length (set cells at x) ≡ length cells = length-set cells at x in
+pub next : (l t n : ℕ) (before now after : Stored) (xs ys : List ℕ) (at : ℕ) → ys ≡ xs ++ at ∷ []
+    → after.places ≡ now.places → length after.cells ≡ length after.places
+    → ((i : ℕ) → cell_at after.cells i ≡ closed_as (nat_eq i at) t n (cell_at now.cells i))
+    → Closing l t n before now ys → Closing l t n before after xs
+next l t n before now after xs ys at e places same exact c =
+    let there : cell_at after.cells at ≡ closed t n (cell_at now.cells at)
+    = exact at ∙ ap (λ b. closed_as b t n (cell_at now.cells at)) (eq-eqb at at refl) in
+    let else : (i : ℕ) → (i ≡ at → ⊥) → cell_at after.cells i ≡ cell_at now.cells i
+    = λ i o. exact i ∙ ap (λ b. closed_as b t n (cell_at now.cells i)) (ne_eqb i at o) in
+    let own : (i : ℕ) → is_own l after i ≡ is_own l now i
+    = λ i. ap (λ (ps : List Place). nat_eq (lock_at ps i) l) places in
+    let size : length after.places ≡ length now.places = ap (λ (ps : List Place). length ps) places in
+    let mine : is_own l before at ≡ true
+    = sym (ap (λ (ps : List Place). nat_eq (lock_at ps at) l) c.places)
+    ∙ (c.listed.own at (ap (list_any (nat_eq at)) e ∙ any_here xs at)).1 in
     record {
-      same = long ∙ c.same;
-      kept = record {
-        marks = λ i. set_each (λ j y. is_noted y ≡ true → list_any (nat_eq j) xs ≡ true) cells at x h
-            (λ on. false_true (sym (ap is_noted q) ∙ on))
-            i (λ other on. any_left xs at i (sym (ap (list_any (nat_eq i)) e) ∙ c.kept.marks i on) other);
-        within = λ i m. subst (λ (b : ℕ). i < b) (sym long)
-            (c.kept.within i (ap (list_any (nat_eq i)) e ∙ any_more xs at i m));
+      places = places ∙ c.places;
+      same = same;
+      listed = record {
+        marks = λ i mark. elim (cases_eq i at) [
+          | inl q ↦ false_true (sym (ap is_noted (ap (cell_at after.cells) q ∙ there))
+              ∙ and_right _ _ mark)
+          | inr o ↦ any_left xs at i
+              (sym (ap (list_any (nat_eq i)) e)
+              ∙ c.listed.marks i (sym (ap (λ b. b && is_noted (cell_at after.cells i)) (own i)
+              ∙ ap (λ (x : Cell). is_own l now i && is_noted x) (else i o)) ∙ mark)) o
+        ];
+        own = λ i any.
+            let was = c.listed.own i (ap (list_any (nat_eq i)) e ∙ any_more xs at i any) in
+            (subst (λ (b : ℕ). i < b) (sym size) was.0, own i ∙ was.1);
       };
-      exact = λ i. set_each (λ j y. closed t n y ≡ closed t n (cell_at before j)) cells at x h
-          (ap (closed t n) q ∙ c.exact at) i (λ _. c.exact i);
+      exact = λ i. elim (cases_eq i at) [
+        | inl q ↦ subst (λ j. closed_as (is_own l before j) t n (cell_at after.cells j)
+            ≡ closed_as (is_own l before j) t n (cell_at before.cells j)) (sym q)
+            (ap (λ b. closed_as b t n (cell_at after.cells at)) mine
+            ∙ ap (closed t n) there
+            ∙ sym (ap (λ b. closed_as b t n (cell_at now.cells at)) mine)
+            ∙ c.exact at)
+        | inr o ↦ ap (closed_as (is_own l before i) t n) (else i o) ∙ c.exact i
+      ];
     }
 
--- marking an access
-pub marked_at : (kind : AccessKind) (cells : List Cell) (at : ℕ) (x : Cell) → at < length cells
-    → x ≡ marked kind (cell_at cells at)
-    → (i : ℕ) → cell_at (set cells at x) i ≡ marked_as (nat_eq i at) kind (cell_at cells i)
-marked_at kind cells at x h q i = set_each (λ j y. y ≡ marked_as (nat_eq j at) kind (cell_at cells j)) cells
-    at x h
-    (q ∙ sym (ap (λ b. marked_as b kind (cell_at cells at)) (eq-eqb at at refl))) i
-    (λ n. sym (ap (λ b. marked_as b kind (cell_at cells i)) (ne_eqb i at n)))
+side_unnoted : (t n : ℕ) (s : Side) → s.noted ≡ false → closed_side t n s ≡ s
+side_unnoted t n s e =
+    ap (λ b. record { noted = false; newest = cond b (closed_two t n s.newest) s.newest }) e
+    ∙ ap (λ b. record { noted = b; newest = s.newest }) (sym e)
 
-noted_marked : (kind : AccessKind) (c : Cell) → is_noted (marked kind c) ≡ true
-noted_marked Read c = refl
-noted_marked Write c = by c.reads.noted
+-- a cell without accesses is closed already
+unnoted : (t n : ℕ) (c : Cell) → is_noted c ≡ false → closed t n c ≡ c
+unnoted t n c e =
+    ap (λ (x : Side). record { reads = x; writes = closed_side t n c.writes })
+    (side_unnoted t n c.reads (or_off_left c.reads.noted c.writes.noted e))
+    ∙ ap (λ (x : Side). record { reads = c.reads; writes = x })
+    (side_unnoted t n c.writes (or_off_right c.reads.noted c.writes.noted e))
+
+-- where none is left, each cell of the lock is closed
+pub closed_all : (l t n : ℕ) (before now : Stored) → Closing l t n before now [] → (i : ℕ)
+    → cell_at now.cells i ≡ closed_as (is_own l before i) t n (cell_at before.cells i)
+closed_all l t n before now c i =
+    by (is_own l before i) refl (is_noted (cell_at now.cells i)) refl ∙ c.exact i
   where
-    by : (b : Bool) → (b || true) ≡ true
-    by true = refl
-    by false = refl
+    by : (a : Bool) → is_own l before i ≡ a → (b : Bool) → is_noted (cell_at now.cells i) ≡ b
+        → cell_at now.cells i ≡ closed_as (is_own l before i) t n (cell_at now.cells i)
+    by false q b p = sym (ap (λ x. closed_as x t n (cell_at now.cells i)) q)
+    by true q false p =
+        sym (unnoted t n (cell_at now.cells i) p) ∙ sym (ap (λ x. closed_as x t n (cell_at now.cells i)) q)
+    by true q true p = false_true (c.listed.marks i
+        (ap (λ x. x && is_noted (cell_at now.cells i))
+        (ap (λ (ps : List Place). nat_eq (lock_at ps i) l) c.places ∙ q) ∙ p))
 
--- the marked cell is in the list
-marked_kept : (cells : List Cell) (at : ℕ) (x : Cell) (xs ys : List ℕ) → at < length cells
-    → ((i : ℕ) → list_any (nat_eq i) xs ≡ true → list_any (nat_eq i) ys ≡ true)
-    → ((i : ℕ) → list_any (nat_eq i) ys ≡ true → i < length cells)
-    → list_any (nat_eq at) ys ≡ true
-    → AreKept cells xs → AreKept (set cells at x) ys
-marked_kept cells at x xs ys h more within on c = record {
-  marks = λ i. set_each (λ j y. is_noted y ≡ true → list_any (nat_eq j) ys ≡ true) cells at x h
-      (λ _. on) i (λ _ m. more i (c.marks i m));
-  within = λ i m. subst (λ (b : ℕ). i < b) (sym (length-set cells at x)) (within i m);
+-- and the others are as before
+pub closed_changed : (l t n : ℕ) (before now : Stored) → length before.cells ≡ length before.places
+    → Closing l t n before now [] → Changed l before now
+closed_changed l t n before now was c = record {
+  places = c.places;
+  was = was;
+  same = c.same;
+  others = λ i off. closed_all l t n before now c i
+      ∙ ap (λ x. closed_as x t n (cell_at before.cells i)) off;
 }
 
-pub marked_first : (cells : List Cell) (at : ℕ) (x : Cell) (xs ys : List ℕ) → at < length cells
-    → ys ≡ xs ++ at ∷ [] → AreKept cells xs → AreKept (set cells at x) ys
-marked_first cells at x xs ys h e c = marked_kept cells at x xs ys h
-    (λ i m. ap (list_any (nat_eq i)) e ∙ any_more xs at i m)
-    (λ i m. elim (cases_eq i at) [
-      | inl same ↦ subst (λ (b : ℕ). b < length cells) (sym same) h
-      | inr other ↦ c.within i (any_left xs at i (sym (ap (list_any (nat_eq i)) e) ∙ m) other)
-    ])
-    (ap (list_any (nat_eq at)) e ∙ any_here xs at)
-    c
-
-pub marked_again : (cells : List Cell) (at : ℕ) (x : Cell) (xs : List ℕ) → at < length cells
-    → is_noted (cell_at cells at) ≡ true → AreKept cells xs → AreKept (set cells at x) xs
-marked_again cells at x xs h on c = marked_kept cells at x xs xs h (λ i m. m) c.within (c.marks at on) c
-
--- how many cells have a noted access
-counted_set : (cells : List Cell) (at : ℕ) (x : Cell) → at < length cells
-    → count_by is_noted (set cells at x) + cond {A = ℕ} (is_noted (cell_at cells at)) 1 0
-    ≡ count_by is_noted cells + cond {A = ℕ} (is_noted x) 1 0
-counted_set cells at x h = sum_by-set (λ c. cond {A = ℕ} (is_noted c) 1 0) cells at x no_cell h
-
-pub few_first : (kind : AccessKind) (cells : List Cell) (at : ℕ) (x : Cell) (xs ys : List ℕ)
-    → at < length cells
-    → x ≡ marked kind (cell_at cells at) → is_noted (cell_at cells at) ≡ false → ys ≡ xs ++ at ∷ []
-    → AreFew cells xs → AreFew (set cells at x) ys
-few_first kind cells at x xs ys h q off e few =
-    let n = counted_set cells at x h in
-    let old : cond {A = ℕ} (is_noted (cell_at cells at)) 1 0 ≡ 0 = ap (λ b. cond {A = ℕ} b 1 0) off in
-    let new : cond {A = ℕ} (is_noted x) 1 0
-    ≡ 1 = ap (λ b. cond {A = ℕ} b 1 0) (ap is_noted q ∙ noted_marked kind _) in
-    let long : length ys ≡ length xs + 1 = ap length e ∙ length_push xs at in
-    omega (arith, n, old, new, long, few)
-
-pub few_again : (kind : AccessKind) (cells : List Cell) (at : ℕ) (x : Cell) (xs : List ℕ) → at < length cells
-    → x ≡ marked kind (cell_at cells at) → is_noted (cell_at cells at) ≡ true
-    → AreFew cells xs → AreFew (set cells at x) xs
-few_again kind cells at x xs h q on few =
-    let n = counted_set cells at x h in
-    let old : cond {A = ℕ} (is_noted (cell_at cells at)) 1 0 ≡ 1 = ap (λ b. cond {A = ℕ} b 1 0) on in
-    let new : cond {A = ℕ} (is_noted x) 1 0
-    ≡ 1 = ap (λ b. cond {A = ℕ} b 1 0) (ap is_noted q ∙ noted_marked kind _) in
-    omega (arith, n, old, new, few)
-
--- a cell that is not noted leaves room in the list
-pub spare : (kind : AccessKind) (cells : List Cell) (at : ℕ) (xs : List ℕ) → at < length cells
-    → is_noted (cell_at cells at) ≡ false → AreFew cells xs → length xs < length cells
-spare kind cells at xs h off few =
-    let n = counted_set cells at (marked kind (cell_at cells at)) h in
-    let old : cond {A = ℕ} (is_noted (cell_at cells at)) 1 0 ≡ 0 = ap (λ b. cond {A = ℕ} b 1 0) off in
-    let new : cond {A = ℕ} (is_noted (marked kind (cell_at cells at))) 1 0 ≡ 1
-    = ap (λ b. cond {A = ℕ} b 1 0) (noted_marked kind (cell_at cells at)) in
-    let most = count_by-le-length is_noted (set cells at (marked kind (cell_at cells at))) in
-    let long = length-set cells at (marked kind (cell_at cells at)) in
-    omega (arith, n, old, new, most, long, few)
-
-pub not_false : (b : Bool) → not b ≡ false → b ≡ true
-not_false true e = refl
-not_false false e = sym e
-
-pub not_true : (b : Bool) → not b ≡ true → b ≡ false
-not_true true e = sym e
-not_true false e = refl
+-- what is kept of the lock, with an empty list
+pub kept_closed : (l t n : ℕ) (before now : Stored) (k : Kept) → IsKept l before k
+    → Closing l t n before now [] → IsKept l now (record k { listed = [] })
+kept_closed l t n before now k kept c =
+    let size : length now.places ≡ length before.places = ap (λ (ps : List Place). length ps) c.places in
+    let owns : count_to (is_own l now) (length now.places) ≡ count_to (is_own l before) (length before.places)
+    = ap (count_to (is_own l now)) size ∙ count_same (is_own l now) (is_own l before) (length before.places)
+    (λ i _. ap (λ (ps : List Place). nat_eq (lock_at ps i) l) c.places) in
+    record {
+      same = c.same;
+      listed = c.listed;
+      few = omega arith;
+      count = subst (λ (b : ℕ). b ≤ k.count) (sym owns) kept.count;
+      capacity = kept.capacity;
+      sought = subst (λ (ps : List Place). IsSought l ps k.sought) (sym c.places) kept.sought;
+    }

@@ -1,6 +1,10 @@
 mod Basics
+mod Changed
+mod Counts
+mod Standing
+mod Keeping
 mod Closing
-mod Places
 mod Says
-mod Locks
+mod Passing
+mod Sayings
 mod Meaning

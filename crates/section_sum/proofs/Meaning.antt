@@ -1,14 +1,16 @@
--- What the tables' changes are in the words that callers see.
+-- What the changes are in the words that callers see.
 use Rattle.std.proofs.Common.{◌≡◌, ℕ, ◌≤◌, Bool, true, false, not, ◌&&◌, ◌||◌, cond, List, nat_eq}
 use Rattle.std.proofs.Common.{[], ◌∷◌, length, length-append, refl, arith}
 use Rattle.event_core.specs.declared.ids.LockId.{LockId}
 use Rattle.event_core.specs.declared.events.AccessKind.{AccessKind}
 use Rattle.event_core.specs.declared.events.AccessKind.TheVariants.{Read, Write}
 use Rattle.section_sum.specs.Newest.{section}
-use Rattle.section_sum.specs.Entries.{Entries, sources_on}
+use Rattle.section_sum.specs.Cells.{Stored}
+use Rattle.section_sum.specs.Kept.{Kept}
+use Rattle.section_sum.specs.Entries.{sources_on}
 use Rattle.section_sum.specs.Sums.{
   Sums,
-  table_at,
+  said_of,
   noted_of,
   others_of,
   room_of,
@@ -19,10 +21,10 @@ use Rattle.section_sum.specs.Sums.{
   KeepsRoom,
 }
 use Rattle.section_sum.specs.Sources.{most_sources}
-use Rattle.section_sum.specs.Tables.{HaveGrown, HaveNoted, HaveClosed}
+use Rattle.section_sum.specs.Locks.{SaySame, HaveNoted, HaveClosed}
 
-abbrev pub sums : List Entries → Sums
-sums tables = record { tables = tables }
+abbrev pub sums : Stored → List Kept → Sums
+sums cells locks = record { cells = cells; locks = locks }
 
 pub record Grows (old new : Sums) : Type 0 where
   pub noted : SameNoted old new
@@ -44,30 +46,30 @@ pub record Closes (thread lock number : ℕ) (old new : Sums) : Type 0 where
       number (others_of old l v k t)
   pub kept : KeepsRoom old new
 
-pub grows : (before after : List Entries) → HaveGrown before after → Grows (sums before) (sums after)
+pub grows : (old new : Sums) → SaySame (said_of old) (said_of new) → Grows old new
 unfolding noted_of others_of room_of
-grows before after g = record {
+grows old new g = record {
   noted = λ t l v k. (g l).noted t v k;
   others = λ l v k t. (g l).others v k t;
   kept = λ l v. (g l).room v;
 }
 
-pub notes : (thread : ℕ) (held : List LockId) (var : ℕ) (kind : AccessKind) (before after : List Entries)
-    → HaveNoted thread held var kind before after → Notes thread held var kind (sums before) (sums after)
+pub notes : (thread : ℕ) (held : List LockId) (var : ℕ) (kind : AccessKind) (old new : Sums)
+    → HaveNoted thread held var kind (said_of old) (said_of new) → Notes thread held var kind old new
 unfolding noted_of others_of room_of
-notes thread held var kind before after a = record { noted = a.noted; others = a.others; kept = a.room }
+notes thread held var kind old new a = record { noted = a.noted; others = a.others; kept = a.room }
 
-pub closes : (thread lock number : ℕ) (before after : List Entries)
-    → HaveClosed thread lock number before after → Closes thread lock number (sums before) (sums after)
+pub closes : (thread lock number : ℕ) (old new : Sums)
+    → HaveClosed thread lock number (said_of old) (said_of new) → Closes thread lock number old new
 unfolding noted_of others_of room_of
-closes thread lock number before after a = record { noted = a.noted; others = a.others; kept = a.room }
+closes thread lock number old new a = record { noted = a.noted; others = a.others; kept = a.room }
 
 -- the sections that an access meets
-pub meets : (tables : List Entries) (l v : ℕ) (k : AccessKind) (t : ℕ)
-    → sources_on (table_at tables l) v k t ≡ sources_of (sums tables) l v k t
+pub meets : (s : Sums) (l v : ℕ) (k : AccessKind) (t : ℕ)
+    → sources_on (said_of s l) v k t ≡ sources_of s l v k t
 unfolding sources_of others_of
-meets tables l v Read t = refl
-meets tables l v Write t = refl
+meets s l v Read t = refl
+meets s l v Write t = refl
 
 few_section : (n : ℕ) → length (section n) ≤ 1
 few_section n = by (nat_eq n 0)

@@ -1,4 +1,4 @@
--- What a table says after an access is noted, and after a section's end.
+-- What is said of a lock after an access is noted, and after a section's end.
 use Rattle.std.proofs.Common.{
   ◌≡◌,
   ℕ,
@@ -12,35 +12,38 @@ use Rattle.std.proofs.Common.{
   ◌&&◌,
   ◌||◌,
   ◌⊎◌,
-  List,
-  length,
   nat_eq,
   refl,
   sym,
   ap,
   ◌∙◌,
 }
-use Rattle.std.specs.Prelude.{nat_lt}
-use Rattle.std.proofs.lemmas.Bool.{cases_eq, eq-eqb}
+use Rattle.std.proofs.lemmas.Bool.{cases_eq, eq-eqb, ne_eqb}
 use Rattle.event_core.specs.declared.events.AccessKind.{AccessKind}
 use Rattle.event_core.specs.declared.events.AccessKind.TheVariants.{Read, Write}
 use Rattle.section_sum.specs.declared.cell.Side.{Side}
 use Rattle.section_sum.specs.declared.cell.Cell.{Cell}
 use Rattle.section_sum.specs.declared.newest.Newest.{Newest}
 use Rattle.section_sum.specs.Newest.{others_at, closed_two}
-use Rattle.section_sum.specs.Cells.{side, is_kind, closed, closed_side, marked_as}
-use Rattle.section_sum.specs.Entries.{
-  Entries,
-  place_of,
-  cell_of,
-  noted_at,
-  others_on,
-  IsAlone,
-  HasNoted,
-  HasClosed,
+use Rattle.section_sum.specs.Cell.{no_cell, side, is_kind, closed, closed_side, marked_as}
+use Rattle.section_sum.specs.Entries.{Entries, noted_at, others_on, IsAlone, SaysSame, HasNoted, HasClosed}
+use Rattle.section_sum.proofs.Basics.{or_true, or_false, and_true, and_false}
+
+-- the same cells of the same thread say the same
+pub says_same : (before after : Entries) → ((v : ℕ) → after.cell v ≡ before.cell v) → after.by ≡ before.by
+    → ((v : ℕ) → before.room v ≡ true → after.room v ≡ true) → SaysSame before after
+says_same before after cells by room = record {
+  noted = λ t v k.
+      ap (λ b. nat_eq t b && (side k (after.cell v)).noted) by
+      ∙ ap (λ (c : Cell). nat_eq t before.by && (side k c).noted) (cells v);
+  others = λ v k t. ap (λ (c : Cell). others_at (side k c).newest t) (cells v);
+  room = room;
 }
-use Rattle.section_sum.proofs.Basics.{ne_eqb, or_true, or_false, and_true, and_false}
-use Rattle.section_sum.proofs.Closing.{side_closed}
+
+side_closed : (t n : ℕ) (c : Cell) (kind : AccessKind) → side kind (closed t n c)
+    ≡ closed_side t n (side kind c)
+side_closed t n c Read = refl
+side_closed t n c Write = refl
 
 noted_marked_as : (b : Bool) (kind k : AccessKind) (c : Cell)
     → (side k (marked_as b kind c)).noted ≡ ((side k c).noted || (b && is_kind k kind))
@@ -59,43 +62,43 @@ newest_marked_as true Write Write c = refl
 newest_marked_as false kind k c = refl
 
 pub says_noted : (thread var : ℕ) (kind : AccessKind) (before after : Entries) → IsAlone before thread
-    → ((v : ℕ) → cell_of after v ≡ marked_as (nat_eq v var) kind (cell_of before v)) → after.by ≡ thread
-    → after.vars ≡ before.vars → HasNoted thread var kind before after
-says_noted thread var kind before after alone cells by vars = record {
+    → ((v : ℕ) → after.cell v ≡ marked_as (nat_eq v var) kind (before.cell v)) → after.by ≡ thread
+    → ((v : ℕ) → before.room v ≡ true → after.room v ≡ true) → HasNoted thread var kind before after
+says_noted thread var kind before after alone cells by room = record {
   noted = λ t v k.
-      ap (λ b. nat_eq t b && (side k (cell_of after v)).noted) by
+      ap (λ b. nat_eq t b && (side k (after.cell v)).noted) by
       ∙ ap (λ (c : Cell). nat_eq t thread && (side k c).noted) (cells v)
-      ∙ ap (λ b. nat_eq t thread && b) (noted_marked_as (nat_eq v var) kind k (cell_of before v))
+      ∙ ap (λ b. nat_eq t thread && b) (noted_marked_as (nat_eq v var) kind k (before.cell v))
       ∙ either t v k (cases_eq t thread);
   others = λ v k t. ap (λ (n : Newest). others_at n t) (newest v k);
-  room = λ v h. ap (λ (xs : List ℕ). nat_lt (place_of xs v) (length xs)) vars ∙ h;
+  room = room;
 }
   where
-    newest : (v : ℕ) (k : AccessKind) → (side k (cell_of after v)).newest ≡ (side k (cell_of before v)).newest
+    newest : (v : ℕ) (k : AccessKind) → (side k (after.cell v)).newest ≡ (side k (before.cell v)).newest
     newest v k = ap (λ (c : Cell). (side k c).newest) (cells v)
-        ∙ newest_marked_as (nat_eq v var) kind k (cell_of before v)
+        ∙ newest_marked_as (nat_eq v var) kind k (before.cell v)
 
-    own : (v : ℕ) (k : AccessKind) → (side k (cell_of before v)).noted ≡ noted_at before thread v k
+    own : (v : ℕ) (k : AccessKind) → (side k (before.cell v)).noted ≡ noted_at before thread v k
     own v k = elim (cases_eq before.by thread) [
-      | inl e ↦ sym (ap (λ b. b && (side k (cell_of before v)).noted) (eq-eqb thread before.by (sym e)))
+      | inl e ↦ sym (ap (λ b. b && (side k (before.cell v)).noted) (eq-eqb thread before.by (sym e)))
       | inr n ↦
-          let off : (side k (cell_of before v)).noted ≡ false
-          = sym (ap (λ b. b && (side k (cell_of before v)).noted) (eq-eqb before.by before.by refl))
+          let off : (side k (before.cell v)).noted ≡ false
+          = sym (ap (λ b. b && (side k (before.cell v)).noted) (eq-eqb before.by before.by refl))
           ∙ alone before.by v k n in
           off ∙ sym (and_false (nat_eq thread before.by)) ∙ ap (λ b. nat_eq thread before.by && b) (sym off)
     ]
 
     either : (t v : ℕ) (k : AccessKind) → (t ≡ thread) ⊎ (t ≡ thread → ⊥)
-        → (nat_eq t thread && ((side k (cell_of before v)).noted || (nat_eq v var && is_kind k kind)))
+        → (nat_eq t thread && ((side k (before.cell v)).noted || (nat_eq v var && is_kind k kind)))
         ≡ (noted_at before t v k || (nat_eq t thread && (nat_eq v var && is_kind k kind)))
     either t v k (inl e) =
         let one : nat_eq t thread ≡ true = eq-eqb t thread e in
-        ap (λ b. b && ((side k (cell_of before v)).noted || (nat_eq v var && is_kind k kind))) one
+        ap (λ b. b && ((side k (before.cell v)).noted || (nat_eq v var && is_kind k kind))) one
         ∙ ap (λ b. b || (nat_eq v var && is_kind k kind)) (own v k ∙ ap (λ s. noted_at before s v k) (sym e))
         ∙ ap (λ b. noted_at before t v k || (b && (nat_eq v var && is_kind k kind))) (sym one)
     either t v k (inr n) =
         let none : nat_eq t thread ≡ false = ne_eqb t thread n in
-        ap (λ b. b && ((side k (cell_of before v)).noted || (nat_eq v var && is_kind k kind))) none
+        ap (λ b. b && ((side k (before.cell v)).noted || (nat_eq v var && is_kind k kind))) none
         ∙ sym (alone t v k n) ∙ sym (or_false (noted_at before t v k))
         ∙ ap (λ b. noted_at before t v k || (b && (nat_eq v var && is_kind k kind))) (sym none)
 
@@ -125,26 +128,27 @@ closed_says th number s t = by s.noted
 
 -- the open section is the thread's
 pub says_closed : (thread number : ℕ) (before after : Entries)
-    → ((v : ℕ) → cell_of after v ≡ closed before.by number (cell_of before v)) → after.by ≡ before.by
-    → after.vars ≡ before.vars → before.by ≡ thread → HasClosed thread number before after
-says_closed thread number before after cells by vars own = record {
+    → ((v : ℕ) → after.cell v ≡ closed before.by number (before.cell v)) → after.by ≡ before.by
+    → ((v : ℕ) → before.room v ≡ true → after.room v ≡ true) → before.by ≡ thread
+    → HasClosed thread number before after
+says_closed thread number before after cells by room own = record {
   noted = λ t v k.
       ap (λ b. nat_eq t after.by && b) (ap (λ (s : Side). s.noted) (sides v k))
       ∙ and_false (nat_eq t after.by)
-      ∙ sym (ap (λ b. (nat_eq t before.by && (side k (cell_of before v)).noted) && not (nat_eq t b)) (sym own)
-      ∙ never (nat_eq t before.by) (side k (cell_of before v)).noted);
+      ∙ sym (ap (λ b. (nat_eq t before.by && (side k (before.cell v)).noted) && not (nat_eq t b)) (sym own)
+      ∙ never (nat_eq t before.by) (side k (before.cell v)).noted);
   others = λ v k t.
       ap (λ (s : Side). others_at s.newest t) (sides v k)
-      ∙ closed_says before.by number (side k (cell_of before v)) t
+      ∙ closed_says before.by number (side k (before.cell v)) t
       ∙ ap (λ b. cond (not (nat_eq t before.by) && b) number (others_on before v k t))
-      (sym (ap (λ b. b && (side k (cell_of before v)).noted) (eq-eqb before.by before.by refl)))
+      (sym (ap (λ b. b && (side k (before.cell v)).noted) (eq-eqb before.by before.by refl)))
       ∙ ap (λ b. cond (not (nat_eq t b) && noted_at before b v k) number (others_on before v k t)) own;
-  room = λ v h. ap (λ (xs : List ℕ). nat_lt (place_of xs v) (length xs)) vars ∙ h;
+  room = room;
 }
   where
-    sides : (v : ℕ) (k : AccessKind) → side k (cell_of after v)
-        ≡ closed_side before.by number (side k (cell_of before v))
-    sides v k = ap (side k) (cells v) ∙ side_closed before.by number (cell_of before v) k
+    sides : (v : ℕ) (k : AccessKind) → side k (after.cell v)
+        ≡ closed_side before.by number (side k (before.cell v))
+    sides v k = ap (side k) (cells v) ∙ side_closed before.by number (before.cell v) k
 
     never : (a b : Bool) → ((a && b) && not a) ≡ false
     never true b = and_false b
@@ -156,7 +160,7 @@ pub says_other : (thread number : ℕ) (before : Entries) → (before.by ≡ thr
 says_other thread number before other = record {
   noted = λ t v k. kept t v k (cases_eq t thread);
   others = λ v k t.
-      sym (ap (λ b. cond (not (nat_eq t thread) && (b && (side k (cell_of before v)).noted))
+      sym (ap (λ b. cond (not (nat_eq t thread) && (b && (side k (before.cell v)).noted))
       number (others_on before v k t)) off
       ∙ ap (λ b. cond b number (others_on before v k t)) (and_false (not (nat_eq t thread))));
   room = λ v h. h;
@@ -169,8 +173,44 @@ says_other thread number before other = record {
         → noted_at before t v k ≡ (noted_at before t v k && not (nat_eq t thread))
     kept t v k (inl e) =
         let none : noted_at before t v k ≡ false
-        = ap (λ b. b && (side k (cell_of before v)).noted) (ap (λ s. nat_eq s before.by) e ∙ off) in
+        = ap (λ b. b && (side k (before.cell v)).noted) (ap (λ s. nat_eq s before.by) e ∙ off) in
         none ∙ sym (ap (λ b. b && not (nat_eq t thread)) none)
     kept t v k (inr n) =
         sym (and_true (noted_at before t v k))
         ∙ ap (λ b. noted_at before t v k && not b) (sym (ne_eqb t thread n))
+
+side_off : (k : AccessKind) → (side k no_cell).noted ≡ false
+side_off Read = refl
+side_off Write = refl
+
+-- cells without accesses
+pub none_noted : (p : Entries) → ((v : ℕ) → p.cell v ≡ no_cell) → (t v : ℕ) (k : AccessKind)
+    → noted_at p t v k ≡ false
+none_noted p none t v k =
+    ap (λ (c : Cell). nat_eq t p.by && (side k c).noted) (none v)
+    ∙ ap (λ b. nat_eq t p.by && b) (side_off k) ∙ and_false (nat_eq t p.by)
+
+pub none_others : (p : Entries) → ((v : ℕ) → p.cell v ≡ no_cell) → (v : ℕ) (k : AccessKind) (t : ℕ)
+    → others_on p v k t ≡ 0
+none_others p none v k t = ap (λ (c : Cell). others_at (side k c).newest t) (none v) ∙ zero k
+  where
+    zeros : (b : Bool) → cond {A = ℕ} b 0 0 ≡ 0
+    zeros true = refl
+    zeros false = refl
+
+    zero : (k : AccessKind) → others_at (side k no_cell).newest t ≡ 0
+    zero Read = zeros (nat_eq t 0)
+    zero Write = zeros (nat_eq t 0)
+
+-- no section had an access
+pub says_none : (thread number : ℕ) (p : Entries) → ((v : ℕ) → p.cell v ≡ no_cell)
+    → HasClosed thread number p p
+says_none thread number p none = record {
+  noted = λ t v k.
+      none_noted p none t v k ∙ sym (ap (λ b. b && not (nat_eq t thread)) (none_noted p none t v k));
+  others = λ v k t.
+      sym (ap (λ b. cond b number (others_on p v k t))
+      (ap (λ b. not (nat_eq t thread) && b) (none_noted p none thread v k)
+      ∙ and_false (not (nat_eq t thread))));
+  room = λ v h. h;
+}

@@ -1,77 +1,60 @@
--- What is kept of a variable under a lock.
+-- The cells of all locks, and where they stand.
 use Rattle.std.specs.Prelude.{
   ℕ,
+  zero,
+  suc,
+  ◌+◌,
   ◌≡◌,
-  ◌<◌,
-  ◌≤◌,
   Bool,
-  true,
-  false,
-  ◌||◌,
-  List,
-  length,
+  ◌&&◌,
+  ◌++◌,
+  ◌⊎◌,
   cond,
+  List,
+  [],
+  ◌∷◌,
+  length,
   nat_eq,
   slice_index_or,
 }
-use Rattle.std.specs.List.{list_any, count_by}
-use Rattle.section_sum.specs.Newest.{no_sections, closed_two}
+use Rattle.std.specs.List.{position_or_len}
+use Rattle.section_sum.specs.Cell.{no_cell}
 use Rattle.section_sum.specs.declared.cell.Cell.{Cell}
-use Rattle.section_sum.specs.declared.cell.Side.{Side}
-use Rattle.event_core.specs.declared.events.AccessKind.{AccessKind}
-use Rattle.event_core.specs.declared.events.AccessKind.TheVariants.{Read, Write}
+use Rattle.section_sum.specs.declared.cells.Place.{Place}
 
-abbrev pub no_side : Side
-no_side = record { noted = false; newest = no_sections }
+-- the pairs of a lock and a variable with a cell, and their cells
+pub record Stored : Type 0 where
+  pub places : List Place
+  pub cells : List Cell
 
-abbrev pub no_cell : Cell
-no_cell = record { reads = no_side; writes = no_side }
+abbrev pub no_cells : Stored
+no_cells = record { places = []; cells = [] }
 
--- past the end is no access
-abbrev pub cell_at : List Cell → ℕ → Cell
-cell_at cells i = slice_index_or cells i no_cell
+abbrev pub is_place : ℕ → ℕ → Place → Bool
+is_place l v p = nat_eq l p.lock.0 && nat_eq v p.var.0
 
-abbrev pub side : AccessKind → Cell → Side
-side Read c = c.reads
-side Write c = c.writes
+abbrev pub place_of : List Place → ℕ → ℕ → ℕ
+place_of places l v = position_or_len (is_place l v) places
 
-abbrev pub is_kind : AccessKind → AccessKind → Bool
-is_kind Read Read = true
-is_kind Read Write = false
-is_kind Write Read = false
-is_kind Write Write = true
+abbrev pub place : ℕ → ℕ → Place
+place l v = record { lock = record { 0 = l }; var = record { 0 = v } }
 
-abbrev pub is_noted : Cell → Bool
-is_noted c = c.reads.noted || c.writes.noted
+abbrev pub lock_at : List Place → ℕ → ℕ
+lock_at places i = (slice_index_or places i (place 0 0)).lock.0
 
--- after the end of the thread's section with the number
-abbrev pub closed_side : ℕ → ℕ → Side → Side
-closed_side t n s = record { noted = false; newest = cond s.noted (closed_two t n s.newest) s.newest }
+-- with a cell of the variable under the lock
+abbrev pub with_place : Stored → ℕ → ℕ → Stored
+with_place s l v = record {
+  places = s.places ++ place l v ∷ [];
+  cells = s.cells ++ no_cell ∷ [];
+}
 
-abbrev pub closed : ℕ → ℕ → Cell → Cell
-closed t n c = record { reads = closed_side t n c.reads; writes = closed_side t n c.writes }
+-- the variable got a cell under the lock, or had one, or there was no memory for it
+abbrev pub HasGrown : ℕ → ℕ → Stored → Stored → Type 0
+HasGrown l v old new = (new ≡ old)
+    ⊎ ((place_of old.places l v ≡ length old.places) × (new ≡ with_place old l v))
 
-abbrev pub marked_side : Side → Side
-marked_side s = record { noted = true; newest = s.newest }
-
-abbrev pub marked : AccessKind → Cell → Cell
-marked Read c = record { reads = marked_side c.reads; writes = c.writes }
-marked Write c = record { reads = c.reads; writes = marked_side c.writes }
-
-abbrev pub marked_as : Bool → AccessKind → Cell → Cell
-marked_as b k c = cond b (marked k c) c
-
--- the cells with a noted access are listed, and no number past the end
-pub record AreKept (cells : List Cell) (listed : List ℕ) : Type 0 where
-  pub marks : (i : ℕ) → is_noted (cell_at cells i) ≡ true → list_any (nat_eq i) listed ≡ true
-  pub within : (i : ℕ) → list_any (nat_eq i) listed ≡ true → i < length cells
-
--- no more are listed than have a noted access
-abbrev pub AreFew : List Cell → List ℕ → Type 0
-AreFew cells listed = length listed ≤ count_by is_noted cells
-
--- some of the listed cells are closed, and the others are left in the list
-pub record Closing (t n : ℕ) (before cells : List Cell) (left : List ℕ) : Type 0 where
-  pub same : length cells ≡ length before
-  pub kept : AreKept cells left
-  pub exact : (i : ℕ) → closed t n (cell_at cells i) ≡ closed t n (cell_at before i)
+-- how many of the numbers below n pass
+abbrev pub count_to : (ℕ → Bool) → ℕ → ℕ
+count_to f zero = 0
+count_to f (suc n) = count_to f n + cond (f n) 1 0

@@ -1,35 +1,36 @@
 -- What is kept of all locks, in numbers.
-use Rattle.std.specs.Prelude.{ℕ, ◌≡◌, Bool, true, false, ◌&&◌, ◌++◌, List, [], nat_eq, slice_index_or}
+use Rattle.std.specs.Prelude.{ℕ, ◌≡◌, Bool, true, false, ◌&&◌, ◌++◌, List, nat_eq}
 use Rattle.std.specs.List.{list_any}
 use Rattle.event_core.specs.declared.ids.LockId.{LockId}
 use Rattle.event_core.specs.declared.events.AccessKind.{AccessKind}
 use Rattle.event_core.specs.declared.events.AccessKind.TheVariants.{Read, Write}
 use Rattle.section_sum.specs.Newest.{section}
-use Rattle.section_sum.specs.Cells.{is_kind}
-use Rattle.section_sum.specs.Entries.{Entries, noted_at, others_on, room_at}
+use Rattle.section_sum.specs.Cell.{is_kind}
+use Rattle.section_sum.specs.Cells.{Stored}
+use Rattle.section_sum.specs.Kept.{Kept}
+use Rattle.section_sum.specs.Entries.{Entries, entries_of, noted_at, others_on}
 
--- a table for each lock
+-- the cells of all locks, and what is kept of each lock beside them
 pub record Sums : Type 0 where
-  pub tables : List Entries
+  pub cells : Stored
+  pub locks : List Kept
 
-abbrev pub no_entries : Entries
-no_entries = record { vars = []; cells = []; by = 0 }
-
-abbrev pub table_at : List Entries → ℕ → Entries
-table_at tables l = slice_index_or tables l no_entries
+-- what is said of the lock
+abbrev pub said_of : Sums → ℕ → Entries
+said_of s = entries_of s.cells s.locks
 
 -- the thread's open section on the lock has such an access to the variable
 unfoldable pub noted_of : Sums → ℕ → ℕ → ℕ → AccessKind → Bool
-noted_of s thread lock var kind = noted_at (table_at s.tables lock) thread var kind
+noted_of s thread lock var kind = noted_at (said_of s lock) thread var kind
 
 -- the number of the newest closed section on the lock by another thread with such an access to the
 -- variable, 0 where there is none
 unfoldable pub others_of : Sums → ℕ → ℕ → AccessKind → ℕ → ℕ
-others_of s lock var kind thread = others_on (table_at s.tables lock) var kind thread
+others_of s lock var kind thread = others_on (said_of s lock) var kind thread
 
 -- an access to the variable in a section on the lock, and that section's end, need no memory
 unfoldable pub room_of : Sums → ℕ → ℕ → Bool
-room_of s lock var = room_at (table_at s.tables lock) var
+room_of s lock var = (said_of s lock).room var
 
 -- the lock is one of the list
 abbrev pub is_held : List LockId → ℕ → Bool

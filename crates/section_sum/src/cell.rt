@@ -1,10 +1,11 @@
 //! What is kept of a variable under a lock: of each kind of access, whether the open section has one,
 //! and the newest closed sections with one.
-ghost use Rattle.std.specs.Prelude.{◌≡◌, ℕ, ◌<◌, ◌≤◌, length, vec_capacity, not, nat_eq, []};
-ghost use Rattle.section_sum.specs.Cells.{closed_side, closed, marked, marked_as, is_noted};
-ghost use Rattle.section_sum.specs.Cells.{cell_at, no_cell, AreKept, AreFew};
+ghost use Rattle.std.specs.Prelude.{◌≡◌, not};
+ghost use Rattle.section_sum.specs.Cell.{closed_side, closed, marked, is_noted, no_cell, sources_in};
+ghost use Rattle.section_sum.specs.Sources.{left};
 
 use crate::newest::Newest;
+use crate::sources::Sources;
 use event_core::{AccessKind, ThreadId};
 use std::mem::size_of;
 
@@ -49,16 +50,16 @@ fn close_side(side: &mut Side, thread: ThreadId, number: u32)
     }
 }
 
-// The thread's section with the number ends.
-fn close_cell(cell: &mut Cell, thread: ThreadId, number: u32)
+/// The thread's section with the number ends.
+pub fn close_cell(cell: &mut Cell, thread: ThreadId, number: u32)
     ensures exact { cell.new ≡ closed thread.0 number cell.old }
 {
     close_side(&mut cell.reads, thread, number);
     close_side(&mut cell.writes, thread, number);
 }
 
-// The section has such an access. Answers whether it is its first of the variable.
-fn mark(cell: &mut Cell, kind: AccessKind) -> bool
+/// The open section has such an access. Answers whether it is its first of the variable.
+pub fn mark_cell(cell: &mut Cell, kind: AccessKind) -> bool
     ensures exact { cell.new ≡ marked kind cell.old }
     ensures first { result ≡ not (is_noted cell.old) }
 {
@@ -70,36 +71,21 @@ fn mark(cell: &mut Cell, kind: AccessKind) -> bool
     first
 }
 
-/// The thread's section with the number ends, for each listed cell.
-pub fn close_cells(cells: &mut [Cell], listed: &mut Vec<usize>, thread: ThreadId, number: u32)
-    requires kept { AreKept cells.old listed.old.items }
-    ensures same { length cells.new ≡ length cells.old }
-    ensures exact { (i : ℕ) → cell_at cells.new i ≡ closed thread.0 number (cell_at cells.old i) }
-    ensures kept { AreKept cells.new listed.new.items }
-    ensures empty { listed.new.items ≡ [] }
-    ensures capacity { vec_capacity listed.new ≡ vec_capacity listed.old }
+/// The sections that such an access meets: the newest by another thread with a store, and for a store
+/// also that with a load.
+#[tactic(auto, unfolding(crate::specs::Sources::left))]
+pub fn sources(cell: &Cell, thread: ThreadId, kind: AccessKind) -> Sources
+    ensures { left result ≡ sources_in cell.now kind thread.0 }
 {
-    'closing: while let Some(at) = listed.pop() {
-        let cell = &mut cells[at];
-        close_cell(cell, thread, number);
-    }
-}
-
-/// The open section has such an access to the cell.
-#[tactic(auto, using(crate::proofs::Closing::marked_at))]
-pub fn note_cell(cells: &mut [Cell], listed: &mut Vec<usize>, at: usize, kind: AccessKind)
-    requires within { at < length cells.old }
-    requires few { AreFew cells.old listed.old.items }
-    requires capacity { length cells.old ≤ vec_capacity listed.old }
-    ensures same { length cells.new ≡ length cells.old }
-    ensures exact { (i : ℕ) → cell_at cells.new i ≡ marked_as (nat_eq i at) kind (cell_at cells.old i) }
-    ensures kept { AreKept cells.old listed.old.items → AreKept cells.new listed.new.items }
-    ensures few { AreFew cells.new listed.new.items }
-    ensures capacity { vec_capacity listed.new ≡ vec_capacity listed.old }
-{
-    let cell = &mut cells[at];
-    let first = mark(cell, kind);
-    if first {
-        listed.push_reserved(at);
+    let stores = cell.writes.newest.source(thread);
+    match kind {
+        AccessKind::Read => Sources {
+            first: stores,
+            second: None,
+        },
+        AccessKind::Write => Sources {
+            first: stores,
+            second: cell.reads.newest.source(thread),
+        },
     }
 }

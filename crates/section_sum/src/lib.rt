@@ -18,11 +18,12 @@
 #![tactic(auto)]
 
 mod cell;
+mod cells;
+mod lock;
+mod locks;
 mod newest;
 mod sources;
 mod summaries;
-mod table;
-mod tables;
 
 pub use sources::Sources;
 pub use summaries::Summaries;

@@ -6,9 +6,10 @@ ghost use Rattle.section_sum.specs.Sums.{noted_of, others_of, sources_of, is_acc
 ghost use Rattle.section_sum.specs.Sums.{IsAlone, SameNoted, SameOthers, KeepsRoom};
 ghost use Rattle.section_sum.specs.Sources.{left, most_sources};
 
+use crate::cells::Cells;
+use crate::lock::Lock;
+use crate::locks::{close_under, has_room_held, make_room_held, note_held, sources_under};
 use crate::sources::Sources;
-use crate::table::Table;
-use crate::tables::{close_under, has_room_held, make_room_held, note_held, sources_under};
 use event_core::{AccessKind, LockId, OutOfMemory, ThreadId, VarId};
 use std::alloc::Global;
 use std::marker::Model;
@@ -18,15 +19,19 @@ use std::marker::Model;
 #[derive(Drop)]
 pub struct Summaries {
     alloc: Global,
-    tables: Vec<Table>,
+    cells: Cells,
+    locks: Vec<Lock>,
 }
 
 impl Model for Summaries {
     ghost use Rattle.section_sum.specs.Sums.{Sums};
+    ghost use Rattle.section_sum.specs.Kept.{AreKept};
 
     ghost Value = { Sums };
 
-    ghost view = { λ a. record { tables = a.tables.items } };
+    ghost view = { λ a. record { cells = a.cells; locks = a.locks.items } };
+
+    ghost invariant = { λ a. AreKept a.cells a.locks.items };
 }
 
 impl Summaries {
@@ -37,7 +42,8 @@ impl Summaries {
     {
         Summaries {
             alloc,
-            tables: Vec::new(alloc),
+            cells: Cells::new(alloc),
+            locks: Vec::new(alloc),
         }
     }
 
@@ -55,14 +61,14 @@ impl Summaries {
         ensures noted { SameNoted self.old self.new }
         ensures others { SameOthers self.old self.new }
     {
-        make_room_held(&mut self.tables, self.alloc, held, var)
+        make_room_held(&mut self.cells, &mut self.locks, self.alloc, held, var)
     }
 
     /// Whether such accesses need no memory. Takes none.
     pub fn is_ready(&self, held: &[LockId], var: VarId) -> bool
         ensures { IsTrue result ↔ HasRoom self.now held.now var.0 }
     {
-        has_room_held(&self.tables, held, var)
+        has_room_held(&self.cells, &self.locks, held, var)
     }
 
     /// The thread, which has open sections on the locks, has such an access in each of them. Takes no memory.
@@ -75,7 +81,7 @@ impl Summaries {
         ensures others { SameOthers self.old self.new }
         ensures kept { KeepsRoom self.old self.new }
     {
-        note_held(&mut self.tables, thread, held, var, kind);
+        note_held(&mut self.cells, &mut self.locks, thread, held, var, kind);
     }
 
     /// The thread's section on the lock ends and has the number: where it has an access, it is to the
@@ -89,7 +95,7 @@ impl Summaries {
             number (others_of self.old l v k t) }
         ensures kept { KeepsRoom self.old self.new }
     {
-        close_under(&mut self.tables, thread, lock, number);
+        close_under(&mut self.cells, &mut self.locks, thread, lock, number);
     }
 
     /// The numbers of the sections that an access of the kind meets under the lock: the newest by
@@ -98,6 +104,6 @@ impl Summaries {
         ensures exact { left result ≡ sources_of self.now lock.0 var.0 kind thread.0 }
         ensures at_most { length (left result) ≤ most_sources kind }
     {
-        sources_under(&self.tables, thread, lock, var, kind)
+        sources_under(&self.cells, &self.locks, thread, lock, var, kind)
     }
 }

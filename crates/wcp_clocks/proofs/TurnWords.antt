@@ -13,7 +13,7 @@ use Rattle.event_core.specs.Closed.{Closed, Has, first, later}
 use Rattle.event_core.specs.Rows.{join, bump, brought}
 use Rattle.event_core.specs.Turn.{Accesses, Closes}
 use Rattle.hb_clocks.specs.State as hb
-use Rattle.section_sum.specs.Cells.{is_kind}
+use Rattle.section_sum.specs.Cell.{is_kind}
 use Rattle.section_sum.specs.Sums.{Sums, noted_of, is_held, is_access, SameOthers}
 use Rattle.wcp_laws.specs.State.{State}
 use Rattle.wcp_laws.specs.Step.{sources, kind_eq, noted_after}

@@ -13,15 +13,15 @@ returns-clause-refused c = c.make_room_held.ensures.refused
 
 pub returns-clause-kept : goal.returns-clause-kept
 returns-clause-kept c =
-    (subst (λ (s : Sums). Grows s (sums c.make_room_held.new.tables.items)) c.self.view_is
-    (grows _ _ c.make_room_held.ensures.grown)).kept
+    (subst (λ (s : Sums). Grows s (sums c.make_room_held.new.cells c.make_room_held.new.locks.items))
+    c.self.view_is (grows _ _ c.make_room_held.ensures.same)).kept
 
 pub returns-clause-noted : goal.returns-clause-noted
 returns-clause-noted c =
-    (subst (λ (s : Sums). Grows s (sums c.make_room_held.new.tables.items)) c.self.view_is
-    (grows _ _ c.make_room_held.ensures.grown)).noted
+    (subst (λ (s : Sums). Grows s (sums c.make_room_held.new.cells c.make_room_held.new.locks.items))
+    c.self.view_is (grows _ _ c.make_room_held.ensures.same)).noted
 
 pub returns-clause-others : goal.returns-clause-others
 returns-clause-others c =
-    (subst (λ (s : Sums). Grows s (sums c.make_room_held.new.tables.items)) c.self.view_is
-    (grows _ _ c.make_room_held.ensures.grown)).others
+    (subst (λ (s : Sums). Grows s (sums c.make_room_held.new.cells c.make_room_held.new.locks.items))
+    c.self.view_is (grows _ _ c.make_room_held.ensures.same)).others

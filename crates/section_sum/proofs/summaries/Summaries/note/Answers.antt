@@ -17,17 +17,17 @@ note_held-requires-clause-alone c = λ l e t v k n.
 pub returns-clause-noted : goal.returns-clause-noted
 returns-clause-noted c =
     (subst (λ (s : Sums). Notes c.args.thread.0 c.args.held.now c.args.var.0 c.args.kind s
-    (sums c.note_held.new.tables.items)) c.self.view_is
+    (sums c.note_held.new.cells c.note_held.new.locks.items)) c.self.view_is
     (notes _ _ _ _ _ _ c.note_held.ensures.noted)).noted
 
 pub returns-clause-others : goal.returns-clause-others
 returns-clause-others c =
     (subst (λ (s : Sums). Notes c.args.thread.0 c.args.held.now c.args.var.0 c.args.kind s
-    (sums c.note_held.new.tables.items)) c.self.view_is
+    (sums c.note_held.new.cells c.note_held.new.locks.items)) c.self.view_is
     (notes _ _ _ _ _ _ c.note_held.ensures.noted)).others
 
 pub returns-clause-kept : goal.returns-clause-kept
 returns-clause-kept c =
     (subst (λ (s : Sums). Notes c.args.thread.0 c.args.held.now c.args.var.0 c.args.kind s
-    (sums c.note_held.new.tables.items)) c.self.view_is
+    (sums c.note_held.new.cells c.note_held.new.locks.items)) c.self.view_is
     (notes _ _ _ _ _ _ c.note_held.ensures.noted)).kept

@@ -1,0 +1,192 @@
+-- What is said of each lock after a call on one of them.
+use Rattle.std.proofs.Common.{◌≡◌, ℕ, ◌<◌, ◌≤◌, Bool, true, false, ◌⊎◌, inl, inr, List, [], ◌++◌, cond, length}
+use Rattle.std.proofs.Common.{nat_eq, set, refl, sym, ap, subst, ◌∙◌, arith}
+use Rattle.std.specs.Prelude.{nat_lt}
+use Rattle.std.proofs.lemmas.Bool.{cases_lt, eq-eqb, ltb-true, lt-ltb}
+use Rattle.std.proofs.lemmas.List.{get_or-set_same, get_or-set_other, get_or_past, length_push}
+use Rattle.event_core.specs.declared.events.AccessKind.{AccessKind}
+use Rattle.event_core.specs.declared.events.AccessKind.TheVariants.{Read, Write}
+use Rattle.section_sum.specs.declared.cells.Place.{Place}
+use Rattle.section_sum.specs.Newest.{section}
+use Rattle.section_sum.specs.Cell.{no_cell, cell_at, closed_as, marked_as, sources_in}
+use Rattle.section_sum.specs.Cells.{Stored, place_of, place, lock_at, with_place, HasGrown}
+use Rattle.section_sum.specs.Kept.{Kept, no_kept, kept_at, IsKept, AreKept}
+use Rattle.section_sum.specs.Entries.{entries_of, IsAlone, SaysSame, HasNoted, HasClosed}
+use Rattle.section_sum.specs.Locks.{SaySame, HaveClosed}
+use Rattle.section_sum.proofs.Basics.{at_set}
+use Rattle.section_sum.proofs.Standing.{own_place, same_place, place_left, joined}
+use Rattle.section_sum.proofs.Keeping.{Changed, not_own, kept_more, has_lock}
+use Rattle.section_sum.proofs.Says.{says_same, says_noted, says_closed, says_none}
+use Rattle.section_sum.proofs.Passing.{same_said, closed_one}
+
+-- one lock's is changed
+pub kept_set : (l : ℕ) (s : Stored) (locks : List Kept) (k : Kept) → l < length locks → IsKept l s k
+    → ((m : ℕ) → (m ≡ l → ⊥) → IsKept m s (kept_at locks m)) → AreKept s (set locks l k)
+kept_set l s locks k h own others m =
+    at_set no_kept (λ (i : ℕ) (q : Kept). IsKept i s q) locks l k h own m (λ n. others m n)
+
+-- what is said of the other locks
+pub says_other : (l m : ℕ) (old new : Stored) (locks : List Kept) (k : Kept) → (m ≡ l → ⊥)
+    → Changed l old new → SaysSame (entries_of old locks m) (entries_of new (set locks l k) m)
+says_other l m old new locks k n c = says_same (entries_of old locks m) (entries_of new (set locks l k) m)
+    (λ v. ap (λ (ps : List Place). cell_at new.cells (place_of ps m v)) c.places
+    ∙ at v (cases_lt (place_of old.places m v) (length old.places)))
+    (ap (λ (q : Kept). q.by) (get_or-set_other locks l m k no_kept n))
+    (λ v h. subst (λ (ps : List Place). nat_lt (place_of ps m v) (length ps) ≡ true) (sym c.places) h)
+  where
+    at : (v : ℕ)
+        → (place_of old.places m v < length old.places) ⊎ (length old.places ≤ place_of old.places m v)
+        → cell_at new.cells (place_of old.places m v) ≡ cell_at old.cells (place_of old.places m v)
+    at v (inl h) =
+        c.others (place_of old.places m v)
+        (not_own l m old (place_of old.places m v) n (eq-eqb _ _ (own_place old.places m v h)))
+    at v (inr g) =
+        let size : length new.places ≡ length old.places = ap (λ (ps : List Place). length ps) c.places in
+        let was = c.was in
+        let same = c.same in
+        get_or_past new.cells (place_of old.places m v) no_cell (omega (arith, g, size, same))
+        ∙ sym (get_or_past old.cells (place_of old.places m v) no_cell (omega (arith, g, was)))
+
+-- what is said of the lock of an access
+pub says_marked : (l thread var : ℕ) (kind : AccessKind) (old new : Stored) (locks : List Kept) (k : Kept)
+    → l < length locks → place_of old.places l var < length old.places → k.by ≡ thread
+    → new.places ≡ old.places
+    → ((i : ℕ) → cell_at new.cells i
+    ≡ marked_as (nat_eq i (place_of old.places l var)) kind (cell_at old.cells i))
+    → IsAlone (entries_of old locks l) thread
+    → HasNoted thread var kind (entries_of old locks l) (entries_of new (set locks l k) l)
+says_marked l thread var kind old new locks k h room by places exact alone =
+    says_noted thread var kind (entries_of old locks l) (entries_of new (set locks l k) l) alone
+    (λ v. ap (λ (ps : List Place). cell_at new.cells (place_of ps l v)) places
+    ∙ exact (place_of old.places l v)
+    ∙ ap (λ b. marked_as b kind (cell_at old.cells (place_of old.places l v)))
+    (same_place old.places l var v room))
+    (ap (λ (q : Kept). q.by) (get_or-set_same locks l k no_kept h) ∙ by)
+    (λ v r. subst (λ (ps : List Place). nat_lt (place_of ps l v) (length ps) ≡ true) (sym places) r)
+
+-- what is said of the lock of a section that ended
+pub says_ended : (l thread number : ℕ) (old new : Stored) (locks : List Kept) (k : Kept)
+    → l < length locks → k.by ≡ (kept_at locks l).by → (kept_at locks l).by ≡ thread
+    → length old.cells ≡ length old.places → new.places ≡ old.places
+    → ((i : ℕ) → cell_at new.cells i
+    ≡ closed_as (nat_eq (lock_at old.places i) l) (kept_at locks l).by number (cell_at old.cells i))
+    → HasClosed thread number (entries_of old locks l) (entries_of new (set locks l k) l)
+says_ended l thread number old new locks k h by own was places exact =
+    says_closed thread number (entries_of old locks l) (entries_of new (set locks l k) l)
+    (λ v. ap (λ (ps : List Place). cell_at new.cells (place_of ps l v)) places
+    ∙ exact (place_of old.places l v)
+    ∙ at v (cases_lt (place_of old.places l v) (length old.places)))
+    (ap (λ (q : Kept). q.by) (get_or-set_same locks l k no_kept h) ∙ by)
+    (λ v r. subst (λ (ps : List Place). nat_lt (place_of ps l v) (length ps) ≡ true) (sym places) r)
+    own
+  where
+    at : (v : ℕ)
+        → (place_of old.places l v < length old.places) ⊎ (length old.places ≤ place_of old.places l v)
+        → closed_as (nat_eq (lock_at old.places (place_of old.places l v)) l) (kept_at locks l).by number
+        (cell_at old.cells (place_of old.places l v))
+        ≡ closed_as true (kept_at locks l).by number (cell_at old.cells (place_of old.places l v))
+    at v (inl g) =
+        ap (λ b. closed_as b (kept_at locks l).by number (cell_at old.cells (place_of old.places l v)))
+        (eq-eqb _ _ (own_place old.places l v g))
+    at v (inr g) =
+        let past = get_or_past old.cells (place_of old.places l v) no_cell (omega (arith, g, was)) in
+        ap
+        (closed_as (nat_eq (lock_at old.places (place_of old.places l v)) l) (kept_at locks l).by number)
+        past
+        ∙ same (nat_eq (lock_at old.places (place_of old.places l v)) l)
+        ∙ sym (ap (closed_as true (kept_at locks l).by number) past)
+      where
+        same : (b : Bool) → closed_as b (kept_at locks l).by number no_cell
+            ≡ closed_as true (kept_at locks l).by number no_cell
+        same true = refl
+        same false = refl
+
+-- a cell that joins says nothing new
+pub says_more : (l v m : ℕ) (old new : Stored) (locks after : List Kept)
+    → length old.cells ≡ length old.places → HasGrown l v old new
+    → (kept_at after m).by ≡ (kept_at locks m).by → SaysSame (entries_of old locks m) (entries_of new after m)
+says_more l v m old new locks after same (inl e) by =
+    says_same (entries_of old locks m) (entries_of new after m)
+    (λ x. ap (λ (s : Stored). cell_at s.cells (place_of s.places m x)) e) by
+    (λ x r. subst (λ (s : Stored). nat_lt (place_of s.places m x) (length s.places) ≡ true) (sym e) r)
+says_more l v m old new locks after same (inr (n, e)) by =
+    says_same (entries_of old locks m) (entries_of new after m)
+    (λ x. ap (λ (s : Stored). cell_at s.cells (place_of s.places m x)) e ∙ joined old l v same m x) by
+    (λ x r. subst (λ (s : Stored). nat_lt (place_of s.places m x) (length s.places) ≡ true) (sym e)
+    (further x (ltb-true _ _ r)))
+  where
+    further : (x : ℕ) → place_of old.places m x < length old.places
+        → nat_lt (place_of (with_place old l v).places m x) (length (with_place old l v).places) ≡ true
+    further x h =
+        let left = place_left old.places (place l v) m x h in
+        let long = length_push old.places (place l v) in
+        lt-ltb _ _ (omega (arith, left, long, h))
+
+pub kept_grown : (l v m : ℕ) (old new : Stored) (k : Kept) → (m ≡ l → ⊥) → HasGrown l v old new
+    → IsKept m old k → IsKept m new k
+kept_grown l v m old new k n (inl e) kept = subst (λ (s : Stored). IsKept m s k) (sym e) kept
+kept_grown l v m old new k n (inr (p, e)) kept =
+    subst (λ (s : Stored). IsKept m s k) (sym e) (kept_more old l v m k n kept)
+
+-- a cell joins one lock's, or none
+pub grown_kept : (l v : ℕ) (old new : Stored) (before locks : List Kept) (k : Kept) → l < length locks
+    → ((m : ℕ) → kept_at locks m ≡ kept_at before m) → AreKept old before → HasGrown l v old new
+    → IsKept l new k → AreKept new (set locks l k)
+grown_kept l v old new before locks k h same kept grown own =
+    kept_set l new locks k h own (λ m n. kept_grown l v m old new (kept_at locks m) n grown
+    (subst (IsKept m old) (sym (same m)) (kept m)))
+
+pub grown_says : (l v : ℕ) (old new : Stored) (before locks : List Kept) (k : Kept) → l < length locks
+    → ((m : ℕ) → kept_at locks m ≡ kept_at before m) → AreKept old before → HasGrown l v old new
+    → k.by ≡ (kept_at locks l).by → SaySame (entries_of old before) (entries_of new (set locks l k))
+grown_says l v old new before locks k h same kept grown by m =
+    says_more l v m old new before (set locks l k) (kept 0).same grown
+    (at_set no_kept (λ (i : ℕ) (q : Kept). q.by ≡ (kept_at before i).by) locks l k h
+    (by ∙ ap (λ (q : Kept). q.by) (same l)) m (λ _. ap (λ (q : Kept). q.by) (same m)))
+
+-- the end of a section changes its lock's cells alone
+pub ended_changed : (l by number : ℕ) (old new : Stored) → length old.cells ≡ length old.places
+    → length new.cells ≡ length new.places → new.places ≡ old.places
+    → ((i : ℕ) → cell_at new.cells i
+    ≡ closed_as (nat_eq (lock_at old.places i) l) by number (cell_at old.cells i))
+    → Changed l old new
+ended_changed l by number old new was same places exact = record {
+  places = places;
+  was = was;
+  same = same;
+  others = λ i off. exact i ∙ ap (λ b. closed_as b by number (cell_at old.cells i)) off;
+}
+
+-- a variable without a cell under a lock
+pub none_there : (s : Stored) (l v : ℕ) → length s.cells ≡ length s.places
+    → length s.places ≤ place_of s.places l v → cell_at s.cells (place_of s.places l v) ≡ no_cell
+none_there s l v same past = get_or_past s.cells (place_of s.places l v) no_cell (omega (arith, same, past))
+
+pub none_met : (k : AccessKind) (t : ℕ) → sources_in no_cell k t ≡ []
+none_met Read t = by (nat_eq t 0)
+  where
+    by : (b : Bool) → section (cond b 0 0) ≡ []
+    by true = refl
+    by false = refl
+none_met Write t = by (nat_eq t 0)
+  where
+    by : (b : Bool) → section (cond b 0 0) ++ section (cond b 0 0) ≡ []
+    by true = refl
+    by false = refl
+
+-- of a lock that is not kept
+pub no_lock : (s : Stored) (locks : List Kept) (l v : ℕ) → AreKept s locks → length locks ≤ l
+    → length s.places ≤ place_of s.places l v
+no_lock s locks l v kept past = elim (cases_lt (place_of s.places l v) (length s.places)) [
+  | inl h ↦ let less = has_lock s locks l v kept h in absurd (omega (arith, past, less))
+  | inr g ↦ g
+]
+
+-- no section of it had an access
+pub ended_none : (thread lock number : ℕ) (s : Stored) (locks : List Kept) → AreKept s locks
+    → length locks ≤ lock → HaveClosed thread lock number (entries_of s locks) (entries_of s locks)
+ended_none thread lock number s locks kept past =
+    closed_one thread lock number (entries_of s locks) (entries_of s locks)
+    (says_none thread number (entries_of s locks lock)
+    (λ v. none_there s lock v (kept 0).same (no_lock s locks lock v kept past)))
+    (λ m n. same_said (entries_of s locks) m)

@@ -1,0 +1,125 @@
+-- Where cells stand, and a cell that joins the others.
+use Rattle.std.proofs.Common.{◌≡◌, ℕ, ◌+◌, ◌<◌, ◌≤◌, suc, Bool, true, false, not, ◌&&◌, ◌||◌, inl, inr, cond}
+use Rattle.std.proofs.Common.{List, [], ◌∷◌, ◌++◌, length, nat_eq, get_or, ◌⊎◌, refl, sym, ap, subst, ◌∙◌, arith}
+use Rattle.std.specs.List.{list_any}
+use Rattle.std.proofs.lemmas.Bool.{cases_eq, cases_lt, eqb-true, eq-eqb, ne_eqb}
+use Rattle.std.proofs.lemmas.List.{get_or_append_left, get_or_past, length_push}
+use Rattle.std.proofs.Math.Seq.{get_or-append_seam}
+use Rattle.std.proofs.lemmas.List.Sums.{passes_at_first, prefix_len-le-length}
+use Rattle.std.proofs.lemmas.List.Folds.{position_or_len_push}
+use Rattle.section_sum.specs.declared.cell.Cell.{Cell}
+use Rattle.section_sum.specs.declared.cells.Place.{Place}
+use Rattle.section_sum.specs.Cell.{no_cell, cell_at}
+use Rattle.section_sum.specs.Cells.{Stored, is_place, place_of, place, lock_at, with_place}
+use Rattle.section_sum.proofs.Basics.{and_left, and_right}
+
+here : (places : List Place) (l v : ℕ) → place_of places l v < length places
+    → is_place l v (get_or places (place_of places l v) (place 0 0)) ≡ true
+here places l v h = passes_at_first (is_place l v) places (place 0 0) h
+
+-- a lock's variable stands at a place of the lock
+pub own_place : (places : List Place) (l v : ℕ) → place_of places l v < length places
+    → lock_at places (place_of places l v) ≡ l
+own_place places l v h = sym (eqb-true l _ (and_left _ _ (here places l v h)))
+
+-- variables at one place are the same
+pub same_place : (places : List Place) (l var v : ℕ) → place_of places l var < length places
+    → nat_eq (place_of places l v) (place_of places l var) ≡ nat_eq v var
+same_place places l var v h = elim (cases_eq v var) [
+  | inl e ↦ eq-eqb _ _ (ap (place_of places l) e) ∙ sym (eq-eqb v var e)
+  | inr n ↦
+      ne_eqb _ _ (λ q. n (
+      let at = place_of places l v in
+      let one : v ≡ (get_or places at (place 0 0)).var.0
+      = eqb-true _ _ (and_right _ _ (here places l v (subst (λ (b : ℕ). b < length places) (sym q) h))) in
+      let two : var ≡ (get_or places (place_of places l var) (place 0 0)).var.0
+      = eqb-true _ _ (and_right _ _ (here places l var h)) in
+      one ∙ ap (λ b. (get_or places b (place 0 0)).var.0) q ∙ sym two))
+      ∙ sym (ne_eqb v var n)
+]
+
+pub place_high : (places : List Place) (l v : ℕ) → length places ≤ place_of places l v
+    → place_of places l v ≡ length places
+place_high places l v h =
+    let low : place_of places l v ≤ length places = prefix_len-le-length _ places in omega (arith, h, low)
+
+pub place_left : (places : List Place) (p : Place) (l v : ℕ) → place_of places l v < length places
+    → place_of (places ++ p ∷ []) l v ≡ place_of places l v
+place_left places p l v h =
+    position_or_len_push (is_place l v) places p
+    ∙ ap (λ b. cond b (length places + cond (is_place l v p) 0 1) (place_of places l v))
+    (ne_eqb _ _ (λ e. omega (arith, e, h)))
+
+place_end : (places : List Place) (p : Place) (l v : ℕ) → place_of places l v ≡ length places
+    → place_of (places ++ p ∷ []) l v ≡ length places + cond {A = ℕ} (is_place l v p) 0 1
+place_end places p l v e =
+    position_or_len_push (is_place l v) places p
+    ∙ ap (λ b. cond b (length places + cond (is_place l v p) 0 1) (place_of places l v)) (eq-eqb _ _ e)
+
+-- what joins stands at the end
+pub place_new : (places : List Place) (l v : ℕ) → place_of places l v ≡ length places
+    → place_of (places ++ place l v ∷ []) l v ≡ length places
+place_new places l v e =
+    let p = place_end places (place l v) l v e
+    ∙ ap (λ b. length places + cond {A = ℕ} b 0 1) (ap (λ b. b && nat_eq v v) (eq-eqb l l refl)
+    ∙ eq-eqb v v refl) in
+    omega (arith, p)
+
+-- the cell without accesses is also what is said past the end
+pub more_cells : (cells : List Cell) (i : ℕ) → cell_at (cells ++ no_cell ∷ []) i ≡ cell_at cells i
+more_cells cells i = elim (cases_lt i (length cells)) [
+  | inl h ↦ get_or_append_left cells (no_cell ∷ []) no_cell i h
+  | inr g ↦ past (cases_eq i (length cells)) g ∙ sym (get_or_past cells i no_cell g)
+]
+  where
+    past : (i ≡ length cells) ⊎ (i ≡ length cells → ⊥) → length cells ≤ i
+        → cell_at (cells ++ no_cell ∷ []) i ≡ no_cell
+    past (inl e) g = ap (cell_at (cells ++ no_cell ∷ [])) e ∙ get_or-append_seam cells no_cell [] no_cell
+    past (inr o) g =
+        let long : length (cells ++ no_cell ∷ []) ≡ length cells + 1 = length_push cells no_cell in
+        get_or_past (cells ++ no_cell ∷ []) i no_cell (omega (arith, g, o, long))
+
+-- of each variable the same is said
+pub joined : (s : Stored) (l v : ℕ) → length s.cells ≡ length s.places → (m x : ℕ)
+    → cell_at (with_place s l v).cells (place_of (with_place s l v).places m x)
+    ≡ cell_at s.cells (place_of s.places m x)
+joined s l v same m x = more_cells s.cells (place_of (with_place s l v).places m x)
+    ∙ at (cases_lt (place_of s.places m x) (length s.places))
+  where
+    at : (place_of s.places m x < length s.places) ⊎ (length s.places ≤ place_of s.places m x)
+        → cell_at s.cells (place_of (with_place s l v).places m x) ≡ cell_at s.cells (place_of s.places m x)
+    at (inl h) = ap (cell_at s.cells) (place_left s.places (place l v) m x h)
+    at (inr g) =
+        let end = place_high s.places m x g in
+        let high : length s.places ≤ place_of (with_place s l v).places m x
+        = let p = place_end s.places (place l v) m x end in omega (arith, p) in
+        get_or_past s.cells _ no_cell (omega (arith, same, high))
+        ∙ sym (get_or_past s.cells _ no_cell (omega (arith, same, end)))
+
+-- the locks of the places before it stay
+pub lock_left : (places : List Place) (p : Place) (i : ℕ) → i < length places
+    → lock_at (places ++ p ∷ []) i ≡ lock_at places i
+lock_left places p i h = ap (λ (q : Place). q.lock.0) (get_or_append_left places (p ∷ []) (place 0 0) i h)
+
+pub lock_new : (places : List Place) (l v : ℕ) → lock_at (places ++ place l v ∷ []) (length places) ≡ l
+lock_new places l v =
+    ap (λ (q : Place). q.lock.0) (get_or-append_seam places (place l v) [] (place 0 0))
+
+-- what has no place is none of them
+pub absent : (places : List Place) (l v : ℕ) → place_of places l v ≡ length places
+    → list_any (is_place l v) places ≡ false
+absent [] l v e = refl
+absent (x ∷ xs) l v e = by (is_place l v x) refl (absent xs l v)
+  where
+    by : (b : Bool) → is_place l v x ≡ b
+        → (place_of xs l v ≡ length xs → list_any (is_place l v) xs ≡ false)
+        → list_any (is_place l v) (x ∷ xs) ≡ false
+    by true t r =
+        let z : place_of (x ∷ xs) l v ≡ 0 = ap (λ b. cond (not b) (1 + place_of xs l v) 0) t in
+        let n : length (x ∷ xs) ≡ suc (length xs) = refl in
+        absurd (omega (arith, e, z, n))
+    by false f r =
+        let z : place_of (x ∷ xs) l v
+        ≡ 1 + place_of xs l v = ap (λ b. cond (not b) (1 + place_of xs l v) 0) f in
+        let n : length (x ∷ xs) ≡ suc (length xs) = refl in
+        ap (λ b. b || list_any (is_place l v) xs) f ∙ r (omega (arith, e, z, n))
