@@ -45,6 +45,8 @@ impl Page {
 
     /// Adds the bytes at the end of the text. Where they find no room, all that waits is written, and they
     /// after it.
+    // Inlined, so that a piece of one byte is one store.
+    #[inline(always)]
     pub fn put<W: Output>(&mut self, writer: &mut W, bytes: &[u8]) -> Result<(), WriteFault>
         ensures ok { OnOk result
             (Puts (W.written writer.old) self.old (W.written writer.new) self.new bytes.now) }
