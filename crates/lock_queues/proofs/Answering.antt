@@ -1,6 +1,6 @@
 -- What follows where there is an answer, and where there is none.
 use Rattle.std.proofs.Common.{Option, Some, None, Result, Ok, Err}
-use Rattle.std.specs.Prelude.{MatchOption, IfSome, OnOk, OnErr}
+use Rattle.std.specs.Prelude.{MatchOption, IfSome, OnErr}
 
 pub match_option : {X : Type 0} (o : Option X) (P S : Type 0) (Q R : X → Type 0) → (P → S)
     → ((x : X) → Q x → R x) → MatchOption o P Q → MatchOption o S R
@@ -12,10 +12,6 @@ pub if_some : {X : Type 0} (o : Option X) (P : Type 0) (Q R : X → Type 0) → 
 if_some None P Q R some h = tt
 if_some (Some x) P Q R some h = some x h
 
-pub on_ok : {T E : Type 0} (r : Result T E) (P Q : Type 0) → (P → Q) → OnOk r P → OnOk r Q
-on_ok (Ok x) P Q f h = f h
-on_ok (Err e) P Q f h = tt
-
-pub on_err : {T E : Type 0} (r : Result T E) (P Q : Type 0) → (P → Q) → OnErr r P → OnErr r Q
-on_err (Ok x) P Q f h = tt
-on_err (Err e) P Q f h = f h
+pub where_err : {T E : Type 0} (r : Result T E) (P : Type 0) → P → OnErr r P
+where_err (Ok x) P h = tt
+where_err (Err e) P h = h

@@ -72,7 +72,7 @@ not_counted s ss clock not_so = go (cases_Bool (counts clock s))
     go (inr f) = f
 
 -- a search that stops at f has found the counted ones
-number_is : (ss : List Section) (clock : List ℕ) (f : ℕ) → f ≤ length ss
+pub number_is : (ss : List Section) (clock : List ℕ) (f : ℕ) → f ≤ length ss
     → ((k : ℕ) → k < f → IsCounted ss clock k) → (f < length ss → IsCounted ss clock f → ⊥)
     → CountsBefore ss clock → number clock ss ≡ f
 number_is [] clock f le counted stop before = omega arith

@@ -1,11 +1,13 @@
 pub mod Placing
 pub mod Lookup
 pub mod Lowering
-pub mod Packing
-pub mod Sparing
 pub mod Counting
 pub mod Latest
 pub mod Keeping
+pub mod Storing
 pub mod Changes
 pub mod Lifting
+pub mod Tables
+pub mod Searching
+pub mod Sameness
 pub mod Answering

@@ -1,6 +1,6 @@
 -- What a change of one queue is to the table of queues.
 use Rattle.std.proofs.Common.{◌≡◌, ℕ, ◌<◌, ◌≤◌, ◌⊎◌, Bool, true, false, List, length}
-use Rattle.std.proofs.Common.{get_or, set, sym, ap, ◌∙◌}
+use Rattle.std.proofs.Common.{get_or, set, sym, ap, ◌∙◌, arith}
 use Rattle.std.proofs.lemmas.Bool.{cases_lt, cases_eq}
 use Rattle.std.proofs.lemmas.List.{get_or-set_same, get_or-set_other, get_or_past, get_or_read}
 use mathlib.Core.Logic.{inl, inr}
@@ -21,6 +21,16 @@ known qs t l has = go (cases_lt l (length qs))
         = ap (λ (q : Kept). has_room_in q.rooms t) (get_or_past qs l no_queue past) in
         absurd (cc)
 
+-- so has a lock with a section
+pub known_listed : (qs : List Kept) (l : ℕ) → 0 < length (queue_at qs l).entries → l < length qs
+known_listed qs l some = go (cases_lt l (length qs))
+  where
+    go : (l < length qs) ⊎ (length qs ≤ l) → l < length qs
+    go (inl lt) = lt
+    go (inr past) =
+        let none = ap (λ (q : Kept). length q.entries) (get_or_past qs l no_queue past) in
+        absurd (omega arith)
+
 -- the queue of a lock on which the thread has room, as a read gives it
 pub record Read (qs : List Kept) (t l : ℕ) (q : Kept) : Type 0 where
   pub within : l < length qs
@@ -38,10 +48,10 @@ pub read_entered : (qs : List Kept) (t l : ℕ) (q : Kept) → 0 < opened_in (qu
 read_entered qs t l q entered e =
     read_room qs t l q (entered_has (queue_at qs l).rooms t entered) e
 
-at_same : (qs : List Kept) (l m : ℕ) (q : Kept) → l < length qs → m ≡ l → queue_at (set qs l q) m ≡ q
+pub at_same : (qs : List Kept) (l m : ℕ) (q : Kept) → l < length qs → m ≡ l → queue_at (set qs l q) m ≡ q
 at_same qs l m q lt is = ap (queue_at (set qs l q)) is ∙ get_or-set_same qs l q no_queue lt
 
-at_other : (qs : List Kept) (l m : ℕ) (q : Kept) → (m ≡ l → ⊥) → queue_at (set qs l q) m ≡ queue_at qs m
+pub at_other : (qs : List Kept) (l m : ℕ) (q : Kept) → (m ≡ l → ⊥) → queue_at (set qs l q) m ≡ queue_at qs m
 at_other qs l m q away = get_or-set_other qs l m q no_queue away
 
 -- what a queue says is not changed

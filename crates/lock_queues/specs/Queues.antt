@@ -1,19 +1,26 @@
 -- What is kept of all locks, and what it means.
-use Rattle.std.specs.Prelude.{ℕ, ◌≡◌, ◌<◌, List, length, map, slice_index, Bool}
+use Rattle.std.specs.Prelude.{ℕ, ◌≡◌, ◌+◌, ◌*◌, ◌<◌, ◌≤◌, List, length, map, slice_index, Bool}
+use Rattle.std.specs.Prelude.{sum_by}
 use Rattle.event_core.specs.Bounds.{Bounds}
 use Rattle.event_core.specs.Closed.{Closed, number_counted}
 use Rattle.hb_clocks.specs.Counts.{counts_of}
-use Rattle.lock_queues.specs.Sections.{closed_as}
+use Rattle.lock_queues.specs.Sections.{Section, closed_as, sections_of, AreReadable, AreRising}
 use Rattle.lock_queues.specs.Rooms.{opened_in, has_room_in}
 use Rattle.lock_queues.specs.Queue.{Kept, queue_at}
 
 pub record Tables : Type 0 where
   pub limits : Bounds
   pub queues : List Kept
+  -- of the releases of all sections
+  pub numbers : List ℕ
+
+-- the closed sections on the lock, as they are kept
+abbrev pub kept_of : Tables → ℕ → List Section
+kept_of v lock = sections_of v.numbers (queue_at v.queues lock).entries
 
 -- the closed sections on the lock, in the order of their releases
 abbrev pub closed_of : Tables → ℕ → List Closed
-closed_of v lock = map closed_as (queue_at v.queues lock).closed
+closed_of v lock = map closed_as (kept_of v lock)
 
 -- the position of the acquire of the thread's open section on the lock, 0 where there is none
 abbrev pub opened_of : Tables → ℕ → ℕ → ℕ
@@ -34,6 +41,19 @@ counted_of v lock clock = number_counted (counts_of clock) (closed_of v lock)
 -- each queue keeps clocks of the width
 abbrev pub AreWide : ℕ → List Kept → Type 0
 AreWide width queues = (l : ℕ) → l < length queues → (queue_at queues l).width ≡ width
+
+-- how many rooms there are on all locks
+abbrev pub count_rooms : List Kept → ℕ
+count_rooms queues = sum_by (λ q. length q.rooms) queues
+
+-- what the fields keep: later releases of a lock have higher clocks, and there is memory for the numbers of
+-- the releases of all sections for which room was made
+pub record AreKept (threads : ℕ) (queues : List Kept) (numbers : List ℕ) (made most : ℕ) : Type 0 where
+  pub wide : AreWide threads queues
+  pub readable : (l : ℕ) → AreReadable numbers (queue_at queues l).entries
+  pub rising : (l : ℕ) → AreRising (sections_of numbers (queue_at queues l).entries)
+  pub rooms : made ≡ count_rooms queues
+  pub spare : length numbers + made * threads ≤ most
 
 -- there may be other room, and all else is as it was
 pub record SameMeaning (old new : Tables) : Type 0 where

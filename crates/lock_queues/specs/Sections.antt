@@ -1,5 +1,5 @@
 -- The closed sections of one lock, as they are kept and as clocks see them.
-use Rattle.std.specs.Prelude.{ℕ, zero, suc, ◌≡◌, ◌+◌, ◌*◌, ◌-◌, ◌≤◌, ◌<◌, List, [], ◌∷◌, length}
+use Rattle.std.specs.Prelude.{ℕ, ◌≡◌, ◌+◌, ◌-◌, ◌≤◌, ◌<◌, List, [], ◌∷◌, ◌++◌, length, map}
 use Rattle.std.specs.Prelude.{slice_index_or, slice_set, Option, Some, None, cond}
 use Rattle.std.specs.Option.{option_or}
 use Rattle.std.proofs.Math.ListN.{take, drop}
@@ -61,69 +61,51 @@ lowered t counts = slice_set counts t (counts_of counts t - 1)
 abbrev pub raised : ℕ → List ℕ → List ℕ
 raised t counts = slice_set counts t (counts_of counts t + 1)
 
--- the section whose numbers begin at the start: those just before its release are kept
-abbrev pub section_from : ℕ → Entry → List ℕ → Section
-section_from start e counts = record {
+-- the section that the entry names, whose numbers stand among those of all sections: those just before its
+-- release are kept
+abbrev pub numbers_of : List ℕ → Entry → List ℕ
+numbers_of numbers e = take e.width (drop e.start numbers)
+
+abbrev pub section_of : List ℕ → Entry → Section
+section_of numbers e = record {
   acquire = e.acquire;
-  release = raised e.acquire.thread (take (e.ends - start) (drop start counts));
+  release = raised e.acquire.thread (numbers_of numbers e);
 }
 
--- sections whose numbers stand one after another, from the start on
-abbrev pub sections_from : ℕ → List Entry → List ℕ → List Section
-sections_from start [] counts = []
-sections_from start (e ∷ es) counts = section_from start e counts ∷ sections_from e.ends es counts
-
--- none ends before it begins, and the last ends where the numbers do
-abbrev pub AreRanges : ℕ → List Entry → ℕ → Type 0
-AreRanges start [] numbers = start ≡ numbers
-AreRanges start (e ∷ es) numbers = (start ≤ e.ends) × AreRanges e.ends es numbers
+abbrev pub sections_of : List ℕ → List Entry → List Section
+sections_of numbers entries = map (section_of numbers) entries
 
 abbrev pub no_entry : Entry
-no_entry = record { acquire = record { thread = 0; position = 0 }; own = 0; ends = 0 }
+no_entry = record { acquire = record { thread = 0; position = 0 }; own = 0; width = 0; start = 0 }
 
 abbrev pub entry_at : List Entry → ℕ → Entry
 entry_at entries k = slice_index_or entries k no_entry
 
--- each has how many events of its thread there were before its release
-abbrev pub AreOwn : List Entry → List Section → Type 0
-AreOwn entries sections = (k : ℕ) → k < length entries
-    → counts_of (section_at sections k).release (section_at sections k).acquire.thread
-    ≡ (entry_at entries k).own + 1
+-- its numbers are there, and that of its own thread stands in the entry too
+pub record IsReadable (numbers : List ℕ) (e : Entry) : Type 0 where
+  pub within : e.start + e.width ≤ length numbers
+  pub own : counts_of (numbers_of numbers e) e.acquire.thread ≡ e.own
 
--- what the fields keep
-pub record ArePacked (entries : List Entry) (counts : List ℕ) : Type 0 where
-  pub ranges : AreRanges 0 entries (length counts)
-  pub own : AreOwn entries (sections_from 0 entries counts)
+abbrev pub AreReadable : List ℕ → List Entry → Type 0
+AreReadable numbers entries = (k : ℕ) → k < length entries → IsReadable numbers (entry_at entries k)
 
--- where the numbers of the section at the place begin
-abbrev pub start_of : ℕ → List Entry → ℕ → ℕ
-start_of start entries zero = start
-start_of start entries (suc k) = (entry_at entries k).ends
+-- the clock counts the acquire of the entry at the place
+abbrev pub CountsEntry : List Entry → List ℕ → ℕ → Type 0
+CountsEntry entries clock k = Counts clock (entry_at entries k).acquire
 
--- how many numbers there are, and for how many sections and numbers there is memory
-pub record Memory : Type 0 where
-  pub numbers : ℕ
-  pub most_sections : ℕ
-  pub most_numbers : ℕ
-
--- the sections, and the memory for them
-pub record Packed : Type 0 where
-  pub sections : List Section
-  pub memory : Memory
-
-abbrev pub no_sections : Packed
-no_sections = record {
-  sections = [];
-  memory = record { numbers = 0; most_sections = 0; most_numbers = 0 };
-}
-
--- there is memory for so many sections more, with clocks of the width
-pub record HasSpare (sections : List Section) (memory : Memory) (more width : ℕ) : Type 0 where
-  pub places : length sections + more ≤ memory.most_sections
-  pub numbers : memory.numbers + more * width ≤ memory.most_numbers
-
--- there may be more memory
-pub record HasMore (old new : Memory) : Type 0 where
-  pub numbers : new.numbers ≡ old.numbers
-  pub most_sections : old.most_sections ≤ new.most_sections
-  pub most_numbers : old.most_numbers ≤ new.most_numbers
+-- one section more, by the thread from the position of its acquire to the release with the clock: its numbers
+-- come after those of all others, and are no more than the width
+pub record HasJoined (old_numbers new_numbers : List ℕ) (old new : List Entry) (by position width : ℕ)
+    (clock : ℕ → ℕ) : Type 0 where
+  pub added : List ℕ
+  pub entry : Entry
+  pub numbers : new_numbers ≡ old_numbers ++ added
+  pub entries : new ≡ old ++ entry ∷ []
+  pub start : entry.start ≡ length old_numbers
+  pub count : entry.width ≡ length added
+  pub thread : entry.acquire.thread ≡ by
+  pub acquired : entry.acquire.position ≡ position
+  pub marked : by < length added
+  pub own : counts_of added by ≡ entry.own
+  pub release : counts_of (raised by added) ≡ clock
+  pub within : length added ≤ width

@@ -5,8 +5,10 @@
 //! is found by looking through them.
 ghost use Rattle.std.specs.Prelude.{◌≡◌, ◌≤◌, length, max, slice_index, OnOk};
 
+use crate::before::{number_before, push_before};
 use crate::rooms::{Room, find};
-use crate::sections::{ClosedSection, Sections};
+use crate::search::search;
+use crate::sections::{ClosedSection, Entry, read};
 use event_core::{OutOfMemory, ThreadId};
 use hb_clocks::{Clock, Mark, Work};
 use std::alloc::Global;
@@ -15,40 +17,42 @@ use std::marker::Model;
 #[derive(Drop)]
 pub(crate) struct Queue {
     width: usize,
-    // In the order of their releases, whose clocks never go down. There is memory for one more of
-    // each room.
-    closed: Sections,
+    // The closed sections, in the order of their releases, whose clocks never go down. There is memory for
+    // one more of each room.
+    entries: Vec<Entry>,
     rooms: Vec<Room>,
     // By the number of the thread, how many of the first closed sections it has found counted.
     found: Vec<usize>,
 }
 
 impl Model for Queue {
+    ghost use Rattle.std.specs.Prelude.{vec_capacity};
     ghost use Rattle.lock_queues.specs.Queue.{Kept, IsKept};
 
     ghost Value = { Kept };
 
     ghost view = { λ q. record {
       width = q.width;
-      closed = q.closed.sections;
+      entries = q.entries.items;
       rooms = q.rooms.items;
       found = q.found.items;
-      memory = q.closed.memory;
+      most = vec_capacity q.entries;
     } };
 
     ghost invariant = { λ q.
-        IsKept q.width q.closed.sections q.rooms.items q.found.items q.closed.memory };
+        IsKept q.width q.entries.items q.rooms.items q.found.items (vec_capacity q.entries) };
 }
 
 impl Queue {
-    ghost use Rattle.std.specs.Prelude.{◌≡◌, ℕ, ◌+◌, ◌-◌, ◌<◌, ◌≤◌, ◌^◌, ◌∷◌, ◌++◌, [], length, map};
+    ghost use Rattle.std.specs.Prelude.{◌≡◌, ℕ, ◌+◌, ◌-◌, ◌<◌, ◌≤◌, ◌^◌, length, cond};
     ghost use Rattle.std.specs.Prelude.{true, false, MatchOption, IsTrue, OnOk, OnErr, slice_index};
-    ghost use Rattle.event_core.specs.Closed.{number_counted};
+    ghost use Rattle.std.specs.Prelude.{vec_capacity};
     ghost use Rattle.event_core.specs.Rows.{with_row};
     ghost use Rattle.hb_clocks.specs.Counts.{counts_of};
     ghost use Rattle.lock_queues.specs.Rooms.{has_room_in, opened_in};
-    ghost use Rattle.lock_queues.specs.Sections.{closed_as, closed_at, before, HasSpare};
-    ghost use Rattle.lock_queues.specs.Searched.{CountsEarlier, IsAboveAll, IsLatestBefore, IsSection};
+    ghost use Rattle.lock_queues.specs.Sections.{before, entry_at, closed_as, section_of, CountsEntry};
+    ghost use Rattle.lock_queues.specs.Sections.{AreReadable, HasJoined};
+    ghost use Rattle.lock_queues.specs.Searched.{IsSection};
     ghost use Rattle.lock_queues.specs.Queue.{SameMeaning, no_queue};
 
     // No sections.
@@ -57,7 +61,7 @@ impl Queue {
     {
         Queue {
             width,
-            closed: Sections::new(alloc),
+            entries: Vec::new(alloc),
             rooms: Vec::new(alloc),
             found: Vec::new(alloc),
         }
@@ -70,14 +74,15 @@ impl Queue {
         find(&self.rooms, thread) < self.rooms.len()
     }
 
-    // Makes room for a thread that has none.
+    // Makes room for a thread that has none, but for the numbers of a release.
     pub(crate) fn make_room(&mut self, thread: ThreadId) -> Result<(), OutOfMemory>
         requires within { thread.0 < self.old.width }
         requires none { has_room_in self.old.rooms thread.0 ≡ false }
         ensures same { SameMeaning self.old self.new }
         ensures ok { OnOk result
             (has_room_in self.new.rooms ≡ with_row thread.0 true (has_room_in self.old.rooms)) }
-        ensures err { OnErr result (has_room_in self.new.rooms ≡ has_room_in self.old.rooms) }
+        ensures more { OnOk result (length self.new.rooms ≡ length self.old.rooms + 1) }
+        ensures err { OnErr result (self.new.rooms ≡ self.old.rooms) }
     {
         self.reserve(thread)?;
         let room = Room {
@@ -90,11 +95,13 @@ impl Queue {
         Ok(())
     }
 
-    // Makes room for a thread that has none, where that takes no memory. Tells whether it did.
+    // Makes room for a thread that has none, where that takes no memory, but for the numbers of a release.
+    // Tells whether it did.
     pub(crate) fn seek_room(&mut self, thread: ThreadId) -> bool
         requires none { has_room_in self.old.rooms thread.0 ≡ false }
         ensures same { SameMeaning self.old self.new }
         ensures room { result ≡ has_room_in self.new.rooms thread.0 }
+        ensures many { length self.new.rooms ≡ length self.old.rooms + cond {A = ℕ} result 1 0 }
         ensures kept { (t : ℕ) → IsTrue (has_room_in self.old.rooms t)
             → IsTrue (has_room_in self.new.rooms t) }
     {
@@ -102,7 +109,7 @@ impl Queue {
         if self.found.len() <= thread.0 as usize || self.rooms.capacity() < more {
             return false;
         }
-        if !self.closed.has_spare(more, self.width) {
+        if self.entries.capacity() - self.entries.len() < more {
             return false;
         }
         self.rooms.push_reserved(Room {
@@ -119,10 +126,13 @@ impl Queue {
         ensures rooms { self.new.rooms ≡ self.old.rooms }
         ensures found { OnOk result (thread.0 < length self.new.found) }
         ensures spare { OnOk result
-            (HasSpare self.new.closed self.new.memory (length self.new.rooms + 1) self.new.width) }
+            (length self.new.entries + (length self.new.rooms + 1) ≤ self.new.most) }
     {
         grow(&mut self.found, thread.0 as usize + 1)?;
-        self.closed.reserve(self.rooms.len() + 1, self.width)
+        let Ok(()) = self.entries.reserve(self.rooms.len() + 1) else {
+            return Err(OutOfMemory);
+        };
+        Ok(())
     }
 
     // The thread's section is open from the event on.
@@ -132,7 +142,8 @@ impl Queue {
         ensures opened { opened_in self.new.rooms
             ≡ with_row thread.0 mark.position (opened_in self.old.rooms) }
         ensures rooms { has_room_in self.new.rooms ≡ has_room_in self.old.rooms }
-        ensures closed { self.new.closed ≡ self.old.closed }
+        ensures many { length self.new.rooms ≡ length self.old.rooms }
+        ensures entries { self.new.entries ≡ self.old.entries }
         ensures found { self.new.found ≡ self.old.found }
         ensures width { self.new.width ≡ self.old.width }
     {
@@ -141,89 +152,99 @@ impl Queue {
         room.enter(mark);
     }
 
-    // The thread's open section is closed with the clock.
-    pub(crate) fn leave(&mut self, thread: ThreadId, clock: &Clock)
+    // The thread's open section is closed with the clock, whose numbers join those of the other sections.
+    pub(crate) fn leave(&mut self, numbers: &mut Vec<u32>, thread: ThreadId, clock: &Clock)
         requires entered { 0 < opened_in self.old.rooms thread.0 }
         requires width { length clock.now ≡ self.old.width }
-        requires above { IsAboveAll (counts_of clock.now) (map closed_as self.old.closed) }
+        requires small { self.old.width < 2 ^ 32 }
         requires counted { 0 < counts_of clock.now thread.0 }
         requires few { (u : ℕ) → before thread.0 (counts_of clock.now) u < 2 ^ 32 }
-        ensures closed { map closed_as self.new.closed
-            ≡ map closed_as self.old.closed ++ record {
-              thread = thread.0;
-              position = opened_in self.old.rooms thread.0;
-              release = counts_of clock.now;
-            } ∷ [] }
+        requires memory { length numbers.old.items + self.old.width ≤ vec_capacity numbers.old }
+        ensures joined { HasJoined numbers.old.items numbers.new.items self.old.entries self.new.entries
+            thread.0 (opened_in self.old.rooms thread.0) self.old.width (counts_of clock.now) }
         ensures opened { opened_in self.new.rooms ≡ with_row thread.0 0 (opened_in self.old.rooms) }
         ensures rooms { has_room_in self.new.rooms ≡ with_row thread.0 false (has_room_in self.old.rooms) }
+        ensures many { length self.new.rooms + 1 ≡ length self.old.rooms }
         ensures found { self.new.found ≡ self.old.found }
         ensures width { self.new.width ≡ self.old.width }
+        ensures memory { vec_capacity numbers.old ≤ vec_capacity numbers.new }
     {
         let at = find(&self.rooms, thread);
         let room = self.rooms.remove(at);
         let acquire = room.opened.unwrap();
-        self.closed.push(acquire, clock.counts());
+        let release = clock.counts();
+        let start = numbers.len();
+        push_before(numbers, release, thread);
+        self.entries.push_reserved(Entry {
+            acquire,
+            own: number_before(release, thread, thread.0 as usize),
+            width: release.len() as u32,
+            start,
+        });
     }
 
-    // The thread finds how many of the sections the clock counts.
-    pub(crate) fn seek(&mut self, thread: ThreadId, clock: &Clock, work: &mut Work)
+    // How many of the sections the clock counts, which the thread then has found.
+    pub(crate) fn seek(&mut self, thread: ThreadId, clock: &Clock, work: &mut Work) -> usize
         requires room { IsTrue (has_room_in self.old.rooms thread.0) }
         requires width { length clock.now ≡ self.old.width }
-        requires before { slice_index self.old.found thread.0
-            ≤ number_counted (counts_of clock.now) (map closed_as self.old.closed) }
-        requires earlier { CountsEarlier (counts_of clock.now) (map closed_as self.old.closed) }
-        requires few { work.old.comparisons + length self.old.closed < 2 ^ 63 }
+        requires before { (k : ℕ) → k < slice_index self.old.found thread.0
+            → CountsEntry self.old.entries clock.now k }
+        requires few { work.old.comparisons + length self.old.entries < 2 ^ 63 }
+        ensures counted { (k : ℕ) → k < result → CountsEntry self.old.entries clock.now k }
+        ensures stopped { result < length self.old.entries → CountsEntry self.old.entries clock.now result
+            → ⊥ }
+        ensures within { result ≤ length self.old.entries }
         ensures found { slice_index self.new.found
-            ≡ with_row thread.0 (number_counted (counts_of clock.now) (map closed_as self.old.closed))
-            (slice_index self.old.found) }
-        ensures closed { self.new.closed ≡ self.old.closed }
+            ≡ with_row thread.0 result (slice_index self.old.found) }
+        ensures entries { self.new.entries ≡ self.old.entries }
         ensures rooms { self.new.rooms ≡ self.old.rooms }
         ensures width { self.new.width ≡ self.old.width }
-        ensures latest { IsLatestBefore (counts_of clock.now) (map closed_as self.old.closed)
-            (number_counted (counts_of clock.now) (map closed_as self.old.closed)) }
         ensures joins { work.new.joins ≡ work.old.joins }
         ensures comparisons { work.new.comparisons + slice_index self.old.found thread.0
-            ≤ work.old.comparisons
-            + number_counted (counts_of clock.now) (map closed_as self.old.closed) + 1 }
+            ≤ work.old.comparisons + result + 1 }
     {
         let at = thread.0 as usize;
-        let more = self.closed.search(self.found[at], clock, work);
+        let more = search(&self.entries, self.found[at], clock, work);
         self.found[at] = more;
+        more
     }
 
     // The latest section that the thread has found.
-    pub(crate) fn latest(&self, thread: ThreadId) -> Option<ClosedSection<'_>>
+    pub(crate) fn latest<'a>(
+        &self,
+        numbers: &'a [u32],
+        thread: ThreadId,
+    ) -> Option<ClosedSection<'a>>
         requires room { IsTrue (has_room_in self.now.rooms thread.0) }
+        requires readable { AreReadable numbers.now self.now.entries }
         ensures { MatchOption result (slice_index self.now.found thread.0 ≡ 0)
             (λ answer. (0 < slice_index self.now.found thread.0)
             × IsSection answer.by.0 answer.own answer.before.now self.now.width
-            (closed_at (map closed_as self.now.closed) (slice_index self.now.found thread.0 - 1))) }
+            (closed_as (section_of numbers.now
+            (entry_at self.now.entries (slice_index self.now.found thread.0 - 1))))) }
     {
         let number = self.found[thread.0 as usize];
         if number == 0 {
             return None;
         }
-        Some(self.section(number - 1))
+        Some(self.section(numbers, number - 1))
     }
 
     // How many sections are closed.
     pub(crate) fn count(&self) -> usize
-        ensures { result ≡ length self.now.closed }
+        ensures { result ≡ length self.now.entries }
     {
-        self.closed.len()
+        self.entries.len()
     }
 
     // The closed section at the place.
-    pub(crate) fn section(&self, place: usize) -> ClosedSection<'_>
-        requires within { place < length self.now.closed }
+    pub(crate) fn section<'a>(&self, numbers: &'a [u32], place: usize) -> ClosedSection<'a>
+        requires within { place < length self.now.entries }
+        requires readable { AreReadable numbers.now self.now.entries }
         ensures { IsSection result.by.0 result.own result.before.now self.now.width
-            (closed_at (map closed_as self.now.closed) place) }
+            (closed_as (section_of numbers.now (entry_at self.now.entries place))) }
     {
-        ClosedSection {
-            by: self.closed.thread(place),
-            own: self.closed.own(place),
-            before: self.closed.before(place),
-        }
+        read(&self.entries[place], numbers)
     }
 }
 

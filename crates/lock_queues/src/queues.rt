@@ -10,9 +10,9 @@
 //!
 //! Rule (a) asks for single sections, by their numbers: so what names a section keeps its number alone, and
 //! the clock of its release is kept once, here.
-ghost use Rattle.std.specs.Prelude.{◌≡◌, ℕ, ◌≤◌, length, OnOk};
+ghost use Rattle.std.specs.Prelude.{◌≡◌, ℕ, ◌+◌, ◌*◌, ◌≤◌, length, vec_capacity, OnOk, IsTrue};
 ghost use Rattle.lock_queues.specs.Queue.{AreAlike};
-ghost use Rattle.lock_queues.specs.Queues.{AreWide};
+ghost use Rattle.lock_queues.specs.Queues.{AreWide, count_rooms};
 
 use crate::queue::Queue;
 use crate::sections::ClosedSection;
@@ -32,16 +32,26 @@ pub struct Queues {
     limits: Limits,
     // By the number of the lock, as far as room was made.
     queues: Vec<Queue>,
+    // Of the releases of all closed sections. There is memory for those of one more of each room.
+    numbers: Vec<u32>,
+    // How many rooms there are on all locks.
+    rooms: usize,
 }
 
 impl Model for Queues {
-    ghost use Rattle.lock_queues.specs.Queues.{Tables, AreWide};
+    ghost use Rattle.std.specs.Prelude.{vec_capacity};
+    ghost use Rattle.lock_queues.specs.Queues.{Tables, AreKept};
 
     ghost Value = { Tables };
 
-    ghost view = { λ a. record { limits = a.limits; queues = a.queues.items } };
+    ghost view = { λ a. record {
+      limits = a.limits;
+      queues = a.queues.items;
+      numbers = a.numbers.items;
+    } };
 
-    ghost invariant = { λ a. AreWide a.limits.threads a.queues.items };
+    ghost invariant = { λ a.
+        AreKept a.limits.threads a.queues.items a.numbers.items a.rooms (vec_capacity a.numbers) };
 }
 
 impl Queues {
@@ -72,6 +82,8 @@ impl Queues {
             alloc,
             limits: *limits,
             queues: Vec::new(alloc),
+            numbers: Vec::new(alloc),
+            rooms: 0,
         })
     }
 
@@ -93,9 +105,15 @@ impl Queues {
         }
         let at = lock.0 as usize;
         let width = self.limits.threads() as usize;
+        let Some(rooms) = self.rooms.checked_add(1) else {
+            return Err(OutOfMemory);
+        };
+        reserve(&mut self.numbers, rooms, width)?;
         grow(&mut self.queues, self.alloc, width, at + 1)?;
         let queue = &mut self.queues[at];
-        queue.make_room(thread)
+        queue.make_room(thread)?;
+        self.rooms = rooms;
+        Ok(())
     }
 
     /// Whether there is room for the thread's next section on the lock, or for its open one.
@@ -118,11 +136,19 @@ impl Queues {
             return true;
         }
         let at = lock.0 as usize;
-        if self.queues.len() <= at {
+        let Some(rooms) = self.rooms.checked_add(1) else {
+            return false;
+        };
+        let width = self.limits.threads() as usize;
+        if self.queues.len() <= at || !has_spare(&self.numbers, rooms, width) {
             return false;
         }
         let queue = &mut self.queues[at];
-        queue.seek_room(thread)
+        let is_made = queue.seek_room(thread);
+        if is_made {
+            self.rooms = rooms;
+        }
+        is_made
     }
 
     /// The thread's section on the lock is open, from the event on that the mark names.
@@ -209,8 +235,10 @@ impl Queues {
             ≡ with_row thread.0 (with_row lock.0 false (has_room self.old thread.0)) (has_room self.old) }
         ensures limits { self.new.limits ≡ self.old.limits }
     {
+        let _threads = self.limits.threads();
         let queue = &mut self.queues[lock.0 as usize];
-        queue.leave(thread, clock);
+        queue.leave(&mut self.numbers, thread, clock);
+        self.rooms -= 1;
     }
 
     /// How many closed sections the lock has: the number of the newest.
@@ -238,7 +266,7 @@ impl Queues {
         ensures width { length result.before.now ≤ self.now.limits.threads }
     {
         let place = number as usize - 1;
-        self.queues[lock.0 as usize].section(place)
+        self.queues[lock.0 as usize].section(&self.numbers, place)
     }
 
     // The thread finds how many of the lock's sections the clock counts.
@@ -268,8 +296,33 @@ impl Queues {
             × IsSection answer.by.0 answer.own answer.before.now self.now.limits.threads
             (closed_at (closed_of self.now lock.0) (found_of self.now lock.0 thread.0 - 1))) }
     {
-        self.queues[lock.0 as usize].latest(thread)
+        self.queues[lock.0 as usize].latest(&self.numbers, thread)
     }
+}
+
+// Makes room for the numbers of the releases of so many sections more.
+fn reserve(numbers: &mut Vec<u32>, more: usize, width: usize) -> Result<(), OutOfMemory>
+    ensures same { numbers.new.items ≡ numbers.old.items }
+    ensures larger { vec_capacity numbers.old ≤ vec_capacity numbers.new }
+    ensures ok { OnOk result (length numbers.new.items + more * width ≤ vec_capacity numbers.new) }
+{
+    let Some(count) = more.checked_mul(width) else {
+        return Err(OutOfMemory);
+    };
+    let Ok(()) = numbers.reserve(count) else {
+        return Err(OutOfMemory);
+    };
+    Ok(())
+}
+
+// Whether there is room for the numbers of the releases of so many sections more.
+fn has_spare(numbers: &Vec<u32>, more: usize, width: usize) -> bool
+    ensures { IsTrue result → length numbers.now.items + more * width ≤ vec_capacity numbers.now }
+{
+    let Some(count) = more.checked_mul(width) else {
+        return false;
+    };
+    count <= numbers.capacity() - numbers.len()
 }
 
 // Further locks have no sections.
@@ -282,6 +335,7 @@ fn grow(
     requires wide { AreWide width queues.old.items }
     ensures same { AreAlike queues.old.items queues.new.items }
     ensures wide { AreWide width queues.new.items }
+    ensures rooms { count_rooms queues.new.items ≡ count_rooms queues.old.items }
     ensures more { length queues.old.items ≤ length queues.new.items }
     ensures ok { OnOk result (count ≤ length queues.new.items) }
 {

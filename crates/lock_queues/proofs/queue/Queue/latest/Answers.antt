@@ -1,8 +1,8 @@
-use Rattle.std.proofs.Common.{◌≡◌, ◌-◌, ◌<◌, length, ap, subst, ◌∙◌, arith, map}
+use Rattle.std.proofs.Common.{◌≡◌, ◌-◌, ◌<◌, length, ap, subst, ◌∙◌, arith}
 use Rattle.std.specs.Prelude.{slice_index}
 use Rattle.std.proofs.lemmas.List.{get_or_read}
 use Rattle.lock_queues.specs.Rooms.{has_room_in}
-use Rattle.lock_queues.specs.Sections.{closed_as, closed_at}
+use Rattle.lock_queues.specs.Sections.{closed_as, section_of, entry_at}
 use Rattle.lock_queues.specs.Queue.{Kept}
 use Rattle.lock_queues.specs.Searched.{IsSection}
 use Rattle.lock_queues.proofs.Keeping.{thread_within}
@@ -15,15 +15,15 @@ index-number-requires c =
     let len = c.self.inside.found.ok.0 in
     omega arith
 
-pub section-requires : goal.section-requires
-section-requires c =
+pub section-requires-clause-within : goal.section-requires-clause-within
+section-requires-clause-within c =
     let same = ap (λ (k : Kept). has_room_in k.rooms c.args.thread.0) c.self.view_is in
     let lt = thread_within c.args.thread.0 c.self.invariant (same ∙ c.requires.room) in
     let is = get_or_read c.self.inside.found.items c.args.thread.0 _ lt c.index-number.ensures 0 in
     let le = c.self.invariant.within c.args.thread.0 in
     let some : 0 < c.index-number.result.now = omega (arith, c.if-number-eq0.false) in
-    let closed = ap (λ (k : Kept). length k.closed) c.self.view_is in
-    record { within = omega arith }
+    let entries = ap (λ (k : Kept). length k.entries) c.self.view_is in
+    omega arith
 
 pub returns : goal.returns
 returns c =
@@ -37,5 +37,6 @@ returns c =
       omega arith,
       subst (λ n. IsSection c.section.result.by.0 c.section.result.own c.section.result.before.now
           c.args.self.now.width
-          (closed_at (map closed_as c.args.self.now.closed) (n - 1))) is c.section.ensures,
+          (closed_as (section_of c.args.numbers.now (entry_at c.args.self.now.entries (n - 1))))) is
+          c.section.ensures,
     )

@@ -1,9 +1,8 @@
-use Rattle.std.proofs.Common.{◌≡◌, ◌+◌, None, true, false, length, arith, ap, refl, sym, subst, ◌∙◌}
-use Rattle.std.proofs.Common.{List}
+use Rattle.std.proofs.Common.{◌≡◌, None, true, false, length, arith, ap, refl, sym, subst, ◌∙◌}
+use Rattle.std.proofs.Common.{List, vec_capacity}
 use Rattle.std.specs.Prelude.{slice_index}
 use Rattle.event_core.specs.Rows.{with_row}
 use Rattle.lock_queues.specs.declared.rooms.Room.{Room}
-use Rattle.lock_queues.specs.Sections.{HasSpare}
 use Rattle.lock_queues.specs.Rooms.{has_room_in, opened_in, IsRoom}
 use Rattle.lock_queues.specs.Queue.{Kept, IsKept}
 use Rattle.lock_queues.proofs.Keeping.{kept_pushed}
@@ -20,12 +19,13 @@ invariant_of-self-2 c =
     let threads = ap (λ (k : Kept). length k.found) c.self.view_is in
     let within = c.in_ok-reserve.ensures.found in
     let room : IsRoom (length found) s = record { within = omega arith; own = tt } in
-    let spare
-    = subst (λ (k : Kept). HasSpare k.closed k.memory (length k.rooms + 1) k.width) (sym c.self.view_is)
-    c.in_ok-reserve.ensures.spare in
-    subst (λ (xs : List Room). IsKept c.self.inside.width c.self.inside.closed.sections xs found
-    c.self.inside.closed.memory)
-    (sym c.in-Ok.ensures.items) (kept_pushed s c.self.invariant none room spare)
+    let entries = ap (λ (k : Kept). length k.entries) c.self.view_is in
+    let rooms = ap (λ (k : Kept). length k.rooms) c.self.view_is in
+    let most = ap (λ (k : Kept). k.most) c.self.view_is in
+    let spare = c.in_ok-reserve.ensures.spare in
+    subst (λ (xs : List Room). IsKept c.self.inside.width c.self.inside.entries.items xs found
+    (vec_capacity c.self.inside.entries))
+    (sym c.in-Ok.ensures.items) (kept_pushed s c.self.invariant none room (omega arith))
 
 pub returns-clause-same : goal.returns-clause-same
 returns-clause-same c =
@@ -35,7 +35,7 @@ returns-clause-same c =
     = ap (λ (xs : List Room). has_room_in xs c.args.thread.0) same ∙ c.requires.none in
     record {
       width = ap (λ (k : Kept). k.width) c.self.view_is ∙ c.in_ok-reserve.ensures.same.width;
-      closed = ap (λ (k : Kept). k.closed) c.self.view_is ∙ c.in_ok-reserve.ensures.same.closed;
+      entries = ap (λ (k : Kept). k.entries) c.self.view_is ∙ c.in_ok-reserve.ensures.same.entries;
       opened =
           ap opened_in c.in-Ok.ensures.items ∙ opened_push c.self.inside.rooms.items s refl none
           ∙ ap opened_in same;

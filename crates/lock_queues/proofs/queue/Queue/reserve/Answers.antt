@@ -9,8 +9,17 @@ invariant_of-self c =
     let few = c.self.invariant.threads in
     let lt = c.requires.within in
     let width = ap (λ (k : Kept). k.width) c.self.view_is in
-    kept_grown _ _ c.self.invariant refl c.grow.ensures.same c.grow.ensures.more (omega arith)
-    (record { numbers = refl; most_sections = omega arith; most_numbers = omega arith })
+    kept_grown _ _ c.self.invariant refl c.grow.ensures.same c.grow.ensures.more (omega arith) (omega arith)
+
+pub invariant_of-self-in_default : goal.invariant_of-self-in_default
+invariant_of-self-in_default c =
+    let most = c.grow.ensures.most in
+    let few = c.self.invariant.threads in
+    let lt = c.requires.within in
+    let width = ap (λ (k : Kept). k.width) c.self.view_is in
+    kept_grown _ _ c.self.invariant c.reserve.ensures.items c.grow.ensures.same c.grow.ensures.more
+    (omega arith)
+    c.reserve.ensures.capacity
 
 pub invariant_of-self-2 : goal.invariant_of-self-2
 invariant_of-self-2 c =
@@ -18,6 +27,6 @@ invariant_of-self-2 c =
     let few = c.self.invariant.threads in
     let lt = c.requires.within in
     let width = ap (λ (k : Kept). k.width) c.self.view_is in
-    kept_grown _ _ c.self.invariant c.reserve.ensures.sections c.grow.ensures.same c.grow.ensures.more
+    kept_grown _ _ c.self.invariant c.reserve.ensures.items c.grow.ensures.same c.grow.ensures.more
     (omega arith)
-    c.reserve.ensures.more
+    c.reserve.ensures.capacity

@@ -1,8 +1,7 @@
-use Rattle.std.proofs.Common.{◌≡◌, ◌+◌, ℕ, Bool, None, true, false, List, length, arith}
-use Rattle.std.proofs.Common.{ap, refl, sym, subst, ◌∙◌}
+use Rattle.std.proofs.Common.{◌≡◌, ◌+◌, ◌≤◌, ℕ, Bool, None, true, false, List, length, arith}
+use Rattle.std.proofs.Common.{ap, refl, sym, subst, ◌∙◌, vec_capacity}
 use Rattle.event_core.specs.Rows.{with_row}
 use Rattle.lock_queues.specs.declared.rooms.Room.{Room}
-use Rattle.lock_queues.specs.Sections.{HasSpare}
 use Rattle.std.specs.Prelude.{slice_index}
 use Rattle.lock_queues.specs.Rooms.{has_room_in, opened_in, IsRoom}
 use Rattle.lock_queues.specs.Queue.{Kept, IsKept}
@@ -22,12 +21,16 @@ invariant_of-self c =
     let within = c.if-len-thread.false in
     let room : IsRoom (length found) s = record { within = omega (arith, threads); own = tt } in
     let rooms = c.self.inside.rooms.ok in
+    let entries = c.self.inside.entries.ok in
     let len = c.len-more.ensures in
-    let more : c.len-more.result + 1 ≡ length c.self.inside.rooms.items + 1 = omega (arith, rooms) in
-    let spare = subst (λ n. HasSpare c.self.inside.closed.sections c.self.inside.closed.memory n
-    c.self.inside.width) more (c.has_spare.ensures c.if-not-has_spare.false) in
-    subst (λ (xs : List Room). IsKept c.self.inside.width c.self.inside.closed.sections xs found
-    c.self.inside.closed.memory)
+    let capacity = c.capacity-2.ensures in
+    let count_entries = c.len-2.ensures in
+    let enough = c.if-capacity-len.false in
+    let places = c.if-capacity-more.false in
+    let spare : length c.self.inside.entries.items + (length c.self.inside.rooms.items + 1)
+    ≤ vec_capacity c.self.inside.entries = omega (arith, rooms, entries) in
+    subst (λ (xs : List Room). IsKept c.self.inside.width c.self.inside.entries.items xs found
+    (vec_capacity c.self.inside.entries))
     (sym c.push_reserved.ensures.items) (kept_pushed s c.self.invariant none room spare)
 
 pub returns-clause-same : goal.returns-clause-same
@@ -37,7 +40,7 @@ returns-clause-same c =
     = ap (λ (k : Kept). has_room_in k.rooms c.args.thread.0) c.self.view_is ∙ c.requires.none in
     record {
       width = ap (λ (k : Kept). k.width) c.self.view_is;
-      closed = ap (λ (k : Kept). k.closed) c.self.view_is;
+      entries = ap (λ (k : Kept). k.entries) c.self.view_is;
       opened =
           ap opened_in c.push_reserved.ensures.items ∙ opened_push c.self.inside.rooms.items s refl none
           ∙ ap (λ (k : Kept). opened_in k.rooms) c.self.view_is;

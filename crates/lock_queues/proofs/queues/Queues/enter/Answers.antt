@@ -1,10 +1,49 @@
-use Rattle.std.proofs.Common.{ap, ◌∙◌}
+use Rattle.std.proofs.Common.{length, map, ap, ◌∙◌, arith}
+use Rattle.std.specs.Prelude.{slice_index}
+use Rattle.lock_queues.specs.Sections.{closed_as, sections_of}
 use Rattle.event_core.specs.Rows.{with_row}
 use Rattle.lock_queues.specs.Rooms.{has_room_in, opened_in}
 use Rattle.lock_queues.specs.Queue.{Kept}
-use Rattle.lock_queues.specs.Queues.{Tables, opened_of, has_room}
+use Rattle.lock_queues.specs.Queues.{Tables, closed_of, opened_of, found_of, has_room}
 use Rattle.lock_queues.proofs.Lifting.{read_room, lifted_same, lifted_cell}
+use Rattle.lock_queues.proofs.Tables.{kept_set}
 use Rattle.lock_queues.proofs.queues.Queues.enter.Goals as goal
+
+pub invariant_of-self : goal.invariant_of-self
+invariant_of-self c =
+    let t = c.args.thread.0 in
+    let l = c.args.lock.0 in
+    let has = ap (λ (v : Tables). has_room v t l) c.self.view_is ∙ c.requires.room in
+    let qs = c.self.inside.queues.items in
+    let read = read_room qs t l c.index_mut-queue.result.now has c.index_mut-queue.ensures.value in
+    let many = c.enter.ensures.many ∙ ap (λ (q : Kept). length q.rooms) read.is in
+    kept_set l c.enter.new.self c.self.inside.rooms c.self.invariant read.within
+    (c.enter.ensures.width ∙ ap (λ (q : Kept). q.width) read.is)
+    (c.enter.ensures.entries ∙ ap (λ (q : Kept). q.entries) read.is) (omega arith) c.self.invariant.spare
+
+pub returns-clause-closed : goal.returns-clause-closed
+returns-clause-closed c =
+    let t = c.args.thread.0 in
+    let l = c.args.lock.0 in
+    let has = ap (λ (v : Tables). has_room v t l) c.self.view_is ∙ c.requires.room in
+    let qs = c.self.inside.queues.items in
+    let ns = c.self.inside.numbers.items in
+    let read = read_room qs t l c.index_mut-queue.result.now has c.index_mut-queue.ensures.value in
+    let closed = λ (q : Kept). map closed_as (sections_of ns q.entries) in
+    let here = ap (λ es. map closed_as (sections_of ns es))
+    (c.enter.ensures.entries ∙ ap (λ (q : Kept). q.entries) read.is) in
+    (λ i m. lifted_same closed qs l c.enter.new.self read.within here m i) ∙ ap closed_of c.self.view_is
+
+pub returns-clause-found : goal.returns-clause-found
+returns-clause-found c =
+    let t = c.args.thread.0 in
+    let l = c.args.lock.0 in
+    let has = ap (λ (v : Tables). has_room v t l) c.self.view_is ∙ c.requires.room in
+    let qs = c.self.inside.queues.items in
+    let read = read_room qs t l c.index_mut-queue.result.now has c.index_mut-queue.ensures.value in
+    let here = ap slice_index (c.enter.ensures.found ∙ ap (λ (q : Kept). q.found) read.is) in
+    (λ i m. lifted_same (λ (q : Kept). slice_index q.found) qs l c.enter.new.self read.within here m i)
+    ∙ ap found_of c.self.view_is
 
 pub returns-clause-opened : goal.returns-clause-opened
 returns-clause-opened c =

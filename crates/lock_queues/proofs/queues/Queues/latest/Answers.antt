@@ -1,15 +1,56 @@
-use Rattle.std.proofs.Common.{◌<◌, ap, sym, subst, ◌∙◌}
+use Rattle.std.proofs.Common.{◌≡◌, ℕ, ◌-◌, ◌<◌, List, ap, sym, subst, ◌∙◌}
+use Rattle.std.specs.Prelude.{MatchOption, slice_index}
+use Rattle.event_core.specs.Closed.{Closed}
 use Rattle.lock_queues.specs.Rooms.{has_room_in}
-use Rattle.lock_queues.specs.Queue.{Kept}
-use Rattle.lock_queues.specs.Queues.{Tables, opened_of}
+use Rattle.lock_queues.specs.Sections.{closed_as, closed_at, section_of, entry_at, AreReadable}
+use Rattle.lock_queues.specs.Searched.{IsSection}
+use Rattle.lock_queues.specs.Queue.{Kept, queue_at}
+use Rattle.lock_queues.specs.Queues.{Tables, closed_of, opened_of, found_of}
 use Rattle.lock_queues.proofs.Lifting.{read_entered}
+use Rattle.lock_queues.proofs.Storing.{closed_is}
 use Rattle.lock_queues.proofs.queues.Queues.latest.Goals as goal
 
-pub latest-requires : goal.latest-requires
-latest-requires c =
+pub latest-requires-clause-room : goal.latest-requires-clause-room
+latest-requires-clause-room c =
     let t = c.args.thread.0 in
     let l = c.args.lock.0 in
     let entered = subst (λ (v : Tables). 0 < opened_of v t l) (sym c.self.view_is) c.requires.entered in
     let qs = c.self.inside.queues.items in
     let read = read_entered qs t l c.index.result.now entered c.index.ensures in
-    record { room = ap (λ (q : Kept). has_room_in q.rooms t) read.is ∙ read.has }
+    ap (λ (q : Kept). has_room_in q.rooms t) read.is ∙ read.has
+
+pub latest-requires-clause-readable : goal.latest-requires-clause-readable
+latest-requires-clause-readable c =
+    let t = c.args.thread.0 in
+    let l = c.args.lock.0 in
+    let entered = subst (λ (v : Tables). 0 < opened_of v t l) (sym c.self.view_is) c.requires.entered in
+    let qs = c.self.inside.queues.items in
+    let read = read_entered qs t l c.index.result.now entered c.index.ensures in
+    subst (λ (ns : List ℕ). AreReadable ns c.index.result.now.entries) (sym c.deref.ensures.value)
+    (subst (λ (q : Kept). AreReadable c.self.inside.numbers.items q.entries) (sym read.is)
+    (c.self.invariant.readable l))
+
+pub returns : goal.returns
+returns c =
+    let t = c.args.thread.0 in
+    let l = c.args.lock.0 in
+    let entered = subst (λ (v : Tables). 0 < opened_of v t l) (sym c.self.view_is) c.requires.entered in
+    let qs : List Kept = c.self.inside.queues.items in
+    let ns : List ℕ = c.self.inside.numbers.items in
+    let read = read_entered qs t l c.index.result.now entered c.index.ensures in
+    let Tells : ℕ → ℕ → Closed → Type 0
+    = λ n w x. MatchOption c.latest.result (n ≡ 0)
+    (λ answer. (0 < n) × IsSection answer.by.0 answer.own answer.before.now w x) in
+    let Reads : Kept → List ℕ → Type 0
+    = λ q ms. Tells (slice_index q.found t) q.width
+    (closed_as (section_of ms (entry_at q.entries (slice_index q.found t - 1)))) in
+    let here : Reads (queue_at qs l) ns
+    = subst (Reads (queue_at qs l)) c.deref.ensures.value
+    (subst (λ (q : Kept). Reads q c.deref.result.now) read.is c.latest.ensures) in
+    let n : ℕ = slice_index (queue_at qs l).found t in
+    subst (λ (v : Tables). Tells (found_of v l t) v.limits.threads (closed_at (closed_of v l)
+    (found_of v l t - 1)))
+    c.self.view_is
+    (subst (Tells n c.self.inside.limits.threads) (sym (closed_is ns (queue_at qs l).entries (n - 1)))
+    (subst (λ w. Tells n w (closed_as (section_of ns (entry_at (queue_at qs l).entries (n - 1)))))
+    (c.self.invariant.wide l read.within) here))

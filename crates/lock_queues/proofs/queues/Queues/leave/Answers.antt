@@ -1,27 +1,73 @@
-use Rattle.std.proofs.Common.{ℕ, ◌<◌, ◌∷◌, ◌++◌, [], false, map, ap, sym, subst, ◌∙◌}
+use Rattle.std.proofs.Common.{◌≡◌, ℕ, ◌<◌, ◌∷◌, ◌++◌, [], false, List, length, map}
+use Rattle.std.proofs.Common.{ap, sym, subst, ◌∙◌, arith}
 use Rattle.std.specs.Prelude.{slice_index}
 use Rattle.event_core.specs.Closed.{Closed}
 use Rattle.event_core.specs.Rows.{with_row}
 use Rattle.hb_clocks.specs.Counts.{counts_of}
-use Rattle.lock_queues.specs.Sections.{closed_as}
+use Rattle.lock_queues.specs.Sections.{closed_as, sections_of}
 use Rattle.lock_queues.specs.Rooms.{has_room_in, opened_in}
-use Rattle.lock_queues.specs.Queue.{Kept}
+use Rattle.lock_queues.specs.Searched.{IsAboveAll}
+use Rattle.lock_queues.specs.Queue.{Kept, queue_at}
 use Rattle.lock_queues.specs.Queues.{Tables, closed_of, opened_of, found_of, has_room}
 use Rattle.lock_queues.proofs.Lifting.{read_entered, lifted, lifted_same, lifted_cell}
+use Rattle.lock_queues.proofs.Storing.{sections_grown, joined_closed}
+use Rattle.lock_queues.proofs.Tables.{kept_joined, joined_at, some_made, one_fits}
 use Rattle.lock_queues.proofs.queues.Queues.leave.Goals as goal
+
+pub leave-requires-clause-memory : goal.leave-requires-clause-memory
+leave-requires-clause-memory c =
+    let l = c.args.lock.0 in
+    let t = c.args.thread.0 in
+    let entered = subst (λ (v : Tables). 0 < opened_of v t l) (sym c.self.view_is) c.requires.entered in
+    let qs = c.self.inside.queues.items in
+    let read = read_entered qs t l c.index_mut-queue.result.now entered c.index_mut-queue.ensures.value in
+    let width = ap (λ (q : Kept). q.width) read.is ∙ c.self.invariant.wide l read.within in
+    let some = some_made c.self.inside.queues.items c.args.thread.0 l read.within read.has in
+    let made = c.self.invariant.rooms in
+    let fits = one_fits c.self.inside.rooms c.self.inside.limits.threads (omega arith) in
+    let spare = c.self.invariant.spare in
+    omega (arith, width, fits, spare)
+
+pub invariant_of-self : goal.invariant_of-self
+invariant_of-self c =
+    let l = c.args.lock.0 in
+    let t = c.args.thread.0 in
+    let entered = subst (λ (v : Tables). 0 < opened_of v t l) (sym c.self.view_is) c.requires.entered in
+    let qs = c.self.inside.queues.items in
+    let read = read_entered qs t l c.index_mut-queue.result.now entered c.index_mut-queue.ensures.value in
+    let many = c.leave.ensures.many in
+    let same = ap (λ (q : Kept). length q.rooms) read.is in
+    let some = some_made c.self.inside.queues.items c.args.thread.0 l read.within read.has in
+    let made = c.self.invariant.rooms in
+    kept_joined l c.leave.new.self _ c.self.invariant read.within
+    (c.leave.ensures.width ∙ ap (λ (q : Kept). q.width) read.is)
+    (joined_at qs l _ c.leave.new.self read.is (c.self.invariant.wide l read.within) c.leave.ensures.joined)
+    (subst (λ (v : Tables). IsAboveAll (counts_of c.args.clock.now) (closed_of v l)) (sym c.self.view_is)
+    c.requires.above)
+    (omega arith) (omega arith) c.leave.ensures.memory
 
 pub returns-clause-closed : goal.returns-clause-closed
 returns-clause-closed c =
     let t = c.args.thread.0 in
     let l = c.args.lock.0 in
+    let qs : List Kept = c.self.inside.queues.items in
+    let ns = c.self.inside.numbers.items in
     let entered = subst (λ (v : Tables). 0 < opened_of v t l) (sym c.self.view_is) c.requires.entered in
-    let qs = c.self.inside.queues.items in
     let read = read_entered qs t l c.index_mut-queue.result.now entered c.index_mut-queue.ensures.value in
     let left : ℕ → Closed
     = λ n. record { thread = t; position = n; release = counts_of c.args.clock.now } in
-    let here = c.leave.ensures.closed
-    ∙ ap (λ (q : Kept). map closed_as q.closed ++ left (opened_in q.rooms t) ∷ []) read.is in
-    (λ i m. lifted (λ (q : Kept). map closed_as q.closed) qs l c.leave.new.self _ read.within here m i)
+    let joins = joined_at qs l _ c.leave.new.self read.is (c.self.invariant.wide l read.within)
+    c.leave.ensures.joined in
+    let grown : (m : ℕ) → map closed_as (sections_of c.leave.new.numbers.items (queue_at qs m).entries)
+    ≡ map closed_as (sections_of ns (queue_at qs m).entries)
+    = λ m. ap (λ ms. map closed_as (sections_of ms (queue_at qs m).entries)) joins.numbers
+    ∙ ap (map closed_as) (sections_grown ns joins.added (queue_at qs m).entries
+    (c.self.invariant.readable m)) in
+    (λ i m. lifted (λ (q : Kept). map closed_as (sections_of c.leave.new.numbers.items q.entries)) qs l
+    c.leave.new.self _ read.within (joined_closed joins (c.self.invariant.readable l)) m i)
+    ∙ ap (with_row l (map closed_as (sections_of ns (queue_at qs l).entries)
+    ++ left (opened_in (queue_at qs l).rooms t) ∷ []))
+    (λ i m. grown m i)
     ∙ ap (λ (v : Tables). with_row l (closed_of v l ++ left (opened_of v t l) ∷ []) (closed_of v))
     c.self.view_is
 

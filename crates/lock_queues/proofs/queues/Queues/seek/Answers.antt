@@ -1,13 +1,15 @@
-use Rattle.std.proofs.Common.{◌<◌, ap, sym, subst, ◌∙◌, map}
+use Rattle.std.proofs.Common.{◌<◌, ap, sym, subst, ◌∙◌, arith, length, map}
 use Rattle.std.specs.Prelude.{slice_index}
-use Rattle.event_core.specs.Closed.{number_counted}
 use Rattle.event_core.specs.Rows.{with_row}
-use Rattle.hb_clocks.specs.Counts.{counts_of}
-use Rattle.lock_queues.specs.Sections.{closed_as}
+use Rattle.lock_queues.specs.Sections.{closed_as, sections_of, Counts}
 use Rattle.lock_queues.specs.Rooms.{has_room_in, opened_in}
-use Rattle.lock_queues.specs.Queue.{Kept}
-use Rattle.lock_queues.specs.Queues.{Tables, closed_of, opened_of, found_of, has_room, counted_of}
+use Rattle.lock_queues.specs.Queue.{Kept, queue_at}
+use Rattle.lock_queues.specs.Queues.{Tables, kept_of, closed_of, opened_of, found_of, has_room, counted_of}
+use Rattle.lock_queues.proofs.Counting.{counted_below}
+use Rattle.lock_queues.proofs.Latest.{latest_before}
 use Rattle.lock_queues.proofs.Lifting.{read_entered, lifted, lifted_same}
+use Rattle.lock_queues.proofs.Searching.{are_of, number_found}
+use Rattle.lock_queues.proofs.Tables.{kept_set}
 use Rattle.lock_queues.proofs.queues.Queues.seek.Goals as goal
 
 pub seek-requires-clause-room : goal.seek-requires-clause-room
@@ -19,6 +21,33 @@ seek-requires-clause-room c =
     let read = read_entered qs t l c.index_mut-queue.result.now entered c.index_mut-queue.ensures.value in
     ap (λ (q : Kept). has_room_in q.rooms t) read.is ∙ read.has
 
+pub seek-requires-clause-before : goal.seek-requires-clause-before
+seek-requires-clause-before c k lt =
+    let t = c.args.thread.0 in
+    let l = c.args.lock.0 in
+    let clock = c.args.clock.now in
+    let entered = subst (λ (v : Tables). 0 < opened_of v t l) (sym c.self.view_is) c.requires.entered in
+    let qs = c.self.inside.queues.items in
+    let read = read_entered qs t l c.index_mut-queue.result.now entered c.index_mut-queue.ensures.value in
+    let are = are_of _ _ qs _ l clock _ c.self.view_is c.self.invariant read.is c.requires.earlier in
+    let le = c.requires.before in
+    let found = ap (λ (q : Kept). slice_index q.found t) read.is
+    ∙ ap (λ (v : Tables). found_of v l t) c.self.view_is in
+    subst (Counts clock) (are.acquire k)
+    (counted_below (kept_of c.args.self.now l) clock k are.before (omega arith))
+
+pub invariant_of-self : goal.invariant_of-self
+invariant_of-self c =
+    let t = c.args.thread.0 in
+    let l = c.args.lock.0 in
+    let entered = subst (λ (v : Tables). 0 < opened_of v t l) (sym c.self.view_is) c.requires.entered in
+    let qs = c.self.inside.queues.items in
+    let read = read_entered qs t l c.index_mut-queue.result.now entered c.index_mut-queue.ensures.value in
+    let many = ap length c.seek.ensures.rooms ∙ ap (λ (q : Kept). length q.rooms) read.is in
+    kept_set l c.seek.new.self c.self.inside.rooms c.self.invariant read.within
+    (c.seek.ensures.width ∙ ap (λ (q : Kept). q.width) read.is)
+    (c.seek.ensures.entries ∙ ap (λ (q : Kept). q.entries) read.is) (omega arith) c.self.invariant.spare
+
 pub returns-clause-found : goal.returns-clause-found
 returns-clause-found c =
     let t = c.args.thread.0 in
@@ -26,30 +55,60 @@ returns-clause-found c =
     let clock = c.args.clock.now in
     let entered = subst (λ (v : Tables). 0 < opened_of v t l) (sym c.self.view_is) c.requires.entered in
     let qs = c.self.inside.queues.items in
+    let ns = c.self.inside.numbers.items in
     let read = read_entered qs t l c.index_mut-queue.result.now entered c.index_mut-queue.ensures.value in
-    let found
-    = c.seek.ensures.found
-    ∙ ap (λ (q : Kept).
-    with_row t (number_counted (counts_of clock) (map closed_as q.closed)) (slice_index q.found)
-    ) read.is in
-    let closed = ap (map closed_as) c.seek.ensures.closed
-    ∙ ap (λ (q : Kept). map closed_as q.closed) read.is in
+    let are = are_of _ _ qs ns l clock _ c.self.view_is c.self.invariant read.is c.requires.earlier in
+    let number
+    = number_found _ _ _ _ _ are c.seek.ensures.within c.seek.ensures.counted c.seek.ensures.stopped in
+    let new = c.seek.new.self in
+    let found = c.seek.ensures.found
+    ∙ ap (λ (q : Kept). with_row t c.seek.result (slice_index q.found)) read.is
+    ∙ ap (λ n. with_row t n (slice_index (queue_at qs l).found)) number in
+    let entries = c.seek.ensures.entries ∙ ap (λ (q : Kept). q.entries) read.is in
+    let closed = ap (λ es. map closed_as (sections_of ns es)) entries in
     let opened = ap opened_in c.seek.ensures.rooms ∙ ap (λ (q : Kept). opened_in q.rooms) read.is in
     let rooms = ap has_room_in c.seek.ensures.rooms ∙ ap (λ (q : Kept). has_room_in q.rooms) read.is in
-    let new = c.seek.new.self in
     record {
       found =
-          (λ i m. lifted (λ (q : Kept). slice_index q.found) _ l new _ read.within found m i)
-          ∙ ap (λ (v : Tables). with_row l (with_row t (counted_of v l clock) (found_of v l)) (found_of v))
-          c.self.view_is;
+          (λ i m. lifted (λ (q : Kept). slice_index q.found) qs l new _ read.within found m i)
+          ∙ ap (λ (v : Tables). with_row l
+          (with_row t (counted_of c.args.self.now l clock) (found_of v l)) (found_of v)) c.self.view_is;
       closed =
-          (λ i m. lifted_same (λ (q : Kept). map closed_as q.closed) _ l new read.within closed m i)
+          (λ i m. lifted_same (λ (q : Kept). map closed_as (sections_of ns q.entries)) qs l new read.within
+          closed m i)
           ∙ ap closed_of c.self.view_is;
       opened =
-          (λ i v m. lifted_same (λ (q : Kept). opened_in q.rooms) _ l new read.within opened m i v)
+          (λ i v m. lifted_same (λ (q : Kept). opened_in q.rooms) qs l new read.within opened m i v)
           ∙ ap opened_of c.self.view_is;
       rooms =
-          (λ i v m. lifted_same (λ (q : Kept). has_room_in q.rooms) _ l new read.within rooms m i v)
+          (λ i v m. lifted_same (λ (q : Kept). has_room_in q.rooms) qs l new read.within rooms m i v)
           ∙ ap has_room c.self.view_is;
       limits = ap (λ (v : Tables). v.limits) c.self.view_is;
     }
+
+pub returns-clause-latest : goal.returns-clause-latest
+returns-clause-latest c =
+    let t = c.args.thread.0 in
+    let l = c.args.lock.0 in
+    let clock = c.args.clock.now in
+    let entered = subst (λ (v : Tables). 0 < opened_of v t l) (sym c.self.view_is) c.requires.entered in
+    let qs = c.self.inside.queues.items in
+    let read = read_entered qs t l c.index_mut-queue.result.now entered c.index_mut-queue.ensures.value in
+    let are = are_of _ _ qs _ l clock _ c.self.view_is c.self.invariant read.is c.requires.earlier in
+    latest_before (kept_of c.args.self.now l) clock are.before are.rising
+
+pub returns-clause-comparisons : goal.returns-clause-comparisons
+returns-clause-comparisons c =
+    let t = c.args.thread.0 in
+    let l = c.args.lock.0 in
+    let clock = c.args.clock.now in
+    let entered = subst (λ (v : Tables). 0 < opened_of v t l) (sym c.self.view_is) c.requires.entered in
+    let qs = c.self.inside.queues.items in
+    let read = read_entered qs t l c.index_mut-queue.result.now entered c.index_mut-queue.ensures.value in
+    let are = are_of _ _ qs _ l clock _ c.self.view_is c.self.invariant read.is c.requires.earlier in
+    let number
+    = number_found _ _ _ _ _ are c.seek.ensures.within c.seek.ensures.counted c.seek.ensures.stopped in
+    let found = ap (λ (q : Kept). slice_index q.found t) read.is
+    ∙ ap (λ (v : Tables). found_of v l t) c.self.view_is in
+    let work = c.seek.ensures.comparisons in
+    omega arith

@@ -1,57 +1,12 @@
-use Rattle.std.proofs.Common.{◌<◌, length, refl, sym, ap, ◌∙◌, arith, List, map}
-use Rattle.std.specs.Prelude.{slice_index}
+use Rattle.std.proofs.Common.{ℕ, ◌+◌, ◌*◌, ◌<◌, Bool, cond, length, refl, ap, ◌∙◌, arith, List}
 use Rattle.std.proofs.lemmas.List.{get_or_read}
-use Rattle.event_core.proofs.Growing.{row_same}
-use Rattle.lock_queues.specs.Sections.{closed_as}
-use Rattle.lock_queues.specs.Rooms.{has_room_in, opened_in}
-use Rattle.lock_queues.specs.Queue.{Kept, queue_at, no_queue}
-use Rattle.lock_queues.specs.Queues.{Tables, closed_of, opened_of, found_of, has_room}
-use Rattle.lock_queues.proofs.Lifting.{lifted, lifted_same, lifted_kept}
+use Rattle.lock_queues.specs.Queue.{Kept, no_queue}
+use Rattle.lock_queues.proofs.Sameness.{same_tables}
+use Rattle.lock_queues.proofs.Tables.{kept_set}
 use Rattle.lock_queues.proofs.queues.Queues.seek_room.Goals as goal
 
-pub returns-clause-room : goal.returns-clause-room
-returns-clause-room c =
-    let t = c.args.thread.0 in
-    let l = c.args.lock.0 in
-    let qs : List Kept = c.self.inside.queues.items in
-    let new = c.seek_room.new.self in
-    let len = c.len.ensures in
-    let past = c.if-len-at.false in
-    let queues = c.self.inside.queues.ok in
-    let lt : l < length qs = omega (arith, queues) in
-    c.seek_room.ensures.room
-    ∙ sym (lifted (λ (q : Kept). has_room_in q.rooms t) qs l new (has_room_in new.rooms t) lt refl l
-    ∙ row_same l (has_room_in new.rooms t) (λ k. has_room_in (queue_at qs k).rooms t))
-
-pub returns-clause-same : goal.returns-clause-same
-returns-clause-same c =
-    let l = c.args.lock.0 in
-    let qs : List Kept = c.self.inside.queues.items in
-    let new = c.seek_room.new.self in
-    let len = c.len.ensures in
-    let past = c.if-len-at.false in
-    let queues = c.self.inside.queues.ok in
-    let lt : l < length qs = omega (arith, queues) in
-    let is = get_or_read qs l c.index_mut-queue.result.now lt c.index_mut-queue.ensures.value no_queue in
-    let same = c.seek_room.ensures.same in
-    let closed = ap (map closed_as) same.closed ∙ ap (λ (q : Kept). map closed_as q.closed) is in
-    let opened = same.opened ∙ ap (λ (q : Kept). opened_in q.rooms) is in
-    let found = same.found ∙ ap (λ (q : Kept). slice_index q.found) is in
-    record {
-      closed =
-          (λ i m. lifted_same (λ (q : Kept). map closed_as q.closed) qs l new lt closed m i)
-          ∙ ap closed_of c.self.view_is;
-      opened =
-          (λ i v m. lifted_same (λ (q : Kept). opened_in q.rooms) qs l new lt opened m i v)
-          ∙ ap opened_of c.self.view_is;
-      found =
-          (λ i m. lifted_same (λ (q : Kept). slice_index q.found) qs l new lt found m i)
-          ∙ ap found_of c.self.view_is;
-      limits = ap (λ (v : Tables). v.limits) c.self.view_is;
-    }
-
-pub returns-clause-kept : goal.returns-clause-kept
-returns-clause-kept c t m has =
+pub invariant_of-self : goal.invariant_of-self
+invariant_of-self c =
     let l = c.args.lock.0 in
     let qs : List Kept = c.self.inside.queues.items in
     let len = c.len.ensures in
@@ -59,6 +14,54 @@ returns-clause-kept c t m has =
     let queues = c.self.inside.queues.ok in
     let lt : l < length qs = omega (arith, queues) in
     let is = get_or_read qs l c.index_mut-queue.result.now lt c.index_mut-queue.ensures.value no_queue in
-    lifted_kept (λ (q : Kept). has_room_in q.rooms t) qs l c.seek_room.new.self lt
-    (λ here. c.seek_room.ensures.kept t (ap (λ (q : Kept). has_room_in q.rooms t) is ∙ here)) m
-    (ap (λ (v : Tables). has_room v t m) c.self.view_is ∙ has)
+    let same = c.seek_room-is_made.ensures.same in
+    let many = c.seek_room-is_made.ensures.many
+    ∙ ap (λ (b : Bool). length c.index_mut-queue.result.now.rooms + cond {A = ℕ} b 1 0) c.if-is_made.true in
+    let rooms = ap (λ (q : Kept). length q.rooms) is in
+    let next = c.in-Some.ensures.1 in
+    let spare = c.has_spare.ensures c.if-not-has_spare.false in
+    let times = ap (λ w. c.in-Some.rooms * w) c.threads-width.ensures.is in
+    kept_set l c.seek_room-is_made.new.self _ c.self.invariant lt (same.width ∙ ap (λ (q : Kept). q.width) is)
+    (same.entries ∙ ap (λ (q : Kept). q.entries) is) (omega (arith, next, rooms))
+    (omega (arith, spare, times))
+
+pub invariant_of-self-else-is_made : goal.invariant_of-self-else-is_made
+invariant_of-self-else-is_made c =
+    let l = c.args.lock.0 in
+    let qs : List Kept = c.self.inside.queues.items in
+    let len = c.len.ensures in
+    let past = c.if-len-at.false in
+    let queues = c.self.inside.queues.ok in
+    let lt : l < length qs = omega (arith, queues) in
+    let is = get_or_read qs l c.index_mut-queue.result.now lt c.index_mut-queue.ensures.value no_queue in
+    let same = c.seek_room-is_made.ensures.same in
+    let many = c.seek_room-is_made.ensures.many
+    ∙ ap (λ (b : Bool). length c.index_mut-queue.result.now.rooms + cond {A = ℕ} b 1 0) c.if-is_made.false in
+    let rooms = ap (λ (q : Kept). length q.rooms) is in
+    kept_set l c.seek_room-is_made.new.self c.self.inside.rooms c.self.invariant lt
+    (same.width ∙ ap (λ (q : Kept). q.width) is)
+    (same.entries ∙ ap (λ (q : Kept). q.entries) is) (omega arith) c.self.invariant.spare
+
+pub returns-then-is_made-clause-same : goal.returns-then-is_made-clause-same
+returns-then-is_made-clause-same c =
+    let l = c.args.lock.0 in
+    let qs : List Kept = c.self.inside.queues.items in
+    let len = c.len.ensures in
+    let past = c.if-len-at.false in
+    let queues = c.self.inside.queues.ok in
+    let lt : l < length qs = omega (arith, queues) in
+    let is = get_or_read qs l c.index_mut-queue.result.now lt c.index_mut-queue.ensures.value no_queue in
+    same_tables _ _ qs qs _ _ l _ _ c.self.view_is (λ m. (refl, refl, refl)) refl lt is
+    c.seek_room-is_made.ensures.same
+
+pub returns-else-is_made-clause-same : goal.returns-else-is_made-clause-same
+returns-else-is_made-clause-same c =
+    let l = c.args.lock.0 in
+    let qs : List Kept = c.self.inside.queues.items in
+    let len = c.len.ensures in
+    let past = c.if-len-at.false in
+    let queues = c.self.inside.queues.ok in
+    let lt : l < length qs = omega (arith, queues) in
+    let is = get_or_read qs l c.index_mut-queue.result.now lt c.index_mut-queue.ensures.value no_queue in
+    same_tables _ _ qs qs _ _ l _ _ c.self.view_is (λ m. (refl, refl, refl)) refl lt is
+    c.seek_room-is_made.ensures.same
