@@ -7,7 +7,7 @@ ghost use Rattle.std.specs.Prelude.{◌≡◌, ◌≤◌, length, max, slice_ind
 
 use crate::before::{number_before, push_before};
 use crate::rooms::{Room, find};
-use crate::search::search;
+use crate::search::search_from;
 use crate::sections::{ClosedSection, Entry, read};
 use event_core::{OutOfMemory, ThreadId};
 use hb_clocks::{Clock, Mark, Work};
@@ -20,6 +20,9 @@ pub(crate) struct Queue {
     // The closed sections, in the order of their releases, whose clocks never go down. There is memory for
     // one more of each room.
     entries: Vec<Entry>,
+    // The mark of the first one's acquire: a thread that has found none is often to find none, and the
+    // entries lie elsewhere in memory.
+    first: Option<Mark>,
     rooms: Vec<Room>,
     // By the number of the thread, how many of the first closed sections it has found counted.
     found: Vec<usize>,
@@ -40,7 +43,7 @@ impl Model for Queue {
     } };
 
     ghost invariant = { λ q.
-        IsKept q.width q.entries.items q.rooms.items q.found.items (vec_capacity q.entries) };
+        IsKept q.width q.entries.items q.first q.rooms.items q.found.items (vec_capacity q.entries) };
 }
 
 impl Queue {
@@ -62,6 +65,7 @@ impl Queue {
         Queue {
             width,
             entries: Vec::new(alloc),
+            first: None,
             rooms: Vec::new(alloc),
             found: Vec::new(alloc),
         }
@@ -172,6 +176,7 @@ impl Queue {
         let at = find(&self.rooms, thread);
         let room = self.rooms.remove(at);
         let acquire = room.opened.unwrap();
+        self.first = self.first.or(Some(acquire));
         let release = clock.counts();
         let start = numbers.len();
         push_before(numbers, release, thread);
@@ -204,7 +209,7 @@ impl Queue {
             ≤ work.old.comparisons + result + 1 }
     {
         let at = thread.0 as usize;
-        let more = search(&self.entries, self.found[at], clock, work);
+        let more = search_from(self.first, &self.entries, self.found[at], clock, work);
         self.found[at] = more;
         more
     }

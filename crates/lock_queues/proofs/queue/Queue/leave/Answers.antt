@@ -1,6 +1,8 @@
 use Rattle.std.proofs.Common.{◌≡◌, ℕ, ◌<◌, ◌-◌, ◌++◌, ◌∷◌, [], ap, sym, subst, ◌∙◌, arith, List, length}
 use Rattle.std.proofs.Common.{false, length-set, vec_capacity}
+use Rattle.std.proofs.Common.{Option}
 use Rattle.std.specs.List.{remove}
+use Rattle.hb_clocks.specs.Marks.{Named}
 use Rattle.event_core.specs.Rows.{with_row}
 use Rattle.hb_clocks.specs.Counts.{counts_of}
 use Rattle.lock_queues.specs.declared.rooms.Room.{Room}
@@ -77,13 +79,24 @@ invariant_of-self c =
     let wide = c.requires.width in
     let used = c.counts-release.ensures.within in
     let capacity = c.push_reserved.ensures.capacity in
-    let Keeps : List Entry → List Room → Type 0
-    = λ es rs. IsKept c.self.inside.width es rs c.self.inside.found.items
+    let Keeps : List Entry → Option Named → List Room → Type 0
+    = λ es first rs. IsKept c.self.inside.width es first rs c.self.inside.found.items
     (vec_capacity c.push_reserved.new.self) in
-    subst (λ rs. Keeps c.push_reserved.new.self.items rs) (sym c.remove-room.ensures.items)
-    (subst (λ es. Keeps es (remove c.self.inside.rooms.items c.find-at.result))
+    let first = c.or-self-inside.result in
+    let x : Entry
+    = record {
+      acquire = c.unwrap-acquire.result;
+      own = c.number_before.result;
+      width = length release;
+      start = c.len-start.result;
+    } in
+    subst (λ rs. Keeps c.push_reserved.new.self.items first rs) (sym c.remove-room.ensures.items)
+    (subst (λ es. Keeps es first (remove c.self.inside.rooms.items c.find-at.result))
     (sym c.push_reserved.ensures.items)
-    (kept_left _ _ c.self.invariant p (omega arith) (omega arith) (omega arith)))
+    (subst (λ o. Keeps (c.self.inside.entries.items ++ x ∷ []) o
+    (remove c.self.inside.rooms.items c.find-at.result))
+    (sym c.or-self-inside.ensures)
+    (kept_left x _ c.self.invariant p (omega arith) (omega arith) (omega arith))))
 
 pub returns-clause-joined : goal.returns-clause-joined
 returns-clause-joined c =

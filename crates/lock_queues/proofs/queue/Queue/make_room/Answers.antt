@@ -23,8 +23,8 @@ invariant_of-self-2 c =
     let rooms = ap (λ (k : Kept). length k.rooms) c.self.view_is in
     let most = ap (λ (k : Kept). k.most) c.self.view_is in
     let spare = c.in_ok-reserve.ensures.spare in
-    subst (λ (xs : List Room). IsKept c.self.inside.width c.self.inside.entries.items xs found
-    (vec_capacity c.self.inside.entries))
+    subst (λ (xs : List Room). IsKept c.self.inside.width c.self.inside.entries.items c.self.inside.first xs
+    found (vec_capacity c.self.inside.entries))
     (sym c.in-Ok.ensures.items) (kept_pushed s c.self.invariant none room (omega arith))
 
 pub returns-clause-same : goal.returns-clause-same

@@ -24,8 +24,8 @@ index_mut-requires c =
     let len = c.self.inside.found.ok.0 in
     omega arith
 
-pub search-more-requires-clause-within : goal.search-more-requires-clause-within
-search-more-requires-clause-within c =
+pub search_from-more-requires-clause-within : goal.search_from-more-requires-clause-within
+search_from-more-requires-clause-within c =
     let same = ap (λ (k : Kept). has_room_in k.rooms c.args.thread.0) c.self.view_is in
     let lt = thread_within c.args.thread.0 c.self.invariant (same ∙ c.requires.room) in
     let is = get_or_read c.self.inside.found.items c.args.thread.0 _ lt c.index.ensures 0 in
@@ -33,8 +33,8 @@ search-more-requires-clause-within c =
     let seen = ap length c.deref.ensures.value in
     omega arith
 
-pub search-more-requires-clause-before : goal.search-more-requires-clause-before
-search-more-requires-clause-before c k small =
+pub search_from-more-requires-clause-before : goal.search_from-more-requires-clause-before
+search_from-more-requires-clause-before c k small =
     let same = ap (λ (k : Kept). has_room_in k.rooms c.args.thread.0) c.self.view_is in
     let lt = thread_within c.args.thread.0 c.self.invariant (same ∙ c.requires.room) in
     let here = get_or_read c.self.inside.found.items c.args.thread.0 _ lt c.index.ensures 0 in
@@ -47,8 +47,9 @@ pub returns-clause-found : goal.returns-clause-found
 returns-clause-found c =
     let same = ap (λ (k : Kept). has_room_in k.rooms c.args.thread.0) c.self.view_is in
     let lt = thread_within c.args.thread.0 c.self.invariant (same ∙ c.requires.room) in
-    found_set c.self.inside.found.items c.args.thread.0 c.search-more.result lt
-    ∙ ap (λ (k : Kept). with_row c.args.thread.0 c.search-more.result (slice_index k.found)) c.self.view_is
+    found_set c.self.inside.found.items c.args.thread.0 c.search_from-more.result lt
+    ∙ ap (λ (k : Kept). with_row c.args.thread.0 c.search_from-more.result (slice_index k.found))
+    c.self.view_is
 
 pub returns-clause-comparisons : goal.returns-clause-comparisons
 returns-clause-comparisons c =
@@ -56,5 +57,5 @@ returns-clause-comparisons c =
     let lt = thread_within c.args.thread.0 c.self.invariant (same ∙ c.requires.room) in
     let here = get_or_read c.self.inside.found.items c.args.thread.0 _ lt c.index.ensures 0 in
     let is = ap (λ (k : Kept). slice_index k.found c.args.thread.0) c.self.view_is in
-    let work = c.search-more.ensures.comparisons in
+    let work = c.search_from-more.ensures.comparisons in
     omega arith

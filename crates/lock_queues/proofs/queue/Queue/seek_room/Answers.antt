@@ -29,8 +29,8 @@ invariant_of-self c =
     let places = c.if-capacity-more.false in
     let spare : length c.self.inside.entries.items + (length c.self.inside.rooms.items + 1)
     ≤ vec_capacity c.self.inside.entries = omega (arith, rooms, entries) in
-    subst (λ (xs : List Room). IsKept c.self.inside.width c.self.inside.entries.items xs found
-    (vec_capacity c.self.inside.entries))
+    subst (λ (xs : List Room). IsKept c.self.inside.width c.self.inside.entries.items c.self.inside.first xs
+    found (vec_capacity c.self.inside.entries))
     (sym c.push_reserved.ensures.items) (kept_pushed s c.self.invariant none room spare)
 
 pub returns-clause-same : goal.returns-clause-same
