@@ -16,12 +16,14 @@ use Rattle.event_core.specs.declared.bounds.Limits.{Limits}
 use Rattle.event_core.specs.declared.replies.Refusal.{Refusal}
 use Rattle.event_core.specs.declared.replies.Refusal.TheVariants.{ThreadRange, NotStarted, Ended, TargetRange}
 use Rattle.event_core.specs.declared.replies.Refusal.TheVariants.{LogFull}
+use Rattle.event_core.specs.declared.replies.Outcome.TheVariants.{Accepted as CallAccepted}
+use Rattle.event_core.specs.declared.replies.Outcome.TheVariants.{Refused as CallRefused}
 use Rattle.event_core.specs.declared.replies.SwapReply.{SwapReply}
 use Rattle.event_core.specs.declared.replies.Done.{Done}
 use Rattle.event_core.specs.declared.replies.Done.TheVariants.{One as Accepted, Swap as Swapped, Refused}
 use Rattle.event_core.specs.Refusal.{refusal, held_depths, first_of, when, forked, joins, in_range, event_of}
-use Rattle.event_core.specs.Refusal.{value_of, last_value}
-use Rattle.event_core.specs.Verdict.{IsVerdict}
+use Rattle.event_core.specs.Refusal.{last_value}
+use Rattle.event_core.specs.Verdict.{IsVerdict, IsOutcome}
 
 -- the call for the load of a swap
 abbrev pub load_call : ThreadId → VarId → SiteId → Call
@@ -59,12 +61,10 @@ pub record IsSwapReply (m : Limits) (log : List Event) (u : ThreadId) (x : VarId
   pub load : IsVerdict (log_after_swap log u x site arg) (length log) reply.load
   pub store : IsVerdict (log_after_swap log u x site arg) (length log + 1) reply.store
 
--- what becomes of an act after the log
+-- what becomes of an act after the log: of a call its outcome, of a swap its refusal or its reply
 abbrev pub IsDone : Limits → List Event → Act → Done → Type 0
-IsDone m log (One c) (Accepted a) =
-    (refusal m log c ≡ None) × (a.index ≡ length log) × (a.value ≡ value_of log c.op c.arg)
-    × IsVerdict (log ++ event_of log c ∷ []) (length log) a.verdict
-IsDone m log (One c) (Refused r) = refusal m log c ≡ Some r
+IsDone m log (One c) (Accepted a) = IsOutcome m log c (CallAccepted a)
+IsDone m log (One c) (Refused r) = IsOutcome m log c (CallRefused r)
 IsDone m log (Swap u x site arg) (Swapped a) = IsSwapReply m log u x site arg a
 IsDone m log (Swap u x site arg) (Refused r) = swap_refusal m log u x ≡ Some r
 IsDone m log _ _ = ⊥

@@ -143,7 +143,7 @@ OrderBeginsAtTheAccess =
     Strict early_load 4 7 × (Strict early_load 1 6 → ⊥) × IsVerdict early_load 6 (Racy 1)
     × IsVerdict early_load 7 Clear
 
--- an outer section and an inner one by the main thread, and then both locks by the child, one after the other
+-- two nested sections by the main thread, and then both locks by the child, one after the other
 abbrev pub sections_in_turn : List Event
 sections_in_turn =
     event main (Fork child)
@@ -168,8 +168,7 @@ RuleBOrdersReleases =
     Strict sections_in_turn 4 8 × Strict sections_in_turn 1 11 × Strict sections_in_turn 6 11
     × Strict sections_in_turn 5 12 × IsVerdict sections_in_turn 12 Clear
 
--- two sections on l by the main thread, with a section on m that conflicts with one by the child between
--- them,
+-- two sections on l by the main thread, with a section on m that conflicts with one by the child between them,
 -- and a store by the other thread before the first one ends
 abbrev pub sections_of_one_thread : List Event
 sections_of_one_thread =
@@ -198,8 +197,7 @@ sections_of_one_thread =
     ∷ []
 
 -- rule (b) orders releases of one thread too: an event of the first section strictly precedes one of the
--- second,
--- by way of the child
+-- second, by way of the child
 abbrev pub RuleBWithinOneThread : Type 0
 RuleBWithinOneThread =
     Strict sections_of_one_thread 8 13 × Strict sections_of_one_thread 5 19

@@ -1,3 +1,7 @@
+-- The definitions of the race that is told, and the laws over them. "The paper" is Kini, Mathur and
+-- Viswanathan, "Dynamic Race Prediction in Linear Time" (PLDI 2017); what is not said to be the paper's is this
+-- project's own.
+
 -- logs
 pub mod Log
 pub mod Refusal
@@ -26,7 +30,6 @@ pub mod Kept
 pub mod Packing
 pub mod RowList
 -- the laws
-pub mod Laws
 pub mod OrderLaws
 pub mod StrictLaws
 pub mod LogLaws

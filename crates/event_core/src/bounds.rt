@@ -12,16 +12,17 @@ pub enum Roots {
     Free,
 }
 
-/// The greatest number of threads: a clock has a number for each.
+/// The greatest number of threads, 2^10: each clock has a number for each of them, and a row of the log has 10
+/// bits for its thread.
 pub const MOST_THREADS: u32 = 1024;
 
-/// The greatest number of locks.
+/// The greatest number of locks, 2^20: a row of the log has 20 bits for the lock.
 pub const MOST_LOCKS: u32 = 1048576;
 
-/// The greatest number of variables.
+/// The greatest number of variables, 2^20: a row of the log has 20 bits for the variable.
 pub const MOST_VARS: u32 = 1048576;
 
-/// The greatest number of events.
+/// The greatest number of events, 2^32: the index of an event has 32 bits.
 pub const MOST_EVENTS: u64 = 4294967296;
 
 /// The limits of a monitor, each from 1 to its greatest number.

@@ -23,7 +23,7 @@ impl Step {
         }
     }
 
-    /// The thread that it forks.
+    /// The thread that it forks, if it forks one.
     pub fn child(&self) -> Option<ThreadId>
         ensures { result ≡ child_of self.now }
     {

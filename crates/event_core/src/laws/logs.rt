@@ -8,7 +8,6 @@ ghost use Rattle.event_core.specs.LogLaws.{
   InsideByReleases,
   EndedThreadsRest,
   OwnStepsAreOwnEvents,
-  OnesAreTheirEvents,
   OwnEventsAreCounted,
 };
 
@@ -52,11 +51,6 @@ pub fn ended_threads_rest()
 /// The log of a thread's steps is the thread's events of the log.
 pub fn own_steps_are_own_events()
     ensures { OwnStepsAreOwnEvents }
-{}
-
-/// The log of events that are steps of their own is those events.
-pub fn ones_are_their_events()
-    ensures { OnesAreTheirEvents }
 {}
 
 /// A thread has as many events as stand in the list of them.
