@@ -204,7 +204,7 @@ fn expect_numbers(rt: &impl Abort, clock: &Clock, wanted: [u64; 3])
 }
 
 #[test]
-fn numbers_of_nested_sections(rt: HostRuntime) -> Result<(), Fail> {
+fn nested_sections_hand_on_their_numbers(rt: HostRuntime) -> Result<(), Fail> {
     let mut run = Run::begin(rt.alloc())?;
     run.take_all(
         &rt,

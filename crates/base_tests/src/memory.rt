@@ -83,7 +83,7 @@ fn expect_held(rt: &impl Abort, memory: &Memory, holder: Option<ThreadId>, depth
 }
 
 #[test]
-fn keeps_a_slot_for_each_release(rt: HostRuntime) {
+fn a_slot_is_kept_for_each_release(rt: HostRuntime) {
     let mut memory = memory(&rt, rt.alloc(), 1, 1, 3, Roots::OnlyMain);
     expect(
         &rt,
@@ -100,7 +100,7 @@ fn keeps_a_slot_for_each_release(rt: HostRuntime) {
 }
 
 #[test]
-fn keeps_a_slot_for_each_depth(rt: HostRuntime) {
+fn a_slot_is_kept_for_each_depth(rt: HostRuntime) {
     let mut memory = memory(&rt, rt.alloc(), 1, 1, 4, Roots::OnlyMain);
     expect(
         &rt,

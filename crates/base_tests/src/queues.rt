@@ -100,7 +100,7 @@ fn room_is_made_for_one_thread_and_lock(rt: HostRuntime) -> Result<(), Fail> {
     let thread = ThreadId(1);
     assert!(rt; !queues.has_room(thread, LOCK));
     assert!(rt;
-        !queues.seek_room(thread, LOCK),
+        !queues.take_spare_room(thread, LOCK),
         "the first section needs memory"
     );
     if queues.make_room(thread, LOCK).is_err() {
@@ -109,7 +109,7 @@ fn room_is_made_for_one_thread_and_lock(rt: HostRuntime) -> Result<(), Fail> {
         queues.make_room(thread, LOCK)?;
     }
     assert!(rt; queues.has_room(thread, LOCK));
-    assert!(rt; queues.seek_room(thread, LOCK));
+    assert!(rt; queues.take_spare_room(thread, LOCK));
     assert!(rt; !queues.has_room(ThreadId(0), LOCK));
     assert!(rt; !queues.has_room(thread, LockId(1)));
     queues.make_room(thread, LOCK)?;
@@ -124,7 +124,7 @@ fn a_further_section_may_need_no_memory(rt: HostRuntime) -> Result<(), Fail> {
     let (clocks, _) = count_one(rt.alloc(), &limits, thread)?;
     close_one(&mut queues, &clocks, thread)?;
     assert!(rt; !queues.has_room(thread, LOCK));
-    assert!(rt; queues.seek_room(thread, LOCK));
+    assert!(rt; queues.take_spare_room(thread, LOCK));
     assert!(rt; queues.has_room(thread, LOCK));
     Ok(())
 }

@@ -247,13 +247,13 @@ fn room_is_made_for_one_event(rt: HostRuntime) -> Result<(), Fail> {
 }
 
 #[test]
-fn places_are_sought_where_there_is_room(rt: HostRuntime) -> Result<(), Fail> {
+fn an_access_grows_where_its_thread_has_clocks(rt: HostRuntime) -> Result<(), Fail> {
     let mut clocks = begin(rt.alloc())?;
     let load = event(MAIN, Op::Load(X));
-    assert!(rt; !clocks.seek(&load));
+    assert!(rt; !clocks.ready_or_grow(&load));
     make_room(&mut clocks, &load)?;
-    assert!(rt; clocks.seek(&load));
-    assert!(rt; !clocks.seek(&event(CHILD, Op::Load(X))));
-    assert!(rt; !clocks.seek(&event(MAIN, Op::Acquire(L))));
+    assert!(rt; clocks.ready_or_grow(&load));
+    assert!(rt; !clocks.ready_or_grow(&event(CHILD, Op::Load(X))));
+    assert!(rt; !clocks.ready_or_grow(&event(MAIN, Op::Acquire(L))));
     Ok(())
 }

@@ -101,7 +101,7 @@ impl Queue {
 
     // Makes room for a thread that has none, where that takes no memory, but for the numbers of a release.
     // Tells whether it did.
-    pub(crate) fn seek_room(&mut self, thread: ThreadId) -> bool
+    pub(crate) fn take_spare_room(&mut self, thread: ThreadId) -> bool
         requires none { has_room_in self.old.rooms thread.0 ≡ false }
         ensures same { SameMeaning self.old self.new }
         ensures room { result ≡ has_room_in self.new.rooms thread.0 }
@@ -189,7 +189,7 @@ impl Queue {
     }
 
     // How many of the sections the clock counts, which the thread then has found.
-    pub(crate) fn seek(&mut self, thread: ThreadId, clock: &Clock, work: &mut Work) -> usize
+    pub(crate) fn find_counted(&mut self, thread: ThreadId, clock: &Clock, work: &mut Work) -> usize
         requires room { IsTrue (has_room_in self.old.rooms thread.0) }
         requires width { length clock.now ≡ self.old.width }
         requires before { (k : ℕ) → k < slice_index self.old.found thread.0

@@ -125,9 +125,9 @@ impl Queues {
         at < self.queues.len() && self.queues[at].has_room(thread)
     }
 
-    /// Whether there is room for the thread's next section on the lock, or for its open one. Room that takes
-    /// no memory is made.
-    pub fn seek_room(&mut self, thread: ThreadId, lock: LockId) -> bool
+    /// Makes room for the thread's next section on the lock where that takes no memory. Tells whether there is
+    /// room for it now, or for the open one, as `has_room` does.
+    pub fn take_spare_room(&mut self, thread: ThreadId, lock: LockId) -> bool
         ensures room { result ≡ has_room self.new thread.0 lock.0 }
         ensures same { SameMeaning self.old self.new }
         ensures kept { (t l : ℕ) → IsTrue (has_room self.old t l) → IsTrue (has_room self.new t l) }
@@ -144,7 +144,7 @@ impl Queues {
             return false;
         }
         let queue = &mut self.queues[at];
-        let is_made = queue.seek_room(thread);
+        let is_made = queue.take_spare_room(thread);
         if is_made {
             self.rooms = rooms;
         }
@@ -210,7 +210,7 @@ impl Queues {
         ensures* after { sem 𝓛 (Rests the_row self.entry (λ new.
             FindsCounted self.old new thread.0 lock.0 (counted_of self.old lock.0 clock.now))) }
     {
-        self.seek(thread, lock, clock, work);
+        self.find_counted(thread, lock, clock, work);
         self.latest(thread, lock)
     }
 
@@ -270,7 +270,7 @@ impl Queues {
     }
 
     // The thread finds how many of the lock's sections the clock counts.
-    fn seek(&mut self, thread: ThreadId, lock: LockId, clock: &Clock, work: &mut Work)
+    fn find_counted(&mut self, thread: ThreadId, lock: LockId, clock: &Clock, work: &mut Work)
         requires entered { 0 < opened_of self.old thread.0 lock.0 }
         requires width { length clock.now ≡ self.old.limits.threads }
         requires before { found_of self.old lock.0 thread.0 ≤ counted_of self.old lock.0 clock.now }
@@ -285,7 +285,7 @@ impl Queues {
             ≤ work.old.comparisons + counted_of self.old lock.0 clock.now + 1 }
     {
         let queue = &mut self.queues[lock.0 as usize];
-        queue.seek(thread, clock, work);
+        queue.find_counted(thread, clock, work);
     }
 
     // The latest section that the thread has found.

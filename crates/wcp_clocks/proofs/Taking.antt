@@ -108,7 +108,7 @@ section_joined qs f (suc n) ns =
     ap (λ b. joined_all qs f (cond b [] (suc n ∷ []) ++ ns)) (ne_eqb (suc n) 0 (λ e. absurd (omega
     (arith, e))))
 
-sources_joined : (s : Sums) (closed : ℕ → List Closed) (l x t : ℕ) (k : AccessKind) (f : ℕ → ℕ) (u : ℕ)
+pub sources_joined : (s : Sums) (closed : ℕ → List Closed) (l x t : ℕ) (k : AccessKind) (f : ℕ → ℕ) (u : ℕ)
     → joined_all (closed l) f (sources_of s l x k t) u ≡ join f (met_under (met_clocks s closed) x k t l) u
 unfolding sources_of
 sources_joined s closed l x t Read f u =

@@ -29,9 +29,9 @@ pub fn held_within()
     ensures { HeldWithin }
 {}
 
-/// The sections that an access meets under a lock count together exactly what happens before the
-/// releases of other threads that rule (a) of weak causal precedence pairs with it (Kini, Mathur and
-/// Viswanathan, "Dynamic Race Prediction in Linear Time", PLDI 2017).
+/// The sections that the summaries name to an access under a lock count together exactly what happens
+/// before the releases of other threads that rule (a) of weak causal precedence pairs with it (Kini, Mathur
+/// and Viswanathan, "Dynamic Race Prediction in Linear Time", PLDI 2017).
 pub fn sources_count()
     ensures { SourcesCount }
 {}

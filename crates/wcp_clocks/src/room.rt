@@ -133,46 +133,48 @@ fn has_access(parts: &Parts, thread: ThreadId, var: VarId) -> bool
 // The same as `are_ready`, once room for an access is made, and room for a section where that takes no memory.
 // The places of an access are kept for the step that comes next.
 #[inline(always)]
-pub(crate) fn seek(parts: &mut Parts, event: &Event) -> bool
+pub(crate) fn ready_or_grow(parts: &mut Parts, event: &Event) -> bool
     requires parts { AreParts parts.old }
     ensures ready { IsTrue result ↔ IsReady parts.new event.now }
     ensures releases { IsHeldRelease (hb_of parts.old) event.now.thread event.now.op → IsTrue result }
     ensures grown { HasGrown parts.old parts.new }
 {
-    parts.rows.has_thread(event.thread) && seek_named(parts, event.thread, event.op)
+    parts.rows.has_thread(event.thread) && has_named_or_grow(parts, event.thread, event.op)
 }
 
 // Whether there is room for what the operation names, once that for an access is made, and that for a section
 // as far as it takes no memory.
 #[inline(always)]
-fn seek_named(parts: &mut Parts, thread: ThreadId, op: Op) -> bool
+fn has_named_or_grow(parts: &mut Parts, thread: ThreadId, op: Op) -> bool
     ensures named { IsTrue result ↔ HasNamed parts.new thread op }
     ensures hb { parts.new.hb ≡ parts.old.hb }
     ensures rows { parts.new.rows ≡ parts.old.rows }
     ensures grown { HasGrown parts.old parts.new }
 {
     match op {
-        Op::Load(var) | Op::Store(var) => seek_access(parts, thread, var),
-        Op::Acquire(lock) => seek_section(parts, thread, lock),
+        Op::Load(var) | Op::Store(var) => has_access_or_grow(parts, thread, var),
+        Op::Acquire(lock) => has_section_or_grow(parts, thread, lock),
         _ => has_named(parts, thread, op),
     }
 }
 
 // Whether there is room for a section on the lock. Room that takes no memory is made.
-fn seek_section(parts: &mut Parts, thread: ThreadId, lock: LockId) -> bool
+fn has_section_or_grow(parts: &mut Parts, thread: ThreadId, lock: LockId) -> bool
     ensures named { IsTrue result ↔ (HasLock parts.new.rows lock.0
         × IsTrue (has_room parts.new.queues thread.0 lock.0) × (0 < room_at parts.new.held thread.0)) }
     ensures hb { parts.new.hb ≡ parts.old.hb }
     ensures rows { parts.new.rows ≡ parts.old.rows }
     ensures grown { HasGrown parts.old parts.new }
 {
-    parts.rows.has_lock(lock) && parts.held.has_room(thread) && parts.queues.seek_room(thread, lock)
+    parts.rows.has_lock(lock)
+        && parts.held.has_room(thread)
+        && parts.queues.take_spare_room(thread, lock)
 }
 
 // Makes room for the access in each section that is open at it. Answers whether there is room. Its places are
 // kept.
 #[inline(always)]
-fn seek_access(parts: &mut Parts, thread: ThreadId, var: VarId) -> bool
+fn has_access_or_grow(parts: &mut Parts, thread: ThreadId, var: VarId) -> bool
     ensures room { IsTrue result ↔ HasRoom parts.new.sums (list_at parts.new.held thread.0).locks var.0 }
     ensures hb { parts.new.hb ≡ parts.old.hb }
     ensures rows { parts.new.rows ≡ parts.old.rows }

@@ -9,16 +9,13 @@ use Rattle.event_core.specs.Refusal.{WellFormed}
 use Rattle.event_core.specs.Turn.{Closes}
 use Rattle.event_core.proofs.Growth.{well_formed_front}
 use Rattle.event_core.proofs.Legality.{orderly}
-use Rattle.wcp_laws.specs.Conditions.{OwnIsEvents, SoundWhereLegal}
+use Rattle.wcp_laws.specs.Conditions.{SoundWhereLegal}
 use Rattle.wcp_laws.specs.Standing.{Stands}
 use Rattle.wcp_laws.specs.State.{State}
 use Rattle.wcp_laws.specs.Step.{turn}
 use Rattle.wcp_laws.proofs.Clocks.{turn_fits}
 use Rattle.wcp_laws.proofs.OpenSections.{closes_at, open_by_depth}
 use Rattle.wcp_laws.proofs.Ordering.{counted_earlier, releases_above}
-
-pub own_is_events : OwnIsEvents
-own_is_events log s t st = st.own t
 
 -- the section that an event closes was opened
 opened_before : (limits : Limits) (log : List Event) (e : Event) (s : State)

@@ -2,15 +2,19 @@
 use Rattle.std.proofs.Common.{◌≡◌, ℕ, ◌≤◌, cond, List, [], ◌∷◌, ◌++◌, Bool, true, false, sym, ap, subst}
 use Rattle.std.proofs.Common.{arith, ◌⊎◌, inl, inr}
 use Rattle.std.proofs.lemmas.Bool.{cases_Bool, leb-true, le-leb}
+use Rattle.event_core.specs.declared.bounds.Limits.{Limits}
+use Rattle.event_core.specs.declared.events.Event.{Event}
 use Rattle.event_core.specs.declared.ids.LockId.{LockId}
 use Rattle.event_core.specs.declared.ids.ThreadId.{ThreadId}
 use Rattle.event_core.specs.Closed.{Closed, is_counted, number_counted}
+use Rattle.event_core.specs.Refusal.{WellFormed}
 use Rattle.event_core.specs.Rows.{with_row}
 use Rattle.event_core.specs.Turn.{Turn, Accesses, Opens, Closes, Forks, Joins, Inner}
 use Rattle.event_core.proofs.Depth.{lock_cases, same_lock_id, same_thread_id}
 use Rattle.event_core.proofs.Growing.{row_same, row_other}
 use Rattle.hb_clocks.proofs.Depths.{cell_same, cell_other}
-use Rattle.wcp_laws.specs.Conditions.{CursorsStand, CursorsStep, found_at}
+use Rattle.wcp_laws.specs.Conditions.{CursorsStand, found_at}
+use Rattle.wcp_laws.specs.Standing.{Stands}
 use Rattle.wcp_laws.specs.State.{State}
 use Rattle.wcp_laws.specs.Step.{turn, hb_row, after, closed_after}
 use Rattle.wcp_laws.proofs.Depths.{cell_cases}
@@ -104,7 +108,10 @@ found_stands t (Closes n) s f stand l u = go (cell_cases t u n l)
         let old : f l.0 u.0 ≤ number l.0 u.0 = stand l u in
         omega arith
 
-pub cursors_step : CursorsStep
+-- what was found counted stays so
+pub cursors_step : (limits : Limits) (log : List Event) (e : Event) (s : State) (f : ℕ → ℕ → ℕ)
+    → WellFormed limits (log ++ e ∷ []) → Stands log s → CursorsStand s f
+    → CursorsStand (after e s) (found_at e.thread (turn e s) s f)
 cursors_step limits log e s f w st stand l t =
     let found : found_at e.thread (turn e s) s f l.0 t.0
     ≤ number_counted (s.strict.thread t.0) (s.closed l.0)

@@ -15,7 +15,6 @@ pub mod NotedAccesses
 pub mod OpenSections
 pub mod Ordering
 pub mod OtherSections
-pub mod Sets
 pub mod SmallLogs
 pub mod Sources
 pub mod StrictSteps

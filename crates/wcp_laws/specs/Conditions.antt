@@ -1,5 +1,5 @@
 -- What numbers that stand for a log give: in the log's words, and in numbers alone.
-use Rattle.std.specs.Prelude.{ℕ, ◌≡◌, ◌<◌, ◌≤◌, ◌↔◌, List, [], ◌∷◌, ◌++◌, IsTrue, max}
+use Rattle.std.specs.Prelude.{ℕ, ◌≡◌, ◌<◌, ◌≤◌, List, [], ◌∷◌, ◌++◌, IsTrue, max}
 use Rattle.event_core.specs.declared.ids.ThreadId.{ThreadId}
 use Rattle.event_core.specs.declared.ids.LockId.{LockId}
 use Rattle.event_core.specs.declared.ids.VarId.{VarId}
@@ -10,10 +10,10 @@ use Rattle.event_core.specs.Log.{Of}
 use Rattle.event_core.specs.Order.{Po}
 use Rattle.event_core.specs.Wcp.{Strict, Below}
 use Rattle.event_core.specs.Refusal.{WellFormed}
-use Rattle.event_core.specs.Count.{Counts, events_of}
+use Rattle.event_core.specs.Count.{Counts}
 use Rattle.event_core.specs.Turn.{Turn, Closes}
 use Rattle.event_core.specs.Rows.{with_row}
-use Rattle.event_core.specs.Closed.{Closed, is_counted, below_closed, Has, number_counted}
+use Rattle.event_core.specs.Closed.{Closed, is_counted, Has, number_counted}
 use Rattle.wcp_laws.specs.State.{State}
 use Rattle.wcp_laws.specs.Step.{turn, hb_row, after}
 use Rattle.wcp_laws.specs.Standing.{Stands}
@@ -51,11 +51,6 @@ BelowIsLatest = (limits : Limits) (log : List Event) (s : State) (j n : ℕ) (t 
     → WellFormed limits log → Stands log s → Of log j t → ((k : ℕ) → j < k → Of log k t → ⊥)
     → Counts log u (λ i. Po log i j) n → Counts log u (λ i. Below log i j) (max (s.strict.thread t.0 u.0) n)
 
--- a thread's own number of happens-before is that of its events
-abbrev pub OwnIsEvents : Type 0
-OwnIsEvents = (log : List Event) (s : State) (t : ThreadId)
-    → Stands log s → s.hb.thread t.0 t.0 ≡ events_of log t
-
 -- what is asked of the numbers at an event, with no log
 pub record IsSound (e : Event) (s : State) : Type 0 where
   -- a closing release's clock is at or above the clocks that are kept of its lock
@@ -88,21 +83,3 @@ abbrev pub found_at : ThreadId → Turn → State → (ℕ → ℕ → ℕ) → 
 found_at t (Closes l) s f =
     with_row l.0 (with_row t.0 (number_counted (s.strict.thread t.0) (s.closed l.0)) (f l.0)) f
 found_at t _ s f = f
-
--- what was found counted stays counted
-abbrev pub CursorsStep : Type 0
-CursorsStep = (limits : Limits) (log : List Event) (e : Event) (s : State) (f : ℕ → ℕ → ℕ)
-    → WellFormed limits (log ++ e ∷ []) → Stands log s → CursorsStand s f
-    → CursorsStand (after e s) (found_at e.thread (turn e s) s f)
-
--- the order of a lock's closed sections does not matter to what the numbers stand for
-abbrev pub ClosedAsSets : Type 0
-ClosedAsSets = (log : List Event) (s : State) (c : ℕ → List Closed) → Stands log s
-    → ((l : LockId) (q : Closed) → Has q (c l.0) ↔ Has q (s.closed l.0))
-    → Stands log (record s { closed = c })
-
--- the release clock of a counted section that is at or above those of all counted ones is their join
-abbrev pub GreatestIsLatest : Type 0
-GreatestIsLatest = (c : ℕ → ℕ) (qs : List Closed) (q : Closed) (u : ℕ) → Has q qs → IsTrue (is_counted c q)
-    → ((p : Closed) → Has p qs → IsTrue (is_counted c p) → p.release u ≤ q.release u)
-    → q.release u ≡ below_closed c qs u

@@ -1,11 +1,7 @@
 //! The laws of one event's step, each a contract of a function without a body.
 ghost use Rattle.wcp_laws.specs.Conditions.{
   BelowIsLatest,
-  ClosedAsSets,
   CountedEarlier,
-  CursorsStep,
-  GreatestIsLatest,
-  OwnIsEvents,
   ReleasesAbove,
   SoundWhereLegal,
   StrictGrows,
@@ -55,29 +51,9 @@ pub fn below_is_latest()
     ensures { BelowIsLatest }
 {}
 
-/// A thread's own number of happens-before is that of its events.
-pub fn own_is_events()
-    ensures { OwnIsEvents }
-{}
-
 /// At each legal event the numbers are as the step asks, with no log.
 pub fn sound_where_legal()
     ensures { SoundWhereLegal }
-{}
-
-/// What was found counted stays counted.
-pub fn cursors_step()
-    ensures { CursorsStep }
-{}
-
-/// The order of a lock's closed sections does not matter to what the numbers stand for.
-pub fn closed_as_sets()
-    ensures { ClosedAsSets }
-{}
-
-/// The greatest release clock of the counted sections is their join.
-pub fn greatest_is_latest()
-    ensures { GreatestIsLatest }
 {}
 
 /// In the empty log nothing was found counted.

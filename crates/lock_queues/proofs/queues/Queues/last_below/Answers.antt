@@ -15,24 +15,24 @@ use Rattle.lock_queues.proofs.queues.Queues.last_below.Goals as goal
 pub latest-requires : goal.latest-requires
 latest-requires c =
     let IsEntered : (ℕ → ℕ → ℕ) → Type 0 = λ f. 0 < f c.args.thread.0 c.args.lock.0 in
-    record { entered = subst IsEntered (sym c.seek.ensures.found.opened) c.requires.entered }
+    record { entered = subst IsEntered (sym c.find_counted.ensures.found.opened) c.requires.entered }
 
 pub returns : goal.returns
 returns c =
     let t = c.args.thread.0 in
     let l = c.args.lock.0 in
     let old : Tables = c.args.self.now in
-    let new : Tables = c.seek.new.self in
+    let new : Tables = c.find_counted.new.self in
     let clock : ℕ → ℕ = counts_of c.args.clock.now in
     let qs : List Closed = closed_of old l in
     let n : ℕ = number_counted clock qs in
     let threads : ℕ = old.limits.threads in
     let found : found_of new l t ≡ n
-    = ap (λ (f : ℕ → ℕ → ℕ). f l t) c.seek.ensures.found.found
+    = ap (λ (f : ℕ → ℕ → ℕ). f l t) c.find_counted.ensures.found.found
     ∙ ap (λ (f : ℕ → ℕ). f t) (row_same l (with_row t n (found_of old l)) (found_of old))
     ∙ row_same t n (found_of old l) in
-    let closed : closed_of new l ≡ qs = ap (λ (f : ℕ → List Closed). f l) c.seek.ensures.found.closed in
-    let wide : new.limits.threads ≡ threads = ap (λ b. b.threads) c.seek.ensures.found.limits in
+    let closed : closed_of new l ≡ qs = ap (λ (f : ℕ → List Closed). f l) c.find_counted.ensures.found.closed in
+    let wide : new.limits.threads ≡ threads = ap (λ b. b.threads) c.find_counted.ensures.found.limits in
     let Reads : ℕ → List Closed → ℕ → ClosedSection → Type 0
     = λ k xs w r. (0 < k) × IsSection r.by.0 r.own r.before.now w (closed_at xs (k - 1)) in
     let Told : ClosedSection → Closed → Type 0
@@ -44,8 +44,8 @@ returns c =
     (subst (λ (k : ℕ). MatchOption c.latest.result (k ≡ 0) (Reads k (closed_of new l) new.limits.threads))
     found c.latest.ensures)) in
     let answer = match_option c.latest.result (n ≡ 0) in
-    let before = c.seek.ensures.latest in (
-      (refl, λ _. tt, c.seek.ensures.found),
+    let before = c.find_counted.ensures.latest in (
+      (refl, λ _. tt, c.find_counted.ensures.found),
       record {
         number = answer (n ≡ 0) (Reads n qs threads) (λ _. 0 < n) (λ z. z) (λ r h. h.0) known;
         latest =
@@ -65,8 +65,8 @@ returns c =
             (λ r. r.own ≡ counts_of r.before.now r.by.0) (λ r h. h.1.number) known;
         width = if_some c.latest.result (n ≡ 0) (Reads n qs threads) (λ r. length r.before.now ≤ threads)
             (λ r h. h.1.within) known;
-        comparisons = c.seek.ensures.comparisons;
-        joins = c.seek.ensures.joins;
+        comparisons = c.find_counted.ensures.comparisons;
+        joins = c.find_counted.ensures.joins;
         after = tt;
       },
     )

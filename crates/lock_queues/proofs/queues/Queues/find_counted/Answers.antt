@@ -10,10 +10,10 @@ use Rattle.lock_queues.proofs.Latest.{latest_before}
 use Rattle.lock_queues.proofs.Lifting.{read_entered, lifted, lifted_same}
 use Rattle.lock_queues.proofs.Searching.{are_of, number_found}
 use Rattle.lock_queues.proofs.Tables.{kept_set}
-use Rattle.lock_queues.proofs.queues.Queues.seek.Goals as goal
+use Rattle.lock_queues.proofs.queues.Queues.find_counted.Goals as goal
 
-pub seek-requires-clause-room : goal.seek-requires-clause-room
-seek-requires-clause-room c =
+pub find_counted-requires-clause-room : goal.find_counted-requires-clause-room
+find_counted-requires-clause-room c =
     let t = c.args.thread.0 in
     let l = c.args.lock.0 in
     let entered = subst (λ (v : Tables). 0 < opened_of v t l) (sym c.self.view_is) c.requires.entered in
@@ -21,8 +21,8 @@ seek-requires-clause-room c =
     let read = read_entered qs t l c.index_mut-queue.result.now entered c.index_mut-queue.ensures.value in
     ap (λ (q : Kept). has_room_in q.rooms t) read.is ∙ read.has
 
-pub seek-requires-clause-before : goal.seek-requires-clause-before
-seek-requires-clause-before c k lt =
+pub find_counted-requires-clause-before : goal.find_counted-requires-clause-before
+find_counted-requires-clause-before c k lt =
     let t = c.args.thread.0 in
     let l = c.args.lock.0 in
     let clock = c.args.clock.now in
@@ -43,10 +43,10 @@ invariant_of-self c =
     let entered = subst (λ (v : Tables). 0 < opened_of v t l) (sym c.self.view_is) c.requires.entered in
     let qs = c.self.inside.queues.items in
     let read = read_entered qs t l c.index_mut-queue.result.now entered c.index_mut-queue.ensures.value in
-    let many = ap length c.seek.ensures.rooms ∙ ap (λ (q : Kept). length q.rooms) read.is in
-    kept_set l c.seek.new.self c.self.inside.rooms c.self.invariant read.within
-    (c.seek.ensures.width ∙ ap (λ (q : Kept). q.width) read.is)
-    (c.seek.ensures.entries ∙ ap (λ (q : Kept). q.entries) read.is) (omega arith) c.self.invariant.spare
+    let many = ap length c.find_counted.ensures.rooms ∙ ap (λ (q : Kept). length q.rooms) read.is in
+    kept_set l c.find_counted.new.self c.self.inside.rooms c.self.invariant read.within
+    (c.find_counted.ensures.width ∙ ap (λ (q : Kept). q.width) read.is)
+    (c.find_counted.ensures.entries ∙ ap (λ (q : Kept). q.entries) read.is) (omega arith) c.self.invariant.spare
 
 pub returns-clause-found : goal.returns-clause-found
 returns-clause-found c =
@@ -59,15 +59,15 @@ returns-clause-found c =
     let read = read_entered qs t l c.index_mut-queue.result.now entered c.index_mut-queue.ensures.value in
     let are = are_of _ _ qs ns l clock _ c.self.view_is c.self.invariant read.is c.requires.earlier in
     let number
-    = number_found _ _ _ _ _ are c.seek.ensures.within c.seek.ensures.counted c.seek.ensures.stopped in
-    let new = c.seek.new.self in
-    let found = c.seek.ensures.found
-    ∙ ap (λ (q : Kept). with_row t c.seek.result (slice_index q.found)) read.is
+    = number_found _ _ _ _ _ are c.find_counted.ensures.within c.find_counted.ensures.counted c.find_counted.ensures.stopped in
+    let new = c.find_counted.new.self in
+    let found = c.find_counted.ensures.found
+    ∙ ap (λ (q : Kept). with_row t c.find_counted.result (slice_index q.found)) read.is
     ∙ ap (λ n. with_row t n (slice_index (queue_at qs l).found)) number in
-    let entries = c.seek.ensures.entries ∙ ap (λ (q : Kept). q.entries) read.is in
+    let entries = c.find_counted.ensures.entries ∙ ap (λ (q : Kept). q.entries) read.is in
     let closed = ap (λ es. map closed_as (sections_of ns es)) entries in
-    let opened = ap opened_in c.seek.ensures.rooms ∙ ap (λ (q : Kept). opened_in q.rooms) read.is in
-    let rooms = ap has_room_in c.seek.ensures.rooms ∙ ap (λ (q : Kept). has_room_in q.rooms) read.is in
+    let opened = ap opened_in c.find_counted.ensures.rooms ∙ ap (λ (q : Kept). opened_in q.rooms) read.is in
+    let rooms = ap has_room_in c.find_counted.ensures.rooms ∙ ap (λ (q : Kept). has_room_in q.rooms) read.is in
     record {
       found =
           (λ i m. lifted (λ (q : Kept). slice_index q.found) qs l new _ read.within found m i)
@@ -107,8 +107,8 @@ returns-clause-comparisons c =
     let read = read_entered qs t l c.index_mut-queue.result.now entered c.index_mut-queue.ensures.value in
     let are = are_of _ _ qs _ l clock _ c.self.view_is c.self.invariant read.is c.requires.earlier in
     let number
-    = number_found _ _ _ _ _ are c.seek.ensures.within c.seek.ensures.counted c.seek.ensures.stopped in
+    = number_found _ _ _ _ _ are c.find_counted.ensures.within c.find_counted.ensures.counted c.find_counted.ensures.stopped in
     let found = ap (λ (q : Kept). slice_index q.found t) read.is
     ∙ ap (λ (v : Tables). found_of v l t) c.self.view_is in
-    let work = c.seek.ensures.comparisons in
+    let work = c.find_counted.ensures.comparisons in
     omega arith

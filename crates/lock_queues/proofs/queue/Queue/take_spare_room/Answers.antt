@@ -8,7 +8,7 @@ use Rattle.lock_queues.specs.Queue.{Kept, IsKept}
 use Rattle.lock_queues.proofs.Keeping.{kept_pushed}
 use Rattle.event_core.proofs.Growing.{row_same}
 use Rattle.lock_queues.proofs.Changes.{opened_push, has_push, row_true}
-use Rattle.lock_queues.proofs.queue.Queue.seek_room.Goals as goal
+use Rattle.lock_queues.proofs.queue.Queue.take_spare_room.Goals as goal
 
 pub invariant_of-self : goal.invariant_of-self
 invariant_of-self c =

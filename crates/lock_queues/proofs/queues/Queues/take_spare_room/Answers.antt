@@ -3,7 +3,7 @@ use Rattle.std.proofs.lemmas.List.{get_or_read}
 use Rattle.lock_queues.specs.Queue.{Kept, no_queue}
 use Rattle.lock_queues.proofs.Sameness.{same_tables}
 use Rattle.lock_queues.proofs.Tables.{kept_set}
-use Rattle.lock_queues.proofs.queues.Queues.seek_room.Goals as goal
+use Rattle.lock_queues.proofs.queues.Queues.take_spare_room.Goals as goal
 
 pub invariant_of-self : goal.invariant_of-self
 invariant_of-self c =
@@ -14,14 +14,14 @@ invariant_of-self c =
     let queues = c.self.inside.queues.ok in
     let lt : l < length qs = omega (arith, queues) in
     let is = get_or_read qs l c.index_mut-queue.result.now lt c.index_mut-queue.ensures.value no_queue in
-    let same = c.seek_room-is_made.ensures.same in
-    let many = c.seek_room-is_made.ensures.many
+    let same = c.take_spare_room-is_made.ensures.same in
+    let many = c.take_spare_room-is_made.ensures.many
     ∙ ap (λ (b : Bool). length c.index_mut-queue.result.now.rooms + cond {A = ℕ} b 1 0) c.if-is_made.true in
     let rooms = ap (λ (q : Kept). length q.rooms) is in
     let next = c.in-Some.ensures.1 in
     let spare = c.has_spare.ensures c.if-not-has_spare.false in
     let times = ap (λ w. c.in-Some.rooms * w) c.threads-width.ensures.is in
-    kept_set l c.seek_room-is_made.new.self _ c.self.invariant lt (same.width ∙ ap (λ (q : Kept). q.width) is)
+    kept_set l c.take_spare_room-is_made.new.self _ c.self.invariant lt (same.width ∙ ap (λ (q : Kept). q.width) is)
     (same.entries ∙ ap (λ (q : Kept). q.entries) is) (omega (arith, next, rooms))
     (omega (arith, spare, times))
 
@@ -34,11 +34,11 @@ invariant_of-self-else-is_made c =
     let queues = c.self.inside.queues.ok in
     let lt : l < length qs = omega (arith, queues) in
     let is = get_or_read qs l c.index_mut-queue.result.now lt c.index_mut-queue.ensures.value no_queue in
-    let same = c.seek_room-is_made.ensures.same in
-    let many = c.seek_room-is_made.ensures.many
+    let same = c.take_spare_room-is_made.ensures.same in
+    let many = c.take_spare_room-is_made.ensures.many
     ∙ ap (λ (b : Bool). length c.index_mut-queue.result.now.rooms + cond {A = ℕ} b 1 0) c.if-is_made.false in
     let rooms = ap (λ (q : Kept). length q.rooms) is in
-    kept_set l c.seek_room-is_made.new.self c.self.inside.rooms c.self.invariant lt
+    kept_set l c.take_spare_room-is_made.new.self c.self.inside.rooms c.self.invariant lt
     (same.width ∙ ap (λ (q : Kept). q.width) is)
     (same.entries ∙ ap (λ (q : Kept). q.entries) is) (omega arith) c.self.invariant.spare
 
@@ -52,7 +52,7 @@ returns-then-is_made-clause-same c =
     let lt : l < length qs = omega (arith, queues) in
     let is = get_or_read qs l c.index_mut-queue.result.now lt c.index_mut-queue.ensures.value no_queue in
     same_tables _ _ qs qs _ _ l _ _ c.self.view_is (λ m. (refl, refl, refl)) refl lt is
-    c.seek_room-is_made.ensures.same
+    c.take_spare_room-is_made.ensures.same
 
 pub returns-else-is_made-clause-same : goal.returns-else-is_made-clause-same
 returns-else-is_made-clause-same c =
@@ -64,4 +64,4 @@ returns-else-is_made-clause-same c =
     let lt : l < length qs = omega (arith, queues) in
     let is = get_or_read qs l c.index_mut-queue.result.now lt c.index_mut-queue.ensures.value no_queue in
     same_tables _ _ qs qs _ _ l _ _ c.self.view_is (λ m. (refl, refl, refl)) refl lt is
-    c.seek_room-is_made.ensures.same
+    c.take_spare_room-is_made.ensures.same

@@ -2,18 +2,18 @@ use Rattle.std.proofs.Common.{sym, subst}
 use Rattle.wcp_clocks.specs.declared.parts.Parts.{Parts}
 use Rattle.wcp_clocks.specs.Parts.{IsReady, SameNumbers}
 use Rattle.wcp_clocks.proofs.Growth.{grown_parts, grown_ready, grown_numbers}
-use Rattle.wcp_clocks.proofs.clocks.WcpClocks.seek.Goals as goal
+use Rattle.wcp_clocks.proofs.clocks.WcpClocks.ready_or_grow.Goals as goal
 
 pub invariant_of-self : goal.invariant_of-self
 invariant_of-self c =
-    grown_parts c.self.inside.parts c.seek.new.parts c.seek.ensures.grown c.self.invariant
+    grown_parts c.self.inside.parts c.ready_or_grow.new.parts c.ready_or_grow.ensures.grown c.self.invariant
 
 pub returns-clause-kept : goal.returns-clause-kept
 returns-clause-kept c e ready =
-    grown_ready c.self.inside.parts c.seek.new.parts c.seek.ensures.grown e
+    grown_ready c.self.inside.parts c.ready_or_grow.new.parts c.ready_or_grow.ensures.grown e
     (subst (λ (p : Parts). IsReady p e) (sym c.self.view_is) ready)
 
 pub returns-clause-same : goal.returns-clause-same
 returns-clause-same c =
-    subst (λ (p : Parts). SameNumbers p c.seek.new.parts) c.self.view_is
-    (grown_numbers c.self.inside.parts c.seek.new.parts c.seek.ensures.grown)
+    subst (λ (p : Parts). SameNumbers p c.ready_or_grow.new.parts) c.self.view_is
+    (grown_numbers c.self.inside.parts c.ready_or_grow.new.parts c.ready_or_grow.ensures.grown)

@@ -8,7 +8,7 @@ use Rattle.lock_queues.specs.Sections.{CountsEntry}
 use Rattle.lock_queues.specs.Queue.{Kept}
 use Rattle.lock_queues.proofs.Keeping.{thread_within}
 use Rattle.lock_queues.proofs.Changes.{found_set}
-use Rattle.lock_queues.proofs.queue.Queue.seek.Goals as goal
+use Rattle.lock_queues.proofs.queue.Queue.find_counted.Goals as goal
 
 pub index-requires : goal.index-requires
 index-requires c =
