@@ -30,8 +30,10 @@ use Rattle.std.proofs.Common.{
   inl,
   inr,
   add-one,
+  zero-add,
 }
 use Rattle.std.specs.Prelude.{◌||◌, ◌==◌, ◌&&◌, nat_lt, option_map, IfSome}
+use Rattle.std.proofs.Math.Bool.{or-false, or-true}
 use Rattle.std.proofs.lemmas.Bool.{
   or_parts,
   and_parts,
@@ -53,7 +55,7 @@ use Rattle.std.proofs.lemmas.List.{
   take_at,
   length_push,
 }
-use Rattle.rapid_line.specs.Cut.{has, Lacks, cut, before_end}
+use Rattle.rapid_line.specs.Cut.{has, count, Lacks, cut, before_end, after_last}
 
 pub has-append : (b : ℕ) (xs ys : List ℕ) → has b (xs ++ ys) ≡ (has b xs || has b ys)
 has-append b [] ys = refl
@@ -211,6 +213,43 @@ cut_None b (x ∷ xs) e =
       | inr differs ↦ or_from (x == b) (has b xs) differs
           (cut_None b xs (map_None x (cut b xs) (rw differs at e)))
     ]
+
+-- ---- how many, and what follows the last
+
+pub count-append : (b : ℕ) (xs ys : List ℕ) → count b (xs ++ ys) ≡ count b xs + count b ys
+count-append b [] ys = sym (zero-add (count b ys))
+count-append b (x ∷ xs) ys = let e = count-append b xs ys in omega (arith, e)
+
+pub count-Lacks : (b : ℕ) (xs : List ℕ) → Lacks b xs → count b xs ≡ 0
+count-Lacks b [] h = refl
+count-Lacks b (x ∷ xs) h = let parts = or_parts (x == b) (has b xs) h in rw
+    (parts.0, count-Lacks b xs parts.1) refl
+
+pub after_last-Lacks : (b : ℕ) (xs : List ℕ) → Lacks b xs → after_last b xs ≡ xs
+after_last-Lacks b [] h = refl
+after_last-Lacks b (x ∷ xs) h = rw h refl
+
+-- bytes that lack it stay at the end
+pub after_last-more : (b : ℕ) (xs ys : List ℕ) → Lacks b ys
+    → after_last b (xs ++ ys) ≡ after_last b xs ++ ys
+after_last-more b [] ys h = after_last-Lacks b ys h
+after_last-more b (x ∷ xs) ys h =
+    let same : has b (xs ++ ys) ≡ has b xs = has-append b xs ys ∙ ap (λ t. has b xs || t) h
+    ∙ or-false (has b xs) in
+    elim (cases_Bool (x == b || has b xs)) [
+      | inl met ↦ rw (same, met) (after_last-more b xs ys h)
+      | inr unmet ↦ rw (same, unmet) refl
+    ]
+
+has-last : (b : ℕ) (xs : List ℕ) → has b (xs ++ b ∷ []) ≡ true
+has-last b [] = rw (eq-eqb b b refl) refl
+has-last b (x ∷ xs) = elim (x == b) as
+    (λ t. (t || has b (xs ++ b ∷ [])) ≡ true) [ true ↦ refl | false ↦ has-last b xs ]
+
+-- nothing follows it at the end
+pub after_last-end : (b : ℕ) (xs : List ℕ) → after_last b (xs ++ b ∷ []) ≡ []
+after_last-end b [] = rw (eq-eqb b b refl) refl
+after_last-end b (x ∷ xs) = rw (has-last b xs, or-true (x == b)) (after_last-end b xs)
 
 -- a loop that looks for a byte, and one that cuts at it
 pub ruleset scanning = (lacks_more, has_here, lacks_all)

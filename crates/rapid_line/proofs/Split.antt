@@ -17,12 +17,11 @@ use Rattle.std.proofs.Common.{
   ap,
   ◌∙◌,
   arith,
-  zero-add,
   inl,
   inr,
 }
 use Rattle.std.specs.Prelude.{◌==◌, ◌⊎◌}
-use Rattle.std.proofs.lemmas.Bool.{or_parts, cases_Bool}
+use Rattle.std.proofs.lemmas.Bool.{cases_Bool}
 use Rattle.rapid_line.specs.declared.words.Word.{Word}
 use Rattle.rapid_line.specs.declared.words.LineFault.{LineFault}
 use Rattle.rapid_line.specs.declared.words.LineFault.TheVariants.{FewFields, ManyFields, BadOp}
@@ -30,19 +29,10 @@ use Rattle.rapid_line.specs.Cut.{has, count, Lacks, cut, before_end}
 use Rattle.rapid_line.specs.Grammar.{operation}
 use Rattle.rapid_line.specs.Causes.{HasFields}
 use Rattle.rapid_line.specs.Reading.{word_of, or_fault, unless, fields_of, operation_of}
-use Rattle.rapid_line.proofs.Cuts.{cut_None, IsCut}
+use Rattle.rapid_line.proofs.Cuts.{cut_None, IsCut, count-append, count-Lacks}
 use Rattle.rapid_line.proofs.Steps.{unless_err, or_fault_err, ok_inj}
 use Rattle.rapid_line.proofs.Again.{fields_again, operation_again}
 use Rattle.rapid_line.proofs.Found.{IsCut-at}
-
-bars-append : (xs ys : List ℕ) → count 124 (xs ++ ys) ≡ count 124 xs + count 124 ys
-bars-append [] ys = sym (zero-add (count 124 ys))
-bars-append (x ∷ xs) ys = let e = bars-append xs ys in omega (arith, e)
-
-bars-lacks : (xs : List ℕ) → Lacks 124 xs → count 124 xs ≡ 0
-bars-lacks [] h = refl
-bars-lacks (x ∷ xs) h = let parts = or_parts (x == 124) (has 124 xs) h in rw
-    (parts.0, bars-lacks xs parts.1) refl
 
 bars-has : (xs : List ℕ) → has 124 xs ≡ true → 0 < count 124 xs
 bars-has [] h = absurd cc
@@ -59,8 +49,8 @@ bars-has (x ∷ xs) h =
 bars_cut : (xs a c : List ℕ) → IsCut 124 xs a c → count 124 xs ≡ 1 + count 124 c
 bars_cut xs a c h =
     let x : count 124 (124 ∷ c) ≡ 1 + count 124 c = refl in
-    let y = bars-append a (124 ∷ c) in
-    let z = bars-lacks a h.lacks in
+    let y = count-append 124 a (124 ∷ c) in
+    let z = count-Lacks 124 a h.lacks in
     let w = ap (count 124) h.is in
     omega (arith, w, y, z, x)
 
@@ -71,14 +61,14 @@ fields_err bytes f e =
     elim (or_fault_err FewFields (cut 124 bytes) (λ p. or_fault FewFields (cut 124 p.1)
     (λ q. unless ManyFields (has 124 q.1) (let r : List ℕ × List ℕ × List ℕ = (p.0, q.0, q.1) in
     Ok r))) f e) [
-      | inl few ↦ let z = bars-lacks bytes (cut_None 124 bytes few.0) in inl (sym few.1, omega (arith, z))
+      | inl few ↦ let z = count-Lacks 124 bytes (cut_None 124 bytes few.0) in inl (sym few.1, omega (arith, z))
       | inr p ↦
           let c = IsCut-at 124 bytes p.0 p.1 in
           let n = bars_cut bytes p.0.0 p.0.1 c in
           elim (or_fault_err FewFields (cut 124 p.0.1)
           (λ q. unless ManyFields (has 124 q.1) (let r : List ℕ × List ℕ × List ℕ = (p.0.0, q.0, q.1) in
           Ok r)) f p.2) [
-            | inl few ↦ let z = bars-lacks p.0.1 (cut_None 124 p.0.1 few.0) in inl
+            | inl few ↦ let z = count-Lacks 124 p.0.1 (cut_None 124 p.0.1 few.0) in inl
                 (sym few.1, omega (arith, n, z))
             | inr q ↦
                 let d = IsCut-at 124 p.0.1 q.0 q.1 in
@@ -95,7 +85,7 @@ pub two_bars : (bytes t o l : List ℕ) → HasFields bytes t o l → count 124 
 two_bars bytes t o l h =
     let n = bars_cut bytes t (o ++ 124 ∷ l) (record { is = h.is; lacks = h.thread_bar }) in
     let m = bars_cut (o ++ 124 ∷ l) o l (record { is = refl; lacks = h.op_bar }) in
-    let z = bars-lacks l h.location_bar in
+    let z = count-Lacks 124 l h.location_bar in
     omega (arith, n, m, z)
 
 pub operation_err : (field : List ℕ) (f : LineFault) → operation_of field ≡ Err f → f ≡ BadOp

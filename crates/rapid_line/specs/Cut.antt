@@ -20,6 +20,7 @@ use Rattle.std.specs.Prelude.{
   None,
   option_map,
   nat_lt,
+  unwrap_or,
   if◌then◌else◌,
 }
 
@@ -47,3 +48,12 @@ abbrev pub before_end : ℕ → List ℕ → Option (List ℕ)
 before_end b xs =
     if nat_lt 0 (length xs) && (get_or xs (length xs - 1) 0 == b) then Some
     (take (length xs - 1) xs) else None
+
+-- what stands after the last such byte, and all where there is none
+abbrev pub after_last : ℕ → List ℕ → List ℕ
+after_last b [] = []
+after_last b (x ∷ xs) = if x == b || has b xs then after_last b xs else x ∷ xs
+
+-- the content of a line: the line without the CR at its end
+abbrev pub content : List ℕ → List ℕ
+content line = unwrap_or (before_end 13 line) line

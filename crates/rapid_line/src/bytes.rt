@@ -1,6 +1,6 @@
 //! Bytes, cut at the first place of a byte.
 ghost use Rattle.std.specs.Prelude.{◌≡◌, option_map};
-ghost use Rattle.rapid_line.specs.Cut.{has, cut, before_end};
+ghost use Rattle.rapid_line.specs.Cut.{has, cut, before_end, content, Lacks};
 
 /// Whether the byte stands in the bytes.
 #[tactic(auto, using(crate::proofs::Cuts::scanning))]
@@ -40,4 +40,16 @@ pub fn strip_last(bytes: &[u8], byte: u8) -> Option<&[u8]>
         return None;
     }
     Some(&bytes[..len - 1])
+}
+
+/// The content of a line, which stands without its LF: the line without the CR at its end.
+#[tactic(auto, using(crate::proofs::Cuts::before_end_lacks))]
+pub fn without_cr(line: &[u8]) -> &[u8]
+    ensures value { result.now ≡ content line.now }
+    ensures lf { Lacks 10 line.now → Lacks 10 result.now }
+{
+    if let Some(front) = strip_last(line, b'\r') {
+        return front;
+    }
+    line
 }

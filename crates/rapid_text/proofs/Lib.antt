@@ -11,3 +11,4 @@ pub mod Pulls
 pub mod Written
 pub mod NameGrowth
 pub mod Joined
+pub mod Begins

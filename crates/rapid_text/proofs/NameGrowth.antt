@@ -2,11 +2,12 @@
 use Rattle.std.proofs.Common.{◌≡◌, ℕ, suc, ◌+◌, ◌<◌, ◌≤◌, List, [], ◌∷◌, ◌++◌, length, Option, Some, None}
 use Rattle.std.proofs.Common.{Result, Ok, Err, Bool, true, false, cond, refl, sym, ap, subst, ◌∙◌, append-nil}
 use Rattle.std.proofs.Common.{append_assoc, arith, inl, inr}
-use Rattle.std.specs.Prelude.{IfOk, OnErr, unwrap_or, slice_get, nat_lt, ◌==◌, not}
+use Rattle.std.specs.Prelude.{IfOk, OnErr, ◌↔◌, unwrap_or, slice_get, nat_lt, ◌==◌, not}
+use Rattle.std.specs.Result.{IsErrOf}
 use Rattle.std.specs.List.{position, prefix_len}
 use Rattle.std.specs.Str.{bytes_eq}
 use Rattle.std.proofs.lemmas.Slice.Eq.{bytes_eq-Decides}
-use Rattle.std.proofs.lemmas.Bool.{cases_Bool, ltb-true}
+use Rattle.std.proofs.lemmas.Bool.{cases_Bool, ltb-true, lt-ltb}
 use Rattle.std.proofs.lemmas.List.{length-append}
 use Rattle.std.proofs.lemmas.Option.{slice_get_within}
 use Rattle.event_core.specs.declared.events.Event.{Event}
@@ -19,6 +20,7 @@ use Rattle.rapid_text.specs.declared.causes.Kind.{Kind}
 use Rattle.rapid_text.specs.declared.causes.Kind.TheVariants as kinds
 use Rattle.rapid_text.specs.declared.causes.Cause.{Cause}
 use Rattle.rapid_text.specs.declared.causes.NameFault.{NameFault}
+use Rattle.rapid_text.specs.declared.causes.NameFault.TheVariants.{TooMany, OutOfMemory}
 use Rattle.rapid_text.specs.Numbers.{Numbered, with_name, found_or, place_of, number_of, Grows}
 use Rattle.rapid_text.specs.Tables.{Tables, space, with_space, put_back, number_in, name_at, TablesGrow}
 use Rattle.rapid_text.specs.Events.{
@@ -362,3 +364,31 @@ pub number_named : (t u : Tables) (kind : Kind) (name : List ℕ) (r : Result �
     → IfOk r (λ n. slice_get (space u kind).names n ≡ Some name)
 number_named t u kind name (Ok n) ok = (gives t kind name n u ok).placed
 number_named t u kind name (Err f) ok = tt
+
+-- a new name finds room where there are fewer than the limit
+new_numbered : (s : Numbered) (name : List ℕ) → place_of s name ≡ None → length s.names < s.limit
+    → number_of s name ≡ Some (length s.names, with_name s name)
+unfolding number_of
+new_numbered s name new room =
+    ap (λ (o : Option ℕ). found_or o s name) new ∙ (rw (lt-ltb (length s.names) s.limit room) refl)
+
+has_room : (t : Tables) (kind : Kind) (name : List ℕ) → place_of (space t kind) name ≡ None
+    → length (space t kind).names < (space t kind).limit → number_in t kind name ≡ None → ⊥
+unfolding number_in
+has_room t kind name new room none =
+    let some = ap (λ (o : Option (ℕ × Numbered)). put_back t kind o)
+    (new_numbered (space t kind) name new room) in
+    let clash = sym some ∙ none in
+    absurd cc
+
+-- there are too many exactly where the name has no number
+pub too_many_exactly : (t u : Tables) (kind : Kind) (name : List ℕ) (r : Result ℕ NameFault)
+    → IfOk r (λ n. number_in t kind name ≡ Some (n, u))
+    → (IsErrOf r TooMany → number_in t kind name ≡ None)
+    → (IsErrOf r OutOfMemory → length (space t kind).names < (space t kind).limit)
+    → OnErr r (place_of (space t kind) name ≡ None)
+    → IsErrOf r TooMany ↔ (number_in t kind name ≡ None)
+too_many_exactly t u kind name (Ok n) ok full room new = (full, λ none. let clash = sym ok ∙ none in absurd cc)
+too_many_exactly t u kind name (Err TooMany) ok full room new = (full, λ none. refl)
+too_many_exactly t u kind name (Err OutOfMemory) ok full room new =
+    (full, λ none. absurd (has_room t kind name new (room refl) none))

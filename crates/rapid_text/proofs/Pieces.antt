@@ -39,6 +39,8 @@ use Rattle.std.proofs.lemmas.List.{
   length-append,
   length-take,
   length-drop,
+  take_all,
+  take-append-drop,
   append-nil,
   drop_at,
   drop_all,
@@ -49,10 +51,10 @@ use Rattle.rapid_line.specs.declared.words.LineFault.TheVariants.{LineTooLong}
 use Rattle.rapid_text.specs.declared.causes.Cause.{Cause}
 use Rattle.rapid_text.specs.declared.causes.Cause.TheVariants as causes
 use Rattle.rapid_text.specs.declared.causes.TextFault.{TextFault}
-use Rattle.rapid_line.specs.Cut.{has, Lacks, cut}
+use Rattle.rapid_line.specs.Cut.{has, count, Lacks, cut, after_last}
 use Rattle.rapid_line.specs.Reading.{line_of}
 use Rattle.rapid_text.specs.Tables.{Tables, TablesGrow}
-use Rattle.rapid_text.proofs.NameGrowth.{TablesGrow-trans}
+use Rattle.rapid_text.proofs.NameGrowth.{TablesGrow-refl, TablesGrow-trans}
 use Rattle.rapid_text.specs.Events.{content, reading, Fails}
 use Rattle.rapid_text.specs.Texts.{
   onto_first,
@@ -63,12 +65,14 @@ use Rattle.rapid_text.specs.Texts.{
   with_event,
   after_line,
   judge,
+  BeginsAt,
 }
 use Rattle.rapid_text.specs.Cutting.{
   Cutting,
   judged,
   most,
   Stops,
+  JudgedUpTo,
   Pushes,
   FailsAt,
   TooLongOrMemory,
@@ -79,7 +83,9 @@ use Rattle.rapid_text.specs.Cutting.{
   Keeps,
   RestFails,
 }
-use Rattle.rapid_line.proofs.Cuts.{Lacks-append, IsCut, IsCut-from}
+use Rattle.rapid_line.proofs.Cuts.{Lacks-append, IsCut, IsCut-from, count-append, count-Lacks}
+use Rattle.rapid_line.proofs.Cuts.{after_last-Lacks, after_last-more, after_last-end}
+use Rattle.std.proofs.Math.Seq.{take-add, take-append-add}
 
 -- ---- a line that is too long
 
@@ -154,9 +160,26 @@ pub record Going (start now : Cutting) (piece : List ℕ) (used : ℕ) : Type 0 
   pub within : used ≤ length piece
   pub taken : now.taken ≡ start.taken + used
   pub room : start.taken + length piece ≤ most
+  pub lines : now.unfinished ≡ start.unfinished + count 10 (take used piece)
+  pub kept : now.kept ≡ after_last 10 (start.kept ++ take used piece)
   pub line : now.line ≡ start.line
   pub grows : TablesGrow start.names now.names
   pub live : (start.failed ≡ None) × (now.failed ≡ None)
+
+-- before the first line of the piece
+pub goes_first : (start : Cutting) (piece : List ℕ) → Lacks 10 start.kept → start.failed ≡ None
+    → start.taken + length piece ≤ most → Going start start piece 0
+goes_first start piece lf live room = record {
+  sound = λ more. refl;
+  within = omega arith;
+  taken = omega arith;
+  room = room;
+  lines = omega arith;
+  kept = sym (ap (λ (t : List ℕ). after_last 10 t) (append-nil start.kept) ∙ after_last-Lacks 10 start.kept lf);
+  line = refl;
+  grows = TablesGrow-refl start.names;
+  live = (live, live);
+}
 
 with_event_line : (m n : ℕ) (event : Option Event) (j : Judgement) → IfSome event (λ _. m ≡ n)
     → with_event n event j ≡ with_event m event j
@@ -199,6 +222,7 @@ record Cuts (piece : List ℕ) (used : ℕ) (line : List ℕ) : Type 0 where
   is : drop used piece ≡ line ++ 10 ∷ rest
   lf : Lacks 10 line
   after : drop (used + (length line + 1)) piece ≡ rest
+  upto : take (used + (length line + 1)) piece ≡ (take used piece ++ line) ++ 10 ∷ []
   within : used + (length line + 1) ≤ length piece
 
 cuts : (piece : List ℕ) (used : ℕ) (line rest : List ℕ) → used ≤ length piece
@@ -214,11 +238,17 @@ cuts piece used line rest le e =
     sym (drop-drop (length line + 1) used piece) ∙ ap (λ (t : List ℕ). drop (length line + 1) t)
     (c.is ∙ sym (append_assoc line (10 ∷ []) rest)) ∙ drop_at (line ++ 10 ∷ []) rest (length line + 1)
     (omega (arith, lp)) in
+    let upto : take (used + (length line + 1)) piece ≡ (take used piece ++ line) ++ 10 ∷ [] =
+    take-add used (length line + 1) piece
+    ∙ ap (λ (t : List ℕ). take used piece ++ take (length line + 1) t) c.is
+    ∙ ap (λ (t : List ℕ). take used piece ++ t) (take-append-add line (10 ∷ rest) 1)
+    ∙ sym (append_assoc (take used piece) line (10 ∷ [])) in
     record {
       rest = rest;
       is = c.is;
       lf = c.lacks;
       after = after;
+      upto = upto;
       within = omega
           (arith, len, len', ld, le);
     }
@@ -232,6 +262,24 @@ sound_step start now new piece used line event g c h more =
     ∙ step_line now new line c.rest more event c.lf h ∙ ap
     (λ (t : List ℕ). with_event new.line event (judged new (t ++ more))) (sym c.after)
 
+-- the line is one more, and nothing follows its LF
+one_line : (piece : List ℕ) (used : ℕ) (line : List ℕ) → Cuts piece used line
+    → count 10 (take (used + (length line + 1)) piece) ≡ count 10 (take used piece) + 1
+one_line piece used line c =
+    let all = ap (count 10) c.upto in
+    let parts = count-append 10 (take used piece ++ line) (10 ∷ []) in
+    let front = count-append 10 (take used piece) line in
+    let none = count-Lacks 10 line c.lf in
+    let end : count 10 (10 ∷ []) ≡ 1 = refl in
+    omega (arith, all, parts, front, none, end)
+
+none_kept : (kept piece : List ℕ) (used : ℕ) (line : List ℕ) → Cuts piece used line
+    → after_last 10 (kept ++ take (used + (length line + 1)) piece) ≡ []
+none_kept kept piece used line c =
+    ap (λ (t : List ℕ). after_last 10 (kept ++ t)) c.upto
+    ∙ ap (λ (t : List ℕ). after_last 10 t) (sym (append_assoc kept (take used piece ++ line) (10 ∷ [])))
+    ∙ after_last-end 10 (kept ++ (take used piece ++ line))
+
 -- a line with no event: the loop goes on
 pub goes_on : (start now new : Cutting) (piece : List ℕ) (used : ℕ) (line rest : List ℕ)
     → Going start now piece used → Some (line, rest) ≡ cut 10 (drop used piece)
@@ -244,6 +292,8 @@ goes_on start now new piece used line rest g e h more =
       within = c.within;
       taken = omega (arith, g.taken, h.taken);
       room = g.room;
+      lines = let more = one_line piece used line c in omega (arith, g.lines, h.unfinished, more);
+      kept = h.kept ∙ sym (none_kept start.kept piece used line c);
       line = h.unanswered refl ∙ g.line;
       grows = TablesGrow-trans start.names now.names new.names g.grows more;
       live = (g.live.0, h.live);
@@ -260,6 +310,9 @@ gives start now new piece used line rest event g e h =
       used_within = c.within;
       all_used = λ n. absurd cc;
       up_to = h.kept;
+      lines = let more = one_line piece used line c in omega (arith, g.lines, h.unfinished, more);
+      kept = h.kept ∙ sym (none_kept start.kept piece used line c);
+      told = let at = h.answered in omega (arith, at, h.unfinished);
       line = λ n. absurd cc;
       taken = omega (arith, g.taken, h.taken);
       live = (g.live.0, h.live);
@@ -284,7 +337,10 @@ pub keeps : (start now new : Cutting) (piece : List ℕ) (used : ℕ) → Going 
     → Keeps now new (drop used piece) → Pushes start new piece (length piece) None
 keeps start now new piece used g h =
     let rest = drop used piece in
+    let lf = h.unended in
     let ld = length-drop used piece in
+    let whole : take (length piece) piece ≡ take used piece ++ rest =
+    take_all (length piece) piece (omega arith) ∙ sym (take-append-drop used piece) in
     record {
       sound = λ more.
           let none : drop (length piece) piece ≡ [] = drop_all (length piece) piece (omega arith) in
@@ -298,12 +354,39 @@ keeps start now new piece used g h =
       used_within = omega arith;
       all_used = λ _. refl;
       up_to = tt;
+      lines = let all = ap (count 10) whole in
+          let parts = count-append 10 (take used piece) rest in
+          let none = count-Lacks 10 rest lf in
+          omega (arith, g.lines, h.unfinished, all, parts, none);
+      kept = h.kept ∙ ap (λ (k : List ℕ). k ++ rest) g.kept
+          ∙ sym (after_last-more 10 (start.kept ++ take used piece) rest lf)
+          ∙ ap (λ (t : List ℕ). after_last 10 t) (append_assoc start.kept (take used piece) rest)
+          ∙ ap (λ (t : List ℕ). after_last 10 (start.kept ++ t)) (sym whole);
+      told = tt;
       line = λ _. h.line ∙ g.line;
       taken = omega (arith, g.taken, h.taken, ld, g.within);
       live = (g.live.0, h.live);
     }
 
 -- ---- faults
+
+-- what is still to be judged begins at the line whose end was not seen
+pub begins_here : (s : Cutting) (more : List ℕ) (n : ℕ) (names : Tables) → n ≡ s.unfinished
+    → TablesGrow s.names names → BeginsAt n names (judged s more)
+begins_here s more n names is h = record {
+  before = s.names;
+  lines = lines_of (s.kept ++ more);
+  same = ap (λ (m : ℕ). judge (lines_of (s.kept ++ more)) s.names m) (sym is);
+  grows = h;
+}
+
+-- the lines of the piece before the one that failed were judged
+pub judged_up_to : (start now : Cutting) (piece : List ℕ) (used n : ℕ) (names : Tables)
+    → Going start now piece used → n ≡ now.unfinished → TablesGrow now.names names
+    → JudgedUpTo start piece n names
+judged_up_to start now piece used n names g is h more =
+    subst (λ (j : Judgement). BeginsAt n names j) (sym (g.sound more))
+    (begins_here now (drop used piece ++ more) n names is h)
 
 -- where the first line of what is left has a cause, the text stops there
 stops_by : (s : Cutting) (t : List ℕ) (f : TextFault) (l : List ℕ) (ls : List (List ℕ))

@@ -35,7 +35,10 @@ use Rattle.event_core.specs.declared.events.Event.{Event}
 use Rattle.rapid_text.specs.declared.causes.Cause.{Cause}
 use Rattle.rapid_text.specs.declared.causes.Cause.TheVariants as causes
 use Rattle.rapid_text.specs.declared.causes.TextFault.{TextFault}
-use Rattle.rapid_text.specs.Texts.{Judgement, with_event, ended, judge, lines_of}
+use Rattle.rapid_text.specs.Tables.{Tables, TablesGrow}
+use Rattle.rapid_text.specs.Texts.{Judgement, with_event, ended, judge, lines_of, BeginsAt}
+use Rattle.rapid_text.proofs.NameGrowth.{TablesGrow-refl, TablesGrow-same}
+use Rattle.rapid_text.proofs.Pieces.{begins_here}
 use Rattle.rapid_text.specs.Cutting.{
   Cutting,
   judged,
@@ -325,6 +328,74 @@ read_fails start from c d e w u turns after used left rest b x f r p none k not 
     let state = subst (λ (s : Cutting). NoAnswer start from (pulling_of s u after x) rest b g g.cause)
     (sym now) there in
     subst (λ (y : TextFault). NoAnswer start from (pulling_of e u after x) rest b y y.cause) (sym is) state
+
+-- ---- where what is left begins
+
+follows_begins : (x : Option Judgement) (c : Cutting) (w : List ℕ) (left : Option (List ℕ)) (n : ℕ)
+    (names : Tables) → Follows x (λ j. j) (text_of c w left)
+    → ((more : List ℕ) → BeginsAt n names (judged c (w ++ more))) → IfSome x (BeginsAt n names)
+follows_begins None c w left n names h b = tt
+follows_begins (Some j) c w None n names h b = absurd h
+follows_begins (Some j) c w (Some l) n names h b =
+    subst (λ (k : Judgement). BeginsAt n names k) (sym h) (b l)
+
+-- a fault of a push
+pub push_begins : (start : Pulling) (from : Option (List ℕ)) (c : Cutting) (w : List ℕ) (turns : ℕ)
+    (left : Option (List ℕ)) (n : ℕ) (names : Tables) → Running start from c w turns left
+    → ((more : List ℕ) → BeginsAt n names (judged c (w ++ more)))
+    → IfSome (to_judge start from) (BeginsAt n names)
+push_begins start from c w turns left n names r b =
+    follows_begins (to_judge start from) c w left n names r.same b
+
+-- a read failed, or the turns are used up
+pub read_begins : (start : Pulling) (from : Option (List ℕ)) (c d e : Cutting) (w : List ℕ) (turns used : ℕ)
+    (left : Option (List ℕ)) (f : TextFault) → Running start from c w turns left → Pushes c d w used None
+    → f ≡ record { line = d.unfinished; cause = causes.Read }
+    → e ≡ record d { line = d.unfinished; failed = Some d.unfinished }
+    → IfSome (to_judge start from) (BeginsAt f.line e.names)
+read_begins start from c d e w turns used left f r p is now =
+    let line : f.line ≡ d.unfinished = ap (λ (g : TextFault). g.line) is in
+    let names : TablesGrow d.names e.names =
+    TablesGrow-same d.names e.names (ap (λ (s : Cutting). s.names) now) in
+    follows_begins (to_judge start from) d [] left f.line e.names
+    (after_push start from c d w turns used left r p).1 (λ more. begins_here d ([] ++ more) f.line e.names
+    line names)
+
+closed_begins : (x : Option Judgement) (d : Cutting) (rest : Option (List ℕ)) (n : ℕ) (names : Tables)
+    → Follows x (λ j. j) (text_of d [] rest) → IsAtEnd rest → BeginsAt n names (judged d [])
+    → IfSome x (BeginsAt n names)
+closed_begins None d rest n names h a b = tt
+closed_begins (Some j) d None n names h a b = absurd h
+closed_begins (Some j) d (Some l) n names h a b =
+    subst (λ (k : Judgement). BeginsAt n names k) (sym (h ∙ ap (λ (t : List ℕ). judged d t) a)) b
+
+-- a fault at the end of the text
+pub end_begins : (start : Pulling) (from : Option (List ℕ)) (c d : Cutting) (w v : List ℕ)
+    (turns used : ℕ) (left rest : Option (List ℕ)) (n : ℕ) (names : Tables)
+    → Running start from c w turns left → Pushes c d w used None → Consumes left rest v → v ≡ []
+    → IsAtEnd rest → BeginsAt n names (judged d [])
+    → IfSome (to_judge start from) (BeginsAt n names)
+end_begins start from c d w v turns used left rest n names r p k none a b =
+    let pushed = (after_push start from c d w turns used left r p).1 in
+    let came = follows_fill (to_judge start from) d v left rest pushed k in
+    let same = subst (λ (t : List ℕ). Follows (to_judge start from) (λ j. j)
+    (text_of d t rest)) none came in
+    closed_begins (to_judge start from) d rest n names same a b
+
+known_begins : (p : Pulling) (o : Option (List ℕ)) (n : ℕ) → n ≡ p.unfinished
+    → IfSome (option_map (λ l. judge (lines_of (p.came ++ l)) p.names p.unfinished) o) (BeginsAt n p.names)
+known_begins p None n is = tt
+known_begins p (Some l) n is = record {
+  before = p.names;
+  lines = lines_of (p.came ++ l);
+  same = ap (λ (m : ℕ). judge (lines_of (p.came ++ l)) p.names m) (sym is);
+  grows = TablesGrow-refl p.names;
+}
+
+-- after a fault it is the line whose end was not seen
+pub failed_begins : (p : Pulling) (left : Option (List ℕ)) (n : ℕ) → n ≡ p.unfinished
+    → IfSome (to_judge p left) (BeginsAt n p.names)
+failed_begins p left n is = known_begins p (rest_of p.ended left) n is
 
 -- after the end nothing is left
 pub ended_text : (p : Pulling) (left : Option (List ℕ)) → p.ended ≡ true → length p.came ≡ 0 → Ends p left p

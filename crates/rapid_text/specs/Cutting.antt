@@ -9,6 +9,7 @@ use Rattle.std.specs.Prelude.{
   [],
   ◌++◌,
   length,
+  take,
   drop,
   Option,
   Some,
@@ -23,10 +24,10 @@ use Rattle.rapid_line.specs.declared.words.LineFault.TheVariants.{LineTooLong}
 use Rattle.rapid_text.specs.declared.causes.Cause.{Cause}
 use Rattle.rapid_text.specs.declared.causes.Cause.TheVariants as causes
 use Rattle.rapid_text.specs.declared.causes.TextFault.{TextFault}
-use Rattle.rapid_line.specs.Cut.{Lacks}
+use Rattle.rapid_line.specs.Cut.{count, Lacks, after_last}
 use Rattle.rapid_text.specs.Tables.{Tables, no_names}
 use Rattle.rapid_text.specs.Events.{content, reading, Fails}
-use Rattle.rapid_text.specs.Texts.{Judgement, judge, lines_of, with_event, ended}
+use Rattle.rapid_text.specs.Texts.{Judgement, judge, lines_of, with_event, ended, BeginsAt}
 
 -- what a cutter holds: the names, the last answer's line, the number and the bytes of the line whose end was
 -- not seen, how many bytes came, and the line of the first fault
@@ -60,8 +61,13 @@ pub record Pushes (old new : Cutting) (piece : List ℕ) (used : ℕ) (event : O
   pub all_used : event ≡ None → used ≡ length piece
   -- and else those up to the end of the line
   pub up_to : IfSome event (λ _. new.kept ≡ [])
+  -- each LF of them ends a line
+  pub lines : new.unfinished ≡ old.unfinished + count 10 (take used piece)
+  -- what follows the last LF is kept
+  pub kept : new.kept ≡ after_last 10 (old.kept ++ take used piece)
   pub taken : new.taken ≡ old.taken + used
-  -- an answer without an event has no line
+  -- an event has the line that ended last, and an answer without an event has no line
+  pub told : IfSome event (λ _. new.line + 1 ≡ new.unfinished)
   pub line : event ≡ None → new.line ≡ old.line
   pub live : (old.failed ≡ None) × (new.failed ≡ None)
 
@@ -69,6 +75,10 @@ pub record Pushes (old new : Cutting) (piece : List ℕ) (used : ℕ) (event : O
 abbrev pub Stops : Cutting → List ℕ → TextFault → Type 0
 Stops s piece f = (more : List ℕ) →
     ((judged s (piece ++ more)).events ≡ []) × ((judged s (piece ++ more)).fault ≡ Some (f.line, f.cause))
+
+-- whatever follows the piece, the lines before line n were judged, and have no event and no fault
+abbrev pub JudgedUpTo : Cutting → List ℕ → ℕ → Tables → Type 0
+JudgedUpTo s piece n names = (more : List ℕ) → BeginsAt n names (judged s (piece ++ more))
 
 -- why a push failed
 abbrev pub FailsAt : Cutting → List ℕ → TextFault → Cause → Type 0
@@ -127,6 +137,7 @@ pub record LineFails (old : Cutting) (line : List ℕ) (f : TextFault) : Type 0 
 
 -- bytes were kept
 pub record Keeps (old new : Cutting) (bytes : List ℕ) : Type 0 where
+  pub unended : Lacks 10 bytes
   pub kept : new.kept ≡ old.kept ++ bytes
   pub names : new.names ≡ old.names
   pub line : new.line ≡ old.line

@@ -12,7 +12,6 @@ use Rattle.std.specs.Prelude.{
   Result,
   Ok,
   Err,
-  unwrap_or,
   if◌then◌else◌,
 }
 use Rattle.event_core.specs.declared.events.Op.{Op}
@@ -25,7 +24,8 @@ use Rattle.rapid_text.specs.declared.causes.Kind.{Kind}
 use Rattle.rapid_text.specs.declared.causes.Kind.TheVariants as kinds
 use Rattle.rapid_text.specs.declared.causes.Cause.{Cause}
 use Rattle.rapid_text.specs.declared.causes.Cause.TheVariants as causes
-use Rattle.rapid_line.specs.Cut.{before_end}
+-- the content of a line: the line without the CR at its end
+pub use Rattle.rapid_line.specs.Cut.{content}
 use Rattle.rapid_line.specs.Grammar.{Named}
 use Rattle.rapid_line.specs.Reading.{line_of}
 use Rattle.rapid_text.specs.Tables.{Tables, space, number_in, name_at}
@@ -69,10 +69,6 @@ named_event t e =
     next (number_or_fault (kind_of e.word) (number_in p.1 (kind_of e.word) e.argument)) (λ q.
     next (number_or_fault kinds.Site (number_in q.1 kinds.Site e.location)) (λ r.
     Ok (event_of e.word p.0 q.0 r.0, r.1))))
-
--- a line without the CR at its end
-abbrev pub content : List ℕ → List ℕ
-content line = unwrap_or (before_end 13 line) line
 
 abbrev pub some_event : Result (Event × Tables) Cause → Result (Option Event × Tables) Cause
 some_event (Err f) = Err f

@@ -1,5 +1,6 @@
 -- The meaning of a whole text: its events with their lines, up to the first fault, and its names.
 use Rattle.std.specs.Prelude.{
+  ◌≡◌,
   ℕ,
   ◌+◌,
   ◌==◌,
@@ -16,7 +17,7 @@ use Rattle.std.specs.Prelude.{
 }
 use Rattle.event_core.specs.declared.events.Event.{Event}
 use Rattle.rapid_text.specs.declared.causes.Cause.{Cause}
-use Rattle.rapid_text.specs.Tables.{Tables}
+use Rattle.rapid_text.specs.Tables.{Tables, TablesGrow}
 use Rattle.rapid_text.specs.Events.{content, reading}
 
 abbrev pub onto_first : ℕ → List (List ℕ) → List (List ℕ)
@@ -60,3 +61,11 @@ judge (l ∷ ls) t n = after_line t n (reading t (content l)) (λ u. judge ls u 
 -- the meaning of a whole text; lines are numbered from 1
 abbrev pub judgement : Tables → List ℕ → Judgement
 judgement names text = judge (lines_of text) names 1
+
+-- the text is judged from line n on, and so no line before it has an event or a fault; the names are those of
+-- the lines before, and some of line n may be among them, but none of a later line
+pub record BeginsAt (n : ℕ) (names : Tables) (j : Judgement) : Type 0 where
+  pub before : Tables
+  pub lines : List (List ℕ)
+  pub same : j ≡ judge lines before n
+  pub grows : TablesGrow before names

@@ -6,14 +6,15 @@
 //! The way of a line that lies whole in a piece is inlined from here to its event, since an answer that is
 //! handed up through memory costs more than the judgement. What is rare stands in functions of its own.
 ghost use Rattle.std.specs.Prelude.{◌≡◌, ℕ, ◌+◌, ◌<◌, ◌≤◌, length, IfOk, IfErr, OnOk, Ok, None, Some};
-ghost use Rattle.std.specs.Prelude.{IfSome};
+ghost use Rattle.std.specs.Prelude.{[], IfSome};
 ghost use Rattle.std.specs.Result.{IsErrOf};
 ghost use Rattle.rapid_line.specs.Cut.{Lacks};
 ghost use Rattle.rapid_line.specs.Marks.{IsKnown};
 ghost use Rattle.rapid_text.specs.Tables.{TablesGrow};
 ghost use Rattle.rapid_text.specs.Events.{IsOfNames};
 ghost use Rattle.rapid_text.specs.Cutting.{Cutting, most, begun, Pushes, FailsAt, Closes, ClosesAt};
-ghost use Rattle.rapid_text.specs.Cutting.{failed_at, EndsLine, LineFails, Keeps, RestFails};
+ghost use Rattle.rapid_text.specs.Cutting.{failed_at, judged, JudgedUpTo, EndsLine, LineFails, Keeps, RestFails};
+ghost use Rattle.rapid_text.specs.Texts.{BeginsAt};
 ghost use Rattle.rapid_text.specs.declared.causes.Cause.TheVariants.{Read};
 
 use crate::causes::{Cause, TextFault};
@@ -66,7 +67,8 @@ impl Model for Cutter {
     } };
 
     ghost invariant = { λ s. Lacks 10 s.kept.items × (length s.kept.items ≤ 1025) × (s.taken ≤ most) ×
-        (s.unfinished + length s.kept.items ≤ s.taken + 1) × ((n : ℕ) → s.failed ≡ Some n → s.line ≡ n) };
+        (s.unfinished + length s.kept.items ≤ s.taken + 1) × ((n : ℕ) → s.failed ≡ Some n → s.line ≡ n) ×
+        ((n : ℕ) → s.failed ≡ Some n → s.unfinished ≡ n) };
 }
 
 impl Cutter {
@@ -162,6 +164,8 @@ impl Cutter {
         ensures ok { IfOk result (λ r. Pushes self.old self.new piece.now r.0 r.1) }
         // A fault is the one at which the text stops, whatever follows.
         ensures fault { IfErr result (λ f. FailsAt self.old piece.now f f.cause) }
+        // No line before it has an event or a fault, and no name of a later line was numbered.
+        ensures before { IfErr result (λ f. JudgedUpTo self.old piece.now f.line self.new.names) }
         // After a fault it fails from then on, and nothing changes.
         ensures again { (n : ℕ) → self.old.failed ≡ Some n →
             IsErrOf result (failed_at n) × (self.new ≡ self.old) }
@@ -199,6 +203,7 @@ impl Cutter {
     pub fn finish(&mut self) -> Result<Option<Event>, TextFault>
         ensures ok { IfOk result (Closes self.old self.new) }
         ensures fault { IfErr result (λ f. ClosesAt self.old f f.cause) }
+        ensures before { IfErr result (λ f. BeginsAt f.line self.new.names (judged self.old [])) }
         ensures again { (n : ℕ) → self.old.failed ≡ Some n →
             IsErrOf result (failed_at n) × (self.new ≡ self.old) }
         ensures failed { IfErr result (λ f. self.new.failed ≡ Some f.line) }
@@ -248,6 +253,7 @@ impl Cutter {
     pub fn failed(&self) -> Option<u64>
         ensures is { result ≡ self.now.failed }
         ensures line { IfSome result (λ n. self.now.line ≡ n) }
+        ensures unfinished { IfSome result (λ n. self.now.unfinished ≡ n) }
     {
         self.failed
     }

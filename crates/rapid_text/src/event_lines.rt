@@ -11,10 +11,10 @@ ghost use Rattle.rapid_text.specs.Events.{Fails, IsOfNames};
 use crate::causes::{Cause, Kind, NameFault};
 use crate::names::Names;
 use event_core::{Event, LockId, Op, SiteId, ThreadId, VarId};
-use rapid_line::{Line, LineFault, NamedLine, Word, read_barred, read_line, strip_last};
+use rapid_line::{Line, LineFault, NamedLine, Word, read_barred, read_line, without_cr};
 
 /// What the argument of a word names.
-pub fn kind_at(word: Word) -> Kind
+fn kind_at(word: Word) -> Kind
     ensures { result ≡ kind_of word }
 {
     match word {
@@ -71,19 +71,6 @@ fn number_line(names: &mut Names, line: &NamedLine<'_>) -> Result<Event, Cause>
         site: SiteId(site),
         value: 0,
     })
-}
-
-/// The line without the CR at its end.
-#[tactic(auto, using(crate::proofs::Lines::before_end_lacks))]
-fn without_cr(line: &[u8]) -> &[u8]
-    requires { Lacks 10 line.now }
-    ensures value { result.now ≡ content line.now }
-    ensures lf { Lacks 10 result.now }
-{
-    if let Some(front) = strip_last(line, b'\r') {
-        return front;
-    }
-    line
 }
 
 /// The named event of a line's content, or the first cause why it has none.

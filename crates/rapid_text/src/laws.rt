@@ -1,14 +1,15 @@
-//! Why it does not matter how a text is cut into pieces.
+//! Why it does not matter how a text is cut into pieces, and what a fault's line says of the lines before it.
 //!
-//! The law is the contract of a function that does nothing, so it is proved of the definitions alone. Its
+//! Each law is the contract of a function that does nothing, so it is proved of the definitions alone. Its
 //! premises are what the contracts of `Cutter` say of each call.
-ghost use Rattle.std.specs.Prelude.{◌≡◌, ℕ, List, ◌++◌, Option, None, Some};
+ghost use Rattle.std.specs.Prelude.{◌≡◌, ℕ, ◌≤◌, List, ◌++◌, Option, None, Some, slice_get};
 ghost use Rattle.std.specs.List.{concat};
 ghost use Rattle.event_core.specs.declared.events.Event.{Event as Entry};
 ghost use Rattle.event_core.specs.Bounds.{Bounds};
 ghost use Rattle.rapid_text.specs.declared.causes.TextFault.{TextFault as Fault};
-ghost use Rattle.rapid_text.specs.Tables.{no_names};
-ghost use Rattle.rapid_text.specs.Texts.{judgement};
+ghost use Rattle.rapid_text.specs.declared.causes.Cause.{Cause as Why};
+ghost use Rattle.rapid_text.specs.Tables.{Tables, no_names};
+ghost use Rattle.rapid_text.specs.Texts.{Judgement, judgement, BeginsAt};
 ghost use Rattle.rapid_text.specs.Cutting.{Cutting, begun, Stops, Closes, Closed};
 ghost use Rattle.rapid_text.specs.Pushing.{told, Pushed};
 
@@ -29,4 +30,12 @@ pub fn pieces_are_one_text()
         (f : Fault) → Pushed (begun limits) pieces events last → Closed last f →
         ((judgement (no_names limits) (concat pieces)).events ≡ events)
         × ((judgement (no_names limits) (concat pieces)).fault ≡ Some (f.line, f.cause)) }
+{}
+
+/// What is judged from a line on has no event and no fault before that line.
+pub fn nothing_before()
+    ensures events { (n : ℕ) (names : Tables) (j : Judgement) (i m : ℕ) (e : Entry) → BeginsAt n names j →
+        slice_get j.events i ≡ Some (m, e) → n ≤ m }
+    ensures fault { (n : ℕ) (names : Tables) (j : Judgement) (m : ℕ) (c : Why) → BeginsAt n names j →
+        j.fault ≡ Some (m, c) → n ≤ m }
 {}

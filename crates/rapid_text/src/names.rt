@@ -1,5 +1,5 @@
 //! Names in four spaces, numbered from 0 in the order of their first appearance.
-ghost use Rattle.std.specs.Prelude.{◌≡◌, ℕ, ◌<◌, ◌≤◌, length, slice_get, Some, None, IfOk, OnErr};
+ghost use Rattle.std.specs.Prelude.{◌≡◌, ◌↔◌, ℕ, ◌<◌, ◌≤◌, length, slice_get, Some, None, IfOk, OnErr};
 ghost use Rattle.std.specs.Result.{IsErrOf};
 ghost use Rattle.rapid_text.specs.Numbers.{number_of, place_of};
 ghost use Rattle.rapid_text.specs.Tables.{Tables, no_names, space, number_in, IsNameOf, TablesGrow};
@@ -77,6 +77,8 @@ impl Names {
         requires { IsNameOf kind name.now }
         ensures ok { IfOk result (λ n. number_in self.old kind name.now ≡ Some (n, self.new)) }
         ensures too_many { IsErrOf result NameFault.TooMany → number_in self.old kind name.now ≡ None }
+        ensures room { IsErrOf result NameFault.OutOfMemory →
+            length (space self.old kind).names < (space self.old kind).limit }
         ensures err { OnErr result (self.new ≡ self.old) }
         ensures new_only { OnErr result (place_of (space self.old kind) name.now ≡ None) }
     {
@@ -94,6 +96,8 @@ impl Names {
         requires { IsNameOf kind name.now }
         ensures ok { IfOk result (λ n. number_in self.old kind name.now ≡ Some (n, self.new)) }
         ensures too_many { IsErrOf result NameFault.TooMany → number_in self.old kind name.now ≡ None }
+        ensures room { IsErrOf result NameFault.OutOfMemory →
+            length (space self.old kind).names < (space self.old kind).limit }
         ensures err { OnErr result (self.new ≡ self.old) }
         ensures new_only { OnErr result (place_of (space self.old kind) name.now ≡ None) }
     {
@@ -108,8 +112,8 @@ impl Names {
     pub fn number(&mut self, kind: Kind, name: &[u8]) -> Result<u32, NameFault>
         requires { IsNameOf kind name.now }
         ensures ok { IfOk result (λ n. number_in self.old kind name.now ≡ Some (n, self.new)) }
-        // The name is new, and there are as many as the limit.
-        ensures too_many { IsErrOf result NameFault.TooMany → number_in self.old kind name.now ≡ None }
+        // It is `TooMany` exactly where the name is new and there are as many as the limit.
+        ensures too_many { IsErrOf result NameFault.TooMany ↔ (number_in self.old kind name.now ≡ None) }
         ensures err { OnErr result (self.new ≡ self.old) }
         ensures new_only { OnErr result (place_of (space self.old kind) name.now ≡ None) }
         // The number has this name from now on, and names were only added.

@@ -3,14 +3,15 @@
 //! What waits in the window is pushed to the cutter. Where no line with an event ended, the next piece is
 //! pulled, for one turn; the end of the text finishes the cutter. So the number of pulls is bounded for an
 //! input of any behaviour, and each line that came whole is judged before a failure is told.
-ghost use Rattle.std.specs.Prelude.{◌≡◌, ℕ, ◌+◌, ◌*◌, ◌≤◌, ◌++◌, ◌⊎◌, Bool, List, length, IfOk, IfSome};
+ghost use Rattle.std.specs.Prelude.{◌≡◌, ◌≢◌, ℕ, ◌+◌, ◌*◌, ◌≤◌, ◌++◌, ◌⊎◌, Bool, List, length, IfOk, IfSome};
 ghost use Rattle.std.specs.Prelude.{IfErr, OnOk, Ok, None, Some, true, false};
 ghost use Rattle.std.specs.Result.{IsErrOf};
 ghost use Rattle.rapid_text.specs.Cutting.{Cutting, most, failed_at};
 ghost use Rattle.rapid_text.specs.Tables.{TablesGrow};
 ghost use Rattle.rapid_text.specs.Events.{IsOfNames};
 ghost use Rattle.rapid_text.specs.Turns.{TakeBytes};
-ghost use Rattle.rapid_text.specs.Pulling.{Pulling, unpulled, Answers, NoAnswer, pulling_of};
+ghost use Rattle.rapid_text.specs.Pulling.{Pulling, unpulled, Answers, NoAnswer, pulling_of, to_judge};
+ghost use Rattle.rapid_text.specs.Texts.{BeginsAt};
 
 use crate::causes::{Cause, TextFault};
 use crate::cutter::Cutter;
@@ -39,10 +40,14 @@ fn next_event<I: Input>(
         (pulling_of cutter.old window.old turns.old ended.old) (I.left input.old)
         (pulling_of cutter.new window.new turns.new ended.new) (I.left input.new)
         (I.failed input.new) f f.cause) }
+    ensures before { IfErr result (λ f.
+        IfSome (to_judge (pulling_of cutter.old window.old turns.old ended.old) (I.left input.old))
+        (BeginsAt f.line cutter.new.names)) }
     ensures failed { IfErr result (λ f. cutter.new.failed ≡ Some f.line) }
     ensures line { IfErr result (λ f. cutter.new.line ≡ f.line) }
     ensures live { OnOk result (cutter.new.failed ≡ None) }
     ensures healthy { OnOk result (I.failed input.new ≡ I.failed input.old) }
+    ensures told { IfErr result (λ f. f.cause ≢ Cause.Read → I.failed input.new ≡ I.failed input.old) }
     ensures room { OnOk result (cutter.new.taken + length window.new + 4096 * turns.new ≤ most) }
     ensures turns { turns.new ≤ turns.old }
     ensures bytes { OnOk result (ended.new ≡ false
@@ -119,14 +124,18 @@ impl Puller {
         // was refused.
         ensures fault { IfErr result (λ f.
             NoAnswer self.old (I.left input.old) self.new (I.left input.new) (I.failed input.new) f f.cause) }
+        // No line before it has an event or a fault, and no name of a later line was numbered.
+        ensures before { IfErr result (λ f.
+            IfSome (to_judge self.old (I.left input.old)) (BeginsAt f.line self.new.names)) }
         // After a fault it fails from then on, and nothing changes.
         ensures again { (n : ℕ) → self.old.failed ≡ Some n →
             IsErrOf result (failed_at n) × (self.new ≡ self.old) × (input.new ≡ input.old) }
         ensures failed { IfErr result (λ f. self.new.failed ≡ Some f.line) }
         ensures line { IfErr result (λ f. self.new.line ≡ f.line) }
         ensures live { OnOk result (self.new.failed ≡ None) }
-        // A failure of the input is never passed over.
+        // A failure of the input is never passed over: it is told as `Read`.
         ensures healthy { OnOk result (I.failed input.new ≡ I.failed input.old) }
+        ensures told { IfErr result (λ f. f.cause ≢ Cause.Read → I.failed input.new ≡ I.failed input.old) }
         ensures turns { self.new.turns ≤ self.old.turns }
         // Each turn took a byte, but for the one that found the end of the text or a failure.
         ensures bytes { OnOk result (self.new.ended ≡ false

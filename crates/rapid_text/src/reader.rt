@@ -1,11 +1,12 @@
 //! The events of a text, read from an input of its own.
-ghost use Rattle.std.specs.Prelude.{◌≡◌, ℕ, ◌≤◌, IfOk, IfErr, IfSome, OnOk, Ok, None, Some, true, false};
+ghost use Rattle.std.specs.Prelude.{◌≡◌, ◌≢◌, ℕ, ◌≤◌, IfOk, IfErr, IfSome, OnOk, Ok, None, Some, true, false};
 ghost use Rattle.std.specs.Result.{IsErrOf};
 ghost use Rattle.rapid_text.specs.Cutting.{failed_at};
 ghost use Rattle.rapid_text.specs.Tables.{TablesGrow};
 ghost use Rattle.rapid_text.specs.Events.{IsOfNames};
 ghost use Rattle.rapid_text.specs.Turns.{TakeBytes};
-ghost use Rattle.rapid_text.specs.Pulling.{unpulled, Answers, NoAnswer};
+ghost use Rattle.rapid_text.specs.Pulling.{unpulled, Answers, NoAnswer, to_judge};
+ghost use Rattle.rapid_text.specs.Texts.{BeginsAt};
 ghost use Rattle.rapid_text.specs.Reading.{Reading};
 
 use crate::causes::{Cause, TextFault};
@@ -60,14 +61,18 @@ impl<I: Input> Reader<I> {
         // was refused.
         ensures fault { IfErr result (λ f.
             NoAnswer self.old.text self.old.left self.new.text self.new.left self.new.read_failed f f.cause) }
+        // No line before it has an event or a fault, and no name of a later line was numbered.
+        ensures before { IfErr result (λ f.
+            IfSome (to_judge self.old.text self.old.left) (BeginsAt f.line self.new.text.names)) }
         // After a fault it fails from then on, and nothing changes.
         ensures again { (n : ℕ) → self.old.text.failed ≡ Some n →
             IsErrOf result (failed_at n) × (self.new ≡ self.old) }
         ensures failed { IfErr result (λ f. self.new.text.failed ≡ Some f.line) }
         ensures line { IfErr result (λ f. self.new.text.line ≡ f.line) }
         ensures live { OnOk result (self.new.text.failed ≡ None) }
-        // A failure of the input is never passed over.
+        // A failure of the input is never passed over: it is told as `Read`.
         ensures healthy { OnOk result (self.new.read_failed ≡ self.old.read_failed) }
+        ensures told { IfErr result (λ f. f.cause ≢ Cause.Read → self.new.read_failed ≡ self.old.read_failed) }
         ensures turns { self.new.text.turns ≤ self.old.text.turns }
         // Each turn took a byte, but for the one that found the end of the text or a failure.
         ensures bytes { OnOk result (self.new.text.ended ≡ false

@@ -76,6 +76,7 @@ impl Space {
         ensures ok { IfOk result (λ i. number_of self.old name.now ≡ Some (i, self.new)) }
         ensures too_many { IsErrOf result NameFault.TooMany → number_of self.old name.now ≡ None }
         ensures err { OnErr result (self.new ≡ self.old) }
+        ensures room { IsErrOf result NameFault.OutOfMemory → length self.old.names < self.old.limit }
         ensures new_only { OnErr result (place_of self.old name.now ≡ None) }
     {
         let guess = self.notes.guess(name);

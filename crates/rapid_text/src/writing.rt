@@ -2,28 +2,28 @@
 ghost use Rattle.std.specs.Prelude.{◌≡◌, ◌∷◌, [], ◌++◌, OnOk, OnErr, true};
 ghost use Rattle.std.specs.Io.KnownBytes.{Appends};
 ghost use Rattle.rapid_line.specs.Grammar.{content_of, operation, IsWellFormed};
-ghost use Rattle.rapid_text.specs.Events.{named_by, word_of_op, target_of, HasNames};
+ghost use Rattle.rapid_text.specs.Events.{named_by, word_of_op, kind_of, target_of, HasNames};
 ghost use Rattle.rapid_text.specs.Faults.{fault_line};
 
 use crate::causes::Kind;
-use crate::event_lines::kind_at;
 use crate::names::Names;
 use crate::output::{Output, WriteFault, write_all};
 use event_core::{Event, LockId, Op, ThreadId, VarId};
 use rapid_line::Word;
 
-/// The word of an operation, and the number that it names.
-fn word_and_target(op: Op) -> (Word, u32)
+/// The parts of an operation: its word, what its argument names, and the number of that.
+pub fn parts_of(op: Op) -> (Word, Kind, u32)
     ensures word { result.0 ≡ word_of_op op }
-    ensures target { result.1 ≡ target_of op }
+    ensures kind { result.1 ≡ kind_of (word_of_op op) }
+    ensures number { result.2 ≡ target_of op }
 {
     match op {
-        Op::Load(VarId(n)) => (Word::Load, n),
-        Op::Store(VarId(n)) => (Word::Store, n),
-        Op::Acquire(LockId(n)) => (Word::Acquire, n),
-        Op::Release(LockId(n)) => (Word::Release, n),
-        Op::Fork(ThreadId(n)) => (Word::Fork, n),
-        Op::Join(ThreadId(n)) => (Word::Join, n),
+        Op::Load(VarId(n)) => (Word::Load, Kind::Variable, n),
+        Op::Store(VarId(n)) => (Word::Store, Kind::Variable, n),
+        Op::Acquire(LockId(n)) => (Word::Acquire, Kind::Lock, n),
+        Op::Release(LockId(n)) => (Word::Release, Kind::Lock, n),
+        Op::Fork(ThreadId(n)) => (Word::Fork, Kind::Thread, n),
+        Op::Join(ThreadId(n)) => (Word::Join, Kind::Thread, n),
     }
 }
 
@@ -52,9 +52,9 @@ pub fn write_event<W: Output>(w: &mut W, event: &Event, names: &Names) -> Result
     // It fails only where the writer did.
     ensures failed { OnErr result (W.failed w.new ≡ true) }
 {
-    let (word, target) = word_and_target(event.op);
+    let (word, kind, number) = parts_of(event.op);
     let thread = names.name(Kind::Thread, event.thread.0);
-    let argument = names.name(kind_at(word), target);
+    let argument = names.name(kind, number);
     let location = names.name(Kind::Site, event.site.0);
     write_all(w, thread)?;
     write_all(w, b"|")?;

@@ -44,7 +44,8 @@ use Rattle.rapid_text.specs.declared.causes.Kind.{Kind}
 use Rattle.rapid_text.specs.declared.causes.Kind.TheVariants as kinds
 use Rattle.rapid_text.specs.Numbers.{Numbered, number_of, with_name}
 use Rattle.rapid_text.specs.Tables.{Tables, TablesGrow, number_in, space, put_back}
-use Rattle.rapid_text.specs.Events.{content, HasNames}
+use Rattle.rapid_line.specs.Cut.{content}
+use Rattle.rapid_text.specs.Events.{HasNames}
 use Rattle.rapid_text.proofs.NameGrowth.{gives, TablesGrow-refl, TablesGrow-trans, HasNames-kept}
 use Rattle.script_text.specs.declared.causes.ScriptCause.{ScriptCause}
 use Rattle.script_text.specs.declared.causes.ScriptCause.TheVariants.{BadFork, BadJoin}

@@ -4,9 +4,8 @@ use Rattle.std.proofs.Common.{sym, arith, append_assoc, append-nil, ne_eqb, ◌-
 use Rattle.std.proofs.Common.{take, lt-ltb, length-append, length-take, inl, inr, ◌⊎◌}
 use Rattle.std.specs.Prelude.{Result, nat_lt, OnOk, IfErr}
 use Rattle.std.proofs.lemmas.Bool.{cases_Bool}
-use Rattle.rapid_line.specs.Cut.{Lacks}
+use Rattle.rapid_line.specs.Cut.{Lacks, content}
 use Rattle.rapid_line.proofs.Cuts.{Lacks-append}
-use Rattle.rapid_text.specs.Events.{content}
 use Rattle.rapid_text.specs.Texts.{lines_of}
 use Rattle.rapid_text.proofs.Pieces.{lines_of_line, lines_of_rest, begins}
 use Rattle.script_text.specs.declared.causes.ScriptCause.{ScriptCause}

@@ -3,8 +3,7 @@ use Rattle.std.specs.Prelude.{◌≡◌, ◌≢◌, ℕ, ◌+◌, ◌≤◌, ◌
 use Rattle.std.specs.Prelude.{IfSome, Result, Ok, Err}
 use Rattle.std.specs.Io.KnownBytes.{Consumes, IsAtEnd}
 use Rattle.event_core.specs.Bounds.{Bounds}
-use Rattle.rapid_line.specs.Cut.{Lacks}
-use Rattle.rapid_text.specs.Events.{content}
+use Rattle.rapid_line.specs.Cut.{Lacks, content}
 use Rattle.rapid_text.specs.Texts.{lines_of}
 use Rattle.script_text.specs.declared.lines.ScriptLine.{ScriptLine}
 use Rattle.script_text.specs.Forms.{Fails}

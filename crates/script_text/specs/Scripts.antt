@@ -35,7 +35,8 @@ use Rattle.event_core.specs.Bounds.{Bounds}
 use Rattle.rapid_text.specs.declared.causes.Kind.{Kind}
 use Rattle.rapid_text.specs.declared.causes.Kind.TheVariants as kinds
 use Rattle.rapid_text.specs.Tables.{Tables, no_names, number_in}
-use Rattle.rapid_text.specs.Events.{content, HasNames}
+use Rattle.rapid_line.specs.Cut.{content}
+use Rattle.rapid_text.specs.Events.{HasNames}
 use Rattle.rapid_text.specs.Texts.{lines_of}
 use Rattle.script_text.specs.declared.causes.ScriptCause.{ScriptCause}
 use Rattle.script_text.specs.declared.causes.ScriptCause.TheVariants.{TooManyNames, BadFork, BadJoin}

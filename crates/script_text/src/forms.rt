@@ -1,13 +1,12 @@
 //! The forms of a line: `thread word argument` and `thread word argument number`.
-ghost use Rattle.std.specs.Prelude.{◌≡◌, option_map, IfOk, IfErr, IsTrue};
-ghost use Rattle.rapid_line.specs.Cut.{has, cut, Lacks};
+ghost use Rattle.std.specs.Prelude.{◌≡◌, IfOk, IfErr, IsTrue};
 ghost use Rattle.script_text.specs.Forms.{word_of, takes_number, is_name, line_of, plain, numbered};
 ghost use Rattle.rapid_line.specs.Grammar.{IsName};
 ghost use Rattle.script_text.specs.Forms.{form, Gives, named_of, AreNames, Fails};
 
 use crate::causes::ScriptCause;
 use crate::numbers::number;
-use memchr::memchr;
+use rapid_line::{contains, cut_at};
 
 /// What a line asks for.
 #[derive(Clone, Copy, Debug, PartialEq, Eq)]
@@ -28,20 +27,6 @@ pub struct NamedAct<'a> {
     pub word: Word,
     pub argument: &'a [u8],
     pub number: u64,
-}
-
-/// What stands before the first such byte, and what after it.
-fn cut_at(bytes: &[u8], byte: u8) -> Option<(&[u8], &[u8])>
-    ensures { option_map (λ p. (p.0.now, p.1.now)) result ≡ cut byte bytes.now }
-{
-    let at = memchr(byte, bytes)?;
-    Some((&bytes[..at], &bytes[at + 1..]))
-}
-
-fn contains(bytes: &[u8], byte: u8) -> bool
-    ensures { result ≡ has byte bytes.now }
-{
-    cut_at(bytes, byte).is_some()
 }
 
 #[tactic(auto, unfolding(crate::specs::Forms::word_of))]

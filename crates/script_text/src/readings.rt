@@ -2,10 +2,9 @@
 //!
 //! Of a line whose end was not seen at most 1,025 bytes are kept, and with one more byte the line is too
 //! long: a content of at most 1,024 bytes and a CR is shorter.
-ghost use Rattle.std.specs.Prelude.{◌≡◌, ℕ, ◌+◌, ◌*◌, ◌<◌, ◌≤◌, ◌^◌, List};
+ghost use Rattle.std.specs.Prelude.{◌≡◌, ◌≢◌, ℕ, ◌+◌, ◌*◌, ◌<◌, ◌≤◌, ◌^◌, List};
 ghost use Rattle.std.specs.Prelude.{[], ◌∷◌, ◌++◌, length, IfOk, IfErr, OnOk, Ok, Err};
-ghost use Rattle.rapid_line.specs.Cut.{Lacks};
-ghost use Rattle.rapid_text.specs.Events.{content};
+ghost use Rattle.rapid_line.specs.Cut.{Lacks, content};
 ghost use Rattle.script_text.specs.Forms.{Fails};
 ghost use Rattle.script_text.specs.Scripts.{after_content};
 ghost use Rattle.script_text.specs.Readings.{Progress, unread, judged, Takes, Stops, TakesByte, ByteFails};
@@ -15,7 +14,7 @@ use crate::causes::{ScriptCause, ScriptFault};
 use crate::draft::add_line;
 use crate::lines::ScriptLine;
 use event_core::{Limits, OutOfMemory};
-use rapid_line::strip_last;
+use rapid_line::without_cr;
 use rapid_text::{Input, Names};
 use std::alloc::Global;
 use std::marker::Model;
@@ -44,16 +43,6 @@ impl Model for Reading {
     } };
 
     ghost invariant = { λ r. Lacks 10 r.kept.items × (length r.kept.items ≤ 1025) };
-}
-
-/// The line without the CR at its end.
-fn without_cr(line: &[u8]) -> &[u8]
-    ensures { result.now ≡ content line.now }
-{
-    if let Some(front) = strip_last(line, b'\r') {
-        return front;
-    }
-    line
 }
 
 impl Reading {
@@ -152,6 +141,8 @@ impl Reading {
             (I.failed input.new) f) }
         ensures line { OnOk result (self.new.line < 2 ^ 63) }
         ensures healthy { OnOk result (I.failed input.new ≡ I.failed input.old) }
+        ensures told { IfErr result (λ f.
+            f.cause ≢ ScriptCause.Read → I.failed input.new ≡ I.failed input.old) }
     {
         let mut left = turns;
         'pulls: while left > 0 {

@@ -1,5 +1,5 @@
 //! Scripts that were read.
-ghost use Rattle.std.specs.Prelude.{◌≡◌, ℕ, ◌<◌, ◌≤◌, length, filter, IfOk, IfErr, IfSome, OnOk, Ok, false};
+ghost use Rattle.std.specs.Prelude.{◌≡◌, ◌≢◌, ℕ, ◌<◌, ◌≤◌, length, filter, IfOk, IfErr, IfSome, OnOk, Ok, false};
 ghost use Rattle.script_text.specs.Lines.{is_of};
 ghost use Rattle.script_text.specs.Scripts.{Parsed, IsScript, IsFirstUnreached, IsDraft, script_of};
 ghost use Rattle.script_text.specs.Rows.{AreRows};
@@ -44,6 +44,7 @@ fn read_text<I: Input>(
     ensures fault { IfErr result (λ f.
         IsFault limits (I.left reader.old) (I.left reader.new) turns (I.failed reader.new) f f.cause) }
     ensures healthy { OnOk result (I.failed reader.new ≡ false) }
+    ensures told { IfErr result (λ f. f.cause ≢ ScriptCause.Read → I.failed reader.new ≡ false) }
 {
     let Ok(mut piece) = vec![in alloc; 0u8; PIECE] else {
         return Err(no_memory());
@@ -68,6 +69,7 @@ fn read_lines<I: Input>(
     ensures fault { IfErr result (λ f.
         IsFault limits (I.left reader.old) (I.left reader.new) turns (I.failed reader.new) f f.cause) }
     ensures healthy { OnOk result (I.failed reader.new ≡ false) }
+    ensures told { IfErr result (λ f. f.cause ≢ ScriptCause.Read → I.failed reader.new ≡ false) }
 {
     let mut reading = Reading::new(alloc, limits);
     match read_text(alloc, &mut reading, reader, limits, turns) {
@@ -170,8 +172,9 @@ impl Script {
         // refused.
         ensures fault { IfErr result (λ f.
             IsFault limits (I.left reader.old) (I.left reader.new) turns (I.failed reader.new) f f.cause) }
-        // A failure of the reader is never passed over.
+        // A failure of the reader is never passed over: it is told as `Read`.
         ensures healthy { OnOk result (I.failed reader.new ≡ false) }
+        ensures told { IfErr result (λ f. f.cause ≢ ScriptCause.Read → I.failed reader.new ≡ false) }
     {
         let (names, lines) = read_lines(alloc, reader, limits, turns)?;
         whole_script(alloc, names, lines)

@@ -13,17 +13,18 @@ returns-clause-ok g c =
     let names = c.args.names.now in
     let e = named_by names c.args.event.now in
     let t = c.name-thread.result.now in
-    let w = c.word_and_target-word.result.0 in
+    let w = c.parts_of-word.result.0 in
     let a = c.name-argument.result.now in
     let l = c.name-location.result.now in
-    let n = c.word_and_target-word.result.1 in
+    let k = c.parts_of-word.result.1 in
+    let n = c.parts_of-word.result.2 in
     let named : t ≡ e.thread =
     name_found names kinds.Thread c.args.event.now.thread.0 t c.name-thread.ensures.is in
-    let word : w ≡ e.word = c.word_and_target-word.ensures.word in
-    let kind : c.kind_at.result ≡ kind_of e.word = c.kind_at.ensures ∙ ap kind_of word in
-    let argument : a ≡ e.argument = name_found names c.kind_at.result n a c.name-argument.ensures.is
+    let word : w ≡ e.word = c.parts_of-word.ensures.word in
+    let kind : k ≡ kind_of e.word = c.parts_of-word.ensures.kind in
+    let argument : a ≡ e.argument = name_found names k n a c.name-argument.ensures.is
     ∙ ap (λ (k : Kind). name_at names k n) kind
-    ∙ ap (λ (m : ℕ). name_at names (kind_of e.word) m) c.word_and_target-word.ensures.target in
+    ∙ ap (λ (m : ℕ). name_at names (kind_of e.word) m) c.parts_of-word.ensures.number in
     let location : l ≡ e.location =
     name_found names kinds.Site c.args.event.now.site.0 l c.name-location.ensures.is in
     let spelled : operation w a ≡ operation e.word e.argument =

@@ -1,4 +1,4 @@
-use Rattle.std.proofs.Common.{subst}
+use Rattle.std.proofs.Common.{subst, ◌∙◌}
 use Rattle.std.proofs.lemmas.Result.{err_from_is_err_and}
 use Rattle.script_text.specs.Readings.{Progress, ReadsAll, StopsReading}
 use Rattle.script_text.proofs.Faults.{reading_fault, end_fault, all_read, all_draft, memory_fault}
@@ -20,6 +20,11 @@ returns-in_err-read_all-clause-fault g c =
     (g.I.Input.left c.read_all.new.input)
     c.args.turns (g.I.Input.failed c.read_all.new.input) c.in_err-read_all.field-0.0) c.requires.unread
     c.in_err-read_all.ensures.fault))
+
+pub returns-in_err-read_all-clause-told : goal.returns-in_err-read_all-clause-told
+returns-in_err-read_all-clause-told g c =
+    let p = err_from_is_err_and c.from_residual.result c.from_residual.ensures.1 in
+    rw (p.1, p.2) (λ other. c.in_err-read_all.ensures.told other ∙ c.requires.works)
 
 pub returns-in_err-finish-clause-fault : goal.returns-in_err-finish-clause-fault
 returns-in_err-finish-clause-fault g c =

@@ -1,11 +1,25 @@
-use Rattle.std.proofs.Common.{◌∙◌, ap, sym, subst, List, ℕ, ◌-◌, drop, take, length}
+use Rattle.std.proofs.Common.{◌∙◌, ap, sym, subst, List, ℕ, ◌-◌, drop, take, length, arith}
 use Rattle.std.proofs.lemmas.Result.{err_from_is_err_and}
 use Rattle.std.proofs.lemmas.List.{take_rest}
 use Rattle.rapid_line.specs.Cut.{cut}
 use Rattle.rapid_line.proofs.Cuts.{cut_None}
 use Rattle.rapid_text.proofs.Pieces.{goes_on, gives, line_room, line_lf, line_fails, rest_fails}
-use Rattle.rapid_text.specs.Cutting.{RestFails}
+use Rattle.rapid_text.proofs.Pieces.{goes_first, keeps, judged_up_to}
+use Rattle.rapid_text.specs.Cutting.{Cutting, Keeps, RestFails}
 use Rattle.rapid_text.proofs.cutter.Cutter.push.Goals as goal
+
+pub lines-init : goal.lines-init
+lines-init c =
+    let old : Cutting = record {
+      names = c.self.inside.names;
+      line = c.self.inside.line;
+      unfinished = c.self.inside.unfinished;
+      kept = c.self.inside.kept.items;
+      taken = c.self.inside.taken;
+      failed = c.self.inside.failed;
+    } in
+    rw (← c.self.view_is) (goes_first old c.args.piece.now c.self.invariant.0 c.in_default.is
+    (omega (arith, c.if-piece-self.false, c.self.invariant.2)))
 
 pub end_line-requires-clause-lf : goal.end_line-requires-clause-lf
 end_line-requires-clause-lf c =
@@ -27,6 +41,14 @@ returns-in_err-event-clause-fault c =
     c.in-Some-cut_line.field-0-1.now c.in_err-event.field-0.0 c.lines.invariant
     (c.in-Some-cut_line.ensures.cut ∙ ap (λ (t : List ℕ). cut 10 t)
     (take_rest c.args.piece.now c.lines.used)) c.in_err-event.ensures.fault)
+
+pub returns-in_err-event-clause-before : goal.returns-in_err-event-clause-before
+returns-in_err-event-clause-before c =
+    let p = err_from_is_err_and c.from_residual.result c.from_residual.ensures.1 in
+    rw (p.1, p.2)
+    (judged_up_to c.args.self.now c.lines.self c.args.piece.now c.lines.used c.in_err-event.field-0.0.line
+    c.end_line.new.self.names c.lines.invariant c.in_err-event.ensures.fault.at
+    c.in_err-event.ensures.grows)
 
 pub returns-in-Some-2-clause-ok : goal.returns-in-Some-2-clause-ok
 returns-in-Some-2-clause-ok c =
@@ -58,3 +80,18 @@ returns-in_err-keep_rest-clause-fault c =
     (subst (λ
     (t : List ℕ). RestFails c.lines.self t c.in_err-keep_rest.field-0.0) rest
     c.in_err-keep_rest.ensures.fault))
+
+pub returns-in_err-keep_rest-clause-before : goal.returns-in_err-keep_rest-clause-before
+returns-in_err-keep_rest-clause-before c =
+    let p = err_from_is_err_and c.from_residual-in_err-keep_rest.result
+    c.from_residual-in_err-keep_rest.ensures.1 in
+    rw (p.1, p.2)
+    (judged_up_to c.args.self.now c.lines.self c.args.piece.now c.lines.used
+    c.in_err-keep_rest.field-0.0.line c.keep_rest.new.self.names c.lines.invariant
+    c.in_err-keep_rest.ensures.fault.at c.in_err-keep_rest.ensures.grows)
+
+pub returns-clause-ok : goal.returns-clause-ok
+returns-clause-ok c =
+    keeps c.args.self.now c.lines.self c.keep_rest.new.self c.args.piece.now c.lines.used c.lines.invariant
+    (subst (λ (t : List ℕ). Keeps c.lines.self c.keep_rest.new.self t)
+    (take_rest c.args.piece.now c.lines.used) c.in_ok-keep_rest.ensures.ok)

@@ -1,0 +1,5 @@
+use Rattle.rapid_text.proofs.Begins.{begins_events, begins_fault}
+use Rattle.rapid_text.proofs.laws.nothing_before.Goals as goal
+
+pub returns : goal.returns
+returns c = record { events = begins_events; fault = begins_fault }
