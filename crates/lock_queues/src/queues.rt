@@ -125,8 +125,8 @@ impl Queues {
         at < self.queues.len() && self.queues[at].has_room(thread)
     }
 
-    /// Makes room for the thread's next section on the lock where that takes no memory. Tells whether there is
-    /// room for it now, or for the open one, as `has_room` does.
+    /// Makes room for the thread's next section on the lock where that takes no memory. Tells whether there
+    /// is room for it now, or for the open one, as `has_room` does.
     pub fn take_spare_room(&mut self, thread: ThreadId, lock: LockId) -> bool
         ensures room { result ≡ has_room self.new thread.0 lock.0 }
         ensures same { SameMeaning self.old self.new }

@@ -13,7 +13,8 @@ ghost use Rattle.rapid_line.specs.Marks.{IsKnown};
 ghost use Rattle.rapid_text.specs.Tables.{TablesGrow};
 ghost use Rattle.rapid_text.specs.Events.{IsOfNames};
 ghost use Rattle.rapid_text.specs.Cutting.{Cutting, most, begun, Pushes, FailsAt, Closes, ClosesAt};
-ghost use Rattle.rapid_text.specs.Cutting.{failed_at, judged, JudgedUpTo, EndsLine, LineFails, Keeps, RestFails};
+ghost use Rattle.rapid_text.specs.Cutting.{failed_at, judged, JudgedUpTo, EndsLine, LineFails, Keeps};
+ghost use Rattle.rapid_text.specs.Cutting.{RestFails};
 ghost use Rattle.rapid_text.specs.Texts.{BeginsAt};
 ghost use Rattle.rapid_text.specs.declared.causes.Cause.TheVariants.{Read};
 

@@ -72,7 +72,8 @@ impl<I: Input> Reader<I> {
         ensures live { OnOk result (self.new.text.failed ≡ None) }
         // A failure of the input is never passed over: it is told as `Read`.
         ensures healthy { OnOk result (self.new.read_failed ≡ self.old.read_failed) }
-        ensures told { IfErr result (λ f. f.cause ≢ Cause.Read → self.new.read_failed ≡ self.old.read_failed) }
+        ensures told { IfErr result (λ f.
+            f.cause ≢ Cause.Read → self.new.read_failed ≡ self.old.read_failed) }
         ensures turns { self.new.text.turns ≤ self.old.text.turns }
         // Each turn took a byte, but for the one that found the end of the text or a failure.
         ensures bytes { OnOk result (self.new.text.ended ≡ false

@@ -1,5 +1,6 @@
 //! Scripts that were read.
-ghost use Rattle.std.specs.Prelude.{◌≡◌, ◌≢◌, ℕ, ◌<◌, ◌≤◌, length, filter, IfOk, IfErr, IfSome, OnOk, Ok, false};
+ghost use Rattle.std.specs.Prelude.{◌≡◌, ◌≢◌, ℕ, ◌<◌, ◌≤◌, length, filter, IfOk, IfErr, IfSome, OnOk, Ok};
+ghost use Rattle.std.specs.Prelude.{false};
 ghost use Rattle.script_text.specs.Lines.{is_of};
 ghost use Rattle.script_text.specs.Scripts.{Parsed, IsScript, IsFirstUnreached, IsDraft, script_of};
 ghost use Rattle.script_text.specs.Rows.{AreRows};

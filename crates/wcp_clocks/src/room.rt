@@ -130,8 +130,8 @@ fn has_access(parts: &Parts, thread: ThreadId, var: VarId) -> bool
     parts.sums.is_ready(held, var)
 }
 
-// The same as `are_ready`, once room for an access is made, and room for a section where that takes no memory.
-// The places of an access are kept for the step that comes next.
+// The same as `are_ready`, once room for an access is made, and room for a section where that takes no
+// memory. The places of an access are kept for the step that comes next.
 #[inline(always)]
 pub(crate) fn ready_or_grow(parts: &mut Parts, event: &Event) -> bool
     requires parts { AreParts parts.old }
