@@ -7,3 +7,4 @@ pub mod RunMore
 pub mod SwapReplies
 pub mod ActRunMore
 pub mod NeverMemory
+pub mod Joining

@@ -1,3 +1,4 @@
 pub mod Monitored
 pub mod Answers
 pub mod RunAnswers
+pub mod Joins

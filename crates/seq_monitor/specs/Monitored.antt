@@ -22,6 +22,7 @@ use Rattle.wcp_clocks.specs.Parts.{width_of, limits_of, work_of}
 use Rattle.wcp_clocks.specs.Parts.{IsReady as ClocksIsReady}
 use Rattle.wcp_clocks.specs.StandsFor.{StandsFor as ClocksStandFor}
 use Rattle.wcp_clocks.specs.WorkWithin.{WorkWithin}
+use Rattle.seq_monitor.specs.Joins.{joins_of}
 
 -- the parts beside the log, and for how many more events and verdicts there is room
 pub record Parts : Type 0 where
@@ -106,6 +107,7 @@ pub record IsClocksReplay (limits : Limits) (log : List Event) (clocks : Clocks)
   pub width : width_of clocks ≡ limits.threads
   pub limits_of : limits_of clocks ≡ limits
   pub work : WorkWithin limits log clocks
+  pub joins : (work_of clocks).joins ≤ joins_of limits log
 
 -- the parts stand for the log, which is well formed, and the slots of all releases to come are kept
 pub record IsReplay (limits : Limits) (log : List Event) (parts : Parts) (verdicts : List Verdict) (holds : ℕ)
@@ -125,3 +127,7 @@ pub record IsReplay (limits : Limits) (log : List Event) (parts : Parts) (verdic
 abbrev pub HasFewComparisons : Monitored → Type 0
 HasFewComparisons m =
     (work_of m.parts.clocks).comparisons ≤ length m.log * threads_in m.limits.threads m.log + length m.log
+
+-- an event took at most three joins, and an access at most two for each lock that its thread held
+abbrev pub HasFewJoins : Monitored → Type 0
+HasFewJoins m = (work_of m.parts.clocks).joins ≤ joins_of m.limits m.log

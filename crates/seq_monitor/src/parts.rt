@@ -31,24 +31,6 @@ use traced_mem::Memory;
 use verdict_list::Verdicts;
 use wcp_clocks::WcpClocks;
 
-/// The event of the call, with the value that it has.
-#[inline(always)]
-pub(crate) fn event_with(call: &Call, value: u64) -> Event
-    ensures { result ≡ record {
-      thread = call.now.thread;
-      op = call.now.op;
-      site = call.now.site;
-      value = value;
-    } }
-{
-    Event {
-        thread: call.thread,
-        op: call.op,
-        site: call.site,
-        value,
-    }
-}
-
 /// An event of the call's thread with its operation, for which room is asked.
 #[inline(always)]
 pub(crate) fn event_by(call: &Call) -> Event

@@ -1,22 +1,25 @@
 //! Runs: lists of calls, and lists of acts, one after another.
-ghost use Rattle.std.specs.Prelude.{◌≡◌, OnOk, OnErr, IfOk};
+ghost use Rattle.std.specs.Prelude.{◌≡◌, ◌-◌, None, OnOk, OnErr, IfOk, vec_capacity, vec_len};
+ghost use Rattle.event_core.specs.Refusal.{refusal};
 ghost use Rattle.event_core.specs.Verdict.{IsOutcome, log_after};
-ghost use Rattle.event_core.specs.Acts.{IsDone, log_after_act};
+ghost use Rattle.event_core.specs.Acts.{IsDone, log_after_act, swap_refusal};
 ghost use Rattle.event_core.specs.declared.events.Act.TheVariants.{One as OneAct, Swap as SwapAct};
-ghost use Rattle.seq_monitor.specs.RunAnswers.{Ran, RanSome, ActsRan, ActsRanSome};
+ghost use Rattle.seq_monitor.specs.RunAnswers.{Ran, RanSome, ActsRan, ActsRanSome, act_refusal};
 
 use crate::monitor::Monitor;
 use event_core::{Act, Call, Done, OutOfMemory, Outcome, Refusal, SiteId, ThreadId, VarId};
 
 impl Monitor {
     /// Takes the calls in order, and adds their outcomes. Room for all outcomes is made first, and where
-    /// that is refused nothing has changed. It stops at the first call that is refused for want of memory:
-    /// then the outcomes that were added, and the monitor, are those of a beginning of the calls.
+    /// that is refused nothing has changed. It stops at the first call that wants memory: then the outcomes
+    /// that were added, and the monitor, are those of the calls before it, and the definition does not refuse
+    /// that call.
     pub fn run(&mut self, calls: &[Call], outcomes: &mut Vec<Outcome>) -> Result<(), OutOfMemory>
         ensures all { OnOk result (Ran self.old.limits self.old.log calls.now outcomes.old.items
             outcomes.new.items self.new.log) }
-        ensures some { RanSome self.old.limits self.old.log calls.now outcomes.old.items outcomes.new.items
-            self.new.log }
+        ensures some { OnErr result (RanSome self.old.limits self.old.log calls.now
+            (vec_capacity outcomes.old - vec_len outcomes.old) outcomes.old.items outcomes.new.items
+            self.new.log) }
         ensures limits { self.new.limits ≡ self.old.limits }
     {
         if outcomes.reserve(calls.len()).is_err() {
@@ -29,10 +32,12 @@ impl Monitor {
         Ok(())
     }
 
-    // The call's outcome. Where there is none, for want of memory, nothing has changed.
+    // The call's outcome. Where there is none, for want of memory, the definition does not refuse the call,
+    // and nothing has changed.
     fn take(&mut self, call: Call) -> Result<Outcome, OutOfMemory>
         ensures outcome { IfOk result (λ outcome. IsOutcome self.old.limits self.old.log call outcome) }
         ensures log { IfOk result (λ outcome. self.new.log ≡ log_after self.old.log call outcome) }
+        ensures memory { OnErr result (refusal self.old.limits self.old.log call ≡ None) }
         ensures same { OnErr result (self.new.log ≡ self.old.log) }
         ensures limits { self.new.limits ≡ self.old.limits }
     {
@@ -44,13 +49,15 @@ impl Monitor {
     }
 
     /// Takes the acts in order, and adds what becomes of them. Room for all answers is made first, and where
-    /// that is refused nothing has changed. It stops at the first act that is refused for want of memory:
-    /// then the answers that were added, and the monitor, are those of a beginning of the acts.
+    /// that is refused nothing has changed. It stops at the first act that wants memory: then the answers
+    /// that were added, and the monitor, are those of the acts before it, and the definition does not refuse
+    /// that act.
     pub fn run_acts(&mut self, acts: &[Act], answers: &mut Vec<Done>) -> Result<(), OutOfMemory>
         ensures all { OnOk result (ActsRan self.old.limits self.old.log acts.now answers.old.items
             answers.new.items self.new.log) }
-        ensures some { ActsRanSome self.old.limits self.old.log acts.now answers.old.items answers.new.items
-            self.new.log }
+        ensures some { OnErr result (ActsRanSome self.old.limits self.old.log acts.now
+            (vec_capacity answers.old - vec_len answers.old) answers.old.items answers.new.items
+            self.new.log) }
         ensures limits { self.new.limits ≡ self.old.limits }
     {
         if answers.reserve(acts.len()).is_err() {
@@ -63,10 +70,12 @@ impl Monitor {
         Ok(())
     }
 
-    // What becomes of the act. Where it is refused for want of memory, nothing has changed.
+    // What becomes of the act. Where it wants memory, the definition does not refuse it, and nothing has
+    // changed.
     fn take_act(&mut self, act: Act) -> Result<Done, OutOfMemory>
         ensures done { IfOk result (λ done. IsDone self.old.limits self.old.log act done) }
         ensures log { IfOk result (λ done. self.new.log ≡ log_after_act self.old.log act done) }
+        ensures memory { OnErr result (act_refusal self.old.limits self.old.log act ≡ None) }
         ensures same { OnErr result (self.new.log ≡ self.old.log) }
         ensures limits { self.new.limits ≡ self.old.limits }
     {
@@ -84,6 +93,7 @@ impl Monitor {
     fn take_call(&mut self, call: Call) -> Result<Done, OutOfMemory>
         ensures done { IfOk result (λ done. IsDone self.old.limits self.old.log (OneAct call) done) }
         ensures log { IfOk result (λ done. self.new.log ≡ log_after_act self.old.log (OneAct call) done) }
+        ensures memory { OnErr result (refusal self.old.limits self.old.log call ≡ None) }
         ensures same { OnErr result (self.new.log ≡ self.old.log) }
         ensures limits { self.new.limits ≡ self.old.limits }
     {
@@ -105,6 +115,7 @@ impl Monitor {
             (λ done. IsDone self.old.limits self.old.log (SwapAct thread var site arg) done) }
         ensures log { IfOk result
             (λ done. self.new.log ≡ log_after_act self.old.log (SwapAct thread var site arg) done) }
+        ensures memory { OnErr result (swap_refusal self.old.limits self.old.log thread var ≡ None) }
         ensures same { OnErr result (self.new.log ≡ self.old.log) }
         ensures limits { self.new.limits ≡ self.old.limits }
     {

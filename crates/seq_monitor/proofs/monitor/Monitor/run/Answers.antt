@@ -1,6 +1,7 @@
-use Rattle.std.proofs.Common.{take, ◌∙◌, arith}
+use Rattle.std.proofs.Common.{take, sym, ◌∙◌, arith}
 use Rattle.std.proofs.lemmas.List.{take_more}
-use Rattle.seq_monitor.proofs.RunMore.{ran_more}
+use Rattle.std.proofs.lemmas.Option.{slice_get-get_or}
+use Rattle.seq_monitor.proofs.RunMore.{ran_more, where_err, no_room, ran_none, ran_some}
 use Rattle.seq_monitor.proofs.monitor.Monitor.run.Goals as goal
 
 pub loop-call-preserved : goal.loop-call-preserved
@@ -19,3 +20,17 @@ loop-call-preserved c =
         c.loop-call-test.true,
       );
     }
+
+pub returns-then-is_err-clause-some : goal.returns-then-is_err-clause-some
+returns-then-is_err-clause-some c =
+    ran_none _ _ c.args.calls.now _ _ _
+    (no_room c.reserve.result _ _ _ c.args.outcomes.now.ok.1 c.reserve.ensures.full
+    (sym c.is_err.ensures.value ∙ c.if-is_err.true)) c.reserve.ensures.items
+
+pub returns-in_err-outcome-clause-some : goal.returns-in_err-outcome-clause-some
+returns-in_err-outcome-clause-some c =
+    where_err c.from_residual.result
+    (ran_some _ _ c.args.calls.now _ _ _ _ _ c.loop-call.call-index _ _ c.loop-call.invariant.ran
+    c.loop-call.invariant.limits
+    (slice_get-get_or c.args.calls.now c.loop-call.call-index _ c.loop-call-test.true)
+    c.in_err-outcome.ensures.memory c.in_err-outcome.ensures.same)

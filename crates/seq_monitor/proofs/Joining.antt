@@ -1,0 +1,153 @@
+-- The joins of a log, one event longer.
+use Rattle.std.proofs.Common.{◌≡◌, ℕ, zero, suc, ◌+◌, ◌<◌, ◌≤◌, List, [], ◌∷◌, ◌++◌, length}
+use Rattle.std.proofs.Common.{Bool, true, false, cond, nat_eq, nat_lt, not, ◌||◌, take, append_assoc, append-nil}
+use Rattle.std.proofs.Common.{refl, sym, ap, subst, ◌∙◌, inl, inr, ◌⊎◌, arith}
+use Rattle.std.specs.Set.{is_member}
+use Rattle.std.proofs.lemmas.Cmp.{nat_eq_equiv}
+use Rattle.std.proofs.lemmas.Bool.{cases_eq, cases_lt, eqb-true, eq-eqb, lt-ltb, le-ltb, or_right}
+use Rattle.std.proofs.lemmas.Map.Made.{length-le_from_is_member}
+use Rattle.std.proofs.Math.Seq.{take-length}
+use Rattle.event_core.specs.declared.bounds.Limits.{Limits}
+use Rattle.event_core.specs.declared.events.Event.{Event}
+use Rattle.event_core.specs.declared.events.Op.{Op}
+use Rattle.event_core.specs.declared.events.Op.TheVariants.{Load, Store, Acquire, Release, Fork, Join}
+use Rattle.event_core.specs.declared.ids.LockId.{LockId}
+use Rattle.event_core.specs.declared.ids.ThreadId.{ThreadId}
+use Rattle.event_core.specs.declared.replies.Refusal.TheVariants.{TargetRange}
+use Rattle.event_core.specs.Closed.{Has}
+use Rattle.event_core.specs.Log.{depth}
+use Rattle.event_core.specs.Refusal.{WellFormed, lock_at, sum_locks}
+use Rattle.event_core.specs.Turn.{Opens, Closes, Inner, turn_of}
+use Rattle.event_core.proofs.Depth.{opener}
+use Rattle.event_core.proofs.Legality.{reasons_at, when_none}
+use Rattle.event_core.proofs.Members.{any_has}
+use Rattle.wcp_laws.specs.Step.{turn}
+use Rattle.wcp_clocks.specs.declared.parts.Parts.{Parts}
+use Rattle.wcp_clocks.specs.Parts.{state_of, work_of, most_joins}
+use Rattle.wcp_clocks.specs.StandsFor.{StandsFor}
+use Rattle.wcp_clocks.specs.WorkWithin.{IsWorkOf}
+use Rattle.seq_monitor.specs.Joins.{locks_held, joins_at, joins_from, joins_of}
+
+-- the numbers below n that pass the test
+abbrev passing : (ℕ → Bool) → ℕ → List ℕ
+passing p zero = []
+passing p (suc n) = cond (p n) (n ∷ passing p n) (passing p n)
+
+-- are as many as this counts
+passing_length : (p : ℕ → Bool) (n : ℕ)
+    → length (passing p n) ≡ sum_locks (λ (l : LockId). cond {A = ℕ} (p l.0) 1 0) n
+passing_length p zero = refl
+passing_length p (suc n) = go (p n) (passing_length p n)
+  where
+    go : (b : Bool) → length (passing p n) ≡ sum_locks (λ (l : LockId). cond {A = ℕ} (p l.0) 1 0) n
+        → length (cond b (n ∷ passing p n) (passing p n))
+        ≡ sum_locks (λ (l : LockId). cond {A = ℕ} (p l.0) 1 0) n + cond {A = ℕ} b 1 0
+    go true same = omega arith
+    go false same = omega arith
+
+-- and each such number is among them
+passing_has : (p : ℕ → Bool) (n q : ℕ) → q < n → p q ≡ true → is_member nat_eq (passing p n) q ≡ true
+passing_has p zero q lt is = absurd (omega arith)
+passing_has p (suc n) q lt is = go (λ less. passing_has p n q less is) (cases_eq q n)
+  where
+    last : (b : Bool) → b ≡ true → q ≡ n
+        → is_member nat_eq (cond b (n ∷ passing p n) (passing p n)) q ≡ true
+    last true is same = ap (λ (b : Bool). b || is_member nat_eq (passing p n) q) (eq-eqb q n same)
+    last false is same = cc
+
+    other : (b : Bool) → is_member nat_eq (passing p n) q ≡ true
+        → is_member nat_eq (cond b (n ∷ passing p n) (passing p n)) q ≡ true
+    other true has = or_right (nat_eq q n) (is_member nat_eq (passing p n) q) has
+    other false has = has
+
+    go : (q < n → is_member nat_eq (passing p n) q ≡ true) → (q ≡ n) ⊎ (q ≡ n → ⊥)
+        → is_member nat_eq (passing p (suc n)) q ≡ true
+    go rest (inl same) = last (p n) (ap p (sym same) ∙ is) same
+    go rest (inr differs) =
+        let less : q < n = (let no : q ≡ n → ⊥ = differs in omega arith) in
+        other (p n) (rest less)
+
+-- a lock that is held is within the limit
+lock_within : (m : Limits) (log : List Event) (t : ThreadId) (l : LockId) → WellFormed m log
+    → 0 < depth log t l → l.0 < m.locks
+lock_within m log t l w up =
+    let all : take (length log) log ≡ log = take-length log in
+    let o = opener log t l (length log) (omega arith) (subst (λ xs. 0 < depth xs t l) (sym all) up) in
+    let r = reasons_at m log o.index t (Acquire l) w o.opened.does in
+    let out : not (nat_lt l.0 m.locks) ≡ false = when_none _ TargetRange r.on_table in
+    by out (cases_lt l.0 m.locks)
+  where
+    by : not (nat_lt l.0 m.locks) ≡ false → (l.0 < m.locks) ⊎ (m.locks ≤ l.0) → l.0 < m.locks
+    by out (inl lt) = lt
+    by out (inr ge) = absurd (let no : not (nat_lt l.0 m.locks) ≡ true = ap not (le-ltb l.0 m.locks ge) in cc)
+
+-- the list of the locks that a thread holds is no longer than that
+held_few : (m : Limits) (log : List Event) (p : Parts) (t : ThreadId) → WellFormed m log → StandsFor log p
+    → length ((state_of p).held t.0) ≤ locks_held m log t
+held_few m log p t w st =
+    subst (λ (n : ℕ). length held ≤ n) (passing_length holds m.locks)
+    (length-le_from_is_member nat_eq_equiv held (passing holds m.locks) (st.distinct t) each)
+  where
+    held : List ℕ
+    held = (state_of p).held t.0
+
+    holds : ℕ → Bool
+    holds q = nat_lt 0 (depth log t (lock_at q))
+
+    each : (q : ℕ) → is_member nat_eq held q ≡ true → is_member nat_eq (passing holds m.locks) q ≡ true
+    each q is =
+        let member = any_has (nat_eq q) held is in
+        let same : q ≡ member.0 = eqb-true q member.0 member.2 in
+        let has : Has q held = subst (λ (n : ℕ). Has n held) (sym same) member.1 in
+        let up : 0 < depth log t (lock_at q) = (st.strict.held t (lock_at q)).0 has in
+        passing_has holds m.locks q (lock_within m log t (lock_at q) w up)
+        (lt-ltb 0 (depth log t (lock_at q)) up)
+
+-- the joins of one event
+event_joins : (d : ℕ → ℕ) (o : Op) (held more : ℕ) → held ≤ more → most_joins (turn_of d o) held ≤ joins_at o more
+event_joins d (Load x) held more few = omega arith
+event_joins d (Store x) held more few = omega arith
+event_joins d (Acquire l) held more few = go (nat_eq (d l.0) 0)
+  where
+    go : (b : Bool) → most_joins (cond b (Opens l) Inner) held ≤ 3
+    go true = omega arith
+    go false = omega arith
+event_joins d (Release l) held more few = go (nat_eq (d l.0) 1)
+  where
+    go : (b : Bool) → most_joins (cond b (Closes l) Inner) held ≤ 3
+    go true = omega arith
+    go false = omega arith
+event_joins d (Fork u) held more few = omega arith
+event_joins d (Join u) held more few = omega arith
+
+-- the last event's joins are added
+joins_more : (m : Limits) (past es : List Event) (e : Event)
+    → joins_from m past (es ++ e ∷ [])
+    ≡ joins_from m past es + joins_at e.op (locks_held m (past ++ es) e.thread)
+joins_more m past [] e =
+    let same : joins_at e.op (locks_held m (past ++ []) e.thread) ≡ joins_at e.op (locks_held m past e.thread)
+    = ap (λ (xs : List Event). joins_at e.op (locks_held m xs e.thread)) (append-nil past) in
+    omega arith
+joins_more m past (x ∷ xs) e =
+    let rest : joins_from m (past ++ x ∷ []) (xs ++ e ∷ [])
+    ≡ joins_from m (past ++ x ∷ []) xs + joins_at e.op (locks_held m ((past ++ x ∷ []) ++ xs) e.thread)
+    = joins_more m (past ++ x ∷ []) xs e in
+    let same : joins_at e.op (locks_held m ((past ++ x ∷ []) ++ xs) e.thread)
+    ≡ joins_at e.op (locks_held m (past ++ x ∷ xs) e.thread)
+    = ap (λ (ys : List Event). joins_at e.op (locks_held m ys e.thread)) (append_assoc past (x ∷ []) xs) in
+    omega arith
+
+-- a legal event keeps the joins within their bound
+pub joins_step : (m : Limits) (log : List Event) (e : Event) (old new : Parts) → WellFormed m log
+    → StandsFor log old → IsWorkOf e old new → (work_of old).joins ≤ joins_of m log
+    → (work_of new).joins ≤ joins_of m (log ++ e ∷ [])
+joins_step m log e old new w st work was =
+    let held : length ((state_of old).held e.thread.0) ≤ locks_held m log e.thread
+    = held_few m log old e.thread w st in
+    let here : most_joins (turn e (state_of old)) (length ((state_of old).held e.thread.0))
+    ≤ joins_at e.op (locks_held m log e.thread)
+    = event_joins ((state_of old).depth e.thread.0) e.op _ (locks_held m log e.thread) held in
+    let added = work.joins in
+    let longer : joins_of m (log ++ e ∷ []) ≡ joins_of m log + joins_at e.op (locks_held m log e.thread)
+    = joins_more m [] log e in
+    omega arith
