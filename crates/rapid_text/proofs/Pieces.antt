@@ -89,7 +89,7 @@ use Rattle.std.proofs.Math.Seq.{take-add, take-append-add}
 
 -- ---- a line that is too long
 
-content_long : (bytes : List ℕ) → 1025 < length bytes → 1024 < length (content bytes)
+pub content_long : (bytes : List ℕ) → 1025 < length bytes → 1024 < length (content bytes)
 content_long bytes h =
     elim (cases_Bool (nat_lt 0 (length bytes) && (get_or bytes (length bytes - 1) 0 == 13))) [
       | inl same ↦ let e : length (take (length bytes - 1) bytes) ≡ min (length bytes - 1) (length bytes) =

@@ -1,13 +1,12 @@
 -- A byte is taken, or the text stops at it.
 use Rattle.std.proofs.Common.{◌≡◌, ◌≢◌, ℕ, ◌+◌, ◌<◌, ◌≤◌, ◌++◌, List, [], ◌∷◌, length, Ok, Err, refl, ap, ◌∙◌}
-use Rattle.std.proofs.Common.{sym, arith, append_assoc, append-nil, ne_eqb, ◌-◌, ◌==◌, ◌&&◌, min, get_or}
-use Rattle.std.proofs.Common.{take, lt-ltb, length-append, length-take, inl, inr, ◌⊎◌}
-use Rattle.std.specs.Prelude.{Result, nat_lt, OnOk, IfErr}
-use Rattle.std.proofs.lemmas.Bool.{cases_Bool}
+use Rattle.std.proofs.Common.{sym, arith, append_assoc, append-nil, ne_eqb}
+use Rattle.std.proofs.Common.{lt-ltb, length-append, inl, inr, ◌⊎◌}
+use Rattle.std.specs.Prelude.{Result, OnOk, IfErr}
 use Rattle.rapid_line.specs.Cut.{Lacks, content}
 use Rattle.rapid_line.proofs.Cuts.{Lacks-append}
 use Rattle.rapid_text.specs.Texts.{lines_of}
-use Rattle.rapid_text.proofs.Pieces.{lines_of_line, lines_of_rest, begins}
+use Rattle.rapid_text.proofs.Pieces.{lines_of_line, lines_of_rest, begins, content_long}
 use Rattle.script_text.specs.declared.causes.ScriptCause.{ScriptCause}
 use Rattle.script_text.specs.declared.causes.ScriptCause.TheVariants as causes
 use Rattle.script_text.specs.declared.causes.ScriptFault.{ScriptFault}
@@ -115,14 +114,6 @@ line_stops causes.BadJoin f p text rest is at cause h = λ more. is more
     ∙ stopped f p (rest more) at (rw cause h)
 
 -- ---- a line that is too long
-
-content_long : (bytes : List ℕ) → 1025 < length bytes → 1024 < length (content bytes)
-content_long bytes h =
-    elim (cases_Bool (nat_lt 0 (length bytes) && (get_or bytes (length bytes - 1) 0 == 13))) [
-      | inl same ↦ let e : length (take (length bytes - 1) bytes) ≡ min (length bytes - 1) (length bytes) =
-          length-take (length bytes - 1) bytes in rw same (omega (arith, e))
-      | inr differs ↦ rw differs (omega arith)
-    ]
 
 line_long : (bytes : List ℕ) → 1024 < length bytes → line_of bytes ≡ Err causes.LineTooLong
 unfolding line_of

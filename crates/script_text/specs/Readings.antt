@@ -125,19 +125,29 @@ Incomplete lines f =
     (f ≡ record { line = 1; cause = causes.OutOfMemory })
     ⊎ ((f.cause ≡ causes.NoFork) × IsFirstUnreached lines f.line)
 
--- the fault is that of the text that the input had left, where that is known; a failed read is told at the
--- line whose end was not seen, and want of memory at no later line than the first that has a cause
+-- where the text that the input had left is known: it has this fault, and so no line before has a cause
+abbrev pub HasFault : Bounds → Option (List ℕ) → ScriptFault → Type 0
+HasFault limits left f = IfSome left (λ text. script_of limits text ≡ Err f)
+
+-- no line before line n has a cause
+abbrev pub HasNoneBefore : Bounds → Option (List ℕ) → ℕ → Type 0
+HasNoneBefore limits left n = IfSome left (λ text. (g : ScriptFault) → script_of limits text ≡ Err g
+    → n ≤ g.line)
+
+-- each line is without a cause, and line n is the first that names a thread to which no forks lead
+abbrev pub LacksFork : Bounds → Option (List ℕ) → ℕ → Type 0
+LacksFork limits left n = IfSome left (λ text. IsUnforked limits text n)
+
+-- the fault is that of the text that the input had left; a failed read is told at the line whose end was not
+-- seen, and want of memory at no later line than the first that has a cause
 abbrev pub IsFault : Bounds → Option (List ℕ) → Option (List ℕ) → ℕ → Bool → ScriptFault → ScriptCause
     → Type 0
-IsFault limits left rest turns failed f causes.OutOfMemory =
-    IfSome left (λ text. (g : ScriptFault) → script_of limits text ≡ Err g → f.line ≤ g.line)
+IsFault limits left rest turns failed f causes.OutOfMemory = HasNoneBefore limits left f.line
 IsFault limits left rest turns failed f causes.Read = ReadFails (unread limits) left rest turns failed f
-IsFault limits left rest turns failed f causes.NoFork = IfSome left (λ text. IsUnforked limits text f.line)
-IsFault limits left rest turns failed f causes.LineTooLong =
-    IfSome left (λ text. script_of limits text ≡ Err f)
-IsFault limits left rest turns failed f causes.BadLine = IfSome left (λ text. script_of limits text ≡ Err f)
-IsFault limits left rest turns failed f causes.BadNumber = IfSome left (λ text. script_of limits text ≡ Err f)
-IsFault limits left rest turns failed f causes.TooManyNames =
-    IfSome left (λ text. script_of limits text ≡ Err f)
-IsFault limits left rest turns failed f causes.BadFork = IfSome left (λ text. script_of limits text ≡ Err f)
-IsFault limits left rest turns failed f causes.BadJoin = IfSome left (λ text. script_of limits text ≡ Err f)
+IsFault limits left rest turns failed f causes.NoFork = LacksFork limits left f.line
+IsFault limits left rest turns failed f causes.LineTooLong = HasFault limits left f
+IsFault limits left rest turns failed f causes.BadLine = HasFault limits left f
+IsFault limits left rest turns failed f causes.BadNumber = HasFault limits left f
+IsFault limits left rest turns failed f causes.TooManyNames = HasFault limits left f
+IsFault limits left rest turns failed f causes.BadFork = HasFault limits left f
+IsFault limits left rest turns failed f causes.BadJoin = HasFault limits left f
