@@ -106,6 +106,35 @@ fn gives_help_and_the_version(rt: HostRuntime) {
     }
 }
 
+#[test]
+fn help_has_no_line_of_more_than_80_columns(rt: HostRuntime) {
+    for words in [
+        ["--help"].as_slice(),
+        &["help", "check"],
+        &["help", "replay"],
+        &["help", "run"],
+    ] {
+        let ran = run(&rt, words, Pieces::whole(b""));
+        for line in str::from_utf8(ran.output.as_slice()).unwrap_or("").lines() {
+            assert!(rt; line.len() <= 80, "{line}");
+        }
+    }
+}
+
+/// The trace that help has as its example comes to what help says.
+#[test]
+fn help_tells_what_its_example_prints(rt: HostRuntime) {
+    for command in ["check", "replay"] {
+        let help = run(&rt, [command, "--help"].as_slice(), Pieces::whole(b""));
+        let trace = Pieces::whole(b"T0|fork(T1)|1\nT0|w(y)|2\nT1|r(y)|3\n");
+        let ran = run(&rt, [command].as_slice(), trace);
+        let text = str::from_utf8(help.output.as_slice()).unwrap_or("");
+        for line in str::from_utf8(ran.output.as_slice()).unwrap_or("").lines() {
+            assert!(rt; text.contains(line), "{command}: {line}");
+        }
+    }
+}
+
 /// What is wrong with a command line stands on standard error, with status 2.
 #[test]
 fn tells_what_is_wrong_with_a_command_line(rt: HostRuntime) {

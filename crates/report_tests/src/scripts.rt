@@ -190,6 +190,20 @@ fn ends_with_a_write_fault_where_a_write_fails(rt: HostRuntime) {
     }
 }
 
+/// A writer that takes one put and no more has the whole line.
+#[test]
+fn a_fault_line_of_a_script_is_written_in_one_piece(rt: HostRuntime) {
+    let cases = [
+        ("m  r x\n", "line 1: BadLine\n", 6),
+        ("m rel l\n", "line 1: NotHolder\n", 3),
+    ];
+    for (text, output, status) in cases {
+        let once = Page::narrow(rt.alloc(), usize::MAX, 1);
+        let ran = run_lines(&rt, Pieces::whole(text.as_bytes()), 10, once);
+        ran.expect(&rt, text, output.as_bytes(), "", status);
+    }
+}
+
 #[test]
 fn answers_a_missing_file_with_a_read_fault(rt: HostRuntime) {
     let words = ["run", "there/is/no/such/script"];

@@ -83,6 +83,49 @@ fn tells_a_writer_that_takes_nothing(rt: HostRuntime) -> Result<(), Fail> {
     Ok(())
 }
 
+/// A writer that takes one put and no more has the whole line.
+#[test]
+fn a_fault_line_is_written_in_one_piece(rt: HostRuntime) {
+    for command in ["check", "replay"] {
+        let reader = Pieces::whole(b"T0|w(x)|1\nT0|rel(l)|2\n");
+        let once = Page::narrow(rt.alloc(), usize::MAX, 1);
+        let ran = run_to(
+            &rt,
+            [command].as_slice(),
+            reader,
+            once,
+            Page::blank(rt.alloc()),
+        );
+        ran.expect(&rt, command, b"line 2: NotHolder\n", "", 3);
+    }
+}
+
+/// Words and a text for which there is something to print: help, the version, counts, a report, a fault line.
+static PRINTING: [(&[&str], &[u8]); 6] = [
+    (&["--help"], b""),
+    (&["--version"], b""),
+    (&["replay", "--help"], b""),
+    (&["check"], b"T0|w(x)|1\n"),
+    (&["replay"], b"T0|w(x)|1\n"),
+    (&["replay"], b"T0|rel(l)|1\n"),
+];
+
+/// A pipe whose reader is gone takes no put.
+#[test]
+fn a_closed_pipe_ends_with_status_4(rt: HostRuntime) {
+    for (words, text) in &PRINTING {
+        let closed = Page::narrow(rt.alloc(), usize::MAX, 0);
+        let ran = run_to(
+            &rt,
+            *words,
+            Pieces::whole(*text),
+            closed,
+            Page::blank(rt.alloc()),
+        );
+        ran.expect(&rt, "a closed pipe", b"", "write fault\n", 4);
+    }
+}
+
 #[test]
 fn ends_with_the_same_status_where_nothing_can_be_said_of_it(rt: HostRuntime) {
     for (command, _, _) in &PRINTED {

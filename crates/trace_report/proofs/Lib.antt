@@ -3,5 +3,8 @@ pub mod Races
 pub mod Texts
 pub mod Naming
 pub mod Playing
+pub mod Values
+pub mod Refused
+pub mod Found
 pub mod Telling
 pub mod Pulls

@@ -7,7 +7,7 @@ use Rattle.rapid_text.specs.Tables.{Tables, TablesGrow}
 use Rattle.rapid_text.specs.Events.{HasNames, IsOfNames}
 use Rattle.rapid_text.proofs.NameGrowth.{HasNames-kept}
 use Rattle.trace_report.specs.Reports.{AreNamed}
-use Rattle.trace_report.specs.Replayed.{call_of}
+use Rattle.trace_report.specs.Findings.{call_of}
 use Rattle.trace_report.proofs.Playing.{with_line}
 
 -- names that were added change nothing

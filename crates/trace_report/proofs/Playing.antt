@@ -14,7 +14,7 @@ use Rattle.rapid_text.specs.declared.causes.TextFault.{TextFault}
 use Rattle.rapid_text.specs.Texts.{Judgement, with_event, ended}
 use Rattle.rapid_text.specs.Cutting.{Cutting, judged, most, Pushes, FailsAt, Closes, ClosesAt}
 use Rattle.trace_report.specs.declared.faults.ReplayFault.TheVariants.{Text, Refused}
-use Rattle.trace_report.specs.Replayed.{call_of, ended_with, refused_or, played, finding_after}
+use Rattle.trace_report.specs.Findings.{call_of, ended_with, refused_or, played, finding_after}
 use Rattle.trace_report.specs.Replayed.{cause_gives_up, refusal_gives_up}
 use Rattle.trace_report.specs.Feeding.{Declines, is_read}
 
@@ -24,17 +24,17 @@ use Rattle.trace_report.specs.Feeding.{Declines, is_read}
 abbrev pub with_line : List Event → Event → List Event
 with_line log e = log ++ event_of log (call_of e) ∷ []
 
-goes_on : (m : Limits) (log : List Event) (n : ℕ) (e : Event) (j : Judgement)
+pub goes_on : (m : Limits) (log : List Event) (n : ℕ) (e : Event) (j : Judgement)
     → refusal m log (call_of e) ≡ None
     → finding_after m log (with_event n (Some e) j) ≡ finding_after m (with_line log e) j
 goes_on m log n e j a = ap (λ (o : Option Refusal). refused_or n o (finding_after m (with_line log e) j)) a
 
-is_refused : (m : Limits) (log : List Event) (n : ℕ) (e : Event) (r : Refusal) (j : Judgement)
+pub is_refused : (m : Limits) (log : List Event) (n : ℕ) (e : Event) (r : Refusal) (j : Judgement)
     → refusal m log (call_of e) ≡ Some r → finding_after m log (with_event n (Some e) j) ≡ Err (Refused n r)
 is_refused m log n e r j a = ap (λ (o : Option Refusal). refused_or n o (finding_after m
     (with_line log e) j)) a
 
-stops_with : (m : Limits) (log : List Event) (j : Judgement) (f : TextFault) → j.events ≡ []
+pub stops_with : (m : Limits) (log : List Event) (j : Judgement) (f : TextFault) → j.events ≡ []
     → j.fault ≡ Some (f.line, f.cause) → finding_after m log j ≡ Err (Text f)
 stops_with m log j f p q =
     ap₂ (λ (lines : List (ℕ × Event)) (o : Option (ℕ × Cause)).

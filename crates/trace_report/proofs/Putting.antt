@@ -1,5 +1,7 @@
 -- Bytes that are put one after another.
 use Rattle.std.proofs.Common.{◌≡◌, ℕ, List, [], ◌++◌, Option, sym, ap, subst, ◌∙◌, append_assoc, append-nil}
+use Rattle.std.proofs.Common.{Result, Ok, Err}
+use Rattle.std.specs.Prelude.{OnOk}
 use Rattle.std.specs.Io.KnownBytes.{Appends}
 use Rattle.std.proofs.KnownBytes.{Appends-nil, Appends-trans}
 use Rattle.trace_report.specs.Pages.{Puts}
@@ -38,3 +40,11 @@ pub all_written : (a b : Option (List ℕ)) (q xs : List ℕ) → Puts a [] b q 
 all_written a b q xs h e =
     subst (λ (t : List ℕ). Appends a b t)
     (sym (h.is ∙ ap (λ (t : List ℕ). h.front ++ t) e ∙ append-nil h.front)) h.written
+
+-- the same, where the last of it was written if the end is well
+pub all_flushed : {X Y : Type 0} (end : Result X Y) (a b c : Option (List ℕ)) (p q r xs : List ℕ) → p ≡ []
+    → Puts a p b q xs → OnOk end (Puts b q c r []) → OnOk end (r ≡ []) → OnOk end (Appends a c xs)
+all_flushed (Ok x) a b c p q r xs none h k e =
+    all_written a c r xs
+    (subst (λ (w : List ℕ). Puts a w c r xs) none (put_same (append-nil xs) (put_both h k))) e
+all_flushed (Err x) a b c p q r xs none h k e = tt

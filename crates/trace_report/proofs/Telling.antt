@@ -1,7 +1,7 @@
 -- What an answer tells of a finding.
 use Rattle.std.proofs.Common.{◌≡◌, ◌≢◌, ℕ, List, Option, Some, None, Result, Ok, Err, true, false, refl, sym}
 use Rattle.std.proofs.Common.{ap, subst, ◌∙◌, arith}
-use Rattle.std.specs.Prelude.{IfOk, IfErr, IfSome, OnOk, OnErr, []}
+use Rattle.std.specs.Prelude.{IfOk, IfErr, OnOk, OnErr, []}
 use Rattle.std.specs.Option.{is_some}
 use Rattle.event_core.specs.declared.bounds.Limits.{Limits}
 use Rattle.rapid_text.specs.Cutting.{judged}
@@ -15,9 +15,9 @@ use Rattle.trace_report.specs.declared.faults.ReplayFault.{ReplayFault}
 use Rattle.trace_report.specs.declared.faults.ReplayFault.TheVariants.{Write}
 use Rattle.trace_report.specs.declared.summary.Summary.{Summary}
 use Rattle.trace_report.specs.Reports.{AreWithin}
-use Rattle.trace_report.specs.Replayed.{Trace, gives_up, answer_gives_up, fault_text, Told}
-use Rattle.trace_report.specs.Replayed.{finding, finding_after, fault_gives_up}
-use Rattle.trace_report.specs.Replaying.{Replaying, unfed, after, fault_or}
+use Rattle.trace_report.specs.Findings.{Trace, finding, finding_after}
+use Rattle.trace_report.specs.Replayed.{gives_up, answer_gives_up, fault_text, Told, TellsText, fault_gives_up}
+use Rattle.trace_report.specs.Replaying.{Replaying, unfed, after, fault_or, IsFed}
 use Rattle.trace_report.specs.Feeding.{is_short}
 
 -- the verdicts on a log name earlier events of it
@@ -84,14 +84,18 @@ tells_fault (Some f) later old new (Err h) t g = ap gives_up t.tells.0 ∙ g
 -- what the whole text comes to is told
 pub whole_told : (m : Limits) (start now : Replaying) (whole old new : Option (List ℕ))
     (answer : Result Summary ReplayFault) → start ≡ unfed m
-    → (fault_gives_up now.fault ≡ false → IfSome whole (λ text. after now [] ≡ after start text))
+    → (fault_gives_up now.fault ≡ false → IsFed whole start now)
     → (answer_gives_up answer ≡ false → Told old new (after now []) answer) → answer_gives_up answer ≡ false
-    → IfSome whole (λ text. Told old new (finding m text) answer)
+    → TellsText m whole old new answer
 unfolding finding
-whole_told m start now None old new answer is fed told g = tt
-whole_told m start now (Some text) old new answer is fed told g =
+whole_told m start now whole old new answer is fed told g =
     let t = told g in
     let stands = tells_fault now.fault (finding_after now.limits now.log
     (judged now.text [])) old new answer t g in
-    subst (λ (found : Result Trace ReplayFault). Told old new found answer)
-    (fed stands ∙ ap (λ (r : Replaying). after r text) is) t
+    let f = fed stands in
+    record {
+      text = f.text;
+      is_left = f.is_left;
+      told = subst (λ (found : Result Trace ReplayFault). Told old new found answer)
+          (f.same ∙ ap (λ (r : Replaying). after r f.text) is) t;
+    }

@@ -10,7 +10,8 @@ use Rattle.rapid_text.specs.declared.causes.Cause.TheVariants.{Read}
 use Rattle.rapid_text.specs.Cutting.{Cutting, judged, most}
 use Rattle.trace_report.specs.declared.faults.ReplayFault.{ReplayFault}
 use Rattle.trace_report.specs.declared.faults.ReplayFault.TheVariants.{Text}
-use Rattle.trace_report.specs.Replayed.{call_of, finding_after, gives_up}
+use Rattle.trace_report.specs.Findings.{call_of, finding_after}
+use Rattle.trace_report.specs.Replayed.{gives_up}
 
 -- why an event was not accepted
 abbrev pub Declines : Limits → List Event → Event → Refusal → Type 0

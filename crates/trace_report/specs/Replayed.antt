@@ -1,75 +1,20 @@
--- What a text comes to when it is replayed: a legal trace with its report, or the first line that is none.
-use Rattle.std.specs.Prelude.{
-  ◌≡◌,
-  ℕ,
-  List,
-  [],
-  ◌∷◌,
-  ◌++◌,
-  Bool,
-  true,
-  false,
-  Option,
-  Some,
-  None,
-  Result,
-  Ok,
-  Err,
-}
+-- What a replay writes and answers: the report of a legal trace, or the line of its first fault.
+use Rattle.std.specs.Prelude.{◌≡◌, ℕ, List, [], Bool, true, false, Option, Some, None, Result, Ok, Err, IfSome}
 use Rattle.std.specs.Io.KnownBytes.{Appends}
 use Rattle.event_core.specs.declared.bounds.Limits.{Limits}
-use Rattle.event_core.specs.declared.events.Call.{Call}
-use Rattle.event_core.specs.declared.events.Event.{Event}
 use Rattle.event_core.specs.declared.replies.Refusal.{Refusal}
 use Rattle.event_core.specs.declared.replies.Refusal.TheVariants as refusals
 use Rattle.event_core.specs.declared.replies.Verdict.{Verdict}
-use Rattle.event_core.specs.Refusal.{refusal, event_of}
 use Rattle.rapid_text.specs.declared.causes.Cause.{Cause}
 use Rattle.rapid_text.specs.declared.causes.Cause.TheVariants as causes
 use Rattle.rapid_text.specs.Faults.{cause_word, fault_line}
-use Rattle.rapid_text.specs.Tables.{Tables, no_names}
-use Rattle.rapid_text.specs.Texts.{Judgement, judgement}
 use Rattle.seq_monitor.specs.Monitored.{AreVerdicts}
 use Rattle.trace_report.specs.declared.faults.ReplayFault.{ReplayFault}
 use Rattle.trace_report.specs.declared.faults.ReplayFault.TheVariants.{Text, Refused, Write}
 use Rattle.trace_report.specs.declared.summary.Summary.{Summary}
+use Rattle.trace_report.specs.Findings.{Trace, finding}
 use Rattle.trace_report.specs.Reports.{report_of, summary_of}
 use Rattle.trace_report.specs.Words.{refusal_word}
-
--- ---- what a text comes to
-
--- the call that a line asks for; what a trace stores is 0
-abbrev pub call_of : Event → Call
-call_of e = record { thread = e.thread; op = e.op; site = e.site; arg = 0 }
-
--- a legal trace: its log, and the names of its numbers
-pub record Trace : Type 0 where
-  pub names : Tables
-  pub log : List Event
-
--- a fault of the text is found where no event before it is refused
-abbrev pub ended_with : Tables → List Event → Option (ℕ × Cause) → Result Trace ReplayFault
-ended_with names log None = Ok (record { names = names; log = log })
-ended_with names log (Some f) = Err (Text (record { line = f.0; cause = f.1 }))
-
-abbrev pub refused_or : ℕ → Option Refusal → Result Trace ReplayFault → Result Trace ReplayFault
-refused_or line None later = later
-refused_or line (Some r) later = Err (Refused line r)
-
--- the calls of the lines are made one after another, from this log on; the first that is refused ends it
-abbrev pub played : Limits → List Event → List (ℕ × Event) → (List Event → Result Trace ReplayFault)
-    → Result Trace ReplayFault
-played m log [] end = end log
-played m log (p ∷ ps) end =
-    refused_or p.0 (refusal m log (call_of p.1)) (played m (log ++ event_of log (call_of p.1) ∷ []) ps end)
-
--- what a judged text comes to after this log: its first event that is refused, else its fault, else its trace
-abbrev pub finding_after : Limits → List Event → Judgement → Result Trace ReplayFault
-finding_after m log j = played m log j.events (λ end. ended_with j.names end j.fault)
-
--- what a whole text comes to
-unfoldable pub finding : Limits → List ℕ → Result Trace ReplayFault
-finding m text = finding_after m [] (judgement (no_names m) text)
 
 -- ---- what is written
 
@@ -98,6 +43,14 @@ pub record Told (old new : Option (List ℕ)) (found : Result Trace ReplayFault)
   pub text : List ℕ
   pub tells : Tells found answer text
   pub written : Appends old new text
+
+-- what was written tells, together with the answer, what a whole text comes to: the one that the reader had
+-- left, where it tells this
+pub record TellsText (m : Limits) (left old new : Option (List ℕ)) (answer : Result Summary ReplayFault)
+    : Type 0 where
+  pub text : List ℕ
+  pub is_left : IfSome left (λ whole. text ≡ whole)
+  pub told : Told old new (finding m text) answer
 
 -- ---- faults that say nothing of the text
 

@@ -13,7 +13,7 @@ use rapid_text::{Kind, Names, Output, Word, WriteFault};
 use verdict_list::Race;
 
 /// Puts a label and a number.
-fn put_count<W: Output>(
+pub fn put_count<W: Output>(
     page: &mut Page,
     writer: &mut W,
     label: &str,

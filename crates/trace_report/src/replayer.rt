@@ -2,21 +2,21 @@
 ghost use Rattle.std.specs.Prelude.{◌≡◌, ◌≢◌, ◌⊎◌, ℕ, ◌+◌, ◌↔◌, ◌++◌, ◌∷◌, []};
 ghost use Rattle.std.specs.Prelude.{List, length, Ok, Err, None, Some, true, false};
 ghost use Rattle.std.specs.Prelude.{IfOk, IfErr, IfSome, OnOk, OnErr, IsTrue, ◌<◌, ◌≤◌, drop};
-ghost use Rattle.std.specs.Io.KnownBytes.{Appends};
 ghost use Rattle.event_core.specs.Refusal.{WellFormed, event_of, refusal};
 ghost use Rattle.rapid_text.specs.Cutting.{judged, most};
 ghost use Rattle.rapid_text.specs.declared.causes.Cause.TheVariants.{Read};
 ghost use Rattle.trace_report.specs.Reports.{AreNamed};
-ghost use Rattle.trace_report.specs.Replayed.{call_of, finding_after, gives_up, fault_gives_up};
-ghost use Rattle.trace_report.specs.Replayed.{answer_gives_up, fault_text, Told};
+ghost use Rattle.trace_report.specs.Findings.{call_of, finding_after};
+ghost use Rattle.trace_report.specs.Replayed.{gives_up, fault_gives_up, answer_gives_up, Told};
 ghost use Rattle.trace_report.specs.Replaying.{unfed, after, fault_or};
 ghost use Rattle.trace_report.specs.Feeding.{Takes, Fails, Declines, is_short};
 
+use crate::fault_lines::tell_fault;
 use crate::faults::ReplayFault;
 use crate::reporting::report;
 use crate::summary::Summary;
 use event_core::{Call, Event, Limits, OutOfMemory, Refusal};
-use rapid_text::{Cutter, Names, Output, WriteFault, write_fault};
+use rapid_text::{Cutter, Names, Output, WriteFault};
 use seq_monitor::Monitor;
 use std::alloc::Global;
 use std::marker::Model;
@@ -154,20 +154,6 @@ fn tell_trace<W: Output>(
         Ok(summary) => Ok(summary),
         Err(WriteFault) => Err(ReplayFault::Write),
     }
-}
-
-/// Writes the line that tells the fault, where it says something of the text.
-fn tell_fault<W: Output>(writer: &mut W, fault: ReplayFault) -> Result<(), WriteFault>
-    ensures ok { OnOk result (gives_up fault ≡ false
-        → Appends (W.written writer.old) (W.written writer.new) (fault_text fault)) }
-    ensures quiet { gives_up fault ≡ true → (result ≡ Ok tt) × (writer.new ≡ writer.old) }
-    ensures healthy { OnOk result (W.failed writer.new ≡ W.failed writer.old) }
-    ensures failed { OnErr result (W.failed writer.new ≡ true) }
-{
-    let Some((line, word)) = fault.line_and_word() else {
-        return Ok(());
-    };
-    write_fault(writer, line, word)
 }
 
 /// Ends the text, unless a fault stands, and writes what it comes to.

@@ -2,8 +2,8 @@
 ghost use Rattle.std.specs.Prelude.{◌≡◌, ◌≢◌, ◌⊎◌, ℕ, ◌+◌, ◌*◌, ◌≤◌, [], Err, None, Some, true, false};
 ghost use Rattle.std.specs.Prelude.{IfErr, IfSome, OnOk, length};
 ghost use Rattle.rapid_text.specs.Cutting.{most};
-ghost use Rattle.trace_report.specs.Replayed.{finding, fault_gives_up, answer_gives_up, Told};
-ghost use Rattle.trace_report.specs.Replaying.{after};
+ghost use Rattle.trace_report.specs.Replayed.{fault_gives_up, answer_gives_up, TellsText};
+ghost use Rattle.trace_report.specs.Replaying.{IsFed};
 ghost use Rattle.trace_report.specs.Feeding.{is_short};
 
 use crate::faults::ReplayFault;
@@ -18,7 +18,7 @@ fn feed_all<I: Input>(replayer: &mut Replayer, reader: &mut I, turns: u64)
     requires begins { replayer.old.fault ≡ None }
     requires room { replayer.old.text.taken + 4096 * turns ≤ most }
     ensures fed { fault_gives_up replayer.new.fault ≡ false
-        → IfSome (I.left reader.old) (λ text. after replayer.new [] ≡ after replayer.old text) }
+        → IsFed (I.left reader.old) replayer.old replayer.new }
     ensures read { IfSome replayer.new.fault (λ f. is_short f ≡ true
         → (I.failed reader.new ≡ true) ⊎ IfSome (I.left reader.old) (λ text. turns ≤ length text)) }
     ensures healthy { replayer.new.fault ≡ None → I.failed reader.new ≡ I.failed reader.old }
@@ -54,9 +54,9 @@ pub fn replay<I: Input, O: Output>(
     requires reads { I.failed reader.old ≡ false }
     requires writes { O.failed writer.old ≡ false }
     // What is written, and nothing else, tells what the whole text comes to, read or left unread, and so does
-    // the answer.
-    ensures tells { answer_gives_up result ≡ false → IfSome (I.left reader.old)
-        (λ text. Told (O.written writer.old) (O.written writer.new) (finding limits text) result) }
+    // the answer. A reader that does not tell its text had some text left of which this holds.
+    ensures tells { answer_gives_up result ≡ false → TellsText limits (I.left reader.old)
+        (O.written writer.old) (O.written writer.new) result }
     ensures quiet { answer_gives_up result ≡ true → result ≢ Err ReplayFault.Write → writer.new ≡ writer.old }
     // It is a read fault only where a read failed, or the text has as many bytes as there are turns.
     ensures short { IfErr result (λ f. is_short f ≡ true

@@ -1,7 +1,3 @@
-pub mod Refused
-pub mod Values
-pub mod Found
-pub mod Progress
 pub mod Reading
 pub mod Shortage
 pub mod Keeping

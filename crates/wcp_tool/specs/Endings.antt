@@ -5,11 +5,9 @@ use Rattle.event_core.specs.declared.replies.Refusal.TheVariants as refusals
 use Rattle.rapid_text.specs.declared.causes.Cause.{Cause}
 use Rattle.rapid_text.specs.declared.causes.Cause.TheVariants as causes
 use Rattle.wcp_tool.specs.declared.answers.Counts.{Counts}
-use Rattle.wcp_tool.specs.declared.answers.CheckFault.{CheckFault}
-use Rattle.wcp_tool.specs.declared.answers.CheckFault.TheVariants as faults
 use Rattle.wcp_tool.specs.declared.endings.Ending.{Ending}
 use Rattle.trace_report.specs.declared.faults.ReplayFault.{ReplayFault}
-use Rattle.trace_report.specs.declared.faults.ReplayFault.TheVariants as replays
+use Rattle.trace_report.specs.declared.faults.ReplayFault.TheVariants as faults
 use Rattle.trace_report.specs.declared.summary.Summary.{Summary}
 use Rattle.wcp_tool.specs.declared.endings.Ending.TheVariants.{Done, Races, WrongUsage, Refused, ReadFault}
 use Rattle.wcp_tool.specs.declared.endings.Ending.TheVariants.{WriteFault, OutOfMemory, BrokenScript}
@@ -34,12 +32,16 @@ abbrev pub refusal_ending : Refusal → Ending
 refusal_ending refusals.OutOfMemory = OutOfMemory
 refusal_ending _ = Refused
 
+-- how a check or a replay with this fault ends
+abbrev pub fault_ending : ReplayFault → Ending
+fault_ending (faults.Text f) = cause_ending f.cause
+fault_ending (faults.Refused line r) = refusal_ending r
+fault_ending faults.Write = WriteFault
+
 -- how a check with this answer ends
-abbrev pub ending_for : Result Counts CheckFault → Ending
-ending_for (Ok counts) = Done
-ending_for (Err (faults.Text f)) = cause_ending f.cause
-ending_for (Err (faults.Refused line r)) = refusal_ending r
-ending_for (Err faults.Write) = WriteFault
+abbrev pub check_ending : Result Counts ReplayFault → Ending
+check_ending (Ok counts) = Done
+check_ending (Err f) = fault_ending f
 
 -- how a run with this report ends
 abbrev pub summary_ending : Summary → Ending
@@ -48,6 +50,4 @@ summary_ending summary = cond (nat_eq summary.races 0) Done Races
 -- how a replay with this answer ends
 abbrev pub replay_ending : Result Summary ReplayFault → Ending
 replay_ending (Ok summary) = summary_ending summary
-replay_ending (Err (replays.Text f)) = cause_ending f.cause
-replay_ending (Err (replays.Refused line r)) = refusal_ending r
-replay_ending (Err replays.Write) = WriteFault
+replay_ending (Err f) = fault_ending f

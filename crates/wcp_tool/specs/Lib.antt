@@ -1,5 +1,4 @@
 pub mod Printed
-pub mod Refused
 pub mod Checked
 pub mod Endings
 pub mod CommandLine

@@ -12,14 +12,15 @@ use Rattle.rapid_text.specs.Tables.{Tables}
 use Rattle.clap.specs.Words.{Text}
 use Rattle.trace_report.specs.declared.faults.ReplayFault.{ReplayFault}
 use Rattle.trace_report.specs.declared.summary.Summary.{Summary}
-use Rattle.trace_report.specs.Replayed.{Told, finding as replayed}
+use Rattle.trace_report.specs.Replayed.{TellsText}
 use Rattle.wcp_tool.specs.declared.requests.UsageFault.{UsageFault}
 use Rattle.wcp_tool.specs.declared.requests.UsageFault.TheVariants as faults
 use Rattle.wcp_tool.specs.declared.endings.Ending.{Ending}
 use Rattle.wcp_tool.specs.declared.endings.Ending.TheVariants.{Done, WrongUsage, WriteFault, OutOfMemory}
-use Rattle.wcp_tool.specs.Checked.{checked, finding}
+use Rattle.wcp_tool.specs.declared.answers.Counts.{Counts}
+use Rattle.wcp_tool.specs.Checked.{answer_for, gives_up, told}
 use Rattle.wcp_tool.specs.CommandLine.{Request, asked, check, faults_of, is_answer, is_mistake, replay, run}
-use Rattle.wcp_tool.specs.Endings.{ending_for, replay_ending, status_of}
+use Rattle.wcp_tool.specs.Endings.{check_ending, replay_ending, status_of}
 use Rattle.wcp_tool.specs.ScriptRuns.{ReportsLog, RunsText, TellsRefusal}
 
 -- ---- a run of a command
@@ -34,16 +35,20 @@ limits_with threads roots = record {
   roots = roots;
 }
 
--- the whole text was checked: the one line that tells what it comes to was written, and so ends the program
-pub record Checks (m : Limits) (text : List ℕ) (old new : Option (List ℕ)) (status : ℕ) : Type 0 where
-  pub written : Appends old new (checked m text)
-  pub ends : status ≡ status_of (ending_for (finding m text))
+-- a text was checked: the one line that tells the answer was written, and so ends the program. Where the
+-- reader tells the text that it had left, the answer is the one for that whole text.
+pub record Checks (m : Limits) (left old new : Option (List ℕ)) (status : ℕ) : Type 0 where
+  pub answer : Result Counts ReplayFault
+  pub is_for : IfSome left (λ text. answer ≡ answer_for m text)
+  pub says : gives_up answer ≡ false
+  pub written : Appends old new (told answer)
+  pub ends : status ≡ status_of (check_ending answer)
 
--- the whole text was replayed: what was written tells what it comes to, its report or its one fault line, and
--- so ends the program
-pub record Replays (m : Limits) (text : List ℕ) (old new : Option (List ℕ)) (status : ℕ) : Type 0 where
+-- a text was replayed: what was written tells what it comes to, its report or its one fault line, and so ends
+-- the program. Where the reader tells the text that it had left, it is that whole text.
+pub record Replays (m : Limits) (left old new : Option (List ℕ)) (status : ℕ) : Type 0 where
   pub answer : Result Summary ReplayFault
-  pub told : Told old new (replayed m text) answer
+  pub tells : TellsText m left old new answer
   pub ends : status ≡ status_of (replay_ending answer)
 
 -- threads were run: the report of a well-formed log was written, with the definition's verdict on each event,
@@ -63,10 +68,8 @@ pub record PerformsRun (m : Limits) (old new : Option (List ℕ)) (status : ℕ)
 
 -- what is done for a request with so many threads, where the reader had this text left
 abbrev pub Performs : Request → ℕ → Option (List ℕ) → Option (List ℕ) → Option (List ℕ) → ℕ → Type 0
-Performs check threads left old new status =
-    IfSome left (λ text. Checks (limits_with threads Free) text old new status)
-Performs replay threads left old new status =
-    IfSome left (λ text. Replays (limits_with threads Free) text old new status)
+Performs check threads left old new status = Checks (limits_with threads Free) left old new status
+Performs replay threads left old new status = Replays (limits_with threads Free) left old new status
 Performs (run path) threads left old new status = PerformsRun (limits_with threads OnlyMain) old new status
 
 -- the trace was not read to its end: a read failed, or it has as many bytes as there are turns. What a script
@@ -81,16 +84,17 @@ IsCut request left failed = (failed ≡ true) ⊎ IfSome left (λ text. 17592186
 abbrev pub IsUnhindered : ℕ → Type 0
 IsUnhindered status = (status ≢ 4) × (status ≢ 5)
 
+-- the writer failed, or what the words ask for was not read to its end
+abbrev pub IsHindered : List Text → Option (List ℕ) → Bool → Bool → Type 0
+IsHindered words left read_failed write_failed =
+    (write_failed ≡ true) ⊎ IsSomeAnd (asked words) (λ a. IsCut a.request left read_failed)
+
 -- what the program does for these words, where the reader had this text left, and the writer this one before
--- and after, and they failed or did not
-pub record Runs (words : List Text) (left old new : Option (List ℕ)) (read_failed write_failed : Bool)
-    (status : ℕ) : Type 0 where
+-- and after
+pub record Runs (words : List Text) (left old new : Option (List ℕ)) (status : ℕ) : Type 0 where
   -- words without a fault ask for a command: a trace is judged whole, read or left unread
   pub performs : faults_of words ≡ [] → IsUnhindered status
       → IsSomeAnd (asked words) (λ a. Performs a.request a.threads left old new status)
-  -- with status 4 the writer failed, or what the words ask for was not read to its end
-  pub hindered : status ≡ 4
-      → (write_failed ≡ true) ⊎ IsSomeAnd (asked words) (λ a. IsCut a.request left read_failed)
   -- it is a usage fault only where the words have one
   pub takes : faults_of words ≡ [] → status ≢ 2
   -- words that can only be wrong are a usage fault

@@ -7,7 +7,7 @@ ghost use Rattle.wcp_tool.specs.CommandLine.{trace_command, run_command as run_s
 ghost use Rattle.wcp_tool.specs.CommandLine.{file_argument as file_rule};
 ghost use Rattle.wcp_tool.specs.CommandLine.{TellsKind, faults_of, asked, asked_by, IsFaultAt};
 
-use crate::help_texts::{CHECK_TEXTS, REPLAY_TEXTS, RUN_TEXTS, STATUSES};
+use crate::help_texts::{CHECK_TEXTS, PROGRAM_TEXTS, REPLAY_TEXTS, RUN_TEXTS};
 use crate::options::{DEFAULT_PATIENCE, patience_of, patience_option, threads_of, threads_option};
 use crate::requests::{Command, Settings, UsageFault};
 use clap::error::ErrorKind;
@@ -21,7 +21,7 @@ fn check_command<'a>(alloc: Global) -> Result<clap::Command<'a>, AllocError>
     ensures shape { IfOk result (λ c. shape_of c ≡ trace_command (codes "check")) }
 {
     clap::Command::new(alloc, "check")
-        .about("Says whether the trace on standard input is legal, or which line is not and why")
+        .about("Says whether a trace is legal, or which line is refused and why")
         .override_usage("wcp check [OPTIONS] < TRACE")
         .after_help(CHECK_TEXTS)
         .arg(threads_option(alloc))
@@ -33,7 +33,7 @@ fn replay_command<'a>(alloc: Global) -> Result<clap::Command<'a>, AllocError>
     ensures shape { IfOk result (λ c. shape_of c ≡ trace_command (codes "replay")) }
 {
     clap::Command::new(alloc, "replay")
-        .about("Reports the races of the trace on standard input")
+        .about("Reports the races of a trace")
         .override_usage("wcp replay [OPTIONS] < TRACE")
         .after_help(REPLAY_TEXTS)
         .arg(threads_option(alloc))
@@ -81,8 +81,8 @@ fn bare_command<'a>(alloc: Global) -> Result<clap::Command<'a>, AllocError>
     Ok(
         named
             .version("0.1.0")
-            .about("Judges traces of programs with threads, locks and variables")
-            .after_help(STATUSES)
+            .about("Finds the data races of programs with threads, locks and variables")
+            .after_help(PROGRAM_TEXTS)
             .no_binary_name(true)
             .arg_required_else_help(true)
             .subcommand_required(true),

@@ -1,10 +1,10 @@
 //! How the program ends: its exit status, and what standard error says of it.
 ghost use Rattle.std.specs.Prelude.{◌≡◌};
-ghost use Rattle.wcp_tool.specs.Endings.{status_of, ending_for, cause_ending as for_cause};
-ghost use Rattle.wcp_tool.specs.Endings.{refusal_ending as for_refusal, replay_ending};
+ghost use Rattle.wcp_tool.specs.Endings.{status_of, check_ending, replay_ending, cause_ending as for_cause};
+ghost use Rattle.wcp_tool.specs.Endings.{refusal_ending as for_refusal, fault_ending as for_fault};
 ghost use Rattle.wcp_tool.specs.Endings.{summary_ending as for_summary};
 
-use crate::answers::{CheckFault, Counts};
+use crate::answers::Counts;
 use event_core::Refusal;
 use rapid_text::{Cause, Output, write_all};
 use trace_report::{ReplayFault, Summary};
@@ -90,15 +90,24 @@ fn refusal_ending(refusal: Refusal) -> Ending
     }
 }
 
+/// How a check or a replay with this fault ends.
+fn fault_ending(fault: ReplayFault) -> Ending
+    ensures { result ≡ for_fault fault }
+{
+    match fault {
+        ReplayFault::Text(fault) => cause_ending(fault.cause),
+        ReplayFault::Refused { refusal, .. } => refusal_ending(refusal),
+        ReplayFault::Write => Ending::WriteFault,
+    }
+}
+
 /// How a check with this answer ends.
-pub(crate) fn ending_of(answer: &Result<Counts, CheckFault>) -> Ending
-    ensures { result ≡ ending_for answer.now }
+pub(crate) fn ending_of_check(answer: &Result<Counts, ReplayFault>) -> Ending
+    ensures { result ≡ check_ending answer.now }
 {
     match answer {
         Ok(_) => Ending::Done,
-        Err(CheckFault::Text(fault)) => cause_ending(fault.cause),
-        Err(CheckFault::Refused { refusal, .. }) => refusal_ending(*refusal),
-        Err(CheckFault::Write) => Ending::WriteFault,
+        Err(fault) => fault_ending(*fault),
     }
 }
 
@@ -119,8 +128,6 @@ pub(crate) fn ending_of_replay(answer: &Result<Summary, ReplayFault>) -> Ending
 {
     match answer {
         Ok(summary) => summary_ending(summary),
-        Err(ReplayFault::Text(fault)) => cause_ending(fault.cause),
-        Err(ReplayFault::Refused { refusal, .. }) => refusal_ending(*refusal),
-        Err(ReplayFault::Write) => Ending::WriteFault,
+        Err(fault) => fault_ending(*fault),
     }
 }

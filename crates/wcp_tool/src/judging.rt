@@ -5,15 +5,16 @@ ghost use Rattle.std.specs.Prelude.{true, false, length, OnOk, IfErr, IfSome};
 ghost use Rattle.event_core.specs.declared.events.Event.{Event as Entry};
 ghost use Rattle.event_core.specs.Refusal.{refusal, event_of};
 ghost use Rattle.traced_mem.specs.OfLog.{StandsFor};
-ghost use Rattle.trace_report.specs.Replayed.{call_of};
+ghost use Rattle.trace_report.specs.Findings.{call_of};
 ghost use Rattle.rapid_text.specs.Pulling.{to_judge};
 ghost use Rattle.rapid_text.specs.Turns.{TakeBytes};
-ghost use Rattle.wcp_tool.specs.Checked.{finding, finding_in, gives_up, is_short, counts_of};
+ghost use Rattle.wcp_tool.specs.Checked.{answer_for, answer_in, gives_up, is_short, counts_of};
 
-use crate::answers::{CheckFault, Counts};
+use crate::answers::Counts;
 use event_core::{Call, Event, Limits, Refusal};
 use rapid_text::{Cause, Input, Kind, Names, Puller, TextFault};
 use std::alloc::Global;
+use trace_report::ReplayFault;
 use traced_mem::Memory;
 
 /// Performs the call of an event, where it is allowed.
@@ -63,17 +64,17 @@ fn judge_lines<I: Input>(
     reader: &mut I,
     memory: &mut Memory,
     limits: &Limits,
-) -> Result<Counts, CheckFault>
+) -> Result<Counts, ReplayFault>
     requires limits { memory.old.limits ≡ limits.now }
     requires begins { text.old.failed ≡ None }
     requires empty { StandsFor memory.old [] }
     ensures finds { gives_up result ≡ false
         → IfSome (to_judge text.old (I.left reader.old))
-        (λ whole. result ≡ finding_in memory.old.limits whole) }
+        (λ whole. result ≡ answer_in memory.old.limits whole) }
     ensures read { is_short result ≡ true → (I.failed reader.new ≡ true)
         ⊎ TakeBytes text.old.turns (I.left reader.old) 0 (I.left reader.new) }
     ensures healthy { OnOk result (I.failed reader.new ≡ I.failed reader.old) }
-    ensures unwritten { result ≢ Err CheckFault.Write }
+    ensures unwritten { result ≢ Err ReplayFault.Write }
 {
     // No log has more events than this, so the count below is within its range.
     let _most = limits.events();
@@ -81,13 +82,13 @@ fn judge_lines<I: Input>(
     'lines: loop {
         let next = match text.next(reader) {
             Ok(next) => next,
-            Err(fault) => return Err(CheckFault::Text(fault)),
+            Err(fault) => return Err(ReplayFault::Text(fault)),
         };
         let Some(event) = next else {
             return Ok(counts(events, text.names()));
         };
         if let Err(refusal) = accept(memory, &event) {
-            return Err(CheckFault::Refused {
+            return Err(ReplayFault::Refused {
                 line: text.line(),
                 refusal,
             });
@@ -102,18 +103,18 @@ fn judge<I: Input>(
     text: &mut Puller,
     reader: &mut I,
     limits: Limits,
-) -> Result<Counts, CheckFault>
+) -> Result<Counts, ReplayFault>
     requires begins { text.old.failed ≡ None }
     ensures finds { gives_up result ≡ false
-        → IfSome (to_judge text.old (I.left reader.old)) (λ whole. result ≡ finding_in limits whole) }
+        → IfSome (to_judge text.old (I.left reader.old)) (λ whole. result ≡ answer_in limits whole) }
     ensures read { is_short result ≡ true → (I.failed reader.new ≡ true)
         ⊎ TakeBytes text.old.turns (I.left reader.old) 0 (I.left reader.new) }
     ensures healthy { OnOk result (I.failed reader.new ≡ I.failed reader.old) }
-    ensures unwritten { result ≢ Err CheckFault.Write }
+    ensures unwritten { result ≢ Err ReplayFault.Write }
 {
     match Memory::new(alloc, limits) {
         Ok(mut memory) => judge_lines(text, reader, &mut memory, &limits),
-        Err(_) => Err(CheckFault::Refused {
+        Err(_) => Err(ReplayFault::Refused {
             line: 1,
             refusal: Refusal::OutOfMemory,
         }),
@@ -126,18 +127,18 @@ pub(crate) fn find<I: Input>(
     reader: &mut I,
     limits: Limits,
     turns: u64,
-) -> Result<Counts, CheckFault>
+) -> Result<Counts, ReplayFault>
     requires turns { turns ≤ 17592186044416 }
     ensures finds { gives_up result ≡ false
-        → IfSome (I.left reader.old) (λ text. result ≡ finding limits text) }
+        → IfSome (I.left reader.old) (λ text. result ≡ answer_for limits text) }
     ensures read { is_short result ≡ true
         → (I.failed reader.new ≡ true) ⊎ IfSome (I.left reader.old) (λ text. turns ≤ length text) }
     ensures healthy { OnOk result (I.failed reader.new ≡ I.failed reader.old) }
-    ensures unwritten { result ≢ Err CheckFault.Write }
+    ensures unwritten { result ≢ Err ReplayFault.Write }
 {
     match Puller::new(alloc, limits, turns) {
         Ok(mut text) => judge(alloc, &mut text, reader, limits),
-        Err(_) => Err(CheckFault::Text(TextFault {
+        Err(_) => Err(ReplayFault::Text(TextFault {
             line: 1,
             cause: Cause::OutOfMemory,
         })),

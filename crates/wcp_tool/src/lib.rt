@@ -8,7 +8,6 @@ mod command_line;
 mod endings;
 mod help_texts;
 mod judging;
-pub mod laws;
 mod naming;
 mod options;
 mod printed;
@@ -16,9 +15,11 @@ mod requests;
 mod running;
 mod scripts;
 
-pub use answers::{CheckFault, Counts};
+pub use answers::Counts;
 pub use checking::check;
 pub use command_line::settings;
 pub use requests::{Command, Settings, UsageFault};
 pub use running::{program, tool};
 pub use scripts::run_script;
+/// Why a check has no counts.
+pub use trace_report::ReplayFault as CheckFault;

@@ -23,7 +23,7 @@ const THREADS: NumberOption = NumberOption {
     most: 1024,
     default: 64,
     default_text: "64",
-    help: "How many threads may be named, from 1 to 1024",
+    help: "How many threads may be named, 1 to 1024",
 };
 
 /// The patience where none is given.
@@ -34,7 +34,7 @@ const PATIENCE: NumberOption = NumberOption {
     most: 4294967295,
     default: DEFAULT_PATIENCE,
     default_text: "1000000",
-    help: "How often a line is tried before its thread is stuck, from 1 to 4294967295",
+    help: "Most tries of a call, 1 to 4294967295",
 };
 
 /// The option as clap is told of it.

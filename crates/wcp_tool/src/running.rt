@@ -4,14 +4,14 @@ ghost use Rattle.std.specs.Prelude.{map};
 ghost use Rattle.clap.specs.Words.{Text};
 ghost use Rattle.wcp_tool.specs.Endings.{status_of};
 ghost use Rattle.wcp_tool.specs.CommandLine.{request_of};
-ghost use Rattle.wcp_tool.specs.Running.{Checks, Replays, Performs, IsCut, IsUnhindered, Runs, EndsAs};
-ghost use Rattle.wcp_tool.specs.Running.{is_help, limits_with};
+ghost use Rattle.wcp_tool.specs.Running.{Checks, Replays, Performs, IsCut, IsHindered, IsUnhindered, Runs};
+ghost use Rattle.wcp_tool.specs.Running.{EndsAs, is_help, limits_with};
 ghost use Rattle.event_core.specs.declared.bounds.Roots.TheVariants.{Free};
 
 use crate::bounds::{TURNS, limits_of};
 use crate::checking::check;
 use crate::command_line::settings;
-use crate::endings::{Ending, ending_of, ending_of_replay, finish};
+use crate::endings::{Ending, ending_of_check, ending_of_replay, finish};
 use crate::requests::{Command, Settings, UsageFault};
 use crate::scripts::run_file;
 use event_core::Roots;
@@ -37,8 +37,8 @@ fn run_check<I: Input, O: Output>(
     requires reads { I.failed reader.old ≡ false }
     requires writes { O.failed writer.old ≡ false }
     ensures performs { result ≢ Ending.ReadFault → result ≢ Ending.WriteFault → result ≢ Ending.OutOfMemory
-        → IfSome (I.left reader.old) (λ text. Checks (limits_with threads Free) text (O.written writer.old)
-        (O.written writer.new) (status_of result)) }
+        → Checks (limits_with threads Free) (I.left reader.old) (O.written writer.old)
+        (O.written writer.new) (status_of result) }
     ensures usage { result ≢ Ending.WrongUsage }
     ensures quiet { (result ≡ Ending.ReadFault) ⊎ (result ≡ Ending.OutOfMemory) → writer.new ≡ writer.old }
     ensures short { result ≡ Ending.ReadFault → (I.failed reader.new ≡ true)
@@ -49,7 +49,7 @@ fn run_check<I: Input, O: Output>(
 {
     let limits = limits_of(threads, Roots::Free);
     let answer = check(alloc, reader, writer, limits, TURNS);
-    ending_of(&answer)
+    ending_of_check(&answer)
 }
 
 /// The command `replay`.
@@ -63,8 +63,8 @@ fn run_replay<I: Input, O: Output>(
     requires reads { I.failed reader.old ≡ false }
     requires writes { O.failed writer.old ≡ false }
     ensures performs { result ≢ Ending.ReadFault → result ≢ Ending.WriteFault → result ≢ Ending.OutOfMemory
-        → IfSome (I.left reader.old) (λ text. Replays (limits_with threads Free) text (O.written writer.old)
-        (O.written writer.new) (status_of result)) }
+        → Replays (limits_with threads Free) (I.left reader.old) (O.written writer.old)
+        (O.written writer.new) (status_of result) }
     ensures usage { result ≢ Ending.WrongUsage }
     ensures quiet { (result ≡ Ending.ReadFault) ⊎ (result ≡ Ending.OutOfMemory) → writer.new ≡ writer.old }
     ensures short { result ≡ Ending.ReadFault → (I.failed reader.new ≡ true)
@@ -98,7 +98,7 @@ fn run<R: AllocGlobal + Files + Threads + Wait + Sync, I: Input, O: Output, E: O
     ensures usage { result ≢ 2 }
     ensures quiet { result ≡ 5 → writer.new ≡ writer.old }
     ensures devices { result ≡ 4 → (O.failed writer.new ≡ true) ⊎ (writer.new ≡ writer.old) }
-    ensures read { result ≡ 0 → I.failed reader.new ≡ false }
+    ensures read { (result ≡ 0) ⊎ (result ≡ 1) → I.failed reader.new ≡ false }
     ensures written { result ≢ 4 → O.failed writer.new ≡ false }
 {
     match &settings.command {
@@ -149,16 +149,20 @@ pub fn tool<
     requires writes { O.failed writer.old ≡ false }
     // It performs what the words ask for on the whole text that the reader has left, or answers them.
     ensures runs { Runs (map S.text words.now) (I.left reader.old) (O.written writer.old)
-        (O.written writer.new) (I.failed reader.new) (O.failed writer.new) result }
+        (O.written writer.new) result }
     ensures range { result ≤ 6 }
     // Nothing is written to standard output where the words are wrong or memory ran out.
     ensures quiet { (result ≡ 2) ⊎ (result ≡ 5) → writer.new ≡ writer.old }
-    // Status 4 tells that the writer failed or took no byte, or else that the input was not read to its end,
-    // and then nothing is written.
+    // It ends with 4 only where the writer failed or took no byte, or what the words ask for was not read to
+    // its end: a read failed, or the input has as many bytes as there are turns.
+    ensures hindered { result ≡ 4 → IsHindered (map S.text words.now) (I.left reader.old)
+        (I.failed reader.new) (O.failed writer.new) }
+    // Where the writer did not fail, nothing is written then.
     ensures devices { result ≡ 4 → (O.failed writer.new ≡ true) ⊎ (writer.new ≡ writer.old) }
-    // It ends with 0 only where no read and no write of it failed.
-    ensures read { result ≡ 0 → I.failed reader.new ≡ false }
-    ensures written { result ≡ 0 → O.failed writer.new ≡ false }
+    // It ends with 0 or 1 only where no read failed.
+    ensures read { (result ≡ 0) ⊎ (result ≡ 1) → I.failed reader.new ≡ false }
+    // With any status but 4 all was written that there was to write.
+    ensures written { result ≢ 4 → O.failed writer.new ≡ false }
 {
     match settings(rt.alloc(), words) {
         Ok(settings) => run(rt, &settings, reader, writer, errors),
@@ -194,14 +198,20 @@ pub fn program<
     requires reads { I.failed reader.old ≡ false }
     requires writes { O.failed writer.old ≡ false }
     // It is a run for some words, or the words could not be had: they are no text, or memory ran out.
-    ensures runs { ((words : List Text) × Runs words (I.left reader.old) (O.written writer.old)
-        (O.written writer.new) (I.failed reader.new) (O.failed writer.new) result)
+    ensures runs { ((words : List Text)
+        × Runs words (I.left reader.old) (O.written writer.old) (O.written writer.new) result
+        × (result ≡ 4
+        → IsHindered words (I.left reader.old) (I.failed reader.new) (O.failed writer.new)))
         ⊎ ((result ≡ 2) ⊎ (result ≡ 5)) }
     ensures range { result ≤ 6 }
+    // Nothing is written to standard output where the words are wrong or memory ran out.
     ensures quiet { (result ≡ 2) ⊎ (result ≡ 5) → writer.new ≡ writer.old }
+    // With status 4 the writer failed or took no byte, or nothing is written.
     ensures devices { result ≡ 4 → (O.failed writer.new ≡ true) ⊎ (writer.new ≡ writer.old) }
-    ensures read { result ≡ 0 → I.failed reader.new ≡ false }
-    ensures written { result ≡ 0 → O.failed writer.new ≡ false }
+    // It ends with 0 or 1 only where no read failed.
+    ensures read { (result ≡ 0) ⊎ (result ≡ 1) → I.failed reader.new ≡ false }
+    // With any status but 4 all was written that there was to write.
+    ensures written { result ≢ 4 → O.failed writer.new ≡ false }
 {
     match words(rt) {
         Ok(words) => tool(rt, words.as_slice(), reader, writer, errors),

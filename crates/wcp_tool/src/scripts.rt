@@ -15,14 +15,14 @@ use crate::naming::are_named;
 use crate::requests::Settings;
 use event_core::{Limits, Roots};
 use live_monitor::Closed;
-use rapid_text::{Device, Input, Names, Output, write_fault};
+use rapid_text::{Device, Input, Names, Output};
 use script_drive::{DriveFault, FreeGate, drive};
 use script_text::{Script, ScriptCause, ScriptFault};
 use std::fs;
 use std::fs::Files;
 use std::sync::Wait;
 use std::thread::Threads;
-use trace_report::{refusal_word, report};
+use trace_report::{refusal_word, report, write_fault_line};
 
 /// Writes `line N: WORD`, and ends so.
 fn tell<O: Output>(writer: &mut O, line: u64, word: &str, ending: Ending) -> Ending
@@ -34,7 +34,7 @@ fn tell<O: Output>(writer: &mut O, line: u64, word: &str, ending: Ending) -> End
     ensures write_fault { result ≡ Ending.WriteFault → O.failed writer.new ≡ true }
     ensures written { result ≢ Ending.WriteFault → O.failed writer.new ≡ false }
 {
-    match write_fault(writer, line, word) {
+    match write_fault_line(writer, line, word) {
         Ok(()) => ending,
         Err(_) => Ending::WriteFault,
     }

@@ -8,7 +8,7 @@ use Rattle.event_core.specs.Refusal.{refusal, event_of, WellFormed}
 use Rattle.rapid_text.specs.Cutting.{judged}
 use Rattle.rapid_text.specs.Events.{IsOfNames}
 use Rattle.trace_report.specs.Reports.{AreNamed}
-use Rattle.trace_report.specs.Replayed.{call_of, finding_after}
+use Rattle.trace_report.specs.Findings.{call_of, finding_after}
 use Rattle.trace_report.specs.Feeding.{Declines}
 use Rattle.trace_report.proofs.Naming.{named_kept, named_line}
 use Rattle.trace_report.proofs.Playing.{pushed_event, pushed_refused, pushed_nothing, push_stops, push_read}

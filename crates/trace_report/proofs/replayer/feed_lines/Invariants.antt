@@ -2,7 +2,7 @@ use Rattle.std.proofs.Common.{◌≡◌, ◌+◌, ◌-◌, ◌++◌, ℕ, List, 
 use Rattle.event_core.specs.Refusal.{WellFormed}
 use Rattle.rapid_text.specs.Cutting.{judged}
 use Rattle.trace_report.specs.Reports.{AreNamed}
-use Rattle.trace_report.specs.Replayed.{finding_after}
+use Rattle.trace_report.specs.Findings.{finding_after}
 use Rattle.trace_report.proofs.replayer.feed_lines.Given as goal
 
 abbrev pub invariant-lines : goal.invariant-lines

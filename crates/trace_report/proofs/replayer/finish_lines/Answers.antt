@@ -4,7 +4,7 @@ use Rattle.event_core.specs.declared.events.Event.{Event}
 use Rattle.rapid_text.specs.Events.{IsOfNames}
 use Rattle.trace_report.specs.Reports.{AreNamed}
 use Rattle.trace_report.specs.declared.faults.ReplayFault.{ReplayFault}
-use Rattle.trace_report.specs.Replayed.{Trace}
+use Rattle.trace_report.specs.Findings.{Trace}
 use Rattle.trace_report.proofs.Naming.{named_kept, named_line}
 use Rattle.trace_report.proofs.Playing.{
   closed_event,

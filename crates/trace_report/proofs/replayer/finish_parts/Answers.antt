@@ -2,7 +2,7 @@ use Rattle.std.proofs.Common.{◌≡◌, Some, Result, Ok, sym, ap, subst, ◌�
 use Rattle.rapid_text.specs.Tables.{Tables}
 use Rattle.trace_report.specs.declared.faults.ReplayFault.{ReplayFault}
 use Rattle.trace_report.specs.Reports.{AreNamed}
-use Rattle.trace_report.specs.Replayed.{Trace}
+use Rattle.trace_report.specs.Findings.{Trace}
 use Rattle.trace_report.proofs.Telling.{trace_told, only_write, write_is_not_short, on_any, healthy_or_write}
 use Rattle.trace_report.proofs.Telling.{failed_by_write}
 use Rattle.trace_report.proofs.replayer.finish_parts.Goals as goal

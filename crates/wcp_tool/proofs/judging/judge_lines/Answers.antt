@@ -4,7 +4,7 @@ use Rattle.event_core.specs.declared.bounds.Limits.{Limits}
 use Rattle.rapid_text.specs.Texts.{Judgement}
 use Rattle.rapid_text.specs.Pulling.{to_judge}
 use Rattle.wcp_tool.specs.declared.answers.Counts.{Counts}
-use Rattle.wcp_tool.specs.Checked.{finding_in, counts_of}
+use Rattle.wcp_tool.specs.Checked.{answer_in, counts_of}
 use Rattle.wcp_tool.proofs.Reading.{judging_begins, judging_more, judging_ends, judging_refused}
 use Rattle.wcp_tool.proofs.Reading.{judging_stops, within_limits, tells_event, tells_end}
 use Rattle.wcp_tool.proofs.Shortage.{was_short, takes_all, is_read_cause, not_true, ran_out}
@@ -55,7 +55,7 @@ returns-in_default-clause-finds g c h =
     c.lines.events c.next.new.self.names c.lines.invariant.judging end in
     let is : c.counts.result ≡ counts_of c.lines.events c.next.new.self.names =
     c.counts.ensures ∙ ap (counts_of c.lines.events) c.names.ensures in
-    subst (λ (x : Counts). IfSome whole (λ w. Ok x ≡ finding_in c.args.memory.now.limits w)) (sym is) found
+    subst (λ (x : Counts). IfSome whole (λ w. Ok x ≡ answer_in c.args.memory.now.limits w)) (sym is) found
 
 pub returns-in-Err-accept-clause-finds : goal.returns-in-Err-accept-clause-finds
 returns-in-Err-accept-clause-finds g c h =
@@ -83,7 +83,7 @@ grown g c =
       judging = judging_more c.args.memory.now.limits whole (to_judge c.lines.text before)
           (to_judge c.next.new.self after) c.lines.memory c.accept.new.memory c.lines.events
           c.next.new.self.line c.in-Some.event c.lines.invariant.judging event c.accept.ensures.limits
-          c.in_default-accept.ensures.stands;
+          c.in_default-accept.ensures.allowed c.in_default-accept.ensures.stands;
       bytes = λ e. takes_all c.args.text.now.turns c.lines.text.turns c.next.new.self.turns
           (g.I.Input.left c.args.reader.now) before after (c.lines.invariant.bytes going)
           (c.in-Ok.ensures.bytes e);

@@ -12,9 +12,26 @@ use Rattle.event_core.specs.declared.replies.Refusal.{Refusal}
 use Rattle.event_core.specs.Refusal.{refusal, WellFormed, Legal, event_of, value_of, last_value}
 use Rattle.event_core.specs.Refusal.{last_value_from, op_stores}
 use Rattle.event_core.proofs.Growth.{well_formed_grown, well_formed_front, well_formed_last}
-use Rattle.trace_report.specs.Replayed.{call_of}
-use Rattle.wcp_tool.specs.Refused.{log_of, numbered_or, refused_after, first_refused}
-use Rattle.wcp_tool.specs.Refused.{IsFirstRefused, StoreNothing}
+use Rattle.rapid_text.specs.Texts.{Judgement}
+use Rattle.trace_report.specs.Findings.{call_of, log_of, IsFirstRefused}
+use Rattle.trace_report.proofs.Values.{StoreNothing}
+
+-- ---- the first event that is refused, by its line
+
+abbrev pub numbered_or : ℕ → Option Refusal → Option (ℕ × Refusal) → Option (ℕ × Refusal)
+numbered_or n None later = later
+numbered_or n (Some r) later = Some (n, r)
+
+abbrev pub refused_after : Limits → List Event → List (ℕ × Event) → Option (ℕ × Refusal)
+refused_after m log [] = None
+refused_after m log (p ∷ ps) =
+    numbered_or p.0 (refusal m log (call_of p.1)) (refused_after m (log ++ p.1 ∷ []) ps)
+
+-- the first event that is refused after those before it: the number of its line, and why
+abbrev pub first_refused : Limits → List (ℕ × Event) → Option (ℕ × Refusal)
+first_refused m lines = refused_after m [] lines
+
+-- ---- the events of lines
 
 -- a log that stores nothing but 0 has the value 0 everywhere
 either_zero : (b : Bool) (v n : ℕ) → v ≡ 0 → n ≡ 0 → cond b v n ≡ 0
@@ -202,15 +219,15 @@ pub none_is_legal : (m : Limits) (ps : List (ℕ × Event)) → StoreNothing (lo
     → (first_refused m ps ≡ None) ↔ WellFormed m (log_of ps)
 none_is_legal m ps z = (none_legal m ps [] tt z (empty_legal m), legal_none m ps [])
 
-pub some_is_first : (m : Limits) (ps : List (ℕ × Event)) (n : ℕ) (r : Refusal) → StoreNothing (log_of ps)
-    → (first_refused m ps ≡ Some (n, r)) ↔ IsFirstRefused m ps n r
-some_is_first m ps n r z = (forth, back)
+pub some_is_first : (m : Limits) (j : Judgement) (n : ℕ) (r : Refusal) → StoreNothing (log_of j.events)
+    → (first_refused m j.events ≡ Some (n, r)) ↔ IsFirstRefused m j n r
+some_is_first m j n r z = (forth, back)
   where
-    forth : first_refused m ps ≡ Some (n, r) → IsFirstRefused m ps n r
+    forth : first_refused m j.events ≡ Some (n, r) → IsFirstRefused m j n r
     forth e =
-        let f = some_first m ps [] n r tt z (empty_legal m) e in
+        let f = some_first m j.events [] n r tt z (empty_legal m) e in
         record { index = f.0; event = f.1.0; at = f.1.1.at; before = f.1.1.before; refused = f.1.1.refused }
 
-    back : IsFirstRefused m ps n r → first_refused m ps ≡ Some (n, r)
-    back f = first_some m ps [] n r f.index f.event
+    back : IsFirstRefused m j n r → first_refused m j.events ≡ Some (n, r)
+    back f = first_some m j.events [] n r f.index f.event
         (record { at = f.at; before = f.before; refused = f.refused })

@@ -11,7 +11,12 @@ use Rattle.rapid_text.specs.Tables.{Tables, number_in}
 use Rattle.rapid_text.specs.Events.{next, named_event, reading, event_or, some_event}
 use Rattle.rapid_text.specs.Events.{number_or_fault, kind_of, content}
 use Rattle.rapid_text.specs.Texts.{Judgement, judge, after_line, with_event}
-use Rattle.wcp_tool.specs.Refused.{StoreNothing, log_of}
+use Rattle.trace_report.specs.Findings.{log_of}
+
+-- events that store nothing but 0
+abbrev pub StoreNothing : List Event → Type 0
+StoreNothing [] = Unit {0}
+StoreNothing (e ∷ es) = (e.value ≡ 0) × StoreNothing es
 
 -- a step that goes on with a value did so with some value
 went_on : {A B : Type 0} (r : Result A Cause) (go : A → Result B Cause) (x : B) → next r go ≡ Ok x

@@ -1,5 +1,0 @@
-use Rattle.wcp_tool.proofs.Found.{legal_found, fault_found, refused_found}
-use Rattle.wcp_tool.proofs.laws.finding_is_the_first.Goals as goal
-
-pub returns : goal.returns
-returns c = record { counts = legal_found; refused = refused_found; fault = fault_found }
