@@ -144,7 +144,7 @@ impl<N: Name> Actor<N> {
         (Actor { pass: first }, Actor { pass: second })
     }
 
-    pub fn close<R: Wait>(self, rt: &R, shared: Shared<N>) -> Closed {
-        shared.close(rt, self.pass)
+    pub fn close(self, shared: Shared<N>) -> Closed {
+        shared.close(self.pass)
     }
 }

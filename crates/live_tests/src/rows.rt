@@ -214,7 +214,7 @@ fn take_turns<N: Name, R: Wait + Abort>(rt: &R, unnamed: Unnamed, turns: &[Turn]
     for turn in turns {
         both = take_turn(rt, &shared, both, *turn);
     }
-    both.0.close(rt, shared)
+    both.0.close(shared)
 }
 
 /// Two threads, two locks, two variables and so many events.

@@ -140,7 +140,7 @@ fn four_threads<N: Name + Send + Sync, R: Threads + Wait + Abort + Sync>(
     let (main, mut values) = join_all(rt, alloc, &shared, main, done)?;
     let (main, last) = main.make(rt, &shared, Ask::Load(1), 0);
     values.push(last.expect(rt, "a load").value)?;
-    Ok((main.close(rt, shared), values))
+    Ok((main.close(shared), values))
 }
 
 /// Five threads, one lock and two variables.

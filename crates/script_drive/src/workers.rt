@@ -140,7 +140,7 @@ fn drive_in<N: Name + Send + Sync, S: Text + Send, G: Gate + Sync, R: Threads + 
 {
     let (shared, pass) = start::<N>(unnamed);
     if script.threads() == 0 {
-        return Ok(shared.close(rt, pass));
+        return Ok(shared.close(pass));
     }
     let Ok((kit, stations)) = stations::<N, S>(alloc, script) else {
         return Err(DriveFault::OutOfMemory);
@@ -148,7 +148,7 @@ fn drive_in<N: Name + Send + Sync, S: Text + Send, G: Gate + Sync, R: Threads + 
     let last = run_all(
         rt, alloc, &shared, script, gate, patience, pass, kit, stations,
     )?;
-    Ok(shared.close(rt, last))
+    Ok(shared.close(last))
 }
 
 /// Runs the script, each of its threads by a worker of its own. A line is tried up to `patience` times: while
