@@ -12,7 +12,9 @@ pub struct Closure {
     pub happens_before: Pairs,
     /// The least relation that is closed under the three rules.
     pub strict: Pairs,
-    /// What rule (b) added to it: pairs that no other rule gives before.
+    /// The least one that is closed under rules (a) and (c).
+    pub by_conflicts: Pairs,
+    /// What rule (b) added: pairs that no other rule gives before.
     pub by_sections: Pairs,
 }
 
@@ -47,10 +49,12 @@ impl Closure {
             program_order,
             happens_before: happens_before(program_order, &sections),
             strict: Pairs::new(),
+            by_conflicts: Pairs::new(),
             by_sections: Pairs::new(),
         };
         closure.order_conflicts(log, &sections);
         closure.compose();
+        closure.by_conflicts = closure.strict;
         // Each round but the last adds a pair.
         for _round in 0..MOST_PAIRS {
             if !closure.order_sections(log, &sections) {
@@ -59,6 +63,15 @@ impl Closure {
             closure.compose();
         }
         Ok(closure)
+    }
+
+    /// The relations that the log would have without rule (b).
+    pub fn without_rule_b(&self) -> Closure {
+        Closure {
+            strict: self.by_conflicts,
+            by_sections: Pairs::new(),
+            ..*self
+        }
     }
 
     // Rule (a): a release is below a later access inside a section on its lock, where the release's own

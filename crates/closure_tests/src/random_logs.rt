@@ -8,7 +8,8 @@ use std::alloc::Global;
 use std::process::Abort;
 use std::test::Fail;
 
-const SEED: u64 = 2017;
+// From this seed some verdicts would be others without rule (b), which is rare.
+const SEED: u64 = 204;
 
 const LOGS: u32 = 500;
 
@@ -26,6 +27,8 @@ struct Occurrences {
     unordered_pairs: u64,
     // Pairs that rule (b) added.
     rule_b_pairs: u64,
+    // Verdicts that would be others without rule (b).
+    rule_b_verdicts: u64,
     racy_verdicts: u64,
     inner_acquires: u64,
 }
@@ -40,6 +43,7 @@ impl Occurrences {
             strict_pairs: 0,
             unordered_pairs: 0,
             rule_b_pairs: 0,
+            rule_b_verdicts: 0,
             racy_verdicts: 0,
             inner_acquires: 0,
         }
@@ -56,15 +60,23 @@ impl Occurrences {
         increase(&mut self.rule_b_pairs, closure.by_sections.count());
     }
 
-    fn add_events(&mut self, log: &[Event], verdicts: &[Verdict]) {
+    fn add_verdicts(&mut self, log: &[Event], closure: &Closure) {
+        let without = closure.without_rule_b();
+        for index in 0..log.len() {
+            let verdict = closure.verdict(log, index);
+            if verdict != without.verdict(log, index) {
+                increase(&mut self.rule_b_verdicts, 1);
+            }
+            if verdict != Verdict::Clear {
+                increase(&mut self.racy_verdicts, 1);
+            }
+        }
+    }
+
+    fn add_events(&mut self, log: &[Event]) {
         for (index, event) in log.iter().enumerate() {
             if is_inner_acquire(&log[..index], event) {
                 increase(&mut self.inner_acquires, 1);
-            }
-        }
-        for verdict in verdicts {
-            if *verdict != Verdict::Clear {
-                increase(&mut self.racy_verdicts, 1);
             }
         }
     }
@@ -83,7 +95,8 @@ fn compare_next(
     assert_eq!(rt; judged.log.len(), EVENTS, "log {number}");
     let closure = judged.compare(rt, alloc, number)?;
     occurred.add_pairs(&closure);
-    occurred.add_events(&judged.log, &judged.verdicts);
+    occurred.add_verdicts(&judged.log, &closure);
+    occurred.add_events(&judged.log);
     Ok(())
 }
 
@@ -97,6 +110,7 @@ fn the_monitor_and_the_closure_judge_alike(rt: HostRuntime) -> Result<(), Fail> 
     assert!(rt; occurred.strict_pairs > 0, "in {occurred:?}");
     assert!(rt; occurred.unordered_pairs > 0, "in {occurred:?}");
     assert!(rt; occurred.rule_b_pairs > 0, "in {occurred:?}");
+    assert!(rt; occurred.rule_b_verdicts > 0, "in {occurred:?}");
     assert!(rt; occurred.racy_verdicts > 0, "in {occurred:?}");
     assert!(rt; occurred.inner_acquires > 0, "in {occurred:?}");
     Ok(())
