@@ -13,7 +13,7 @@ use std::test::Fail;
 const LOCK: LockId = LockId(0);
 
 // Clocks that count the one event that there was, of the thread.
-fn count_one(
+fn count_first(
     alloc: Global,
     limits: &Limits,
     thread: ThreadId,
@@ -34,6 +34,24 @@ fn count_one(
     clocks.prepare(&event)?;
     clocks.advance(&event, &mut work);
     Ok((clocks, work))
+}
+
+// The same. Where a growth is refused, the same call is made again.
+fn count_one(
+    alloc: Global,
+    limits: &Limits,
+    thread: ThreadId,
+) -> Result<(HbClocks, Work), OutOfMemory>
+    requires { thread.0 < limits.now.threads }
+    ensures width { IfOk result (λ made. made.0.width ≡ limits.now.threads) }
+    ensures one { IfOk result (λ made. (state_of made.0).po thread.0 thread.0 ≡ 1) }
+    ensures counts { IfOk result (λ made. (state_of made.0).hb.thread thread.0 ≡ bump thread.0 no_clock) }
+    ensures work { IfOk result (λ made. made.1.comparisons ≡ 0) }
+{
+    match count_first(alloc, limits, thread) {
+        Ok(made) => Ok(made),
+        Err(OutOfMemory) => count_first(alloc, limits, thread),
+    }
 }
 
 // Where a growth is refused, the same call is made again.
@@ -133,14 +151,8 @@ fn a_further_section_may_need_no_memory(rt: HostRuntime) -> Result<(), Fail> {
 fn another_thread_finds_the_section(rt: HostRuntime) -> Result<(), Fail> {
     let limits = Limits::new(2, 1, 1, 8, Roots::Free)?;
     let mut queues = Queues::new(rt.alloc(), &limits)?;
-    let (first, mut work) = match count_one(rt.alloc(), &limits, ThreadId(0)) {
-        Ok(made) => made,
-        Err(OutOfMemory) => count_one(rt.alloc(), &limits, ThreadId(0))?,
-    };
-    let (second, _) = match count_one(rt.alloc(), &limits, ThreadId(1)) {
-        Ok(made) => made,
-        Err(OutOfMemory) => count_one(rt.alloc(), &limits, ThreadId(1))?,
-    };
+    let (first, mut work) = count_one(rt.alloc(), &limits, ThreadId(0))?;
+    let (second, _) = count_one(rt.alloc(), &limits, ThreadId(1))?;
     close_one(&mut queues, &first, ThreadId(0))?;
     let answer = ask(
         &mut queues,

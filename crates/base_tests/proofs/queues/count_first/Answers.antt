@@ -4,7 +4,7 @@ use Rattle.event_core.specs.declared.events.Op.TheVariants.{Load}
 use Rattle.hb_clocks.specs.State.{HbState, after}
 use Rattle.hb_clocks.specs.Stands.{IsFew}
 use Rattle.base_tests.proofs.OneSection.{few_empty, one_load, first_clock}
-use Rattle.base_tests.proofs.queues.count_one.Goals as goal
+use Rattle.base_tests.proofs.queues.count_first.Goals as goal
 
 pub advance-requires-clause-admits : goal.advance-requires-clause-admits
 advance-requires-clause-admits c = record { alone = tt; apart = tt }
