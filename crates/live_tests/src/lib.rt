@@ -7,6 +7,8 @@
 #[cfg(test)]
 mod actors;
 #[cfg(test)]
+mod example;
+#[cfg(test)]
 mod rows;
 #[cfg(test)]
 mod threads;
