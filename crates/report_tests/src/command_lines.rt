@@ -50,6 +50,35 @@ static ASKED: [(&[&str], &str); 12] = [
     (&["-V"], "wcp 0.1.0\n"),
 ];
 
+/// Words, standard input, and a line that is printed: in help, and where its example is run.
+static EXAMPLES: [(&[&str], &[u8], &str); 6] = [
+    (
+        &["check", "--help"],
+        b"",
+        "events 3 threads 2 locks 0 variables 1\n",
+    ),
+    (
+        &["check"],
+        TRACE,
+        "events 3 threads 2 locks 0 variables 1\n",
+    ),
+    (
+        &["replay", "--help"],
+        b"",
+        "events 3 threads 2 locks 0 variables 1 races 1\n",
+    ),
+    (
+        &["replay"],
+        TRACE,
+        "events 3 threads 2 locks 0 variables 1 races 1\n",
+    ),
+    (&["replay", "--help"], b"", "3|T1|r(y)|3 with 2|T0|w(y)|2\n"),
+    (&["replay"], TRACE, "3|T1|r(y)|3 with 2|T0|w(y)|2\n"),
+];
+
+/// The trace that help has as its example.
+const TRACE: &[u8] = b"T0|fork(T1)|1\nT0|w(y)|2\nT1|r(y)|3\n";
+
 /// Words that are wrong, and a part of what is said of them.
 static WRONG: [(&[&str], &str); 17] = [
     (&[], "Usage: wcp <COMMAND>"),
@@ -124,14 +153,10 @@ fn help_has_no_line_of_more_than_80_columns(rt: HostRuntime) {
 /// The trace that help has as its example comes to what help says.
 #[test]
 fn help_tells_what_its_example_prints(rt: HostRuntime) {
-    for command in ["check", "replay"] {
-        let help = run(&rt, [command, "--help"].as_slice(), Pieces::whole(b""));
-        let trace = Pieces::whole(b"T0|fork(T1)|1\nT0|w(y)|2\nT1|r(y)|3\n");
-        let ran = run(&rt, [command].as_slice(), trace);
-        let text = str::from_utf8(help.output.as_slice()).unwrap_or("");
-        for line in str::from_utf8(ran.output.as_slice()).unwrap_or("").lines() {
-            assert!(rt; text.contains(line), "{command}: {line}");
-        }
+    for (words, input, part) in &EXAMPLES {
+        let ran = run(&rt, *words, Pieces::whole(*input));
+        let text = str::from_utf8(ran.output.as_slice()).unwrap_or("");
+        assert!(rt; text.contains(*part), "{words:?}: {text}");
     }
 }
 
