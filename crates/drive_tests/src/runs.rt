@@ -13,7 +13,7 @@ struct Case {
     answer: Result<u64, DriveFault>,
 }
 
-static CASES: [Case; 8] = [
+static CASES: [Case; 10] = [
     Case {
         text: "",
         patience: PATIENCE,
@@ -57,6 +57,23 @@ static CASES: [Case; 8] = [
         answer: Err(DriveFault::Stuck {
             thread: ThreadId(1),
             line: 3,
+        }),
+    },
+    // Of two threads that get no further the one with the lesser line is named.
+    Case {
+        text: "m acq l\nm fork a\nm fork b\na acq l\nb acq l\nm join a\n",
+        patience: 100,
+        answer: Err(DriveFault::Stuck {
+            thread: ThreadId(1),
+            line: 4,
+        }),
+    },
+    Case {
+        text: "m acq l\nm fork a\nm fork b\nb acq l\na acq l\nm join a\n",
+        patience: 100,
+        answer: Err(DriveFault::Stuck {
+            thread: ThreadId(2),
+            line: 4,
         }),
     },
     // Who waits for a thread that ended by a fault ends without one of its own.

@@ -1,5 +1,5 @@
-//! The first line of a text, found with its bars by one look at 64 bytes.
-ghost use Rattle.std.specs.Prelude.{◌≡◌, ◌≢◌, ◌==◌, ℕ, ◌<◌, slice_index, if◌then◌else◌, Some, IfSome};
+//! The first line of a text, found with its bars by one look at 32 or 64 bytes.
+ghost use Rattle.std.specs.Prelude.{◌≡◌, ◌≢◌, ◌==◌, ℕ, ◌<◌, ◌≤◌, slice_index, if◌then◌else◌, Some, IfSome};
 ghost use Rattle.std.specs.Int.{bit_at};
 ghost use Rattle.rapid_line.specs.Cut.{cut};
 ghost use Rattle.rapid_line.specs.Marks.{IsMarked, IsKnown};
@@ -8,10 +8,11 @@ use std::simd::prelude::*;
 
 /// Bit k says whether byte k is this byte.
 #[inline(always)]
-fn places(bytes: u8x64, byte: u8) -> u64
-    ensures { (k : ℕ) → k < 64 → bit_at result k ≡ (if slice_index bytes k == byte then 1 else 0) }
+fn places<const SEEN: usize>(bytes: Simd<u8, SEEN>, byte: u8) -> u64
+    requires { SEEN ≤ 64 }
+    ensures { (k : ℕ) → k < SEEN → bit_at result k ≡ (if slice_index bytes.entry k == byte then 1 else 0) }
 {
-    bytes.simd_eq(u8x64::splat(byte)).to_bitmask()
+    bytes.simd_eq(Simd::splat(byte)).to_bitmask()
 }
 
 /// The lowest bit that is set; 64 where none is.
@@ -43,19 +44,20 @@ struct Marks {
     end: usize,
 }
 
-/// The marks of the first line, where it has two bars and no CR, and 64 bytes show them all.
+/// The marks of the first line, where it has two bars and no CR, and so many bytes show them all.
 #[inline(always)]
-fn marks_of(text: &[u8]) -> Option<Marks>
+fn marks_of<const SEEN: usize>(text: &[u8]) -> Option<Marks>
+    requires { SEEN ≤ 64 }
     ensures { IfSome result (IsMarked text.now) }
 {
-    if text.len() < 64 {
+    if text.len() < SEEN {
         return None;
     }
-    let bytes = u8x64::from_slice(text);
+    let bytes = Simd::<u8, SEEN>::from_slice(text);
     let bars = places(bytes, b'|');
     let end = lowest(places(bytes, b'\n'));
     let first_bar = lowest(bars);
-    if end >= 64 || first_bar >= end || lowest(places(bytes, b'\r')) < end {
+    if end >= SEEN || first_bar >= end || lowest(places(bytes, b'\r')) < end {
         return None;
     }
     let other_bars = without(bars, first_bar);
@@ -77,19 +79,37 @@ pub struct Line<'a> {
     pub bars: Option<(usize, usize)>,
 }
 
+/// The first line of the text with its bars, and what follows it, where so many bytes show it.
+#[inline(always)]
+fn line_within<const SEEN: usize>(text: &[u8]) -> Option<(Line<'_>, &[u8])>
+    requires { SEEN ≤ 64 }
+    ensures cut { IfSome result (λ p. cut 10 text.now ≡ Some (p.0.bytes.now, p.1.now)) }
+    ensures known { IfSome result (λ p. IsKnown p.0) }
+{
+    let marks = marks_of::<SEEN>(text)?;
+    let line = Line {
+        bytes: &text[..marks.end],
+        bars: Some((marks.first_bar, marks.second_bar)),
+    };
+    Some((line, &text[marks.end + 1..]))
+}
+
 /// The first line of the text with its bars, and what follows it.
 ///
-/// None, unless the text has 64 bytes at least, and the line ends within these, has two bars and no CR. Such
+/// None, unless the text has 32 bytes at least, and the line ends within these, has two bars and no CR. Such
 /// a line may still be one: it is found by its LF, and its bars when it is read.
 #[inline(always)]
 pub fn first_line(text: &[u8]) -> Option<(Line<'_>, &[u8])>
     ensures cut { IfSome result (λ p. cut 10 text.now ≡ Some (p.0.bytes.now, p.1.now)) }
     ensures known { IfSome result (λ p. IsKnown p.0) }
 {
-    let marks = marks_of(text)?;
-    let line = Line {
-        bytes: &text[..marks.end],
-        bars: Some((marks.first_bar, marks.second_bar)),
-    };
-    Some((line, &text[marks.end + 1..]))
+    line_within::<32>(text)
+}
+
+/// The same by a look at 64 bytes, for a line that 32 do not show.
+pub fn longer_first_line(text: &[u8]) -> Option<(Line<'_>, &[u8])>
+    ensures cut { IfSome result (λ p. cut 10 text.now ≡ Some (p.0.bytes.now, p.1.now)) }
+    ensures known { IfSome result (λ p. IsKnown p.0) }
+{
+    line_within::<64>(text)
 }

@@ -15,7 +15,7 @@ use crate::event_lines::line_event;
 use crate::names::Names;
 use event_core::Event;
 use memchr::memchr;
-use rapid_line::{Line, LineFault, first_line};
+use rapid_line::{Line, LineFault, first_line, longer_first_line};
 
 /// The most bytes of an unfinished line that may still end as a content of 1,024 bytes: those and a CR.
 pub const MOST_KEPT: usize = 1025;
@@ -32,12 +32,15 @@ pub fn cut_line(bytes: &[u8]) -> Option<(Line<'_>, &[u8])>
     search_line(bytes)
 }
 
-/// The same, where one look does not tell.
+/// The same, where a look at 32 bytes does not tell.
 #[inline(never)]
 fn search_line(bytes: &[u8]) -> Option<(Line<'_>, &[u8])>
     ensures cut { option_map (λ p. (p.0.bytes.now, p.1.now)) result ≡ cut 10 bytes.now }
     ensures known { IfSome result (λ p. IsKnown p.0) }
 {
+    if let Some(found) = longer_first_line(bytes) {
+        return Some(found);
+    }
     let at = memchr(b'\n', bytes)?;
     Some((unmarked(&bytes[..at]), &bytes[at + 1..]))
 }

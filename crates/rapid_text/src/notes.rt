@@ -5,8 +5,8 @@
 //! is told by its length and one word, which the note holds: so it is found by one read of memory, and
 //! without a comparison byte by byte. Where two short names have one place, the second goes to the place
 //! beside it. Of a longer name a note is a guess, which is used only after the bytes were compared.
-ghost use Rattle.std.specs.Prelude.{◌≡◌, ◌↔◌, ◌<◌, ◌≤◌, ◌⊎◌, List, [], length, IfSome, IsTrue};
-ghost use Rattle.std.specs.Int.{to_le_bytes, w64};
+ghost use Rattle.std.specs.Prelude.{◌≡◌, ◌↔◌, ◌<◌, ◌≤◌, ◌⊎◌, ◌++◌, List, [], length, IfSome, IsTrue};
+ghost use Rattle.std.specs.Int.{to_le_bytes, w32, w64};
 ghost use Rattle.rapid_text.specs.Notes.{IsOneOf, IsNoteOf, IsFound, HoldsNone, ends_of};
 ghost use Rattle.rapid_text.specs.declared.notes.Note.{Note as ANote};
 
@@ -20,12 +20,23 @@ const FEWEST_PLACES: usize = 256;
 /// The most bytes of a name that is told by a word.
 const MOST_HELD: usize = 8;
 
+/// What the last four bytes of a word count in it.
+const HALF: u64 = 4294967296;
+
 /// Whether a word tells the name.
 #[inline(always)]
 fn is_short(name: &[u8]) -> bool
     ensures { IsTrue result ↔ (0 < length name.now) × (length name.now ≤ 8) }
 {
     !name.is_empty() && name.len() <= MOST_HELD
+}
+
+/// The word whose bytes are those of the first and then those of the last.
+#[inline(always)]
+fn joined(first: u32, last: u32) -> u64
+    ensures { to_le_bytes w64 result ≡ to_le_bytes w32 first ++ to_le_bytes w32 last }
+{
+    first as u64 + last as u64 * HALF
 }
 
 /// The word of a short name: its first four bytes and its last four, which may be partly the same. Of a name
@@ -36,21 +47,14 @@ fn word_of(name: &[u8]) -> u64
     ensures { to_le_bytes w64 result ≡ ends_of name.now }
 {
     let n = name.len();
-    let bytes = if n < 4 {
-        [name[0], name[n / 2], name[n - 1], 0, 0, 0, 0, 0]
-    } else {
-        [
-            name[0],
-            name[1],
-            name[2],
-            name[3],
-            name[n - 4],
-            name[n - 3],
-            name[n - 2],
-            name[n - 1],
-        ]
-    };
-    u64::from_le_bytes(bytes)
+    if n < 4 {
+        return u64::from_le_bytes([name[0], name[n / 2], name[n - 1], 0, 0, 0, 0, 0]);
+    }
+    // Two numbers of four bytes each, since the compiler reads such a number by one load.
+    joined(
+        u32::from_le_bytes([name[0], name[1], name[2], name[3]]),
+        u32::from_le_bytes([name[n - 4], name[n - 3], name[n - 2], name[n - 1]]),
+    )
 }
 
 /// The place of the word among so many, which are a power of two.

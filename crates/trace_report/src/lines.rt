@@ -1,15 +1,14 @@
 //! The lines of a report, put on a page.
 ghost use Rattle.std.specs.Prelude.{◌≡◌, ℕ, ◌+◌, ◌<◌, ◌++◌, ◌∷◌, [], length, decimal, OnOk, OnErr, true};
 ghost use Rattle.event_core.specs.declared.replies.Verdict.TheVariants.{Racy};
-ghost use Rattle.rapid_text.specs.Events.{word_of_op, kind_of, target_of};
 ghost use Rattle.trace_report.specs.Pages.{Puts};
 ghost use Rattle.trace_report.specs.Reports.{labelled, summary_line, event_at, race_line, AreNamed};
 
 use crate::page::Page;
 use crate::summary::Summary;
-use event_core::{LockId, Log, Op, ThreadId, VarId};
+use event_core::Log;
 use itoa::Buffer;
-use rapid_text::{Kind, Names, Output, Word, WriteFault};
+use rapid_text::{Kind, Names, Output, WriteFault, parts_of};
 use verdict_list::Race;
 
 /// Puts a label and a number.
@@ -46,22 +45,6 @@ pub fn put_summary<W: Output>(
     put_count(page, writer, " variables ", u64::from(summary.vars))?;
     put_count(page, writer, " races ", summary.races)?;
     page.put(writer, b"\n")
-}
-
-/// The word of an operation, what its argument names, and the number of that.
-fn parts_of(op: Op) -> (Word, Kind, u32)
-    ensures word { result.0 ≡ word_of_op op }
-    ensures kind { result.1 ≡ kind_of (word_of_op op) }
-    ensures number { result.2 ≡ target_of op }
-{
-    match op {
-        Op::Load(VarId(n)) => (Word::Load, Kind::Variable, n),
-        Op::Store(VarId(n)) => (Word::Store, Kind::Variable, n),
-        Op::Acquire(LockId(n)) => (Word::Acquire, Kind::Lock, n),
-        Op::Release(LockId(n)) => (Word::Release, Kind::Lock, n),
-        Op::Fork(ThreadId(n)) => (Word::Fork, Kind::Thread, n),
-        Op::Join(ThreadId(n)) => (Word::Join, Kind::Thread, n),
-    }
 }
 
 /// Puts the number of the event at an index. Events are numbered from 1.

@@ -13,17 +13,20 @@ use event_core::Limits;
 use rapid_text::{Cause, Input, Output, TextFault};
 use std::alloc::Global;
 
+/// How many bytes are read at once.
+const PIECE: usize = 65536;
+
 /// Feeds the text that the reader has left, piece by piece, with no more than so many reads.
 fn feed_all<I: Input>(replayer: &mut Replayer, reader: &mut I, turns: u64)
     requires begins { replayer.old.fault ≡ None }
-    requires room { replayer.old.text.taken + 4096 * turns ≤ most }
+    requires room { replayer.old.text.taken + 65536 * turns ≤ most }
     ensures fed { fault_gives_up replayer.new.fault ≡ false
         → IsFed (I.left reader.old) replayer.old replayer.new }
     ensures read { IfSome replayer.new.fault (λ f. is_short f ≡ true
         → (I.failed reader.new ≡ true) ⊎ IfSome (I.left reader.old) (λ text. turns ≤ length text)) }
     ensures healthy { replayer.new.fault ≡ None → I.failed reader.new ≡ I.failed reader.old }
 {
-    let mut piece = [0; 4096];
+    let mut piece = [0; PIECE];
     'pulls: for _ in 0..turns {
         let Ok(count) = reader.pull(&mut piece) else {
             break 'pulls;

@@ -5,7 +5,8 @@ use Rattle.rapid_line.proofs.Marked.{stands, lacks}
 use Rattle.rapid_line.proofs.marks.marks_of.Goals as goal
 
 pub returns : goal.returns
-returns c =
+returns g c =
+    let seen = g.row.SEEN in
     let text = c.args.text.now in
     let bars = c.places-bars.result in
     let others = c.without-other_bars.result in
@@ -27,18 +28,18 @@ returns c =
       inside = omega arith;
       near = omega arith;
       within = omega arith;
-      first_bar = stands text 124 bars first c.places-bars.ensures (omega arith) first_set;
-      second_bar = stands text 124 bars second c.places-bars.ensures (omega arith) other;
-      end = stands text 10 c.places.result end c.places.ensures (omega arith)
+      first_bar = stands seen text 124 bars first c.places-bars.ensures (omega arith) first_set;
+      second_bar = stands seen text 124 bars second c.places-bars.ensures (omega arith) other;
+      end = stands seen text 10 c.places.result end c.places.ensures (omega arith)
           (c.lowest-end.ensures.set (omega arith));
       no_bar = λ k lt not_first not_second.
-          lacks text 124 bars k c.places-bars.ensures (omega arith)
+          lacks seen text 124 bars k c.places-bars.ensures (omega arith)
           (sym (c.without-other_bars.ensures.kept k (omega arith) not_first)
           ∙ (sym (c.without.ensures.kept k (omega arith) not_second)
           ∙ c.lowest-else-second_bar-end.ensures.below k (omega arith)));
-      no_lf = λ k lt. lacks text 10 c.places.result k c.places.ensures (omega arith)
+      no_lf = λ k lt. lacks seen text 10 c.places.result k c.places.ensures (omega arith)
           (c.lowest-end.ensures.below k lt);
       no_cr = λ k lt.
-          lacks text 13 c.places-else-first_bar-end.result k c.places-else-first_bar-end.ensures
+          lacks seen text 13 c.places-else-first_bar-end.result k c.places-else-first_bar-end.ensures
           (omega arith) (c.lowest.ensures.below k (omega arith));
     }
