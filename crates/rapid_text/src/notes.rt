@@ -63,10 +63,10 @@ fn place_of_word(word: u64, places: usize) -> usize
     requires { 0 < places }
     ensures { result < places }
 {
-    // An odd number whose bits are those of the golden ratio: the higher bits of the product depend on all of
+    // An odd number whose bits are those of the golden ratio: the upper half of the product depends on all of
     // the word.
-    let mixed = word.wrapping_mul(0x9e37_79b9_7f4a_7c15);
-    (mixed >> 32 ^ mixed >> 52) as usize & (places - 1)
+    let product = word as u128 * 0x9e37_79b9_7f4a_7c15;
+    (product >> 64) as usize & (places - 1)
 }
 
 /// The place of a name among so many, which are a power of two.
