@@ -25,7 +25,7 @@ use Rattle.std.proofs.lemmas.Bool.{cases_Bool}
 use Rattle.rapid_line.specs.declared.words.Word.{Word}
 use Rattle.rapid_line.specs.declared.words.LineFault.{LineFault}
 use Rattle.rapid_line.specs.declared.words.LineFault.TheVariants.{FewFields, ManyFields, BadOp}
-use Rattle.rapid_line.specs.Cut.{has, count, Lacks, cut, before_end}
+use Rattle.rapid_line.specs.Cut.{has, count, cut, before_end}
 use Rattle.rapid_line.specs.Grammar.{operation}
 use Rattle.rapid_line.specs.Causes.{HasFields}
 use Rattle.rapid_line.specs.Reading.{word_of, or_fault, unless, fields_of, operation_of}

@@ -1,8 +1,10 @@
 //! The first line of a text, found with its bars by one look at 32 or 64 bytes.
-ghost use Rattle.std.specs.Prelude.{◌≡◌, ◌≢◌, ◌==◌, ℕ, ◌<◌, ◌≤◌, slice_index, if◌then◌else◌, Some, IfSome};
+ghost use Rattle.std.specs.Prelude.{◌≡◌, ◌≢◌, ◌==◌, ℕ, ◌<◌, ◌≤◌, slice_index, if◌then◌else◌};
+ghost use Rattle.std.specs.Prelude.{length, Some, None, IfSome};
 ghost use Rattle.std.specs.Int.{bit_at};
 ghost use Rattle.rapid_line.specs.Cut.{cut};
-ghost use Rattle.rapid_line.specs.Marks.{IsMarked, IsKnown};
+ghost use Rattle.rapid_line.specs.Marks.{IsMarked, IsKnown, ShowsLine};
+ghost use Rattle.rapid_line.specs.declared.marks.Marks.{Marks as AllMarks};
 
 use std::simd::prelude::*;
 
@@ -48,7 +50,9 @@ struct Marks {
 #[inline(always)]
 fn marks_of<const SEEN: usize>(text: &[u8]) -> Option<Marks>
     requires { SEEN ≤ 64 }
-    ensures { IfSome result (IsMarked text.now) }
+    ensures some { IfSome result (IsMarked text.now) }
+    ensures none { result ≡ None → (m : AllMarks) → IsMarked text.now m → m.end < SEEN
+        → length text.now < SEEN }
 {
     if text.len() < SEEN {
         return None;
@@ -85,6 +89,7 @@ fn line_within<const SEEN: usize>(text: &[u8]) -> Option<(Line<'_>, &[u8])>
     requires { SEEN ≤ 64 }
     ensures cut { IfSome result (λ p. cut 10 text.now ≡ Some (p.0.bytes.now, p.1.now)) }
     ensures known { IfSome result (λ p. IsKnown p.0) }
+    ensures none { result ≡ None → ShowsLine SEEN text.now → ⊥ }
 {
     let marks = marks_of::<SEEN>(text)?;
     let line = Line {
@@ -96,20 +101,24 @@ fn line_within<const SEEN: usize>(text: &[u8]) -> Option<(Line<'_>, &[u8])>
 
 /// The first line of the text with its bars, and what follows it.
 ///
-/// None, unless the text has 32 bytes at least, and the line ends within these, has two bars and no CR. Such
-/// a line may still be one: it is found by its LF, and its bars when it is read.
+/// None, unless the text has 32 bytes at least, and the line ends within these, has two bars and no CR.
+/// Another line is found by its LF, and its bars when it is read.
 #[inline(always)]
 pub fn first_line(text: &[u8]) -> Option<(Line<'_>, &[u8])>
     ensures cut { IfSome result (λ p. cut 10 text.now ≡ Some (p.0.bytes.now, p.1.now)) }
     ensures known { IfSome result (λ p. IsKnown p.0) }
+    ensures none { result ≡ None → ShowsLine 32 text.now → ⊥ }
 {
     line_within::<32>(text)
 }
 
 /// The same by a look at 64 bytes, for a line that 32 do not show.
+///
+/// None, unless the text has 64 bytes at least, and the line ends within these, has two bars and no CR.
 pub fn longer_first_line(text: &[u8]) -> Option<(Line<'_>, &[u8])>
     ensures cut { IfSome result (λ p. cut 10 text.now ≡ Some (p.0.bytes.now, p.1.now)) }
     ensures known { IfSome result (λ p. IsKnown p.0) }
+    ensures none { result ≡ None → ShowsLine 64 text.now → ⊥ }
 {
     line_within::<64>(text)
 }
