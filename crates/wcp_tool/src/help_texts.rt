@@ -49,7 +49,9 @@ pub(crate) const PROGRAM_TEXTS: &str = "\
 A trace has a line for each event: its thread, its operation with an argument,
 and its location, as in T0|acq(l)|17. A race is two accesses of one variable by
 different threads, one of them a store, that weak causal precedence does not
-order: the events of the trace could have come in an order where they meet.
+order. Where a trace has a race, its events could have come in an order in which
+two such accesses meet, or in a deadlock. Look at the first line of a report
+first: those after it may be no more than what follows from it.
 
 Example:
   printf 'T0|fork(T1)|1\\nT0|w(y)|2\\nT1|r(y)|3\\n' | wcp replay
