@@ -1,9 +1,9 @@
 use Rattle.std.proofs.Common.{◌≡◌, [], ◌∷◌, ◌++◌, refl, ◌∙◌, arith}
 use Rattle.event_core.specs.declared.steps.Step.TheVariants.{One}
 use Rattle.event_core.specs.Refusal.{last_value}
-use Rattle.base_tests.proofs.QuietLogs.{small, thread, load, store, fork, legal_at, swap_at, load_is_legal}
-use Rattle.base_tests.proofs.QuietLogs.{store_is_legal, fork_first}
-use Rattle.base_tests.proofs.passes.looks_around_a_swap.Goals as goal
+use Rattle.log_tests.proofs.QuietLogs.{small, thread, load, store, fork, legal_at, swap_at, load_is_legal}
+use Rattle.log_tests.proofs.QuietLogs.{store_is_legal, fork_first}
+use Rattle.log_tests.proofs.passes.looks_around_a_swap.Goals as goal
 
 pub perform-pass-requires-clause-legal : goal.perform-pass-requires-clause-legal
 perform-pass-requires-clause-legal g c =

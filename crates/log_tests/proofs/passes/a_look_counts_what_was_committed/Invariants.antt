@@ -1,4 +1,4 @@
-use Rattle.base_tests.proofs.passes.a_look_counts_what_was_committed.Given as goal
+use Rattle.log_tests.proofs.passes.a_look_counts_what_was_committed.Given as goal
 
 -- the table that was just made
 abbrev pub ghosts-looks_between_commits : goal.ghosts-looks_between_commits

@@ -1,7 +1,7 @@
 use Rattle.std.proofs.Common.{refl, arith}
 use Rattle.event_core.specs.Steps.{log_of}
-use Rattle.base_tests.proofs.QuietLogs.{thread, legal_at, fork_first}
-use Rattle.base_tests.proofs.passes.children.Goals as goal
+use Rattle.log_tests.proofs.QuietLogs.{thread, legal_at, fork_first}
+use Rattle.log_tests.proofs.passes.children.Goals as goal
 
 pub perform-parent-requires-clause-legal : goal.perform-parent-requires-clause-legal
 perform-parent-requires-clause-legal g c =

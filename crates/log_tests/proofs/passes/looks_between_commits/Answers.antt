@@ -1,7 +1,7 @@
 use Rattle.std.proofs.Common.{◌≡◌, [], ◌∷◌, ◌++◌, refl, ◌∙◌, arith}
 use Rattle.event_core.specs.declared.steps.Step.TheVariants.{One}
-use Rattle.base_tests.proofs.QuietLogs.{small, thread, store, fork, legal_at, store_is_legal, fork_first}
-use Rattle.base_tests.proofs.passes.looks_between_commits.Goals as goal
+use Rattle.log_tests.proofs.QuietLogs.{small, thread, store, fork, legal_at, store_is_legal, fork_first}
+use Rattle.log_tests.proofs.passes.looks_between_commits.Goals as goal
 
 pub perform-pass-requires-clause-legal : goal.perform-pass-requires-clause-legal
 perform-pass-requires-clause-legal g c =

@@ -3,8 +3,8 @@ use Rattle.std.specs.List.{list_any}
 use Rattle.event_core.specs.Refusal.{joins}
 use Rattle.event_core.specs.Steps.{log_of}
 use Rattle.log_pass.specs.Views.{main}
-use Rattle.base_tests.proofs.QuietLogs.{Quiet}
-use Rattle.base_tests.proofs.passes.stores.Given as goal
+use Rattle.log_tests.proofs.QuietLogs.{Quiet}
+use Rattle.log_tests.proofs.passes.stores.Given as goal
 
 abbrev pub invariant-loop-value : goal.invariant-loop-value
 invariant-loop-value g l = record {

@@ -4,8 +4,8 @@ use Rattle.event_core.specs.declared.ids.ThreadId.{ThreadId}
 use Rattle.event_core.specs.Refusal.{forks, joins}
 use Rattle.event_core.specs.Steps.{log_of}
 use Rattle.log_pass.specs.Views.{main}
-use Rattle.base_tests.proofs.QuietLogs.{Quiet}
-use Rattle.base_tests.proofs.passes.children.Given as goal
+use Rattle.log_tests.proofs.QuietLogs.{Quiet}
+use Rattle.log_tests.proofs.passes.children.Given as goal
 
 abbrev pub invariant-loop-child : goal.invariant-loop-child
 invariant-loop-child g l = record {

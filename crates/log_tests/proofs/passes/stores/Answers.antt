@@ -1,7 +1,7 @@
 use Rattle.std.proofs.Common.{refl, arith}
 use Rattle.event_core.specs.Steps.{log_of}
-use Rattle.base_tests.proofs.QuietLogs.{small, thread, legal_at, store_is_legal}
-use Rattle.base_tests.proofs.passes.stores.Goals as goal
+use Rattle.log_tests.proofs.QuietLogs.{small, thread, legal_at, store_is_legal}
+use Rattle.log_tests.proofs.passes.stores.Goals as goal
 
 pub perform-pass-requires-clause-legal : goal.perform-pass-requires-clause-legal
 perform-pass-requires-clause-legal g c =

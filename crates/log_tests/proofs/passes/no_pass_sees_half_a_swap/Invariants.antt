@@ -1,4 +1,4 @@
-use Rattle.base_tests.proofs.passes.no_pass_sees_half_a_swap.Given as goal
+use Rattle.log_tests.proofs.passes.no_pass_sees_half_a_swap.Given as goal
 
 -- the table that was just made
 abbrev pub ghosts-looks_around_a_swap : goal.ghosts-looks_around_a_swap
