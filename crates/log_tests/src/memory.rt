@@ -4,8 +4,215 @@
 //! one allocation is refused.
 use event_core::{Call, Limits, LockId, Op, Refusal, Roots, SiteId, ThreadId, VarId};
 use std::alloc::Global;
-use std::process::Abort;
 use traced_mem::Memory;
+
+type Answer = Result<u64, Refusal>;
+
+/// What a memory is to answer.
+enum Row {
+    /// The answer to a thread's call with its argument.
+    Called(u32, Op, u64, Answer),
+    /// The answer to a thread's swap of variable 0 for this value.
+    Swapped(u32, u64, Answer),
+    /// Whether there is room for a thread's call.
+    Ready(u32, Op, bool),
+    /// Whether there is room for a thread's swap of variable 0.
+    ReadyToSwap(u32, bool),
+    /// The holder of lock 0, and its depth.
+    Holder(Option<ThreadId>, u64),
+    /// The locks that thread 0 holds, in the order of their outer acquires.
+    Held(&'static [LockId]),
+    /// The value of a variable.
+    Value(VarId, u64),
+}
+
+/// A memory of six locks.
+struct Case {
+    name: &'static str,
+    threads: u32,
+    vars: u32,
+    events: u64,
+    roots: Roots,
+    rows: &'static [Row],
+}
+
+use Row::{Called, Held, Holder, Ready, ReadyToSwap, Swapped, Value};
+
+const LOAD: Op = Op::Load(VarId(0));
+
+const STORE: Op = Op::Store(VarId(0));
+
+const ACQUIRE: Op = Op::Acquire(LockId(0));
+
+const RELEASE: Op = Op::Release(LockId(0));
+
+const CASES: &[Case] = &[
+    Case {
+        name: "a slot is kept for each release",
+        threads: 1,
+        vars: 1,
+        events: 3,
+        roots: Roots::OnlyMain,
+        rows: &[
+            Called(0, LOAD, 0, Ok(0)),
+            Called(0, ACQUIRE, 0, Ok(0)),
+            Called(0, LOAD, 0, Err(Refusal::LogFull)),
+            Called(0, RELEASE, 0, Ok(0)),
+            Called(0, LOAD, 0, Err(Refusal::LogFull)),
+            Called(0, RELEASE, 0, Err(Refusal::NotHolder)),
+        ],
+    },
+    Case {
+        name: "a slot is kept for each depth",
+        threads: 1,
+        vars: 1,
+        events: 4,
+        roots: Roots::OnlyMain,
+        rows: &[
+            Called(0, ACQUIRE, 0, Ok(0)),
+            Called(0, ACQUIRE, 0, Ok(0)),
+            Holder(Some(ThreadId(0)), 2),
+            Ready(0, RELEASE, true),
+            Called(0, LOAD, 0, Err(Refusal::LogFull)),
+            Called(0, ACQUIRE, 0, Err(Refusal::LogFull)),
+            Called(0, RELEASE, 0, Ok(0)),
+            Holder(Some(ThreadId(0)), 1),
+            Called(0, LOAD, 0, Err(Refusal::LogFull)),
+            Called(0, RELEASE, 0, Ok(0)),
+            Called(0, RELEASE, 0, Err(Refusal::NotHolder)),
+            Holder(None, 0),
+        ],
+    },
+    Case {
+        name: "an inner release keeps the lock",
+        threads: 2,
+        vars: 1,
+        events: 16,
+        roots: Roots::Free,
+        rows: &[
+            Called(0, Op::Fork(ThreadId(1)), 0, Ok(0)),
+            Called(0, ACQUIRE, 0, Ok(0)),
+            Called(0, ACQUIRE, 0, Ok(0)),
+            Called(0, RELEASE, 0, Ok(0)),
+            Called(1, ACQUIRE, 0, Err(Refusal::Held { by: ThreadId(0) })),
+            Called(1, RELEASE, 0, Err(Refusal::NotHolder)),
+            Called(0, RELEASE, 0, Ok(0)),
+            Called(1, ACQUIRE, 0, Ok(0)),
+        ],
+    },
+    Case {
+        name: "a load reads the last store",
+        threads: 2,
+        vars: 2,
+        events: 8,
+        roots: Roots::OnlyMain,
+        rows: &[
+            Called(0, STORE, 7, Ok(7)),
+            Called(0, Op::Fork(ThreadId(1)), 0, Ok(0)),
+            Called(1, LOAD, 0, Ok(7)),
+            Called(1, STORE, 18446744073709551615, Ok(18446744073709551615)),
+            Called(0, LOAD, 0, Ok(18446744073709551615)),
+            Called(0, Op::Load(VarId(1)), 0, Ok(0)),
+            Called(0, Op::Load(VarId(2)), 0, Err(Refusal::TargetRange)),
+            Value(VarId(0), 18446744073709551615),
+            Value(VarId(1), 0),
+        ],
+    },
+    Case {
+        name: "the first reason is answered",
+        threads: 2,
+        vars: 1,
+        events: 1,
+        roots: Roots::OnlyMain,
+        rows: &[
+            Called(0, LOAD, 0, Ok(0)),
+            Called(0, Op::Fork(ThreadId(0)), 0, Err(Refusal::SelfTarget)),
+            Called(0, Op::Join(ThreadId(1)), 0, Err(Refusal::TargetNotStarted)),
+            Called(0, Op::Fork(ThreadId(1)), 0, Err(Refusal::LogFull)),
+            Called(0, Op::Acquire(LockId(6)), 0, Err(Refusal::TargetRange)),
+            Called(0, ACQUIRE, 0, Err(Refusal::LogFull)),
+            Called(1, LOAD, 0, Err(Refusal::NotStarted)),
+            Called(2, LOAD, 0, Err(Refusal::ThreadRange)),
+        ],
+    },
+    Case {
+        name: "a thread that acted is not forked",
+        threads: 2,
+        vars: 1,
+        events: 16,
+        roots: Roots::Free,
+        rows: &[
+            Called(0, STORE, 0, Ok(0)),
+            Called(1, Op::Fork(ThreadId(0)), 0, Err(Refusal::AlreadyStarted)),
+        ],
+    },
+    Case {
+        name: "a joined thread has ended",
+        threads: 3,
+        vars: 1,
+        events: 16,
+        roots: Roots::Free,
+        rows: &[
+            Called(0, Op::Fork(ThreadId(1)), 0, Ok(0)),
+            Called(1, ACQUIRE, 0, Ok(0)),
+            Called(0, Op::Join(ThreadId(1)), 0, Ok(0)),
+            Called(1, LOAD, 0, Err(Refusal::Ended)),
+            Called(1, RELEASE, 0, Err(Refusal::Ended)),
+            Called(0, ACQUIRE, 0, Err(Refusal::Held { by: ThreadId(1) })),
+            Called(2, Op::Join(ThreadId(1)), 0, Ok(0)),
+        ],
+    },
+    Case {
+        name: "locks are held in the order of outer acquires",
+        threads: 1,
+        vars: 1,
+        events: 64,
+        roots: Roots::OnlyMain,
+        rows: &[
+            Called(0, Op::Acquire(LockId(3)), 0, Ok(0)),
+            Called(0, Op::Acquire(LockId(1)), 0, Ok(0)),
+            Called(0, Op::Acquire(LockId(5)), 0, Ok(0)),
+            Called(0, Op::Acquire(LockId(0)), 0, Ok(0)),
+            Called(0, Op::Acquire(LockId(4)), 0, Ok(0)),
+            Called(0, Op::Acquire(LockId(2)), 0, Ok(0)),
+            Called(0, Op::Acquire(LockId(3)), 0, Ok(0)),
+            Called(0, Op::Release(LockId(5)), 0, Ok(0)),
+            Called(0, Op::Release(LockId(3)), 0, Ok(0)),
+            Called(0, Op::Release(LockId(0)), 0, Ok(0)),
+            Held(&[LockId(3), LockId(1), LockId(4), LockId(2)]),
+        ],
+    },
+    Case {
+        name: "a swap needs two slots",
+        threads: 2,
+        vars: 1,
+        events: 5,
+        roots: Roots::OnlyMain,
+        rows: &[
+            ReadyToSwap(1, false),
+            Called(0, Op::Fork(ThreadId(1)), 0, Ok(0)),
+            Swapped(1, 4, Ok(0)),
+            ReadyToSwap(1, true),
+            Swapped(0, 5, Ok(4)),
+            Swapped(0, 6, Err(Refusal::LogFull)),
+            Value(VarId(0), 5),
+        ],
+    },
+    Case {
+        name: "a swap that is refused leaves the slot",
+        threads: 2,
+        vars: 1,
+        events: 4,
+        roots: Roots::OnlyMain,
+        rows: &[
+            Swapped(1, 4, Err(Refusal::NotStarted)),
+            Called(0, Op::Fork(ThreadId(1)), 0, Ok(0)),
+            Swapped(1, 4, Ok(0)),
+            Swapped(0, 5, Err(Refusal::LogFull)),
+            Called(0, LOAD, 0, Ok(4)),
+        ],
+    },
+];
 
 fn call(thread: u32, op: Op, arg: u64) -> Call {
     Call {
@@ -16,31 +223,7 @@ fn call(thread: u32, op: Op, arg: u64) -> Call {
     }
 }
 
-fn load(thread: u32, var: u32) -> Call {
-    call(thread, Op::Load(VarId(var)), 0)
-}
-
-fn store(thread: u32, var: u32, value: u64) -> Call {
-    call(thread, Op::Store(VarId(var)), value)
-}
-
-fn acquire(thread: u32, lock: u32) -> Call {
-    call(thread, Op::Acquire(LockId(lock)), 0)
-}
-
-fn release(thread: u32, lock: u32) -> Call {
-    call(thread, Op::Release(LockId(lock)), 0)
-}
-
-fn fork(thread: u32, child: u32) -> Call {
-    call(thread, Op::Fork(ThreadId(child)), 0)
-}
-
-fn join(thread: u32, child: u32) -> Call {
-    call(thread, Op::Join(ThreadId(child)), 0)
-}
-
-fn make_once(memory: &mut Memory, call: &Call) -> Result<u64, Refusal> {
+fn make_once(memory: &mut Memory, call: &Call) -> Answer {
     memory.permit(call)?;
     if memory.prepare(call).is_err() {
         return Err(Refusal::OutOfMemory);
@@ -48,200 +231,11 @@ fn make_once(memory: &mut Memory, call: &Call) -> Result<u64, Refusal> {
     Ok(memory.apply(call))
 }
 
-fn make(memory: &mut Memory, call: Call) -> Result<u64, Refusal> {
-    match make_once(memory, &call) {
-        Err(Refusal::OutOfMemory) => make_once(memory, &call),
+fn make(memory: &mut Memory, call: &Call) -> Answer {
+    match make_once(memory, call) {
+        Err(Refusal::OutOfMemory) => make_once(memory, call),
         answer => answer,
     }
-}
-
-type Answer = Result<u64, Refusal>;
-
-fn memory(
-    rt: &impl Abort,
-    alloc: Global,
-    threads: u32,
-    vars: u32,
-    events: u64,
-    roots: Roots,
-) -> Memory {
-    let limits = Limits::new(threads, 6, vars, events, roots).expect(rt, "within the bounds");
-    Memory::new(alloc, limits).expect(rt, "it takes no memory")
-}
-
-fn expect(rt: &impl Abort, memory: &mut Memory, cases: &[(Call, Answer)]) {
-    for (index, (call, answer)) in cases.iter().enumerate() {
-        assert_eq!(rt; make(memory, *call), *answer, "call {index}");
-    }
-}
-
-fn expect_held(rt: &impl Abort, memory: &Memory, holder: Option<ThreadId>, depth: u64) {
-    assert_eq!(rt;
-        (memory.holder(LockId(0)), memory.depth(LockId(0))),
-        (holder, depth)
-    );
-}
-
-#[test]
-fn a_slot_is_kept_for_each_release(rt: HostRuntime) {
-    let mut memory = memory(&rt, rt.alloc(), 1, 1, 3, Roots::OnlyMain);
-    expect(
-        &rt,
-        &mut memory,
-        &[
-            (load(0, 0), Ok(0)),
-            (acquire(0, 0), Ok(0)),
-            (load(0, 0), Err(Refusal::LogFull)),
-            (release(0, 0), Ok(0)),
-            (load(0, 0), Err(Refusal::LogFull)),
-            (release(0, 0), Err(Refusal::NotHolder)),
-        ],
-    );
-}
-
-#[test]
-fn a_slot_is_kept_for_each_depth(rt: HostRuntime) {
-    let mut memory = memory(&rt, rt.alloc(), 1, 1, 4, Roots::OnlyMain);
-    expect(
-        &rt,
-        &mut memory,
-        &[(acquire(0, 0), Ok(0)), (acquire(0, 0), Ok(0))],
-    );
-    expect_held(&rt, &memory, Some(ThreadId(0)), 2);
-    assert!(rt; memory.ready(&release(0, 0)));
-    expect(
-        &rt,
-        &mut memory,
-        &[
-            (load(0, 0), Err(Refusal::LogFull)),
-            (acquire(0, 0), Err(Refusal::LogFull)),
-            (release(0, 0), Ok(0)),
-        ],
-    );
-    expect_held(&rt, &memory, Some(ThreadId(0)), 1);
-    expect(
-        &rt,
-        &mut memory,
-        &[
-            (load(0, 0), Err(Refusal::LogFull)),
-            (release(0, 0), Ok(0)),
-            (release(0, 0), Err(Refusal::NotHolder)),
-        ],
-    );
-    expect_held(&rt, &memory, None, 0);
-}
-
-#[test]
-fn an_inner_release_keeps_the_lock(rt: HostRuntime) {
-    let mut memory = memory(&rt, rt.alloc(), 2, 1, 16, Roots::Free);
-    expect(
-        &rt,
-        &mut memory,
-        &[
-            (fork(0, 1), Ok(0)),
-            (acquire(0, 0), Ok(0)),
-            (acquire(0, 0), Ok(0)),
-            (release(0, 0), Ok(0)),
-            (acquire(1, 0), Err(Refusal::Held { by: ThreadId(0) })),
-            (release(1, 0), Err(Refusal::NotHolder)),
-            (release(0, 0), Ok(0)),
-            (acquire(1, 0), Ok(0)),
-        ],
-    );
-}
-
-#[test]
-fn a_load_reads_the_last_store(rt: HostRuntime) {
-    let mut memory = memory(&rt, rt.alloc(), 2, 2, 8, Roots::OnlyMain);
-    expect(
-        &rt,
-        &mut memory,
-        &[
-            (store(0, 0, 7), Ok(7)),
-            (fork(0, 1), Ok(0)),
-            (load(1, 0), Ok(7)),
-            (store(1, 0, 18446744073709551615), Ok(18446744073709551615)),
-            (load(0, 0), Ok(18446744073709551615)),
-            (load(0, 1), Ok(0)),
-            (load(0, 2), Err(Refusal::TargetRange)),
-        ],
-    );
-    let values = [memory.value(VarId(0)), memory.value(VarId(1))];
-    assert_eq!(rt; values, [18446744073709551615, 0]);
-}
-
-#[test]
-fn the_first_reason_is_answered(rt: HostRuntime) {
-    let mut memory = memory(&rt, rt.alloc(), 2, 1, 1, Roots::OnlyMain);
-    expect(
-        &rt,
-        &mut memory,
-        &[
-            (load(0, 0), Ok(0)),
-            (fork(0, 0), Err(Refusal::SelfTarget)),
-            (join(0, 1), Err(Refusal::TargetNotStarted)),
-            (fork(0, 1), Err(Refusal::LogFull)),
-            (acquire(0, 6), Err(Refusal::TargetRange)),
-            (acquire(0, 0), Err(Refusal::LogFull)),
-            (load(1, 0), Err(Refusal::NotStarted)),
-            (load(2, 0), Err(Refusal::ThreadRange)),
-        ],
-    );
-}
-
-#[test]
-fn a_thread_that_acted_is_not_forked(rt: HostRuntime) {
-    let mut memory = memory(&rt, rt.alloc(), 2, 1, 16, Roots::Free);
-    expect(
-        &rt,
-        &mut memory,
-        &[
-            (store(0, 0, 0), Ok(0)),
-            (fork(1, 0), Err(Refusal::AlreadyStarted)),
-        ],
-    );
-}
-
-#[test]
-fn a_joined_thread_has_ended(rt: HostRuntime) {
-    let mut memory = memory(&rt, rt.alloc(), 3, 1, 16, Roots::Free);
-    expect(
-        &rt,
-        &mut memory,
-        &[
-            (fork(0, 1), Ok(0)),
-            (acquire(1, 0), Ok(0)),
-            (join(0, 1), Ok(0)),
-            (load(1, 0), Err(Refusal::Ended)),
-            (release(1, 0), Err(Refusal::Ended)),
-            (acquire(0, 0), Err(Refusal::Held { by: ThreadId(1) })),
-            (join(2, 1), Ok(0)),
-        ],
-    );
-}
-
-#[test]
-fn locks_are_held_in_the_order_of_outer_acquires(rt: HostRuntime) {
-    let mut memory = memory(&rt, rt.alloc(), 1, 1, 64, Roots::OnlyMain);
-    expect(
-        &rt,
-        &mut memory,
-        &[
-            (acquire(0, 3), Ok(0)),
-            (acquire(0, 1), Ok(0)),
-            (acquire(0, 5), Ok(0)),
-            (acquire(0, 0), Ok(0)),
-            (acquire(0, 4), Ok(0)),
-            (acquire(0, 2), Ok(0)),
-            (acquire(0, 3), Ok(0)),
-            (release(0, 5), Ok(0)),
-            (release(0, 3), Ok(0)),
-            (release(0, 0), Ok(0)),
-        ],
-    );
-    assert!(rt;
-        memory.held(ThreadId(0)) == [LockId(3), LockId(1), LockId(4), LockId(2)].as_slice()
-    );
 }
 
 /// What a swap is answered: its load's value.
@@ -250,8 +244,8 @@ fn swap_once(memory: &mut Memory, thread: u32, arg: u64) -> Answer {
     if memory.prepare_swap(ThreadId(thread), VarId(0)).is_err() {
         return Err(Refusal::OutOfMemory);
     }
-    let value = make_once(memory, &load(thread, 0))?;
-    make_once(memory, &store(thread, 0, arg))?;
+    let value = make_once(memory, &call(thread, LOAD, 0))?;
+    make_once(memory, &call(thread, STORE, arg))?;
     Ok(value)
 }
 
@@ -262,36 +256,47 @@ fn swap(memory: &mut Memory, thread: u32, arg: u64) -> Answer {
     }
 }
 
-fn expect_swaps(rt: &impl Abort, memory: &mut Memory, cases: &[(u32, u64, Answer)]) {
-    for (thread, arg, answer) in cases {
-        assert_eq!(rt; swap(memory, *thread, *arg), *answer, "a swap of {arg}");
+/// Whether the memory answers so.
+fn agrees(memory: &mut Memory, row: &Row) -> bool {
+    match *row {
+        Called(thread, op, arg, answer) => make(memory, &call(thread, op, arg)) == answer,
+        Swapped(thread, arg, answer) => swap(memory, thread, arg) == answer,
+        Ready(thread, op, is_ready) => memory.ready(&call(thread, op, 0)) == is_ready,
+        ReadyToSwap(thread, is_ready) => {
+            memory.ready_swap(ThreadId(thread), VarId(0)) == is_ready
+        }
+        Holder(holder, depth) => {
+            memory.holder(LockId(0)) == holder && memory.depth(LockId(0)) == depth
+        }
+        Held(locks) => memory.held(ThreadId(0)) == locks,
+        Value(var, value) => memory.value(var) == value,
     }
 }
 
-#[test]
-fn a_swap_needs_two_slots(rt: HostRuntime) {
-    let mut memory = memory(&rt, rt.alloc(), 2, 1, 5, Roots::OnlyMain);
-    assert!(rt; !memory.ready_swap(ThreadId(1), VarId(0)));
-    expect(&rt, &mut memory, &[(fork(0, 1), Ok(0))]);
-    expect_swaps(&rt, &mut memory, &[(1, 4, Ok(0))]);
-    assert!(rt; memory.ready_swap(ThreadId(1), VarId(0)));
-    expect_swaps(
-        &rt,
-        &mut memory,
-        &[(0, 5, Ok(4)), (0, 6, Err(Refusal::LogFull))],
-    );
-    assert_eq!(rt; memory.value(VarId(0)), 5);
+/// How many of the answers a new memory gives, one after another.
+fn count_agreed(alloc: Global, limits: Limits, rows: &[Row]) -> usize {
+    let Ok(mut memory) = Memory::new(alloc, limits) else {
+        unreachable!()
+    };
+    let mut agreed = 0;
+    for row in rows {
+        if !agrees(&mut memory, row) {
+            break;
+        }
+        agreed += 1;
+    }
+    drop(memory);
+    agreed
 }
 
 #[test]
-fn a_swap_that_is_refused_leaves_the_slot(rt: HostRuntime) {
-    let mut memory = memory(&rt, rt.alloc(), 2, 1, 4, Roots::OnlyMain);
-    expect_swaps(&rt, &mut memory, &[(1, 4, Err(Refusal::NotStarted))]);
-    expect(&rt, &mut memory, &[(fork(0, 1), Ok(0))]);
-    expect_swaps(
-        &rt,
-        &mut memory,
-        &[(1, 4, Ok(0)), (0, 5, Err(Refusal::LogFull))],
-    );
-    expect(&rt, &mut memory, &[(load(0, 0), Ok(4))]);
+fn calls_and_swaps_are_answered(rt: HostRuntime) {
+    for case in CASES {
+        let limits = Limits::new(case.threads, 6, case.vars, case.events, case.roots).expect(
+            &rt,
+            "within the bounds",
+        );
+        let agreed = count_agreed(rt.alloc(), limits, case.rows);
+        assert!(rt; agreed == case.rows.len(), "{}", case.name);
+    }
 }

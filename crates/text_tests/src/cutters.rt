@@ -4,101 +4,124 @@ use event_core::{Event, Limits, LockId, Op, OutOfMemory, VarId};
 use rapid_text::{Cause, Cutter, LineFault, TextFault};
 use std::alloc::Global;
 
-/// How many bytes were taken and the event, or a fault.
-type Answer = Result<(usize, Option<Event>), TextFault>;
+/// What a cutter is given.
+enum Given {
+    Piece(&'static [u8]),
+    /// The end of the text.
+    End,
+    /// A read failed.
+    ReadFailed,
+}
 
-/// A piece, or the end of the text, what it is answered, and then the last answer's line and the number of
-/// the line whose end was not seen.
-type Step<'a> = (Option<&'a [u8]>, Answer, u64, u64);
+/// What a cutter is to answer.
+#[derive(Clone, Copy)]
+enum Answer {
+    /// So many bytes were taken, and there is no event.
+    Took(usize),
+    /// So many bytes were taken, up to the end of an event: its thread, its operation and its location.
+    Told(usize, u32, Op, u32),
+    /// A fault of this line.
+    Fault(u64, Cause),
+}
 
-fn answer(cutter: &mut Cutter, piece: Option<&[u8]>) -> Result<Answer, OutOfMemory> {
-    let answer = match piece {
-        Some(piece) => cutter.push(piece),
-        None => match cutter.finish() {
+use Answer::{Fault, Told, Took};
+use Given::{End, Piece, ReadFailed};
+
+/// What is given and answered, the line of the last answer, and the number of the line whose end was not seen.
+type Step = (Given, Answer, u64, u64);
+
+const CASES: &[&[Step]] = &[
+    // a line comes in pieces
+    &[
+        (Piece(b"\nT0|rel(l"), Took(9), 0, 2),
+        (Piece(b""), Took(0), 0, 2),
+        (Piece(b")|\r"), Took(3), 0, 2),
+        (Piece(b"\nT1|"), Told(1, 0, Op::Release(LockId(0)), 0), 2, 3),
+        (Piece(b"T1|w(x)|7"), Took(9), 2, 3),
+        (End, Told(0, 1, Op::Store(VarId(0)), 1), 3, 4),
+        (End, Took(0), 3, 4),
+    ],
+    // an unfinished line is judged at the end
+    &[
+        (Piece(b"T0|w(x"), Took(6), 0, 1),
+        (End, Fault(1, Cause::Line(LineFault::FewFields)), 1, 1),
+        (End, Fault(1, Cause::Failed), 1, 1),
+        (Piece(b"T0|w(x)|\n"), Fault(1, Cause::Failed), 1, 1),
+    ],
+    // a cutter whose reader failed stays failed
+    &[
+        (ReadFailed, Fault(1, Cause::Read), 1, 1),
+        (ReadFailed, Fault(1, Cause::Failed), 1, 1),
+    ],
+];
+
+/// The bytes that were taken and the event, or the fault.
+fn give(cutter: &mut Cutter, given: &Given) -> Result<(usize, Option<Event>), TextFault> {
+    match given {
+        Piece(piece) => cutter.push(piece),
+        End => match cutter.finish() {
             Ok(event) => Ok((0, event)),
             Err(fault) => Err(fault),
         },
-    };
-    match answer {
-        Err(fault) if fault.cause == Cause::OutOfMemory => Err(OutOfMemory),
-        answer => Ok(answer),
+        ReadFailed => Err(cutter.read_failed()),
+    }
+}
+
+/// Whether the answer is this one, and the cutter knows of a fault where it is one.
+fn is_wanted(
+    answer: &Result<(usize, Option<Event>), TextFault>,
+    failed: Option<u64>,
+    wanted: Answer,
+) -> bool {
+    match (answer, wanted) {
+        (Ok((taken, None)), Took(count)) => *taken == count && failed.is_none(),
+        (Ok((taken, Some(told))), Told(count, thread, op, site)) => {
+            *taken == count && *told == event(thread, op, site) && failed.is_none()
+        }
+        (Err(fault), Fault(line, cause)) => {
+            *fault == TextFault { line, cause } && failed == Some(line)
+        }
+        _ => false,
     }
 }
 
 /// How many of the steps the cutter answers so, one after another.
-fn agreed(cutter: &mut Cutter, steps: &[Step<'_>]) -> Result<usize, OutOfMemory> {
-    for (index, step) in steps.iter().enumerate() {
-        let answer = answer(cutter, step.0)?;
-        if answer != step.1 || cutter.line() != step.2 || cutter.unfinished() != step.3 {
-            return Ok(index);
+fn count_agreed(cutter: &mut Cutter, steps: &[Step]) -> Result<usize, OutOfMemory> {
+    let mut agreed = 0;
+    for (given, wanted, line, unfinished) in steps {
+        let answer = give(cutter, given);
+        if let Err(fault) = answer
+            && fault.cause == Cause::OutOfMemory
+        {
+            return Err(OutOfMemory);
         }
+        if !is_wanted(&answer, cutter.failed(), *wanted)
+            || cutter.line() != *line
+            || cutter.unfinished() != *unfinished
+        {
+            break;
+        }
+        agreed += 1;
     }
-    Ok(steps.len())
+    Ok(agreed)
 }
 
-/// How many of the steps a new cutter answers so.
-fn agreed_anew(alloc: Global, limits: Limits, steps: &[Step<'_>]) -> Result<usize, OutOfMemory> {
+/// How many of the steps a new cutter answers so. It knows of no fault before the first.
+fn agreed(alloc: Global, limits: Limits, steps: &[Step]) -> Result<usize, OutOfMemory> {
     let mut cutter = Cutter::new(alloc, limits)?;
-    agreed(&mut cutter, steps)
-}
-
-/// The line of the first fault and the cause that is told, before and after a read failed.
-type Failures = (Option<u64>, Cause, Option<u64>, Cause);
-
-fn failures(cutter: &mut Cutter) -> Failures {
-    let before = cutter.failed();
-    let first = cutter.read_failed().cause;
-    (before, first, cutter.failed(), cutter.read_failed().cause)
-}
-
-fn failures_anew(alloc: Global, limits: Limits) -> Result<Failures, OutOfMemory> {
-    let mut cutter = Cutter::new(alloc, limits)?;
-    Ok(failures(&mut cutter))
-}
-
-#[test]
-fn a_line_comes_in_pieces(rt: HostRuntime) {
-    let release = event(0, Op::Release(LockId(0)), 0);
-    let store = event(1, Op::Store(VarId(0)), 1);
-    let steps: [Step<'_>; 7] = [
-        (Some(b"\nT0|rel(l"), Ok((9, None)), 0, 2),
-        (Some(b""), Ok((0, None)), 0, 2),
-        (Some(b")|\r"), Ok((3, None)), 0, 2),
-        (Some(b"\nT1|"), Ok((1, Some(release))), 2, 3),
-        (Some(b"T1|w(x)|7"), Ok((9, None)), 2, 3),
-        (None, Ok((0, Some(store))), 3, 4),
-        (None, Ok((0, None)), 3, 4),
-    ];
-    assert_eq!(rt;
-        again!(&rt; agreed_anew(rt.alloc(), limits(&rt), &steps)),
-        7
-    );
-}
-
-#[test]
-fn an_unfinished_line_is_judged_at_the_end(rt: HostRuntime) {
-    let few = TextFault {
-        line: 1,
-        cause: Cause::Line(LineFault::FewFields),
+    let agreed = if cutter.failed().is_none() {
+        count_agreed(&mut cutter, steps)
+    } else {
+        Ok(0)
     };
-    let failed = TextFault {
-        line: 1,
-        cause: Cause::Failed,
-    };
-    let steps: [Step<'_>; 4] = [
-        (Some(b"T0|w(x"), Ok((6, None)), 0, 1),
-        (None, Err(few), 1, 1),
-        (None, Err(failed), 1, 1),
-        (Some(b"T0|w(x)|\n"), Err(failed), 1, 1),
-    ];
-    assert_eq!(rt;
-        again!(&rt; agreed_anew(rt.alloc(), limits(&rt), &steps)),
-        4
-    );
+    drop(cutter);
+    agreed
 }
 
 #[test]
-fn a_cutter_whose_reader_failed_stays_failed(rt: HostRuntime) {
-    let told = again!(&rt; failures_anew(rt.alloc(), limits(&rt)));
-    assert_eq!(rt; told, (None, Cause::Read, Some(1), Cause::Failed));
+fn a_cutter_answers_each_piece(rt: HostRuntime) {
+    for steps in CASES {
+        let agreed = again!(&rt; agreed(rt.alloc(), limits(&rt), steps));
+        assert!(rt; agreed == steps.len());
+    }
 }

@@ -1,93 +1,148 @@
 //! Texts with a fault, each with the line and the cause.
 use super::doubles::Pieces;
-use super::told::{expect, expect_told, fault, long, told};
+use super::told::Answer::{Fault, Told};
+use super::told::{Answer, Case, expect_all, expect_told, long};
 use event_core::{LockId, Op, OutOfMemory, ThreadId, VarId};
 use rapid_text::{Cause, Kind, LineFault, NamedLine, Word, read_line};
 
-/// Each cause, and where two apply the first in their order.
+const STORE: Answer = Told(1, 0, Op::Store(VarId(0)), 0);
+
+const CASES: &[Case] = &[
+    // each cause, and where two apply the first in their order
+    Case {
+        text: b"T0|w(x\ry)|1|2",
+        answers: &[Fault(1, Cause::Line(LineFault::StrayCr))],
+    },
+    Case {
+        text: b"T0|acq(l",
+        answers: &[Fault(1, Cause::Line(LineFault::FewFields))],
+    },
+    Case {
+        text: b"T0|begin(x)|1|",
+        answers: &[Fault(1, Cause::Line(LineFault::ManyFields))],
+    },
+    Case {
+        text: b"|W(x)|1",
+        answers: &[Fault(1, Cause::Line(LineFault::BadOp))],
+    },
+    Case {
+        text: b"T0|w(x)y|1",
+        answers: &[Fault(1, Cause::Line(LineFault::BadOp))],
+    },
+    Case {
+        text: b"T0|w|1",
+        answers: &[Fault(1, Cause::Line(LineFault::BadOp))],
+    },
+    Case {
+        text: b"|w(x)|1",
+        answers: &[Fault(1, Cause::Line(LineFault::EmptyName))],
+    },
+    Case {
+        text: b"T0|w()|1",
+        answers: &[Fault(1, Cause::Line(LineFault::EmptyName))],
+    },
+    // the events before the fault come first, and after it the reader fails for good
+    Case {
+        text: b"\r\nT0|w(x)|1\nT0|r(x)|2\n\nT0|begin(x)|3\nT0|r(x)|",
+        answers: &[
+            Told(2, 0, Op::Store(VarId(0)), 0),
+            Told(3, 0, Op::Load(VarId(0)), 1),
+            Fault(5, Cause::Line(LineFault::BadOp)),
+            Fault(5, Cause::Failed),
+            Fault(5, Cause::Failed),
+        ],
+    },
+    // a new name past the limit of its kind is one too many
+    Case {
+        text: b"T0|fork(T1)|\nT2|w(x)|",
+        answers: &[
+            Told(1, 0, Op::Fork(ThreadId(1)), 0),
+            Fault(2, Cause::TooManyNames(Kind::Thread)),
+        ],
+    },
+    Case {
+        text: b"T0|acq(l)|\nT0|acq(m)|",
+        answers: &[
+            Told(1, 0, Op::Acquire(LockId(0)), 0),
+            Fault(2, Cause::TooManyNames(Kind::Lock)),
+        ],
+    },
+    Case {
+        text: b"T0|w(x)|\nT0|r(y)|",
+        answers: &[STORE, Fault(2, Cause::TooManyNames(Kind::Variable))],
+    },
+];
+
 #[test]
-fn the_first_cause_is_told(rt: HostRuntime) {
-    for (text, cause) in [
-        (b"T0|w(x\ry)|1|2".as_slice(), LineFault::StrayCr),
-        (b"T0|acq(l".as_slice(), LineFault::FewFields),
-        (b"T0|begin(x)|1|".as_slice(), LineFault::ManyFields),
-        (b"|W(x)|1".as_slice(), LineFault::BadOp),
-        (b"T0|w(x)y|1".as_slice(), LineFault::BadOp),
-        (b"T0|w|1".as_slice(), LineFault::BadOp),
-        (b"|w(x)|1".as_slice(), LineFault::EmptyName),
-        (b"T0|w()|1".as_slice(), LineFault::EmptyName),
-    ] {
-        expect(&rt, rt.alloc(), text, &[fault(1, Cause::Line(cause))]);
-    }
+fn the_first_fault_is_told_in_its_turn(rt: HostRuntime) {
+    expect_all(&rt, rt.alloc(), CASES);
 }
 
-/// The events before the fault come first, and after it the reader fails for good.
-#[test]
-fn a_fault_is_told_in_its_turn(rt: HostRuntime) {
-    let text = b"\r\nT0|w(x)|1\nT0|r(x)|2\n\nT0|begin(x)|3\nT0|r(x)|";
-    let answers = [
-        told(2, 0, Op::Store(VarId(0)), 0),
-        told(3, 0, Op::Load(VarId(0)), 1),
-        fault(5, Cause::Line(LineFault::BadOp)),
-        fault(5, Cause::Failed),
-        fault(5, Cause::Failed),
-    ];
-    expect(&rt, rt.alloc(), text, &answers);
-}
+/// So many times the letter a and then an end, whether the reader fails after it, and the answer.
+type LongLine = (usize, &'static [u8], bool, Answer);
 
 /// A name of 255 bytes and a content of 1,024 bytes are the longest. Of a line whose end was not seen, 1,025
 /// bytes may still end well, by a CR.
+const LONG_LINES: &[LongLine] = &[
+    (255, b"|w(x)|", false, STORE),
+    (
+        256,
+        b"|w(x)|",
+        false,
+        Fault(1, Cause::Line(LineFault::LongName)),
+    ),
+    (
+        1024,
+        b"\n",
+        false,
+        Fault(1, Cause::Line(LineFault::FewFields)),
+    ),
+    (
+        1024,
+        b"\r\n",
+        false,
+        Fault(1, Cause::Line(LineFault::FewFields)),
+    ),
+    (
+        1025,
+        b"\n",
+        false,
+        Fault(1, Cause::Line(LineFault::LineTooLong)),
+    ),
+    (
+        1025,
+        b"\r\n",
+        false,
+        Fault(1, Cause::Line(LineFault::LineTooLong)),
+    ),
+    (
+        1026,
+        b"",
+        false,
+        Fault(1, Cause::Line(LineFault::LineTooLong)),
+    ),
+    (1025, b"", true, Fault(1, Cause::Read)),
+    (
+        1026,
+        b"",
+        true,
+        Fault(1, Cause::Line(LineFault::LineTooLong)),
+    ),
+];
+
 #[test]
 fn lines_and_names_have_a_greatest_length(rt: HostRuntime) {
-    let store = told(1, 0, Op::Store(VarId(0)), 0);
-    let long_name = fault(1, Cause::Line(LineFault::LongName));
-    let few = fault(1, Cause::Line(LineFault::FewFields));
-    let too_long = fault(1, Cause::Line(LineFault::LineTooLong));
-    for (len, end, fails, answer) in [
-        (255, b"|w(x)|".as_slice(), false, store),
-        (256, b"|w(x)|".as_slice(), false, long_name),
-        (1024, b"\n".as_slice(), false, few),
-        (1024, b"\r\n".as_slice(), false, few),
-        (1025, b"\n".as_slice(), false, too_long),
-        (1025, b"\r\n".as_slice(), false, too_long),
-        (1026, b"".as_slice(), false, too_long),
-        (1025, b"".as_slice(), true, fault(1, Cause::Read)),
-        (1026, b"".as_slice(), true, too_long),
-    ] {
-        let text = again!(&rt; long(rt.alloc(), b'a', len, end));
+    for (len, end, fails, answer) in LONG_LINES {
+        let text = again!(&rt; long(rt.alloc(), b'a', *len, end));
         for piece in [1, 1000, 4096] {
             let pieces = Pieces {
                 text: text.as_slice(),
                 first: piece,
                 others: piece,
-                fails,
+                fails: *fails,
             };
-            expect_told(&rt, rt.alloc(), pieces, 2000, &[answer]);
+            expect_told(&rt, rt.alloc(), pieces, 2000, &[*answer]);
         }
-    }
-}
-
-#[test]
-fn a_new_name_past_the_limit_is_one_too_many(rt: HostRuntime) {
-    for (text, op, kind) in [
-        (
-            b"T0|fork(T1)|\nT2|w(x)|".as_slice(),
-            Op::Fork(ThreadId(1)),
-            Kind::Thread,
-        ),
-        (
-            b"T0|acq(l)|\nT0|acq(m)|".as_slice(),
-            Op::Acquire(LockId(0)),
-            Kind::Lock,
-        ),
-        (
-            b"T0|w(x)|\nT0|r(y)|".as_slice(),
-            Op::Store(VarId(0)),
-            Kind::Variable,
-        ),
-    ] {
-        let answers = [told(1, 0, op, 0), fault(2, Cause::TooManyNames(kind))];
-        expect(&rt, rt.alloc(), text, &answers);
     }
 }
 
@@ -107,15 +162,17 @@ fn a_content_is_read_by_itself(rt: HostRuntime) {
     assert!(rt; Word::Release.spelled() == b"rel".as_slice());
 }
 
+const NAMES_OF_CAUSES: &[(Cause, &str)] = &[
+    (Cause::Line(LineFault::StrayCr), "StrayCr"),
+    (Cause::TooManyNames(Kind::Site), "TooManyNames"),
+    (Cause::OutOfMemory, "OutOfMemory"),
+    (Cause::Read, "Read"),
+    (Cause::Failed, "Failed"),
+];
+
 #[test]
 fn causes_have_their_names(rt: HostRuntime) {
-    for (cause, name) in [
-        (Cause::Line(LineFault::StrayCr), "StrayCr"),
-        (Cause::TooManyNames(Kind::Site), "TooManyNames"),
-        (Cause::OutOfMemory, "OutOfMemory"),
-        (Cause::Read, "Read"),
-        (Cause::Failed, "Failed"),
-    ] {
-        assert_eq!(rt; cause.word(), name);
+    for (cause, name) in NAMES_OF_CAUSES {
+        assert!(rt; cause.word() == *name);
     }
 }

@@ -1,21 +1,30 @@
 //! What a reader answers, one call after another.
 use super::doubles::{Pieces, Source, byte_by_byte, cut, whole};
-use event_core::{Event, Limits, Op, OutOfMemory, Roots, SiteId, ThreadId, VarId};
+use event_core::{Event, Limits, Op, OutOfMemory, Roots, SiteId, ThreadId};
 use rapid_text::{Cause, Reader, TextFault};
 use std::alloc::Global;
 use std::process::Abort;
 
-/// An event with its line, the end of the text, or a fault.
-pub type Answer = Result<Option<(u64, Event)>, TextFault>;
-
-pub const END: Answer = Ok(None);
-
-pub fn fault(line: u64, cause: Cause) -> Answer {
-    Err(TextFault { line, cause })
+/// What a reader is to answer.
+#[derive(Clone, Copy)]
+pub enum Answer {
+    /// The event of this line: its thread, its operation and the number of its location.
+    Told(u64, u32, Op, u32),
+    /// The end of the text.
+    End,
+    /// A fault of this line.
+    Fault(u64, Cause),
 }
 
-pub fn told(line: u64, thread: u32, op: Op, site: u32) -> Answer {
-    Ok(Some((line, event(thread, op, site))))
+/// A text, and what is told of it.
+pub struct Case {
+    pub text: &'static [u8],
+    pub answers: &'static [Answer],
+}
+
+/// Limits with names for two threads, one lock and one variable.
+pub fn limits(rt: &impl Abort) -> Limits {
+    Limits::new(2, 1, 1, 1000, Roots::Free).expect(rt, "within the bounds")
 }
 
 pub fn event(thread: u32, op: Op, site: u32) -> Event {
@@ -27,32 +36,38 @@ pub fn event(thread: u32, op: Op, site: u32) -> Event {
     }
 }
 
-/// Limits with names for two threads, one lock and one variable.
-pub fn limits(rt: &impl Abort) -> Limits {
-    Limits::new(2, 1, 1, 1000, Roots::Free).expect(rt, "within the bounds")
-}
-
-fn next_answer(reader: &mut Reader<Source<'_>>) -> Result<Answer, OutOfMemory> {
-    match reader.next() {
-        Ok(Some(event)) => Ok(Ok(Some((reader.line(), event)))),
-        Ok(None) => Ok(END),
-        Err(fault) if fault.cause == Cause::OutOfMemory => Err(OutOfMemory),
-        Err(fault) => Ok(Err(fault)),
+/// Whether the answer, and the line that the reader names after it, are these.
+fn is_wanted(answer: &Result<Option<Event>, TextFault>, line: u64, wanted: &Answer) -> bool {
+    match (answer, *wanted) {
+        (Ok(Some(told)), Answer::Told(at, thread, op, site)) => {
+            line == at && *told == event(thread, op, site)
+        }
+        (Ok(None), Answer::End) => true,
+        (Err(fault), Answer::Fault(at, cause)) => *fault == TextFault { line: at, cause },
+        _ => false,
     }
 }
 
 /// How many of the answers the reader gives, one after another.
-fn agreed(reader: &mut Reader<Source<'_>>, answers: &[Answer]) -> Result<usize, OutOfMemory> {
-    for (index, answer) in answers.iter().enumerate() {
-        if next_answer(reader)? != *answer {
-            return Ok(index);
+fn count_agreed(reader: &mut Reader<Source<'_>>, answers: &[Answer]) -> Result<usize, OutOfMemory> {
+    let mut agreed = 0;
+    for wanted in answers {
+        let answer = reader.next();
+        if let Err(fault) = answer
+            && fault.cause == Cause::OutOfMemory
+        {
+            return Err(OutOfMemory);
         }
+        if !is_wanted(&answer, reader.line(), wanted) {
+            break;
+        }
+        agreed += 1;
     }
-    Ok(answers.len())
+    Ok(agreed)
 }
 
-/// How many of the answers a new reader gives.
-fn agreed_anew(
+/// How many of the answers a new reader of the pieces gives.
+fn agreed(
     alloc: Global,
     limits: Limits,
     pieces: Pieces<'_>,
@@ -60,7 +75,9 @@ fn agreed_anew(
     answers: &[Answer],
 ) -> Result<usize, OutOfMemory> {
     let mut reader = Reader::new(alloc, Source::of(pieces), limits, turns as u64)?;
-    agreed(&mut reader, answers)
+    let agreed = count_agreed(&mut reader, answers);
+    drop(reader);
+    agreed
 }
 
 /// A reader of the pieces with so many turns gives these answers.
@@ -72,7 +89,7 @@ pub fn expect_told(
     answers: &[Answer],
 ) {
     let limits = limits(rt);
-    let agreed = again!(rt; agreed_anew(alloc, limits, pieces, turns, answers));
+    let agreed = again!(rt; agreed(alloc, limits, pieces, turns, answers));
     assert_eq!(rt;
         agreed,
         answers.len(),
@@ -82,13 +99,15 @@ pub fn expect_told(
     );
 }
 
-/// A reader of the text gives these answers: whole, byte by byte, and cut in two at each place.
-pub fn expect(rt: &impl Abort, alloc: Global, text: &[u8], answers: &[Answer]) {
-    for first in 1..text.len() {
-        expect_told(rt, alloc, cut(text, first), 100, answers);
+/// A reader of each text gives its answers: whole, byte by byte, and cut in two at each place.
+pub fn expect_all(rt: &impl Abort, alloc: Global, cases: &[Case]) {
+    for case in cases {
+        for first in 1..case.text.len() {
+            expect_told(rt, alloc, cut(case.text, first), 100, case.answers);
+        }
+        expect_told(rt, alloc, whole(case.text), 100, case.answers);
+        expect_told(rt, alloc, byte_by_byte(case.text), 10000, case.answers);
     }
-    expect_told(rt, alloc, whole(text), 100, answers);
-    expect_told(rt, alloc, byte_by_byte(text), 10000, answers);
 }
 
 /// So many of the byte, and then the end.
@@ -100,17 +119,4 @@ pub fn long(alloc: Global, byte: u8, len: usize, end: &[u8]) -> Result<Vec<u8>, 
         return Err(OutOfMemory);
     }
     Ok(text)
-}
-
-/// So many lines, and what a reader tells of them: stores by one thread at one place.
-pub fn stores(alloc: Global, lines: u64) -> Result<(Vec<u8>, Vec<Answer>), OutOfMemory> {
-    let mut text = Vec::new(alloc);
-    let mut answers = Vec::new(alloc);
-    for line in 0..lines {
-        let told = told(line + 1, 0, Op::Store(VarId(0)), 0);
-        if text.extend_from_slice(b"T0|w(x)|7\n").is_err() || answers.push(told).is_err() {
-            return Err(OutOfMemory);
-        }
-    }
-    Ok((text, answers))
 }

@@ -5,25 +5,33 @@ use event_core::{Limits, OutOfMemory};
 use rapid_text::{Device, Output, Reader, write_event, write_fault};
 use std::alloc::Global;
 
-/// Reads an event and writes its line: false at the end of the text, and where the output failed.
-fn copy_next<W: Output>(
-    reader: &mut Reader<Device<&[u8]>>,
-    w: &mut W,
-) -> Result<bool, OutOfMemory> {
-    match reader.next() {
-        Ok(Some(event)) => Ok(write_event(w, &event, reader.names()).is_ok()),
-        Ok(None) => Ok(false),
-        Err(_) => Err(OutOfMemory),
-    }
-}
-
-fn copy_all(reader: &mut Reader<Device<&[u8]>>, page: &mut Page<'_>) -> Result<(), OutOfMemory> {
+/// Reads each event and writes its line: whether all were written, up to the end of the text.
+fn copy_all<W: Output>(reader: &mut Reader<Device<&[u8]>>, w: &mut W) -> Result<bool, OutOfMemory> {
     for _ in 0..100 {
-        if !copy_next(reader, page)? {
-            break;
+        match reader.next() {
+            Ok(Some(event)) => {
+                if write_event(w, &event, reader.names()).is_err() {
+                    return Ok(false);
+                }
+            }
+            Ok(None) => return Ok(true),
+            Err(_) => return Err(OutOfMemory),
         }
     }
-    Ok(())
+    Ok(false)
+}
+
+/// Whether the lines of all events of the text are written.
+fn copy<W: Output>(
+    alloc: Global,
+    limits: Limits,
+    text: &[u8],
+    w: &mut W,
+) -> Result<bool, OutOfMemory> {
+    let mut reader = Reader::new(alloc, Device::new(text), limits, 100)?;
+    let is_copied = copy_all(&mut reader, w);
+    drop(reader);
+    is_copied
 }
 
 /// Whether the lines of all events are written, and are the text, in so many puts of three bytes.
@@ -34,8 +42,7 @@ fn is_copied(alloc: Global, limits: Limits, text: &[u8], puts: usize) -> Result<
         puts,
         failed: false,
     };
-    let mut reader = Reader::new(alloc, Device::new(text), limits, 100)?;
-    copy_all(&mut reader, &mut page)?;
+    copy(alloc, limits, text, &mut page)?;
     Ok(page.rest.is_empty())
 }
 
@@ -68,8 +75,7 @@ fn a_fault_line_is_written(rt: HostRuntime) {
 
 /// Whether the line of the first event is written to so many bytes, after which the writer takes nothing.
 fn fits_event(alloc: Global, limits: Limits, room: &mut [u8]) -> Result<bool, OutOfMemory> {
-    let mut reader = Reader::new(alloc, Device::new(b"T0|w(x)|1".as_slice()), limits, 100)?;
-    copy_next(&mut reader, &mut Device::new(room))
+    copy(alloc, limits, b"T0|w(x)|1", &mut Device::new(room))
 }
 
 /// A slice takes what it has room for, and then nothing.
