@@ -273,18 +273,22 @@ fn agrees(memory: &mut Memory, row: &Row) -> bool {
     }
 }
 
-/// How many of the answers a new memory gives, one after another.
-fn count_agreed(alloc: Global, limits: Limits, rows: &[Row]) -> usize {
+/// How many of the answers the memory gives, one after another.
+fn count_agreed(memory: &mut Memory, rows: &[Row]) -> usize {
+    for (index, row) in rows.iter().enumerate() {
+        if !agrees(memory, row) {
+            return index;
+        }
+    }
+    rows.len()
+}
+
+/// How many of the answers a new memory gives.
+fn agreed(alloc: Global, limits: Limits, rows: &[Row]) -> usize {
     let Ok(mut memory) = Memory::new(alloc, limits) else {
         unreachable!()
     };
-    let mut agreed = 0;
-    for row in rows {
-        if !agrees(&mut memory, row) {
-            break;
-        }
-        agreed += 1;
-    }
+    let agreed = count_agreed(&mut memory, rows);
     drop(memory);
     agreed
 }
@@ -296,7 +300,7 @@ fn calls_and_swaps_are_answered(rt: HostRuntime) {
             &rt,
             "within the bounds",
         );
-        let agreed = count_agreed(rt.alloc(), limits, case.rows);
+        let agreed = agreed(rt.alloc(), limits, case.rows);
         assert!(rt; agreed == case.rows.len(), "{}", case.name);
     }
 }

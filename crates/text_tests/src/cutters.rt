@@ -87,8 +87,7 @@ fn is_wanted(
 
 /// How many of the steps the cutter answers so, one after another.
 fn count_agreed(cutter: &mut Cutter, steps: &[Step]) -> Result<usize, OutOfMemory> {
-    let mut agreed = 0;
-    for (given, wanted, line, unfinished) in steps {
+    for (index, (given, wanted, line, unfinished)) in steps.iter().enumerate() {
         let answer = give(cutter, given);
         if let Err(fault) = answer
             && fault.cause == Cause::OutOfMemory
@@ -99,11 +98,10 @@ fn count_agreed(cutter: &mut Cutter, steps: &[Step]) -> Result<usize, OutOfMemor
             || cutter.line() != *line
             || cutter.unfinished() != *unfinished
         {
-            break;
+            return Ok(index);
         }
-        agreed += 1;
     }
-    Ok(agreed)
+    Ok(steps.len())
 }
 
 /// How many of the steps a new cutter answers so. It knows of no fault before the first.

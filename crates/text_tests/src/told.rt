@@ -50,8 +50,7 @@ fn is_wanted(answer: &Result<Option<Event>, TextFault>, line: u64, wanted: &Answ
 
 /// How many of the answers the reader gives, one after another.
 fn count_agreed(reader: &mut Reader<Source<'_>>, answers: &[Answer]) -> Result<usize, OutOfMemory> {
-    let mut agreed = 0;
-    for wanted in answers {
+    for (index, wanted) in answers.iter().enumerate() {
         let answer = reader.next();
         if let Err(fault) = answer
             && fault.cause == Cause::OutOfMemory
@@ -59,11 +58,10 @@ fn count_agreed(reader: &mut Reader<Source<'_>>, answers: &[Answer]) -> Result<u
             return Err(OutOfMemory);
         }
         if !is_wanted(&answer, reader.line(), wanted) {
-            break;
+            return Ok(index);
         }
-        agreed += 1;
     }
-    Ok(agreed)
+    Ok(answers.len())
 }
 
 /// How many of the answers a new reader of the pieces gives.
