@@ -155,10 +155,8 @@ fn is_release_of_m(line: &NamedLine<'_>) -> bool {
 
 #[test]
 fn a_content_is_read_by_itself(rt: HostRuntime) {
-    match read_line(b"T0|rel(m(1))|a:7") {
-        Ok(line) => assert!(rt; is_release_of_m(&line)),
-        Err(fault) => assert_eq!(rt; fault.word(), ""),
-    }
+    let line = read_line(b"T0|rel(m(1))|a:7").expect(&rt, "a line");
+    assert!(rt; is_release_of_m(&line));
     assert!(rt; Word::Release.spelled() == b"rel".as_slice());
 }
 

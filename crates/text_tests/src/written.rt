@@ -53,27 +53,39 @@ fn what_is_written_is_the_text_that_was_read(rt: HostRuntime) {
         b"T0|w(a(b))|\nT0|fork(T1)|1\nT1|acq(l)|2\nT1|rel(l)|3\nT1|r(a(b))|\xff\nT0|join(T1)|4\n";
     for puts in 0..60 {
         let is_copied = again!(&rt; is_copied(rt.alloc(), limits(&rt), text, puts));
-        assert_eq!(rt; is_copied, puts >= 51, "{puts} puts");
+        assert!(rt; is_copied == (puts >= 51), "{puts} puts");
     }
+}
+
+/// Whether a fault line is written in so many puts of three bytes, and whether the page has then failed.
+fn put_fault_line(puts: usize) -> (bool, bool) {
+    let mut page = Page {
+        rest: b"line 12: Held\n",
+        most: 3,
+        puts,
+        failed: false,
+    };
+    let is_written = write_fault(&mut page, 12, "Held").is_ok();
+    (is_written, page.failed)
 }
 
 /// This line takes seven puts of three bytes.
 #[test]
 fn a_fault_line_is_written(rt: HostRuntime) {
     for puts in 0..10 {
-        let mut page = Page {
-            rest: b"line 12: Held\n",
-            most: 3,
-            puts,
-            failed: false,
-        };
-        let written = write_fault(&mut page, 12, "Held");
-        assert_eq!(rt; written.is_ok(), puts >= 7, "{puts} puts");
-        assert_eq!(rt; page.failed, puts < 7, "{puts} puts");
+        assert!(rt;
+            put_fault_line(puts) == (puts >= 7, puts < 7),
+            "{puts} puts"
+        );
     }
 }
 
-/// Whether the line of the first event is written to so many bytes, after which the writer takes nothing.
+/// Whether a fault line is written to so many bytes, after which the writer takes nothing.
+fn fits_fault_line(room: &mut [u8]) -> bool {
+    write_fault(&mut Device::new(room), 12, "Held").is_ok()
+}
+
+/// Whether the line of the first event is.
 fn fits_event(alloc: Global, limits: Limits, room: &mut [u8]) -> Result<bool, OutOfMemory> {
     copy(alloc, limits, b"T0|w(x)|1", &mut Device::new(room))
 }
@@ -83,9 +95,9 @@ fn fits_event(alloc: Global, limits: Limits, room: &mut [u8]) -> Result<bool, Ou
 fn a_writer_that_takes_nothing_has_failed(rt: HostRuntime) {
     let mut bytes = [0u8; 16];
     for room in 0..16 {
-        let is_told = write_fault(&mut Device::new(&mut bytes[..room]), 12, "Held").is_ok();
-        assert_eq!(rt; is_told, room >= 14, "{room} bytes");
-        let is_written = again!(&rt; fits_event(rt.alloc(), limits(&rt), &mut bytes[..room]));
-        assert_eq!(rt; is_written, room >= 10, "{room} bytes");
+        let bytes = &mut bytes[..room];
+        assert!(rt; fits_fault_line(bytes) == (room >= 14), "{room} bytes");
+        let fits_event = again!(&rt; fits_event(rt.alloc(), limits(&rt), bytes));
+        assert!(rt; fits_event == (room >= 10), "{room} bytes");
     }
 }
