@@ -6,8 +6,12 @@
 #![tactic(auto)]
 
 #[cfg(test)]
+mod logged;
+#[cfg(test)]
 mod memory;
 #[cfg(test)]
 mod passes;
+#[cfg(test)]
+mod threads;
 #[cfg(test)]
 mod verdicts;

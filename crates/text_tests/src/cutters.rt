@@ -27,7 +27,8 @@ enum Answer {
 use Answer::{Fault, Told, Took};
 use Given::{End, Piece, ReadFailed};
 
-/// What is given and answered, the line of the last answer, and the number of the line whose end was not seen.
+/// What is given and answered, the line of the last answer, and the number of the line whose end was not
+/// seen.
 type Step = (Given, Answer, u64, u64);
 
 const CASES: &[&[Step]] = &[

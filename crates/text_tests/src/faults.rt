@@ -7,6 +7,12 @@ use rapid_text::{Cause, Kind, LineFault, NamedLine, Word, read_line};
 
 const STORE: Answer = Told(1, 0, Op::Store(VarId(0)), 0);
 
+const LONG_NAME: Answer = Fault(1, Cause::Line(LineFault::LongName));
+
+const FEW_FIELDS: Answer = Fault(1, Cause::Line(LineFault::FewFields));
+
+const TOO_LONG: Answer = Fault(1, Cause::Line(LineFault::LineTooLong));
+
 const CASES: &[Case] = &[
     // each cause, and where two apply the first in their order
     Case {
@@ -15,7 +21,7 @@ const CASES: &[Case] = &[
     },
     Case {
         text: b"T0|acq(l",
-        answers: &[Fault(1, Cause::Line(LineFault::FewFields))],
+        answers: &[FEW_FIELDS],
     },
     Case {
         text: b"T0|begin(x)|1|",
@@ -85,49 +91,14 @@ type LongLine = (usize, &'static [u8], bool, Answer);
 /// bytes may still end well, by a CR.
 const LONG_LINES: &[LongLine] = &[
     (255, b"|w(x)|", false, STORE),
-    (
-        256,
-        b"|w(x)|",
-        false,
-        Fault(1, Cause::Line(LineFault::LongName)),
-    ),
-    (
-        1024,
-        b"\n",
-        false,
-        Fault(1, Cause::Line(LineFault::FewFields)),
-    ),
-    (
-        1024,
-        b"\r\n",
-        false,
-        Fault(1, Cause::Line(LineFault::FewFields)),
-    ),
-    (
-        1025,
-        b"\n",
-        false,
-        Fault(1, Cause::Line(LineFault::LineTooLong)),
-    ),
-    (
-        1025,
-        b"\r\n",
-        false,
-        Fault(1, Cause::Line(LineFault::LineTooLong)),
-    ),
-    (
-        1026,
-        b"",
-        false,
-        Fault(1, Cause::Line(LineFault::LineTooLong)),
-    ),
+    (256, b"|w(x)|", false, LONG_NAME),
+    (1024, b"\n", false, FEW_FIELDS),
+    (1024, b"\r\n", false, FEW_FIELDS),
+    (1025, b"\n", false, TOO_LONG),
+    (1025, b"\r\n", false, TOO_LONG),
+    (1026, b"", false, TOO_LONG),
     (1025, b"", true, Fault(1, Cause::Read)),
-    (
-        1026,
-        b"",
-        true,
-        Fault(1, Cause::Line(LineFault::LineTooLong)),
-    ),
+    (1026, b"", true, TOO_LONG),
 ];
 
 #[test]

@@ -1,10 +1,10 @@
 use Rattle.std.proofs.Common.{◌≡◌, None}
 use Rattle.event_core.specs.Steps.{log_of}
 use Rattle.traced_mem.specs.OfLog.{StandsFor}
-use Rattle.log_tests.proofs.passes.children.Given as goal
+use Rattle.log_tests.proofs.threads.stores.Given as goal
 
-abbrev pub invariant-loop-child : goal.invariant-loop-child
-invariant-loop-child g l = record {
+abbrev pub invariant-loop-value : goal.invariant-loop-value
+invariant-loop-value g l = record {
   holds_none : l.keeper.held ≡ None;
   none_due : l.pass.due ≡ None;
   limits : l.memory.limits ≡ g.N.Name.limits;
