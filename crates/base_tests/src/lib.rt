@@ -14,16 +14,8 @@ mod clocks;
 #[cfg(test)]
 mod logs;
 #[cfg(test)]
-mod memory;
-#[cfg(test)]
-mod passes;
-#[cfg(test)]
 mod queues;
 #[cfg(test)]
 mod strict_clocks;
 #[cfg(test)]
 mod summaries;
-#[cfg(test)]
-mod texts;
-#[cfg(test)]
-mod verdicts;

@@ -1,4 +1,4 @@
-use Rattle.base_tests.proofs.passes.looks_never_go_back.Given as goal
+use Rattle.log_tests.proofs.threads.looks_never_go_back.Given as goal
 
 -- the table that was just made, each time
 abbrev pub ghosts-eight_threads_look : goal.ghosts-eight_threads_look

@@ -1,0 +1,5 @@
+use Rattle.log_tests.proofs.passes.a_look_counts_what_was_committed.Given as goal
+
+-- the table that was just made
+abbrev pub ghosts-look_at : goal.ghosts-look_at
+ghosts-look_at g a = record { table = a.blank.table; limits = a.blank.limits }

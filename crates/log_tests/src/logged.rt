@@ -1,0 +1,95 @@
+//! A log whose events a memory permits.
+//!
+//! What is refused memory once is made once more.
+ghost use Rattle.std.specs.Prelude.{◌≡◌, ◌++◌, ◌∷◌, [], List, None, IfOk};
+ghost use Rattle.event_core.specs.declared.events.Event.{Event as AnEvent};
+ghost use Rattle.event_core.specs.Refusal.{Legal};
+ghost use Rattle.event_core.specs.Steps.{forked_by, log_of};
+ghost use Rattle.event_core.specs.declared.bounds.Roots.TheVariants.{OnlyMain};
+ghost use Rattle.traced_mem.specs.OfLog.{StandsFor};
+
+use event_core::{Call, Event, Limits, Op, Roots, SiteId, ThreadId};
+use log_pass::{Blank, Keeper, Name, NoRoom, Pass, Published};
+use std::alloc::Global;
+use std::process::Abort;
+use traced_mem::Memory;
+
+/// Nine threads, one variable, 256 events.
+pub fn limits() -> Limits
+    ensures { result.roots ≡ OnlyMain }
+{
+    let Ok(limits) = Limits::new(9, 1, 1, 256, Roots::OnlyMain) else {
+        unreachable!()
+    };
+    limits
+}
+
+pub fn blank(alloc: Global, limits: Limits) -> Result<Blank, NoRoom>
+    requires { limits.roots ≡ OnlyMain }
+    ensures { IfOk result (λ blank. blank.limits ≡ limits) }
+{
+    match Blank::new(alloc, limits) {
+        Ok(blank) => Ok(blank),
+        Err(NoRoom) => Blank::new(alloc, limits),
+    }
+}
+
+/// The memory before any event.
+pub fn memory(alloc: Global, limits: Limits) -> Memory
+    ensures limits { result.limits ≡ limits }
+    ensures stands { StandsFor result [] }
+{
+    let Ok(memory) = Memory::new(alloc, limits) else {
+        unreachable!()
+    };
+    memory
+}
+
+/// The event of the thread's call, which has to be permitted.
+pub fn make<R: Abort>(rt: &R, memory: &mut Memory, thread: ThreadId, op: Op, arg: u64) -> Event
+    ensures limits { memory.new.limits ≡ memory.old.limits }
+    ensures legal { (log : List AnEvent) → StandsFor memory.old log → Legal memory.old.limits log result }
+    ensures stands { (log : List AnEvent) → StandsFor memory.old log
+        → StandsFor memory.new (log ++ result ∷ []) }
+    ensures thread { result.thread ≡ thread }
+    ensures op { result.op ≡ op }
+    ensures site { result.site ≡ record { 0 = 0 } }
+{
+    let call = Call {
+        thread,
+        op,
+        site: SiteId(0),
+        arg,
+    };
+    memory.permit(&call).expect(rt, "permitted");
+    if memory.prepare(&call).is_err() {
+        memory.prepare(&call).expect(rt, "memory");
+    }
+    let value = memory.apply(&call);
+    call.event_with(value)
+}
+
+/// The pass after a call of its thread, as under a lock.
+pub fn perform<N: Name, R: Abort>(
+    rt: &R,
+    published: &Published<N>,
+    keeper: &mut Keeper<N>,
+    memory: &mut Memory,
+    pass: Pass<N>,
+    op: Op,
+    arg: u64,
+) -> Pass<N>
+    requires holds_none { keeper.old.held ≡ None }
+    requires none_due { pass.due ≡ None }
+    requires limits { memory.old.limits ≡ N.limits }
+    requires stands { StandsFor memory.old (log_of keeper.old.steps) }
+    ensures holds_none { keeper.new.held ≡ None }
+    ensures due { result.due ≡ forked_by op }
+    ensures limits { memory.new.limits ≡ N.limits }
+    ensures stands { StandsFor memory.new (log_of keeper.new.steps) }
+{
+    let event = make(rt, memory, pass.thread(), op, arg);
+    published.lend(keeper, pass);
+    published.commit(keeper, &event);
+    published.part(keeper)
+}

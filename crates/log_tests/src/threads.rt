@@ -1,0 +1,181 @@
+//! Passes of threads that run beside each other.
+ghost use Rattle.std.specs.Prelude.{◌≡◌, [], None, IfOk};
+ghost use Rattle.event_core.specs.Steps.{log_of};
+ghost use Rattle.traced_mem.specs.OfLog.{StandsFor};
+
+use super::logged::{blank, limits, memory, perform};
+use super::passes::expect_found;
+use event_core::{Op, ThreadId, VarId};
+use log_pass::{Blank, Keeper, Name, Pass, Published};
+use std::alloc::{AllocError, Global};
+use std::marker::Brand;
+use std::process::Abort;
+use std::test::Fail;
+use std::thread::{Threads, join, map_vec};
+use traced_mem::Memory;
+
+/// Forks threads 1 to 8.
+fn children<N: Name, R: Abort>(
+    rt: &R,
+    published: &Published<N>,
+    keeper: &mut Keeper<N>,
+    memory: &mut Memory,
+    pass: Pass<N>,
+    children: &mut Vec<Pass<N>>,
+) -> Result<Pass<N>, AllocError>
+    requires holds_none { keeper.old.held ≡ None }
+    requires none_due { pass.due ≡ None }
+    requires limits { memory.old.limits ≡ N.limits }
+    requires stands { StandsFor memory.old (log_of keeper.old.steps) }
+    ensures holds_none { keeper.new.held ≡ None }
+    ensures none_due { IfOk result (λ pass. pass.due ≡ None) }
+    ensures limits { memory.new.limits ≡ N.limits }
+    ensures stands { StandsFor memory.new (log_of keeper.new.steps) }
+{
+    let mut pass = pass;
+    for child in 1..9 {
+        let parent = perform(
+            rt,
+            published,
+            keeper,
+            memory,
+            pass,
+            Op::Fork(ThreadId(child)),
+            0,
+        );
+        let (parent, child) = published.split(parent);
+        if children.push(child).is_err() {
+            drop(parent);
+            return Err(AllocError);
+        }
+        pass = parent;
+    }
+    Ok(pass)
+}
+
+/// Stores 100 times.
+fn stores<N: Name, R: Abort>(
+    rt: &R,
+    published: &Published<N>,
+    keeper: &mut Keeper<N>,
+    memory: &mut Memory,
+    pass: Pass<N>,
+) -> Pass<N>
+    requires holds_none { keeper.old.held ≡ None }
+    requires none_due { pass.due ≡ None }
+    requires limits { memory.old.limits ≡ N.limits }
+    requires stands { StandsFor memory.old (log_of keeper.old.steps) }
+{
+    let mut pass = pass;
+    for value in 0..100 {
+        pass = perform(
+            rt,
+            published,
+            keeper,
+            memory,
+            pass,
+            Op::Store(VarId(0)),
+            value,
+        );
+    }
+    pass
+}
+
+/// The pass after 100 looks, and whether no number was below the one before it.
+fn looks<N: Name>(published: &Published<N>, pass: Pass<N>) -> (Pass<N>, bool) {
+    let mut pass = pass;
+    let mut last = 0;
+    let mut grew = true;
+    for _ in 0..100 {
+        let (next, found) = published.look(pass);
+        grew = grew && last <= found;
+        last = found;
+        pass = next;
+    }
+    (pass, grew)
+}
+
+/// The pass after it met each of the others, and whether every one of those grew.
+fn meets<N: Name>(
+    published: &Published<N>,
+    pass: Pass<N>,
+    others: Vec<(Pass<N>, bool)>,
+) -> (Pass<N>, bool) {
+    let mut pass = pass;
+    let mut all_grew = true;
+    for (other, grew) in others {
+        let (first, second) = published.meet(pass, other);
+        drop(second);
+        pass = first;
+        all_grew = all_grew && grew;
+    }
+    (pass, all_grew)
+}
+
+/// Eight threads look while the first one stores, and no number that they find goes back.
+fn look_beside_stores<N: Name + Send + Sync, R: Threads + Abort + Sync>(
+    rt: &R,
+    alloc: Global,
+    published: &Published<N>,
+    keeper: &mut Keeper<N>,
+    memory: &mut Memory,
+    pass: Pass<N>,
+) -> Result<(), AllocError>
+    requires holds_none { keeper.old.held ≡ None }
+    requires none_due { pass.due ≡ None }
+    requires limits { memory.old.limits ≡ N.limits }
+    requires stands { StandsFor memory.old (log_of keeper.old.steps) }
+{
+    let mut others = Vec::new(alloc);
+    let Ok(pass) = children(rt, published, keeper, memory, pass, &mut others) else {
+        drop(others);
+        return Err(AllocError);
+    };
+    let (pass, looked) = join(
+        rt,
+        || stores(rt, published, keeper, memory, pass),
+        || map_vec(rt, others, &|child| looks(published, child)),
+    );
+    let Ok(looked) = looked else {
+        drop(pass);
+        return Err(AllocError);
+    };
+    assert!(rt; looked.len() == 8);
+    let (pass, all_grew) = meets(published, pass, looked);
+    assert!(rt; all_grew);
+    let pass = expect_found(rt, published, pass, 108);
+    drop(pass);
+    Ok(())
+}
+
+fn eight_threads_look<N: Name + Send + Sync, R: Threads + Abort + Sync>(
+    rt: &R,
+    alloc: Global,
+    blank: Blank,
+    memory: Memory,
+) -> Result<(), AllocError>
+    requires table { blank.table ≡ N.table }
+    requires limits { blank.limits ≡ N.limits }
+    requires memory_limits { memory.limits ≡ N.limits }
+    requires stands { StandsFor memory [] }
+{
+    let mut memory = memory;
+    let (published, mut keeper, pass) = blank.open::<N>();
+    let looked = look_beside_stores(rt, alloc, &published, &mut keeper, &mut memory, pass);
+    drop(keeper);
+    drop(memory);
+    drop(published);
+    looked
+}
+
+#[test]
+fn looks_never_go_back(rt: HostRuntime) -> Result<(), Fail> {
+    let limits = limits();
+    let alloc = rt.alloc();
+    let first = blank(alloc, limits)?;
+    if eight_threads_look::<Brand, _>(&rt, alloc, first, memory(alloc, limits)).is_err() {
+        let second = blank(alloc, limits)?;
+        eight_threads_look::<Brand, _>(&rt, alloc, second, memory(alloc, limits))?;
+    }
+    Ok(())
+}

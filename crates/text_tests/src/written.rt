@@ -1,0 +1,103 @@
+//! Lines that are written, and read again.
+use super::doubles::Page;
+use super::told::limits;
+use event_core::{Limits, OutOfMemory};
+use rapid_text::{Device, Output, Reader, write_event, write_fault};
+use std::alloc::Global;
+
+/// Reads each event and writes its line: whether all were written, up to the end of the text.
+fn copy_all<W: Output>(reader: &mut Reader<Device<&[u8]>>, w: &mut W) -> Result<bool, OutOfMemory> {
+    for _ in 0..100 {
+        match reader.next() {
+            Ok(Some(event)) => {
+                if write_event(w, &event, reader.names()).is_err() {
+                    return Ok(false);
+                }
+            }
+            Ok(None) => return Ok(true),
+            Err(_) => return Err(OutOfMemory),
+        }
+    }
+    Ok(false)
+}
+
+/// Whether the lines of all events of the text are written.
+fn copy<W: Output>(
+    alloc: Global,
+    limits: Limits,
+    text: &[u8],
+    w: &mut W,
+) -> Result<bool, OutOfMemory> {
+    let mut reader = Reader::new(alloc, Device::new(text), limits, 100)?;
+    let is_copied = copy_all(&mut reader, w);
+    drop(reader);
+    is_copied
+}
+
+/// Whether the lines of all events are written, and are the text, in so many puts of three bytes.
+fn is_copied(alloc: Global, limits: Limits, text: &[u8], puts: usize) -> Result<bool, OutOfMemory> {
+    let mut page = Page {
+        rest: text,
+        most: 3,
+        puts,
+        failed: false,
+    };
+    copy(alloc, limits, text, &mut page)?;
+    Ok(page.rest.is_empty())
+}
+
+/// What was read is written as it stood, in puts of any size, until the writer fails.
+#[test]
+fn what_is_written_is_the_text_that_was_read(rt: HostRuntime) {
+    let text =
+        b"T0|w(a(b))|\nT0|fork(T1)|1\nT1|acq(l)|2\nT1|rel(l)|3\nT1|r(a(b))|\xff\nT0|join(T1)|4\n";
+    for puts in 0..60 {
+        let is_copied = again!(&rt; is_copied(rt.alloc(), limits(&rt), text, puts));
+        assert!(rt; is_copied == (puts >= 51), "{puts} puts");
+    }
+}
+
+/// Whether a fault line is written in so many puts of three bytes, and whether the page has then failed.
+fn put_fault_line(puts: usize) -> (bool, bool) {
+    let mut page = Page {
+        rest: b"line 12: Held\n",
+        most: 3,
+        puts,
+        failed: false,
+    };
+    let is_written = write_fault(&mut page, 12, "Held").is_ok();
+    (is_written, page.failed)
+}
+
+/// This line takes seven puts of three bytes.
+#[test]
+fn a_fault_line_is_written(rt: HostRuntime) {
+    for puts in 0..10 {
+        assert!(rt;
+            put_fault_line(puts) == (puts >= 7, puts < 7),
+            "{puts} puts"
+        );
+    }
+}
+
+/// Whether a fault line is written to so many bytes, after which the writer takes nothing.
+fn fits_fault_line(room: &mut [u8]) -> bool {
+    write_fault(&mut Device::new(room), 12, "Held").is_ok()
+}
+
+/// Whether the line of the first event is.
+fn fits_event(alloc: Global, limits: Limits, room: &mut [u8]) -> Result<bool, OutOfMemory> {
+    copy(alloc, limits, b"T0|w(x)|1", &mut Device::new(room))
+}
+
+/// A slice takes what it has room for, and then nothing.
+#[test]
+fn a_writer_that_takes_nothing_has_failed(rt: HostRuntime) {
+    let mut bytes = [0u8; 16];
+    for room in 0..16 {
+        let bytes = &mut bytes[..room];
+        assert!(rt; fits_fault_line(bytes) == (room >= 14), "{room} bytes");
+        let fits_event = again!(&rt; fits_event(rt.alloc(), limits(&rt), bytes));
+        assert!(rt; fits_event == (room >= 10), "{room} bytes");
+    }
+}
