@@ -1,5 +1,5 @@
 //! Growth of the tables: only as far as the numbers that are used, and before any change.
-ghost use Rattle.std.specs.Prelude.{◌≡◌, ℕ, ◌<◌, ◌≤◌, length, max, OnOk};
+ghost use Rattle.std.specs.Prelude.{◌≡◌, ◌+◌, ℕ, ◌<◌, ◌≤◌, length, max, OnOk};
 ghost use Rattle.smallvec.specs.SmallVec.{HasRoomFor};
 ghost use Rattle.traced_mem.specs.Tables.{cells_of, thread_at, lock_at, total};
 ghost use Rattle.traced_mem.specs.Room.{Grown, HasRoom, threads_for, locks_for, cells_for};
@@ -71,8 +71,17 @@ pub fn more_held(threads: &mut [ThreadRow], thread: usize) -> Result<(), AllocEr
     row.held.reserve(1)
 }
 
+// The greatest number of a thread that the caller's operation names.
+fn last_thread(caller: ThreadId, op: Op) -> usize
+    ensures { result + 1 ≡ threads_for caller op }
+{
+    match op {
+        Op::Fork(child) | Op::Join(child) => caller.0.max(child.0) as usize,
+        _ => caller.0 as usize,
+    }
+}
+
 /// Makes room for the thread's operation. No table means anything else.
-#[tactic(auto, using(crate::proofs::Growing::grown_again))]
 pub fn grow(
     threads: &mut Vec<ThreadRow>,
     locks: &mut Vec<LockRow>,
@@ -94,19 +103,38 @@ pub fn grow(
     ensures room { OnOk result
         (HasRoom threads.new.items (length locks.new.items) (length cells.new.items) caller op) }
 {
-    let thread = caller.0 as usize;
-    let target = match op {
-        Op::Fork(child) | Op::Join(child) => child.0 as usize,
-        _ => thread,
-    };
-    more_threads(threads, alloc, thread + 1)?;
-    more_threads(threads, alloc, target + 1)?;
+    more_threads(threads, alloc, last_thread(caller, op) + 1)?;
+    grow_for(threads, locks, cells, caller, op)
+}
+
+// Makes room for what the operation needs beside rows for threads, which are there.
+#[tactic(auto, using(crate::proofs::Growing::grown_none))]
+fn grow_for(
+    threads: &mut [ThreadRow],
+    locks: &mut Vec<LockRow>,
+    cells: &mut Vec<u64>,
+    caller: ThreadId,
+    op: Op,
+) -> Result<(), AllocError>
+    requires { threads_for caller op ≤ length threads.old }
+    ensures threads { Grown threads.old threads.new }
+    ensures as_many { length threads.new ≡ length threads.old }
+    ensures locks { lock_at locks.new.items ≡ lock_at locks.old.items }
+    ensures cells { cells_of cells.new.items ≡ cells_of cells.old.items }
+    ensures total { total locks.new.items ≡ total locks.old.items }
+    ensures more_locks { length locks.old.items ≤ length locks.new.items }
+    ensures more_cells { length cells.old.items ≤ length cells.new.items }
+    ensures most_locks { length locks.new.items ≤ max (length locks.old.items) (locks_for op) }
+    ensures most_cells { length cells.new.items ≤ max (length cells.old.items) (cells_for op) }
+    ensures room { OnOk result
+        (HasRoom threads.new (length locks.new.items) (length cells.new.items) caller op) }
+{
     match op {
         Op::Store(var) => more_cells(cells, var.0 as usize + 1),
         Op::Release(lock) => more_locks(locks, lock.0 as usize + 1),
         Op::Acquire(lock) => {
             more_locks(locks, lock.0 as usize + 1)?;
-            more_held(threads, thread)
+            more_held(threads, caller.0 as usize)
         }
         _ => Ok(()),
     }

@@ -34,17 +34,15 @@ pub(crate) fn new_parts(alloc: Global, limits: &Limits) -> Result<Parts, OutOfMe
     ensures found { IfOk result (λ made. found_in made ≡ (λ _ _. 0)) }
     ensures no_work { IfOk result (λ made. made.work ≡ record { comparisons = 0; joins = 0 }) }
 {
-    let (hb, work) = HbClocks::new(alloc, limits)?;
     let rows = StrictRows::new(alloc, limits.threads() as usize)?;
-    let sums = Summaries::new(alloc);
     let queues = Queues::new(alloc, limits)?;
-    let held = Holdings::new(alloc);
+    let (hb, work) = HbClocks::new(alloc, limits)?;
     Ok(Parts {
         hb,
         rows,
-        sums,
+        sums: Summaries::new(alloc),
         queues,
-        held,
+        held: Holdings::new(alloc),
         work,
     })
 }

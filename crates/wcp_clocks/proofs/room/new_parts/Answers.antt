@@ -10,14 +10,14 @@ returns-clause-parts c =
     are_parts (record {
       hb = c.in_ok-hb.hb;
       rows = c.in_ok-rows.rows;
-      sums = c.new-sums.result;
+      sums = c.new-4.result;
       queues = c.in_ok-queues.queues;
-      held = c.new-held.result;
+      held = c.new-5.result;
       work = c.in_ok-hb.work;
     }) c.args.limits.now.threads c.in_ok-hb.ensures.width c.in_ok-hb.ensures.empty
     (c.in_ok-rows.ensures.width ∙ c.threads.ensures.is) c.in_ok-rows.ensures.strict
     (ap (λ (b : Bounds). b.threads) c.in_ok-queues.ensures.limits)
-    c.new-sums.ensures.no_others (λ l. ap (λ (f : ℕ → List Closed). f l) c.in_ok-queues.ensures.closed)
+    c.new-4.ensures.no_others (λ l. ap (λ (f : ℕ → List Closed). f l) c.in_ok-queues.ensures.closed)
     c.in_ok-rows.ensures.no_thread c.in_ok-rows.ensures.no_lock
 
 pub returns-clause-state : goal.returns-clause-state
@@ -25,10 +25,10 @@ returns-clause-state c =
     empty_numbers (record {
       hb = c.in_ok-hb.hb;
       rows = c.in_ok-rows.rows;
-      sums = c.new-sums.result;
+      sums = c.new-4.result;
       queues = c.in_ok-queues.queues;
-      held = c.new-held.result;
+      held = c.new-5.result;
       work = c.in_ok-hb.work;
     }) c.in_ok-hb.ensures.empty c.in_ok-rows.ensures.strict c.in_ok-queues.ensures.opened
-    (ap held_of c.new-held.ensures)
-    c.new-sums.ensures.nothing_noted c.new-sums.ensures.no_others c.in_ok-queues.ensures.closed
+    (ap held_of c.new-5.ensures)
+    c.new-4.ensures.nothing_noted c.new-4.ensures.no_others c.in_ok-queues.ensures.closed
