@@ -75,7 +75,10 @@ fn read_lines<I: Input>(
     let mut reading = Reading::new(alloc, limits);
     match read_text(alloc, &mut reading, reader, limits, turns) {
         Ok(()) => Ok(reading.parts()),
-        Err(fault) => Err(fault),
+        Err(fault) => {
+            drop(reading);
+            Err(fault)
+        }
     }
 }
 
@@ -129,7 +132,11 @@ fn whole_script(alloc: Global, names: Names, lines: Vec<ScriptLine>) -> Result<S
             lines,
             by_thread,
         }),
-        Err(fault) => Err(fault),
+        Err(fault) => {
+            drop(names);
+            drop(lines);
+            Err(fault)
+        }
     }
 }
 

@@ -220,12 +220,17 @@ impl Replayer {
         ensures { IfOk result (λ r. r ≡ unfed limits) }
     {
         let cutter = Cutter::new(alloc, limits)?;
-        let monitor = Monitor::new(alloc, &limits)?;
-        Ok(Replayer {
-            cutter,
-            monitor,
-            fault: None,
-        })
+        match Monitor::new(alloc, &limits) {
+            Ok(monitor) => Ok(Replayer {
+                cutter,
+                monitor,
+                fault: None,
+            }),
+            Err(fault) => {
+                drop(cutter);
+                Err(fault)
+            }
+        }
     }
 
     /// Takes a piece of the text. It answers whether no fault stands; with a fault it takes nothing.
@@ -265,7 +270,7 @@ impl Replayer {
 
     /// Ends the text and writes what it comes to: its report, or the one line of its first fault. Nothing is
     /// written where a read failed or a growth was refused.
-    pub fn finish<W: Output>(mut self, writer: &mut W) -> Result<Summary, ReplayFault>
+    pub fn finish<W: Output>(self, writer: &mut W) -> Result<Summary, ReplayFault>
         // What is written, and nothing else, tells what the text comes to, and so does the answer.
         ensures tells { answer_gives_up result ≡ false
             → Told (W.written writer.old) (W.written writer.new) (after self []) result }
@@ -280,6 +285,14 @@ impl Replayer {
         ensures healthy { result ≢ Err ReplayFault.Write → W.failed writer.new ≡ W.failed writer.old }
         ensures failed { result ≡ Err ReplayFault.Write → W.failed writer.new ≡ true }
     {
-        finish_parts(&mut self.cutter, &mut self.monitor, self.fault, writer)
+        let Replayer {
+            mut cutter,
+            mut monitor,
+            fault,
+        } = self;
+        let answer = finish_parts(&mut cutter, &mut monitor, fault, writer);
+        drop(cutter);
+        drop(monitor);
+        answer
     }
 }

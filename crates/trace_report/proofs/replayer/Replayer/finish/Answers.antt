@@ -8,12 +8,12 @@ use Rattle.trace_report.proofs.replayer.Replayer.finish.Goals as goal
 -- the parts answer a read fault only where one stands
 pub returns-clause-read : goal.returns-clause-read
 returns-clause-read g c =
-    subst (λ (x : Option ReplayFault). IfErr c.finish_parts.result (λ f. is_short f ≡ true → x ≡ Some f))
-    (ap (λ (r : Replaying). r.fault) c.self.view_is) c.finish_parts.ensures.read
+    subst (λ (x : Option ReplayFault). IfErr c.finish_parts-answer.result (λ f. is_short f ≡ true → x ≡ Some f))
+    (ap (λ (r : Replaying). r.fault) c.self.view_is) c.finish_parts-answer.ensures.read
 
 -- and a fault that stands, unless its line could not be written
 pub returns-clause-answered : goal.returns-clause-answered
 returns-clause-answered g c =
     subst (λ (x : Option ReplayFault). IfSome x (λ f.
-    (c.finish_parts.result ≡ Err f) ⊎ (c.finish_parts.result ≡ Err Write)))
-    (ap (λ (r : Replaying). r.fault) c.self.view_is) c.finish_parts.ensures.answered
+    (c.finish_parts-answer.result ≡ Err f) ⊎ (c.finish_parts-answer.result ≡ Err Write)))
+    (ap (λ (r : Replaying). r.fault) c.self.view_is) c.finish_parts-answer.ensures.answered
