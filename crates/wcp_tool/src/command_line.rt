@@ -94,13 +94,10 @@ fn command_line<'a>(alloc: Global) -> Result<clap::Command<'a>, AllocError>
     ensures local { IfOk result (λ c. (out-Command c).has_globals ≡ false) }
     ensures app { IfOk result (λ c. app_of c ≡ wcp) }
 {
-    let check = check_command(alloc)?;
-    let replay = replay_command(alloc)?;
-    let run = run_command(alloc)?;
     bare_command(alloc)?
-        .subcommand(check)?
-        .subcommand(replay)?
-        .subcommand(run)
+        .subcommand(check_command(alloc)?)?
+        .subcommand(replay_command(alloc)?)?
+        .subcommand(run_command(alloc)?)
 }
 
 /// The name of the command that the words have, and what its options were given.

@@ -137,7 +137,11 @@ pub(crate) fn find<I: Input>(
     ensures unwritten { result ≢ Err ReplayFault.Write }
 {
     match Puller::new(alloc, limits, turns) {
-        Ok(mut text) => judge(alloc, &mut text, reader, limits),
+        Ok(mut text) => {
+            let answer = judge(alloc, &mut text, reader, limits);
+            drop(text);
+            answer
+        }
         Err(_) => Err(ReplayFault::Text(TextFault {
             line: 1,
             cause: Cause::OutOfMemory,

@@ -121,7 +121,11 @@ fn run_threads<R: AllocGlobal + Threads + Wait + Sync, O: Output>(
     ensures written { result ≢ Ending.WriteFault → O.failed writer.new ≡ false }
 {
     match drive(rt, rt.alloc(), script, limits, &FreeGate, patience) {
-        Ok(closed) => report_closed(writer, &closed, script.names()),
+        Ok(closed) => {
+            let ending = report_closed(writer, &closed, script.names());
+            drop(closed);
+            ending
+        }
         Err(fault) => explain_drive(writer, &fault),
     }
 }
@@ -150,7 +154,11 @@ fn run_lines<R: AllocGlobal + Threads + Wait + Sync, I: Input, O: Output>(
 {
     let limits = limits_of(settings.threads, Roots::OnlyMain);
     match Script::read(rt.alloc(), script, limits, TURNS) {
-        Ok(script) => run_threads(rt, &script, &limits, settings.patience, writer),
+        Ok(script) => {
+            let ending = run_threads(rt, &script, &limits, settings.patience, writer);
+            drop(script);
+            ending
+        }
         Err(fault) => explain_script(writer, &fault),
     }
 }

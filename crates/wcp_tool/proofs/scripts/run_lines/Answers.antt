@@ -8,11 +8,11 @@ pub returns-in-Ok-clause-ran : goal.returns-in-Ok-clause-ran
 returns-in-Ok-clause-ran g c h =
     subst (λ (m : Limits). RunsText m (g.I.Input.left c.args.script.now)
     (g.O.Output.written c.args.writer.now)
-    (g.O.Output.written c.run_threads.new.writer) (status_of c.run_threads.result))
+    (g.O.Output.written c.run_threads-ending.new.writer) (status_of c.run_threads-ending.result))
     c.limits_of-limits.ensures
     (record {
       script = c.in-Ok.script;
       is_of = c.in-Ok.ensures.ok;
       is = c.in-Ok.ensures.script;
-      ran = c.run_threads.ensures.ran h;
+      ran = c.run_threads-ending.ensures.ran h;
     })
