@@ -320,11 +320,16 @@ static const struct {
     void (*make)(void);
     uint32_t locks, locks_a_thread, vars, vars_a_thread;
 } kinds[] = {
-    {"queue", queue, 16, 0, 1024, 0},      {"bank", bank, 64, 0, 256, 0},
-    {"pipeline", pipeline, 0, 1, 0, 64},   {"hotlock", hotlock, 1, 0, 64, 0},
-    {"many_locks", many_locks, 1000, 0, 10000, 0}, {"nested", nested, 16, 0, 256, 0},
-    {"forkjoin", forkjoin, 32, 0, 4096, 0}, {"reads", reads, 8, 0, 2000, 0},
-    {"local", local, 1, 0, 0, 50},         {"mixed", mixed, 64, 0, 1024, 0},
+    {"queue", queue, 16, 0, 1024, 0},
+    {"bank", bank, 64, 0, 256, 0},
+    {"pipeline", pipeline, 0, 1, 0, 64},
+    {"hotlock", hotlock, 1, 0, 64, 0},
+    {"many_locks", many_locks, 1000, 0, 10000, 0},
+    {"nested", nested, 16, 0, 256, 0},
+    {"forkjoin", forkjoin, 32, 0, 4096, 0},
+    {"reads", reads, 8, 0, 2000, 0},
+    {"local", local, 1, 0, 0, 50},
+    {"mixed", mixed, 64, 0, 1024, 0},
 };
 
 int main(int argc, char **argv) {

@@ -14,7 +14,12 @@ pub struct Access {
     pub site: u32,
 }
 
-const NO_ACCESS: Access = Access { thread: NONE, position: 0, index: 0, site: 0 };
+const NO_ACCESS: Access = Access {
+    thread: NONE,
+    position: 0,
+    index: 0,
+    site: 0,
+};
 
 struct Variable {
     store: Access,            // the last one, if any
@@ -63,13 +68,15 @@ impl Accesses {
         let mut latest = NO_ACCESS;
         let mut earlier_stores = true;
         let mut races = false;
-        let store_races = var.store.thread != NONE && var.store.thread != thread && !below(&var.store);
+        let store_races =
+            var.store.thread != NONE && var.store.thread != thread && !below(&var.store);
         if store_races {
             latest = var.store;
             races = true;
         } else {
             for other in &var.more_stores {
-                if other.thread != thread && (!races || other.index > latest.index) && !below(other) {
+                if other.thread != thread && (!races || other.index > latest.index) && !below(other)
+                {
                     latest = *other;
                     races = true;
                 }
@@ -77,7 +84,13 @@ impl Accesses {
         }
         if !stores {
             if races {
-                let race = Race { later: me, earlier: latest, var: x, later_stores: false, earlier_stores };
+                let race = Race {
+                    later: me,
+                    earlier: latest,
+                    var: x,
+                    later_stores: false,
+                    earlier_stores,
+                };
                 self.races.push(race);
             }
             if var.load.thread != thread && var.load.thread != NONE {
@@ -91,13 +104,17 @@ impl Accesses {
             return;
         }
         if var.load.thread != NONE {
-            if var.load.thread != thread && (!races || var.load.index > latest.index) && !below(&var.load) {
+            if var.load.thread != thread
+                && (!races || var.load.index > latest.index)
+                && !below(&var.load)
+            {
                 latest = var.load;
                 earlier_stores = false;
                 races = true;
             }
             for other in &var.more_loads {
-                if other.thread != thread && (!races || other.index > latest.index) && !below(other) {
+                if other.thread != thread && (!races || other.index > latest.index) && !below(other)
+                {
                     latest = *other;
                     earlier_stores = false;
                     races = true;
@@ -111,7 +128,13 @@ impl Accesses {
             var.more_loads.clear();
             return;
         }
-        self.races.push(Race { later: me, earlier: latest, var: x, later_stores: true, earlier_stores });
+        self.races.push(Race {
+            later: me,
+            earlier: latest,
+            var: x,
+            later_stores: true,
+            earlier_stores,
+        });
         if store_races {
             put(&mut var.more_stores, thread, var.store);
         } else {

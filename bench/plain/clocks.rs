@@ -13,7 +13,12 @@ pub struct Pool {
 
 impl Pool {
     pub fn new(width: usize) -> Pool {
-        Pool { width, rows: Vec::new(), uses: Vec::new(), free: Vec::new() }
+        Pool {
+            width,
+            rows: Vec::new(),
+            uses: Vec::new(),
+            free: Vec::new(),
+        }
     }
 
     /// A copy of the clock, kept once.

@@ -91,14 +91,19 @@ impl HappensBefore {
         if let Some(last) = self.locks[lock] {
             self.pool.drop(last.clock);
         }
-        self.locks[lock] = Some(Release { thread: thread as u32, position, clock });
+        self.locks[lock] = Some(Release {
+            thread: thread as u32,
+            position,
+            clock,
+        });
     }
 
     /// The one thread's clock takes the other's.
     fn hand_on(&mut self, to: usize, from: usize) {
         let width = self.width;
         for i in 0..width {
-            self.clocks[to * width + i] = self.clocks[to * width + i].max(self.clocks[from * width + i]);
+            self.clocks[to * width + i] =
+                self.clocks[to * width + i].max(self.clocks[from * width + i]);
         }
         self.pool.drop(self.copies[to]);
         self.copies[to] = NONE;
@@ -119,16 +124,26 @@ impl Engine for HappensBefore {
         match op {
             LOAD | STORE => {
                 let clock = &self.clocks[row..row + self.width];
-                let me = Access { thread, position, index, site };
-                self.accesses
-                    .access(arg, op == STORE, me, |other| other.position <= clock[other.thread as usize]);
+                let me = Access {
+                    thread,
+                    position,
+                    index,
+                    site,
+                };
+                self.accesses.access(arg, op == STORE, me, |other| {
+                    other.position <= clock[other.thread as usize]
+                });
             }
             ACQUIRE if outer => self.acquire(by, arg as usize),
             RELEASE if outer => self.release(by, arg as usize, position),
             ACQUIRE | RELEASE => {}
             _ => {
                 self.see(arg as usize);
-                let (to, from) = if op == FORK { (arg as usize, by) } else { (by, arg as usize) };
+                let (to, from) = if op == FORK {
+                    (arg as usize, by)
+                } else {
+                    (by, arg as usize)
+                };
                 self.hand_on(to, from);
             }
         }

@@ -56,7 +56,13 @@ fn place_of(key: u64, len: u32, shift: u32) -> usize {
 impl Names {
     /// No names; there may be `limit`.
     pub fn new(limit: u64) -> Names {
-        Names { bytes: Vec::new(), names: Vec::new(), places: vec![Place::default(); 256], shift: 56, limit }
+        Names {
+            bytes: Vec::new(),
+            names: Vec::new(),
+            places: vec![Place::default(); 256],
+            shift: 56,
+            limit,
+        }
     }
 
     #[inline]
@@ -99,9 +105,14 @@ impl Names {
             return NONE;
         }
         let number = self.names.len() as u32;
-        self.names.push((self.bytes.len() as u64) << 8 | name.len() as u64);
+        self.names
+            .push((self.bytes.len() as u64) << 8 | name.len() as u64);
         self.bytes.extend_from_slice(name);
-        self.places[at] = Place { key, number: number + 1, len: name.len() as u32 };
+        self.places[at] = Place {
+            key,
+            number: number + 1,
+            len: name.len() as u32,
+        };
         if self.names.len() * 2 > self.places.len() {
             self.grow();
         }

@@ -19,7 +19,11 @@ pub struct Release {
     clock: u32,
 }
 
-const NO_RELEASE: Release = Release { thread: NONE, position: 0, clock: NONE };
+const NO_RELEASE: Release = Release {
+    thread: NONE,
+    position: 0,
+    clock: NONE,
+};
 
 /// A closed section: the position of its acquire, and its release.
 #[derive(Clone, Copy)]
@@ -140,7 +144,7 @@ pub struct Precedence<S> {
     locks: Vec<Lock<S>>,
     pool: Pool,
     cells: Vec<Cell>,
-    places: Vec<(u64, u32)>,    // a hash table from a lock and a variable to a cell
+    places: Vec<(u64, u32)>, // a hash table from a lock and a variable to a cell
     near: Vec<[(u32, u32); 2]>, // by variable the two locks used last, and their cells
     spare: Vec<Vec<u32>>,
     pub accesses: Accesses,
@@ -239,7 +243,10 @@ impl<S: Sections> Precedence<S> {
 
     fn add_cell(&mut self, key: u64, at: usize) -> u32 {
         let cell = self.cells.len() as u32;
-        self.cells.push(Cell { newest: [[NO_RELEASE; 2]; 2], noted: [0; 2] });
+        self.cells.push(Cell {
+            newest: [[NO_RELEASE; 2]; 2],
+            noted: [0; 2],
+        });
         self.places[at] = (key, cell);
         if self.cells.len() * 2 > self.places.len() {
             self.grow_places();
@@ -292,12 +299,17 @@ impl<S: Sections> Precedence<S> {
                 self.open[thread][i].noted.push(at << 1 | kind as u32);
             }
             let newest = cell.newest;
-            let by_another = |kind: usize| newest[kind][(newest[kind][0].thread == me.thread) as usize];
+            let by_another =
+                |kind: usize| newest[kind][(newest[kind][0].thread == me.thread) as usize];
             let store = by_another(STORE as usize);
             if store.thread != NONE {
                 self.take(thread, store);
             }
-            let load = if stores { by_another(LOAD as usize) } else { NO_RELEASE };
+            let load = if stores {
+                by_another(LOAD as usize)
+            } else {
+                NO_RELEASE
+            };
             if load.thread != NONE {
                 self.take(thread, load);
             }
@@ -315,7 +327,10 @@ impl<S: Sections> Precedence<S> {
     #[inline(always)]
     fn acquire(&mut self, thread: usize, lock: u32, position: u32) {
         if lock as usize >= self.locks.len() {
-            self.locks.resize_with(lock as usize + 1, || Lock { strict: NONE, ..Lock::default() });
+            self.locks.resize_with(lock as usize + 1, || Lock {
+                strict: NONE,
+                ..Lock::default()
+            });
         }
         let row = thread * self.width;
         let of = &mut self.locks[lock as usize];
@@ -329,7 +344,10 @@ impl<S: Sections> Precedence<S> {
                 hb[by] = last.position;
                 self.pool.drop(self.hb_copies[thread]);
                 self.hb_copies[thread] = NONE;
-                join(&mut self.strict[row..row + self.width], self.pool.at(of.strict));
+                join(
+                    &mut self.strict[row..row + self.width],
+                    self.pool.at(of.strict),
+                );
                 self.pool.drop(self.strict_copies[thread]);
                 self.strict_copies[thread] = NONE;
             }
@@ -341,12 +359,17 @@ impl<S: Sections> Precedence<S> {
     /// Rule (b), and the section is closed.
     #[inline(always)]
     fn release(&mut self, thread: usize, lock: u32, position: u32) {
-        let at = self.open[thread].iter().rposition(|open| open.lock == lock).unwrap();
+        let at = self.open[thread]
+            .iter()
+            .rposition(|open| open.lock == lock)
+            .unwrap();
         let mut section = self.open[thread].remove(at);
         let row = thread * self.width;
         let of = &mut self.locks[lock as usize];
         let strict = &self.strict[row..row + self.width];
-        let latest = of.sections.find(thread, self.threads, strict, &mut self.pool);
+        let latest = of
+            .sections
+            .find(thread, self.threads, strict, &mut self.pool);
         if latest.thread != NONE {
             self.take(thread, latest);
             self.pool.drop(latest.clock);
@@ -361,7 +384,11 @@ impl<S: Sections> Precedence<S> {
         if self.strict_copies[thread] == NONE {
             self.strict_copies[thread] = self.pool.make(&self.strict[row..row + self.width]);
         }
-        let me = Release { thread: thread as u32, position, clock: self.hb_copies[thread] };
+        let me = Release {
+            thread: thread as u32,
+            position,
+            clock: self.hb_copies[thread],
+        };
         let of = &mut self.locks[lock as usize];
         if let Some(last) = of.release {
             self.pool.drop(last.clock);
@@ -371,7 +398,10 @@ impl<S: Sections> Precedence<S> {
         of.release = Some(me);
         of.strict = self.strict_copies[thread];
         self.pool.keep(of.strict);
-        of.sections.add(Closed { acquire: of.acquire, release: me });
+        of.sections.add(Closed {
+            acquire: of.acquire,
+            release: me,
+        });
         self.pool.keep(me.clock);
         for &noted in &section.noted {
             let newest = &mut self.cells[(noted >> 1) as usize].newest[(noted & 1) as usize];
@@ -426,7 +456,16 @@ impl<S: Sections> Engine for Precedence<S> {
         let position = self.positions[by];
         self.hb[by * self.width + by] = position;
         match op {
-            LOAD | STORE => self.access(Access { thread, position, index, site }, arg, op == STORE),
+            LOAD | STORE => self.access(
+                Access {
+                    thread,
+                    position,
+                    index,
+                    site,
+                },
+                arg,
+                op == STORE,
+            ),
             ACQUIRE if outer => self.acquire(by, arg, position),
             RELEASE if outer => self.release(by, arg, position),
             ACQUIRE | RELEASE => {}

@@ -30,7 +30,10 @@ fn end_fault(fault: Fault) -> i32 {
 
 fn counts(all: &All) -> String {
     let (threads, locks, vars) = (all.threads.count(), all.locks.count(), all.vars.count());
-    format!("events {} threads {threads} locks {locks} variables {vars}", all.events)
+    format!(
+        "events {} threads {threads} locks {locks} variables {vars}",
+        all.events
+    )
 }
 
 fn put_number(page: &mut Vec<u8>, mut number: u64) {

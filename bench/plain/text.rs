@@ -77,7 +77,11 @@ fn near_marks(bytes: &[u8], start: usize) -> Option<Marks> {
             bars: 2,
             first: start + bars.trailing_zeros() as usize,
             second: start + rest.trailing_zeros() as usize,
-            cr: if cr == 0 { usize::MAX } else { start + cr.trailing_zeros() as usize },
+            cr: if cr == 0 {
+                usize::MAX
+            } else {
+                start + cr.trailing_zeros() as usize
+            },
         })
     }
 }
@@ -87,11 +91,21 @@ fn near_marks(bytes: &[u8], start: usize) -> Option<Marks> {
 /// Condition: 16 bytes may be read up to there.
 #[inline(always)]
 fn far_marks(bytes: &[u8], start: usize, end: usize) -> Option<Marks> {
-    let mut marks = Marks { end: usize::MAX, bars: 0, first: 0, second: 0, cr: usize::MAX };
+    let mut marks = Marks {
+        end: usize::MAX,
+        bars: 0,
+        first: 0,
+        second: 0,
+        cr: usize::MAX,
+    };
     let mut at = start;
     while at < end {
         let here = unsafe { _mm_loadu_si128(bytes.as_ptr().add(at) as *const __m128i) };
-        let within = if end - at < 16 { (1u32 << (end - at)) - 1 } else { u32::MAX };
+        let within = if end - at < 16 {
+            (1u32 << (end - at)) - 1
+        } else {
+            u32::MAX
+        };
         let equal = |byte: u8| unsafe {
             _mm_movemask_epi8(_mm_cmpeq_epi8(here, _mm_set1_epi8(byte as i8))) as u32 & within
         };
@@ -306,8 +320,11 @@ pub fn drive<E: Engine>(engine: &mut E, limit: u32) -> Result<All, Fault> {
         sites: Names::new(4_294_967_295),
         events: 0,
     };
-    let mut threads =
-        Threads { holds: Vec::new(), seen: vec![false; limit as usize], ended: vec![false; limit as usize] };
+    let mut threads = Threads {
+        holds: Vec::new(),
+        seen: vec![false; limit as usize],
+        ended: vec![false; limit as usize],
+    };
     let mut input = std::io::stdin().lock();
     let mut bytes = vec![0u8; PIECE + MARGIN];
     let (mut start, mut end) = (0, 0);
@@ -331,7 +348,11 @@ pub fn drive<E: Engine>(engine: &mut E, limit: u32) -> Result<All, Fault> {
             Err(_) => failed = true,
         }
         loop {
-            let near = if end - start >= 32 { near_marks(&bytes, start) } else { None };
+            let near = if end - start >= 32 {
+                near_marks(&bytes, start)
+            } else {
+                None
+            };
             let marks = match near {
                 Some(marks) => marks,
                 None => match far_marks(&bytes, start, end) {
