@@ -1,5 +1,5 @@
 //! Happens-before alone: how fast a monitor of a simpler relation is, which keeps no sections. Its races are
-//! those of happens-before, fewer than `wcp` tells.
+//! a part of those that `wcp` tells.
 
 use crate::accesses::{Access, Accesses};
 use crate::clocks::{join, widened, Pool};

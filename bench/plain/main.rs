@@ -12,7 +12,7 @@
 //! | `drop` | the same; each lock drops the closed sections that no thread needs any more |
 //!
 //! It has no log, and does not look whether memory was refused. The report and the exit status are those of
-//! `wcp`, so that the reports can be compared; those of `hb` have fewer races.
+//! `wcp`, so that the reports can be compared; `hb` tells no more races than the others.
 mod accesses;
 mod clocks;
 mod happens_before;
