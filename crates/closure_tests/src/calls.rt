@@ -1,45 +1,45 @@
-//! Calls of a monitor and what becomes of them, by numbers.
+//! Calls and what becomes of them, as tables have them.
 use event_core::{Call, LockId, Op, Outcome, Refusal, Reply, SiteId, ThreadId, VarId, Verdict};
 
-fn call(thread: u32, op: Op) -> Call {
+pub const T0: ThreadId = ThreadId(0);
+
+pub const T1: ThreadId = ThreadId(1);
+
+pub const T2: ThreadId = ThreadId(2);
+
+pub const L: LockId = LockId(0);
+
+pub const M: LockId = LockId(1);
+
+pub const N: LockId = LockId(2);
+
+pub const K: LockId = LockId(3);
+
+pub const X: VarId = VarId(0);
+
+pub const Y: VarId = VarId(1);
+
+pub const Z: VarId = VarId(2);
+
+/// A call by the thread. The value is that of a store.
+pub fn call(thread: ThreadId, op: Op, value: u64) -> Call {
     Call {
-        thread: ThreadId(thread),
+        thread,
         op,
         site: SiteId(0),
-        arg: 0,
-    }
-}
-
-pub fn load(thread: u32, var: u32) -> Call {
-    call(thread, Op::Load(VarId(var)))
-}
-
-pub fn store(thread: u32, var: u32) -> Call {
-    call(thread, Op::Store(VarId(var)))
-}
-
-/// A store of the value.
-pub fn storing(thread: u32, var: u32, value: u64) -> Call {
-    Call {
         arg: value,
-        ..store(thread, var)
     }
 }
 
-pub fn acquire(thread: u32, lock: u32) -> Call {
-    call(thread, Op::Acquire(LockId(lock)))
-}
-
-pub fn release(thread: u32, lock: u32) -> Call {
-    call(thread, Op::Release(LockId(lock)))
-}
-
-pub fn fork(thread: u32, child: u32) -> Call {
-    call(thread, Op::Fork(ThreadId(child)))
-}
-
-pub fn join(thread: u32, child: u32) -> Call {
-    call(thread, Op::Join(ThreadId(child)))
+/// What becomes of a call.
+#[derive(Clone, Copy)]
+pub enum Answer {
+    /// It is accepted: the index and the value of its event, which has no race.
+    Clear(u64, u64),
+    /// It is accepted: the index and the value of its event, and the index of the earlier one that it races
+    /// with.
+    Racy(u64, u64, u64),
+    Refused(Refusal),
 }
 
 fn accepted(index: u64, value: u64, verdict: Verdict) -> Outcome {
@@ -50,17 +50,13 @@ fn accepted(index: u64, value: u64, verdict: Verdict) -> Outcome {
     })
 }
 
-/// The call's event has this index and this value, and no race.
-pub fn clear(index: u64, value: u64) -> Outcome {
-    accepted(index, value, Verdict::Clear)
-}
-
-/// The call's event has this index and this value, and races with an earlier one.
-pub fn racy(index: u64, value: u64, with: u64) -> Outcome {
-    accepted(index, value, Verdict::Racy(with))
-}
-
-/// The call is refused.
-pub fn refused(refusal: Refusal) -> Outcome {
-    Outcome::Refused(refusal)
+impl Answer {
+    /// The outcome that a monitor answers.
+    pub fn outcome(&self) -> Outcome {
+        match *self {
+            Answer::Clear(index, value) => accepted(index, value, Verdict::Clear),
+            Answer::Racy(index, value, with) => accepted(index, value, Verdict::Racy(with)),
+            Answer::Refused(refusal) => Outcome::Refused(refusal),
+        }
+    }
 }

@@ -13,15 +13,17 @@ mod calls;
 #[cfg(test)]
 mod closure;
 #[cfg(test)]
-mod generator;
+mod compared;
 #[cfg(test)]
-mod judged;
+mod generator;
 #[cfg(test)]
 mod orders;
 #[cfg(test)]
 mod pairs;
 #[cfg(test)]
 mod random_logs;
+#[cfg(test)]
+mod room;
 #[cfg(test)]
 mod runs;
 #[cfg(test)]
@@ -30,5 +32,7 @@ mod sections;
 mod steps;
 #[cfg(test)]
 mod swaps;
+#[cfg(test)]
+mod told;
 #[cfg(test)]
 mod worked_logs;

@@ -1,9 +1,11 @@
 //! The comparison on random logs.
 use crate::closure::Closure;
+use crate::compared::compare;
 use crate::generator::Generator;
-use crate::judged::judge;
+use crate::pairs::MOST_EVENTS;
 use crate::sections::is_inner_acquire;
-use event_core::{Event, Verdict};
+use crate::told::{Way, tell};
+use event_core::{Call, Event, Limits, Roots, Verdict};
 use std::alloc::Global;
 use std::process::Abort;
 use std::test::Fail;
@@ -11,9 +13,12 @@ use std::test::Fail;
 // From this seed some verdicts would be others without rule (b), which is rare.
 const SEED: u64 = 204;
 
-const LOGS: u32 = 500;
+const LOGS: usize = 500;
 
-const EVENTS: usize = 24;
+const EVENTS: u64 = 24;
+
+// How many logs there are of nested sections.
+const SECTION_LOGS: usize = 200;
 
 // Enough calls that so many are accepted.
 const CALLS: u32 = 512;
@@ -21,13 +26,15 @@ const CALLS: u32 = 512;
 // How often each kind of thing occurred in all logs together.
 #[derive(Clone, Copy, Debug)]
 struct Occurrences {
+    events: u64,
     // Pairs that are strictly ordered, beyond program order.
     strict_pairs: u64,
     // Pairs that happens-before orders, and weak causal precedence does not.
     unordered_pairs: u64,
     // Pairs that rule (b) added.
     rule_b_pairs: u64,
-    // Verdicts that would be others without rule (b).
+    // Logs of which some verdict would be another without rule (b), and such verdicts.
+    rule_b_logs: u64,
     rule_b_verdicts: u64,
     racy_verdicts: u64,
     inner_acquires: u64,
@@ -40,13 +47,25 @@ fn increase(count: &mut u64, more: u64) {
 impl Occurrences {
     fn new() -> Occurrences {
         Occurrences {
+            events: 0,
             strict_pairs: 0,
             unordered_pairs: 0,
             rule_b_pairs: 0,
+            rule_b_logs: 0,
             rule_b_verdicts: 0,
             racy_verdicts: 0,
             inner_acquires: 0,
         }
+    }
+
+    // Whether something of each kind occurred.
+    fn has_each_kind(&self) -> bool {
+        self.strict_pairs > 0
+            && self.unordered_pairs > 0
+            && self.rule_b_pairs > 0
+            && self.rule_b_verdicts > 0
+            && self.racy_verdicts > 0
+            && self.inner_acquires > 0
     }
 
     fn add_pairs(&mut self, closure: &Closure) {
@@ -62,6 +81,7 @@ impl Occurrences {
 
     fn add_verdicts(&mut self, log: &[Event], closure: &Closure) {
         let without = closure.without_rule_b();
+        let verdicts = self.rule_b_verdicts;
         for index in 0..log.len() {
             let verdict = closure.verdict(log, index);
             if verdict != without.verdict(log, index) {
@@ -71,9 +91,13 @@ impl Occurrences {
                 increase(&mut self.racy_verdicts, 1);
             }
         }
+        if self.rule_b_verdicts > verdicts {
+            increase(&mut self.rule_b_logs, 1);
+        }
     }
 
     fn add_events(&mut self, log: &[Event]) {
+        increase(&mut self.events, log.len() as u64);
         for (index, event) in log.iter().enumerate() {
             if is_inner_acquire(&log[..index], event) {
                 increase(&mut self.inner_acquires, 1);
@@ -82,21 +106,21 @@ impl Occurrences {
     }
 }
 
-// Compares the verdicts on the next random log, and adds what occurs in it.
-fn compare_next(
+// Compares the verdicts on the log that so many of the calls make, and adds what occurs in it.
+fn compare_log(
     rt: &impl Abort,
     alloc: Global,
-    generator: &mut Generator,
-    number: u32,
+    calls: &[Call],
+    most: u64,
+    number: usize,
     occurred: &mut Occurrences,
 ) -> Result<(), Fail> {
-    let calls = generator.calls(alloc, CALLS)?;
-    let judged = judge(alloc, &calls, EVENTS)?;
-    assert_eq!(rt; judged.log.len(), EVENTS, "log {number}");
-    let closure = judged.compare(rt, alloc, number)?;
+    let limits = Limits::new(3, 4, 3, 64, Roots::Free)?;
+    let told = tell(rt, alloc, &limits, calls, Way::Steps(most))?;
+    let closure = compare(rt, alloc, &told, number)?;
     occurred.add_pairs(&closure);
-    occurred.add_verdicts(&judged.log, &closure);
-    occurred.add_events(&judged.log);
+    occurred.add_verdicts(&told.log, &closure);
+    occurred.add_events(&told.log);
     Ok(())
 }
 
@@ -105,13 +129,30 @@ fn the_monitor_and_the_closure_judge_alike(rt: HostRuntime) -> Result<(), Fail> 
     let mut generator = Generator::new(SEED);
     let mut occurred = Occurrences::new();
     for number in 0..LOGS {
-        compare_next(&rt, rt.alloc(), &mut generator, number, &mut occurred)?;
+        let calls = generator.calls(rt.alloc(), CALLS)?;
+        compare_log(&rt, rt.alloc(), &calls, EVENTS, number, &mut occurred)?;
     }
-    assert!(rt; occurred.strict_pairs > 0, "in {occurred:?}");
-    assert!(rt; occurred.unordered_pairs > 0, "in {occurred:?}");
-    assert!(rt; occurred.rule_b_pairs > 0, "in {occurred:?}");
-    assert!(rt; occurred.rule_b_verdicts > 0, "in {occurred:?}");
-    assert!(rt; occurred.racy_verdicts > 0, "in {occurred:?}");
-    assert!(rt; occurred.inner_acquires > 0, "in {occurred:?}");
+    assert!(rt; occurred.events == EVENTS * LOGS as u64, "in {occurred:?}");
+    assert!(rt; occurred.has_each_kind(), "in {occurred:?}");
+    Ok(())
+}
+
+#[test]
+fn they_judge_alike_among_nested_sections(rt: HostRuntime) -> Result<(), Fail> {
+    let mut generator = Generator::new(SEED);
+    let mut occurred = Occurrences::new();
+    for number in 0..SECTION_LOGS {
+        let calls = generator.calls_in_sections(rt.alloc())?;
+        compare_log(
+            &rt,
+            rt.alloc(),
+            &calls,
+            MOST_EVENTS as u64,
+            number,
+            &mut occurred,
+        )?;
+    }
+    assert!(rt; occurred.rule_b_logs > 50, "in {occurred:?}");
+    assert!(rt; occurred.inner_acquires > 300, "in {occurred:?}");
     Ok(())
 }

@@ -1,175 +1,216 @@
-//! Worked cases: calls of a monitor, and what becomes of each.
-//!
-//! Where a growth is refused once, the same call is made again and has the same outcome.
-use crate::calls::{acquire, clear, fork, load, racy, refused, release, storing};
-use crate::runs::{self, step, step_once};
-use event_core::{Call, Limits, Outcome, Refusal, Roots, Verdict};
-use seq_monitor::{Monitor, Race};
-use std::alloc::Global;
+//! Worked cases: calls of a monitor, and what becomes of each, by `step` and by `run`.
+use crate::calls::Answer::{self, Clear, Racy, Refused};
+use crate::calls::{L, M, T0, T1, T2, X, Y, call};
+use crate::told::{Told, Way, add, tell};
+use event_core::Op::{self, Acquire, Fork, Load, Release, Store};
+use event_core::Refusal::{LogFull, NotHolder, NotStarted, SelfTarget, TargetRange, ThreadRange};
+use event_core::{Call, Limits, Roots, ThreadId};
+use std::alloc::{AllocError, Global};
 use std::process::Abort;
 use std::test::Fail;
 
-const L: u32 = 0;
+// A thread, what it does, the value of a store, and what becomes of the call.
+type Line = (ThreadId, Op, u64, Answer);
 
-const M: u32 = 1;
-
-const X: u32 = 0;
-
-const Y: u32 = 1;
-
-/// A monitor of so many threads, of so many locks and as many variables, and of so many events.
-pub fn monitor(alloc: Global, threads: u32, names: u32, events: u64) -> Result<Monitor, Fail> {
-    let limits = Limits::new(threads, names, names, events, Roots::OnlyMain)?;
-    Ok(runs::monitor(alloc, &limits)?)
+struct Case {
+    name: &'static str,
+    threads: u32,
+    // As many locks may be named as variables.
+    names: u32,
+    most_events: u64,
+    lines: &'static [Line],
+    // How many events the log has then.
+    events: usize,
+    // The index of each event that races, and that of the earlier one that it races with.
+    races: &'static [(u64, u64)],
 }
 
-/// Makes the calls, each beside what is to become of it.
-pub fn expect(rt: &impl Abort, monitor: &mut Monitor, cases: &[(Call, Outcome)]) {
-    for (index, (call, wanted)) in cases.iter().enumerate() {
-        assert_eq!(rt; step(monitor, *call), *wanted, "call {index}");
+const CASES: &[Case] = &[
+    Case {
+        name: "a slot is kept for the release",
+        threads: 1,
+        names: 1,
+        most_events: 3,
+        lines: &[
+            (T0, Load(X), 0, Clear(0, 0)),
+            (T0, Acquire(L), 0, Clear(1, 0)),
+            (T0, Load(X), 0, Refused(LogFull)),
+            (T0, Release(L), 0, Clear(2, 0)),
+            (T0, Load(X), 0, Refused(LogFull)),
+            (T0, Release(L), 0, Refused(NotHolder)),
+        ],
+        events: 3,
+        races: &[],
+    },
+    Case {
+        name: "the first reason is answered",
+        threads: 2,
+        names: 1,
+        most_events: 1,
+        lines: &[
+            (T0, Load(X), 0, Clear(0, 0)),
+            (T0, Fork(T0), 0, Refused(SelfTarget)),
+            (T0, Fork(T1), 0, Refused(LogFull)),
+            (T0, Acquire(M), 0, Refused(TargetRange)),
+            (T0, Acquire(L), 0, Refused(LogFull)),
+            (T1, Load(X), 0, Refused(NotStarted)),
+            (T2, Load(X), 0, Refused(ThreadRange)),
+        ],
+        events: 1,
+        races: &[],
+    },
+    Case {
+        name: "each hold keeps a slot",
+        threads: 1,
+        names: 1,
+        most_events: 4,
+        lines: &[
+            (T0, Acquire(L), 0, Clear(0, 0)),
+            (T0, Acquire(L), 0, Clear(1, 0)),
+            (T0, Load(X), 0, Refused(LogFull)),
+            (T0, Acquire(L), 0, Refused(LogFull)),
+            (T0, Release(L), 0, Clear(2, 0)),
+            (T0, Load(X), 0, Refused(LogFull)),
+            (T0, Release(L), 0, Clear(3, 0)),
+            (T0, Release(L), 0, Refused(NotHolder)),
+        ],
+        events: 4,
+        races: &[],
+    },
+    Case {
+        name: "releases of one lock are ordered by an inner section",
+        threads: 2,
+        names: 2,
+        most_events: 64,
+        lines: &[
+            (T0, Fork(T1), 0, Clear(0, 0)),
+            (T0, Acquire(L), 0, Clear(1, 0)),
+            (T0, Acquire(M), 0, Clear(2, 0)),
+            (T0, Store(X), 3, Clear(3, 3)),
+            (T0, Release(M), 0, Clear(4, 0)),
+            (T0, Store(Y), 4, Clear(5, 4)),
+            (T0, Release(L), 0, Clear(6, 0)),
+            (T1, Acquire(M), 0, Clear(7, 0)),
+            (T1, Load(X), 0, Clear(8, 3)),
+            (T1, Release(M), 0, Clear(9, 0)),
+            (T1, Acquire(L), 0, Clear(10, 0)),
+            (T1, Release(L), 0, Clear(11, 0)),
+            (T1, Load(Y), 0, Clear(12, 4)),
+        ],
+        events: 13,
+        races: &[],
+    },
+    Case {
+        name: "before that release the accesses race",
+        threads: 2,
+        names: 2,
+        most_events: 64,
+        lines: &[
+            (T0, Fork(T1), 0, Clear(0, 0)),
+            (T0, Acquire(L), 0, Clear(1, 0)),
+            (T0, Acquire(M), 0, Clear(2, 0)),
+            (T0, Store(X), 3, Clear(3, 3)),
+            (T0, Release(M), 0, Clear(4, 0)),
+            (T0, Store(Y), 4, Clear(5, 4)),
+            (T0, Release(L), 0, Clear(6, 0)),
+            (T1, Acquire(M), 0, Clear(7, 0)),
+            (T1, Load(X), 0, Clear(8, 3)),
+            (T1, Release(M), 0, Clear(9, 0)),
+            (T1, Load(Y), 0, Racy(10, 4, 5)),
+        ],
+        events: 11,
+        races: &[(10, 5)],
+    },
+    Case {
+        name: "each call of a run has its outcome",
+        threads: 2,
+        names: 1,
+        most_events: 64,
+        lines: &[
+            (T0, Fork(T1), 0, Clear(0, 0)),
+            (T0, Store(X), 7, Clear(1, 7)),
+            (T1, Release(L), 0, Refused(NotHolder)),
+            (T1, Store(X), 8, Racy(2, 8, 1)),
+        ],
+        events: 3,
+        races: &[(2, 1)],
+    },
+    Case {
+        name: "no growth that is refused keeps a release from being taken",
+        threads: 2,
+        names: 2,
+        most_events: 64,
+        lines: &[
+            (T0, Fork(T1), 0, Clear(0, 0)),
+            (T0, Acquire(L), 0, Clear(1, 0)),
+            (T0, Acquire(M), 0, Clear(2, 0)),
+            (T0, Store(X), 0, Clear(3, 0)),
+            (T0, Release(M), 0, Clear(4, 0)),
+            (T0, Store(Y), 0, Clear(5, 0)),
+            (T0, Release(L), 0, Clear(6, 0)),
+            (T1, Acquire(M), 0, Clear(7, 0)),
+            (T1, Load(X), 0, Clear(8, 0)),
+            (T1, Release(M), 0, Clear(9, 0)),
+            (T1, Acquire(L), 0, Clear(10, 0)),
+            (T1, Release(L), 0, Clear(11, 0)),
+            (T1, Load(Y), 0, Clear(12, 0)),
+        ],
+        events: 13,
+        races: &[],
+    },
+];
+
+fn calls(alloc: Global, lines: &[Line]) -> Result<Vec<Call>, AllocError> {
+    let mut calls = Vec::new(alloc);
+    for (thread, op, value, _answer) in lines {
+        add(&mut calls, call(*thread, *op, *value))?;
+    }
+    Ok(calls)
+}
+
+// The monitor answered and holds what the case says.
+fn expect(rt: &impl Abort, case: &Case, told: &Told) {
+    assert!(rt; told.outcomes.len() == case.lines.len(), "{}", case.name);
+    for (outcome, (_, _, _, answer)) in told.outcomes.iter().zip(case.lines) {
+        assert!(rt; *outcome == answer.outcome(), "{}: {outcome:?}", case.name);
+    }
+    assert!(rt; told.log.len() == case.events, "{}", case.name);
+    assert!(rt; told.races.len() == case.races.len(), "{}", case.name);
+    for (race, (event, with)) in told.races.iter().zip(case.races) {
+        assert!(rt;
+            race.event == *event && race.with == *with,
+            "{}: {race:?}",
+            case.name
+        );
     }
 }
 
-#[test]
-fn a_slot_is_kept_for_the_release(rt: HostRuntime) -> Result<(), Fail> {
-    let mut monitor = monitor(rt.alloc(), 1, 1, 3)?;
-    expect(
-        &rt,
-        &mut monitor,
-        &[
-            (load(0, X), clear(0, 0)),
-            (acquire(0, L), clear(1, 0)),
-            (load(0, X), refused(Refusal::LogFull)),
-            (release(0, L), clear(2, 0)),
-            (load(0, X), refused(Refusal::LogFull)),
-            (release(0, L), refused(Refusal::NotHolder)),
-        ],
-    );
-    assert_eq!(rt; monitor.log().len(), 3);
-    assert_eq!(rt; monitor.verdicts().len(), 3);
-    assert!(rt; monitor.verdicts().races().is_empty());
-    assert_eq!(rt; monitor.limits().events(), 3);
+// So it is by the one way.
+fn expect_by(
+    rt: &impl Abort,
+    alloc: Global,
+    case: &Case,
+    calls: &[Call],
+    way: Way,
+) -> Result<(), Fail> {
+    let limits = Limits::new(
+        case.threads,
+        case.names,
+        case.names,
+        case.most_events,
+        Roots::OnlyMain,
+    )?;
+    let told = tell(rt, alloc, &limits, calls, way)?;
+    expect(rt, case, &told);
     Ok(())
 }
 
 #[test]
-fn the_first_reason_is_answered(rt: HostRuntime) -> Result<(), Fail> {
-    let mut monitor = monitor(rt.alloc(), 2, 1, 1)?;
-    expect(
-        &rt,
-        &mut monitor,
-        &[
-            (load(0, X), clear(0, 0)),
-            (fork(0, 0), refused(Refusal::SelfTarget)),
-            (fork(0, 1), refused(Refusal::LogFull)),
-            (acquire(0, M), refused(Refusal::TargetRange)),
-            (acquire(0, L), refused(Refusal::LogFull)),
-            (load(1, X), refused(Refusal::NotStarted)),
-            (load(2, X), refused(Refusal::ThreadRange)),
-        ],
-    );
-    Ok(())
-}
-
-#[test]
-fn each_hold_keeps_a_slot(rt: HostRuntime) -> Result<(), Fail> {
-    let mut monitor = monitor(rt.alloc(), 1, 1, 4)?;
-    expect(
-        &rt,
-        &mut monitor,
-        &[
-            (acquire(0, L), clear(0, 0)),
-            (acquire(0, L), clear(1, 0)),
-            (load(0, X), refused(Refusal::LogFull)),
-            (acquire(0, L), refused(Refusal::LogFull)),
-            (release(0, L), clear(2, 0)),
-            (load(0, X), refused(Refusal::LogFull)),
-            (release(0, L), clear(3, 0)),
-            (release(0, L), refused(Refusal::NotHolder)),
-        ],
-    );
-    Ok(())
-}
-
-// Thread 0 stores to both variables in sections on both locks, and thread 1 reads one of them under the inner
-// lock.
-fn nested(rt: &impl Abort, monitor: &mut Monitor) {
-    expect(
-        rt,
-        monitor,
-        &[
-            (fork(0, 1), clear(0, 0)),
-            (acquire(0, L), clear(1, 0)),
-            (acquire(0, M), clear(2, 0)),
-            (storing(0, X, 3), clear(3, 3)),
-            (release(0, M), clear(4, 0)),
-            (storing(0, Y, 4), clear(5, 4)),
-            (release(0, L), clear(6, 0)),
-            (acquire(1, M), clear(7, 0)),
-            (load(1, X), clear(8, 3)),
-            (release(1, M), clear(9, 0)),
-        ],
-    );
-}
-
-#[test]
-fn releases_of_one_lock_are_ordered_by_an_inner_section(rt: HostRuntime) -> Result<(), Fail> {
-    let mut monitor = monitor(rt.alloc(), 2, 2, 64)?;
-    nested(&rt, &mut monitor);
-    expect(
-        &rt,
-        &mut monitor,
-        &[
-            (acquire(1, L), clear(10, 0)),
-            (release(1, L), clear(11, 0)),
-            (load(1, Y), clear(12, 4)),
-        ],
-    );
-    Ok(())
-}
-
-#[test]
-fn before_that_release_the_accesses_race(rt: HostRuntime) -> Result<(), Fail> {
-    let mut monitor = monitor(rt.alloc(), 2, 2, 64)?;
-    nested(&rt, &mut monitor);
-    expect(&rt, &mut monitor, &[(load(1, Y), racy(10, 4, 5))]);
-    let verdicts = monitor.verdicts();
-    assert!(rt; verdicts.len() == 11 && verdicts.at(10) == Verdict::Racy(5));
-    assert!(rt; verdicts.races() == [Race { event: 10, with: 5 }].as_slice());
-    Ok(())
-}
-
-// Whether room is made for the call.
-fn prepare(monitor: &mut Monitor, call: &Call) -> bool {
-    monitor.prepare(call).is_ok() || monitor.prepare(call).is_ok()
-}
-
-#[test]
-fn what_is_ready_needs_no_memory(rt: HostRuntime) -> Result<(), Fail> {
-    let mut monitor = monitor(rt.alloc(), 2, 2, 64)?;
-    let first = storing(0, X, 9);
-    assert!(rt; !monitor.ready(&first));
-    assert!(rt; prepare(&mut monitor, &first));
-    assert!(rt; monitor.ready(&first));
-    assert_eq!(rt; monitor.log().len(), 0);
-    assert_eq!(rt; step_once(&mut monitor, first), clear(0, 9));
-    assert!(rt; monitor.ready(&load(1, X)), "a call that is refused");
-    Ok(())
-}
-
-#[test]
-fn room_for_one_call_stays_where_room_is_made_for_another(rt: HostRuntime) -> Result<(), Fail> {
-    let mut monitor = monitor(rt.alloc(), 2, 2, 64)?;
-    let first = storing(0, X, 9);
-    let second = acquire(0, L);
-    assert!(rt; prepare(&mut monitor, &first));
-    assert!(rt; !monitor.ready(&second));
-    assert!(rt; prepare(&mut monitor, &second));
-    assert!(rt;
-        prepare(&mut monitor, &load(1, X)),
-        "a call that is refused"
-    );
-    assert!(rt; monitor.ready(&first));
-    assert!(rt; monitor.ready(&second));
+fn each_call_has_its_outcome(rt: HostRuntime) -> Result<(), Fail> {
+    for case in CASES {
+        let calls = calls(rt.alloc(), case.lines)?;
+        expect_by(&rt, rt.alloc(), case, &calls, Way::Steps(u64::MAX))?;
+        expect_by(&rt, rt.alloc(), case, &calls, Way::Run)?;
+    }
     Ok(())
 }

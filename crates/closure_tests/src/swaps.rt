@@ -1,111 +1,216 @@
-//! Worked cases: swaps, and what each is answered.
+//! Worked cases: swaps, and what each is answered, one by one and by `run_acts`.
 //!
-//! Where a growth is refused once, the same swap is made again and is answered the same.
-use crate::calls::{clear, fork, load, racy};
-use crate::steps::{expect, monitor};
-use event_core::{Act, Done, Refusal, SiteId, SwapReply, ThreadId, VarId, Verdict};
+//! What is refused memory once is asked for once more.
+use crate::calls::{T0, T1, X, call};
+use crate::told::{add, monitor};
+use event_core::Op::{self, Fork, Load};
+use event_core::Refusal::{self, LogFull};
+use event_core::Verdict::{self, Clear, Racy};
+use event_core::{Act, Done, Limits, Reply, Roots, SiteId, SwapReply, ThreadId, VarId};
 use seq_monitor::Monitor;
+use std::alloc::{AllocError, Global};
 use std::process::Abort;
 use std::test::Fail;
 
-const X: u32 = 0;
-
-const CLEAR: Verdict = Verdict::Clear;
-
-type Answer = Result<SwapReply, Refusal>;
-
-fn swap_once(monitor: &mut Monitor, thread: u32, arg: u64) -> Answer {
-    monitor.swap(ThreadId(thread), VarId(X), arg, SiteId(0))
+// What a thread does.
+#[derive(Clone, Copy)]
+enum Deed {
+    // A call with no value.
+    One(Op),
+    // A swap that puts in the value.
+    Swap(VarId, u64),
 }
 
-fn swap(monitor: &mut Monitor, thread: u32, arg: u64) -> Answer {
-    match swap_once(monitor, thread, arg) {
-        Err(Refusal::OutOfMemory) => swap_once(monitor, thread, arg),
-        answer => answer,
+// What it is answered.
+#[derive(Clone, Copy)]
+enum Answer {
+    One(u64, u64, Verdict),
+    // The index and the value of the load, its verdict and that of the store.
+    Swapped(u64, u64, Verdict, Verdict),
+    Refused(Refusal),
+}
+
+struct Case {
+    name: &'static str,
+    most_events: u64,
+    lines: &'static [(ThreadId, Deed, Answer)],
+    // How many events the log has then.
+    events: u64,
+}
+
+const CASES: &[Case] = &[
+    Case {
+        name: "a swap is a load and a store",
+        most_events: 5,
+        lines: &[
+            (T0, Deed::One(Fork(T1)), Answer::One(0, 0, Clear)),
+            (T1, Deed::Swap(X, 4), Answer::Swapped(1, 0, Clear, Clear)),
+            (
+                T0,
+                Deed::Swap(X, 5),
+                Answer::Swapped(3, 4, Racy(2), Racy(2)),
+            ),
+            (T0, Deed::Swap(X, 6), Answer::Refused(LogFull)),
+        ],
+        events: 5,
+    },
+    Case {
+        name: "a swap that is refused adds neither event",
+        most_events: 4,
+        lines: &[
+            (T0, Deed::One(Fork(T1)), Answer::One(0, 0, Clear)),
+            (T1, Deed::Swap(X, 4), Answer::Swapped(1, 0, Clear, Clear)),
+            (T0, Deed::Swap(X, 5), Answer::Refused(LogFull)),
+        ],
+        events: 3,
+    },
+    Case {
+        name: "after it a call takes the next index",
+        most_events: 4,
+        lines: &[
+            (T0, Deed::One(Fork(T1)), Answer::One(0, 0, Clear)),
+            (T1, Deed::Swap(X, 4), Answer::Swapped(1, 0, Clear, Clear)),
+            (T0, Deed::Swap(X, 5), Answer::Refused(LogFull)),
+            (T0, Deed::One(Load(X)), Answer::One(3, 4, Racy(2))),
+        ],
+        events: 4,
+    },
+    Case {
+        name: "the events of a swap have a verdict each",
+        most_events: 9,
+        lines: &[
+            (T0, Deed::One(Fork(T1)), Answer::One(0, 0, Clear)),
+            (T1, Deed::One(Load(X)), Answer::One(1, 0, Clear)),
+            (T0, Deed::Swap(X, 5), Answer::Swapped(2, 0, Clear, Racy(1))),
+        ],
+        events: 4,
+    },
+];
+
+fn act(thread: ThreadId, deed: Deed) -> Act {
+    match deed {
+        Deed::One(op) => Act::One(call(thread, op, 0)),
+        Deed::Swap(var, arg) => Act::Swap {
+            thread,
+            var,
+            site: SiteId(0),
+            arg,
+        },
     }
 }
 
-fn swapped(index: u64, value: u64, load: Verdict, store: Verdict) -> Answer {
-    Ok(SwapReply {
-        index,
-        value,
-        load,
-        store,
-    })
-}
-
-// Each case is a thread, the value that it puts in, and what it is answered.
-fn expect_swaps(rt: &impl Abort, monitor: &mut Monitor, cases: &[(u32, u64, Answer)]) {
-    for (thread, arg, answer) in cases {
-        assert_eq!(rt; swap(monitor, *thread, *arg), *answer, "thread {thread}");
+fn done(answer: Answer) -> Done {
+    match answer {
+        Answer::One(index, value, verdict) => Done::One(Reply {
+            index,
+            value,
+            verdict,
+        }),
+        Answer::Swapped(index, value, load, store) => Done::Swap(SwapReply {
+            index,
+            value,
+            load,
+            store,
+        }),
+        Answer::Refused(refusal) => Done::Refused(refusal),
     }
 }
 
-#[test]
-fn a_swap_is_a_load_and_a_store(rt: HostRuntime) -> Result<(), Fail> {
-    let mut monitor = monitor(rt.alloc(), 2, 1, 5)?;
-    expect(&rt, &mut monitor, &[(fork(0, 1), clear(0, 0))]);
-    expect_swaps(
-        &rt,
-        &mut monitor,
-        &[
-            (1, 4, swapped(1, 0, CLEAR, CLEAR)),
-            (0, 5, swapped(3, 4, Verdict::Racy(2), Verdict::Racy(2))),
-            (0, 6, Err(Refusal::LogFull)),
-        ],
-    );
-    assert_eq!(rt; monitor.log().len(), 5);
+fn take_once(monitor: &mut Monitor, act: Act) -> Done {
+    match act {
+        Act::One(call) => match monitor.step(call) {
+            Ok(reply) => Done::One(reply),
+            Err(refusal) => Done::Refused(refusal),
+        },
+        Act::Swap {
+            thread,
+            var,
+            site,
+            arg,
+        } => match monitor.swap(thread, var, arg, site) {
+            Ok(reply) => Done::Swap(reply),
+            Err(refusal) => Done::Refused(refusal),
+        },
+    }
+}
+
+fn take(monitor: &mut Monitor, act: Act) -> Done {
+    match take_once(monitor, act) {
+        Done::Refused(Refusal::OutOfMemory) => take_once(monitor, act),
+        done => done,
+    }
+}
+
+// Makes the acts one by one.
+fn take_each(
+    monitor: &mut Monitor,
+    acts: &[Act],
+    answers: &mut Vec<Done>,
+) -> Result<(), AllocError> {
+    for act in acts {
+        add(answers, take(monitor, *act))?;
+    }
     Ok(())
 }
 
-#[test]
-fn a_swap_that_is_refused_adds_neither_event(rt: HostRuntime) -> Result<(), Fail> {
-    let mut monitor = monitor(rt.alloc(), 2, 1, 4)?;
-    expect(&rt, &mut monitor, &[(fork(0, 1), clear(0, 0))]);
-    expect_swaps(
-        &rt,
-        &mut monitor,
-        &[
-            (1, 4, swapped(1, 0, CLEAR, CLEAR)),
-            (0, 5, Err(Refusal::LogFull)),
-        ],
-    );
-    assert_eq!(rt; monitor.log().len(), 3);
-    expect(&rt, &mut monitor, &[(load(0, X), racy(3, 4, 2))]);
-    Ok(())
-}
-
-// Begins again where it stopped.
-fn run(monitor: &mut Monitor, acts: &[Act], answers: &mut Vec<Done>) {
+// Makes them as one run. Begins again where it stopped.
+fn run(monitor: &mut Monitor, acts: &[Act], answers: &mut Vec<Done>) -> Result<(), AllocError> {
     for _ in 0..2 {
         let done = answers.len();
         if done < acts.len() {
             let _stopped = monitor.run_acts(&acts[done..], answers);
         }
     }
+    Ok(())
+}
+
+// What a new monitor answers to the acts, and how many events its log has then.
+fn tell(
+    alloc: Global,
+    most_events: u64,
+    acts: &[Act],
+    is_run: bool,
+    answers: &mut Vec<Done>,
+) -> Result<u64, Fail> {
+    let limits = Limits::new(2, 1, 1, most_events, Roots::OnlyMain)?;
+    let mut monitor = monitor(alloc, &limits)?;
+    let taken = if is_run {
+        run(&mut monitor, acts, answers)
+    } else {
+        take_each(&mut monitor, acts, answers)
+    };
+    let events = monitor.log().len();
+    drop(monitor);
+    taken?;
+    Ok(events)
+}
+
+fn expect(
+    rt: &impl Abort,
+    alloc: Global,
+    case: &Case,
+    acts: &[Act],
+    is_run: bool,
+) -> Result<(), Fail> {
+    let mut answers = Vec::new(alloc);
+    let events = tell(alloc, case.most_events, acts, is_run, &mut answers)?;
+    assert!(rt; events == case.events, "{}", case.name);
+    assert!(rt; answers.len() == case.lines.len(), "{}", case.name);
+    for (found, (_, _, wanted)) in answers.iter().zip(case.lines) {
+        assert!(rt; *found == done(*wanted), "{}: {found:?}", case.name);
+    }
+    Ok(())
 }
 
 #[test]
-fn the_events_of_a_swap_have_a_verdict_each(rt: HostRuntime) -> Result<(), Fail> {
-    let mut monitor = monitor(rt.alloc(), 2, 1, 9)?;
-    let acts = [
-        Act::One(fork(0, 1)),
-        Act::One(load(1, X)),
-        Act::Swap {
-            thread: ThreadId(0),
-            var: VarId(X),
-            site: SiteId(0),
-            arg: 5,
-        },
-    ];
-    let mut answers = Vec::new(rt.alloc());
-    run(&mut monitor, &acts, &mut answers);
-    assert_eq!(rt; answers.len(), acts.len());
-    if let Some(Done::Swap(reply)) = answers.last() {
-        assert_eq!(rt; reply.load, CLEAR);
-        assert_eq!(rt; reply.store, Verdict::Racy(1));
-    } else {
-        assert!(rt; false, "a swap");
+fn each_swap_is_answered(rt: HostRuntime) -> Result<(), Fail> {
+    for case in CASES {
+        let mut acts = Vec::new(rt.alloc());
+        for (thread, deed, _answer) in case.lines {
+            add(&mut acts, act(*thread, *deed))?;
+        }
+        expect(&rt, rt.alloc(), case, &acts, false)?;
+        expect(&rt, rt.alloc(), case, &acts, true)?;
     }
     Ok(())
 }

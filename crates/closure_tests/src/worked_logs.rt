@@ -1,25 +1,217 @@
 //! Worked logs, each with all its races: the index of an event and that of the event that it races with.
-use crate::calls::{acquire, fork, join, load, release, store};
-use crate::judged::judge;
-use crate::runs::{accepted, outcomes};
-use event_core::{Call, Limits, Roots, Verdict};
+use crate::calls::{K, L, M, N, T0, T1, T2, X, Y, Z, call};
+use crate::compared::compare;
+use crate::runs::tell_both;
+use crate::told::{Told, add};
+use event_core::Op::{self, Acquire, Fork, Join, Load, Release, Store};
+use event_core::{Limits, Outcome, Reply, Roots, ThreadId, Verdict};
 use std::alloc::Global;
 use std::process::Abort;
 use std::test::Fail;
 
-const L: u32 = 0;
+struct Worked {
+    name: &'static str,
+    log: &'static [(ThreadId, Op)],
+    races: &'static [(usize, u64)],
+}
 
-const M: u32 = 1;
-
-const N: u32 = 2;
-
-const K: u32 = 3;
-
-const X: u32 = 0;
-
-const Y: u32 = 1;
-
-const Z: u32 = 2;
+const LOGS: &[Worked] = &[
+    Worked {
+        name: "a fork does not cover a store after it",
+        log: &[(T0, Fork(T1)), (T0, Store(X)), (T1, Store(X))],
+        races: &[(2, 1)],
+    },
+    Worked {
+        name: "a release is below a conflicting access in a later section",
+        log: &[
+            (T0, Fork(T1)),
+            (T0, Acquire(L)),
+            (T0, Store(X)),
+            (T0, Release(L)),
+            (T1, Acquire(L)),
+            (T1, Store(X)),
+        ],
+        races: &[],
+    },
+    Worked {
+        name: "sections without a conflict order nothing",
+        log: &[
+            (T0, Fork(T1)),
+            (T0, Store(Y)),
+            (T0, Acquire(L)),
+            (T0, Store(X)),
+            (T0, Release(L)),
+            (T1, Acquire(L)),
+            (T1, Release(L)),
+            (T1, Load(Y)),
+        ],
+        races: &[(7, 1)],
+    },
+    Worked {
+        name: "sections with a conflict order what surrounds them",
+        log: &[
+            (T0, Fork(T1)),
+            (T0, Store(Y)),
+            (T0, Acquire(L)),
+            (T0, Store(X)),
+            (T0, Release(L)),
+            (T1, Acquire(L)),
+            (T1, Load(X)),
+            (T1, Release(L)),
+            (T1, Load(Y)),
+        ],
+        races: &[],
+    },
+    Worked {
+        name: "an access before the conflicting one is not ordered",
+        log: &[
+            (T0, Fork(T1)),
+            (T0, Store(Y)),
+            (T0, Acquire(L)),
+            (T0, Store(X)),
+            (T0, Release(L)),
+            (T1, Acquire(L)),
+            (T1, Load(Y)),
+            (T1, Load(X)),
+            (T1, Release(L)),
+        ],
+        races: &[(6, 1)],
+    },
+    Worked {
+        name: "ordered events in two sections order their releases",
+        log: &[
+            (T0, Fork(T1)),
+            (T0, Acquire(L)),
+            (T0, Acquire(M)),
+            (T0, Store(X)),
+            (T0, Release(M)),
+            (T0, Store(Y)),
+            (T0, Release(L)),
+            (T1, Acquire(M)),
+            (T1, Load(X)),
+            (T1, Release(M)),
+            (T1, Acquire(L)),
+            (T1, Release(L)),
+            (T1, Load(Y)),
+        ],
+        races: &[],
+    },
+    Worked {
+        name: "an access before the later section is not ordered",
+        log: &[
+            (T0, Fork(T1)),
+            (T0, Acquire(L)),
+            (T0, Acquire(M)),
+            (T0, Store(X)),
+            (T0, Release(M)),
+            (T0, Store(Y)),
+            (T0, Release(L)),
+            (T1, Acquire(M)),
+            (T1, Load(X)),
+            (T1, Release(M)),
+            (T1, Load(Y)),
+        ],
+        races: &[(10, 5)],
+    },
+    Worked {
+        name: "two releases of one thread may be ordered strictly",
+        log: &[
+            (T0, Fork(T1)),
+            (T0, Fork(T2)),
+            (T2, Store(Z)),
+            (T2, Acquire(N)),
+            (T2, Release(N)),
+            (T0, Acquire(L)),
+            (T0, Acquire(M)),
+            (T0, Store(X)),
+            (T0, Release(M)),
+            (T0, Acquire(N)),
+            (T0, Release(N)),
+            (T0, Release(L)),
+            (T1, Acquire(M)),
+            (T1, Load(X)),
+            (T1, Release(M)),
+            (T1, Acquire(K)),
+            (T1, Release(K)),
+            (T0, Acquire(K)),
+            (T0, Release(K)),
+            (T0, Acquire(L)),
+            (T0, Release(L)),
+            (T0, Load(Z)),
+        ],
+        races: &[],
+    },
+    Worked {
+        name: "a fork and a join order what the child does",
+        log: &[
+            (T0, Store(X)),
+            (T0, Fork(T1)),
+            (T1, Store(X)),
+            (T0, Join(T1)),
+            (T0, Store(X)),
+        ],
+        races: &[],
+    },
+    Worked {
+        name: "a thread that no event forks or joins is not ordered",
+        log: &[
+            (T0, Fork(T1)),
+            (T0, Join(T1)),
+            (T2, Store(X)),
+            (T0, Load(X)),
+        ],
+        races: &[(3, 2)],
+    },
+    Worked {
+        name: "the fork of an idle child is below its join",
+        log: &[
+            (T0, Store(X)),
+            (T0, Fork(T1)),
+            (T2, Join(T1)),
+            (T2, Store(X)),
+        ],
+        races: &[],
+    },
+    Worked {
+        name: "an access after the release is outside the section",
+        log: &[
+            (T0, Fork(T1)),
+            (T0, Acquire(L)),
+            (T0, Acquire(M)),
+            (T0, Release(L)),
+            (T0, Store(X)),
+            (T0, Release(M)),
+            (T1, Acquire(L)),
+            (T1, Store(X)),
+        ],
+        races: &[(7, 4)],
+    },
+    Worked {
+        name: "the latest racing event is named",
+        log: &[
+            (T0, Fork(T1)),
+            (T0, Fork(T2)),
+            (T1, Store(X)),
+            (T2, Store(X)),
+            (T0, Store(X)),
+        ],
+        races: &[(3, 2), (4, 3)],
+    },
+    Worked {
+        name: "an inner release does not end the section",
+        log: &[
+            (T0, Fork(T1)),
+            (T0, Acquire(L)),
+            (T0, Acquire(L)),
+            (T0, Release(L)),
+            (T0, Store(X)),
+            (T0, Release(L)),
+            (T1, Acquire(L)),
+            (T1, Store(X)),
+        ],
+        races: &[],
+    },
+];
 
 // The verdict on the event at the index.
 fn expected(races: &[(usize, u64)], index: usize) -> Verdict {
@@ -31,233 +223,41 @@ fn expected(races: &[(usize, u64)], index: usize) -> Verdict {
     Verdict::Clear
 }
 
-// The monitor accepts all the calls. Its verdicts are these races, and those of the closure.
-fn expect_races(
-    rt: &impl Abort,
-    alloc: Global,
-    calls: &[Call],
-    races: &[(usize, u64)],
-) -> Result<(), Fail> {
-    expect_outcomes(rt, alloc, calls, races)?;
-    let judged = judge(alloc, calls, calls.len())?;
-    assert_eq!(rt; judged.verdicts.len(), calls.len());
-    for (index, verdict) in judged.verdicts.iter().enumerate() {
-        assert_eq!(rt; *verdict, expected(races, index), "event {index}");
+// The monitor accepted all the calls. Its verdicts are the races of the log.
+fn expect_races(rt: &impl Abort, worked: &Worked, told: &Told) {
+    assert!(rt; told.outcomes.len() == worked.log.len(), "{}", worked.name);
+    for (index, outcome) in told.outcomes.iter().enumerate() {
+        let reply = Reply {
+            index: index as u64,
+            value: 0,
+            verdict: expected(worked.races, index),
+        };
+        assert!(rt;
+            *outcome == Outcome::Accepted(reply),
+            "{}: {outcome:?}",
+            worked.name
+        );
     }
-    judged.compare(rt, alloc, 0)?;
-    Ok(())
+    assert!(rt; told.races.len() == worked.races.len(), "{}", worked.name);
 }
 
-// So it is by `step` and by `run`, also where a growth is refused once.
-fn expect_outcomes(
-    rt: &impl Abort,
-    alloc: Global,
-    calls: &[Call],
-    races: &[(usize, u64)],
-) -> Result<(), Fail> {
+// So it is by `step` and by `run`, and its verdicts are those of the closure.
+fn expect(rt: &impl Abort, alloc: Global, worked: &Worked, number: usize) -> Result<(), Fail> {
     let limits = Limits::new(3, 4, 3, 64, Roots::Free)?;
-    for (index, outcome) in outcomes(rt, alloc, &limits, calls)?.iter().enumerate() {
-        let verdict = expected(races, index);
-        assert_eq!(rt; *outcome, accepted(index as u64, verdict), "event {index}");
+    let mut calls = Vec::new(alloc);
+    for (thread, op) in worked.log {
+        add(&mut calls, call(*thread, *op, 0))?;
     }
+    let told = tell_both(rt, alloc, &limits, &calls)?;
+    expect_races(rt, worked, &told);
+    compare(rt, alloc, &told, number)?;
     Ok(())
 }
 
 #[test]
-fn a_fork_does_not_cover_a_store_after_it(rt: HostRuntime) -> Result<(), Fail> {
-    let log = [fork(0, 1), store(0, X), store(1, X)];
-    expect_races(&rt, rt.alloc(), &log, &[(2, 1)])
-}
-
-#[test]
-fn a_release_is_below_a_conflicting_access_in_a_later_section(rt: HostRuntime) -> Result<(), Fail> {
-    let log = [
-        fork(0, 1),
-        acquire(0, L),
-        store(0, X),
-        release(0, L),
-        acquire(1, L),
-        store(1, X),
-    ];
-    expect_races(&rt, rt.alloc(), &log, &[])
-}
-
-#[test]
-fn sections_without_a_conflict_order_nothing(rt: HostRuntime) -> Result<(), Fail> {
-    let log = [
-        fork(0, 1),
-        store(0, Y),
-        acquire(0, L),
-        store(0, X),
-        release(0, L),
-        acquire(1, L),
-        release(1, L),
-        load(1, Y),
-    ];
-    expect_races(&rt, rt.alloc(), &log, &[(7, 1)])
-}
-
-#[test]
-fn sections_with_a_conflict_order_what_surrounds_them(rt: HostRuntime) -> Result<(), Fail> {
-    let log = [
-        fork(0, 1),
-        store(0, Y),
-        acquire(0, L),
-        store(0, X),
-        release(0, L),
-        acquire(1, L),
-        load(1, X),
-        release(1, L),
-        load(1, Y),
-    ];
-    expect_races(&rt, rt.alloc(), &log, &[])
-}
-
-#[test]
-fn an_access_before_the_conflicting_one_is_not_ordered(rt: HostRuntime) -> Result<(), Fail> {
-    let log = [
-        fork(0, 1),
-        store(0, Y),
-        acquire(0, L),
-        store(0, X),
-        release(0, L),
-        acquire(1, L),
-        load(1, Y),
-        load(1, X),
-        release(1, L),
-    ];
-    expect_races(&rt, rt.alloc(), &log, &[(6, 1)])
-}
-
-#[test]
-fn ordered_events_in_two_sections_order_their_releases(rt: HostRuntime) -> Result<(), Fail> {
-    let log = [
-        fork(0, 1),
-        acquire(0, L),
-        acquire(0, M),
-        store(0, X),
-        release(0, M),
-        store(0, Y),
-        release(0, L),
-        acquire(1, M),
-        load(1, X),
-        release(1, M),
-        acquire(1, L),
-        release(1, L),
-        load(1, Y),
-    ];
-    expect_races(&rt, rt.alloc(), &log, &[])
-}
-
-#[test]
-fn an_access_before_the_later_section_is_not_ordered(rt: HostRuntime) -> Result<(), Fail> {
-    let log = [
-        fork(0, 1),
-        acquire(0, L),
-        acquire(0, M),
-        store(0, X),
-        release(0, M),
-        store(0, Y),
-        release(0, L),
-        acquire(1, M),
-        load(1, X),
-        release(1, M),
-        load(1, Y),
-    ];
-    expect_races(&rt, rt.alloc(), &log, &[(10, 5)])
-}
-
-#[test]
-fn two_releases_of_one_thread_may_be_ordered_strictly(rt: HostRuntime) -> Result<(), Fail> {
-    let log = [
-        fork(0, 1),
-        fork(0, 2),
-        store(2, Z),
-        acquire(2, N),
-        release(2, N),
-        acquire(0, L),
-        acquire(0, M),
-        store(0, X),
-        release(0, M),
-        acquire(0, N),
-        release(0, N),
-        release(0, L),
-        acquire(1, M),
-        load(1, X),
-        release(1, M),
-        acquire(1, K),
-        release(1, K),
-        acquire(0, K),
-        release(0, K),
-        acquire(0, L),
-        release(0, L),
-        load(0, Z),
-    ];
-    expect_races(&rt, rt.alloc(), &log, &[])
-}
-
-#[test]
-fn a_fork_and_a_join_order_what_the_child_does(rt: HostRuntime) -> Result<(), Fail> {
-    let log = [
-        store(0, X),
-        fork(0, 1),
-        store(1, X),
-        join(0, 1),
-        store(0, X),
-    ];
-    expect_races(&rt, rt.alloc(), &log, &[])
-}
-
-#[test]
-fn a_thread_that_no_event_forks_or_joins_is_not_ordered(rt: HostRuntime) -> Result<(), Fail> {
-    let log = [fork(0, 1), join(0, 1), store(2, X), load(0, X)];
-    expect_races(&rt, rt.alloc(), &log, &[(3, 2)])
-}
-
-#[test]
-fn the_fork_of_an_idle_child_is_below_its_join(rt: HostRuntime) -> Result<(), Fail> {
-    let log = [store(0, X), fork(0, 1), join(2, 1), store(2, X)];
-    expect_races(&rt, rt.alloc(), &log, &[])
-}
-
-#[test]
-fn an_access_after_the_release_is_outside_the_section(rt: HostRuntime) -> Result<(), Fail> {
-    let log = [
-        fork(0, 1),
-        acquire(0, L),
-        acquire(0, M),
-        release(0, L),
-        store(0, X),
-        release(0, M),
-        acquire(1, L),
-        store(1, X),
-    ];
-    expect_races(&rt, rt.alloc(), &log, &[(7, 4)])
-}
-
-#[test]
-fn the_latest_racing_event_is_named(rt: HostRuntime) -> Result<(), Fail> {
-    let log = [
-        fork(0, 1),
-        fork(0, 2),
-        store(1, X),
-        store(2, X),
-        store(0, X),
-    ];
-    expect_races(&rt, rt.alloc(), &log, &[(3, 2), (4, 3)])
-}
-
-#[test]
-fn an_inner_release_does_not_end_the_section(rt: HostRuntime) -> Result<(), Fail> {
-    let log = [
-        fork(0, 1),
-        acquire(0, L),
-        acquire(0, L),
-        release(0, L),
-        store(0, X),
-        release(0, L),
-        acquire(1, L),
-        store(1, X),
-    ];
-    expect_races(&rt, rt.alloc(), &log, &[])
+fn each_log_has_its_races(rt: HostRuntime) -> Result<(), Fail> {
+    for (number, worked) in LOGS.iter().enumerate() {
+        expect(&rt, rt.alloc(), worked, number)?;
+    }
+    Ok(())
 }
