@@ -1,5 +1,5 @@
 //! Gates that hold lines back.
-use crate::scripts::run;
+use crate::scripts::{Answer, expect_answer};
 use event_core::{LockId, Op, ThreadId, VarId};
 use script_drive::{DriveFault, Gate};
 use std::sync::atomic::{AtomicBool, AtomicU64, AtomicUsize, Ordering};
@@ -48,11 +48,19 @@ fn workers_overlap(rt: HostRuntime) {
             second: AtomicBool::new(false),
             third: AtomicBool::new(false),
         };
-        let closed = run(&rt, rt.alloc(), b"m fork a\nm r x\na r y\n", &gate, 1).expect(
-            &rt, "a log",
+        let answer = Answer::Logs {
+            events: 3,
+            races: 0,
+            first: &[(0, Op::Fork(ThreadId(1)), 0, 0)],
+        };
+        expect_answer(
+            &rt,
+            rt.alloc(),
+            "m fork a\nm r x\na r y\n",
+            &gate,
+            1,
+            &answer,
         );
-        assert_eq!(&rt; closed.len(), 3);
-        assert!(&rt; closed.verdicts().races().is_empty());
     }
 }
 
@@ -76,15 +84,12 @@ fn a_shut_gate_is_asked_as_often_as_patience_allows(rt: HostRuntime) {
     let gate = Shut {
         asked: AtomicU64::new(0),
     };
-    let Err(fault) = run(&rt, rt.alloc(), b"m r x\n", &gate, 3) else {
-        panic!(&rt; "the gate is shut")
-    };
     let stuck = DriveFault::Stuck {
         thread: ThreadId(0),
         line: 1,
     };
-    assert_eq!(&rt; fault, stuck);
-    assert_eq!(&rt; gate.asked.load(Ordering::SeqCst), 3);
+    expect_answer(&rt, rt.alloc(), "m r x\n", &gate, 3, &Answer::Faults(stuck));
+    assert!(&rt; gate.asked.load(Ordering::SeqCst) == 3);
 }
 
 /// Lets each line go ahead once those before it in the order were done.
@@ -106,28 +111,61 @@ impl Gate for InOrder {
 }
 
 /// A section of the main thread and one of its child, which both store.
-const SECTIONS: &[u8] =
-    b"m fork a\nm acq l\nm w x 1\nm rel l\na acq l\na w x 2\na rel l\nm join a\nm r x\n";
+const SECTIONS: &str =
+    "m fork a\nm acq l\nm w x 1\nm rel l\na acq l\na w x 2\na rel l\nm join a\nm r x\n";
 
-static MAIN_FIRST: [u64; 9] = [1, 2, 3, 4, 5, 6, 7, 8, 9];
+/// In which order the lines of the sections are run, and the answer.
+struct Order {
+    lines: &'static [u64],
+    answer: Answer,
+}
 
-static CHILD_FIRST: [u64; 9] = [1, 5, 6, 7, 2, 3, 4, 8, 9];
+const ORDERS: &[Order] = &[
+    Order {
+        lines: &[1, 2, 3, 4, 5, 6, 7, 8, 9],
+        answer: Answer::Logs {
+            events: 9,
+            races: 0,
+            first: &[
+                (0, Op::Fork(ThreadId(1)), 0, 0),
+                (0, Op::Acquire(LockId(0)), 1, 0),
+                (0, Op::Store(VarId(0)), 2, 1),
+                (0, Op::Release(LockId(0)), 3, 0),
+                (1, Op::Acquire(LockId(0)), 4, 0),
+                (1, Op::Store(VarId(0)), 5, 2),
+                (1, Op::Release(LockId(0)), 6, 0),
+                (0, Op::Join(ThreadId(1)), 7, 0),
+                (0, Op::Load(VarId(0)), 8, 2),
+            ],
+        },
+    },
+    Order {
+        lines: &[1, 5, 6, 7, 2, 3, 4, 8, 9],
+        answer: Answer::Logs {
+            events: 9,
+            races: 0,
+            first: &[
+                (0, Op::Fork(ThreadId(1)), 0, 0),
+                (1, Op::Acquire(LockId(0)), 4, 0),
+                (1, Op::Store(VarId(0)), 5, 2),
+                (1, Op::Release(LockId(0)), 6, 0),
+                (0, Op::Acquire(LockId(0)), 1, 0),
+                (0, Op::Store(VarId(0)), 2, 1),
+                (0, Op::Release(LockId(0)), 3, 0),
+                (0, Op::Join(ThreadId(1)), 7, 0),
+                (0, Op::Load(VarId(0)), 8, 1),
+            ],
+        },
+    },
+];
 
 #[test]
 fn a_gate_decides_which_section_comes_first(rt: HostRuntime) {
-    for (lines, first, last) in [(&MAIN_FIRST, 0, 2), (&CHILD_FIRST, 1, 1)] {
+    for order in ORDERS {
         let gate = InOrder {
-            lines: lines.as_slice(),
+            lines: order.lines,
             done: AtomicUsize::new(0),
         };
-        let closed = run(&rt, rt.alloc(), SECTIONS, &gate, 1_000_000).expect(&rt, "a log");
-        assert_eq!(&rt; closed.len(), 9);
-        assert!(&rt; closed.verdicts().races().is_empty());
-        let acquire = closed.log().get(1).expect(&rt, "an event");
-        assert_eq!(&rt; acquire.op, Op::Acquire(LockId(0)));
-        assert_eq!(&rt; acquire.thread, ThreadId(first));
-        let load = closed.log().get(8).expect(&rt, "an event");
-        assert_eq!(&rt; load.op, Op::Load(VarId(0)));
-        assert_eq!(&rt; load.value, last);
+        expect_answer(&rt, rt.alloc(), SECTIONS, &gate, 1_000_000, &order.answer);
     }
 }

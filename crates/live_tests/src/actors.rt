@@ -108,9 +108,12 @@ impl<N: Name> Actor<N> {
         child: u32,
     ) -> (Actor<N>, Actor<N>, Reply) {
         let (pass, forked) = shared.fork(rt, self.pass, ThreadId(child), SiteId(0));
-        let (pass, forked) = match forked {
-            Err(Refusal::OutOfMemory) => shared.fork(rt, pass, ThreadId(child), SiteId(0)),
-            forked => (pass, forked),
+        let is_short = matches!(forked, Err(Refusal::OutOfMemory));
+        let (pass, forked) = if is_short {
+            drop(forked);
+            shared.fork(rt, pass, ThreadId(child), SiteId(0))
+        } else {
+            (pass, forked)
         };
         let (born, reply) = forked.expect(rt, "a fork");
         (Actor { pass }, Actor { pass: born }, reply)

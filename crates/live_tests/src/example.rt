@@ -42,11 +42,12 @@ fn run<R: Threads + Wait + Abort + Sync>(rt: &R, alloc: Global) -> Result<Closed
 
 #[test]
 fn of_two_stores_at_once_the_later_races(rt: HostRuntime) {
-    let closed = match run(&rt, rt.alloc()) {
-        Err(Refusal::OutOfMemory) => run(&rt, rt.alloc()),
-        made => made,
-    };
+    let closed = run(&rt, rt.alloc()).or_else(|refusal| match refusal {
+        Refusal::OutOfMemory => run(&rt, rt.alloc()),
+        refusal => Err(refusal),
+    });
     let closed = closed.expect(&rt, "a log");
-    assert_eq!(rt; closed.len(), 4);
+    assert!(rt; closed.len() == 4);
     assert!(rt; closed.verdicts().races() == [Race { event: 2, with: 1 }].as_slice());
+    drop(closed);
 }

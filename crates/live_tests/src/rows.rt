@@ -36,86 +36,124 @@ enum Turn {
     DropChild,
 }
 
-/// Thread 1 may acquire the lock only after thread 0 released it.
-static TWO_ACQUIRE: [Turn; 9] = [
-    Fork(0),
-    Main(Accepted(Acquire(0), 1, 0, Clear)),
-    Child(Refused(Acquire(0), Refusal::Held { by: ThreadId(0) })),
-    Child(Found(2)),
-    Child(Refused(Release(0), Refusal::NotHolder)),
-    Main(Found(2)),
-    Main(Accepted(Release(0), 2, 0, Clear)),
-    Child(Accepted(Acquire(0), 3, 0, Clear)),
-    Main(Found(4)),
-];
+/// The room for events, what the two threads do, how many events the log then has, and its races.
+struct Case {
+    room: u64,
+    turns: &'static [Turn],
+    events: u64,
+    races: &'static [Race],
+}
 
-static STORE_THEN_LOAD: [Turn; 7] = [
-    Main(Accepted(Store(0, 7), 0, 7, Clear)),
-    Fork(1),
-    Child(Accepted(Store(0, 9), 2, 9, Clear)),
-    Main(Found(3)),
-    Main(Accepted(Load(0), 3, 9, Racy(2))),
-    Join(4),
-    Main(Accepted(Load(0), 5, 9, Clear)),
-];
-
-static LOAD_THEN_STORE: [Turn; 6] = [
-    Main(Accepted(Store(0, 7), 0, 7, Clear)),
-    Fork(1),
-    Main(Accepted(Load(0), 2, 7, Clear)),
-    Child(Accepted(Store(0, 9), 3, 9, Racy(2))),
-    Join(4),
-    Main(Accepted(Load(0), 5, 9, Clear)),
-];
-
-/// The sections on the inner lock order those on the outer one.
-static NESTED_SECTIONS: [Turn; 13] = [
-    Fork(0),
-    Main(Accepted(Acquire(0), 1, 0, Clear)),
-    Main(Accepted(Acquire(1), 2, 0, Clear)),
-    Main(Accepted(Store(0, 3), 3, 3, Clear)),
-    Main(Accepted(Release(1), 4, 0, Clear)),
-    Main(Accepted(Store(1, 4), 5, 4, Clear)),
-    Main(Accepted(Release(0), 6, 0, Clear)),
-    Child(Accepted(Acquire(1), 7, 0, Clear)),
-    Child(Accepted(Load(0), 8, 3, Clear)),
-    Child(Accepted(Release(1), 9, 0, Clear)),
-    Child(Accepted(Acquire(0), 10, 0, Clear)),
-    Child(Accepted(Release(0), 11, 0, Clear)),
-    Child(Accepted(Load(1), 12, 4, Clear)),
-];
-
-/// Thread 1 is never joined. Its pass is dropped, and it keeps its lock.
-static STAYS_HELD: [Turn; 4] = [
-    Fork(0),
-    Child(Accepted(Acquire(0), 1, 0, Clear)),
-    DropChild,
-    Main(Refused(Acquire(0), Refusal::Held { by: ThreadId(1) })),
-];
-
-static TWO_SWAP: [Turn; 6] = [
-    Fork(0),
-    Child(Swapped(
-        4,
-        Ok(SwapReply {
-            index: 1,
-            value: 0,
-            load: Clear,
-            store: Clear,
-        }),
-    )),
-    Main(Found(3)),
-    Main(Swapped(
-        5,
-        Ok(SwapReply {
-            index: 3,
-            value: 4,
-            load: Racy(2),
-            store: Racy(2),
-        }),
-    )),
-    Main(Swapped(6, Err(Refusal::LogFull))),
-    Main(Found(5)),
+const CASES: &[Case] = &[
+    // Thread 1 may acquire the lock only after thread 0 released it.
+    Case {
+        room: 16,
+        turns: &[
+            Fork(0),
+            Main(Accepted(Acquire(0), 1, 0, Clear)),
+            Child(Refused(Acquire(0), Refusal::Held { by: ThreadId(0) })),
+            Child(Found(2)),
+            Child(Refused(Release(0), Refusal::NotHolder)),
+            Main(Found(2)),
+            Main(Accepted(Release(0), 2, 0, Clear)),
+            Child(Accepted(Acquire(0), 3, 0, Clear)),
+            Main(Found(4)),
+        ],
+        events: 4,
+        races: &[],
+    },
+    // Of a store and a load the later races.
+    Case {
+        room: 16,
+        turns: &[
+            Main(Accepted(Store(0, 7), 0, 7, Clear)),
+            Fork(1),
+            Child(Accepted(Store(0, 9), 2, 9, Clear)),
+            Main(Found(3)),
+            Main(Accepted(Load(0), 3, 9, Racy(2))),
+            Join(4),
+            Main(Accepted(Load(0), 5, 9, Clear)),
+        ],
+        events: 6,
+        races: &[Race { event: 3, with: 2 }],
+    },
+    // And so of a load and a store.
+    Case {
+        room: 16,
+        turns: &[
+            Main(Accepted(Store(0, 7), 0, 7, Clear)),
+            Fork(1),
+            Main(Accepted(Load(0), 2, 7, Clear)),
+            Child(Accepted(Store(0, 9), 3, 9, Racy(2))),
+            Join(4),
+            Main(Accepted(Load(0), 5, 9, Clear)),
+        ],
+        events: 6,
+        races: &[Race { event: 3, with: 2 }],
+    },
+    // The sections on the inner lock order those on the outer one. A release takes no memory.
+    Case {
+        room: 64,
+        turns: &[
+            Fork(0),
+            Main(Accepted(Acquire(0), 1, 0, Clear)),
+            Main(Accepted(Acquire(1), 2, 0, Clear)),
+            Main(Accepted(Store(0, 3), 3, 3, Clear)),
+            Main(Accepted(Release(1), 4, 0, Clear)),
+            Main(Accepted(Store(1, 4), 5, 4, Clear)),
+            Main(Accepted(Release(0), 6, 0, Clear)),
+            Child(Accepted(Acquire(1), 7, 0, Clear)),
+            Child(Accepted(Load(0), 8, 3, Clear)),
+            Child(Accepted(Release(1), 9, 0, Clear)),
+            Child(Accepted(Acquire(0), 10, 0, Clear)),
+            Child(Accepted(Release(0), 11, 0, Clear)),
+            Child(Accepted(Load(1), 12, 4, Clear)),
+        ],
+        events: 13,
+        races: &[],
+    },
+    // Thread 1 is never joined. Its pass is dropped, and it keeps its lock.
+    Case {
+        room: 16,
+        turns: &[
+            Fork(0),
+            Child(Accepted(Acquire(0), 1, 0, Clear)),
+            DropChild,
+            Main(Refused(Acquire(0), Refusal::Held { by: ThreadId(1) })),
+        ],
+        events: 2,
+        races: &[],
+    },
+    // A swap is seen whole, and has room for both of its events or for none.
+    Case {
+        room: 5,
+        turns: &[
+            Fork(0),
+            Child(Swapped(
+                4,
+                Ok(SwapReply {
+                    index: 1,
+                    value: 0,
+                    load: Clear,
+                    store: Clear,
+                }),
+            )),
+            Main(Found(3)),
+            Main(Swapped(
+                5,
+                Ok(SwapReply {
+                    index: 3,
+                    value: 4,
+                    load: Racy(2),
+                    store: Racy(2),
+                }),
+            )),
+            Main(Swapped(6, Err(Refusal::LogFull))),
+            Main(Found(5)),
+        ],
+        events: 5,
+        races: &[Race { event: 3, with: 2 }, Race { event: 4, with: 2 }],
+    },
 ];
 
 fn take<N: Name, R: Wait + Abort>(
@@ -127,29 +165,27 @@ fn take<N: Name, R: Wait + Abort>(
     match deed {
         Accepted(ask, index, value, verdict) => {
             let (actor, answer) = actor.make(rt, shared, ask, 0);
-            assert_eq!(rt;
-                answer,
-                Ok(Reply {
-                    index,
-                    value,
-                    verdict
-                })
-            );
+            let reply = Reply {
+                index,
+                value,
+                verdict,
+            };
+            assert!(rt; answer == Ok(reply));
             actor
         }
         Refused(ask, refusal) => {
             let (actor, answer) = actor.make(rt, shared, ask, 0);
-            assert_eq!(rt; answer, Err(refusal));
+            assert!(rt; answer == Err(refusal));
             actor
         }
         Swapped(value, wanted) => {
             let (actor, answer) = actor.swap(rt, shared, 0, value, 0);
-            assert_eq!(rt; answer, wanted);
+            assert!(rt; answer == wanted);
             actor
         }
         Found(wanted) => {
             let (actor, found) = actor.look(shared);
-            assert_eq!(rt; found, wanted);
+            assert!(rt; found == wanted);
             actor
         }
     }
@@ -165,7 +201,7 @@ fn fork<N: Name, R: Wait + Abort>(
     index: u64,
 ) -> Both<N> {
     let (main, child, reply) = main.fork(rt, shared, 1);
-    assert_eq!(rt; reply.index, index);
+    assert!(rt; reply.index == index);
     (main, Some(child))
 }
 
@@ -178,7 +214,7 @@ fn join<N: Name, R: Wait + Abort>(
 ) -> Both<N> {
     let (main, child) = main.meet(shared, child);
     let (main, reply) = main.join(rt, shared, child);
-    assert_eq!(rt; reply.index, index);
+    assert!(rt; reply.index == index);
     (main, None)
 }
 
@@ -214,47 +250,35 @@ fn take_turns<N: Name, R: Wait + Abort>(rt: &R, unnamed: Unnamed, turns: &[Turn]
     for turn in turns {
         both = take_turn(rt, &shared, both, *turn);
     }
-    both.0.close(shared)
+    let (main, child) = both;
+    drop(child);
+    main.close(shared)
 }
 
-/// Two threads, two locks, two variables and so many events.
-fn expect_turns<R: Wait + Abort>(rt: &R, alloc: Global, events: u64, turns: &[Turn]) -> Closed {
-    let limits = Limits::new(2, 2, 2, events, Roots::OnlyMain).expect(rt, "limits");
-    let unnamed = match Unnamed::new(alloc, limits) {
-        Err(StartFault::NoRoom) => Unnamed::new(alloc, limits),
-        made => made,
-    };
-    take_turns::<Brand, _>(rt, unnamed.expect(rt, "a monitor"), turns)
+/// The log has the events and the races of the case.
+fn expect_closed<R: Abort>(rt: &R, closed: &Closed, case: &Case) {
+    assert!(rt; closed.len() == case.events && closed.log().len() == case.events);
+    assert!(rt; closed.verdicts().races() == case.races);
+    for race in case.races {
+        assert!(rt; race.event < closed.len());
+        assert!(rt; closed.verdict_at(race.event) == Racy(race.with));
+    }
 }
 
-#[test]
-fn a_held_lock_is_refused_until_it_is_released(rt: HostRuntime) {
-    let closed = expect_turns(&rt, rt.alloc(), 16, &TWO_ACQUIRE);
-    assert!(rt; closed.len() == 4 && closed.log().len() == 4);
-}
-
-#[test]
-fn of_two_accesses_the_later_races(rt: HostRuntime) {
-    let first = expect_turns(&rt, rt.alloc(), 16, &STORE_THEN_LOAD);
-    assert!(rt; first.len() > 3 && first.verdict_at(3) == Racy(2));
-    let second = expect_turns(&rt, rt.alloc(), 16, &LOAD_THEN_STORE);
-    assert!(rt; second.verdicts().races() == [Race { event: 3, with: 2 }].as_slice());
+/// Two threads, two locks and two variables.
+fn expect_case<R: Wait + Abort>(rt: &R, alloc: Global, case: &Case) {
+    let limits = Limits::new(2, 2, 2, case.room, Roots::OnlyMain).expect(rt, "limits");
+    let unnamed = Unnamed::new(alloc, limits).or_else(|_| Unnamed::new(alloc, limits));
+    let closed = take_turns::<Brand, _>(rt, unnamed.expect(rt, "a monitor"), case.turns);
+    expect_closed(rt, &closed, case);
+    drop(closed);
 }
 
 #[test]
-fn a_release_takes_no_memory(rt: HostRuntime) {
-    expect_turns(&rt, rt.alloc(), 64, &NESTED_SECTIONS);
-}
-
-#[test]
-fn a_thread_that_is_not_joined_keeps_its_lock(rt: HostRuntime) {
-    let closed = expect_turns(&rt, rt.alloc(), 16, &STAYS_HELD);
-    assert_eq!(rt; closed.len(), 2);
-}
-
-#[test]
-fn a_swap_is_seen_whole(rt: HostRuntime) {
-    expect_turns(&rt, rt.alloc(), 5, &TWO_SWAP);
+fn each_turn_of_two_threads_is_answered_as_its_case_says(rt: HostRuntime) {
+    for case in CASES {
+        expect_case(&rt, rt.alloc(), case);
+    }
 }
 
 #[test]

@@ -1,10 +1,10 @@
 //! Four threads that call the monitor at once.
 //!
-//! Where one of them is refused memory, they are started once more on a monitor of their own.
+//! What is refused memory is made once more.
 ghost use Rattle.std.specs.Prelude.{◌≡◌};
 
 use crate::actors::{Actor, Ask};
-use event_core::{Call, Event, Limits, LockId, Op, Outcome, Roots, ThreadId, VarId};
+use event_core::{Call, Limits, LockId, Log, Op, Outcome, Roots, ThreadId, VarId};
 use live_monitor::{Closed, Shared, Unnamed, start};
 use log_pass::Name;
 use seq_monitor::Monitor;
@@ -12,9 +12,8 @@ use std::alloc::{AllocError, Global};
 use std::marker::Brand;
 use std::process::Abort;
 use std::sync::Wait;
-use std::test::Fail;
 use std::thread;
-use std::thread::{Threads, map_vec};
+use std::thread::{Threads, join};
 
 /// How many rounds each thread makes.
 const ROUNDS: u32 = 50;
@@ -64,83 +63,87 @@ fn acquire<N: Name, R: Wait + Abort>(
     must(rt, shared, actor, Ask::Acquire(0), site)
 }
 
-/// What a thread gives that has made its rounds: its pass, and the values that its swaps read.
-type Made<N> = Result<(Actor<N>, Vec<u64>), AllocError>;
+/// The values that a thread's swaps read.
+type Values = [u64; 50];
 
-/// Makes all rounds, each at a site of its own. The values that it swaps in are no other thread's.
-fn rounds<N: Name, R: Wait + Abort>(
+/// What a thread gives that has made its rounds.
+type Made<N> = (Actor<N>, Values);
+
+/// Makes a round, at a site of its own. It swaps in the value, and gives the one that it read.
+fn make_round<N: Name, R: Wait + Abort>(
     rt: &R,
-    alloc: Global,
     shared: &Shared<N>,
     actor: Actor<N>,
-) -> Made<N> {
+    round: u32,
+    value: u64,
+) -> (Actor<N>, u64) {
+    let loaded = must(rt, shared, actor, Ask::Load(0), round);
+    let stored = must(rt, shared, loaded, Ask::Store(0, 7), round);
+    let inside = acquire(rt, shared, stored, round);
+    let outside = must(rt, shared, inside, Ask::Release(0), round);
+    let (actor, swapped) = outside.swap(rt, shared, 1, value, round);
+    (actor, swapped.expect(rt, "a swap").value)
+}
+
+/// Makes all rounds. The values that it swaps in are no other thread's.
+fn make_rounds<N: Name, R: Wait + Abort>(rt: &R, shared: &Shared<N>, actor: Actor<N>) -> Made<N> {
     let first = (50 * u64::from(actor.number())).saturating_sub(49);
     let mut actor = actor;
-    let mut values = Vec::with_capacity(alloc, 50)?;
-    for round in 0..ROUNDS {
-        let loaded = must(rt, shared, actor, Ask::Load(0), round);
-        let stored = must(rt, shared, loaded, Ask::Store(0, 7), round);
-        let inside = acquire(rt, shared, stored, round);
-        let outside = must(rt, shared, inside, Ask::Release(0), round);
-        let (next, swapped) = outside.swap(rt, shared, 1, first + u64::from(round), round);
-        values.push(swapped.expect(rt, "a swap").value)?;
+    let mut values = [0; 50];
+    for (round, read) in (0u32..).zip(&mut values) {
+        let value = first.saturating_add(u64::from(round));
+        let (next, found) = make_round(rt, shared, actor, round, value);
+        *read = found;
         actor = next;
     }
-    Ok((actor, values))
+    (actor, values)
 }
 
-/// Forks threads 1 to 4.
-fn fork_four<N: Name, R: Wait + Abort>(
+/// Joins the thread, and gives the values that its swaps read.
+fn join_made<N: Name, R: Wait + Abort>(
     rt: &R,
-    alloc: Global,
     shared: &Shared<N>,
     main: Actor<N>,
-) -> Result<(Actor<N>, Vec<Actor<N>>), AllocError> {
-    let mut main = main;
-    let mut children = Vec::with_capacity(alloc, 4)?;
-    for child in 1..5 {
-        let (parent, born, _) = main.fork(rt, shared, child);
-        children.push(born)?;
-        main = parent;
-    }
-    Ok((main, children))
+    made: Made<N>,
+) -> (Actor<N>, Values) {
+    let (child, values) = made;
+    let (main, _) = main.join(rt, shared, child);
+    (main, values)
 }
 
-/// Joins the children, and gives all values that they read.
-fn join_all<N: Name, R: Wait + Abort>(
-    rt: &R,
-    alloc: Global,
-    shared: &Shared<N>,
-    main: Actor<N>,
-    children: Vec<Made<N>>,
-) -> Result<(Actor<N>, Vec<u64>), AllocError> {
-    let mut main = main;
-    let mut values = Vec::new(alloc);
-    for made in children {
-        let (child, read) = made?;
-        values.extend_from_slice(&read)?;
-        let (parent, _) = main.join(rt, shared, child);
-        main = parent;
-    }
-    Ok((main, values))
-}
-
-/// The closed log of threads 1 to 4, and the values that their swaps read with the last value.
+/// The closed log of threads 1 to 4, the values that their swaps read, and the last value.
 fn four_threads<N: Name + Send + Sync, R: Threads + Wait + Abort + Sync>(
     rt: &R,
-    alloc: Global,
     unnamed: Unnamed,
-) -> Result<(Closed, Vec<u64>), AllocError>
+) -> (Closed, [Values; 4], u64)
     requires table { unnamed.table ≡ N.table }
     requires limits { unnamed.limits ≡ N.limits }
 {
     let (shared, pass) = start::<N>(unnamed);
-    let (main, children) = fork_four(rt, alloc, &shared, Actor::new(pass))?;
-    let done = map_vec(rt, children, &|child| rounds(rt, alloc, &shared, child))?;
-    let (main, mut values) = join_all(rt, alloc, &shared, main, done)?;
+    let (main, first, _) = Actor::new(pass).fork(rt, &shared, 1);
+    let (main, second, _) = main.fork(rt, &shared, 2);
+    let (main, third, _) = main.fork(rt, &shared, 3);
+    let (main, fourth, _) = main.fork(rt, &shared, 4);
+    let ((first, second), (third, fourth)) = join(
+        rt,
+        || join(
+            rt,
+            || make_rounds(rt, &shared, first),
+            || make_rounds(rt, &shared, second),
+        ),
+        || join(
+            rt,
+            || make_rounds(rt, &shared, third),
+            || make_rounds(rt, &shared, fourth),
+        ),
+    );
+    let (main, first) = join_made(rt, &shared, main, first);
+    let (main, second) = join_made(rt, &shared, main, second);
+    let (main, third) = join_made(rt, &shared, main, third);
+    let (main, fourth) = join_made(rt, &shared, main, fourth);
     let (main, last) = main.make(rt, &shared, Ask::Load(1), 0);
-    values.push(last.expect(rt, "a load").value)?;
-    Ok((main.close(shared), values))
+    let last = last.expect(rt, "a load").value;
+    (main.close(shared), [first, second, third, fourth], last)
 }
 
 /// Five threads, one lock and two variables.
@@ -148,86 +151,101 @@ fn limits<R: Abort>(rt: &R) -> Limits {
     Limits::new(5, 1, 2, 2048, Roots::OnlyMain).expect(rt, "limits")
 }
 
-fn run<R: Threads + Wait + Abort + Sync>(
-    rt: &R,
-    alloc: Global,
-) -> Result<(Closed, Vec<u64>), AllocError> {
-    let unnamed = Unnamed::new(alloc, limits(rt)).map_err(|_| AllocError)?;
-    four_threads::<Brand, _>(rt, alloc, unnamed)
+fn run<R: Threads + Wait + Abort + Sync>(rt: &R, alloc: Global) -> (Closed, [Values; 4], u64) {
+    let limits = limits(rt);
+    let unnamed = Unnamed::new(alloc, limits).or_else(|_| Unnamed::new(alloc, limits));
+    four_threads::<Brand, _>(rt, unnamed.expect(rt, "a monitor"))
 }
 
-/// All events of the log, in order.
-fn events_of(alloc: Global, closed: &Closed) -> Result<Vec<Event>, AllocError> {
-    let mut events = Vec::new(alloc);
-    for index in 0..closed.len() {
-        if let Some(event) = closed.log().get(index) {
-            events.push(event)?;
+/// The calls whose events the log has, in order.
+fn calls_of(alloc: Global, log: &Log) -> Result<Vec<Call>, AllocError> {
+    let mut calls = Vec::new(alloc);
+    for index in 0..log.len() {
+        if let Some(event) = log.get(index) {
+            calls.push(Call {
+                thread: event.thread,
+                op: event.op,
+                site: event.site,
+                arg: event.value,
+            })?;
         }
     }
-    Ok(events)
+    Ok(calls)
 }
 
-/// The events of the thread are its rounds, each once and in order.
-fn expect_rounds<R: Abort>(rt: &R, events: &[Event], thread: ThreadId) {
-    let mut own = events.iter().filter(|event| event.thread == thread);
+/// The calls of the thread are its rounds, each once and in order.
+fn expect_rounds<R: Abort>(rt: &R, calls: &[Call], thread: ThreadId) {
+    let mut own = calls.iter().filter(|call| call.thread == thread);
     for round in 0..ROUNDS {
         for op in ROUND {
-            let event = own.next().expect(rt, "an event");
-            assert_eq!(rt; event.op, op);
-            assert_eq!(rt; event.site.0, round);
+            let call = own.next().expect(rt, "a call");
+            assert!(rt; call.op == op && call.site.0 == round);
         }
     }
     assert!(rt; own.next().is_none());
 }
 
-/// The same calls, taken by a sequential monitor, are accepted with the same verdicts.
-fn expect_replayed<R: Abort>(
-    rt: &R,
-    alloc: Global,
-    closed: &Closed,
-    events: &[Event],
-) -> Result<(), AllocError> {
-    let mut calls = Vec::with_capacity(alloc, events.len())?;
-    for event in events {
-        calls.push(Call {
-            thread: event.thread,
-            op: event.op,
-            site: event.site,
-            arg: event.value,
-        })?;
-    }
-    let mut monitor = Monitor::new(alloc, &limits(rt)).map_err(|_| AllocError)?;
-    let mut outcomes = Vec::new(alloc);
-    monitor.run(&calls, &mut outcomes).map_err(|_| AllocError)?;
-    for outcome in &outcomes {
-        assert!(rt; matches!(outcome, Outcome::Accepted(_)));
-    }
-    assert_eq!(rt; monitor.verdicts().len(), closed.verdicts().len());
-    assert!(rt; monitor.verdicts().races() == closed.verdicts().races());
-    Ok(())
+/// The value is among 201, and was not read before.
+fn note<R: Abort>(rt: &R, is_read: &mut [bool; 201], value: u64) {
+    let place = value as usize;
+    assert!(rt; place < 201 && !is_read[place]);
+    is_read[place] = true;
 }
 
-fn check_run<R: Threads + Wait + Abort + Sync>(rt: &R, alloc: Global) -> Result<(), AllocError> {
-    let (closed, mut values) = run(rt, alloc)?;
-    let events = events_of(alloc, &closed)?;
-    assert_eq!(rt; events.len(), 4 * 300 + 9);
+/// Of 201 values none was read twice, so each was read once.
+fn expect_each_once<R: Abort>(rt: &R, values: &[Values; 4], last: u64) {
+    let mut is_read = [false; 201];
+    for own in values.iter() {
+        for value in own.iter() {
+            note(rt, &mut is_read, *value);
+        }
+    }
+    note(rt, &mut is_read, last);
+}
+
+/// The monitor has the verdicts of the closed log, and accepted each call.
+fn expect_same<R: Abort>(rt: &R, monitor: &Monitor, outcomes: &[Outcome], closed: &Closed) {
+    for outcome in outcomes {
+        assert!(rt; matches!(outcome, Outcome::Accepted(_)));
+    }
+    assert!(rt; monitor.verdicts().len() == closed.verdicts().len());
+    assert!(rt; monitor.verdicts().races() == closed.verdicts().races());
+}
+
+/// The same calls, taken by a sequential monitor, are accepted with the same verdicts. Whether there was
+/// memory for it.
+fn replays<R: Abort>(rt: &R, alloc: Global, closed: &Closed, calls: &[Call]) -> bool {
+    let Ok(mut monitor) = Monitor::new(alloc, &limits(rt)) else {
+        return false;
+    };
+    let mut outcomes = Vec::new(alloc);
+    let is_run = monitor.run(calls, &mut outcomes).is_ok();
+    if is_run {
+        assert!(rt; outcomes.len() == calls.len());
+        expect_same(rt, &monitor, &outcomes, closed);
+    }
+    drop(monitor);
+    drop(outcomes);
+    is_run
+}
+
+fn expect_log<R: Abort>(rt: &R, alloc: Global, closed: &Closed) {
+    let calls = calls_of(alloc, closed.log()).or_else(|_| calls_of(alloc, closed.log()));
+    let calls = calls.expect(rt, "the calls");
+    assert!(rt; calls.len() == 4 * 300 + 9);
     for thread in 1..5 {
-        expect_rounds(rt, &events, ThreadId(thread));
+        expect_rounds(rt, &calls, ThreadId(thread));
     }
-    values.sort()?;
-    for (number, value) in (0u64..201).zip(&values) {
-        assert_eq!(rt; *value, number);
-    }
-    assert_eq!(rt; values.len(), 201);
-    expect_replayed(rt, alloc, &closed, &events)
+    assert!(rt; replays(rt, alloc, closed, &calls) || replays(rt, alloc, closed, &calls));
+    drop(calls);
 }
 
 /// The closed log has each thread's calls in order, with the verdicts of a sequential monitor. And of the
 /// values that swaps store, and the first, each comes out once.
 #[test]
-fn four_threads_share_one_log(rt: HostRuntime) -> Result<(), Fail> {
-    if check_run(&rt, rt.alloc()).is_err() {
-        check_run(&rt, rt.alloc())?;
-    }
-    Ok(())
+fn four_threads_share_one_log(rt: HostRuntime) {
+    let (closed, values, last) = run(&rt, rt.alloc());
+    expect_log(&rt, rt.alloc(), &closed);
+    expect_each_once(&rt, &values, last);
+    drop(closed);
 }

@@ -1,4 +1,4 @@
-use Rattle.live_tests.proofs.rows.expect_turns.Given as goal
+use Rattle.live_tests.proofs.rows.expect_case.Given as goal
 
 -- the monitor that was just made
 abbrev pub ghosts-take_turns : goal.ghosts-take_turns
