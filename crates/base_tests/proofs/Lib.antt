@@ -1,4 +1,1 @@
-pub mod FewJoins
 pub mod QuietLogs
-pub mod WorkedLogs
-pub mod OneSection
