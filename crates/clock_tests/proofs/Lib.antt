@@ -1,3 +1,3 @@
 pub mod FewJoins
 pub mod OneSection
-pub mod WorkedLogs
+pub mod OneLog

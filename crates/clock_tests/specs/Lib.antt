@@ -1,1 +1,1 @@
-pub mod WorkedLogs
+pub mod OneLog
