@@ -42,7 +42,7 @@ no_events m p memory memory_limits clocks none width clock_limits = record {
 }
 
 -- the event of the call
-pub is_event : (log : List Event) (c : Call) (v : ℕ) (e : Event)
+is_event : (log : List Event) (c : Call) (v : ℕ) (e : Event)
     → e ≡ record { thread = c.thread; op = c.op; site = c.site; value = v } → v ≡ value_of log c.op c.arg
     → e ≡ event_of log c
 is_event log c v e is value =
@@ -54,14 +54,26 @@ pub record IsNext (log : List Event) (e : Event) (m : Tables) : Type 0 where
   pub stands : MemoryStandsFor m (log ++ e ∷ [])
   pub limits : m.limits ≡ small
 
-pub next_event : (log : List Event) (c : Call) (e : Event) (m : Tables)
+next_event : (log : List Event) (c : Call) (e : Event) (m : Tables)
     → MemoryStandsFor m (log ++ event_of log c ∷ []) → m.limits ≡ small → e ≡ event_of log c → IsNext log e m
 next_event log c e m stands limits is = record {
   stands = subst (λ (f : Event). MemoryStandsFor m (log ++ f ∷ [])) (sym is) stands;
   limits = limits;
 }
 
--- it is legal
+-- a memory that permits a call performs it
+pub next_call : (old mid new : Tables) (p : Parts) (c : Call) (v : ℕ) (e : Event) (r : StandForOneLog old p)
+    → ((log : List Event) → MemoryStandsFor old log → MemoryStandsFor mid log) → mid.limits ≡ old.limits
+    → ((log : List Event) → MemoryStandsFor mid log → v ≡ value_of log c.op c.arg)
+    → ((log : List Event) → MemoryStandsFor mid log → MemoryStandsFor new (log ++ event_of log c ∷ []))
+    → new.limits ≡ mid.limits → e ≡ record { thread = c.thread; op = c.op; site = c.site; value = v }
+    → IsNext r.log e new
+next_call old mid new p c v e r permitted kept value performed same is =
+    let stands = permitted r.log r.memory in
+    next_event r.log c e new (performed r.log stands) (same ∙ (kept ∙ r.memory_limits))
+    (is_event r.log c v e is (value r.log stands))
+
+-- its event is legal
 legal : (log : List Event) (e : Event) (m : Tables) → IsNext log e m → WellFormed small (log ++ e ∷ [])
 legal log e m next = subst (λ (k : Limits). WellFormed k (log ++ e ∷ [])) next.limits next.stands.well_formed
 

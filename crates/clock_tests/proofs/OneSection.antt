@@ -1,44 +1,11 @@
--- What the tests of closed sections meet the conditions by.
-use Rattle.std.proofs.Common.{◌≡◌, ℕ, ◌≤◌, Bool, cond, List, [], ◌∷◌, ◌++◌}
-use Rattle.std.proofs.Common.{length}
-use Rattle.std.proofs.Common.{refl, sym, ap, subst, ◌∙◌, arith}
-use Rattle.std.proofs.lemmas.Bool.{eq-eqb}
-use Rattle.event_core.specs.declared.ids.ThreadId.{ThreadId}
-use Rattle.event_core.specs.declared.ids.VarId.{VarId}
-use Rattle.event_core.specs.declared.ids.SiteId.{SiteId}
-use Rattle.event_core.specs.declared.events.Event.{Event}
-use Rattle.event_core.specs.declared.events.Op.TheVariants.{Load}
-use Rattle.event_core.specs.Closed.{Closed, Has, first, later, is_counted}
-use Rattle.event_core.specs.Rows.{bump, no_clock, with_row}
+-- What the tests of closed sections meet the conditions by: on each lock at most one section is closed.
+use Rattle.std.proofs.Common.{◌≡◌, ℕ, suc, ◌+◌, ◌-◌, ◌<◌, ◌≤◌, Bool, true, false, cond, List, [], ◌∷◌, ◌++◌}
+use Rattle.std.proofs.Common.{length, nat_eq, sym, ap, subst, ◌∙◌, arith}
+use Rattle.event_core.specs.Closed.{Closed, Has, first, later, is_counted, number_counted}
+use Rattle.event_core.specs.Rows.{with_row}
 use Rattle.event_core.proofs.Growing.{row_same}
-use Rattle.hb_clocks.specs.State.{empty, after, po_row, hb_row}
-use Rattle.hb_clocks.specs.Stands.{IsFew}
+use Rattle.lock_queues.specs.Sections.{before}
 use Rattle.lock_queues.specs.Searched.{CountsEarlier, IsAboveAll}
-
-pub few_empty : IsFew empty
-few_empty = record {
-  po = λ t u. omega arith;
-  hb = λ t u. omega arith;
-  lock = λ l u. omega arith;
-  depth = λ t l. omega arith;
-}
-
--- the first event of a thread has position 1
-pub one_load : (t : ThreadId) (x : VarId) (s : SiteId) (v : ℕ)
-    → let e : Event = record { thread = t; op = Load x; site = s; value = v } in (after e empty).po t.0 t.0
-    ≡ 1
-one_load t x s v =
-    let e : Event = record { thread = t; op = Load x; site = s; value = v } in
-    let here : (after e empty).po t.0 ≡ po_row e empty = row_same t.0 (po_row e empty) empty.po in
-    ap (λ (f : ℕ → ℕ). f t.0) here ∙ ap (λ (b : Bool). cond {A = ℕ} b 1 0) (eq-eqb t.0 t.0 refl)
-
--- and its clock counts it alone
-pub first_clock : (t : ThreadId) (x : VarId) (s : SiteId) (v : ℕ)
-    → let e : Event = record { thread = t; op = Load x; site = s; value = v } in (after e empty).hb.thread t.0
-    ≡ bump t.0 no_clock
-first_clock t x s v =
-    let e : Event = record { thread = t; op = Load x; site = s; value = v } in
-    row_same t.0 (hb_row e empty) empty.hb.thread
 
 -- a table that was written at a thread and a lock
 pub written : {A : Type 0} (f g : ℕ → ℕ → A) (t l : ℕ) (x : A) → f ≡ with_row t (with_row l x (g t)) g
@@ -47,25 +14,47 @@ written f g t l x e =
     ap (λ h. h t l) e ∙ ap (λ h. h l) (row_same t (with_row l x (g t)) g) ∙ row_same l x (g t)
 
 -- no section is above a clock where there is none
-pub above_none : (c : ℕ → ℕ) (qs : List Closed) → qs ≡ [] → IsAboveAll c qs
-above_none c qs e q u h = none (subst (Has q) e h)
-  where
-    none : Has q [] → q.release u ≤ c u
-    none h = elim h [ ]
+pub above_none : (c : ℕ → ℕ) (qs : List Closed) → length qs ≡ 0 → IsAboveAll c qs
+above_none c [] e q u h = elim h [ ]
+above_none c (p ∷ qs) e q u h = absurd (omega arith)
 
 -- one section is earlier than itself alone
-pub earlier_one : (c : ℕ → ℕ) (qs : List Closed) → length qs ≡ 1 → CountsEarlier c qs
-earlier_one c [] e p q hp hq le is = absurd (omega arith)
-earlier_one c (x ∷ y ∷ qs) e p q hp hq le is = absurd (omega arith)
-earlier_one c (x ∷ []) e p q hp hq le is = ap (is_counted c) (only p hp ∙ sym (only q hq)) ∙ is
+pub earlier_one : (c : ℕ → ℕ) (qs : List Closed) → length qs ≤ 1 → CountsEarlier c qs
+earlier_one c [] few p q hp hq le is = elim hp [ ]
+earlier_one c (x ∷ y ∷ qs) few p q hp hq le is = absurd (omega arith)
+earlier_one c (x ∷ []) few p q hp hq le is = ap (is_counted c) (only p hp ∙ sym (only q hq)) ∙ is
   where
     only : (r : Closed) → Has r (x ∷ []) → r ≡ x
     only r (first b bs same) = same
     only r (later b bs h) = elim h [ ]
 
--- the first section that is closed is one
-pub one_closed : (f g : ℕ → List Closed) (q : Closed) → f ≡ with_row 0 (g 0 ++ q ∷ []) g → g 0 ≡ []
-    → length (f 0) ≡ 1
-one_closed f g q e none =
-    ap (λ (h : ℕ → List Closed). length (h 0)) e ∙ ap length (row_same 0 (g 0 ++ q ∷ []) g)
-    ∙ ap (λ qs. length (qs ++ q ∷ [])) none
+-- a lock that had none has one then, and the others have what they had
+pub one_closed : (f g : ℕ → List Closed) (l : ℕ) (q : Closed) → f ≡ with_row l (g l ++ q ∷ []) g
+    → length (g l) ≡ 0 → ((m : ℕ) → length (g m) ≤ 1) → (m : ℕ) → length (f m) ≤ 1
+one_closed f g l q e none few m =
+    subst (λ (h : ℕ → List Closed). length (h m) ≤ 1) (sym e) (at (nat_eq m l))
+  where
+    one : (qs : List Closed) → length qs ≡ 0 → length (qs ++ q ∷ []) ≤ 1
+    one [] h = omega arith
+    one (p ∷ qs) h = absurd (omega arith)
+
+    at : (b : Bool) → length (cond b (g l ++ q ∷ []) (g m)) ≤ 1
+    at true = one (g l) none
+    at false = few m
+
+-- just before a release there were fewer events than a log may have
+pub few_before : (t : ℕ) (c : ℕ → ℕ) → ((u : ℕ) → c u ≤ 100) → (u : ℕ) → before t c u < 4294967296
+few_before t c few u = at (nat_eq u t)
+  where
+    at : (b : Bool) → cond b (c t - 1) (c u) < 4294967296
+    at true = let h = few t in omega arith
+    at false = let h = few u in omega arith
+
+-- of the sections no more are counted than there are
+pub counted_few : (c : ℕ → ℕ) (qs : List Closed) → number_counted c qs ≤ length qs
+counted_few c [] = omega arith
+counted_few c (q ∷ qs) = at (is_counted c q) (counted_few c qs)
+  where
+    at : (b : Bool) → number_counted c qs ≤ length qs → cond b 1 0 + number_counted c qs ≤ suc (length qs)
+    at true h = omega arith
+    at false h = omega arith

@@ -217,7 +217,10 @@ impl Counting {
     }
 }
 
-fn event(thread: ThreadId, op: Op) -> Event {
+fn event(thread: ThreadId, op: Op) -> Event
+    ensures thread { result.thread ≡ thread }
+    ensures op { result.op ≡ op }
+{
     Event {
         thread,
         op,

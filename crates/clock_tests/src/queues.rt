@@ -1,181 +1,275 @@
 //! Closed sections: what no clause says, that there can be memory, and that the conditions can be met.
-ghost use Rattle.std.specs.Prelude.{◌≡◌, ◌<◌, ◌≤◌, ◌^◌, [], length, true, IfOk, OnOk};
-ghost use Rattle.event_core.specs.Rows.{bump, no_clock, with_row};
-ghost use Rattle.hb_clocks.specs.Tables.{state_of};
+//!
+//! On each lock at most one section is closed, and at most one release asks for it.
+ghost use Rattle.std.specs.Prelude.{◌≡◌, ℕ, ◌+◌, ◌<◌, ◌≤◌, false, length, IsTrue};
+ghost use Rattle.hb_clocks.specs.Counts.{counts_of};
 ghost use Rattle.lock_queues.specs.Queues.{closed_of, found_of, has_room, SameMeaning};
 
-use event_core::{Event, Limits, LockId, Op, OutOfMemory, Roots, SiteId, ThreadId, VarId};
-use hb_clocks::{Clock, HbClocks, Work};
+use crate::clocks::{Run, event};
+use event_core::{Limits, LockId, Op, Roots, ThreadId, VarId};
+use hb_clocks::{Clock, Mark, Work};
 use lock_queues::Queues;
 use std::alloc::Global;
-use std::test::Fail;
+use std::process::Abort;
 
-const LOCK: LockId = LockId(0);
+const T0: ThreadId = ThreadId(0);
 
-// Clocks that count the one event that there was, of the thread.
-fn count_first(
-    alloc: Global,
-    limits: &Limits,
-    thread: ThreadId,
-) -> Result<(HbClocks, Work), OutOfMemory>
-    requires { thread.0 < limits.now.threads }
-    ensures width { IfOk result (λ made. made.0.width ≡ limits.now.threads) }
-    ensures one { IfOk result (λ made. (state_of made.0).po thread.0 thread.0 ≡ 1) }
-    ensures counts { IfOk result (λ made. (state_of made.0).hb.thread thread.0 ≡ bump thread.0 no_clock) }
-    ensures work { IfOk result (λ made. made.1.comparisons ≡ 0) }
-{
-    let event = Event {
-        thread,
-        op: Op::Load(VarId(0)),
-        site: SiteId(0),
-        value: 0,
-    };
-    let (mut clocks, mut work) = HbClocks::new(alloc, limits)?;
-    clocks.prepare(&event)?;
-    clocks.advance(&event, &mut work);
-    Ok((clocks, work))
+const T1: ThreadId = ThreadId(1);
+
+const L: LockId = LockId(0);
+
+const M: LockId = LockId(1);
+
+/// What is done, or what is found.
+enum Row {
+    /// The thread has one event more.
+    Take(ThreadId),
+    /// Room is made for the thread's next section on the lock.
+    MakeRoom(ThreadId, LockId),
+    /// Whether there is such room.
+    HasRoom(ThreadId, LockId, bool),
+    /// Whether there is such room, once it is made where that takes no memory.
+    SpareRoom(ThreadId, LockId, bool),
+    /// The thread has the first section on the lock, from its latest event on.
+    Close(ThreadId, LockId),
+    /// How many closed sections the lock has.
+    Count(LockId, u32),
+    /// The lock's closed section of the number: its thread, how many events of that thread there were before
+    /// its release, and how many of each.
+    Section(LockId, u32, ThreadId, u32, &'static [u32]),
+    /// What a release of the thread finds on the lock, by the clock of another thread: the section's thread,
+    /// and how many events of that thread there were before its release.
+    Finds(ThreadId, LockId, ThreadId, Option<(ThreadId, u32)>),
 }
 
-// The same. Where a growth is refused, the same call is made again.
-fn count_one(
-    alloc: Global,
-    limits: &Limits,
-    thread: ThreadId,
-) -> Result<(HbClocks, Work), OutOfMemory>
-    requires { thread.0 < limits.now.threads }
-    ensures width { IfOk result (λ made. made.0.width ≡ limits.now.threads) }
-    ensures one { IfOk result (λ made. (state_of made.0).po thread.0 thread.0 ≡ 1) }
-    ensures counts { IfOk result (λ made. (state_of made.0).hb.thread thread.0 ≡ bump thread.0 no_clock) }
-    ensures work { IfOk result (λ made. made.1.comparisons ≡ 0) }
+const ROOM: &[Row] = &[
+    Row::HasRoom(T1, L, false),
+    // the first section needs memory
+    Row::SpareRoom(T1, L, false),
+    Row::MakeRoom(T1, L),
+    Row::HasRoom(T1, L, true),
+    Row::SpareRoom(T1, L, true),
+    Row::HasRoom(T0, L, false),
+    Row::HasRoom(T1, M, false),
+    Row::MakeRoom(T1, L),
+];
+
+const SPARE_ROOM: &[Row] = &[
+    Row::Take(T1),
+    Row::Close(T1, L),
+    Row::Close(T1, M),
+    Row::HasRoom(T1, L, false),
+    Row::SpareRoom(T1, L, true),
+    Row::HasRoom(T1, L, true),
+];
+
+const TWO_THREADS: &[Row] = &[
+    Row::Take(T0),
+    Row::Take(T1),
+    Row::Close(T0, L),
+    Row::Finds(T1, L, T0, Some((T0, 0))),
+];
+
+const ONE_SECTION: &[Row] = &[
+    Row::Take(T1),
+    Row::Count(L, 0),
+    Row::Close(T1, L),
+    Row::Count(L, 1),
+    Row::Section(L, 1, T1, 0, &[0, 0]),
+];
+
+/// The sections of three threads on two locks, and the clocks of those threads.
+#[derive(Drop)]
+struct Sections {
+    queues: Queues,
+    run: Run,
+    is_searched: bool,
+    ghost threads: { queues.limits.threads ≡ 3 },
+    ghost locks: { queues.limits.locks ≡ 2 },
+    ghost few: { (l : ℕ) → length (closed_of queues l) ≤ 1 },
+    ghost found: { is_searched ≡ false → found_of queues ≡ (λ _ _. 0) },
+}
+
+// Where a growth is refused, there is no room, and the same call is made again.
+fn make_room(rt: &impl Abort, queues: &mut Queues, thread: ThreadId, lock: LockId)
+    requires thread { thread.0 < queues.old.limits.threads }
+    requires lock { lock.0 < queues.old.limits.locks }
+    ensures { SameMeaning queues.old queues.new }
 {
-    match count_first(alloc, limits, thread) {
-        Ok(made) => Ok(made),
-        Err(OutOfMemory) => count_first(alloc, limits, thread),
+    if queues.make_room(thread, lock).is_err() {
+        assert!(rt; !queues.has_room(thread, lock));
+        assert!(rt; queues.make_room(thread, lock).is_ok(), "memory");
     }
 }
 
-// Where a growth is refused, the same call is made again.
-fn make_room(queues: &mut Queues, thread: ThreadId) -> Result<(), OutOfMemory>
-    requires thread { thread.0 < queues.old.limits.threads }
-    requires lock { 0 < queues.old.limits.locks }
-    ensures same { SameMeaning queues.old queues.new }
-    ensures ok { OnOk result (has_room queues.new
-        ≡ with_row thread.0 (with_row 0 true (has_room queues.old thread.0)) (has_room queues.old)) }
+fn expect_none(rt: &impl Abort, queues: &Queues, lock: LockId)
+    requires { length (closed_of queues.now lock.0) ≤ 1 }
+    ensures { length (closed_of queues.now lock.0) ≡ 0 }
 {
-    match queues.make_room(thread, LOCK) {
-        Ok(()) => Ok(()),
-        Err(OutOfMemory) => queues.make_room(thread, LOCK),
-    }
+    assert!(rt; queues.count(lock) == 0);
 }
 
-// The thread has the first section on the lock, which is closed with its clock.
-fn close_one(queues: &mut Queues, clocks: &HbClocks, thread: ThreadId) -> Result<(), OutOfMemory>
-    requires thread { thread.0 < queues.old.limits.threads }
-    requires lock { 0 < queues.old.limits.locks }
-    requires width { clocks.now.width ≡ queues.old.limits.threads }
-    requires marked { 0 < (state_of clocks.now).po thread.0 thread.0 }
-    requires counts { (state_of clocks.now).hb.thread thread.0 ≡ bump thread.0 no_clock }
-    requires none { closed_of queues.old 0 ≡ [] }
-    ensures one { OnOk result (length (closed_of queues.new 0) ≡ 1) }
+// The thread has the first section on the lock, which is closed with the clock.
+fn close_first(
+    rt: &impl Abort,
+    queues: &mut Queues,
+    thread: ThreadId,
+    lock: LockId,
+    mark: Mark,
+    clock: &Clock,
+)
+    requires own { mark.thread ≡ thread.0 }
+    requires marked { 0 < mark.position }
+    requires width { length clock.now ≡ queues.old.limits.threads }
+    requires counted { 0 < counts_of clock.now thread.0 }
+    requires counts { (u : ℕ) → counts_of clock.now u ≤ 100 }
+    requires few { (l : ℕ) → length (closed_of queues.old l) ≤ 1 }
+    ensures few { (l : ℕ) → length (closed_of queues.new l) ≤ 1 }
     ensures found { found_of queues.new ≡ found_of queues.old }
     ensures limits { queues.new.limits ≡ queues.old.limits }
 {
-    make_room(queues, thread)?;
-    queues.enter(thread, LOCK, clocks.mark(thread));
-    queues.leave(thread, LOCK, clocks.hb(thread));
-    Ok(())
+    assert!(rt; queues.has_room(thread, lock));
+    expect_none(rt, queues, lock);
+    queues.enter(thread, lock, mark);
+    queues.leave(thread, lock, clock);
 }
 
-// What a release of the thread finds, where there is one section and its clock is the one given: the
-// section's thread, and how many events of it there were before its release.
-fn ask(
+// What a release of the thread finds by the clock, which ends its section from the mark on.
+fn find(
+    rt: &impl Abort,
     queues: &mut Queues,
-    clocks: &HbClocks,
     thread: ThreadId,
+    lock: LockId,
+    mark: Mark,
     clock: &Clock,
     work: &mut Work,
-) -> Result<Option<(ThreadId, u32)>, OutOfMemory>
-    requires thread { thread.0 < queues.old.limits.threads }
-    requires lock { 0 < queues.old.limits.locks }
+) -> Option<(ThreadId, u32)>
+    requires own { mark.thread ≡ thread.0 }
+    requires marked { 0 < mark.position }
     requires width { length clock.now ≡ queues.old.limits.threads }
-    requires marked { 0 < (state_of clocks.now).po thread.0 thread.0 }
-    requires one { length (closed_of queues.old 0) ≡ 1 }
-    requires found { found_of queues.old 0 thread.0 ≡ 0 }
-    requires few { work.old.comparisons ≤ 2 ^ 62 }
+    requires few { length (closed_of queues.old lock.0) ≤ 1 }
+    requires found { found_of queues.old ≡ (λ _ _. 0) }
+    requires work { work.old.comparisons ≤ 100 }
+    ensures comparisons { work.new.comparisons ≤ work.old.comparisons + 2 }
+    ensures joins { work.new.joins ≡ work.old.joins }
+    ensures closed { closed_of queues.new ≡ closed_of queues.old }
+    ensures limits { queues.new.limits ≡ queues.old.limits }
 {
-    make_room(queues, thread)?;
-    queues.enter(thread, LOCK, clocks.mark(thread));
-    let Some(below) = queues.last_below(thread, LOCK, clock, work) else {
-        return Ok(None);
-    };
-    Ok(Some((below.by, below.own)))
+    assert!(rt; queues.has_room(thread, lock));
+    queues.enter(thread, lock, mark);
+    let below = queues.last_below(thread, lock, clock, work)?;
+    Some((below.by, below.own))
 }
 
-#[test]
-fn room_is_made_for_one_thread_and_lock(rt: HostRuntime) -> Result<(), Fail> {
-    let limits = Limits::new(2, 2, 1, 8, Roots::Free)?;
-    let mut queues = Queues::new(rt.alloc(), &limits)?;
-    let thread = ThreadId(1);
-    assert!(rt; !queues.has_room(thread, LOCK));
-    assert!(rt;
-        !queues.take_spare_room(thread, LOCK),
-        "the first section needs memory"
-    );
-    if queues.make_room(thread, LOCK).is_err() {
-        // With one allocation refused the same call succeeds when it is made again.
-        assert!(rt; !queues.has_room(thread, LOCK));
-        queues.make_room(thread, LOCK)?;
+impl Sections {
+    fn new(rt: &impl Abort, alloc: Global) -> Sections {
+        let limits = Limits::new(3, 2, 1, 8, Roots::Free).expect(rt, "small limits");
+        Sections {
+            queues: Queues::new(alloc, &limits).expect(rt, "no memory is taken"),
+            run: Run::new(rt, alloc),
+            is_searched: false,
+        }
     }
-    assert!(rt; queues.has_room(thread, LOCK));
-    assert!(rt; queues.take_spare_room(thread, LOCK));
-    assert!(rt; !queues.has_room(ThreadId(0), LOCK));
-    assert!(rt; !queues.has_room(thread, LockId(1)));
-    queues.make_room(thread, LOCK)?;
-    Ok(())
+
+    fn make_room(&mut self, rt: &impl Abort, thread: ThreadId, lock: LockId) {
+        assert!(rt; thread.0 < 3);
+        assert!(rt; lock.0 < 2);
+        make_room(rt, &mut self.queues, thread, lock);
+    }
+
+    fn close(&mut self, rt: &impl Abort, thread: ThreadId, lock: LockId) {
+        self.make_room(rt, thread, lock);
+        let mark = self.run.latest(rt, thread);
+        let clock = self.run.happened(rt, thread);
+        close_first(rt, &mut self.queues, thread, lock, mark, clock);
+    }
+
+    fn expect_section(
+        &self,
+        rt: &impl Abort,
+        lock: LockId,
+        number: u32,
+        wanted: (ThreadId, u32, &[u32]),
+    ) {
+        assert!(rt; 0 < number);
+        assert!(rt; number <= self.queues.count(lock));
+        let section = self.queues.section(lock, number);
+        assert_eq!(rt; (section.by, section.own), (wanted.0, wanted.1));
+        assert_eq!(rt; section.before, wanted.2);
+    }
+
+    fn expect_found(
+        &mut self,
+        rt: &impl Abort,
+        thread: ThreadId,
+        lock: LockId,
+        other: ThreadId,
+        wanted: &Option<(ThreadId, u32)>,
+    ) {
+        self.make_room(rt, thread, lock);
+        assert!(rt; !self.is_searched && self.run.calls < 99);
+        self.is_searched = true;
+        self.run.calls += 2;
+        let mark = self.run.latest(rt, thread);
+        let clock = self.run.clocks.hb(other);
+        let found = find(
+            rt,
+            &mut self.queues,
+            thread,
+            lock,
+            mark,
+            clock,
+            &mut self.run.work,
+        );
+        assert!(rt; found == *wanted);
+    }
+
+    fn follow(&mut self, rt: &impl Abort, row: &Row) {
+        match row {
+            Row::Take(thread) => self.run.take(rt, &event(*thread, Op::Load(VarId(0)))),
+            Row::MakeRoom(thread, lock) => self.make_room(rt, *thread, *lock),
+            Row::HasRoom(thread, lock, wanted) => {
+                assert!(rt; self.queues.has_room(*thread, *lock) == *wanted);
+            }
+            Row::SpareRoom(thread, lock, wanted) => {
+                assert!(rt; self.queues.take_spare_room(*thread, *lock) == *wanted);
+            }
+            Row::Close(thread, lock) => self.close(rt, *thread, *lock),
+            Row::Count(lock, wanted) => assert!(rt; self.queues.count(*lock) == *wanted),
+            Row::Section(lock, number, by, own, before) => {
+                self.expect_section(rt, *lock, *number, (*by, *own, before));
+            }
+            Row::Finds(thread, lock, other, wanted) => {
+                self.expect_found(rt, *thread, *lock, *other, wanted);
+            }
+        }
+    }
+}
+
+fn follow_all(rt: &impl Abort, alloc: Global, rows: &[Row]) {
+    let mut sections = Sections::new(rt, alloc);
+    for row in rows {
+        sections.follow(rt, row);
+    }
+    drop(sections);
 }
 
 #[test]
-fn a_further_section_may_need_no_memory(rt: HostRuntime) -> Result<(), Fail> {
-    let limits = Limits::new(2, 1, 1, 8, Roots::Free)?;
-    let mut queues = Queues::new(rt.alloc(), &limits)?;
-    let thread = ThreadId(1);
-    let (clocks, _) = count_one(rt.alloc(), &limits, thread)?;
-    close_one(&mut queues, &clocks, thread)?;
-    assert!(rt; !queues.has_room(thread, LOCK));
-    assert!(rt; queues.take_spare_room(thread, LOCK));
-    assert!(rt; queues.has_room(thread, LOCK));
-    Ok(())
+fn room_is_made_for_one_thread_and_lock(rt: HostRuntime) {
+    follow_all(&rt, rt.alloc(), ROOM);
 }
 
 #[test]
-fn another_thread_finds_the_section(rt: HostRuntime) -> Result<(), Fail> {
-    let limits = Limits::new(2, 1, 1, 8, Roots::Free)?;
-    let mut queues = Queues::new(rt.alloc(), &limits)?;
-    let (first, mut work) = count_one(rt.alloc(), &limits, ThreadId(0))?;
-    let (second, _) = count_one(rt.alloc(), &limits, ThreadId(1))?;
-    close_one(&mut queues, &first, ThreadId(0))?;
-    let answer = ask(
-        &mut queues,
-        &second,
-        ThreadId(1),
-        first.hb(ThreadId(0)),
-        &mut work,
-    )?;
-    assert_eq!(rt; answer, Some((ThreadId(0), 0)));
-    Ok(())
+fn a_further_section_may_need_no_memory(rt: HostRuntime) {
+    follow_all(&rt, rt.alloc(), SPARE_ROOM);
 }
 
 #[test]
-fn a_closed_section_is_found_by_its_number(rt: HostRuntime) -> Result<(), Fail> {
-    let limits = Limits::new(2, 1, 1, 8, Roots::Free)?;
-    let mut queues = Queues::new(rt.alloc(), &limits)?;
-    let (clocks, _) = count_one(rt.alloc(), &limits, ThreadId(1))?;
-    assert_eq!(rt; queues.count(LOCK), 0);
-    close_one(&mut queues, &clocks, ThreadId(1))?;
-    assert_eq!(rt; queues.count(LOCK), 1);
-    let section = queues.section(LOCK, 1);
-    assert_eq!(rt; section.by, ThreadId(1));
-    assert_eq!(rt; section.own, 0);
-    assert_eq!(rt; section.before, [0, 0].as_slice());
-    Ok(())
+fn another_thread_finds_the_section(rt: HostRuntime) {
+    follow_all(&rt, rt.alloc(), TWO_THREADS);
+}
+
+#[test]
+fn a_closed_section_is_found_by_its_number(rt: HostRuntime) {
+    follow_all(&rt, rt.alloc(), ONE_SECTION);
 }

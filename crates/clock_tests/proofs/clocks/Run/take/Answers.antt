@@ -15,4 +15,4 @@ invariant_of-self-clause-few g c =
     let run = c.args.self.now in
     let few = subst (IsAtMost run.calls) (sym c.make_room.ensures.same) run.few in
     subst (IsAtMost (run.calls + 1)) (sym c.advance.ensures.exact)
-    (grows_by_one run.calls c.event-event.result (state_of c.make_room.new.clocks) few)
+    (grows_by_one run.calls c.args.event.now (state_of c.make_room.new.clocks) few)

@@ -1,5 +1,5 @@
 use Rattle.std.proofs.Common.{ℕ, ap, arith}
-use Rattle.clock_tests.proofs.clocks.Run.mark.Goals as goal
+use Rattle.clock_tests.proofs.clocks.Run.latest.Goals as goal
 
 pub mark-requires : goal.mark-requires
 mark-requires g c =
