@@ -123,14 +123,6 @@ const INNER_RELEASES: &[Line] = &[
     (CHILD, Op::Release(L), [6, 0, 0]),
 ];
 
-/// The memory and the strict clocks of one log, which is empty at first.
-#[derive(Drop)]
-struct Run {
-    memory: Memory,
-    clocks: WcpClocks,
-    ghost one_log: { StandForOneLog memory clocks },
-}
-
 fn small_limits(rt: &impl Abort) -> Limits
     ensures { result ≡ small }
 {
@@ -211,49 +203,45 @@ fn clock_numbers(clocks: &WcpClocks, thread: ThreadId) -> [u64; 3]
     [clock.at(MAIN), clock.at(CHILD), clock.at(OTHER)]
 }
 
-impl Run {
-    fn new(rt: &impl Abort, alloc: Global) -> Run {
-        let limits = small_limits(rt);
-        Run {
-            memory: Memory::new(alloc, limits).expect(rt, "no memory is taken"),
-            clocks: begin_clocks(alloc, &limits).expect(rt, "memory"),
-        }
-    }
+// Takes the event of a call with no value, which has to be permitted.
+fn take(rt: &impl Abort, memory: &mut Memory, clocks: &mut WcpClocks, thread: ThreadId, op: Op)
+    requires { StandForOneLog memory.old clocks.old }
+    ensures { StandForOneLog memory.new clocks.new }
+{
+    let call = Call {
+        thread,
+        op,
+        site: SiteId(0),
+        arg: 0,
+    };
+    permit(rt, memory, &call);
+    let event = call.event_with(memory.apply(&call));
+    assert!(rt; make_room(clocks, &event).is_ok(), "memory");
+    clocks.advance(&event);
+}
 
-    // Takes the event of a call with no value, which has to be permitted.
-    fn take(&mut self, rt: &impl Abort, thread: ThreadId, op: Op) {
-        let call = Call {
-            thread,
-            op,
-            site: SiteId(0),
-            arg: 0,
-        };
-        permit(rt, &mut self.memory, &call);
-        let event = call.event_with(self.memory.apply(&call));
-        assert!(rt; make_room(&mut self.clocks, &event).is_ok(), "memory");
-        self.clocks.advance(&event);
-    }
-
-    fn expect_strict(&self, rt: &impl Abort, thread: ThreadId, wanted: [u64; 3]) {
-        assert_eq!(rt; strict_numbers(&self.clocks, thread), wanted);
-    }
-
-    fn expect_below(&self, rt: &impl Abort, thread: ThreadId, wanted: [u64; 3]) {
-        assert_eq!(rt; numbers_below(&self.clocks, thread), wanted);
-        assert_eq!(rt; clock_numbers(&self.clocks, thread), wanted);
-    }
+fn expect_below(rt: &impl Abort, clocks: &WcpClocks, thread: ThreadId, wanted: [u64; 3])
+    requires { width_of clocks.now ≡ 3 }
+{
+    assert_eq!(rt; numbers_below(clocks, thread), wanted);
+    assert_eq!(rt; clock_numbers(clocks, thread), wanted);
 }
 
 // Takes the events in turn, and looks at the numbers after each. At the end so many events are below the last
 // one of the thread.
 fn follow(rt: &impl Abort, alloc: Global, lines: &[Line], last: ThreadId, below: [u64; 3]) {
-    let mut run = Run::new(rt, alloc);
-    for (thread, op, strict) in lines {
-        run.take(rt, *thread, *op);
-        run.expect_strict(rt, *thread, *strict);
+    let limits = small_limits(rt);
+    let mut memory = Memory::new(alloc, limits).expect(rt, "no memory is taken");
+    let mut clocks = begin_clocks(alloc, &limits).expect(rt, "memory");
+    for index in 0..lines.len() {
+        let (thread, op, wanted) = lines[index];
+        take(rt, &mut memory, &mut clocks, thread, op);
+        let strict = strict_numbers(&clocks, thread);
+        assert_eq!(rt; strict, wanted, "event {index}");
     }
-    run.expect_below(rt, last, below);
-    drop(run);
+    expect_below(rt, &clocks, last, below);
+    drop(clocks);
+    drop(memory);
 }
 
 #[test]
