@@ -1,10 +1,9 @@
 -- What the tests of closed sections meet the conditions by: on each lock at most one section is closed.
-use Rattle.std.proofs.Common.{◌≡◌, ℕ, suc, ◌+◌, ◌-◌, ◌<◌, ◌≤◌, Bool, true, false, cond, List, [], ◌∷◌, ◌++◌}
+use Rattle.std.proofs.Common.{◌≡◌, ℕ, suc, ◌+◌, ◌≤◌, Bool, true, false, cond, List, [], ◌∷◌, ◌++◌}
 use Rattle.std.proofs.Common.{length, nat_eq, sym, ap, subst, ◌∙◌, arith}
 use Rattle.event_core.specs.Closed.{Closed, Has, first, later, is_counted, number_counted}
 use Rattle.event_core.specs.Rows.{with_row}
 use Rattle.event_core.proofs.Growing.{row_same}
-use Rattle.lock_queues.specs.Sections.{before}
 use Rattle.lock_queues.specs.Searched.{CountsEarlier, IsAboveAll}
 
 -- a table that was written at a thread and a lock
@@ -41,14 +40,6 @@ one_closed f g l q e none few m =
     at : (b : Bool) → length (cond b (g l ++ q ∷ []) (g m)) ≤ 1
     at true = one (g l) none
     at false = few m
-
--- just before a release there were fewer events than a log may have
-pub few_before : (t : ℕ) (c : ℕ → ℕ) → ((u : ℕ) → c u ≤ 100) → (u : ℕ) → before t c u < 4294967296
-few_before t c few u = at (nat_eq u t)
-  where
-    at : (b : Bool) → cond b (c t - 1) (c u) < 4294967296
-    at true = let h = few t in omega arith
-    at false = let h = few u in omega arith
 
 -- of the sections no more are counted than there are
 pub counted_few : (c : ℕ → ℕ) (qs : List Closed) → number_counted c qs ≤ length qs
