@@ -1,3 +1,0 @@
-pub mod FewJoins
-pub mod WorkedLogs
-pub mod OneSection

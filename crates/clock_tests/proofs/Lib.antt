@@ -1,0 +1,3 @@
+pub mod FewJoins
+pub mod OneSection
+pub mod OneLog

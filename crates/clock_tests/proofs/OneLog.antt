@@ -1,0 +1,112 @@
+-- Clocks follow a log whose calls a memory permits.
+use Rattle.std.proofs.Common.{◌≡◌, ℕ, List, [], ◌∷◌, ◌++◌, sym, ap, subst, ◌∙◌, arith}
+use Rattle.event_core.specs.declared.bounds.Limits.{Limits}
+use Rattle.event_core.specs.declared.events.Event.{Event}
+use Rattle.event_core.specs.declared.events.Call.{Call}
+use Rattle.event_core.specs.Refusal.{WellFormed, event_of, value_of}
+use Rattle.traced_mem.specs.Tables.{Tables}
+use Rattle.traced_mem.specs.OfLog.{StandsFor as MemoryStandsFor}
+use Rattle.wcp_clocks.specs.declared.parts.Parts.{Parts}
+use Rattle.wcp_clocks.specs.Parts.{Fits, IsWithin, SameLimits, SameNumbers, width_of, limits_of, work_of}
+use Rattle.wcp_clocks.specs.StandsFor.{StandsFor, IsBounded}
+use Rattle.wcp_clocks.specs.WorkWithin.{IsWorkOf}
+use Rattle.wcp_clocks.proofs.Conditions.{fits_where_legal}
+use Rattle.wcp_clocks.proofs.Named.{within_where_legal}
+use Rattle.wcp_clocks.proofs.Standing.{same_stand}
+use Rattle.wcp_clocks.proofs.WorkLaws.{no_work, same_work, work_step, little_work}
+use Rattle.clock_tests.specs.OneLog.{small, StandForOneLog}
+
+bounded : IsBounded small
+bounded = record {
+  some_threads = omega arith;
+  most_threads = omega arith;
+  some_locks = omega arith;
+  most_locks = omega arith;
+  some_vars = omega arith;
+  most_vars = omega arith;
+  some_events = omega arith;
+  most_events = omega arith;
+}
+
+pub no_events : (m : Tables) (p : Parts) → MemoryStandsFor m [] → m.limits ≡ small → StandsFor [] p
+    → work_of p ≡ record { comparisons = 0; joins = 0 } → width_of p ≡ small.threads → limits_of p ≡ small
+    → StandForOneLog m p
+no_events m p memory memory_limits clocks none width clock_limits = record {
+  log = [];
+  memory = memory;
+  memory_limits = memory_limits;
+  clocks = clocks;
+  work = no_work small p none;
+  width = width;
+  clock_limits = clock_limits;
+}
+
+-- the event of the call
+is_event : (log : List Event) (c : Call) (v : ℕ) (e : Event)
+    → e ≡ record { thread = c.thread; op = c.op; site = c.site; value = v } → v ≡ value_of log c.op c.arg
+    → e ≡ event_of log c
+is_event log c v e is value =
+    is ∙ ap (λ (n : ℕ). let f : Event = record { thread = c.thread; op = c.op; site = c.site; value = n } in f)
+    value
+
+-- the memory after the next event of the log
+pub record IsNext (log : List Event) (e : Event) (m : Tables) : Type 0 where
+  pub stands : MemoryStandsFor m (log ++ e ∷ [])
+  pub limits : m.limits ≡ small
+
+next_event : (log : List Event) (c : Call) (e : Event) (m : Tables)
+    → MemoryStandsFor m (log ++ event_of log c ∷ []) → m.limits ≡ small → e ≡ event_of log c → IsNext log e m
+next_event log c e m stands limits is = record {
+  stands = subst (λ (f : Event). MemoryStandsFor m (log ++ f ∷ [])) (sym is) stands;
+  limits = limits;
+}
+
+-- a memory that permits a call performs it
+pub next_call : (old mid new : Tables) (p : Parts) (c : Call) (v : ℕ) (e : Event) (r : StandForOneLog old p)
+    → ((log : List Event) → MemoryStandsFor old log → MemoryStandsFor mid log) → mid.limits ≡ old.limits
+    → ((log : List Event) → MemoryStandsFor mid log → v ≡ value_of log c.op c.arg)
+    → ((log : List Event) → MemoryStandsFor mid log → MemoryStandsFor new (log ++ event_of log c ∷ []))
+    → new.limits ≡ mid.limits → e ≡ record { thread = c.thread; op = c.op; site = c.site; value = v }
+    → IsNext r.log e new
+next_call old mid new p c v e r permitted kept value performed same is =
+    let stands = permitted r.log r.memory in
+    next_event r.log c e new (performed r.log stands) (same ∙ (kept ∙ r.memory_limits))
+    (is_event r.log c v e is (value r.log stands))
+
+-- its event is legal
+legal : (log : List Event) (e : Event) (m : Tables) → IsNext log e m → WellFormed small (log ++ e ∷ [])
+legal log e m next = subst (λ (k : Limits). WellFormed k (log ++ e ∷ [])) next.limits next.stands.well_formed
+
+-- room can be made for it in the clocks
+pub next_within : (old new : Tables) (p : Parts) (e : Event) (r : StandForOneLog old p) → IsNext r.log e new
+    → IsWithin p e
+next_within old new p e r next =
+    within_where_legal small r.log e p (legal r.log e new next) r.width r.clock_limits
+
+-- the clocks can take it, once there is room
+pub next_fits : (old new : Tables) (p q : Parts) (e : Event) (r : StandForOneLog old p) → IsNext r.log e new
+    → SameNumbers p q → Fits e q
+next_fits old new p q e r next same =
+    let is_legal = legal r.log e new next in
+    let stands = same_stand r.log p q same r.clocks in
+    fits_where_legal small r.log e q bounded is_legal stands
+    (little_work small r.log e q bounded is_legal stands (same_work small r.log p q same r.work))
+
+-- and then both stand for the longer log
+pub stand_after : (old new : Tables) (p q after : Parts) (e : Event) (r : StandForOneLog old p)
+    → IsNext r.log e new → SameNumbers p q → SameLimits p q
+    → ((m : Limits) (log : List Event) → WellFormed m (log ++ e ∷ []) → StandsFor log q
+    → StandsFor (log ++ e ∷ []) after)
+    → IsWorkOf e q after → SameLimits q after → StandForOneLog new after
+stand_after old new p q after e r next same room stands work kept =
+    let is_legal = legal r.log e new next in
+    let prepared = same_stand r.log p q same r.clocks in
+    record {
+      log = r.log ++ e ∷ [];
+      memory = next.stands;
+      memory_limits = next.limits;
+      clocks = stands small r.log is_legal prepared;
+      work = work_step small r.log e q after is_legal prepared (same_work small r.log p q same r.work) work;
+      width = kept.width ∙ (room.width ∙ r.width);
+      clock_limits = kept.limits ∙ (room.limits ∙ r.clock_limits);
+    }

@@ -1,0 +1,12 @@
+use Rattle.std.proofs.Common.{ℕ, ◌≤◌, List, length, sym, subst, ◌∙◌}
+use Rattle.event_core.specs.Closed.{Closed}
+use Rattle.clock_tests.proofs.queues.Sections.follow.Goals as goal
+
+pub invariant_of-self-in-SpareRoom-clause-few : goal.invariant_of-self-in-SpareRoom-clause-few
+invariant_of-self-in-SpareRoom-clause-few g c = λ l.
+    subst (λ (f : ℕ → List Closed). length (f l) ≤ 1) (sym c.take_spare_room.ensures.same.closed)
+    (c.args.self.now.few l)
+
+pub invariant_of-self-in-SpareRoom-clause-found : goal.invariant_of-self-in-SpareRoom-clause-found
+invariant_of-self-in-SpareRoom-clause-found g c = λ e.
+    c.take_spare_room.ensures.same.found ∙ c.args.self.now.found e

@@ -1,0 +1,279 @@
+//! Worked logs of accesses, and the verdicts on them by clocks made by hand.
+//!
+//! Where a growth is refused once, the same call is made again and gives the same verdict.
+ghost use Rattle.std.specs.Prelude.{◌≡◌, ℕ, ◌≤◌, ◌↔◌, length, IfOk, IsTrue};
+ghost use Rattle.event_core.specs.declared.events.Op.{Op as Operation};
+ghost use Rattle.access_check.specs.Tables.{count_at, IsWithin};
+
+use access_check::Accesses;
+use event_core::{Event, Limits, LockId, Op, OutOfMemory, Roots, SiteId, ThreadId, VarId, Verdict};
+use hb_clocks::{Clock, HbClocks, JoinedClocks, Work};
+use std::alloc::Global;
+use std::process::Abort;
+
+const T0: ThreadId = ThreadId(0);
+
+const T1: ThreadId = ThreadId(1);
+
+const T2: ThreadId = ThreadId(2);
+
+const L: LockId = LockId(0);
+
+const X: VarId = VarId(0);
+
+const Y: VarId = VarId(1);
+
+const CLEAR: Verdict = Verdict::Clear;
+
+/// An event, how many events of thread 0 are ordered before it, and the verdict on it.
+type Judged = (ThreadId, Op, u32, Verdict);
+
+const STORES: &[Judged] = &[
+    (T0, Op::Fork(T1), 2, CLEAR),
+    (T0, Op::Fork(T2), 2, CLEAR),
+    (T1, Op::Store(X), 2, CLEAR),
+    (T2, Op::Store(X), 2, Verdict::Racy(2)),
+    (T0, Op::Store(X), 2, Verdict::Racy(3)),
+];
+
+const ORDERED: &[Judged] = &[
+    (T0, Op::Fork(T1), 1, CLEAR),
+    (T0, Op::Store(Y), 1, CLEAR),
+    (T0, Op::Acquire(L), 1, CLEAR),
+    (T0, Op::Store(X), 1, CLEAR),
+    (T0, Op::Release(L), 1, CLEAR),
+    (T1, Op::Acquire(L), 1, CLEAR),
+    (T1, Op::Load(Y), 1, Verdict::Racy(1)),
+    (T1, Op::Load(X), 5, CLEAR),
+    (T1, Op::Release(L), 5, CLEAR),
+];
+
+const LOADS: &[Judged] = &[
+    (T0, Op::Load(X), 0, CLEAR),
+    (T1, Op::Load(X), 0, CLEAR),
+    (T2, Op::Store(X), 0, Verdict::Racy(1)),
+    (T0, Op::Load(X), 0, Verdict::Racy(2)),
+];
+
+// The last store races, and so it forgets nothing.
+const STORE_WITHOUT_A_RACE: &[Judged] = &[
+    (T0, Op::Load(X), 0, CLEAR),
+    (T1, Op::Store(X), 1, CLEAR),
+    (T0, Op::Store(X), 0, Verdict::Racy(1)),
+    (T2, Op::Load(X), 0, Verdict::Racy(2)),
+    (T2, Op::Store(X), 2, Verdict::Racy(1)),
+];
+
+// Nor do accesses of different variables conflict.
+const ONE_THREAD: &[Judged] = &[
+    (T1, Op::Store(X), 0, CLEAR),
+    (T1, Op::Load(X), 0, CLEAR),
+    (T1, Op::Store(X), 0, CLEAR),
+    (T2, Op::Store(Y), 0, CLEAR),
+];
+
+/// The accesses of a log of so many events by three threads.
+#[derive(Drop)]
+struct Log {
+    limits: Limits,
+    accesses: Accesses,
+    length: u64,
+    ghost width: { limits.threads ≡ 3 },
+    ghost limits_of: { accesses.limits ≡ limits },
+    ghost few: { (u : ℕ) → count_at accesses.counts u ≤ length },
+}
+
+impl Log {
+    // It takes no memory.
+    fn new(rt: &impl Abort, alloc: Global) -> Log {
+        let limits = Limits::new(3, 1, 2, 64, Roots::Free).expect(rt, "small limits");
+        let accesses = Accesses::new(alloc, &limits).expect(rt, "no memory is taken");
+        Log {
+            limits,
+            accesses,
+            length: 0,
+        }
+    }
+
+    fn is_within(&self, event: &Event) -> bool
+        ensures { IsTrue result ↔ IsWithin self.now.limits event.now.thread event.now.op }
+    {
+        event.thread.0 < self.limits.threads()
+            && match event.op {
+                Op::Load(var) | Op::Store(var) => var.0 < self.limits.vars(),
+                _ => true,
+            }
+    }
+
+    fn make_room_once(&mut self, event: &Event) -> Result<(), OutOfMemory>
+        requires { IsWithin self.old.limits event.now.thread event.now.op }
+        ensures { self.new.limits ≡ self.old.limits }
+    {
+        self.accesses.make_room(event)
+    }
+
+    // Makes room for the event, whose numbers are within the limits.
+    fn make_room(&mut self, event: &Event) -> Result<(), OutOfMemory>
+        requires { IsWithin self.old.limits event.now.thread event.now.op }
+    {
+        if self.make_room_once(event).is_ok() {
+            return Ok(());
+        }
+        self.make_room_once(event)
+    }
+
+    // Makes room for a load and a store of the variable. Where a growth is refused, the same call is made
+    // again.
+    fn make_room_swap(&mut self, thread: ThreadId, var: VarId) -> Result<(), OutOfMemory>
+        requires { IsWithin self.old.limits thread (Operation.Load var) }
+    {
+        match self.accesses.make_room_swap(thread, var) {
+            Ok(()) => Ok(()),
+            Err(OutOfMemory) => self.accesses.make_room_swap(thread, var),
+        }
+    }
+
+    // The verdict on the event, where the clock counts what is ordered before it.
+    fn step(&mut self, rt: &impl Abort, event: &Event, clock: &JoinedClocks) -> Verdict
+        requires { length clock.now ≡ 3 }
+    {
+        assert!(rt; self.is_within(event));
+        assert!(rt; self.make_room(event).is_ok());
+        assert!(rt; self.accesses.is_ready(event));
+        assert!(rt; self.length < 64);
+        let verdict = self.accesses.verdict(event, clock);
+        self.accesses.note(event, self.length, verdict);
+        self.length += 1;
+        verdict
+    }
+}
+
+/// A clock of zeros, and one that counts the first events of thread 0 and no others.
+#[derive(Drop)]
+struct Counting {
+    zeros: Clock,
+    counted: Clock,
+    work: Work,
+    counts: u64,
+    ghost zeros_width: { length zeros ≡ 3 },
+    ghost counted_width: { length counted ≡ 3 },
+    ghost joins: { work.joins ≤ counts },
+    ghost short: { counts ≤ 64 },
+}
+
+// Where a growth is refused, the same call is made again.
+fn clock_of_zeros(alloc: Global) -> Result<Clock, OutOfMemory>
+    ensures { IfOk result (λ clock. length clock ≡ 3) }
+{
+    match Clock::new(alloc, 3) {
+        Ok(clock) => Ok(clock),
+        Err(OutOfMemory) => Clock::new(alloc, 3),
+    }
+}
+
+// What counts the work is made with clocks, which are let go.
+fn no_work_once(alloc: Global, limits: &Limits) -> Result<Work, OutOfMemory>
+    ensures { IfOk result (λ work. work.joins ≡ 0) }
+{
+    let (clocks, work) = HbClocks::new(alloc, limits)?;
+    drop(clocks);
+    Ok(work)
+}
+
+fn no_work(alloc: Global, limits: &Limits) -> Result<Work, OutOfMemory>
+    ensures { IfOk result (λ work. work.joins ≡ 0) }
+{
+    match no_work_once(alloc, limits) {
+        Ok(work) => Ok(work),
+        Err(OutOfMemory) => no_work_once(alloc, limits),
+    }
+}
+
+impl Counting {
+    fn new(rt: &impl Abort, alloc: Global, limits: &Limits) -> Counting {
+        Counting {
+            zeros: clock_of_zeros(alloc).expect(rt, "memory"),
+            counted: clock_of_zeros(alloc).expect(rt, "memory"),
+            work: no_work(alloc, limits).expect(rt, "memory"),
+            counts: 0,
+        }
+    }
+
+    // Counts the first so many events of thread 0.
+    fn count(&mut self, rt: &impl Abort, count: u32) {
+        assert!(rt; self.counts < 64);
+        self.counted.copy_from(&self.zeros);
+        if 0 < count {
+            let before = [count - 1];
+            self.counted.join_release(T0, &before, &mut self.work);
+        }
+        self.counts += 1;
+    }
+
+    fn clock(&self) -> JoinedClocks<'_>
+        ensures { length result ≡ 3 }
+    {
+        JoinedClocks::new(&self.zeros, &self.counted)
+    }
+}
+
+fn event(thread: ThreadId, op: Op) -> Event
+    ensures thread { result.thread ≡ thread }
+    ensures op { result.op ≡ op }
+{
+    Event {
+        thread,
+        op,
+        site: SiteId(0),
+        value: 0,
+    }
+}
+
+fn expect_verdicts(rt: &impl Abort, alloc: Global, rows: &[Judged]) {
+    let mut log = Log::new(rt, alloc);
+    let mut counting = Counting::new(rt, alloc, &log.limits);
+    for (thread, op, count, wanted) in rows {
+        counting.count(rt, *count);
+        let verdict = log.step(rt, &event(*thread, *op), &counting.clock());
+        assert!(rt; verdict == *wanted, "event {}", log.length);
+    }
+    drop(counting);
+    drop(log);
+}
+
+#[test]
+fn the_greatest_racing_index_is_named(rt: HostRuntime) {
+    expect_verdicts(&rt, rt.alloc(), STORES);
+}
+
+#[test]
+fn what_is_ordered_before_the_access_does_not_race(rt: HostRuntime) {
+    expect_verdicts(&rt, rt.alloc(), ORDERED);
+}
+
+#[test]
+fn loads_do_not_conflict_with_loads(rt: HostRuntime) {
+    expect_verdicts(&rt, rt.alloc(), LOADS);
+}
+
+#[test]
+fn a_store_without_a_race_stands_for_what_was_before_it(rt: HostRuntime) {
+    expect_verdicts(&rt, rt.alloc(), STORE_WITHOUT_A_RACE);
+}
+
+#[test]
+fn accesses_of_one_thread_do_not_conflict(rt: HostRuntime) {
+    expect_verdicts(&rt, rt.alloc(), ONE_THREAD);
+}
+
+#[test]
+fn room_for_a_swap_is_room_for_both_its_events(rt: HostRuntime) {
+    let mut log = Log::new(&rt, rt.alloc());
+    let load = event(T2, Op::Load(Y));
+    assert!(rt; log.is_within(&load));
+    assert!(rt; !log.accesses.is_ready(&load));
+    assert!(rt; log.make_room_swap(T2, Y).is_ok());
+    assert!(rt; log.accesses.is_ready(&load));
+    assert!(rt; log.accesses.is_ready(&event(T2, Op::Store(Y))));
+    drop(log);
+}

@@ -1,0 +1,397 @@
+//! Worked logs with the numbers of their clocks.
+//!
+//! Where memory is refused once, the same call is made again and gives the same numbers.
+ghost use Rattle.std.specs.Prelude.{◌≡◌, ℕ, ◌*◌, ◌<◌, ◌≤◌, ◌↔◌, length, IfOk, OnOk, IsTrue};
+ghost use Rattle.hb_clocks.specs.Counts.{counts_of};
+ghost use Rattle.hb_clocks.specs.State.{empty};
+ghost use Rattle.hb_clocks.specs.Stands.{IsAtMost};
+ghost use Rattle.hb_clocks.specs.Tables.{state_of, IsReady, IsWithin};
+
+use event_core::{Event, Limits, LockId, Op, OutOfMemory, Roots, SiteId, ThreadId, VarId};
+use hb_clocks::{Clock, HbClocks, JoinedClocks, Mark, Work};
+use std::alloc::Global;
+use std::process::Abort;
+
+const T0: ThreadId = ThreadId(0);
+
+const T1: ThreadId = ThreadId(1);
+
+const T2: ThreadId = ThreadId(2);
+
+const L: LockId = LockId(0);
+
+const M: LockId = LockId(1);
+
+const X: VarId = VarId(0);
+
+const Y: VarId = VarId(1);
+
+/// What is done, or what is found.
+enum Row {
+    /// The next event.
+    Take(ThreadId, Op),
+    /// The numbers of the thread's clock of program order.
+    Po(ThreadId, [u64; 3]),
+    /// The numbers of the thread's clock of happens-before.
+    Hb(ThreadId, [u64; 3]),
+    /// How often the thread holds the lock.
+    Depth(ThreadId, LockId, u64),
+    /// Whether the event may come next.
+    Admits(ThreadId, Op, bool),
+    /// Room is made for the event.
+    MakeRoom(ThreadId, Op),
+    /// Whether there is room for the event.
+    Ready(ThreadId, Op, bool),
+    /// The mark of the thread's latest event is kept.
+    Mark(ThreadId),
+    /// Whether the thread's clock of program order counts the event of that mark, and that of happens-before.
+    Counts(ThreadId, [bool; 2]),
+    /// The clock beside the others takes the numbers of the thread's clock of program order.
+    Copy(ThreadId),
+    /// It takes the greater numbers of the thread's clock of happens-before.
+    Join(ThreadId),
+    /// It takes the numbers of a release by the thread, just before which they are these.
+    JoinRelease(ThreadId, &'static [u32]),
+    /// Its numbers.
+    Clock([u64; 3]),
+    /// The numbers of the threads' clocks of program order, read as one.
+    Joined(ThreadId, ThreadId, [u64; 3]),
+}
+
+const NESTED_SECTIONS: &[Row] = &[
+    Row::Take(T0, Op::Fork(T1)),
+    Row::Take(T0, Op::Acquire(L)),
+    Row::Take(T0, Op::Acquire(M)),
+    Row::Take(T0, Op::Store(X)),
+    Row::Take(T0, Op::Release(M)),
+    Row::Take(T0, Op::Store(Y)),
+    Row::Take(T0, Op::Release(L)),
+    Row::Take(T1, Op::Acquire(M)),
+    Row::Po(T1, [1, 1, 0]),
+    Row::Hb(T1, [5, 1, 0]),
+    Row::Take(T1, Op::Load(X)),
+    Row::Take(T1, Op::Release(M)),
+    Row::Take(T1, Op::Acquire(L)),
+    Row::Hb(T1, [7, 4, 0]),
+    Row::Take(T1, Op::Release(L)),
+    Row::Take(T1, Op::Load(Y)),
+    Row::Hb(T1, [7, 6, 0]),
+    Row::Po(T1, [1, 6, 0]),
+];
+
+const EMPTY_CHILD: &[Row] = &[
+    Row::Take(T0, Op::Store(X)),
+    Row::Take(T0, Op::Fork(T1)),
+    Row::Po(T1, [2, 0, 0]),
+    Row::Po(T2, [0, 0, 0]),
+    Row::Take(T2, Op::Join(T1)),
+    Row::Po(T2, [2, 0, 1]),
+    Row::Hb(T2, [2, 0, 1]),
+];
+
+const INNER_RELEASE: &[Row] = &[
+    Row::Take(T0, Op::Fork(T1)),
+    Row::Take(T0, Op::Acquire(L)),
+    Row::Take(T0, Op::Acquire(L)),
+    Row::Depth(T0, L, 2),
+    Row::Take(T0, Op::Release(L)),
+    Row::Depth(T0, L, 1),
+    Row::Admits(T1, Op::Acquire(L), false),
+    Row::Take(T0, Op::Store(X)),
+    Row::Take(T0, Op::Release(L)),
+    Row::Depth(T0, L, 0),
+    Row::Take(T1, Op::Acquire(L)),
+    Row::Hb(T1, [6, 1, 0]),
+    Row::Po(T1, [1, 1, 0]),
+];
+
+const ROOM: &[Row] = &[
+    Row::Ready(T0, Op::Acquire(L), false),
+    Row::MakeRoom(T0, Op::Acquire(L)),
+    Row::Ready(T0, Op::Acquire(L), true),
+    Row::Ready(T0, Op::Load(X), true),
+    Row::Ready(T1, Op::Acquire(L), false),
+    Row::Ready(T0, Op::Acquire(M), false),
+    Row::Ready(T0, Op::Fork(T1), false),
+    Row::Take(T0, Op::Acquire(L)),
+    Row::Ready(T0, Op::Release(L), true),
+];
+
+const MARKED: &[Row] = &[
+    Row::Take(T0, Op::Acquire(L)),
+    Row::Mark(T0),
+    Row::Counts(T0, [true, true]),
+    Row::Take(T1, Op::Store(X)),
+    Row::Counts(T1, [false, false]),
+    Row::Take(T0, Op::Release(L)),
+    Row::Take(T1, Op::Acquire(L)),
+    Row::Counts(T1, [false, true]),
+];
+
+const GREATER: &[Row] = &[
+    Row::Take(T0, Op::Store(X)),
+    Row::Take(T0, Op::Store(Y)),
+    Row::Take(T2, Op::Store(X)),
+    Row::Clock([0, 0, 0]),
+    Row::Copy(T2),
+    Row::Clock([0, 0, 1]),
+    Row::Copy(T0),
+    Row::Clock([2, 0, 0]),
+    Row::Join(T2),
+    Row::Clock([2, 0, 1]),
+];
+
+const READ_AS_ONE: &[Row] = &[
+    Row::Take(T0, Op::Store(X)),
+    Row::Take(T0, Op::Store(Y)),
+    Row::Take(T2, Op::Store(X)),
+    Row::Joined(T0, T2, [2, 0, 1]),
+];
+
+const RELEASES: &[Row] = &[
+    Row::Take(T0, Op::Store(X)),
+    Row::Take(T0, Op::Store(Y)),
+    Row::Copy(T0),
+    Row::JoinRelease(T1, &[1, 4]),
+    Row::Clock([2, 5, 0]),
+    Row::JoinRelease(T1, &[3, 2, 6]),
+    Row::Clock([3, 5, 6]),
+];
+
+/// The clocks of three threads, and one beside them. A call takes an event, compares a mark or joins a clock.
+#[derive(Drop)]
+pub struct Run {
+    pub clocks: HbClocks,
+    pub work: Work,
+    beside: Clock,
+    marked: Option<Mark>,
+    pub calls: u64,
+    ghost width: { clocks.width ≡ 3 },
+    ghost beside_width: { length beside ≡ 3 },
+    ghost few: { IsAtMost calls (state_of clocks) },
+    ghost joins: { work.joins ≤ 2 * calls },
+    ghost comparisons: { work.comparisons ≤ calls },
+    ghost short: { calls ≤ 100 },
+}
+
+// Where a growth is refused, the same call is made again.
+fn begin_clocks(alloc: Global, limits: &Limits) -> Result<(HbClocks, Work), OutOfMemory>
+    ensures width { IfOk result (λ made. made.0.width ≡ limits.now.threads) }
+    ensures empty { IfOk result (λ made. state_of made.0 ≡ empty) }
+    ensures work { IfOk result (λ made. made.1 ≡ record { comparisons = 0; joins = 0 }) }
+{
+    match HbClocks::new(alloc, limits) {
+        Ok(made) => Ok(made),
+        Err(OutOfMemory) => HbClocks::new(alloc, limits),
+    }
+}
+
+fn zeros(alloc: Global) -> Result<Clock, OutOfMemory>
+    ensures { IfOk result (λ clock. length clock ≡ 3) }
+{
+    match Clock::new(alloc, 3) {
+        Ok(clock) => Ok(clock),
+        Err(OutOfMemory) => Clock::new(alloc, 3),
+    }
+}
+
+fn make_room(clocks: &mut HbClocks, event: &Event) -> Result<(), OutOfMemory>
+    requires { IsWithin clocks.old.width event.now }
+    ensures same { state_of clocks.new ≡ state_of clocks.old }
+    ensures ready { OnOk result (IsReady clocks.new event.now.thread event.now.op) }
+    ensures width { clocks.new.width ≡ clocks.old.width }
+{
+    if clocks.prepare(event).is_ok() {
+        return Ok(());
+    }
+    clocks.prepare(event)
+}
+
+pub fn event(thread: ThreadId, op: Op) -> Event
+    ensures thread { result.thread ≡ thread }
+    ensures op { result.op ≡ op }
+{
+    Event {
+        thread,
+        op,
+        site: SiteId(0),
+        value: 0,
+    }
+}
+
+// Whether the threads that the event names are below 3.
+fn is_within(event: &Event) -> bool
+    ensures { IsTrue result ↔ IsWithin 3 event.now }
+{
+    event.thread.0 < 3
+        && match event.op {
+            Op::Fork(child) | Op::Join(child) => child.0 < 3,
+            _ => true,
+        }
+}
+
+fn expect_numbers(rt: &impl Abort, clock: &Clock, wanted: &[u64; 3])
+    requires { length clock.now ≡ 3 }
+{
+    assert_eq!(rt; [clock.at(T0), clock.at(T1), clock.at(T2)], *wanted);
+}
+
+impl Run {
+    pub fn new(rt: &impl Abort, alloc: Global) -> Run {
+        let limits = Limits::new(3, 2, 2, 64, Roots::Free).expect(rt, "small limits");
+        let (clocks, work) = begin_clocks(alloc, &limits).expect(rt, "memory");
+        Run {
+            clocks,
+            work,
+            beside: zeros(alloc).expect(rt, "memory"),
+            marked: None,
+            calls: 0,
+        }
+    }
+
+    // Makes room for the event, and takes it.
+    #[tactic(auto, using(crate::proofs::FewJoins::few_joins))]
+    pub fn take(&mut self, rt: &impl Abort, event: &Event) {
+        assert!(rt; self.calls < 100);
+        assert!(rt; is_within(event));
+        assert!(rt; make_room(&mut self.clocks, event).is_ok(), "memory");
+        assert!(rt; self.clocks.admits(event));
+        self.clocks.advance(event, &mut self.work);
+        self.calls += 1;
+    }
+
+    fn make_room(&mut self, rt: &impl Abort, event: &Event) {
+        assert!(rt; is_within(event));
+        assert!(rt; make_room(&mut self.clocks, event).is_ok(), "memory");
+    }
+
+    // The mark of the thread's latest event.
+    pub fn latest(&self, rt: &impl Abort, thread: ThreadId) -> Mark
+        ensures own { result.thread ≡ thread.0 }
+        ensures marked { 0 < result.position }
+    {
+        assert!(rt; thread.0 < 3);
+        assert!(rt; 0 < self.clocks.po(thread).at(thread));
+        self.clocks.mark(thread)
+    }
+
+    // The clock of happens-before of a thread that has events.
+    pub fn happened(&self, rt: &impl Abort, thread: ThreadId) -> &Clock
+        ensures width { length result.now ≡ 3 }
+        ensures counted { 0 < counts_of result.now thread.0 }
+        ensures counts { (u : ℕ) → counts_of result.now u ≤ 100 }
+    {
+        assert!(rt; thread.0 < 3);
+        let clock = self.clocks.hb(thread);
+        assert!(rt; 0 < clock.at(thread));
+        clock
+    }
+
+    fn expect_counts(&mut self, rt: &impl Abort, thread: ThreadId, wanted: &[bool; 2]) {
+        let mark = self.marked.expect(rt, "a mark is kept");
+        assert!(rt; mark.thread().0 < 3);
+        assert!(rt; self.calls < 99);
+        self.calls += 2;
+        let by_po = mark.counted(self.clocks.po(thread), &mut self.work);
+        let by_hb = mark.counted(self.clocks.hb(thread), &mut self.work);
+        assert_eq!(rt; [by_po, by_hb], *wanted);
+    }
+
+    fn copy(&mut self, thread: ThreadId) {
+        self.beside.copy_from(self.clocks.po(thread));
+    }
+
+    fn join(&mut self, rt: &impl Abort, thread: ThreadId) {
+        assert!(rt; self.calls < 100);
+        self.beside.join(self.clocks.hb(thread), &mut self.work);
+        self.calls += 1;
+    }
+
+    fn join_release(&mut self, rt: &impl Abort, by: ThreadId, before: &[u32]) {
+        assert!(rt; self.calls < 100);
+        assert!(rt; (by.0 as usize) < before.len() && before.len() <= 3);
+        self.beside.join_release(by, before, &mut self.work);
+        self.calls += 1;
+    }
+
+    fn expect_joined(&self, rt: &impl Abort, first: ThreadId, second: ThreadId, wanted: &[u64; 3]) {
+        let joined = JoinedClocks::new(self.clocks.po(first), self.clocks.po(second));
+        assert_eq!(rt; [joined.at(T0), joined.at(T1), joined.at(T2)], *wanted);
+    }
+
+    fn follow(&mut self, rt: &impl Abort, row: &Row) {
+        match row {
+            Row::Take(thread, op) => self.take(rt, &event(*thread, *op)),
+            Row::Po(thread, wanted) => expect_numbers(rt, self.clocks.po(*thread), wanted),
+            Row::Hb(thread, wanted) => expect_numbers(rt, self.clocks.hb(*thread), wanted),
+            Row::Depth(thread, lock, wanted) => {
+                assert!(rt; self.clocks.depth(*thread, *lock) == *wanted);
+            }
+            Row::Admits(thread, op, wanted) => {
+                assert!(rt; self.clocks.admits(&event(*thread, *op)) == *wanted);
+            }
+            Row::MakeRoom(thread, op) => self.make_room(rt, &event(*thread, *op)),
+            Row::Ready(thread, op, wanted) => {
+                assert!(rt;
+                    self.clocks.ready(&event(*thread, *op)) == *wanted,
+                    "{op:?}"
+                );
+            }
+            Row::Mark(thread) => self.marked = Some(self.latest(rt, *thread)),
+            Row::Counts(thread, wanted) => self.expect_counts(rt, *thread, wanted),
+            Row::Copy(thread) => self.copy(*thread),
+            Row::Join(thread) => self.join(rt, *thread),
+            Row::JoinRelease(by, before) => self.join_release(rt, *by, before),
+            Row::Clock(wanted) => expect_numbers(rt, &self.beside, wanted),
+            Row::Joined(first, second, wanted) => self.expect_joined(rt, *first, *second, wanted),
+        }
+    }
+}
+
+fn follow_all(rt: &impl Abort, alloc: Global, rows: &[Row]) {
+    let mut run = Run::new(rt, alloc);
+    for row in rows {
+        run.follow(rt, row);
+    }
+    drop(run);
+}
+
+#[test]
+fn nested_sections_hand_on_their_numbers(rt: HostRuntime) {
+    follow_all(&rt, rt.alloc(), NESTED_SECTIONS);
+}
+
+#[test]
+fn the_fork_of_an_empty_child_is_below_its_join(rt: HostRuntime) {
+    follow_all(&rt, rt.alloc(), EMPTY_CHILD);
+}
+
+#[test]
+fn the_outer_release_alone_hands_on(rt: HostRuntime) {
+    follow_all(&rt, rt.alloc(), INNER_RELEASE);
+}
+
+#[test]
+fn a_mark_is_counted_from_its_event_on(rt: HostRuntime) {
+    follow_all(&rt, rt.alloc(), MARKED);
+}
+
+#[test]
+fn clocks_take_the_greater_numbers(rt: HostRuntime) {
+    follow_all(&rt, rt.alloc(), GREATER);
+}
+
+#[test]
+fn two_clocks_are_read_as_their_join(rt: HostRuntime) {
+    follow_all(&rt, rt.alloc(), READ_AS_ONE);
+}
+
+#[test]
+fn a_release_is_one_more_than_the_numbers_before_it(rt: HostRuntime) {
+    follow_all(&rt, rt.alloc(), RELEASES);
+}
+
+#[test]
+fn an_event_is_ready_once_its_threads_and_lock_have_room(rt: HostRuntime) {
+    follow_all(&rt, rt.alloc(), ROOM);
+}

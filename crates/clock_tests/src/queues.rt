@@ -1,0 +1,275 @@
+//! Closed sections: what no clause says, that there can be memory, and that the conditions can be met.
+//!
+//! On each lock at most one section is closed, and at most one release asks for it.
+ghost use Rattle.std.specs.Prelude.{◌≡◌, ℕ, ◌+◌, ◌<◌, ◌≤◌, false, length, IsTrue};
+ghost use Rattle.hb_clocks.specs.Counts.{counts_of};
+ghost use Rattle.lock_queues.specs.Queues.{closed_of, found_of, has_room, SameMeaning};
+
+use crate::clocks::{Run, event};
+use event_core::{Limits, LockId, Op, Roots, ThreadId, VarId};
+use hb_clocks::{Clock, Mark, Work};
+use lock_queues::Queues;
+use std::alloc::Global;
+use std::process::Abort;
+
+const T0: ThreadId = ThreadId(0);
+
+const T1: ThreadId = ThreadId(1);
+
+const L: LockId = LockId(0);
+
+const M: LockId = LockId(1);
+
+/// What is done, or what is found.
+enum Row {
+    /// The thread has one event more.
+    Take(ThreadId),
+    /// Room is made for the thread's next section on the lock.
+    MakeRoom(ThreadId, LockId),
+    /// Whether there is such room.
+    HasRoom(ThreadId, LockId, bool),
+    /// Whether there is such room, once it is made where that takes no memory.
+    SpareRoom(ThreadId, LockId, bool),
+    /// The thread has the first section on the lock, from its latest event on.
+    Close(ThreadId, LockId),
+    /// How many closed sections the lock has.
+    Count(LockId, u32),
+    /// The lock's closed section of the number: its thread, how many events of that thread there were before
+    /// its release, and how many of each.
+    Section(LockId, u32, ThreadId, u32, &'static [u32]),
+    /// What a release of the thread finds on the lock, by the clock of another thread: the section's thread,
+    /// and how many events of that thread there were before its release.
+    Finds(ThreadId, LockId, ThreadId, Option<(ThreadId, u32)>),
+}
+
+const ROOM: &[Row] = &[
+    Row::HasRoom(T1, L, false),
+    // the first section needs memory
+    Row::SpareRoom(T1, L, false),
+    Row::MakeRoom(T1, L),
+    Row::HasRoom(T1, L, true),
+    Row::SpareRoom(T1, L, true),
+    Row::HasRoom(T0, L, false),
+    Row::HasRoom(T1, M, false),
+    Row::MakeRoom(T1, L),
+];
+
+const SPARE_ROOM: &[Row] = &[
+    Row::Take(T1),
+    Row::Close(T1, L),
+    Row::Close(T1, M),
+    Row::HasRoom(T1, L, false),
+    Row::SpareRoom(T1, L, true),
+    Row::HasRoom(T1, L, true),
+];
+
+const TWO_THREADS: &[Row] = &[
+    Row::Take(T0),
+    Row::Take(T1),
+    Row::Close(T0, L),
+    Row::Finds(T1, L, T0, Some((T0, 0))),
+];
+
+const ONE_SECTION: &[Row] = &[
+    Row::Take(T1),
+    Row::Count(L, 0),
+    Row::Close(T1, L),
+    Row::Count(L, 1),
+    Row::Section(L, 1, T1, 0, &[0, 0]),
+];
+
+/// The sections of three threads on two locks, and the clocks of those threads.
+#[derive(Drop)]
+struct Sections {
+    queues: Queues,
+    run: Run,
+    is_searched: bool,
+    ghost threads: { queues.limits.threads ≡ 3 },
+    ghost locks: { queues.limits.locks ≡ 2 },
+    ghost few: { (l : ℕ) → length (closed_of queues l) ≤ 1 },
+    ghost found: { is_searched ≡ false → found_of queues ≡ (λ _ _. 0) },
+}
+
+// Where a growth is refused, there is no room, and the same call is made again.
+fn make_room(rt: &impl Abort, queues: &mut Queues, thread: ThreadId, lock: LockId)
+    requires thread { thread.0 < queues.old.limits.threads }
+    requires lock { lock.0 < queues.old.limits.locks }
+    ensures { SameMeaning queues.old queues.new }
+{
+    if queues.make_room(thread, lock).is_err() {
+        assert!(rt; !queues.has_room(thread, lock));
+        assert!(rt; queues.make_room(thread, lock).is_ok(), "memory");
+    }
+}
+
+fn expect_none(rt: &impl Abort, queues: &Queues, lock: LockId)
+    requires { length (closed_of queues.now lock.0) ≤ 1 }
+    ensures { length (closed_of queues.now lock.0) ≡ 0 }
+{
+    assert!(rt; queues.count(lock) == 0);
+}
+
+// The thread has the first section on the lock, which is closed with the clock.
+fn close_first(
+    rt: &impl Abort,
+    queues: &mut Queues,
+    thread: ThreadId,
+    lock: LockId,
+    mark: Mark,
+    clock: &Clock,
+)
+    requires own { mark.thread ≡ thread.0 }
+    requires marked { 0 < mark.position }
+    requires width { length clock.now ≡ queues.old.limits.threads }
+    requires counted { 0 < counts_of clock.now thread.0 }
+    requires counts { (u : ℕ) → counts_of clock.now u ≤ 100 }
+    requires few { (l : ℕ) → length (closed_of queues.old l) ≤ 1 }
+    ensures few { (l : ℕ) → length (closed_of queues.new l) ≤ 1 }
+    ensures found { found_of queues.new ≡ found_of queues.old }
+    ensures limits { queues.new.limits ≡ queues.old.limits }
+{
+    assert!(rt; queues.has_room(thread, lock));
+    expect_none(rt, queues, lock);
+    queues.enter(thread, lock, mark);
+    queues.leave(thread, lock, clock);
+}
+
+// What a release of the thread finds by the clock, which ends its section from the mark on.
+fn find(
+    rt: &impl Abort,
+    queues: &mut Queues,
+    thread: ThreadId,
+    lock: LockId,
+    mark: Mark,
+    clock: &Clock,
+    work: &mut Work,
+) -> Option<(ThreadId, u32)>
+    requires own { mark.thread ≡ thread.0 }
+    requires marked { 0 < mark.position }
+    requires width { length clock.now ≡ queues.old.limits.threads }
+    requires few { length (closed_of queues.old lock.0) ≤ 1 }
+    requires found { found_of queues.old ≡ (λ _ _. 0) }
+    requires work { work.old.comparisons ≤ 100 }
+    ensures comparisons { work.new.comparisons ≤ work.old.comparisons + 2 }
+    ensures joins { work.new.joins ≡ work.old.joins }
+    ensures closed { closed_of queues.new ≡ closed_of queues.old }
+    ensures limits { queues.new.limits ≡ queues.old.limits }
+{
+    assert!(rt; queues.has_room(thread, lock));
+    queues.enter(thread, lock, mark);
+    let below = queues.last_below(thread, lock, clock, work)?;
+    Some((below.by, below.own))
+}
+
+impl Sections {
+    fn new(rt: &impl Abort, alloc: Global) -> Sections {
+        let limits = Limits::new(3, 2, 1, 8, Roots::Free).expect(rt, "small limits");
+        Sections {
+            queues: Queues::new(alloc, &limits).expect(rt, "no memory is taken"),
+            run: Run::new(rt, alloc),
+            is_searched: false,
+        }
+    }
+
+    fn make_room(&mut self, rt: &impl Abort, thread: ThreadId, lock: LockId) {
+        assert!(rt; thread.0 < 3);
+        assert!(rt; lock.0 < 2);
+        make_room(rt, &mut self.queues, thread, lock);
+    }
+
+    fn close(&mut self, rt: &impl Abort, thread: ThreadId, lock: LockId) {
+        self.make_room(rt, thread, lock);
+        let mark = self.run.latest(rt, thread);
+        let clock = self.run.happened(rt, thread);
+        close_first(rt, &mut self.queues, thread, lock, mark, clock);
+    }
+
+    fn expect_section(
+        &self,
+        rt: &impl Abort,
+        lock: LockId,
+        number: u32,
+        wanted: (ThreadId, u32, &[u32]),
+    ) {
+        assert!(rt; 0 < number);
+        assert!(rt; number <= self.queues.count(lock));
+        let section = self.queues.section(lock, number);
+        assert_eq!(rt; (section.by, section.own), (wanted.0, wanted.1));
+        assert_eq!(rt; section.before, wanted.2);
+    }
+
+    fn expect_found(
+        &mut self,
+        rt: &impl Abort,
+        thread: ThreadId,
+        lock: LockId,
+        other: ThreadId,
+        wanted: &Option<(ThreadId, u32)>,
+    ) {
+        self.make_room(rt, thread, lock);
+        assert!(rt; !self.is_searched && self.run.calls < 99);
+        self.is_searched = true;
+        self.run.calls += 2;
+        let mark = self.run.latest(rt, thread);
+        let clock = self.run.clocks.hb(other);
+        let found = find(
+            rt,
+            &mut self.queues,
+            thread,
+            lock,
+            mark,
+            clock,
+            &mut self.run.work,
+        );
+        assert!(rt; found == *wanted);
+    }
+
+    fn follow(&mut self, rt: &impl Abort, row: &Row) {
+        match row {
+            Row::Take(thread) => self.run.take(rt, &event(*thread, Op::Load(VarId(0)))),
+            Row::MakeRoom(thread, lock) => self.make_room(rt, *thread, *lock),
+            Row::HasRoom(thread, lock, wanted) => {
+                assert!(rt; self.queues.has_room(*thread, *lock) == *wanted);
+            }
+            Row::SpareRoom(thread, lock, wanted) => {
+                assert!(rt; self.queues.take_spare_room(*thread, *lock) == *wanted);
+            }
+            Row::Close(thread, lock) => self.close(rt, *thread, *lock),
+            Row::Count(lock, wanted) => assert!(rt; self.queues.count(*lock) == *wanted),
+            Row::Section(lock, number, by, own, before) => {
+                self.expect_section(rt, *lock, *number, (*by, *own, before));
+            }
+            Row::Finds(thread, lock, other, wanted) => {
+                self.expect_found(rt, *thread, *lock, *other, wanted);
+            }
+        }
+    }
+}
+
+fn follow_all(rt: &impl Abort, alloc: Global, rows: &[Row]) {
+    let mut sections = Sections::new(rt, alloc);
+    for row in rows {
+        sections.follow(rt, row);
+    }
+    drop(sections);
+}
+
+#[test]
+fn room_is_made_for_one_thread_and_lock(rt: HostRuntime) {
+    follow_all(&rt, rt.alloc(), ROOM);
+}
+
+#[test]
+fn a_further_section_may_need_no_memory(rt: HostRuntime) {
+    follow_all(&rt, rt.alloc(), SPARE_ROOM);
+}
+
+#[test]
+fn another_thread_finds_the_section(rt: HostRuntime) {
+    follow_all(&rt, rt.alloc(), TWO_THREADS);
+}
+
+#[test]
+fn a_closed_section_is_found_by_its_number(rt: HostRuntime) {
+    follow_all(&rt, rt.alloc(), ONE_SECTION);
+}

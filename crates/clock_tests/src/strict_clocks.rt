@@ -1,0 +1,326 @@
+//! Strict clocks of small logs, and room for an event.
+//!
+//! Each line of a log has an event, and how many events of each thread strictly precede it. These numbers are
+//! worked out by hand from the paper's rules. That the event is legal is learned from a memory, which permits
+//! its call. Where a growth is refused once, the same call is made again and gives the same numbers.
+ghost use Rattle.std.specs.Prelude.{◌≡◌, ◌<◌, List, [], IfOk, OnOk};
+ghost use Rattle.event_core.specs.declared.events.Event.{Event as AnEvent};
+ghost use Rattle.traced_mem.specs.OfLog.{StandsFor as MemoryStandsFor};
+ghost use Rattle.traced_mem.specs.Room.{IsReady as MemoryIsReady};
+ghost use Rattle.traced_mem.specs.Tables.{Allows};
+ghost use Rattle.wcp_clocks.specs.Parts.{IsReady, IsWithin, SameLimits, SameNumbers, event_by};
+ghost use Rattle.wcp_clocks.specs.Parts.{width_of, limits_of, work_of};
+ghost use Rattle.wcp_clocks.specs.StandsFor.{StandsFor};
+ghost use Rattle.clock_tests.specs.OneLog.{small, StandForOneLog};
+
+use event_core::{Call, Event, Limits, LockId, Op, OutOfMemory, Roots, SiteId, ThreadId, VarId};
+use std::alloc::Global;
+use std::process::Abort;
+use traced_mem::Memory;
+use wcp_clocks::WcpClocks;
+
+const MAIN: ThreadId = ThreadId(0);
+
+const CHILD: ThreadId = ThreadId(1);
+
+const OTHER: ThreadId = ThreadId(2);
+
+const L: LockId = LockId(0);
+
+const K: LockId = LockId(1);
+
+const M: LockId = LockId(2);
+
+const N: LockId = LockId(3);
+
+const X: VarId = VarId(0);
+
+const Y: VarId = VarId(1);
+
+const Z: VarId = VarId(2);
+
+/// An event, and of each thread how many events strictly precede it.
+type Line = (ThreadId, Op, [u64; 3]);
+
+// The child's load takes the release of k, main's fifth event, and with it the acquire of main's section
+// on l. So the child's release of l takes main's release of l, its seventh event.
+const EARLIER_RELEASE: &[Line] = &[
+    (MAIN, Op::Fork(CHILD), [0, 0, 0]),
+    (MAIN, Op::Acquire(L), [0, 0, 0]),
+    (MAIN, Op::Acquire(K), [0, 0, 0]),
+    (MAIN, Op::Store(X), [0, 0, 0]),
+    (MAIN, Op::Release(K), [0, 0, 0]),
+    (MAIN, Op::Store(Y), [0, 0, 0]),
+    (MAIN, Op::Release(L), [0, 0, 0]),
+    (CHILD, Op::Acquire(K), [0, 0, 0]),
+    (CHILD, Op::Load(X), [5, 0, 0]),
+    (CHILD, Op::Release(K), [5, 0, 0]),
+    (CHILD, Op::Acquire(L), [5, 0, 0]),
+    (CHILD, Op::Release(L), [7, 0, 0]),
+    (CHILD, Op::Load(Y), [7, 0, 0]),
+];
+
+// The child's load takes main's release of m, and with it the acquire of main's first section on l. The
+// lock k brings that to main. So main's second release of l takes the first, main's ninth event, and the
+// three events of the other thread that happen before it.
+const RELEASES_OF_ONE_THREAD: &[Line] = &[
+    (MAIN, Op::Fork(CHILD), [0, 0, 0]),
+    (MAIN, Op::Fork(OTHER), [0, 0, 0]),
+    (OTHER, Op::Store(Z), [0, 0, 0]),
+    (OTHER, Op::Acquire(N), [0, 0, 0]),
+    (OTHER, Op::Release(N), [0, 0, 0]),
+    (MAIN, Op::Acquire(L), [0, 0, 0]),
+    (MAIN, Op::Acquire(M), [0, 0, 0]),
+    (MAIN, Op::Store(X), [0, 0, 0]),
+    (MAIN, Op::Release(M), [0, 0, 0]),
+    (MAIN, Op::Acquire(N), [0, 0, 0]),
+    (MAIN, Op::Release(N), [0, 0, 0]),
+    (MAIN, Op::Release(L), [0, 0, 0]),
+    (CHILD, Op::Acquire(M), [0, 0, 0]),
+    (CHILD, Op::Load(X), [6, 0, 0]),
+    (CHILD, Op::Release(M), [6, 0, 0]),
+    (CHILD, Op::Acquire(K), [6, 0, 0]),
+    (CHILD, Op::Release(K), [6, 0, 0]),
+    (MAIN, Op::Acquire(K), [6, 0, 0]),
+    (MAIN, Op::Release(K), [6, 0, 0]),
+    (MAIN, Op::Acquire(L), [6, 0, 0]),
+    (MAIN, Op::Release(L), [9, 0, 3]),
+    (MAIN, Op::Load(Z), [9, 0, 3]),
+];
+
+// The section on l ends before the store to y, and the section on k after it.
+const CROSSED_SECTIONS: &[Line] = &[
+    (MAIN, Op::Fork(CHILD), [0, 0, 0]),
+    (MAIN, Op::Acquire(L), [0, 0, 0]),
+    (MAIN, Op::Acquire(K), [0, 0, 0]),
+    (MAIN, Op::Store(X), [0, 0, 0]),
+    (MAIN, Op::Release(L), [0, 0, 0]),
+    (MAIN, Op::Store(Y), [0, 0, 0]),
+    (MAIN, Op::Release(K), [0, 0, 0]),
+    (CHILD, Op::Acquire(L), [0, 0, 0]),
+    (CHILD, Op::Load(X), [5, 0, 0]),
+    (CHILD, Op::Load(Y), [5, 0, 0]),
+    (CHILD, Op::Release(L), [5, 0, 0]),
+    (CHILD, Op::Acquire(K), [5, 0, 0]),
+    (CHILD, Op::Load(Y), [7, 0, 0]),
+    (CHILD, Op::Release(K), [7, 0, 0]),
+    (MAIN, Op::Join(CHILD), [7, 0, 0]),
+];
+
+// Both stores come after an inner release, and are in the sections of the outer acquires. The outer release
+// is main's sixth event.
+const INNER_RELEASES: &[Line] = &[
+    (MAIN, Op::Fork(CHILD), [0, 0, 0]),
+    (MAIN, Op::Acquire(L), [0, 0, 0]),
+    (MAIN, Op::Acquire(L), [0, 0, 0]),
+    (MAIN, Op::Release(L), [0, 0, 0]),
+    (MAIN, Op::Store(X), [0, 0, 0]),
+    (MAIN, Op::Release(L), [0, 0, 0]),
+    (CHILD, Op::Acquire(L), [0, 0, 0]),
+    (CHILD, Op::Acquire(L), [0, 0, 0]),
+    (CHILD, Op::Release(L), [0, 0, 0]),
+    (CHILD, Op::Store(X), [6, 0, 0]),
+    (CHILD, Op::Release(L), [6, 0, 0]),
+];
+
+fn small_limits(rt: &impl Abort) -> Limits
+    ensures { result ≡ small }
+{
+    Limits::new(3, 4, 3, 64, Roots::OnlyMain).expect(rt, "small limits")
+}
+
+// Clocks of the empty log. Where a growth is refused, the same call is made again.
+fn begin_clocks(alloc: Global, limits: &Limits) -> Result<WcpClocks, OutOfMemory>
+    ensures width { IfOk result (λ clocks. width_of clocks ≡ limits.now.threads) }
+    ensures limits { IfOk result (λ clocks. limits_of clocks ≡ limits.now) }
+    ensures stands { IfOk result (λ clocks. StandsFor [] clocks) }
+    ensures no_work { IfOk result (λ clocks. work_of clocks ≡ record { comparisons = 0; joins = 0 }) }
+{
+    match WcpClocks::new(alloc, limits) {
+        Ok(clocks) => Ok(clocks),
+        Err(OutOfMemory) => WcpClocks::new(alloc, limits),
+    }
+}
+
+fn make_room(clocks: &mut WcpClocks, event: &Event) -> Result<(), OutOfMemory>
+    requires { IsWithin clocks.old event.now }
+    ensures same { SameNumbers clocks.old clocks.new }
+    ensures limits { SameLimits clocks.old clocks.new }
+    ensures ready { OnOk result (IsReady clocks.new event.now) }
+{
+    if clocks.prepare(event).is_ok() {
+        return Ok(());
+    }
+    clocks.prepare(event)
+}
+
+// Makes room for the call where it is permitted, and tells whether there is room now.
+fn make_place(memory: &mut Memory, call: &Call) -> bool
+    ensures limits { memory.new.limits ≡ memory.old.limits }
+    ensures stands { (log : List AnEvent) → MemoryStandsFor memory.old log → MemoryStandsFor memory.new log }
+{
+    memory.permit(call).is_ok() && memory.prepare(call).is_ok()
+}
+
+// The call is permitted, and there is room for it. Where a growth is refused, it is asked for once more.
+fn permit(rt: &impl Abort, memory: &mut Memory, call: &Call)
+    ensures allowed { Allows memory.new call.now.thread call.now.op }
+    ensures ready { MemoryIsReady memory.new call.now.thread call.now.op }
+    ensures limits { memory.new.limits ≡ memory.old.limits }
+    ensures stands { (log : List AnEvent) → MemoryStandsFor memory.old log → MemoryStandsFor memory.new log }
+{
+    if !make_place(memory, call) {
+        assert!(rt; make_place(memory, call), "a legal event");
+    }
+    assert!(rt; memory.permit(call).is_ok());
+    assert!(rt; memory.ready(call));
+}
+
+fn strict_numbers(clocks: &WcpClocks, thread: ThreadId) -> [u64; 3]
+    requires { width_of clocks.now ≡ 3 }
+{
+    [
+        clocks.strict(thread, MAIN),
+        clocks.strict(thread, CHILD),
+        clocks.strict(thread, OTHER),
+    ]
+}
+
+fn numbers_below(clocks: &WcpClocks, thread: ThreadId) -> [u64; 3]
+    requires { width_of clocks.now ≡ 3 }
+{
+    [
+        clocks.below(thread, MAIN),
+        clocks.below(thread, CHILD),
+        clocks.below(thread, OTHER),
+    ]
+}
+
+fn clock_numbers(clocks: &WcpClocks, thread: ThreadId) -> [u64; 3]
+    requires { width_of clocks.now ≡ 3 }
+{
+    let clock = clocks.clock(thread);
+    [clock.at(MAIN), clock.at(CHILD), clock.at(OTHER)]
+}
+
+// Takes the event of a call with no value, which has to be permitted.
+fn take(rt: &impl Abort, memory: &mut Memory, clocks: &mut WcpClocks, thread: ThreadId, op: Op)
+    requires { StandForOneLog memory.old clocks.old }
+    ensures { StandForOneLog memory.new clocks.new }
+{
+    let call = Call {
+        thread,
+        op,
+        site: SiteId(0),
+        arg: 0,
+    };
+    permit(rt, memory, &call);
+    let event = call.event_with(memory.apply(&call));
+    assert!(rt; make_room(clocks, &event).is_ok(), "memory");
+    clocks.advance(&event);
+}
+
+fn expect_below(rt: &impl Abort, clocks: &WcpClocks, thread: ThreadId, wanted: [u64; 3])
+    requires { width_of clocks.now ≡ 3 }
+{
+    assert_eq!(rt; numbers_below(clocks, thread), wanted);
+    assert_eq!(rt; clock_numbers(clocks, thread), wanted);
+}
+
+// Takes the events in turn, and looks at the numbers after each. At the end so many events are below the last
+// one of the thread.
+fn follow(rt: &impl Abort, alloc: Global, lines: &[Line], last: ThreadId, below: [u64; 3]) {
+    let limits = small_limits(rt);
+    let mut memory = Memory::new(alloc, limits).expect(rt, "no memory is taken");
+    let mut clocks = begin_clocks(alloc, &limits).expect(rt, "memory");
+    for index in 0..lines.len() {
+        let (thread, op, wanted) = lines[index];
+        take(rt, &mut memory, &mut clocks, thread, op);
+        let strict = strict_numbers(&clocks, thread);
+        assert_eq!(rt; strict, wanted, "event {index}");
+    }
+    expect_below(rt, &clocks, last, below);
+    drop(clocks);
+    drop(memory);
+}
+
+#[test]
+fn rule_b_adds_the_earlier_release_at_the_later_one(rt: HostRuntime) {
+    follow(&rt, rt.alloc(), EARLIER_RELEASE, CHILD, [7, 6, 0]);
+}
+
+#[test]
+fn rule_b_orders_the_releases_of_one_thread(rt: HostRuntime) {
+    follow(&rt, rt.alloc(), RELEASES_OF_ONE_THREAD, MAIN, [14, 0, 3]);
+}
+
+#[test]
+fn a_release_ends_the_section_of_its_own_lock(rt: HostRuntime) {
+    follow(&rt, rt.alloc(), CROSSED_SECTIONS, MAIN, [8, 7, 0]);
+}
+
+#[test]
+fn an_inner_release_ends_no_section(rt: HostRuntime) {
+    follow(&rt, rt.alloc(), INNER_RELEASES, CHILD, [6, 5, 0]);
+}
+
+// Where a growth is refused, the same call is made again.
+fn make_room_to_swap(
+    clocks: &mut WcpClocks,
+    thread: ThreadId,
+    var: VarId,
+) -> Result<(), OutOfMemory>
+    requires { thread.0 < width_of clocks.old }
+    ensures { SameLimits clocks.old clocks.new }
+{
+    if clocks.prepare_swap(thread, var).is_ok() {
+        return Ok(());
+    }
+    clocks.prepare_swap(thread, var)
+}
+
+fn event(thread: ThreadId, op: Op) -> Event
+    ensures { result ≡ event_by thread op }
+{
+    Event {
+        thread,
+        op,
+        site: SiteId(0),
+        value: 0,
+    }
+}
+
+fn small_clocks(rt: &impl Abort, alloc: Global) -> WcpClocks
+    ensures width { width_of result ≡ 3 }
+    ensures limits { limits_of result ≡ small }
+{
+    begin_clocks(alloc, &small_limits(rt)).expect(rt, "memory")
+}
+
+#[test]
+fn room_is_made_for_one_event(rt: HostRuntime) {
+    let mut clocks = small_clocks(&rt, rt.alloc());
+    let acquire = event(MAIN, Op::Acquire(L));
+    assert!(rt; !clocks.ready(&acquire));
+    assert!(rt; make_room(&mut clocks, &acquire).is_ok(), "memory");
+    assert!(rt; clocks.ready(&acquire));
+    assert!(rt; clocks.ready(&event(MAIN, Op::Release(L))));
+    assert!(rt; !clocks.ready(&event(CHILD, Op::Acquire(L))));
+    assert!(rt; !clocks.ready(&event(MAIN, Op::Acquire(K))));
+    assert!(rt; !clocks.ready_swap(CHILD, X));
+    assert!(rt; make_room_to_swap(&mut clocks, CHILD, X).is_ok(), "memory");
+    assert!(rt; clocks.ready_swap(CHILD, X));
+    drop(clocks);
+}
+
+#[test]
+fn an_access_grows_where_its_thread_has_clocks(rt: HostRuntime) {
+    let mut clocks = small_clocks(&rt, rt.alloc());
+    let load = event(MAIN, Op::Load(X));
+    assert!(rt; !clocks.ready_or_grow(&load));
+    assert!(rt; make_room(&mut clocks, &load).is_ok(), "memory");
+    assert!(rt; clocks.ready_or_grow(&load));
+    assert!(rt; !clocks.ready_or_grow(&event(CHILD, Op::Load(X))));
+    assert!(rt; !clocks.ready_or_grow(&event(MAIN, Op::Acquire(L))));
+    drop(clocks);
+}
