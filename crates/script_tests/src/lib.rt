@@ -5,8 +5,12 @@
 #![tactic(auto)]
 
 #[cfg(test)]
+mod causes;
+#[cfg(test)]
 mod faults;
 #[cfg(test)]
 mod readers;
+#[cfg(test)]
+mod readings;
 #[cfg(test)]
 mod scripts;

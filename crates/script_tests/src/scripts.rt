@@ -1,101 +1,118 @@
 //! Scripts without a fault, with their lines by thread.
-use crate::readers::Reading;
+use crate::readings::{Reading, Wanted};
 use event_core::{Act, Call, LockId, Op, SiteId, ThreadId, VarId};
-use rapid_text::Kind;
-use script_text::{Script, ScriptLine};
+use script_text::ScriptLine;
+use std::alloc::Global;
 use std::process::Abort;
 use std::test::Fail;
 
 /// A line of a thread with a call at a site.
-fn line_of(line: u64, thread: u32, op: Op, site: u32, arg: u64) -> ScriptLine {
-    let call = Call {
-        thread: ThreadId(thread),
-        op,
-        site: SiteId(site),
-        arg,
+macro_rules! line_of {
+    ($line:expr, $thread:expr, $op:expr, $site:expr, $arg:expr) => {
+        ScriptLine {
+            act: Act::One(Call {
+                thread: ThreadId($thread),
+                op: $op,
+                site: SiteId($site),
+                arg: $arg,
+            }),
+            line: $line,
+        }
     };
-    ScriptLine {
-        act: Act::One(call),
-        line,
-    }
 }
 
-/// The script names two threads, and these are their lines.
-fn expect_rows(rt: &impl Abort, script: &Script, of_main: &[ScriptLine], of_child: &[ScriptLine]) {
-    assert!(rt; script.threads() == 2);
-    if script.threads() == 2 {
-        assert!(rt; script.lines_of(ThreadId(0)) == of_main);
-        assert!(rt; script.lines_of(ThreadId(1)) == of_child);
+const SWAP: Act = Act::Swap {
+    thread: ThreadId(1),
+    var: VarId(0),
+    site: SiteId(2),
+    arg: 4,
+};
+
+const SCRIPTS: &[(&str, Wanted<'static>)] = &[
+    // Each form once, with both endings, an empty line, and a last line without an ending.
+    (
+        "m fork a\r\n\nm acq l\na swap x 4\nm w x 007\nm r y\nm rel l\nm join a",
+        Wanted {
+            threads: &["m", "a"],
+            lines: &[
+                &[
+                    line_of!(1, 0, Op::Fork(ThreadId(1)), 0, 0),
+                    line_of!(3, 0, Op::Acquire(LockId(0)), 1, 0),
+                    line_of!(5, 0, Op::Store(VarId(0)), 3, 7),
+                    line_of!(6, 0, Op::Load(VarId(1)), 4, 0),
+                    line_of!(7, 0, Op::Release(LockId(0)), 5, 0),
+                    line_of!(8, 0, Op::Join(ThreadId(1)), 6, 0),
+                ],
+                &[ScriptLine { act: SWAP, line: 4 }],
+            ],
+            sites: &["1", "3", "4", "5", "6", "7", "8"],
+        },
+    ),
+    // An empty script names no thread.
+    ("", Wanted::NONE),
+    ("\n\r\n", Wanted::NONE),
+    // A forked thread may have no lines.
+    (
+        "m fork a",
+        Wanted {
+            threads: &["m", "a"],
+            lines: &[&[line_of!(1, 0, Op::Fork(ThreadId(1)), 0, 0)], &[]],
+            sites: &["1"],
+        },
+    ),
+    // The greatest number, in a line that comes before the fork of its thread.
+    (
+        "m r x\na w x 18446744073709551615\nm fork a",
+        Wanted {
+            threads: &["m", "a"],
+            lines: &[
+                &[
+                    line_of!(1, 0, Op::Load(VarId(0)), 0, 0),
+                    line_of!(3, 0, Op::Fork(ThreadId(1)), 2, 0),
+                ],
+                &[line_of!(2, 1, Op::Store(VarId(0)), 1, u64::MAX)],
+            ],
+            sites: &["1", "2", "3"],
+        },
+    ),
+    // A line's location is named by its number.
+    (
+        "\nm fork a\na acq l\n",
+        Wanted {
+            threads: &["m", "a"],
+            lines: &[
+                &[line_of!(2, 0, Op::Fork(ThreadId(1)), 0, 0)],
+                &[line_of!(3, 1, Op::Acquire(LockId(0)), 1, 0)],
+            ],
+            sites: &["2", "3"],
+        },
+    ),
+];
+
+/// The reading of the text is the script that is wanted, whole and byte by byte.
+fn expect_script(
+    rt: &impl Abort,
+    alloc: Global,
+    text: &str,
+    wanted: &Wanted<'_>,
+) -> Result<(), Fail> {
+    for most in [usize::MAX, 1] {
+        let reading = Reading {
+            text: text.as_bytes(),
+            most,
+            fails: false,
+            turns: 100,
+        };
+        let answer = reading.judge(alloc, wanted)?;
+        assert!(rt; answer == Ok(true), "{text}: {answer:?}");
     }
-    assert!(rt; script.lines().len() == of_main.len() + of_child.len());
+    Ok(())
 }
 
-/// Each form once, with both endings, an empty line, and a last line without an ending.
 #[test]
 fn each_thread_has_its_lines(rt: HostRuntime) -> Result<(), Fail> {
-    let text = b"m fork a\r\n\nm acq l\na swap x 4\nm w x 007\nm r y\nm rel l\nm join a".as_slice();
-    let of_main = [
-        line_of(1, 0, Op::Fork(ThreadId(1)), 0, 0),
-        line_of(3, 0, Op::Acquire(LockId(0)), 1, 0),
-        line_of(5, 0, Op::Store(VarId(0)), 3, 7),
-        line_of(6, 0, Op::Load(VarId(1)), 4, 0),
-        line_of(7, 0, Op::Release(LockId(0)), 5, 0),
-        line_of(8, 0, Op::Join(ThreadId(1)), 6, 0),
-    ];
-    let swap = Act::Swap {
-        thread: ThreadId(1),
-        var: VarId(0),
-        site: SiteId(2),
-        arg: 4,
-    };
-    let of_child = [ScriptLine { act: swap, line: 4 }];
-    for reading in [Reading::whole(text), Reading::byte_by_byte(text)] {
-        let script = reading.read(rt.alloc(), 100)??;
-        expect_rows(&rt, &script, of_main.as_slice(), of_child.as_slice());
-    }
-    Ok(())
-}
-
-#[test]
-fn an_empty_script_names_no_thread(rt: HostRuntime) -> Result<(), Fail> {
-    for text in ["", "\n\r\n"] {
-        let script = Reading::whole(text.as_bytes()).read(rt.alloc(), 100)??;
-        assert!(rt; script.threads() == 0 && script.lines().is_empty());
-    }
-    Ok(())
-}
-
-#[test]
-fn a_forked_thread_may_have_no_lines(rt: HostRuntime) -> Result<(), Fail> {
-    let script = Reading::whole(b"m fork a").read(rt.alloc(), 100)??;
-    let of_main = [line_of(1, 0, Op::Fork(ThreadId(1)), 0, 0)];
-    expect_rows(&rt, &script, of_main.as_slice(), &[]);
-    Ok(())
-}
-
-/// The greatest number, in a line that comes before the fork of its thread.
-#[test]
-fn a_line_may_come_before_the_fork_of_its_thread(rt: HostRuntime) -> Result<(), Fail> {
-    let text = b"m r x\na w x 18446744073709551615\nm fork a".as_slice();
-    let script = Reading::whole(text).read(rt.alloc(), 100)??;
-    let of_main = [
-        line_of(1, 0, Op::Load(VarId(0)), 0, 0),
-        line_of(3, 0, Op::Fork(ThreadId(1)), 2, 0),
-    ];
-    let of_child = [line_of(2, 1, Op::Store(VarId(0)), 1, u64::MAX)];
-    expect_rows(&rt, &script, of_main.as_slice(), of_child.as_slice());
-    Ok(())
-}
-
-/// A line's location is named by its number.
-#[test]
-fn names_are_numbered_as_they_appear(rt: HostRuntime) -> Result<(), Fail> {
-    let script = Reading::whole(b"\nm fork a\na acq l\n").read(rt.alloc(), 100)??;
-    let names = script.names();
-    assert!(rt; names.count(Kind::Thread) == 2 && names.count(Kind::Site) == 2);
-    if names.count(Kind::Thread) == 2 && names.count(Kind::Site) == 2 {
-        assert!(rt; names.name(Kind::Thread, 1) == b"a".as_slice());
-        assert!(rt; names.name(Kind::Site, 1) == b"3".as_slice());
+    for (text, wanted) in SCRIPTS {
+        expect_script(&rt, rt.alloc(), text, wanted)?;
     }
     Ok(())
 }
