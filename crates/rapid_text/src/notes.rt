@@ -3,7 +3,7 @@
 //! A set of names is searched by a hash of all the bytes and a comparison byte by byte. A name of up to
 //! sixteen bytes is told by its length and two words. So here it has a place by its words, and at each place
 //! stands a note of one name: it is found by one read of memory. Where two names have one place, the second
-//! goes to the place beside it. Of a longer name there is no note.
+//! goes to a place beside it. Of a longer name there is no note.
 ghost use Rattle.std.specs.Prelude.{◌≡◌, ◌↔◌, ◌<◌, ◌≤◌, ◌⊎◌, ◌++◌, ◌-◌, List, [], length, take, drop, IfSome, IsTrue};
 ghost use Rattle.std.specs.Prelude.{IfOk};
 ghost use Rattle.std.specs.Int.{to_le_bytes, w32, w64};
@@ -15,6 +15,9 @@ use std::marker::Model;
 
 /// How many places there are for the first names.
 const FEWEST_PLACES: usize = 256;
+
+/// How many places a name may have, which lie side by side.
+const STEPS: usize = 4;
 
 /// The most bytes of a name that words tell.
 const MOST_HELD: usize = 16;
@@ -130,13 +133,13 @@ impl Words {
     }
 }
 
-/// The place beside another among so many, which are a power of two.
+/// A place beside another, or that itself for step 0, among so many, which are a power of two.
 #[inline(always)]
-fn beside(place: usize, places: usize) -> usize
+fn beside(place: usize, step: usize, places: usize) -> usize
     requires { 0 < places }
     ensures { result < places }
 {
-    (place ^ 1) & (places - 1)
+    (place ^ step) & (places - 1)
 }
 
 /// A short name's number, its length and its words. Where there is no name, the length is 0.
@@ -168,16 +171,18 @@ impl Note {
     }
 }
 
-/// Where a note with the words goes: to their place, or beside it where they give way to another's.
+/// Where a note with the words goes: to the first empty one of their places, or else to the first.
 fn place_to_note(notes: &[Note], words: Words) -> usize
     requires { 0 < length notes.now }
     ensures { result < length notes.now }
 {
     let places = notes.len();
     let place = words.place(places);
-    let other = beside(place, places);
-    if notes[place].length > 0 && notes[other].length == 0 {
-        return other;
+    for step in 0..STEPS {
+        let other = beside(place, step, places);
+        if notes[other].length == 0 {
+            return other;
+        }
     }
     place
 }
@@ -215,13 +220,11 @@ impl Notes {
         }
         let words = Words::of(name);
         let place = words.place(places);
-        let note = &self.list[place];
-        if note.is_of(words, name.len()) {
-            return Some(note.number);
-        }
-        let other = &self.list[beside(place, places)];
-        if other.is_of(words, name.len()) {
-            return Some(other.number);
+        for step in 0..STEPS {
+            let note = &self.list[beside(place, step, places)];
+            if note.is_of(words, name.len()) {
+                return Some(note.number);
+            }
         }
         None
     }
