@@ -56,7 +56,7 @@ both_ends n a b lengths enough few first last =
     let enough_b : n ≤ length b = omega (arith, lengths, enough) in
     let few_b : length b ≤ n + n = omega (arith, lengths, few) in
     let same : drop (n + n - length a) (drop (length a - n) a) ≡
-        drop (n + n - length b) (drop (length b - n) b) =
+    drop (n + n - length b) (drop (length b - n) b) =
     ap (λ (l : List ℕ). drop (n + n - length a) l) last
     ∙ ap (λ (m : ℕ). drop (n + n - m) (drop (length b - n) b)) lengths in
     let rest : drop n a ≡ drop n b = rest_of n a enough few ∙ same ∙ sym (rest_of n b enough_b few_b) in
@@ -69,6 +69,7 @@ same_name words a b lengths some short tell_a tell_b = by (few_or_more (length a
   where
     few_or_more : (n : ℕ) → (n ≤ 8) ⊎ (8 < n)
     few_or_more n = grind arith
+
     by : (length a ≤ 8) ⊎ (8 < length a) → a ≡ b
     by (inl few) =
         let few_b : length b ≤ 8 = omega (arith, lengths, few) in
@@ -76,5 +77,5 @@ same_name words a b lengths some short tell_a tell_b = by (few_or_more (length a
     by (inr more) =
         let more_b : 8 < length b = omega (arith, lengths, more) in
         both_ends 8 a b lengths (omega (arith, more)) short
-            (sym (tell_a.first more) ∙ tell_b.first more_b)
-            (sym (tell_a.last more) ∙ tell_b.last more_b)
+        (sym (tell_a.first more) ∙ tell_b.first more_b)
+        (sym (tell_a.last more) ∙ tell_b.last more_b)

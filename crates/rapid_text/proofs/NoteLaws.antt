@@ -1,6 +1,6 @@
 -- What notes hold stays right as names are added and noted.
 use Rattle.std.proofs.Common.{◌≡◌, ℕ, ◌<◌, ◌++◌, [], ◌∷◌, ◌⊎◌, List, Some}
-use Rattle.std.proofs.Common.{get_or, sym, ◌∙◌, ap, arith, subst}
+use Rattle.std.proofs.Common.{get_or, sym, ◌∙◌, ap, arith}
 use Rattle.std.specs.Prelude.{slice_get}
 use Rattle.std.specs.List.{position}
 use Rattle.std.specs.Str.{bytes_eq}
@@ -9,7 +9,7 @@ use Rattle.std.proofs.lemmas.Option.{slice_get-get_or}
 use Rattle.std.proofs.lemmas.Slice.Eq.{bytes_eq-Decides}
 use mathlib.Core.Logic.{inl, inr}
 use Rattle.rapid_text.specs.declared.notes.Note.{Note}
-use Rattle.rapid_text.specs.Notes.{Holds, HoldsNone, IsOneOf, IsNoteOf, IsFound, IsRight, AreRight}
+use Rattle.rapid_text.specs.Notes.{HoldsNone, IsOneOf, IsNoteOf, IsFound, IsRight, AreRight}
 use Rattle.rapid_text.proofs.Ends.{same_name}
 use Rattle.event_core.proofs.Places.{get_before}
 

@@ -1,30 +1,5 @@
 -- A set of names as the names with their numbers.
-use Rattle.std.proofs.Common.{
-  ◌≡◌,
-  ℕ,
-  ◌<◌,
-  ◌≤◌,
-  ◌++◌,
-  [],
-  ◌∷◌,
-  List,
-  Some,
-  None,
-  Option,
-  length,
-  Bool,
-  true,
-  false,
-  cond,
-  sym,
-  ◌∙◌,
-  ap,
-  arith,
-  refl,
-  zero,
-  suc,
-  subst,
-}
+use Rattle.std.proofs.Common.{◌≡◌, ℕ, ◌<◌, ◌≤◌, ◌++◌, [], ◌∷◌, List, Some, None, Option, length, true, false, cond, sym, ◌∙◌, ap, arith, refl, zero, suc, subst}
 use Rattle.std.specs.Prelude.{not, nat_lt, slice_get}
 use Rattle.std.specs.List.{AllByRecursion, IsDistinct}
 use Rattle.std.proofs.lemmas.Option.{slice_get_within}
@@ -32,7 +7,7 @@ use Rattle.std.proofs.lemmas.Slice.Eq.{bytes_eq-Decides}
 use Rattle.std.specs.List.{position, list_any, prefix_len}
 use Rattle.std.specs.Str.{bytes_eq}
 use Rattle.std.proofs.lemmas.Bool.{lt-ltb, le-ltb, false_from_ne_true, both_ways}
-use Rattle.rapid_text.specs.Numbers.{Numbered, found_or, number_of, place_of}
+use Rattle.rapid_text.specs.Numbers.{Numbered, found_or, number_of}
 
 abbrev pub names_in : ℕ → List (List ℕ) → Numbered
 names_in limit names = record { limit = limit; names = names }

@@ -1,11 +1,11 @@
 //! Notes of the numbers of names.
 //!
-//! A set of names is searched by a hash of all the bytes and a comparison byte by byte. A name of up to
-//! sixteen bytes is told by its length and two words. So here it has a place by its words, and at each place
-//! stands a note of one name: it is found by one read of memory. Where two names have one place, the second
-//! goes to a place beside it. Of a longer name there is no note.
-ghost use Rattle.std.specs.Prelude.{◌≡◌, ◌↔◌, ◌<◌, ◌≤◌, ◌⊎◌, ◌++◌, ◌-◌, List, [], length, take, drop, IfSome, IsTrue};
-ghost use Rattle.std.specs.Prelude.{IfOk};
+//! The set of names is searched by a hash of all the bytes and a comparison of them, through a table of its
+//! own. A name of up to sixteen bytes is told by its length and two words. So here it has a place by its
+//! words, and at each place stands a note of one name: most names are found by one read of memory. Where two
+//! names have one place, the second goes to a place beside it. Of a longer name there is no note.
+ghost use Rattle.std.specs.Prelude.{◌≡◌, ◌↔◌, ◌<◌, ◌≤◌, ◌⊎◌, ◌++◌, ◌-◌, List, [], length, take, drop};
+ghost use Rattle.std.specs.Prelude.{IfSome, IsTrue};
 ghost use Rattle.std.specs.Int.{to_le_bytes, w32, w64};
 ghost use Rattle.rapid_text.specs.Notes.{IsOneOf, IsNoteOf, IsFound, HoldsNone, Tell, ends_of};
 ghost use Rattle.rapid_text.specs.declared.notes.Note.{Note as ANote};
@@ -167,7 +167,9 @@ impl Note {
     fn is_of(&self, words: Words, length: usize) -> bool
         ensures { IsTrue result ↔ (self.now.words ≡ words) × (self.now.length ≡ length) }
     {
-        self.words.first == words.first && self.words.last == words.last && self.length as usize == length
+        self.words.first == words.first
+            && self.words.last == words.last
+            && self.length as usize == length
     }
 }
 
@@ -187,7 +189,7 @@ fn place_to_note(notes: &[Note], words: Words) -> usize
     place
 }
 
-/// By the places of names, the notes that were made last.
+/// By the places of names, the notes of them that were made last.
 #[derive(Drop)]
 pub struct Notes {
     list: Vec<Note>,

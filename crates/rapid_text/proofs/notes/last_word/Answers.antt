@@ -1,4 +1,4 @@
-use Rattle.std.proofs.Common.{◌≡◌, ◌∙◌}
+use Rattle.std.proofs.Common.{◌∙◌}
 use Rattle.rapid_text.proofs.notes.last_word.Goals as goal
 
 pub returns : goal.returns

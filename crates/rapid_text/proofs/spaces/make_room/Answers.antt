@@ -15,7 +15,7 @@ loop-number-preserved c =
     let names = c.args.names.now in
     let at : slice_get names c.loop-number.number ≡ Some c.as_slice.result.now =
     slice_get_read names (length names) c.loop-number.number c.index-names-number.result refl (omega arith)
-        c.index-names-number.is
+    c.index-names-number.is
     ∙ ap Some (sym c.as_slice.ensures) in
     right_noted names c.loop-number.notes c.note.new.self _ c.as_slice.result.now at c.loop-number.invariant
     c.note.ensures
