@@ -126,10 +126,12 @@ impl Words {
         requires { 0 < places }
         ensures { result < places }
     {
-        // An odd number whose bits are those of the golden ratio: the upper half of the product depends on all
-        // of the word.
+        // The factor has the bits of the golden ratio. Both halves of the product together depend on all of the
+        // word, also where its bytes are few digits.
         let product = self.mixed() as u128 * 0x9e37_79b9_7f4a_7c15;
-        (product >> 64) as usize & (places - 1)
+        let high = (product >> 64) as usize;
+        let low = (product & 0xffff_ffff_ffff_ffff) as usize;
+        (high ^ low) & (places - 1)
     }
 }
 
