@@ -1,6 +1,6 @@
 -- What notes hold stays right as names are added and noted.
-use Rattle.std.proofs.Common.{◌≡◌, ℕ, ◌++◌, [], ◌∷◌, ◌⊎◌, List, Some, Vec, Global}
-use Rattle.std.proofs.Common.{get_or, sym, ◌∙◌, ap, arith, subst}
+use Rattle.std.proofs.Common.{◌≡◌, ℕ, ◌<◌, ◌++◌, [], ◌∷◌, ◌⊎◌, List, Some}
+use Rattle.std.proofs.Common.{get_or, sym, ◌∙◌, ap, arith}
 use Rattle.std.specs.Prelude.{slice_get}
 use Rattle.std.specs.List.{position}
 use Rattle.std.specs.Str.{bytes_eq}
@@ -9,70 +9,53 @@ use Rattle.std.proofs.lemmas.Option.{slice_get-get_or}
 use Rattle.std.proofs.lemmas.Slice.Eq.{bytes_eq-Decides}
 use mathlib.Core.Logic.{inl, inr}
 use Rattle.rapid_text.specs.declared.notes.Note.{Note}
-use Rattle.rapid_text.specs.Notes.{Holds, HoldsNone, IsOneOf, IsNoteOf, IsFound, IsRight, AreRight}
+use Rattle.rapid_text.specs.Notes.{HoldsNone, IsOneOf, IsNoteOf, IsFound, IsRight, AreRight}
 use Rattle.rapid_text.proofs.Ends.{same_name}
 use Rattle.event_core.proofs.Places.{get_before}
 
--- a note of the key with its number is right
-of_key : (keys : List (Vec ℕ Global)) (number : ℕ) (key : Vec ℕ Global) (name : List ℕ) (note : Note)
-    → slice_get keys number ≡ Some key → key.items ≡ name → IsNoteOf number name note → IsRight keys note
-of_key keys number key name note at is made some = (
-  key,
-  ap (λ n. slice_get keys n) made.number_is ∙ at,
-  subst (λ (bytes : List ℕ). Holds bytes note) (sym is) (made.held some),
-)
+-- a note of the name with its number is right
+of_name : (names : List (List ℕ)) (number : ℕ) (name : List ℕ) (note : Note)
+    → slice_get names number ≡ Some name → IsNoteOf number name note → IsRight names note
+of_name names number name note at made some =
+    (name, ap (λ n. slice_get names n) made.number_is ∙ at, made.held)
 
-pub right_noted : (keys : List (Vec ℕ Global)) (old new : List Note) (number : ℕ) (key : Vec ℕ Global)
-    (name : List ℕ)
-    → slice_get keys number ≡ Some key → key.items ≡ name → AreRight keys old
-    → ((note : Note) → IsOneOf new note → IsOneOf old note ⊎ IsNoteOf number name note) → AreRight keys new
-right_noted keys old new number key name at is right made note one = go (made note one)
+pub right_noted : (names : List (List ℕ)) (old new : List Note) (number : ℕ) (name : List ℕ)
+    → slice_get names number ≡ Some name → AreRight names old
+    → ((note : Note) → IsOneOf new note → IsOneOf old note ⊎ IsNoteOf number name note) → AreRight names new
+right_noted names old new number name at right made note one = go (made note one)
   where
-    go : IsOneOf old note ⊎ IsNoteOf number name note → IsRight keys note
+    go : IsOneOf old note ⊎ IsNoteOf number name note → IsRight names note
     go (inl was) = right note was
-    go (inr now) = of_key keys number key name note at is now
+    go (inr now) = of_name names number name note at now
 
 -- new places hold nothing
-pub right_grown : (keys : List (Vec ℕ Global)) (old new : List Note) → AreRight keys old
-    → ((note : Note) → IsOneOf new note → IsOneOf old note ⊎ HoldsNone note) → AreRight keys new
-right_grown keys old new right made note one = go (made note one)
-  where
-    go : IsOneOf old note ⊎ HoldsNone note → IsRight keys note
-    go (inl was) = right note was
-    go (inr none) = λ some. absurd (omega (arith, some, none))
+pub right_empty : (names : List (List ℕ)) (notes : List Note)
+    → ((note : Note) → IsOneOf notes note → HoldsNone note) → AreRight names notes
+right_empty names notes none note one some = let empty = none note one in absurd (omega (arith, some, empty))
 
--- a further key leaves the others where they are
-pub right_more : (keys : List (Vec ℕ Global)) (key : Vec ℕ Global) (notes : List Note) → AreRight keys notes
-    → AreRight (keys ++ key ∷ []) notes
-right_more keys key notes right note one some =
-    let found = right note one some in (
-      found.0,
-      get_before keys
-          (key ∷ []) note.number found.0 found.1,
-      found.2,
-    )
+-- a further name leaves the others where they are
+pub right_more : (names : List (List ℕ)) (name : List ℕ) (notes : List Note) → AreRight names notes
+    → AreRight (names ++ name ∷ []) notes
+right_more names name notes right note one some =
+    let found = right note one some in
+    (found.0, get_before names (name ∷ []) note.number found.0 found.1, found.2)
 
--- the key at the place where the name was found
-pub found_key : (keys : List (Vec ℕ Global)) (name : List ℕ) (i : ℕ)
-    → position (λ k. bytes_eq name k.items) keys ≡ Some i
-    → (key : Vec ℕ Global) × (slice_get keys i ≡ Some key) × (key.items ≡ name)
-found_key [] name i is = absurd cc
-found_key (k ∷ keys) name i is =
-    let found = position-Some (λ (k : Vec ℕ Global). bytes_eq name k.items) (k ∷ keys) i k is in (
-      get_or (k ∷ keys) i k,
-      slice_get-get_or (k ∷ keys) i k found.0,
-      sym
-          ((bytes_eq-Decides name _).0 found.1),
-    )
+-- the name stands at the place where it was found
+pub found_name : (names : List (List ℕ)) (name : List ℕ) (i : ℕ)
+    → position (bytes_eq name) names ≡ Some i → slice_get names i ≡ Some name
+found_name [] name i is = absurd cc
+found_name (n ∷ names) name i is =
+    let found = position-Some (bytes_eq name) (n ∷ names) i n is in
+    let same : name ≡ get_or (n ∷ names) i n = (bytes_eq-Decides name _).0 found.1 in
+    slice_get-get_or (n ∷ names) i n found.0 ∙ ap Some (sym same)
 
--- a note that holds the name tells its key
-pub key_held : (keys : List (Vec ℕ Global)) (notes : List Note) (number : ℕ) (name : List ℕ)
-    → AreRight keys notes → IsFound notes number name
-    → (key : Vec ℕ Global) × (slice_get keys number ≡ Some key) × (key.items ≡ name)
-key_held keys notes number name right found =
-    let key = right found.note found.one (omega (arith, found.held.length_is, found.held.some)) in (
-      key.0,
-      ap (λ n. slice_get keys n) (sym found.number_is) ∙ key.1,
-      same_name key.0.items name (sym key.2.length_is ∙ found.held.length_is) key.2.some key.2.short
-          (sym key.2.ends_are ∙ found.held.ends_are),
-    )
+-- a note that holds the name tells where it stands
+pub name_held : (names : List (List ℕ)) (notes : List Note) (number : ℕ) (name : List ℕ)
+    → AreRight names notes → IsFound notes number name → slice_get names number ≡ Some name
+name_held names notes number name right found =
+    let some : 0 < found.note.length = omega (arith, found.held.length_is, found.held.some) in
+    let stored = right found.note found.one some in
+    let same : stored.0 ≡ name =
+    same_name found.note.words stored.0 name (sym stored.2.length_is ∙ found.held.length_is) stored.2.some
+    stored.2.short stored.2.words_tell found.held.words_tell in
+    ap (λ n. slice_get names n) (sym found.number_is) ∙ stored.1 ∙ ap Some same

@@ -1,10 +1,9 @@
 -- What notes say of names.
 use Rattle.std.specs.Prelude.{◌≡◌, ℕ, ◌<◌, ◌≤◌, ◌-◌, ◌/◌, List, [], ◌∷◌, length, slice_get, slice_index, Some}
-use Rattle.std.specs.Prelude.{if◌then◌else◌, nat_lt}
+use Rattle.std.specs.Prelude.{if◌then◌else◌, nat_lt, take, drop}
 use Rattle.std.specs.Int.{to_le_bytes, w64}
-use Rattle.std.specs.declared.vec.Vec.{Vec}
-use Rattle.std.specs.declared.alloc.Global.{Global}
 use Rattle.rapid_text.specs.declared.notes.Note.{Note}
+use Rattle.rapid_text.specs.declared.notes.Words.{Words}
 
 -- the bytes at the ends of a name of so many bytes: the first four and the last four, and of fewer than four
 -- the first, the middle and the last
@@ -19,6 +18,13 @@ ends_among n name =
 abbrev pub ends_of : List ℕ → List ℕ
 ends_of name = ends_among (length name) name
 
+-- the words tell the name: of up to eight bytes the first has the ends, and else the two have the first eight
+-- bytes and the last eight
+pub record Tell (words : Words) (name : List ℕ) : Type 0 where
+  pub few : length name ≤ 8 → to_le_bytes w64 words.first ≡ ends_of name
+  pub first : 8 < length name → to_le_bytes w64 words.first ≡ take 8 name
+  pub last : 8 < length name → to_le_bytes w64 words.last ≡ drop (length name - 8) name
+
 -- the note is one of the list
 abbrev pub IsOneOf : List Note → Note → Type 0
 IsOneOf notes note = (i : ℕ) × (slice_get notes i ≡ Some note)
@@ -27,17 +33,17 @@ IsOneOf notes note = (i : ℕ) × (slice_get notes i ≡ Some note)
 abbrev pub HoldsNone : Note → Type 0
 HoldsNone note = note.length ≡ 0
 
--- the note has the length and the ends of the short name
+-- the note has the length and the words of the short name
 pub record Holds (name : List ℕ) (note : Note) : Type 0 where
   pub length_is : note.length ≡ length name
   pub some : 0 < length name
-  pub short : length name ≤ 8
-  pub ends_are : to_le_bytes w64 note.word ≡ ends_of name
+  pub short : length name ≤ 16
+  pub words_tell : Tell note.words name
 
--- the note is of the name with the number: it holds the name, or none
+-- the note is of the name with the number
 pub record IsNoteOf (number : ℕ) (name : List ℕ) (note : Note) : Type 0 where
   pub number_is : note.number ≡ number
-  pub held : 0 < note.length → Holds name note
+  pub held : Holds name note
 
 -- one of the notes holds the name with the number
 pub record IsFound (notes : List Note) (number : ℕ) (name : List ℕ) : Type 0 where
@@ -46,11 +52,11 @@ pub record IsFound (notes : List Note) (number : ℕ) (name : List ℕ) : Type 0
   pub number_is : note.number ≡ number
   pub held : Holds name note
 
--- what the note holds is the key with its number
-abbrev pub IsRight : List (Vec ℕ Global) → Note → Type 0
-IsRight keys note = 0 < note.length
-    → (key : Vec ℕ Global) × (slice_get keys note.number ≡ Some key) × Holds key.items note
+-- what the note holds is the name with its number
+abbrev pub IsRight : List (List ℕ) → Note → Type 0
+IsRight names note = 0 < note.length
+    → (name : List ℕ) × (slice_get names note.number ≡ Some name) × Holds name note
 
 -- and so it is of each note
-abbrev pub AreRight : List (Vec ℕ Global) → List Note → Type 0
-AreRight keys notes = (note : Note) → IsOneOf notes note → IsRight keys note
+abbrev pub AreRight : List (List ℕ) → List Note → Type 0
+AreRight names notes = (note : Note) → IsOneOf notes note → IsRight names note

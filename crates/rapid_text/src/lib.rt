@@ -14,6 +14,7 @@ mod output;
 mod puller;
 mod reader;
 mod spaces;
+mod stored_names;
 mod window;
 mod writing;
 

@@ -1,32 +1,37 @@
 //! Notes of the numbers of names.
 //!
-//! A set of names is searched by a hash that takes a name byte by byte. Here a name has a place by a hash
-//! that takes many bytes at a time, and at each place stands a note of one name. A name of up to eight bytes
-//! is told by its length and one word, which the note holds: so it is found by one read of memory, and
-//! without a comparison byte by byte. Where two short names have one place, the second goes to the place
-//! beside it. Of a longer name a note is a guess, which is used only after the bytes were compared.
-ghost use Rattle.std.specs.Prelude.{◌≡◌, ◌↔◌, ◌<◌, ◌≤◌, ◌⊎◌, ◌++◌, List, [], length, IfSome, IsTrue};
+//! The set of names is searched by a hash of all the bytes and a comparison of them, through a table of its
+//! own. A name of up to sixteen bytes is told by its length and two words. So here it has a place by its
+//! words, and at each place stands a note of one name: most names are found by one read of memory. Where two
+//! names have one place, the second goes to a place beside it. Of a longer name there is no note.
+ghost use Rattle.std.specs.Prelude.{◌≡◌, ◌↔◌, ◌<◌, ◌≤◌, ◌⊎◌, ◌++◌, ◌-◌, List, [], length, take, drop};
+ghost use Rattle.std.specs.Prelude.{IfSome, IsTrue};
 ghost use Rattle.std.specs.Int.{to_le_bytes, w32, w64};
-ghost use Rattle.rapid_text.specs.Notes.{IsOneOf, IsNoteOf, IsFound, HoldsNone, ends_of};
+ghost use Rattle.rapid_text.specs.Notes.{IsOneOf, IsNoteOf, IsFound, HoldsNone, Tell, ends_of};
 ghost use Rattle.rapid_text.specs.declared.notes.Note.{Note as ANote};
 
 use std::alloc::{AllocError, Global};
-use std::hash::{FoldHasher, Hasher};
 use std::marker::Model;
 
 /// How many places there are for the first names.
 const FEWEST_PLACES: usize = 256;
 
-/// The most bytes of a name that is told by a word.
-const MOST_HELD: usize = 8;
+/// How many places a name may have, which lie side by side.
+const STEPS: usize = 4;
+
+/// The most bytes of a name that words tell.
+const MOST_HELD: usize = 16;
+
+/// How many bytes a word has.
+const WORD: usize = 8;
 
 /// What the last four bytes of a word count in it.
 const HALF: u64 = 4294967296;
 
-/// Whether a word tells the name.
+/// Whether words tell the name.
 #[inline(always)]
 fn is_short(name: &[u8]) -> bool
-    ensures { IsTrue result ↔ (0 < length name.now) × (length name.now ≤ 8) }
+    ensures { IsTrue result ↔ (0 < length name.now) × (length name.now ≤ 16) }
 {
     !name.is_empty() && name.len() <= MOST_HELD
 }
@@ -39,10 +44,10 @@ fn joined(first: u32, last: u32) -> u64
     first as u64 + last as u64 * HALF
 }
 
-/// The word of a short name: its first four bytes and its last four, which may be partly the same. Of a name
-/// with fewer than four, it has the first, the middle and the last.
+/// The word of a name of up to eight bytes: its first four bytes and its last four, which may be partly the
+/// same. Of a name with fewer than four, it has the first, the middle and the last.
 #[inline(always)]
-fn word_of(name: &[u8]) -> u64
+fn ends_word(name: &[u8]) -> u64
     requires { 0 < length name.now }
     ensures { to_le_bytes w64 result ≡ ends_of name.now }
 {
@@ -57,102 +62,136 @@ fn word_of(name: &[u8]) -> u64
     )
 }
 
-/// The place of the word among so many, which are a power of two.
+/// The word of eight bytes.
 #[inline(always)]
-fn place_of_word(word: u64, places: usize) -> usize
-    requires { 0 < places }
-    ensures { result < places }
+fn word(bytes: &[u8; 8]) -> u64
+    ensures { to_le_bytes w64 result ≡ bytes.now }
 {
-    // An odd number whose bits are those of the golden ratio: the upper half of the product depends on all of
-    // the word.
-    let product = word as u128 * 0x9e37_79b9_7f4a_7c15;
-    (product >> 64) as usize & (places - 1)
+    u64::from_le_bytes(*bytes)
 }
 
-/// The place of a name among so many, which are a power of two.
-fn place_of(name: &[u8], places: usize) -> usize
-    requires { 0 < places }
-    ensures { result < places }
+/// The word of the first eight bytes.
+#[inline(always)]
+fn first_word(name: &[u8]) -> u64
+    requires { 8 ≤ length name.now }
+    ensures { to_le_bytes w64 result ≡ take 8 name.now }
 {
-    if is_short(name) {
-        return place_of_word(word_of(name), places);
+    word(name.first_chunk().unwrap())
+}
+
+/// The word of the last eight bytes.
+#[inline(always)]
+fn last_word(name: &[u8]) -> u64
+    requires { 8 ≤ length name.now }
+    ensures { to_le_bytes w64 result ≡ drop (length name.now - 8) name.now }
+{
+    word(name.last_chunk().unwrap())
+}
+
+/// Two words that tell a name of up to sixteen bytes: its first eight bytes and its last eight, which may be
+/// partly the same. Of a name of up to eight, the last is 0.
+#[derive(Clone, Copy)]
+pub struct Words {
+    pub(crate) first: u64,
+    pub(crate) last: u64,
+}
+
+impl Words {
+    #[inline(always)]
+    fn of(name: &[u8]) -> Words
+        requires { 0 < length name.now }
+        ensures { Tell result name.now }
+    {
+        if name.len() <= WORD {
+            return Words {
+                first: ends_word(name),
+                last: 0,
+            };
+        }
+        Words {
+            first: first_word(name),
+            last: last_word(name),
+        }
     }
-    let mut hasher = FoldHasher::default();
-    hasher.write(name);
-    hasher.finish() as usize & (places - 1)
+
+    // One word of both. The factor is odd, so that no bit of the last is lost.
+    #[inline(always)]
+    fn mixed(self) -> u64 {
+        self.first ^ self.last.wrapping_mul(0xd6e8_feb8_6659_fd93)
+    }
+
+    // Their place among so many, which are a power of two.
+    #[inline(always)]
+    fn place(self, places: usize) -> usize
+        requires { 0 < places }
+        ensures { result < places }
+    {
+        // The factor has the bits of the golden ratio. Both halves of the product together depend on all of the
+        // word, also where its bytes are few digits.
+        let product = self.mixed() as u128 * 0x9e37_79b9_7f4a_7c15;
+        let high = (product >> 64) as usize;
+        let low = (product & 0xffff_ffff_ffff_ffff) as usize;
+        (high ^ low) & (places - 1)
+    }
 }
 
-/// The place beside another among so many, which are a power of two.
+/// A place beside another, or that itself for step 0, among so many, which are a power of two.
 #[inline(always)]
-fn beside(place: usize, places: usize) -> usize
+fn beside(place: usize, step: usize, places: usize) -> usize
     requires { 0 < places }
     ensures { result < places }
 {
-    (place ^ 1) & (places - 1)
+    (place ^ step) & (places - 1)
 }
 
-/// A name's number, and its length and its word if it is short. Else the length is 0.
+/// A short name's number, its length and its words. Where there is no name, the length is 0.
 #[derive(Clone, Copy)]
 pub struct Note {
-    pub(crate) word: u64,
+    pub(crate) words: Words,
     pub(crate) number: u32,
     pub(crate) length: u8,
 }
 
 impl Note {
-    // A note of no name. Its number is that of none.
+    // A note of no name.
     fn none() -> Note
         ensures { result.length ≡ 0 }
     {
         Note {
-            word: 0,
-            number: u32::MAX,
+            words: Words { first: 0, last: 0 },
+            number: 0,
             length: 0,
         }
     }
 
-    // A note of the name.
-    fn of(name: &[u8], number: u32) -> Note
-        ensures { IsNoteOf number name.now result }
-    {
-        if is_short(name) {
-            return Note {
-                word: word_of(name),
-                number,
-                length: name.len() as u8,
-            };
-        }
-        Note {
-            word: 0,
-            number,
-            length: 0,
-        }
-    }
-
-    // Whether it holds the name of the length with the word.
+    // Whether it holds the name of the length with the words.
     #[inline(always)]
-    fn is_of(&self, word: u64, length: usize) -> bool
-        ensures { IsTrue result ↔ (self.now.word ≡ word) × (self.now.length ≡ length) }
+    fn is_of(&self, words: Words, length: usize) -> bool
+        ensures { IsTrue result ↔ (self.now.words ≡ words) × (self.now.length ≡ length) }
     {
-        self.word == word && self.length as usize == length
+        self.words.first == words.first
+            && self.words.last == words.last
+            && self.length as usize == length
     }
 }
 
-/// Where the note of the name goes: to its place, or beside it where a short name gives way to another.
-fn place_to_note(notes: &[Note], name: &[u8]) -> usize
+/// Where a note with the words goes: to the first empty one of their places, or else to the first.
+fn place_to_note(notes: &[Note], words: Words) -> usize
     requires { 0 < length notes.now }
     ensures { result < length notes.now }
 {
     let places = notes.len();
-    let place = place_of(name, places);
-    let other = beside(place, places);
-    if is_short(name) && notes[place].length > 0 && notes[other].length == 0 {
-        return other;
+    let place = words.place(places);
+    for step in 0..STEPS {
+        let other = beside(place, step, places);
+        if notes[other].length == 0 {
+            return other;
+        }
     }
     place
 }
 
-/// By the places of names, the notes that were made last.
+/// By the places of names, the notes of them that were made last.
 #[derive(Drop)]
 pub struct Notes {
     list: Vec<Note>,
@@ -174,7 +213,7 @@ impl Notes {
         }
     }
 
-    /// The number of a short name, if one of its notes is there.
+    /// The number of the name, if one of its notes is there.
     #[inline(always)]
     pub fn find(&self, name: &[u8]) -> Option<u32>
         ensures { IfSome result (λ number. IsFound self.now number name.now) }
@@ -183,47 +222,46 @@ impl Notes {
         if places == 0 || !is_short(name) {
             return None;
         }
-        let word = word_of(name);
-        let place = place_of_word(word, places);
-        let note = &self.list[place];
-        if note.is_of(word, name.len()) {
-            return Some(note.number);
-        }
-        let other = &self.list[beside(place, places)];
-        if other.is_of(word, name.len()) {
-            return Some(other.number);
+        let words = Words::of(name);
+        let place = words.place(places);
+        for step in 0..STEPS {
+            let note = &self.list[beside(place, step, places)];
+            if note.is_of(words, name.len()) {
+                return Some(note.number);
+            }
         }
         None
     }
 
-    /// What may be the number of the name.
-    pub fn guess(&self, name: &[u8]) -> u32 {
-        let places = self.list.len();
-        if places == 0 {
-            return 0;
-        }
-        self.list[place_of(name, places)].number
-    }
-
-    /// Notes the number of the name.
+    /// Notes the number of the name, if that is short.
     pub fn note(&mut self, name: &[u8], number: u32)
         ensures { (note : ANote) → IsOneOf self.new note
             → IsOneOf self.old note ⊎ IsNoteOf number name.now note }
     {
-        if !self.list.is_empty() {
-            let place = place_to_note(&self.list, name);
-            self.list[place] = Note::of(name, number);
+        if self.list.is_empty() || !is_short(name) {
+            return;
         }
+        let words = Words::of(name);
+        let place = place_to_note(&self.list, words);
+        self.list[place] = Note {
+            words,
+            number,
+            length: name.len() as u8,
+        };
     }
 
-    /// Makes two places or more for each of so many names. New places forget what was noted.
+    /// Whether there are two places or more for each of so many names.
+    pub fn have_room(&self, names: usize) -> bool {
+        self.list.len() / 2 >= names
+    }
+
+    /// Makes two places or more for each of so many names, and forgets what was noted.
     pub fn make_room(&mut self, alloc: Global, names: u32) -> Result<(), AllocError>
-        ensures { (note : ANote) → IsOneOf self.new note → IsOneOf self.old note ⊎ HoldsNone note }
+        ensures { (note : ANote) → IsOneOf self.new note → HoldsNone note }
     {
-        if self.list.len() as u64 >= names as u64 * 2 {
-            return Ok(());
-        }
         let places = (names as usize * 4).next_power_of_two().max(FEWEST_PLACES);
+        // The old places go first, so that both are never there at once.
+        self.list = Vec::new(alloc);
         self.list = vec![in alloc; Note::none(); places]?;
         Ok(())
     }

@@ -1,33 +1,38 @@
 //! The names of one kind, numbered from 0 in the order of their first appearance.
-ghost use Rattle.std.specs.Prelude.{◌≡◌, ℕ, ◌<◌, ◌≤◌, [], map, length, slice_get, Some, None, IfOk, IfSome};
-ghost use Rattle.std.specs.Prelude.{OnErr, IsTrue};
+ghost use Rattle.std.specs.Prelude.{◌≡◌, ◌+◌, ◌<◌, ◌≤◌, ◌^◌, [], length, slice_get, Some, None, IfOk, IfSome};
+ghost use Rattle.std.specs.Prelude.{OnErr};
 ghost use Rattle.std.specs.Result.{IsErrOf};
-ghost use Rattle.std.specs.declared.vec.Vec.{Vec};
-ghost use Rattle.std.specs.declared.alloc.Global.{Global};
 ghost use Rattle.rapid_text.specs.Notes.{AreRight};
 ghost use Rattle.rapid_text.specs.Numbers.{Numbered, number_of, place_of};
 
 use crate::causes::NameFault;
 use crate::notes::Notes;
+use crate::stored_names::{SoughtName, StoredName};
 use indexmap::IndexSet;
-use std::alloc::Global;
+use std::alloc::{AllocError, Global};
 use std::marker::Model;
 
-/// Whether the key with this number is the name.
-fn is_at(keys: &[Vec<u8>], number: usize, name: &[u8]) -> bool
-    ensures { IsTrue result →
-        (key : Vec ℕ Global) × (slice_get keys.now number ≡ Some key) × (key.items ≡ name.now) }
+/// Makes room for the note of one name more, and notes again what was noted where new places forget it.
+fn make_room(notes: &mut Notes, alloc: Global, names: &[StoredName]) -> Result<(), AllocError>
+    requires right { AreRight names.now notes.old }
+    requires few { length names.now + 1 < 2 ^ 32 }
+    ensures { AreRight names.now notes.new }
 {
-    if number >= keys.len() {
-        return false;
+    let count = names.len();
+    if notes.have_room(count + 1) {
+        return Ok(());
     }
-    keys[number].as_slice() == name
+    notes.make_room(alloc, count as u32 + 1)?;
+    for number in 0..count {
+        notes.note(names[number].as_slice(), number as u32);
+    }
+    Ok(())
 }
 
 /// The names of one kind.
 #[derive(Drop)]
 pub struct Space {
-    keys: IndexSet<Vec<u8>>,
+    names: IndexSet<StoredName>,
     notes: Notes,
     alloc: Global,
     limit: u32,
@@ -36,9 +41,9 @@ pub struct Space {
 impl Model for Space {
     ghost Value = { Numbered };
 
-    ghost view = { λ s. record { limit = s.limit; names = map (λ k. k.items) s.keys.keys } };
+    ghost view = { λ s. record { limit = s.limit; names = s.names.keys } };
 
-    ghost invariant = { λ s. (length s.keys.keys ≤ s.limit) × AreRight s.keys.keys s.notes };
+    ghost invariant = { λ s. (length s.names.keys ≤ s.limit) × AreRight s.names.keys s.notes };
 }
 
 impl Space {
@@ -46,7 +51,7 @@ impl Space {
         ensures { result ≡ record { limit = limit; names = [] } }
     {
         Space {
-            keys: IndexSet::new(alloc),
+            names: IndexSet::new(alloc),
             notes: Notes::new(alloc),
             alloc,
             limit,
@@ -59,7 +64,7 @@ impl Space {
         ensures within { result ≤ self.now.limit }
     {
         let _most = self.limit;
-        self.keys.len() as u32
+        self.names.len() as u32
     }
 
     /// The number of the name, where a note holds it.
@@ -67,7 +72,7 @@ impl Space {
     pub fn find(&self, name: &[u8]) -> Option<u32>
         ensures { IfSome result (λ i. number_of self.now name.now ≡ Some (i, self.now)) }
     {
-        let _unique = self.keys.as_slice();
+        let _unique = self.names.as_slice();
         self.notes.find(name)
     }
 
@@ -79,30 +84,25 @@ impl Space {
         ensures room { IsErrOf result NameFault.OutOfMemory → length self.old.names < self.old.limit }
         ensures new_only { OnErr result (place_of self.old name.now ≡ None) }
     {
-        let guess = self.notes.guess(name);
-        if is_at(self.keys.as_slice(), guess as usize, name) {
-            return Ok(guess);
-        }
-        if let Some(i) = self.keys.get_index_of(name) {
+        if let Some(i) = self.names.get_index_of(SoughtName { bytes: name }) {
             self.notes.note(name, i as u32);
             return Ok(i as u32);
         }
-        let count = self.keys.len();
+        let count = self.names.len();
         if count >= self.limit as usize {
             return Err(NameFault::TooMany);
         }
-        let number = count as u32;
-        if self.notes.make_room(self.alloc, number + 1).is_err() {
+        if make_room(&mut self.notes, self.alloc, self.names.as_slice()).is_err() {
             return Err(NameFault::OutOfMemory);
         }
-        let Ok(key) = Vec::from_slice(self.alloc, name) else {
+        let Ok(stored) = StoredName::new(self.alloc, name) else {
             return Err(NameFault::OutOfMemory);
         };
-        let Ok(_) = self.keys.insert(key) else {
+        let Ok(_) = self.names.insert(stored) else {
             return Err(NameFault::OutOfMemory);
         };
-        self.notes.note(name, number);
-        Ok(number)
+        self.notes.note(name, count as u32);
+        Ok(count as u32)
     }
 
     /// The name of a number.
@@ -110,7 +110,7 @@ impl Space {
         requires { number < length self.now.names }
         ensures { slice_get self.entry.now.names number ≡ Some result.now }
     {
-        let key: &Vec<u8> = &self.keys[number as usize];
-        key.as_slice()
+        let stored: &StoredName = &self.names[number as usize];
+        stored.as_slice()
     }
 }
