@@ -15,7 +15,8 @@ use std::thread::Threads;
 /// An event's thread, what it does, its site and its value.
 pub type Row = (u32, Op, u32, u64);
 
-/// What a run is to answer: how many events it logs, how many of them race, and the first of them, or a fault.
+/// What a run is to answer: how many events it logs, how many of them race, and the first of them. Or a
+/// fault.
 #[derive(Clone, Copy)]
 pub enum Answer {
     Logs {
