@@ -1,10 +1,16 @@
 //! Command lines, and what is said of them.
-use crate::doubles::{Pieces, run};
+use crate::doubles::Text;
+use crate::runs::Run;
+use std::alloc::Global;
+use std::fs::Files;
+use std::process::Abort;
+use std::sync::Wait;
 use std::test::Fail;
+use std::thread::Threads;
 use wcp_tool::settings;
 
 /// Words, and the command, the number of threads and the patience that they ask for.
-static TAKEN: [(&[&str], &str, u32, u32); 12] = [
+const TAKEN: &[(&[&str], &str, u32, u32)] = &[
     (&["check"], "Check", 64, 1000000),
     (&["check", "--threads", "1"], "Check", 1, 1000000),
     (&["check", "--threads", "64"], "Check", 64, 1000000),
@@ -35,7 +41,7 @@ static TAKEN: [(&[&str], &str, u32, u32); 12] = [
 ];
 
 /// Words that ask for help or for the version, and a part of what is said.
-static ASKED: [(&[&str], &str); 12] = [
+const ASKED: &[(&[&str], &str)] = &[
     (&["--help"], "Usage: wcp <COMMAND>"),
     (&["-h"], "Exit status:"),
     (&["help"], "check"),
@@ -50,37 +56,46 @@ static ASKED: [(&[&str], &str); 12] = [
     (&["-V"], "wcp 0.1.0\n"),
 ];
 
-/// Words, standard input, and a line that is printed: in help, and where its example is run.
-static EXAMPLES: [(&[&str], &[u8], &str); 6] = [
+/// Words, standard input, and a line that is printed: in help, and where its example is run; and the status.
+const EXAMPLES: &[(&[&str], &[u8], &str, u8)] = &[
     (
         &["check", "--help"],
         b"",
         "events 3 threads 2 locks 0 variables 1\n",
+        0,
     ),
     (
         &["check"],
         TRACE,
         "events 3 threads 2 locks 0 variables 1\n",
+        0,
     ),
     (
         &["replay", "--help"],
         b"",
         "events 3 threads 2 locks 0 variables 1 races 1\n",
+        0,
     ),
     (
         &["replay"],
         TRACE,
         "events 3 threads 2 locks 0 variables 1 races 1\n",
+        1,
     ),
-    (&["replay", "--help"], b"", "3|T1|r(y)|3 with 2|T0|w(y)|2\n"),
-    (&["replay"], TRACE, "3|T1|r(y)|3 with 2|T0|w(y)|2\n"),
+    (
+        &["replay", "--help"],
+        b"",
+        "3|T1|r(y)|3 with 2|T0|w(y)|2\n",
+        0,
+    ),
+    (&["replay"], TRACE, "3|T1|r(y)|3 with 2|T0|w(y)|2\n", 1),
 ];
 
 /// The trace that help has as its example.
 const TRACE: &[u8] = b"T0|fork(T1)|1\nT0|w(y)|2\nT1|r(y)|3\n";
 
 /// Words that are wrong, and a part of what is said of them.
-static WRONG: [(&[&str], &str); 17] = [
+const WRONG: &[(&[&str], &str)] = &[
     (&[], "Usage: wcp <COMMAND>"),
     (&["report"], "'report'"),
     (&["run"], "<FILE>"),
@@ -112,61 +127,80 @@ static WRONG: [(&[&str], &str); 17] = [
     (&["replay", "--patience", "1"], "'--patience'"),
 ];
 
+/// The words ask for this command, with these options.
+fn expect_taken(
+    rt: &impl Abort,
+    alloc: Global,
+    words: &[&str],
+    command: &str,
+    options: (u32, u32),
+) -> Result<(), Fail> {
+    let got = settings(alloc, words)?;
+    let met = format!(in alloc; "{:?}", got.command)?;
+    assert!(rt;
+        met.as_str() == command && (got.threads, got.patience) == options,
+        "{words:?}: {got:?}"
+    );
+    drop(met);
+    drop(got);
+    Ok(())
+}
+
 #[test]
 fn takes_a_command_with_its_options(rt: HostRuntime) -> Result<(), Fail> {
-    for (words, command, threads, patience) in &TAKEN {
-        let got = settings(rt.alloc(), *words)?;
-        let met = format!(in rt.alloc(); "{:?}", got.command)?;
-        assert!(rt; met.as_str() == *command, "{words:?}: {got:?}");
-        assert!(rt; got.threads == *threads, "{words:?}: {got:?}");
-        assert!(rt; got.patience == *patience, "{words:?}: {got:?}");
+    for (words, command, threads, patience) in TAKEN {
+        expect_taken(&rt, rt.alloc(), words, command, (*threads, *patience))?;
     }
     Ok(())
 }
 
-/// Help and the version stand on standard output, with status 0.
-#[test]
-fn gives_help_and_the_version(rt: HostRuntime) {
-    for (words, part) in &ASKED {
-        let ran = run(&rt, *words, Pieces::whole(b""));
-        let text = str::from_utf8(ran.output.as_slice()).unwrap_or("");
-        assert!(rt; text.contains(*part), "{words:?}: {text}");
-        assert!(rt; ran.errors.is_empty() && ran.status == 0, "{words:?}");
-    }
+/// Whether no line has more than 80 columns.
+fn is_narrow(text: &str) -> bool {
+    text.lines().all(|line| line.len() <= 80)
+}
+
+/// One device has this part, the other nothing, and the status is this. What is wrong stands on standard
+/// error, with status 2; all else on standard output, in lines of at most 80 columns.
+fn expect_said<R: Abort + AllocGlobal + Files + Threads + Wait + Sync>(
+    rt: &R,
+    words: &[&str],
+    input: &[u8],
+    part: &str,
+    status: u8,
+) {
+    let ran = Run::of(words, Text::whole(input)).ran(rt);
+    let (said, other) = if status == 2 {
+        (ran.errors.as_slice(), ran.output.as_slice())
+    } else {
+        (ran.output.as_slice(), ran.errors.as_slice())
+    };
+    let text = str::from_utf8(said).unwrap_or("");
+    let is_said = text.contains(part) && (status == 2 || is_narrow(text));
+    assert!(rt;
+        is_said && other.is_empty() && ran.status == status,
+        "{words:?}: {text}"
+    );
+    drop(ran);
 }
 
 #[test]
-fn help_has_no_line_of_more_than_80_columns(rt: HostRuntime) {
-    for words in [
-        ["--help"].as_slice(),
-        &["help", "check"],
-        &["help", "replay"],
-        &["help", "run"],
-    ] {
-        let ran = run(&rt, words, Pieces::whole(b""));
-        for line in str::from_utf8(ran.output.as_slice()).unwrap_or("").lines() {
-            assert!(rt; line.len() <= 80, "{line}");
-        }
+fn gives_help_and_the_version_in_lines_of_at_most_80_columns(rt: HostRuntime) {
+    for (words, part) in ASKED {
+        expect_said(&rt, words, b"", part, 0);
     }
 }
 
 /// The trace that help has as its example comes to what help says.
 #[test]
 fn help_tells_what_its_example_prints(rt: HostRuntime) {
-    for (words, input, part) in &EXAMPLES {
-        let ran = run(&rt, *words, Pieces::whole(*input));
-        let text = str::from_utf8(ran.output.as_slice()).unwrap_or("");
-        assert!(rt; text.contains(*part), "{words:?}: {text}");
+    for (words, input, part, status) in EXAMPLES {
+        expect_said(&rt, words, input, part, *status);
     }
 }
 
-/// What is wrong with a command line stands on standard error, with status 2.
 #[test]
 fn tells_what_is_wrong_with_a_command_line(rt: HostRuntime) {
-    for (words, part) in &WRONG {
-        let ran = run(&rt, *words, Pieces::whole(b"T0|w(x)|1"));
-        let text = str::from_utf8(ran.errors.as_slice()).unwrap_or("");
-        assert!(rt; text.contains(*part), "{words:?}: {text}");
-        assert!(rt; ran.output.is_empty() && ran.status == 2, "{words:?}");
+    for (words, part) in WRONG {
+        expect_said(&rt, words, b"T0|w(x)|1", part, 2);
     }
 }

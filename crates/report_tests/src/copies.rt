@@ -1,5 +1,6 @@
 //! The events of a trace, written again as its lines.
-use crate::doubles::{Page, Pieces, run};
+use crate::doubles::{Page, Room, Text};
+use crate::runs::{Answer, Run};
 use crate::traces::LEGAL;
 use event_core::{Limits, Roots};
 use rapid_text::{Device, Reader, write_event};
@@ -26,21 +27,28 @@ fn copy_all(reader: &mut Reader<Device<&[u8]>>, page: &mut Page) -> Result<(), F
     Ok(())
 }
 
-/// The lines of the text's events.
-fn copy(alloc: Global, limits: Limits, text: &[u8]) -> Result<Vec<u8>, Fail> {
-    let mut page = Page::blank(alloc);
+/// Writes the lines of the text's events.
+fn copy(alloc: Global, text: &[u8], page: &mut Page) -> Result<(), Fail> {
+    let limits = Limits::new(8, 8, 8, 64, Roots::Free)?;
     let mut reader = Reader::new(alloc, Device::new(text), limits, 100)?;
-    copy_all(&mut reader, &mut page)?;
+    let copied = copy_all(&mut reader, page);
+    drop(reader);
+    copied
+}
+
+/// The lines of the text's events.
+fn copy_of(alloc: Global, text: &[u8]) -> Result<Vec<u8>, Fail> {
+    let mut page = Page::blank(alloc, Room::AMPLE);
+    copy(alloc, text, &mut page)?;
     Ok(page.bytes)
 }
 
 #[test]
 fn a_copy_of_a_trace_has_the_same_report(rt: HostRuntime) -> Result<(), Fail> {
-    let limits = Limits::new(8, 8, 8, 64, Roots::Free)?;
-    for (name, text, _, report, status) in &LEGAL {
-        let copied = copy(rt.alloc(), limits, text.as_bytes())?;
-        let ran = run(&rt, ["replay"].as_slice(), Pieces::whole(&copied));
-        ran.expect(&rt, name, report.as_bytes(), "", *status);
+    for (name, text, _, report, status) in LEGAL {
+        let copied = copy_of(rt.alloc(), text.as_bytes())?;
+        let run = Run::of(&["replay"], Text::whole(&copied));
+        run.expect(&rt, name, &Answer::printed(report, *status));
     }
     Ok(())
 }

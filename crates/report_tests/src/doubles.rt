@@ -1,51 +1,70 @@
-//! A reader that gives a text in pieces, a writer that keeps what it takes, and a run of the program.
+//! A reader that gives a text in pieces, and a writer that keeps what it takes.
 ghost use Rattle.std.specs.Prelude.{◌≡◌, false, None};
 
 use rapid_text::{Input, Output, ReadFailed, WriteFailed};
 use std::alloc::Global;
-use std::fs::Files;
-use std::process::Abort;
-use std::sync::Wait;
-use std::thread::Threads;
-use wcp_tool::tool;
 
-/// Gives a text in pieces: first one of so many bytes, then all others of another size. At the end of the
-/// text it says so, or it fails.
-#[derive(Drop)]
-pub struct Pieces<'a> {
-    pub text: &'a [u8],
+/// A text, and how it comes: first a piece of so many bytes, then all others of another size. At the end of
+/// the text the reader says so, or it fails.
+#[derive(Clone, Copy)]
+pub struct Text<'a> {
+    pub bytes: &'a [u8],
     pub first: usize,
     pub others: usize,
     pub fails: bool,
-    pub failed: bool,
+}
+
+impl<'a> Text<'a> {
+    pub fn cut(bytes: &'a [u8], first: usize, others: usize) -> Text<'a> {
+        Text {
+            bytes,
+            first,
+            others,
+            fails: false,
+        }
+    }
+
+    pub fn whole(bytes: &'a [u8]) -> Text<'a> {
+        Text::cut(bytes, usize::MAX, usize::MAX)
+    }
+
+    pub fn and_fails(self) -> Text<'a> {
+        Text {
+            fails: true,
+            ..self
+        }
+    }
+}
+
+/// One text and then another, in the room.
+pub fn joined<'a>(room: &'a mut [u8; 2048], head: &[u8], tail: &[u8]) -> &'a [u8] {
+    let first = head.len().min(1048);
+    let second = tail.len().min(1000);
+    room[..first].copy_from_slice(&head[..first]);
+    room[first..first + second].copy_from_slice(&tail[..second]);
+    &room[..first + second]
+}
+
+/// So many letters, at most 1,048.
+pub fn letters(count: usize) -> &'static [u8] {
+    const LETTERS: &[u8] = &[b'a'; 1048];
+    &LETTERS[..count.min(1048)]
+}
+
+/// Gives a text in its pieces.
+#[derive(Drop)]
+pub struct Pieces<'a> {
+    text: Text<'a>,
+    failed: bool,
 }
 
 impl<'a> Pieces<'a> {
-    pub fn of(text: &'a [u8], first: usize, others: usize) -> Pieces<'a>
+    pub fn of(text: Text<'a>) -> Pieces<'a>
         ensures { result.failed ≡ false }
     {
         Pieces {
             text,
-            first,
-            others,
-            fails: false,
             failed: false,
-        }
-    }
-
-    pub fn whole(text: &'a [u8]) -> Pieces<'a>
-        ensures { result.failed ≡ false }
-    {
-        Pieces::of(text, usize::MAX, usize::MAX)
-    }
-
-    pub fn and_fails(self) -> Pieces<'a>
-        requires { self.failed ≡ false }
-        ensures { result.failed ≡ false }
-    {
-        Pieces {
-            fails: true,
-            ..self
         }
     }
 }
@@ -56,41 +75,61 @@ impl Input for Pieces<'_> {
     ghost failed = { λ p. p.failed };
 
     fn pull(&mut self, buf: &mut [u8]) -> Result<usize, ReadFailed> {
-        let n = self.first.min(self.text.len()).min(buf.len());
-        if n == 0 && self.fails {
+        let bytes = self.text.bytes;
+        let n = self.text.first.min(bytes.len()).min(buf.len());
+        if n == 0 && self.text.fails {
             self.failed = true;
             return Err(ReadFailed);
         }
-        buf[..n].copy_from_slice(&self.text[..n]);
-        self.text = &self.text[n..];
-        self.first = self.others;
+        buf[..n].copy_from_slice(&bytes[..n]);
+        self.text.bytes = &bytes[n..];
+        self.text.first = self.text.others;
         Ok(n)
     }
 }
 
-/// Keeps what is written: at most so many bytes a put, and no put after so many.
+/// How much a page takes: at most so many bytes a put, and no put after so many.
+#[derive(Clone, Copy)]
+pub struct Room {
+    pub most: usize,
+    pub puts: usize,
+}
+
+impl Room {
+    pub const AMPLE: Room = Room {
+        most: usize::MAX,
+        puts: usize::MAX,
+    };
+
+    pub fn of_puts(puts: usize) -> Room {
+        Room {
+            puts,
+            ..Room::AMPLE
+        }
+    }
+}
+
+/// Keeps what is written to it.
 #[derive(Drop)]
 pub struct Page {
     pub bytes: Vec<u8>,
-    pub most: usize,
-    pub puts: usize,
-    pub failed: bool,
+    room: Room,
+    failed: bool,
 }
 
 impl Page {
-    pub fn blank(alloc: Global) -> Page
+    /// A page with the memory for most of what is written in these tests.
+    pub fn blank(alloc: Global, room: Room) -> Page
         ensures { result.failed ≡ false }
     {
-        Page::narrow(alloc, usize::MAX, usize::MAX)
-    }
-
-    pub fn narrow(alloc: Global, most: usize, puts: usize) -> Page
-        ensures { result.failed ≡ false }
-    {
+        let mut bytes = Vec::new(alloc);
+        // What is refused once is asked for again.
+        if bytes.reserve(256).is_err() {
+            let _ = bytes.reserve(256);
+        }
         Page {
-            bytes: Vec::new(alloc),
-            most,
-            puts,
+            bytes,
+            room,
             failed: false,
         }
     }
@@ -102,74 +141,13 @@ impl Output for Page {
     ghost failed = { λ p. p.failed };
 
     fn put(&mut self, bytes: &[u8]) -> Result<usize, WriteFailed> {
-        let n = bytes.len().min(self.most);
-        let is_full = self.puts == 0 || (n == 0 && !bytes.is_empty());
+        let n = bytes.len().min(self.room.most);
+        let is_full = self.room.puts == 0 || (n == 0 && !bytes.is_empty());
         if is_full || self.bytes.extend_from_slice(&bytes[..n]).is_err() {
             self.failed = true;
             return Err(WriteFailed);
         }
-        self.puts -= 1;
+        self.room.puts -= 1;
         Ok(n)
-    }
-}
-
-/// What a run of the program ended with and wrote.
-#[derive(Drop)]
-pub struct Ran {
-    pub status: u8,
-    pub output: Vec<u8>,
-    pub errors: Vec<u8>,
-}
-
-impl Ran {
-    /// It wrote this to standard output and to standard error, and ended with this status.
-    pub fn expect(&self, rt: &impl Abort, what: &str, output: &[u8], errors: &str, status: u8) {
-        assert!(rt;
-            self.output.as_slice() == output,
-            "{what}: {:?}",
-            self.output
-        );
-        assert!(rt;
-            self.errors.as_slice() == errors.as_bytes(),
-            "{what}: {:?}",
-            self.errors
-        );
-        assert!(rt; self.status == status, "{what}: status {}", self.status);
-    }
-}
-
-/// The program over the words and the reader.
-pub fn run<R: AllocGlobal + Files + Threads + Wait + Sync>(
-    rt: &R,
-    words: &[&str],
-    reader: Pieces<'_>,
-) -> Ran
-    requires { reader.failed ≡ false }
-{
-    run_to(
-        rt,
-        words,
-        reader,
-        Page::blank(rt.alloc()),
-        Page::blank(rt.alloc()),
-    )
-}
-
-/// The program over the words and the reader, with standard output and standard error on these pages.
-pub fn run_to<R: AllocGlobal + Files + Threads + Wait + Sync>(
-    rt: &R,
-    words: &[&str],
-    mut reader: Pieces<'_>,
-    mut writer: Page,
-    mut errors: Page,
-) -> Ran
-    requires reads { reader.failed ≡ false }
-    requires writes { writer.failed ≡ false }
-{
-    let status = tool(rt, words, &mut reader, &mut writer, &mut errors);
-    Ran {
-        status,
-        output: writer.bytes,
-        errors: errors.bytes,
     }
 }

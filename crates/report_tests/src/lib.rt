@@ -17,6 +17,8 @@ mod pieces;
 #[cfg(test)]
 mod readers;
 #[cfg(test)]
+mod runs;
+#[cfg(test)]
 mod scripts;
 #[cfg(test)]
 mod traces;

@@ -1,171 +1,156 @@
 //! Readers that fail, and reads that run out.
-ghost use Rattle.std.specs.Prelude.{◌≡◌, ◌≤◌, false};
-
-use crate::doubles::{Page, Pieces, run};
+use crate::doubles::{Page, Pieces, Room, Text, joined, letters};
+use crate::runs::{Answer, Run};
 use event_core::{Limits, Roots};
 use rapid_text::{Cause, TextFault};
 use std::alloc::Global;
+use std::fs::Files;
 use std::process::Abort;
+use std::sync::Wait;
 use std::test::Fail;
+use std::thread::Threads;
 use trace_report::{ReplayFault, replay};
 use wcp_tool::{CheckFault, check};
+
+/// How many letters the text begins with, and what follows them.
+type Long = (usize, &'static str);
+
+/// A text whose reader fails, what is written to standard output and to standard error, and the status.
+const FAILED: &[(Long, &str, &str, u8)] = &[
+    ((1025, ""), "", "read fault\n", 4),
+    ((1026, ""), "line 1: LineTooLong\n", "", 3),
+    ((0, "T0|rel(l)|1\n"), "line 1: NotHolder\n", "", 3),
+    ((0, "T0|w(x)|1\n"), "", "read fault\n", 4),
+    ((0, "T0|acq(l)|1\nT0|rel(m)|2"), "", "read fault\n", 4),
+];
+
+/// Both commands come to this answer.
+fn expect_both<R: Abort + AllocGlobal + Files + Threads + Wait + Sync>(
+    rt: &R,
+    text: Text<'_>,
+    answer: &Answer<'_>,
+) {
+    for words in [&["check"], &["replay"]] {
+        Run::of(words, text).expect(rt, "a reader that fails", answer);
+    }
+}
 
 /// Whole lines that came before the failure are judged first, and a line without an end is not judged but for
 /// its length.
 #[test]
-fn judges_what_came_before_the_reader_failed(rt: HostRuntime) -> Result<(), Fail> {
-    let unended = "a".repeat(rt.alloc(), 1025)?;
-    let too_long = "a".repeat(rt.alloc(), 1026)?;
-    let cases = [
-        (unended.as_str(), "", "read fault\n", 4),
-        (too_long.as_str(), "line 1: LineTooLong\n", "", 3),
-        ("T0|rel(l)|1\n", "line 1: NotHolder\n", "", 3),
-        ("T0|w(x)|1\n", "", "read fault\n", 4),
-        ("T0|acq(l)|1\nT0|rel(m)|2", "", "read fault\n", 4),
-    ];
-    for (text, output, errors, status) in cases {
-        for command in ["check", "replay"] {
-            let reader = Pieces::whole(text.as_bytes()).and_fails();
-            let ran = run(&rt, [command].as_slice(), reader);
-            ran.expect(&rt, text, output.as_bytes(), errors, status);
-        }
+fn judges_what_came_before_the_reader_failed(rt: HostRuntime) {
+    let mut room = [0; 2048];
+    for ((count, rest), output, errors, status) in FAILED {
+        let answer = Answer {
+            output: output.as_bytes(),
+            errors,
+            status: *status,
+        };
+        let text = joined(&mut room, letters(*count), rest.as_bytes());
+        expect_both(&rt, Text::whole(text).and_fails(), &answer);
     }
-    Ok(())
 }
 
 #[test]
 fn tells_no_part_of_a_trace_whose_reader_fails(rt: HostRuntime) {
     let text = b"T0|fork(T1)|1\nT0|acq(l)|2\nT1|r(x)|3\nT0|rel(l)|4\n".as_slice();
     for end in 0..text.len() {
-        for command in ["check", "replay"] {
-            let reader = Pieces::of(&text[..end], 7, 3).and_fails();
-            let ran = run(&rt, [command].as_slice(), reader);
-            ran.expect(&rt, command, b"", "read fault\n", 4);
-        }
+        let begun = Text::cut(&text[..end], 7, 3).and_fails();
+        expect_both(&rt, begun, &Answer::told("read fault\n", 4));
     }
 }
 
-/// The fault of the text that was answered, and what was written.
-#[derive(Drop)]
-struct Judged {
-    fault: Option<TextFault>,
-    output: Vec<u8>,
-}
-
-fn check_text(alloc: Global, limits: Limits, mut reader: Pieces<'_>, turns: u64) -> Judged
-    requires reads { reader.failed ≡ false }
-    requires turns { turns ≤ 17592186044416 }
-{
-    let mut writer = Page::blank(alloc);
-    let fault = match check(alloc, &mut reader, &mut writer, limits, turns) {
+/// The fault of the text that a check answers, and whether nothing was written.
+fn check_text(
+    alloc: Global,
+    limits: Limits,
+    text: Text<'_>,
+    turns: u32,
+) -> (Option<TextFault>, bool) {
+    let mut reader = Pieces::of(text);
+    let mut page = Page::blank(alloc, Room::AMPLE);
+    let fault = match check(alloc, &mut reader, &mut page, limits, u64::from(turns)) {
         Err(CheckFault::Text(fault)) => Some(fault),
         _ => None,
     };
-    let output = writer.bytes;
-    Judged { fault, output }
+    (fault, page.bytes.is_empty())
 }
 
-fn replay_text(alloc: Global, limits: Limits, mut reader: Pieces<'_>, turns: u64) -> Judged
-    requires reads { reader.failed ≡ false }
-    requires turns { turns ≤ 17592186044416 }
-{
-    let mut writer = Page::blank(alloc);
-    let fault = match replay(alloc, &mut reader, &mut writer, limits, turns) {
+/// The fault of the text that a replay answers, and whether nothing was written.
+fn replay_text(
+    alloc: Global,
+    limits: Limits,
+    text: Text<'_>,
+    turns: u32,
+) -> (Option<TextFault>, bool) {
+    let mut reader = Pieces::of(text);
+    let mut page = Page::blank(alloc, Room::AMPLE);
+    let fault = match replay(alloc, &mut reader, &mut page, limits, u64::from(turns)) {
         Err(ReplayFault::Text(fault)) => Some(fault),
         _ => None,
     };
-    let output = writer.bytes;
-    Judged { fault, output }
+    (fault, page.bytes.is_empty())
 }
 
 /// A text, one byte a read, after which the reader fails or says that the text has ended; how many turns
 /// there are, and the line that could not be read to its end, if any.
-#[derive(Clone, Copy)]
-struct Reading<'a> {
-    text: &'a str,
-    fails: bool,
-    turns: u64,
+type Reading = (Long, bool, u32, Option<u64>);
+
+const READINGS: &[Reading] = &[
+    // The fault of a read has the number of the line whose end was not read.
+    ((0, ""), true, 2000, Some(1)),
+    ((1025, ""), true, 2000, Some(1)),
+    ((0, "T0|w(x)|1\n"), true, 2000, Some(2)),
+    ((0, "T0|w(x)|1\n\r\nT0|rel"), true, 2000, Some(3)),
+    // Each read takes a turn, the one that finds the end too.
+    ((0, "T0|w(x)|1\n"), false, 0, Some(1)),
+    ((0, "T0|w(x)|1\n"), false, 10, Some(2)),
+    ((0, "T0|w(x)|1\n"), false, 11, None),
+];
+
+/// Nothing is written where a line cannot be read to its end.
+fn expect_read(
+    rt: &impl Abort,
+    alloc: Global,
+    text: Text<'_>,
+    turns: u32,
     stops_at: Option<u64>,
+) -> Result<(), Fail> {
+    let limits = Limits::new(64, 16, 16, 16, Roots::Free)?;
+    let fault = match stops_at {
+        Some(line) => Some(TextFault {
+            line,
+            cause: Cause::Read,
+        }),
+        None => None,
+    };
+    let wanted = (fault, fault.is_some());
+    assert!(rt;
+        check_text(alloc, limits, text, turns) == wanted,
+        "{fault:?}"
+    );
+    assert!(rt;
+        replay_text(alloc, limits, text, turns) == wanted,
+        "{fault:?}"
+    );
+    Ok(())
 }
 
-impl<'a> Reading<'a> {
-    fn reader(&self) -> Pieces<'a>
-        ensures { result.failed ≡ false }
-    {
-        Pieces {
-            fails: self.fails,
-            ..Pieces::of(self.text.as_bytes(), 1, 1)
-        }
-    }
-
-    /// Nothing was written where a line could not be read to its end.
-    fn expect(&self, rt: &impl Abort, judged: &Judged) {
-        let fault = match self.stops_at {
-            Some(line) => Some(TextFault {
-                line,
-                cause: Cause::Read,
-            }),
-            None => None,
-        };
-        assert!(rt; judged.fault == fault, "{}: {:?}", self.text, judged.fault);
-        assert!(rt;
-            judged.output.is_empty() == fault.is_some(),
-            "{}",
-            self.text
-        );
-    }
-
-    fn judge(&self, rt: &impl Abort, alloc: Global) -> Result<(), Fail>
-        requires { self.now.turns ≤ 17592186044416 }
-    {
-        let limits = Limits::new(64, 16, 16, 16, Roots::Free)?;
-        self.expect(rt, &check_text(alloc, limits, self.reader(), self.turns));
-        self.expect(rt, &replay_text(alloc, limits, self.reader(), self.turns));
-        Ok(())
-    }
-}
-
-/// The fault of a read has the number of the line whose end was not read.
 #[test]
-fn names_the_line_in_which_the_reader_failed(rt: HostRuntime) -> Result<(), Fail> {
-    let unended = "a".repeat(rt.alloc(), 1025)?;
-    let cases = [
-        ("", 1),
-        (unended.as_str(), 1),
-        ("T0|w(x)|1\n", 2),
-        ("T0|w(x)|1\n\r\nT0|rel", 3),
-    ];
-    for (text, line) in cases {
-        let reading = Reading {
-            text,
-            fails: true,
-            turns: 2000,
-            stops_at: Some(line),
+fn names_the_line_that_could_not_be_read_to_its_end(rt: HostRuntime) -> Result<(), Fail> {
+    let mut room = [0; 2048];
+    for ((count, rest), fails, turns, stops_at) in READINGS {
+        let text = Text {
+            fails: *fails,
+            ..Text::cut(joined(&mut room, letters(*count), rest.as_bytes()), 1, 1)
         };
-        reading.judge(&rt, rt.alloc())?;
+        expect_read(&rt, rt.alloc(), text, *turns, *stops_at)?;
     }
     Ok(())
 }
 
-/// Each read takes a turn, the one that finds the end too. The fault has the number of the line whose end was
-/// not read.
 #[test]
 fn reads_no_more_often_than_the_turns(rt: HostRuntime) -> Result<(), Fail> {
-    let blank = "\n".repeat(rt.alloc(), 2000)?;
-    let cases = [
-        ("T0|w(x)|1\n", 0, Some(1)),
-        ("T0|w(x)|1\n", 10, Some(2)),
-        ("T0|w(x)|1\n", 11, None),
-        (blank.as_str(), 1000, Some(1001)),
-    ];
-    for (text, turns, stops_at) in cases {
-        let reading = Reading {
-            text,
-            fails: false,
-            turns,
-            stops_at,
-        };
-        reading.judge(&rt, rt.alloc())?;
-    }
-    Ok(())
+    let blank = [b'\n'; 2000];
+    expect_read(&rt, rt.alloc(), Text::cut(&blank, 1, 1), 1000, Some(1001))
 }

@@ -1,17 +1,17 @@
 //! Scripts, and what a run of their threads prints.
-ghost use Rattle.std.specs.Prelude.{◌≡◌, ◌≤◌, false};
-
-use crate::doubles::{Page, Pieces, Ran, run};
+use crate::doubles::{Room, Text};
+use crate::runs::{Answer, Program, Run};
 use std::fs;
+use std::fs::Files;
+use std::process::Abort;
 use std::sync::Wait;
 use std::test::Fail;
 use std::thread::Threads;
-use wcp_tool::{Command, Settings, run_script};
 
 /// What the script is, its text, what a run of it prints, and the status with which it ends.
 type Case = (&'static str, &'static str, &'static str, u8);
 
-static SCRIPTS: [Case; 15] = [
+const SCRIPTS: &[Case] = &[
     (
         "an empty script",
         "",
@@ -92,6 +92,12 @@ static SCRIPTS: [Case; 15] = [
         3,
     ),
     (
+        "loads that nothing orders",
+        "m fork a\nm r x\na r y\n",
+        "events 3 threads 2 locks 0 variables 2 races 0\n",
+        0,
+    ),
+    (
         "stores under one lock",
         "m fork a\nm acq l\nm w x 1\nm rel l\na acq l\na w x 2\na rel l\nm join a\nm r x\n",
         "events 9 threads 2 locks 1 variables 1 races 0\n",
@@ -99,48 +105,28 @@ static SCRIPTS: [Case; 15] = [
     ),
 ];
 
-/// A run of the script that the reader gives.
-pub fn run_lines<R: AllocGlobal + Threads + Wait + Sync>(
-    rt: &R,
-    script: Pieces<'_>,
-    patience: u32,
-    writer: Page,
-) -> Ran
-    requires patience { (1 ≤ patience) × (patience ≤ 4294967295) }
-    requires reads { script.failed ≡ false }
-    requires writes { writer.failed ≡ false }
-{
-    let settings = Settings {
-        command: Command::Check,
-        threads: 64,
-        patience,
-    };
-    let mut script = script;
-    let mut writer = writer;
-    let mut errors = Page::blank(rt.alloc());
-    let status = run_script(rt, &mut script, &mut writer, &mut errors, &settings);
-    Ran {
-        status,
-        output: writer.bytes,
-        errors: errors.bytes,
+#[test]
+fn runs_the_worked_scripts(rt: HostRuntime) {
+    for (name, text, output, status) in SCRIPTS {
+        let run = Run::script(Text::cut(text.as_bytes(), 5, 3));
+        run.expect(&rt, name, &Answer::printed(output, *status));
     }
 }
 
-#[test]
-fn runs_the_worked_scripts(rt: HostRuntime) {
-    for (name, text, output, status) in &SCRIPTS {
-        let script = Pieces::of(text.as_bytes(), 5, 3);
-        let ran = run_lines(&rt, script, 1000000, Page::blank(rt.alloc()));
-        ran.expect(&rt, name, output.as_bytes(), "", *status);
-    }
-}
+const PATIENCES: &[u32] = &[1, 2, 100];
 
 #[test]
 fn gives_up_on_a_line_as_soon_as_patience_says(rt: HostRuntime) {
-    let text = b"m acq l\nm fork a\na acq l\n".as_slice();
-    for patience in [1, 2, 100] {
-        let ran = run_lines(&rt, Pieces::whole(text), patience, Page::blank(rt.alloc()));
-        ran.expect(&rt, "a stuck thread", b"line 3: Stuck\n", "", 6);
+    for patience in PATIENCES {
+        let run = Run {
+            program: Program::Script(*patience),
+            ..Run::script(Text::whole(b"m acq l\nm fork a\na acq l\n"))
+        };
+        run.expect(
+            &rt,
+            "a stuck thread",
+            &Answer::printed("line 3: Stuck\n", 6),
+        );
     }
 }
 
@@ -149,70 +135,95 @@ const RACE: &[u8] = b"m fork a\nm w y 1\nm acq l\nm w x 1\nm rel l\na acq l\na r
 
 const RACE_COUNTS: &[u8] = b"events 8 threads 2 locks 1 variables 2 races 1\n";
 
+fn expect_race<R: Abort + AllocGlobal + Files + Threads + Wait + Sync>(rt: &R) {
+    let ran = Run::script(Text::whole(RACE)).ran(rt);
+    let is_told = ran.output.as_slice().starts_with(RACE_COUNTS) && ran.errors.is_empty();
+    assert!(rt; is_told && ran.status == 1, "{:?}", ran.output);
+    drop(ran);
+}
+
 #[test]
 fn reports_a_race_whatever_the_schedule(rt: HostRuntime) {
     for _ in 0..20 {
-        let ran = run_lines(&rt, Pieces::whole(RACE), 1000000, Page::blank(rt.alloc()));
-        assert!(rt;
-            ran.output.as_slice().starts_with(RACE_COUNTS),
-            "{:?}",
-            ran.output
-        );
-        assert!(rt; ran.status == 1 && ran.errors.is_empty());
+        expect_race(&rt);
     }
 }
+
+/// A text whose reader fails, what is written to standard output and to standard error, and the status.
+const FAILED: &[(&str, &str, &str, u8)] = &[
+    ("m acq l", "", "read fault\n", 4),
+    ("m fork a\na r", "", "read fault\n", 4),
+    ("m  r x\n", "line 1: BadLine\n", "", 6),
+];
 
 /// Whole lines that came before the failure are judged first.
 #[test]
 fn judges_the_lines_before_the_reader_failed(rt: HostRuntime) {
-    let cases = [
-        ("m acq l", "", "read fault\n", 4),
-        ("m fork a\na r", "", "read fault\n", 4),
-        ("m  r x\n", "line 1: BadLine\n", "", 6),
-    ];
-    for (text, output, errors, status) in cases {
-        let script = Pieces::whole(text.as_bytes()).and_fails();
-        let ran = run_lines(&rt, script, 10, Page::blank(rt.alloc()));
-        ran.expect(&rt, text, output.as_bytes(), errors, status);
+    for (text, output, errors, status) in FAILED {
+        let answer = Answer {
+            output: output.as_bytes(),
+            errors,
+            status: *status,
+        };
+        let run = Run::script(Text::whole(text.as_bytes()).and_fails());
+        run.expect(&rt, "a reader that fails", &answer);
     }
+}
+
+/// Texts for which there is a report or a fault to write.
+const WRITING: &[&[u8]] = &[RACE, b"m rel l\n", b"m  r x\n"];
+
+fn expect_write_fault<R: Abort + AllocGlobal + Files + Threads + Wait + Sync>(
+    rt: &R,
+    text: &[u8],
+    puts: usize,
+) {
+    let run = Run {
+        output: Room { most: 7, puts },
+        ..Run::script(Text::whole(text))
+    };
+    let ran = run.ran(rt);
+    let is_told = ran.errors.as_slice() == b"write fault\n".as_slice();
+    assert!(rt; is_told && ran.status == 4, "{:?}", ran.errors);
+    drop(ran);
 }
 
 /// Whichever write fails, of a report or of a fault, the status says so.
 #[test]
 fn ends_with_a_write_fault_where_a_write_fails(rt: HostRuntime) {
-    for text in [RACE, b"m rel l\n".as_slice(), b"m  r x\n".as_slice()] {
+    for text in WRITING {
         for puts in 0..3 {
-            let writer = Page::narrow(rt.alloc(), 7, puts);
-            let ran = run_lines(&rt, Pieces::whole(text), 1000000, writer);
-            assert!(rt; ran.status == 4, "status {}", ran.status);
-            assert!(rt; ran.errors.as_slice() == b"write fault\n".as_slice());
+            expect_write_fault(&rt, text, puts);
         }
     }
 }
 
+/// Scripts with a fault, its line, and the status.
+const FAULTY: &[(&str, &str, u8)] = &[
+    ("m  r x\n", "line 1: BadLine\n", 6),
+    ("m rel l\n", "line 1: NotHolder\n", 3),
+];
+
 /// A writer that takes one put and no more has the whole line.
 #[test]
 fn a_fault_line_of_a_script_is_written_in_one_piece(rt: HostRuntime) {
-    let cases = [
-        ("m  r x\n", "line 1: BadLine\n", 6),
-        ("m rel l\n", "line 1: NotHolder\n", 3),
-    ];
-    for (text, output, status) in cases {
-        let once = Page::narrow(rt.alloc(), usize::MAX, 1);
-        let ran = run_lines(&rt, Pieces::whole(text.as_bytes()), 10, once);
-        ran.expect(&rt, text, output.as_bytes(), "", status);
+    for (text, output, status) in FAULTY {
+        let run = Run {
+            output: Room::of_puts(1),
+            ..Run::script(Text::whole(text.as_bytes()))
+        };
+        run.expect(&rt, "a fault line", &Answer::printed(output, *status));
     }
 }
 
 #[test]
 fn answers_a_missing_file_with_a_read_fault(rt: HostRuntime) {
-    let words = ["run", "there/is/no/such/script"];
-    let ran = run(&rt, words.as_slice(), Pieces::whole(b""));
-    ran.expect(&rt, "a missing file", b"", "read fault\n", 4);
+    let run = Run::of(&["run", "there/is/no/such/script"], Text::whole(b""));
+    run.expect(&rt, "a missing file", &Answer::told("read fault\n", 4));
 }
 
 /// Words that run the script in the file, its text, what is printed, and the status.
-static IN_A_FILE: [(&[&str], &str, &str, u8); 3] = [
+const IN_A_FILE: &[(&[&str], &str, &str, u8)] = &[
     (
         &["run", "worked.script"],
         "m fork a\na w x 5\nm join a\nm r x\n",
@@ -233,12 +244,17 @@ static IN_A_FILE: [(&[&str], &str, &str, u8); 3] = [
     ),
 ];
 
+fn write_script<R: AllocGlobal + Files>(rt: &R, text: &str) -> Result<(), Fail> {
+    fs::write(rt, "worked.script", text)?;
+    Ok(())
+}
+
 #[test]
 fn runs_the_script_in_a_file(rt: HostRuntime) -> Result<(), Fail> {
-    for (words, text, output, status) in &IN_A_FILE {
-        fs::write(&rt, "worked.script", *text)?;
-        let ran = run(&rt, *words, Pieces::whole(b""));
-        ran.expect(&rt, text, output.as_bytes(), "", *status);
+    for (words, text, output, status) in IN_A_FILE {
+        write_script(&rt, text)?;
+        let run = Run::of(words, Text::whole(b""));
+        run.expect(&rt, text, &Answer::printed(output, *status));
     }
     fs::remove_file(&rt, "worked.script")?;
     Ok(())

@@ -6,7 +6,7 @@ pub type Legal = (&'static str, &'static str, &'static str, &'static str, u8);
 /// What the trace is, its text, and the line of its fault.
 pub type Refused = (&'static str, &'static str, &'static str);
 
-pub static LEGAL: [Legal; 21] = [
+pub const LEGAL: &[Legal] = &[
     (
         "an empty text",
         "",
@@ -176,7 +176,7 @@ pub static LEGAL: [Legal; 21] = [
     ),
 ];
 
-pub static REFUSED: [Refused; 16] = [
+pub const REFUSED: &[Refused] = &[
     (
         "an unknown operation",
         "T0|w(x)|1\nT0|begin(x)|2\n",

@@ -2,7 +2,7 @@
 use event_core::{Refusal, ThreadId};
 use trace_report::refusal_word;
 
-static WORDS: [(Refusal, &str); 11] = [
+const WORDS: &[(Refusal, &str)] = &[
     (Refusal::ThreadRange, "ThreadRange"),
     (Refusal::NotStarted, "NotStarted"),
     (Refusal::Ended, "Ended"),
@@ -18,7 +18,7 @@ static WORDS: [(Refusal, &str); 11] = [
 
 #[test]
 fn names_each_refusal(rt: HostRuntime) {
-    for (refusal, word) in &WORDS {
-        assert_eq!(rt; refusal_word(*refusal), *word);
+    for (refusal, word) in WORDS {
+        assert!(rt; refusal_word(*refusal) == *word, "{word}");
     }
 }

@@ -1,0 +1,147 @@
+//! Runs of the program and of scripts, and what they come to.
+ghost use Rattle.std.specs.Prelude.{◌≡◌, ◌≤◌, false};
+
+use crate::doubles::{Page, Pieces, Room, Text};
+use std::fs::Files;
+use std::process::Abort;
+use std::sync::Wait;
+use std::thread::Threads;
+use wcp_tool::{Command, Settings, run_script, tool};
+
+/// What is run: the program over its words, or a script, a line of which is tried so often, and at least
+/// once.
+#[derive(Clone, Copy)]
+pub enum Program<'a> {
+    Words(&'a [&'a str]),
+    Script(u32),
+}
+
+/// A run, with what it reads and the room for what it writes.
+#[derive(Clone, Copy)]
+pub struct Run<'a> {
+    pub program: Program<'a>,
+    pub text: Text<'a>,
+    pub output: Room,
+    pub errors: Room,
+}
+
+/// What is written to standard output and to standard error, and the status.
+#[derive(Clone, Copy)]
+pub struct Answer<'a> {
+    pub output: &'a [u8],
+    pub errors: &'a str,
+    pub status: u8,
+}
+
+impl<'a> Answer<'a> {
+    /// Nothing is written to standard error.
+    pub fn printed(output: &'a str, status: u8) -> Answer<'a> {
+        Answer {
+            output: output.as_bytes(),
+            errors: "",
+            status,
+        }
+    }
+
+    /// Nothing is written to standard output.
+    pub fn told(errors: &'a str, status: u8) -> Answer<'a> {
+        Answer {
+            output: b"",
+            errors,
+            status,
+        }
+    }
+}
+
+/// What a run ended with and wrote.
+#[derive(Drop)]
+pub struct Ran {
+    pub status: u8,
+    pub output: Vec<u8>,
+    pub errors: Vec<u8>,
+}
+
+impl Ran {
+    /// Whether this is the answer.
+    pub fn is(&self, answer: &Answer<'_>) -> bool {
+        self.output.as_slice() == answer.output
+            && self.errors.as_slice() == answer.errors.as_bytes()
+            && self.status == answer.status
+    }
+}
+
+/// The status with which a script ends.
+fn script_status<R: AllocGlobal + Threads + Wait + Sync>(
+    rt: &R,
+    patience: u32,
+    reader: &mut Pieces<'_>,
+    output: &mut Page,
+    errors: &mut Page,
+) -> u8
+    requires reads { reader.old.failed ≡ false }
+    requires writes { output.old.failed ≡ false }
+{
+    let settings = Settings {
+        command: Command::Check,
+        threads: 64,
+        patience: if patience == 0 { 1 } else { patience },
+    };
+    let status = run_script(rt, reader, output, errors, &settings);
+    drop(settings);
+    status
+}
+
+impl<'a> Run<'a> {
+    fn with_room(program: Program<'a>, text: Text<'a>) -> Run<'a> {
+        Run {
+            program,
+            text,
+            output: Room::AMPLE,
+            errors: Room::AMPLE,
+        }
+    }
+
+    /// A run of the program with room for all that is written.
+    pub fn of(words: &'a [&'a str], text: Text<'a>) -> Run<'a> {
+        Run::with_room(Program::Words(words), text)
+    }
+
+    /// A run of a script with patience and room for all that is written.
+    pub fn script(text: Text<'a>) -> Run<'a> {
+        Run::with_room(Program::Script(1000000), text)
+    }
+
+    pub fn ran<R: AllocGlobal + Files + Threads + Wait + Sync>(&self, rt: &R) -> Ran {
+        let mut reader = Pieces::of(self.text);
+        let mut output = Page::blank(rt.alloc(), self.output);
+        let mut errors = Page::blank(rt.alloc(), self.errors);
+        let status = match self.program {
+            Program::Words(words) => tool(rt, words, &mut reader, &mut output, &mut errors),
+            Program::Script(patience) => {
+                script_status(rt, patience, &mut reader, &mut output, &mut errors)
+            }
+        };
+        Ran {
+            status,
+            output: output.bytes,
+            errors: errors.bytes,
+        }
+    }
+
+    /// The run comes to this answer.
+    pub fn expect<R: Abort + AllocGlobal + Files + Threads + Wait + Sync>(
+        &self,
+        rt: &R,
+        what: &str,
+        answer: &Answer<'_>,
+    ) {
+        let ran = self.ran(rt);
+        assert!(rt;
+            ran.is(answer),
+            "{what}: {:?}, {:?}",
+            ran.status,
+            ran.output
+        );
+        drop(ran);
+    }
+}
