@@ -10,18 +10,18 @@ trap 'rm -rf "$work"' EXIT
 # The program is built in a repository of its own, beside a copy of the crates that it times.
 program=$work/crates/hb_clocks_bench
 mkdir -p "$program/src" "$program/specs" "$program/proofs/Run/new" "$program/proofs/Run/step"
-cp -r "$top/crates/event_core" "$top/crates/hb_clocks" "$work/crates"
+for crate in event_core vector_clocks hb_clocks
+do
+    cp -r "$top/crates/$crate" "$work/crates"
+    grep "^$crate:" "$top/crates.txt"
+done > "$work/crates.txt"
+echo "hb_clocks_bench: event_core hb_clocks" >> "$work/crates.txt"
 cp "$top/HANDLES" "$work"
 cp "$here/main.rt.txt" "$program/src/main.rt"
 cp "$here/new.antt.txt" "$program/proofs/Run/new/Answers.antt"
 cp "$here/step.antt.txt" "$program/proofs/Run/step/Answers.antt"
 : > "$program/proofs/Lib.antt"
 : > "$program/specs/Lib.antt"
-cat > "$work/crates.txt" <<'CRATES'
-event_core:
-hb_clocks: event_core
-hb_clocks_bench: event_core hb_clocks
-CRATES
 (cd "$program" && "${RT:-rt}" run) > "$work/built" 2>&1 || { cat "$work/built"; exit 1; }
 rustc -O -C target-cpu=x86-64-v2 -o "$work/plain" "$here/plain.rs"
 

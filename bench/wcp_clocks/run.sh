@@ -11,30 +11,19 @@ trap 'rm -rf "$work"' EXIT
 # The program is built in a repository of its own, beside a copy of the crates that it times.
 program=$work/crates/wcp_clocks_bench
 mkdir -p "$program/src" "$program/specs" "$program/proofs/replay"
-for crate in event_core traced_mem hb_clocks section_sum lock_queues wcp_laws wcp_clocks access_check \
-    verdict_list seq_monitor
+for crate in event_core traced_mem vector_clocks hb_clocks section_sum lock_queues wcp_laws wcp_clocks \
+    access_check verdict_list seq_monitor
 do
     cp -r "$top/crates/$crate" "$work/crates"
-done
+    grep "^$crate:" "$top/crates.txt"
+done > "$work/crates.txt"
+echo "wcp_clocks_bench: event_core hb_clocks wcp_clocks seq_monitor" >> "$work/crates.txt"
 cp "$top/HANDLES" "$work"
 cp "$here/main.rt.txt" "$program/src/main.rt"
 cp "$here/invariants.antt.txt" "$program/proofs/replay/Invariants.antt"
 cp "$here/answers.antt.txt" "$program/proofs/replay/Answers.antt"
 : > "$program/proofs/Lib.antt"
 : > "$program/specs/Lib.antt"
-cat > "$work/crates.txt" <<'CRATES'
-event_core:
-traced_mem: event_core smallvec
-hb_clocks: event_core
-section_sum: event_core indexmap
-lock_queues: event_core hb_clocks
-wcp_laws: event_core hb_clocks
-wcp_clocks: event_core hb_clocks section_sum lock_queues wcp_laws
-access_check: event_core hb_clocks
-verdict_list: event_core
-seq_monitor: event_core traced_mem hb_clocks access_check wcp_laws wcp_clocks verdict_list
-wcp_clocks_bench: event_core hb_clocks wcp_clocks seq_monitor
-CRATES
 (cd "$program" && "${RT:-rt}" run -- 2 2) > "$work/built" 2>&1 || { cat "$work/built"; exit 1; }
 rustc -O -C target-cpu=x86-64-v2 -o "$work/plain" "$here/plain.rs"
 

@@ -16,7 +16,7 @@ use Rattle.event_core.specs.Log.{Does, Of, OpsConflict}
 use Rattle.event_core.specs.Count.{events_of}
 use Rattle.event_core.specs.Orderly.{Orderly}
 use Rattle.event_core.specs.Rows.{Counted}
-use Rattle.event_core.specs.Turn.{access_of}
+use Rattle.event_core.specs.Effect.{access_of}
 use Rattle.event_core.specs.Closed.{Has}
 use Rattle.event_core.specs.Wcp.{Below}
 use Rattle.event_core.specs.Verdict.{Races, IsVerdict}
@@ -26,7 +26,7 @@ use Rattle.event_core.proofs.Legality.{orderly}
 use Rattle.event_core.proofs.LogFacts.{of_does, does_op}
 use Rattle.event_core.proofs.MoreLaws.{first_below}
 use Rattle.event_core.proofs.Stable.{longer, back, does, hb_too, below_too}
-use Rattle.event_core.proofs.Turning.{front}
+use Rattle.event_core.proofs.Effects.{front}
 use Rattle.access_check.specs.declared.lasts.Last.{Last}
 use Rattle.access_check.specs.declared.touches.Touches.{Touches}
 use Rattle.access_check.specs.Lasts.{racing}

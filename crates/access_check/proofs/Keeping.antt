@@ -12,7 +12,7 @@ use Rattle.event_core.specs.declared.events.AccessKind.TheVariants.{Read, Write}
 use Rattle.event_core.specs.declared.replies.Verdict.TheVariants.{Clear}
 use Rattle.event_core.specs.Log.{Does, Of}
 use Rattle.event_core.specs.Count.{events_of}
-use Rattle.event_core.specs.Turn.{access_of}
+use Rattle.event_core.specs.Effect.{access_of}
 use Rattle.event_core.specs.Closed.{Has, first, later}
 use Rattle.event_core.specs.Verdict.{IsVerdict}
 use Rattle.event_core.specs.Wcp.{Below, rule_c_right}
@@ -24,7 +24,7 @@ use Rattle.event_core.proofs.Depth.{thread_cases}
 use Rattle.event_core.proofs.LogFacts.{of_does}
 use Rattle.event_core.proofs.Members.{none_in}
 use Rattle.event_core.proofs.Stable.{longer, back, does, below_too}
-use Rattle.event_core.proofs.Turning.{front}
+use Rattle.event_core.proofs.Effects.{front}
 use Rattle.access_check.specs.declared.lasts.Access.{Access}
 use Rattle.access_check.specs.declared.lasts.Last.{Last}
 use Rattle.access_check.specs.declared.touches.Touches.{Touches}

@@ -15,7 +15,7 @@ use Rattle.event_core.specs.declared.events.AccessKind.TheVariants.{Read, Write}
 use Rattle.event_core.specs.declared.replies.Verdict.{Verdict}
 use Rattle.event_core.specs.declared.replies.Verdict.TheVariants.{Clear, Racy}
 use Rattle.event_core.specs.Count.{events_of}
-use Rattle.event_core.specs.Turn.{access_of}
+use Rattle.event_core.specs.Effect.{access_of}
 use Rattle.event_core.specs.Refusal.{WellFormed}
 use Rattle.event_core.specs.Verdict.{IsVerdict}
 use Rattle.event_core.proofs.Counting.{nat_eq_same, nat_eq_other}

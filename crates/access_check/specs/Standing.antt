@@ -9,7 +9,7 @@ use Rattle.event_core.specs.declared.events.AccessKind.{AccessKind}
 use Rattle.event_core.specs.declared.events.AccessKind.TheVariants.{Write}
 use Rattle.event_core.specs.Log.{Does}
 use Rattle.event_core.specs.Count.{events_of}
-use Rattle.event_core.specs.Turn.{access_of}
+use Rattle.event_core.specs.Effect.{access_of}
 use Rattle.event_core.specs.Closed.{Has}
 use Rattle.event_core.specs.Refusal.{WellFormed}
 use Rattle.event_core.specs.Wcp.{Below}

@@ -3,14 +3,14 @@
 //! takes no memory beside it.
 ghost use Rattle.std.specs.Prelude.{◌≡◌, ◌<◌, ◌-◌, ◌||◌, length, nat_lt, vec_len, vec_capacity, IsTrue};
 ghost use Rattle.std.specs.List.{list_any, position};
-ghost use Rattle.hb_clocks.specs.Counts.{counts_of};
+ghost use Rattle.vector_clocks.specs.Counts.{counts_of};
 ghost use Rattle.access_check.specs.Lasts.{is_of, later, racing, latest_from, put, AreNarrow};
 
 use crate::packed::PackedLast;
 use event_core::{OutOfMemory, ThreadId};
-use hb_clocks::JoinedClocks;
 use std::alloc::Global;
 use std::marker::Model;
+use vector_clocks::JoinedClocks;
 
 /// An access: its index in the log, and its position among its thread's events, from 1.
 #[derive(Clone, Copy, Debug, PartialEq, Eq)]
@@ -147,7 +147,7 @@ impl Model for Lasts {
 impl Lasts {
     ghost use Rattle.std.specs.Prelude.{◌≡◌, [], length, IsTrue, OnOk};
     ghost use Rattle.event_core.specs.declared.ids.ThreadId.{ThreadId as Thread};
-    ghost use Rattle.hb_clocks.specs.Counts.{counts_of};
+    ghost use Rattle.vector_clocks.specs.Counts.{counts_of};
     ghost use Rattle.access_check.specs.Lasts.{latest, put, has_room, no_lasts, AreNarrow, IsShort};
 
     /// There was no access. There is room for one thread.

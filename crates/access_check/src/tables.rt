@@ -3,7 +3,7 @@ ghost use Rattle.std.specs.Prelude.{◌≡◌, ℕ, ◌+◌, ◌<◌, ◌≤◌,
 ghost use Rattle.event_core.specs.declared.ids.ThreadId.{ThreadId as Thread};
 ghost use Rattle.event_core.specs.declared.events.AccessKind.{AccessKind as Kind};
 ghost use Rattle.event_core.specs.declared.events.Op.{Op as Operation};
-ghost use Rattle.hb_clocks.specs.Counts.{counts_of};
+ghost use Rattle.vector_clocks.specs.Counts.{counts_of};
 ghost use Rattle.access_check.specs.Lasts.{AreNarrow, IsShort};
 ghost use Rattle.access_check.specs.Touched.{kept, latest_racing, kept_after};
 ghost use Rattle.access_check.specs.Tables.{last_of};
@@ -12,8 +12,8 @@ ghost use Rattle.access_check.specs.Tables.{count_at, touches_at, touched_after,
 use crate::lasts::{Access, Last};
 use crate::touches::Touches;
 use event_core::{AccessKind, Event, Op, OutOfMemory, ThreadId, Verdict};
-use hb_clocks::JoinedClocks;
 use std::alloc::Global;
+use vector_clocks::JoinedClocks;
 
 /// So many threads have a count.
 pub(crate) fn grow_counts(counts: &mut Vec<u64>, threads: usize) -> Result<(), OutOfMemory>

@@ -2,9 +2,9 @@
 //! does not race nothing that was before it.
 use crate::lasts::{Last, Lasts, greater};
 use event_core::{AccessKind, OutOfMemory, ThreadId, Verdict};
-use hb_clocks::JoinedClocks;
 use std::alloc::Global;
 use std::mem::size_of;
+use vector_clocks::JoinedClocks;
 
 // A variable takes so many bytes, and no other memory while it is touched by one thread alone.
 const _: () = prove!(size_of::<Touches>() == 80);
@@ -20,7 +20,7 @@ impl Touches {
     ghost use Rattle.std.specs.Prelude.{◌≡◌, length, IsTrue, OnOk};
     ghost use Rattle.event_core.specs.declared.ids.ThreadId.{ThreadId as Thread};
     ghost use Rattle.event_core.specs.declared.events.AccessKind.{AccessKind as Kind};
-    ghost use Rattle.hb_clocks.specs.Counts.{counts_of};
+    ghost use Rattle.vector_clocks.specs.Counts.{counts_of};
     ghost use Rattle.access_check.specs.Lasts.{has_room, AreNarrow, IsShort};
     ghost use Rattle.access_check.specs.Touched.{no_touches, of_kind, kept, latest_racing, kept_after};
 

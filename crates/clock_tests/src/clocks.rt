@@ -2,13 +2,14 @@
 //!
 //! Where memory is refused once, the same call is made again and gives the same numbers.
 ghost use Rattle.std.specs.Prelude.{◌≡◌, ℕ, ◌*◌, ◌<◌, ◌≤◌, ◌↔◌, length, IfOk, OnOk, IsTrue};
-ghost use Rattle.hb_clocks.specs.Counts.{counts_of};
+ghost use Rattle.vector_clocks.specs.Counts.{counts_of};
 ghost use Rattle.hb_clocks.specs.State.{empty};
 ghost use Rattle.hb_clocks.specs.Stands.{IsAtMost};
 ghost use Rattle.hb_clocks.specs.Tables.{state_of, IsReady, IsWithin};
 
 use event_core::{Event, Limits, LockId, Op, OutOfMemory, Roots, SiteId, ThreadId, VarId};
-use hb_clocks::{Clock, HbClocks, JoinedClocks, Mark, Work};
+use hb_clocks::HbClocks;
+use vector_clocks::{Clock, JoinedClocks, Mark, Work};
 use std::alloc::Global;
 use std::process::Abort;
 

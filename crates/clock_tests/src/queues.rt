@@ -2,12 +2,12 @@
 //!
 //! On each lock at most one section is closed, and at most one release asks for it.
 ghost use Rattle.std.specs.Prelude.{◌≡◌, ℕ, ◌+◌, ◌<◌, ◌≤◌, false, length, IsTrue};
-ghost use Rattle.hb_clocks.specs.Counts.{counts_of};
+ghost use Rattle.vector_clocks.specs.Counts.{counts_of};
 ghost use Rattle.lock_queues.specs.Queues.{closed_of, found_of, has_room, SameMeaning};
 
 use crate::clocks::{Run, event};
 use event_core::{Limits, LockId, Op, Roots, ThreadId, VarId};
-use hb_clocks::{Clock, Mark, Work};
+use vector_clocks::{Clock, Mark, Work};
 use lock_queues::Queues;
 use std::alloc::Global;
 use std::process::Abort;

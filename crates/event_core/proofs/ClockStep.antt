@@ -6,13 +6,14 @@ use mathlib.Core.Logic.{inl, inr}
 use Rattle.event_core.specs.declared.ids.ThreadId.{ThreadId}
 use Rattle.event_core.specs.declared.ids.LockId.{LockId}
 use Rattle.event_core.specs.declared.events.Event.{Event}
-use Rattle.event_core.specs.declared.events.Op.TheVariants.{Acquire, Fork, Join}
+use Rattle.event_core.specs.declared.events.Op.TheVariants.{Acquire, Join}
 use Rattle.event_core.specs.Log.{Does, Of, depth}
 use Rattle.event_core.specs.Order.{Hb}
 use Rattle.event_core.specs.Count.{Past, LockPast}
 use Rattle.event_core.proofs.Places.{get_last}
 use Rattle.event_core.proofs.LogFacts.{does_op}
-use Rattle.event_core.proofs.Stable.{Agree, longer, back, of, does, releases_it, hb_too}
+use Rattle.event_core.proofs.Stable.{Agree, longer, back, releases_it, hb_too}
+use Rattle.event_core.proofs.Pasts.{source_within, old_source, new_source}
 use Rattle.event_core.proofs.CountLaws.{Brought, itself, own, by_join, by_lock, hb_brought, brought_hb}
 
 -- what is below the event e, once it has been added to the log, but e itself
@@ -35,26 +36,15 @@ step_to log e i h = go (hb_brought (log ++ e ∷ []) e.thread i (length log) (la
     a : Agree (length log) (log ++ e ∷ []) log
     a = back (longer log (e ∷ []))
 
-    source : (t : ThreadId) (g : ℕ) → g < length log
-        → (Of (log ++ e ∷ []) g t ⊎ ((v : ThreadId) × Does (log ++ e ∷ []) g v (Fork t)))
-        → Of log g t ⊎ ((v : ThreadId) × Does log g v (Fork t))
-    source t g lt (inl o) = inl (of a lt o)
-    source t g lt (inr d) = inr (d.0, does a lt d.1)
-
     go : Brought (log ++ e ∷ []) e.thread i (length log) → (i ≡ length log) ⊎ NewBelow log e i
     go (itself same) = inl same
-    go (own g lt s c) = inr (by_thread (g, source e.thread g lt s, hb_too a lt c))
+    go (own g lt s c) = inr (by_thread (g, old_source log e e.thread g lt s, hb_too a lt c))
     go (by_join u g lt d s c) =
-        inr (by_joined u (does_op (is_last log e) d) (g, source u g lt s, hb_too a lt c))
+        inr (by_joined u (does_op (is_last log e) d) (g, old_source log e u g lt s, hb_too a lt c))
     go (by_lock l g lt d r c) =
         inr (by_lock_of l (does_op (is_last log e) d.does)
         (subst (λ xs. depth xs e.thread l ≡ 0) (take-append_seam log (e ∷ [])) d.outer)
         (g, (r.0, releases_it a lt r.1), hb_too a lt c))
-
-within : (log : List Event) (g : ℕ) (t : ThreadId) → (Of log g t ⊎ ((v : ThreadId) × Does log g v (Fork t)))
-    → g < length log
-within log g t (inl o) = slice_get_within log g o.event o.at
-within log g t (inr d) = slice_get_within log g d.1.event d.1.at
 
 pub step_from : (log : List Event) (e : Event) (i : ℕ) → NewBelow log e i → Hb (log ++ e ∷ []) i (length log)
 step_from log e i n = brought_hb (log ++ e ∷ []) e.thread i (length log) (last_of log e) (go n)
@@ -62,18 +52,14 @@ step_from log e i n = brought_hb (log ++ e ∷ []) e.thread i (length log) (last
     a : Agree (length log) log (log ++ e ∷ [])
     a = longer log (e ∷ [])
 
-    source : (t : ThreadId) (g : ℕ) → (Of log g t ⊎ ((v : ThreadId) × Does log g v (Fork t)))
-        → Of (log ++ e ∷ []) g t ⊎ ((v : ThreadId) × Does (log ++ e ∷ []) g v (Fork t))
-    source t g (inl o) = inl (of a (within log g t (inl o)) o)
-    source t g (inr d) = inr (d.0, does a (within log g t (inr d)) d.1)
-
     go : NewBelow log e i → Brought (log ++ e ∷ []) e.thread i (length log)
     go (by_thread p) =
-        let lt = within log p.0 e.thread p.1 in own p.0 lt (source e.thread p.0 p.1) (hb_too a lt p.2)
+        let lt = source_within log e.thread p.0 p.1 in
+        own p.0 lt (new_source log e e.thread p.0 lt p.1) (hb_too a lt p.2)
     go (by_joined u o p) =
-        let lt = within log p.0 u p.1 in
+        let lt = source_within log u p.0 p.1 in
         by_join u p.0 lt (record { event = e; at = get_last log e; thread = refl; does = o })
-        (source u p.0 p.1) (hb_too a lt p.2)
+        (new_source log e u p.0 lt p.1) (hb_too a lt p.2)
     go (by_lock_of l o z p) =
         let lt : p.0 < length log = slice_get_within log p.0 p.1.1.does.event p.1.1.does.at in
         by_lock l p.0 lt

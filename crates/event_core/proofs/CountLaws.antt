@@ -1,7 +1,7 @@
 -- How counts follow unions of sets and a longer log, and what is below a new event.
 use Rattle.std.proofs.Common.{◌≡◌, ℕ, suc, zero, ◌<◌, ◌≤◌, ◌+◌, max, List, ◌++◌, Bool, true, false, length}
 use Rattle.std.proofs.Common.{refl, sym, ap, subst, ◌∙◌, arith, take, cond, ◌⊎◌, ◌↔◌, slice_get, Some, None}
-use Rattle.std.proofs.Common.{get_or, count_by, nat_eq}
+use Rattle.std.proofs.Common.{get_or, count_by, nat_eq, [], ◌∷◌}
 use Rattle.std.proofs.lemmas.Bool.{cases_lt, eq-eqb, eqb-true, cases_Bool}
 use Rattle.std.proofs.lemmas.List.{take-append-le}
 use Rattle.std.proofs.lemmas.List.Sums.{sum_by-append, sum_by-take-le}
@@ -193,3 +193,23 @@ counts_at_most log u P m n a b = go (cases_lt n m)
         let below : P e.0 = (a.first e.0 e.1).1 (omega arith) in
         let again : events_of (take e.0 log) u < n = (b.first e.0 e.1).0 below in
         absurd (omega arith)
+
+-- a set within another has the lower count
+pub counts_mono : (log : List Event) (u : ThreadId) (P Q : ℕ → Type 0) (m n : ℕ) → ((i : ℕ) → P i → Q i)
+    → Counts log u P m → Counts log u Q n → m ≤ n
+counts_mono log u P Q m n sub a b =
+    let both : Counts log u Q (max m n)
+    = counts_same log u (λ i. P i ⊎ Q i) Q (max m n)
+    (λ i o. (λ p. elim p [ inl x ↦ sub i x | inr y ↦ y ], λ q. inr q))
+    (counts_union log u P Q m n a b) in
+    let le : max m n ≤ n = counts_at_most log u Q (max m n) n both b in
+    omega arith
+
+-- and so has a set within another of a longer log
+pub counts_grow : (log : List Event) (e : Event) (u : ThreadId) (P Q : ℕ → Type 0) (m n : ℕ)
+    → ((i : ℕ) → P i → Q i) → ((i : ℕ) → P i → i < length log) → Counts log u P m
+    → Counts (log ++ e ∷ []) u Q n → m ≤ n
+counts_grow log e u P Q m n sub within a b =
+    counts_mono (log ++ e ∷ []) u (λ i. P i × (i < length log)) Q m n (λ i p. sub i p.0)
+    (counts_longer log (e ∷ []) u P (λ i. P i × (i < length log)) m (λ i lt. (λ p. (p, lt), λ p. p.0))
+    (λ i le p. let lt : i < length log = p.1 in omega arith) a) b

@@ -1,6 +1,7 @@
 -- The rows after an event, for any relation that an event's clock is known of.
 use Rattle.std.proofs.Common.{◌≡◌, ℕ, ◌<◌, ◌≤◌, List, [], ◌∷◌, ◌++◌, Bool, true, false, length, refl, sym, ap}
 use Rattle.std.proofs.Common.{subst, ◌∙◌, arith, cond, ◌⊎◌, ◌↔◌, None, nat_eq, ◌||◌}
+use Rattle.std.proofs.lemmas.Bool.{cases_eq}
 use Rattle.std.proofs.lemmas.Option.{slice_get_within}
 use Rattle.std.specs.List.{list_any}
 use mathlib.Core.Logic.{inl, inr}
@@ -28,18 +29,31 @@ use Rattle.event_core.proofs.MoreLaws.{sections_ordered}
 use Rattle.event_core.proofs.Legality.{legal_reasons, when_none, any_at}
 use Rattle.event_core.proofs.Growth.{well_formed_last}
 use Rattle.event_core.specs.declared.events.AccessKind.TheVariants.{Read, Write}
-use Rattle.event_core.specs.Turn.{Turn, Accesses, Opens, Closes, Joins, Inner}
+use Rattle.event_core.specs.Effect.{Effect, Accesses, Opens, Closes, Joins, Inner}
 use Rattle.event_core.specs.Rows.{Rows, with_row, to_child, to_lock, rows_after, Counted, RowsStand}
 use Rattle.event_core.proofs.Counting.{nat_eq_same, nat_eq_other, counted_same, counted_longer, last_of}
 use Rattle.event_core.proofs.Counting.{last_does, is_last, last_thread, last_op}
-use Rattle.event_core.proofs.Turning.{Fits, accesses, opens, closes, forks, joins, again, inner, last_closes}
-use Rattle.event_core.proofs.Turning.{closes_at_one}
+use Rattle.event_core.proofs.Effects.{Fits, accesses, opens, closes, forks, joins, again, inner, last_closes}
+use Rattle.event_core.proofs.Effects.{closes_at_one}
 
 pub row_same : {A : Type 0} (t : ℕ) (g : A) (f : ℕ → A) → with_row t g f t ≡ g
 row_same t g f = ap (λ (b : Bool). cond b g (f t)) (nat_eq_same t)
 
 pub row_other : {A : Type 0} (t : ℕ) (g : A) (f : ℕ → A) (a : ℕ) → (a ≡ t → ⊥) → with_row t g f a ≡ f a
 row_other t g f a n = ap (λ (b : Bool). cond b g (f a)) (nat_eq_other a t n)
+
+-- one cell of a table of rows
+pub cell_same : {A : Type 0} (t l : ℕ) (v : A) (f : ℕ → ℕ → A) → with_row t (with_row l v (f t)) f t l ≡ v
+cell_same t l v f = ap (λ g. g l) (row_same t (with_row l v (f t)) f) ∙ row_same l v (f t)
+
+pub cell_other : {A : Type 0} (t l : ℕ) (v : A) (f : ℕ → ℕ → A) (a b : ℕ) → (a ≡ t → b ≡ l → ⊥)
+    → with_row t (with_row l v (f t)) f a b ≡ f a b
+cell_other {A = A} t l v f a b n = go (cases_eq a t)
+  where
+    go : (a ≡ t) ⊎ (a ≡ t → ⊥) → with_row t (with_row l v (f t)) f a b ≡ f a b
+    go (inl e) = subst (λ x. with_row t (with_row l v (f t)) f x b ≡ f x b) (sym e)
+        (ap (λ g. g b) (row_same t (with_row l v (f t)) f) ∙ row_other l v (f t) b (n e))
+    go (inr ne) = ap (λ g. g b) (row_other t (with_row l v (f t)) f a ne)
 
 -- the event is of the thread, or forks it
 unfoldable pub Leads : Event → ThreadId → Type 0
@@ -178,7 +192,7 @@ module _ (m : Limits) (log : List Event) (e : Event) (w : WellFormed m (log ++ e
           omega arith
       no (inr d) = fresh m log e t w a p.0 d.0 d.1
 
-  child_row : (k : Turn) → Fits log e k → (t : ThreadId) (g : ℕ → ℕ) (f : ℕ → ℕ → ℕ) → e.op ≡ Fork t
+  child_row : (k : Effect) → Fits log e k → (t : ThreadId) (g : ℕ → ℕ) (f : ℕ → ℕ → ℕ) → e.op ≡ Fork t
       → to_child k g f t.0 ≡ g
   child_row _ (forks u o) t g f a =
       let q : Fork t ≡ Fork u = sym a ∙ o in let r : t ≡ u = cc in
@@ -191,7 +205,7 @@ module _ (m : Limits) (log : List Event) (e : Event) (w : WellFormed m (log ++ e
   child_row _ (again l o d) t g f a = absurd (let q : Fork t ≡ Acquire l = sym a ∙ o in cc)
   child_row _ (inner l o d) t g f a = absurd (let q : Fork t ≡ Release l = sym a ∙ o in cc)
 
-  child_other : (k : Turn) → Fits log e k → (t : ThreadId) (g : ℕ → ℕ) (f : ℕ → ℕ → ℕ) → (e.op ≡ Fork t → ⊥)
+  child_other : (k : Effect) → Fits log e k → (t : ThreadId) (g : ℕ → ℕ) (f : ℕ → ℕ → ℕ) → (e.op ≡ Fork t → ⊥)
       → to_child k g f t.0 ≡ f t.0
   child_other _ (forks u o) t g f n = row_other u.0 g f t.0 (λ q. n (o ∙ ap Fork (sym (same_thread_id q))))
   child_other (Accesses x k) h t g f n = refl
@@ -200,7 +214,7 @@ module _ (m : Limits) (log : List Event) (e : Event) (w : WellFormed m (log ++ e
   child_other (Joins u) h t g f n = refl
   child_other Inner h t g f n = refl
 
-  pub led_row : (k : Turn) → Fits log e k → (t : ThreadId) (g : ℕ → ℕ) (f : ℕ → ℕ → ℕ) → Leads e t
+  pub led_row : (k : Effect) → Fits log e k → (t : ThreadId) (g : ℕ → ℕ) (f : ℕ → ℕ → ℕ) → Leads e t
       → to_child k g (with_row e.thread.0 g f) t.0 ≡ g
   unfolding Leads
   led_row k h t g f (inr a) = child_row k h t g (with_row e.thread.0 g f) a
@@ -212,14 +226,14 @@ module _ (m : Limits) (log : List Event) (e : Event) (w : WellFormed m (log ++ e
           child_other k h t g (with_row e.thread.0 g f) n
           ∙ subst (λ (v : ThreadId). with_row e.thread.0 g f v.0 ≡ g) a (row_same e.thread.0 g f)
 
-  pub other_row : (k : Turn) → Fits log e k → (t : ThreadId) (g : ℕ → ℕ) (f : ℕ → ℕ → ℕ) → (Leads e t → ⊥)
+  pub other_row : (k : Effect) → Fits log e k → (t : ThreadId) (g : ℕ → ℕ) (f : ℕ → ℕ → ℕ) → (Leads e t → ⊥)
       → to_child k g (with_row e.thread.0 g f) t.0 ≡ f t.0
   unfolding Leads
   other_row k h t g f n =
       child_other k h t g (with_row e.thread.0 g f) (λ b. n (inr b))
       ∙ row_other e.thread.0 g f t.0 (λ q. n (inl (same_thread_id (sym q))))
 
-  thread_rows : (k : Turn) → Fits log e k → (g : ℕ → ℕ) (f : ℕ → ℕ → ℕ)
+  thread_rows : (k : Effect) → Fits log e k → (g : ℕ → ℕ) (f : ℕ → ℕ → ℕ)
       → ((t : ThreadId) → Counted log (Past log R t) (f t.0))
       → Counted (log ++ e ∷ []) (λ i. Q i (length log)) g → (t : ThreadId)
       → Counted (log ++ e ∷ []) (Past (log ++ e ∷ []) Q t) (to_child k g (with_row e.thread.0 g f) t.0)
@@ -287,7 +301,7 @@ module _ (m : Limits) (log : List Event) (e : Event) (w : WellFormed m (log ++ e
       (hb_trans b
       (hb_thread e.thread (of_does t.1.inside.opened.does) (of_does t.1.closed.does) t.1.inside.from))
 
-  closes_cases : (l : LockId) (k : Turn) → Fits log e k → (g : ℕ → ℕ) (f : ℕ → ℕ → ℕ)
+  closes_cases : (l : LockId) (k : Effect) → Fits log e k → (g : ℕ → ℕ) (f : ℕ → ℕ → ℕ)
       → (ClosesIt l × (to_lock k g f l.0 ≡ g)) ⊎ ((ClosesIt l → ⊥) × (to_lock k g f l.0 ≡ f l.0))
   unfolding ClosesIt
   closes_cases l _ (closes n o d) g f = go (lock_cases l n)
@@ -328,7 +342,7 @@ module _ (m : Limits) (log : List Event) (e : Event) (w : WellFormed m (log ++ e
         refl,
       )
 
-  lock_rows : (k : Turn) → Fits log e k → (g : ℕ → ℕ) (f : ℕ → ℕ → ℕ)
+  lock_rows : (k : Effect) → Fits log e k → (g : ℕ → ℕ) (f : ℕ → ℕ → ℕ)
       → ((l : LockId) → Counted log (LockPast log R l) (f l.0))
       → Counted (log ++ e ∷ []) (λ i. Q i (length log)) g → (l : LockId)
       → Counted (log ++ e ∷ []) (LockPast (log ++ e ∷ []) Q l) (to_lock k g f l.0)
@@ -362,7 +376,7 @@ module _ (m : Limits) (log : List Event) (e : Event) (w : WellFormed m (log ++ e
               let le : i ≤ p.0 = forward i p.0 ((same i p.0 lt).0 p.2) in omega arith
           within i (inr p) = absurd (c.0 p.0)
 
-  pub rows_stand : (k : Turn) → Fits log e k → (g : ℕ → ℕ) (r : Rows) → RowsStand log R r
+  pub rows_stand : (k : Effect) → Fits log e k → (g : ℕ → ℕ) (r : Rows) → RowsStand log R r
       → Counted (log ++ e ∷ []) (λ i. Q i (length log)) g
       → RowsStand (log ++ e ∷ []) Q (rows_after e.thread k g r)
   rows_stand k h g r s is =

@@ -21,7 +21,7 @@ use Rattle.event_core.specs.declared.replies.Outcome.TheVariants.{Accepted, Refu
 use Rattle.event_core.specs.Refusal.{Legal, WellFormed, event_of, forked, forks}
 use Rattle.event_core.specs.Verdict.{IsOutcome, log_after, IsRun}
 use Rattle.event_core.proofs.Stable.{longer}
-use Rattle.event_core.proofs.MoreLaws.{one_verdict}
+use Rattle.event_core.proofs.MoreLaws.{verdict_is_unique}
 use Rattle.event_core.proofs.Places.{get_last}
 
 pub well_formed_front : (m : Limits) (log more : List Event) → WellFormed m (log ++ more) → WellFormed m log
@@ -71,29 +71,29 @@ same_reply : (a b : Reply) → a.index ≡ b.index → a.value ≡ b.value → a
 same_reply a b p q r = λ i. record { index = p i; value = q i; verdict = r i }
 
 -- a call has one outcome, and a run one list of them
-pub one_outcome : (m : Limits) (log : List Event) (c : Call) (a b : Outcome) → IsOutcome m log c a
+pub outcome_is_unique : (m : Limits) (log : List Event) (c : Call) (a b : Outcome) → IsOutcome m log c a
     → IsOutcome m log c b → a ≡ b
-one_outcome m log c (Refused r) (Refused s) p q = let same : Some r ≡ Some s = sym p ∙ q in cc
-one_outcome m log c (Refused r) (Accepted a) p q = absurd (let same : Some r ≡ None = sym p ∙ q.0 in cc)
-one_outcome m log c (Accepted a) (Refused s) p q = absurd (let same : Some s ≡ None = sym q ∙ p.0 in cc)
-one_outcome m log c (Accepted a) (Accepted b) p q =
+outcome_is_unique m log c (Refused r) (Refused s) p q = let same : Some r ≡ Some s = sym p ∙ q in cc
+outcome_is_unique m log c (Refused r) (Accepted a) p q = absurd (let same : Some r ≡ None = sym p ∙ q.0 in cc)
+outcome_is_unique m log c (Accepted a) (Refused s) p q = absurd (let same : Some s ≡ None = sym q ∙ p.0 in cc)
+outcome_is_unique m log c (Accepted a) (Accepted b) p q =
     let index : a.index ≡ b.index = p.1 ∙ sym q.1 in
     let value : a.value ≡ b.value = p.2 ∙ sym q.2 in
     let verdict : a.verdict ≡ b.verdict
-    = one_verdict (log ++ event_of log c ∷ []) (length log) a.verdict b.verdict p.3 q.3 in
+    = verdict_is_unique (log ++ event_of log c ∷ []) (length log) a.verdict b.verdict p.3 q.3 in
     ap Accepted (same_reply a b index value verdict)
 
-pub one_run : (m : Limits) (log : List Event) (cs : List Call) (os bs : List Outcome) (x y : List Event)
+pub run_is_unique : (m : Limits) (log : List Event) (cs : List Call) (os bs : List Outcome) (x y : List Event)
     → IsRun m log cs os x → IsRun m log cs bs y → (os ≡ bs) × (x ≡ y)
-one_run m log [] [] [] x y p q = (refl, p ∙ sym q)
-one_run m log (c ∷ cs) (a ∷ os') (b ∷ bs) x y p q =
-    let same : a ≡ b = one_outcome m log c a b p.0 q.0 in
+run_is_unique m log [] [] [] x y p q = (refl, p ∙ sym q)
+run_is_unique m log (c ∷ cs) (a ∷ os') (b ∷ bs) x y p q =
+    let same : a ≡ b = outcome_is_unique m log c a b p.0 q.0 in
     let q' : IsRun m (log_after log c a) cs bs y
     = subst (λ o. IsRun m (log_after log c o) cs bs y) (sym same) q.1 in
-    let rest = one_run m (log_after log c a) cs os' bs x y p.1 q' in
+    let rest = run_is_unique m (log_after log c a) cs os' bs x y p.1 q' in
     let tails : os' ≡ bs = rest.0 in
     (let whole : a ∷ os' ≡ b ∷ bs = cc in whole, rest.1)
-one_run m log [] [] (b ∷ bs) x y p q = absurd q
-one_run m log [] (a ∷ os') bs x y p q = absurd p
-one_run m log (c ∷ cs) [] bs x y p q = absurd p
-one_run m log (c ∷ cs) (a ∷ os') [] x y p q = absurd q
+run_is_unique m log [] [] (b ∷ bs) x y p q = absurd q
+run_is_unique m log [] (a ∷ os') bs x y p q = absurd p
+run_is_unique m log (c ∷ cs) [] bs x y p q = absurd p
+run_is_unique m log (c ∷ cs) (a ∷ os') [] x y p q = absurd q

@@ -22,6 +22,18 @@ pub has_front : {A : Type 0} (a : A) (xs ys : List A) → Has a xs → Has a (xs
 has_front a _ ys (first b bs is) = first b (bs ++ ys) is
 has_front a _ ys (later b bs h) = later b (bs ++ ys) (has_front a bs ys h)
 
+pub has_back : {A : Type 0} {a : A} (xs ys : List A) → Has a ys → Has a (xs ++ ys)
+has_back [] ys h = h
+has_back (x ∷ xs) ys h = later x (xs ++ ys) (has_back xs ys h)
+
+pub has_either : {A : Type 0} {a : A} (xs ys : List A) → Has a (xs ++ ys) → Has a xs ⊎ Has a ys
+has_either [] ys h = inr h
+has_either {a = a} (x ∷ xs) ys h = go h (has_either xs ys)
+  where
+    go : Has a (x ∷ (xs ++ ys)) → (Has a (xs ++ ys) → Has a xs ⊎ Has a ys) → Has a (x ∷ xs) ⊎ Has a ys
+    go (first _ _ is) rest = inl (first x xs is)
+    go (later _ _ g) rest = elim (rest g) [ inl l ↦ inl (later x xs l) | inr r ↦ inr r ]
+
 pub has_last : {A : Type 0} (xs : List A) (a : A) → Has a (xs ++ a ∷ [])
 has_last [] a = first a [] refl
 has_last (x ∷ xs) a = later x (xs ++ a ∷ []) (has_last xs a)

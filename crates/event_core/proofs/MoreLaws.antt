@@ -91,11 +91,12 @@ ends_below {log = log} {u = u} {v = v} {l = l} {a = a} {r = r} {b = b} {s = s} w
         absurd (omega arith)
 
 -- an event has one verdict
-pub one_verdict : (log : List Event) (j : ℕ) (v w : Verdict) → IsVerdict log j v → IsVerdict log j w → v ≡ w
-one_verdict log j Clear Clear p q = refl
-one_verdict log j Clear (Racy i) p q = absurd (p i q.0)
-one_verdict log j (Racy i) Clear p q = absurd (q i p.0)
-one_verdict log j (Racy i) (Racy k) p q = go (cases_order i k)
+pub verdict_is_unique : (log : List Event) (j : ℕ) (v w : Verdict) → IsVerdict log j v → IsVerdict log j w
+    → v ≡ w
+verdict_is_unique log j Clear Clear p q = refl
+verdict_is_unique log j Clear (Racy i) p q = absurd (p i q.0)
+verdict_is_unique log j (Racy i) Clear p q = absurd (q i p.0)
+verdict_is_unique log j (Racy i) (Racy k) p q = go (cases_order i k)
   where
     go : (i ≡ k) ⊎ ((i < k) ⊎ (k < i)) → Racy i ≡ Racy k
     go (inl e) = ap Racy e

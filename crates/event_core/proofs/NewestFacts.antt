@@ -22,7 +22,7 @@ use Rattle.event_core.proofs.Stable.{strict_too}
 use Rattle.event_core.proofs.CountLaws.{rank_below}
 use Rattle.event_core.proofs.Counting.{nat_eq_same, nat_eq_other, last_of, last_does, is_last, last_thread}
 use Rattle.event_core.proofs.Counting.{events_grow}
-use Rattle.event_core.proofs.Turning.{last_opens, last_closes, closes_at_one}
+use Rattle.event_core.proofs.Effects.{last_opens, last_closes, closes_at_one}
 use Rattle.event_core.proofs.ClockStep.{NewBelow, by_thread as below_thread, by_joined, by_lock_of, step_to}
 use Rattle.event_core.proofs.ClockStep.{step_from}
 use Rattle.event_core.proofs.StrictStep.{Comes, from_own, from_join as comes_join, from_lock as comes_lock}

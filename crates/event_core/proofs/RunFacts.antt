@@ -16,8 +16,8 @@ use Rattle.event_core.specs.Refusal.{refusal, Legal, WellFormed, event_of}
 use Rattle.event_core.specs.Verdict.{IsOutcome, log_after, IsRun}
 use Rattle.event_core.specs.Steps.{MayFollow}
 use Rattle.event_core.specs.Acts.{log_after_swap, log_after_act, IsDone, IsActRun}
-use Rattle.event_core.proofs.MoreLaws.{one_verdict}
-use Rattle.event_core.proofs.Growth.{well_formed_grown, one_outcome}
+use Rattle.event_core.proofs.MoreLaws.{verdict_is_unique}
+use Rattle.event_core.proofs.Growth.{well_formed_grown, outcome_is_unique}
 use Rattle.event_core.proofs.Swaps.{swap_legal}
 
 -- a log with legal events added is well formed
@@ -70,45 +70,48 @@ same_swap_reply : (a b : SwapReply) → a.index ≡ b.index → a.value ≡ b.va
 same_swap_reply a b p q r s = λ i. record { index = p i; value = q i; load = r i; store = s i }
 
 -- an act has one outcome
-pub one_done : (m : Limits) (log : List Event) (a : Act) (d e : Done) → IsDone m log a d → IsDone m log a e
-    → d ≡ e
-one_done m log (One c) (Did a) (Did b) p q =
-    let same : Accepted a ≡ Accepted b = one_outcome m log c (Accepted a) (Accepted b) p q in
+pub act_outcome_is_unique : (m : Limits) (log : List Event) (a : Act) (d e : Done) → IsDone m log a d
+    → IsDone m log a e → d ≡ e
+act_outcome_is_unique m log (One c) (Did a) (Did b) p q =
+    let same : Accepted a ≡ Accepted b = outcome_is_unique m log c (Accepted a) (Accepted b) p q in
     let inner : a ≡ b = cc in
     ap Did inner
-one_done m log (One c) (Declined r) (Declined s) p q = let same : Some r ≡ Some s = sym p ∙ q in cc
-one_done m log (One c) (Declined r) (Did a) p q = absurd (let same : Some r ≡ None = sym p ∙ q.0 in cc)
-one_done m log (One c) (Did a) (Declined s) p q = absurd (let same : Some s ≡ None = sym q ∙ p.0 in cc)
-one_done m log (One c) (Swapped a) e p q = absurd p
-one_done m log (One c) (Did a) (Swapped b) p q = absurd q
-one_done m log (One c) (Declined r) (Swapped b) p q = absurd q
-one_done m log (Swap u x site arg) (Swapped a) (Swapped b) p q =
+act_outcome_is_unique m log (One c) (Declined r) (Declined s) p q =
+    let same : Some r ≡ Some s = sym p ∙ q in cc
+act_outcome_is_unique m log (One c) (Declined r) (Did a) p q =
+    absurd (let same : Some r ≡ None = sym p ∙ q.0 in cc)
+act_outcome_is_unique m log (One c) (Did a) (Declined s) p q =
+    absurd (let same : Some s ≡ None = sym q ∙ p.0 in cc)
+act_outcome_is_unique m log (One c) (Swapped a) e p q = absurd p
+act_outcome_is_unique m log (One c) (Did a) (Swapped b) p q = absurd q
+act_outcome_is_unique m log (One c) (Declined r) (Swapped b) p q = absurd q
+act_outcome_is_unique m log (Swap u x site arg) (Swapped a) (Swapped b) p q =
     let after = log_after_swap log u x site arg in
     ap Swapped (same_swap_reply a b (p.index ∙ sym q.index) (p.value ∙ sym q.value)
-    (one_verdict after (length log) a.load b.load p.load q.load)
-    (one_verdict after (length log + 1) a.store b.store p.store q.store))
-one_done m log (Swap u x site arg) (Declined r) (Declined s) p q =
+    (verdict_is_unique after (length log) a.load b.load p.load q.load)
+    (verdict_is_unique after (length log + 1) a.store b.store p.store q.store))
+act_outcome_is_unique m log (Swap u x site arg) (Declined r) (Declined s) p q =
     let same : Some r ≡ Some s = sym p ∙ q in cc
-one_done m log (Swap u x site arg) (Declined r) (Swapped b) p q =
+act_outcome_is_unique m log (Swap u x site arg) (Declined r) (Swapped b) p q =
     absurd (let same : Some r ≡ None = sym p ∙ q.allowed in cc)
-one_done m log (Swap u x site arg) (Swapped a) (Declined s) p q =
+act_outcome_is_unique m log (Swap u x site arg) (Swapped a) (Declined s) p q =
     absurd (let same : Some s ≡ None = sym q ∙ p.allowed in cc)
-one_done m log (Swap u x site arg) (Did a) e p q = absurd p
-one_done m log (Swap u x site arg) (Swapped a) (Did b) p q = absurd q
-one_done m log (Swap u x site arg) (Declined r) (Did b) p q = absurd q
+act_outcome_is_unique m log (Swap u x site arg) (Did a) e p q = absurd p
+act_outcome_is_unique m log (Swap u x site arg) (Swapped a) (Did b) p q = absurd q
+act_outcome_is_unique m log (Swap u x site arg) (Declined r) (Did b) p q = absurd q
 
 -- and a list of acts has one run
-pub one_act_run : (m : Limits) (log : List Event) (acts : List Act) (ds es : List Done) (x y : List Event)
-    → IsActRun m log acts ds x → IsActRun m log acts es y → (ds ≡ es) × (x ≡ y)
-one_act_run m log [] [] [] x y p q = (refl, p ∙ sym q)
-one_act_run m log (a ∷ acts) (d ∷ ds) (e ∷ es) x y p q =
-    let same : d ≡ e = one_done m log a d e p.0 q.0 in
+pub act_run_is_unique : (m : Limits) (log : List Event) (acts : List Act) (ds es : List Done)
+    (x y : List Event) → IsActRun m log acts ds x → IsActRun m log acts es y → (ds ≡ es) × (x ≡ y)
+act_run_is_unique m log [] [] [] x y p q = (refl, p ∙ sym q)
+act_run_is_unique m log (a ∷ acts) (d ∷ ds) (e ∷ es) x y p q =
+    let same : d ≡ e = act_outcome_is_unique m log a d e p.0 q.0 in
     let q' : IsActRun m (log_after_act log a d) acts es y
     = subst (λ o. IsActRun m (log_after_act log a o) acts es y) (sym same) q.1 in
-    let rest = one_act_run m (log_after_act log a d) acts ds es x y p.1 q' in
+    let rest = act_run_is_unique m (log_after_act log a d) acts ds es x y p.1 q' in
     let tails : ds ≡ es = rest.0 in
     (let whole : d ∷ ds ≡ e ∷ es = cc in whole, rest.1)
-one_act_run m log [] [] (e ∷ es) x y p q = absurd q
-one_act_run m log [] (d ∷ ds) es x y p q = absurd p
-one_act_run m log (a ∷ acts) [] es x y p q = absurd p
-one_act_run m log (a ∷ acts) (d ∷ ds) [] x y p q = absurd q
+act_run_is_unique m log [] [] (e ∷ es) x y p q = absurd q
+act_run_is_unique m log [] (d ∷ ds) es x y p q = absurd p
+act_run_is_unique m log (a ∷ acts) [] es x y p q = absurd p
+act_run_is_unique m log (a ∷ acts) (d ∷ ds) [] x y p q = absurd q

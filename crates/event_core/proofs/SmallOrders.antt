@@ -78,14 +78,14 @@ order_begins = (
 )
 
 -- rule (b)
-turn_thread : {i j : ℕ} (t : ThreadId) (o p : Op) → slice_get sections_in_turn i ≡ Some (event t o)
+effect_thread : {i j : ℕ} (t : ThreadId) (o p : Op) → slice_get sections_in_turn i ≡ Some (event t o)
     → slice_get sections_in_turn j ≡ Some (event t p) → i ≤ j → Hb sections_in_turn i j
-turn_thread {i = i} {j = j} t o p a b le =
+effect_thread {i = i} {j = j} t o p a b le =
     hb_thread t (at_thread sections_in_turn i t o a) (at_thread sections_in_turn j t p b) le
 
-turn_meet : Meets sections_in_turn 4 8
+effect_meet : Meets sections_in_turn 4 8
 unfolding depth
-turn_meet = record {
+effect_meet = record {
   before = omega arith;
   lock = k;
   thread = child;
@@ -124,7 +124,7 @@ second_on_l =
 
 pub releases_ordered : RuleBOrdersReleases
 releases_ordered = (
-  rule_a turn_meet,
+  rule_a effect_meet,
   across,
   by_b,
   ordered,
@@ -134,8 +134,9 @@ releases_ordered = (
     across : Strict sections_in_turn 1 11
     across =
         rule_c_right
-        (rule_c_left (turn_thread main (Acquire l) (Release k) refl refl (omega arith)) (rule_a turn_meet))
-        (turn_thread child (Load x) (Release l) refl refl (omega arith))
+        (rule_c_left (effect_thread main (Acquire l) (Release k) refl refl (omega arith))
+        (rule_a effect_meet))
+        (effect_thread child (Load x) (Release l) refl refl (omega arith))
 
     by_b : Strict sections_in_turn 6 11
     by_b =
@@ -146,8 +147,8 @@ releases_ordered = (
 
     ordered : Strict sections_in_turn 5 12
     ordered =
-        rule_c_right (rule_c_left (turn_thread main (Store y) (Release l) refl refl (omega arith)) by_b)
-        (turn_thread child (Release l) (Load y) refl refl (omega arith))
+        rule_c_right (rule_c_left (effect_thread main (Store y) (Release l) refl refl (omega arith)) by_b)
+        (effect_thread child (Release l) (Load y) refl refl (omega arith))
 
 -- two sections of one thread
 abbrev long : List Event

@@ -21,7 +21,7 @@ use Rattle.event_core.specs.declared.replies.Outcome.TheVariants.{Refused as Cal
 use Rattle.event_core.specs.declared.replies.SwapReply.{SwapReply}
 use Rattle.event_core.specs.declared.replies.Done.{Done}
 use Rattle.event_core.specs.declared.replies.Done.TheVariants.{One as Accepted, Swap as Swapped, Refused}
-use Rattle.event_core.specs.Refusal.{refusal, held_depths, first_of, when, forked, joins, in_range, event_of}
+use Rattle.event_core.specs.Refusal.{held_depths, first_of, when, forked, joins, in_range, event_of}
 use Rattle.event_core.specs.Refusal.{last_value}
 use Rattle.event_core.specs.Verdict.{IsVerdict, IsOutcome}
 

@@ -11,8 +11,8 @@ use Rattle.event_core.specs.Count.{events_of, Counts}
 use Rattle.event_core.specs.Newest.{HbNew, StrictNew}
 
 -- a set has one count
-abbrev pub OneCount : (ℕ → Type 0) → Type 0
-OneCount P = (log : List Event) (u : ThreadId) (m n : ℕ) → Counts log u P m → Counts log u P n → m ≡ n
+abbrev pub CountIsUnique : (ℕ → Type 0) → Type 0
+CountIsUnique P = (log : List Event) (u : ThreadId) (m n : ℕ) → Counts log u P m → Counts log u P n → m ≡ n
 
 -- join is union: the greater of the counts of two sets counts both together
 abbrev pub JoinIsUnion : (ℕ → Type 0) → (ℕ → Type 0) → Type 0

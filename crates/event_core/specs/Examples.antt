@@ -168,8 +168,8 @@ RuleBOrdersReleases =
     Strict sections_in_turn 4 8 × Strict sections_in_turn 1 11 × Strict sections_in_turn 6 11
     × Strict sections_in_turn 5 12 × IsVerdict sections_in_turn 12 Clear
 
--- two sections on l by the main thread, with a section on m that conflicts with one by the child between them,
--- and a store by the other thread before the first one ends
+-- two sections on l by the main thread, with a section on m that conflicts with one by the child between
+-- them, and a store by the other thread before the first one ends
 abbrev pub sections_of_one_thread : List Event
 sections_of_one_thread =
     event main (Fork child)

@@ -1,6 +1,6 @@
 -- The definitions of the race that is told, and the laws over them. "The paper" is Kini, Mathur and
--- Viswanathan, "Dynamic Race Prediction in Linear Time" (PLDI 2017); what is not said to be the paper's is this
--- project's own.
+-- Viswanathan, "Dynamic Race Prediction in Linear Time" (PLDI 2017); what is not said to be the paper's is
+-- this project's own.
 
 -- logs
 pub mod Log
@@ -16,16 +16,17 @@ pub mod Acts
 pub mod Steps
 -- clocks
 pub mod Count
-pub mod Turn
+pub mod Effect
 pub mod Rows
 pub mod Closed
 pub mod Newest
 -- the rule without re-entrance
 pub mod Plain
 pub mod PlainWcp
--- what contracts see of limits and of a log that grows
+-- what contracts see of limits, of a log and of lists that grow
 pub mod Bounds
 pub mod Recorded
+pub mod Tables
 pub mod Kept
 pub mod Packing
 pub mod RowList

@@ -19,8 +19,8 @@ use Rattle.event_core.specs.Acts.{swap_refusal, swap_load, swap_store, load_call
 use Rattle.event_core.specs.Acts.{IsActRun}
 
 -- an event has one verdict
-abbrev pub OneVerdict : Type 0
-OneVerdict = (log : List Event) (j : ℕ) (v w : Verdict) → IsVerdict log j v → IsVerdict log j w → v ≡ w
+abbrev pub VerdictIsUnique : Type 0
+VerdictIsUnique = (log : List Event) (j : ℕ) (v w : Verdict) → IsVerdict log j v → IsVerdict log j w → v ≡ w
 
 -- a verdict is the same in every longer log
 abbrev pub VerdictsStay : Type 0
@@ -29,14 +29,14 @@ VerdictsStay =
     → IsVerdict log j v ↔ IsVerdict (log ++ more) j v
 
 -- a call has one outcome
-abbrev pub OneOutcome : Type 0
-OneOutcome =
+abbrev pub OutcomeIsUnique : Type 0
+OutcomeIsUnique =
     (m : Limits) (log : List Event) (c : Call) (a b : Outcome)
     → IsOutcome m log c a → IsOutcome m log c b → a ≡ b
 
 -- a list of calls has one run: one list of outcomes and one log at its end
-abbrev pub OneRun : Type 0
-OneRun =
+abbrev pub RunIsUnique : Type 0
+RunIsUnique =
     (m : Limits) (log : List Event) (cs : List Call) (os ps : List Outcome) (x y : List Event)
     → IsRun m log cs os x → IsRun m log cs ps y → (os ≡ ps) × (x ≡ y)
 
@@ -47,13 +47,13 @@ RunsKeepLogsWellFormed =
     → WellFormed m log → IsRun m log cs os end → WellFormed m end
 
 -- an act has one outcome
-abbrev pub OneDone : Type 0
-OneDone =
+abbrev pub ActOutcomeIsUnique : Type 0
+ActOutcomeIsUnique =
     (m : Limits) (log : List Event) (a : Act) (d e : Done) → IsDone m log a d → IsDone m log a e → d ≡ e
 
 -- a list of acts has one run
-abbrev pub OneActRun : Type 0
-OneActRun =
+abbrev pub ActRunIsUnique : Type 0
+ActRunIsUnique =
     (m : Limits) (log : List Event) (acts : List Act) (ds es : List Done) (x y : List Event)
     → IsActRun m log acts ds x → IsActRun m log acts es y → (ds ≡ es) × (x ≡ y)
 

@@ -2,6 +2,7 @@
 ghost use Rattle.std.specs.Prelude.{◌≡◌, ◌<◌, ◌≤◌};
 
 use std::marker::Model;
+use thiserror::Error;
 
 /// Which threads run from the beginning.
 #[derive(Clone, Copy, Debug, PartialEq, Eq)]
@@ -12,8 +13,8 @@ pub enum Roots {
     Free,
 }
 
-/// The greatest number of threads, 2^10: each clock has a number for each of them, and a row of the log has 10
-/// bits for its thread.
+/// The greatest number of threads, 2^10: each clock has a number for each of them, and a row of the log has
+/// 10 bits for its thread.
 pub const MOST_THREADS: u32 = 1024;
 
 /// The greatest number of locks, 2^20: a row of the log has 20 bits for the lock.
@@ -60,11 +61,15 @@ impl Model for Limits {
 }
 
 /// The first number that is 0 or above its greatest.
-#[derive(Clone, Copy, Debug, PartialEq, Eq)]
+#[derive(Clone, Copy, Debug, PartialEq, Eq, Error)]
 pub enum LimitFault {
+    #[error("the number of threads is not from 1 to {most}", most = MOST_THREADS)]
     Threads,
+    #[error("the number of locks is not from 1 to {most}", most = MOST_LOCKS)]
     Locks,
+    #[error("the number of variables is not from 1 to {most}", most = MOST_VARS)]
     Vars,
+    #[error("the number of events is not from 1 to {most}", most = MOST_EVENTS)]
     Events,
 }
 

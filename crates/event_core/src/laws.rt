@@ -11,8 +11,8 @@ mod runs;
 mod strict;
 
 pub use counts::{
-    Set, equal_sets_have_equal_counts, hb_of_new_event, join_is_union, longer_log_keeps_counts,
-    new_event_adds_one, one_count, strict_of_new_event,
+    Set, count_is_unique, equal_sets_have_equal_counts, hb_of_new_event, join_is_union,
+    longer_log_keeps_counts, new_event_adds_one, strict_of_new_event,
 };
 pub use logs::{
     ended_threads_rest, grows_by_legal_events, holders_may_release, inside_by_releases,
@@ -25,9 +25,10 @@ pub use order::{
 };
 pub use plain::{plain_logs_have_no_inner_acquire, plain_logs_keep_their_meaning};
 pub use runs::{
-    act_runs_keep_logs_well_formed, one_act_run, one_done, one_outcome, one_run, one_verdict,
-    runs_keep_logs_well_formed, swap_is_refused_as_its_load, swap_meets_full_log,
-    swap_needs_two_slots, swaps_are_legal, swaps_keep_logs_well_formed, verdicts_stay,
+    act_outcome_is_unique, act_run_is_unique, act_runs_keep_logs_well_formed, outcome_is_unique,
+    run_is_unique, runs_keep_logs_well_formed, swap_is_refused_as_its_load, swap_meets_full_log,
+    swap_needs_two_slots, swaps_are_legal, swaps_keep_logs_well_formed, verdict_is_unique,
+    verdicts_stay,
 };
 pub use strict::{
     Pairs, earlier_sections_too, first_are_below, premise_of_b, recurrence_is_least,

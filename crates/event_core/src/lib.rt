@@ -11,6 +11,7 @@ mod packed;
 mod replies;
 mod rows;
 mod steps;
+mod tables;
 
 pub use bounds::{LimitFault, Limits, MOST_EVENTS, MOST_LOCKS, MOST_THREADS, MOST_VARS, Roots};
 pub use events::{AccessKind, Act, Call, Event, Op};
@@ -18,3 +19,4 @@ pub use ids::{LockId, SiteId, ThreadId, VarId};
 pub use logs::Log;
 pub use replies::{Done, OutOfMemory, Outcome, Refusal, Reply, SwapReply, Verdict};
 pub use steps::Step;
+pub use tables::grow_to;

@@ -1,5 +1,10 @@
 //! What a call is answered.
+ghost use Rattle.std.specs.Prelude.{◌≡◌};
+ghost use Rattle.event_core.specs.declared.replies.Refusal.TheVariants.{OutOfMemory as ForMemory};
+
 use crate::ids::ThreadId;
+use std::alloc::{AllocError, AllocFailed};
+use thiserror::Error;
 
 /// Whether an access races with an earlier one, and the greatest index of such a one.
 #[derive(Clone, Copy, Debug, PartialEq, Eq)]
@@ -27,29 +32,40 @@ pub struct SwapReply {
 }
 
 /// Why a call is refused, in the order in which the reasons are looked at.
-#[derive(Clone, Copy, Debug, PartialEq, Eq)]
+#[derive(Clone, Copy, Debug, PartialEq, Eq, Error)]
 pub enum Refusal {
     /// The caller's number is not below the limit of threads.
+    #[error("the thread's number is not below the limit of threads")]
     ThreadRange,
     /// No fork of the caller is in the log, and it did not run from the beginning.
+    #[error("the thread has not been forked")]
     NotStarted,
     /// A join of the caller is in the log.
+    #[error("the thread has been joined")]
     Ended,
     /// The lock, variable or thread that is named is not below its limit.
+    #[error("the number of the lock, variable or thread is not below its limit")]
     TargetRange,
     /// Another thread holds the lock that is to be acquired.
+    #[error("thread {} holds the lock", .by.0)]
     Held { by: ThreadId },
     /// The caller does not hold the lock that it releases.
+    #[error("the thread does not hold the lock")]
     NotHolder,
     /// A thread forks or joins itself.
+    #[error("a thread cannot fork or join itself")]
     SelfTarget,
     /// The thread that is to be forked has started already.
+    #[error("the thread to be forked has started already")]
     AlreadyStarted,
     /// The thread that is to be joined has not started.
+    #[error("the thread to be joined has not started")]
     TargetNotStarted,
     /// The log has no slot for the event beside those that are kept for releases.
+    #[error("the log is full")]
     LogFull,
     /// A growth was refused.
+    #[error("out of memory")]
     OutOfMemory,
 }
 
@@ -69,5 +85,30 @@ pub enum Done {
 }
 
 /// A growth was refused.
-#[derive(Clone, Copy, Debug, PartialEq, Eq)]
+#[derive(Clone, Copy, Debug, PartialEq, Eq, Error)]
+#[error("out of memory")]
 pub struct OutOfMemory;
+
+impl From<AllocError> for OutOfMemory {
+    ghost from_gives = { λ _ e. e ≡ record {} };
+
+    fn from(_refused: AllocError) -> OutOfMemory {
+        OutOfMemory
+    }
+}
+
+impl<T: Drop> From<AllocFailed<T>> for OutOfMemory {
+    ghost from_gives = { λ _ e. e ≡ record {} };
+
+    fn from(_refused: AllocFailed<T>) -> OutOfMemory {
+        OutOfMemory
+    }
+}
+
+impl From<OutOfMemory> for Refusal {
+    ghost from_gives = { λ _ r. r ≡ ForMemory };
+
+    fn from(_refused: OutOfMemory) -> Refusal {
+        Refusal::OutOfMemory
+    }
+}

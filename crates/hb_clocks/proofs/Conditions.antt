@@ -23,10 +23,10 @@ use Rattle.event_core.proofs.Chains.{chain_trans, po_thread, hb_thread}
 use Rattle.event_core.proofs.CountLaws.{counts_same, rank_below, at_rank}
 use Rattle.event_core.proofs.Growth.{well_formed_last}
 use Rattle.event_core.proofs.Legality.{orderly, legal_reasons, when_none}
-use Rattle.event_core.proofs.Turning.{depth_same, depth_up}
+use Rattle.event_core.proofs.Effects.{depth_same, depth_up}
 use Rattle.hb_clocks.specs.State.{HbState, empty}
 use Rattle.hb_clocks.specs.Stands.{Stands, IsAlone, IsApart, AdmitsLegal, FewInLog}
-use Rattle.hb_clocks.specs.Marks.{IsLatest, Named, Names}
+use Rattle.vector_clocks.specs.Marks.{IsLatest, Named, Names}
 
 -- two threads with the lock would be one
 alone : (limits : Limits) (log : List Event) (e : Event) (s : HbState) → WellFormed limits (log ++ e ∷ [])

@@ -4,9 +4,9 @@ use Rattle.event_core.specs.declared.ids.ThreadId.{ThreadId}
 use Rattle.event_core.specs.declared.ids.LockId.{LockId}
 use Rattle.event_core.specs.declared.events.Op.{Op}
 use Rattle.event_core.specs.declared.events.Op.TheVariants.{Load, Store, Acquire, Release, Fork, Join}
-use Rattle.event_core.specs.Rows.{join, with_row, Rows, to_child, to_lock, brought}
-use Rattle.event_core.specs.Turn.{Turn, Accesses, Opens, Closes, Forks, Joins, Inner}
-use Rattle.hb_clocks.specs.State.{HbState, empty, joins_of, turn, without_locks, clock_after, depth_after}
+use Rattle.event_core.specs.Rows.{clock_after, depth_after, join, with_row, Rows, to_child, to_lock, brought}
+use Rattle.event_core.specs.Effect.{Effect, Accesses, Opens, Closes, Forks, Joins, Inner}
+use Rattle.hb_clocks.specs.State.{HbState, empty, joins_of, effect, without_locks}
 use Rattle.hb_clocks.specs.Stands.{IsAtMost, GrowsByOne}
 use Rattle.hb_clocks.proofs.TableSteps.{brought_few}
 
@@ -20,7 +20,7 @@ few_row most t g f few a was u = go (nat_eq a t)
     go true = few u
     go false = was u
 
-few_child : (most : ℕ) (k : Turn) (g : ℕ → ℕ) (f : ℕ → ℕ → ℕ) → ((u : ThreadId) → g u.0 ≤ most) → (a : ℕ)
+few_child : (most : ℕ) (k : Effect) (g : ℕ → ℕ) (f : ℕ → ℕ → ℕ) → ((u : ThreadId) → g u.0 ≤ most) → (a : ℕ)
     → ((u : ThreadId) → f a u.0 ≤ most)
     → (u : ThreadId) → to_child k g f a u.0 ≤ most
 few_child most (Forks v) g f few a was u = few_row most v.0 g f few a was u
@@ -30,7 +30,7 @@ few_child most (Closes l) g f few a was u = was u
 few_child most (Accesses x k) g f few a was u = was u
 few_child most Inner g f few a was u = was u
 
-few_lock : (most : ℕ) (k : Turn) (g : ℕ → ℕ) (f : ℕ → ℕ → ℕ) → ((u : ThreadId) → g u.0 ≤ most) → (a : ℕ)
+few_lock : (most : ℕ) (k : Effect) (g : ℕ → ℕ) (f : ℕ → ℕ → ℕ) → ((u : ThreadId) → g u.0 ≤ most) → (a : ℕ)
     → ((u : ThreadId) → f a u.0 ≤ most)
     → (u : ThreadId) → to_lock k g f a u.0 ≤ most
 few_lock most (Closes l) g f few a was u = few_row most l.0 g f few a was u
@@ -41,7 +41,7 @@ few_lock most (Accesses x k) g f few a was u = was u
 few_lock most Inner g f few a was u = was u
 
 -- the clock of the event
-few_clock : (most : ℕ) (t : ThreadId) (k : Turn) (r : Rows) → ((a u : ThreadId) → r.thread a.0 u.0 ≤ most)
+few_clock : (most : ℕ) (t : ThreadId) (k : Effect) (r : Rows) → ((a u : ThreadId) → r.thread a.0 u.0 ≤ most)
     → ((l : LockId) (u : ThreadId) → r.lock l.0 u.0 ≤ most)
     → (u : ThreadId) → clock_after t k r u.0 ≤ most + 1
 few_clock most t k r threads locks u =
@@ -90,27 +90,27 @@ few_depth most t op d few a l = go op
 
 pub grows_by_one : GrowsByOne
 grows_by_one most e s few = record {
-  po = λ a u. few_child (most + 1) (turn e s) po_clock (with_row e.thread.0 po_clock s.po) po_few a.0
+  po = λ a u. few_child (most + 1) (effect e s) po_clock (with_row e.thread.0 po_clock s.po) po_few a.0
       (few_row (most + 1) e.thread.0 po_clock s.po po_few a.0 (λ v. let h = few.po a v in omega arith)) u;
-  hb = λ a u. few_child (most + 1) (turn e s) hb_clock (with_row e.thread.0 hb_clock s.hb.thread) hb_few a.0
+  hb = λ a u. few_child (most + 1) (effect e s) hb_clock (with_row e.thread.0 hb_clock s.hb.thread) hb_few a.0
       (few_row (most + 1) e.thread.0 hb_clock s.hb.thread hb_few a.0
       (λ v. let h = few.hb a v in omega arith)) u;
-  lock = λ l u. few_lock (most + 1) (turn e s) hb_clock s.hb.lock hb_few l.0
+  lock = λ l u. few_lock (most + 1) (effect e s) hb_clock s.hb.lock hb_few l.0
       (λ v. let h = few.lock l v in omega arith) u;
   depth = few_depth most e.thread.0 e.op s.depth few.depth;
 }
   where
     po_clock : ℕ → ℕ
-    po_clock = clock_after e.thread (turn e s) (without_locks s.po)
+    po_clock = clock_after e.thread (effect e s) (without_locks s.po)
 
     hb_clock : ℕ → ℕ
-    hb_clock = clock_after e.thread (turn e s) s.hb
+    hb_clock = clock_after e.thread (effect e s) s.hb
 
-    po_few : (u : ThreadId) → clock_after e.thread (turn e s) (without_locks s.po) u.0 ≤ most + 1
-    po_few u = few_clock most e.thread (turn e s) (without_locks s.po) few.po (λ l v. omega arith) u
+    po_few : (u : ThreadId) → clock_after e.thread (effect e s) (without_locks s.po) u.0 ≤ most + 1
+    po_few u = few_clock most e.thread (effect e s) (without_locks s.po) few.po (λ l v. omega arith) u
 
-    hb_few : (u : ThreadId) → clock_after e.thread (turn e s) s.hb u.0 ≤ most + 1
-    hb_few u = few_clock most e.thread (turn e s) s.hb few.hb few.lock u
+    hb_few : (u : ThreadId) → clock_after e.thread (effect e s) s.hb u.0 ≤ most + 1
+    hb_few u = few_clock most e.thread (effect e s) s.hb few.hb few.lock u
 
 pub none_at_most : IsAtMost 0 empty
 none_at_most = record {
@@ -128,7 +128,7 @@ at_most_more m n s le few = record {
   depth = λ t l. (let h = few.depth t l in omega arith);
 }
 
-pub joins_few : (k : Turn) → joins_of k ≤ 2
+pub joins_few : (k : Effect) → joins_of k ≤ 2
 joins_few (Opens l) = omega arith
 joins_few (Joins u) = omega arith
 joins_few (Closes l) = omega arith

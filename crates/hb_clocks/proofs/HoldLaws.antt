@@ -7,13 +7,13 @@ use Rattle.event_core.specs.declared.ids.LockId.{LockId}
 use Rattle.event_core.specs.declared.events.Op.{Op}
 use Rattle.event_core.specs.declared.events.Op.TheVariants.{Load, Store, Acquire, Release, Fork, Join}
 use Rattle.event_core.specs.Rows.{with_row}
-use Rattle.event_core.specs.Turn.{turn_of, Opens, Closes, Inner}
+use Rattle.event_core.specs.Effect.{effect_of, Opens, Closes, Inner}
 use Rattle.event_core.proofs.Counting.{nat_eq_same, nat_eq_other}
 use Rattle.hb_clocks.specs.declared.holds.Hold.{Hold}
-use Rattle.hb_clocks.specs.Holds.{hold_at, no_hold, depths_of, lowered, holds_after, is_outer, turn_by}
+use Rattle.hb_clocks.specs.Holds.{hold_at, no_hold, depths_of, lowered, holds_after, is_outer, effect_by}
 use Rattle.hb_clocks.specs.Holds.{HasHold, Alone}
-use Rattle.hb_clocks.specs.State.{depth_after}
-use Rattle.hb_clocks.proofs.Depths.{cell_same, cell_other}
+use Rattle.event_core.specs.Rows.{depth_after}
+use Rattle.event_core.proofs.DepthSteps.{cell_same, cell_other}
 
 -- no other thread holds the lock that is acquired
 abbrev pub AloneAt : List Hold → ℕ → Op → Type 0
@@ -56,14 +56,14 @@ module _ (holds : List Hold) where
           (nat_eq_other (hold_at holds l).holder t (λ e. n (sym e))))
 
   -- whether it is outer is what the depths say
-  pub outer_turn : (t : ℕ) (op : Op) → AloneAt holds t op
-      → turn_of (depths_of holds t) op ≡ turn_by op (is_outer t op holds)
-  outer_turn t (Acquire l) alone = ap (λ n. cond (nat_eq n 0) (Opens l) Inner) (alone_depth t l.0 alone)
-  outer_turn t (Release l) alone = ap (λ (b : Bool). cond b (Closes l) Inner) (release_outer t l.0)
-  outer_turn t (Load x) alone = refl
-  outer_turn t (Store x) alone = refl
-  outer_turn t (Fork u) alone = refl
-  outer_turn t (Join u) alone = refl
+  pub outer_effect : (t : ℕ) (op : Op) → AloneAt holds t op
+      → effect_of (depths_of holds t) op ≡ effect_by op (is_outer t op holds)
+  outer_effect t (Acquire l) alone = ap (λ n. cond (nat_eq n 0) (Opens l) Inner) (alone_depth t l.0 alone)
+  outer_effect t (Release l) alone = ap (λ (b : Bool). cond b (Closes l) Inner) (release_outer t l.0)
+  outer_effect t (Load x) alone = refl
+  outer_effect t (Store x) alone = refl
+  outer_effect t (Fork u) alone = refl
+  outer_effect t (Join u) alone = refl
 
   hold_same : (l : ℕ) (x : Hold) → l < length holds → hold_at (set holds l x) l ≡ x
   hold_same l x lt = get_or-set_same holds l x no_hold lt

@@ -16,12 +16,12 @@ use Rattle.event_core.proofs.Counting.{counted_none, events_own, events_other}
 use Rattle.event_core.proofs.Growing.{Leads, leads_cases, led_row, other_row, rows_stand}
 use Rattle.event_core.proofs.Legality.{orderly}
 use Rattle.event_core.proofs.Stable.{longer, back, hb_too}
-use Rattle.event_core.proofs.Turning.{Fits, fits}
-use Rattle.hb_clocks.specs.State.{HbState, turn, without_locks, po_row, hb_row, after}
+use Rattle.event_core.proofs.Effects.{Fits, fits}
+use Rattle.hb_clocks.specs.State.{HbState, effect, without_locks, po_row, hb_row, after}
 use Rattle.hb_clocks.specs.Stands.{Stands, StepStands}
-use Rattle.hb_clocks.proofs.Brings.{clock_counted, own_row, forked_none}
-use Rattle.hb_clocks.proofs.Depths.{depths_stand}
-use Rattle.hb_clocks.proofs.HbSteps.{hb_to, hb_from}
+use Rattle.event_core.proofs.Brings.{clock_counted, own_row, forked_none}
+use Rattle.event_core.proofs.DepthSteps.{depths_stand}
+use Rattle.event_core.proofs.HbSteps.{hb_to, hb_from}
 use Rattle.hb_clocks.proofs.PoSteps.{NoLock, po_to, po_from, led_counts, other_counts}
 
 module _ (limits : Limits) (log : List Event) (e : Event) (w : WellFormed limits (log ++ e ∷ []))
@@ -29,7 +29,7 @@ module _ (limits : Limits) (log : List Event) (e : Event) (w : WellFormed limits
   ord : Orderly (log ++ e ∷ [])
   ord = orderly limits (log ++ e ∷ []) w
 
-  fit : Fits log e (turn e s)
+  fit : Fits log e (effect e s)
   fit = fits log e (s.depth e.thread.0) (λ l. st.depths e.thread l)
 
   same : (i j : ℕ) → j < length log → Hb log i j ↔ Hb (log ++ e ∷ []) i j
@@ -38,15 +38,15 @@ module _ (limits : Limits) (log : List Event) (e : Event) (w : WellFormed limits
   -- the rows of threads after the event
   module _ (g : ℕ → ℕ) (f : ℕ → ℕ → ℕ) where
     abbrev new_rows : ℕ → ℕ → ℕ
-    new_rows = to_child (turn e s) g (with_row e.thread.0 g f)
+    new_rows = to_child (effect e s) g (with_row e.thread.0 g f)
 
     led : (t : ThreadId) → Leads e t → new_rows t.0 ≡ g
     led t l = led_row limits log e w ord (Hb log) (Hb (log ++ e ∷ [])) same (λ i j h. hb_forward h)
-        (λ i h j a b. hb_trans a b) (turn e s) fit t g f l
+        (λ i h j a b. hb_trans a b) (effect e s) fit t g f l
 
     other : (t : ThreadId) → (Leads e t → ⊥) → new_rows t.0 ≡ f t.0
     other t n = other_row limits log e w ord (Hb log) (Hb (log ++ e ∷ [])) same (λ i j h. hb_forward h)
-        (λ i h j a b. hb_trans a b) (turn e s) fit t g f n
+        (λ i h j a b. hb_trans a b) (effect e s) fit t g f n
 
     -- a thread's own number is that of its events
     own_stands : ((t : ThreadId) → f t.0 t.0 ≡ events_of log t) → g e.thread.0 ≡ events_of log e.thread + 1
@@ -67,13 +67,13 @@ module _ (limits : Limits) (log : List Event) (e : Event) (w : WellFormed limits
 
   po_clock : Counted (log ++ e ∷ []) (λ i. Po (log ++ e ∷ []) i (length log)) (po_row e s)
   po_clock = clock_counted log (Po log) (NoLock log e) (without_locks s.po) st.po po_locks st.po_own e
-      (turn e s) (Po (log ++ e ∷ []))
-      (λ i. here) here (po_to log e (turn e s) fit) (po_from log e (turn e s) fit)
+      (effect e s) (Po (log ++ e ∷ []))
+      (λ i. here) here (po_to log e (effect e s) fit) (po_from log e (effect e s) fit)
 
   hb_clock : Counted (log ++ e ∷ []) (λ i. Hb (log ++ e ∷ []) i (length log)) (hb_row e s)
   hb_clock = clock_counted log (Hb log) (LockPast log (Hb log)) s.hb st.hb.thread st.hb.lock st.hb_own e
-      (turn e s) (Hb (log ++ e ∷ []))
-      (λ i. here) here (hb_to log e (turn e s) fit) (hb_from log e (turn e s) fit)
+      (effect e s) (Hb (log ++ e ∷ []))
+      (λ i. here) here (hb_to log e (effect e s) fit) (hb_from log e (effect e s) fit)
 
   po_stands : (t : ThreadId) → Counted (log ++ e ∷ []) (Past (log ++ e ∷ []) (Po (log ++ e ∷ [])) t)
       (new_rows (po_row e s) s.po t.0)
@@ -93,19 +93,19 @@ module _ (limits : Limits) (log : List Event) (e : Event) (w : WellFormed limits
     po = po_stands;
     hb = rows_stand limits log e w ord (Hb log) (Hb (log ++ e ∷ [])) same (λ i j h. hb_forward h)
         (λ i g j a b. hb_trans a b)
-        (turn e s) fit (hb_row e s) s.hb st.hb hb_clock;
+        (effect e s) fit (hb_row e s) s.hb st.hb hb_clock;
     po_own = own_stands (po_row e s) s.po st.po_own
         (own_row log (Po log) (NoLock log e) (without_locks s.po) st.po po_locks st.po_own e.thread
-        (turn e s))
-        (forked_none log (Po log) (NoLock log e) (without_locks s.po) st.po po_locks st.po_own e (turn e s)
+        (effect e s))
+        (forked_none log (Po log) (NoLock log e) (without_locks s.po) st.po po_locks st.po_own e (effect e s)
         (Po (log ++ e ∷ []))
-        (λ i. here) here (po_to log e (turn e s) fit) (po_from log e (turn e s) fit) ord);
+        (λ i. here) here (po_to log e (effect e s) fit) (po_from log e (effect e s) fit) ord);
     hb_own = own_stands (hb_row e s) s.hb.thread st.hb_own
         (own_row log (Hb log) (LockPast log (Hb log)) s.hb st.hb.thread st.hb.lock st.hb_own e.thread
-        (turn e s))
+        (effect e s))
         (forked_none log (Hb log) (LockPast log (Hb log)) s.hb st.hb.thread st.hb.lock st.hb_own e
-        (turn e s) (Hb (log ++ e ∷ []))
-        (λ i. here) here (hb_to log e (turn e s) fit) (hb_from log e (turn e s) fit) ord);
+        (effect e s) (Hb (log ++ e ∷ []))
+        (λ i. here) here (hb_to log e (effect e s) fit) (hb_from log e (effect e s) fit) ord);
     depths = depths_stand log e ord s.depth st.depths;
   }
 

@@ -1,15 +1,8 @@
-pub mod Brings
 pub mod Conditions
-pub mod Depths
 pub mod Growth
-pub mod HbSteps
 pub mod HoldLaws
-pub mod JoinLaws
 pub mod LegalSteps
 pub mod PoSteps
-pub mod Releases
 pub mod Room
-pub mod RowLaws
 pub mod TableLaws
 pub mod TableSteps
-pub mod Unused

@@ -1,12 +1,10 @@
 -- One step of the clocks of program order, as sets: what is below the event that a log grows by.
-use Rattle.std.proofs.Common.{◌≡◌, ℕ, ◌<◌, ◌≤◌, List, [], ◌∷◌, ◌++◌, length, sym, subst, ◌∙◌, arith, inl}
+use Rattle.std.proofs.Common.{◌≡◌, ℕ, ◌<◌, ◌≤◌, List, [], ◌∷◌, ◌++◌, length, sym, subst, arith, inl}
 use Rattle.std.proofs.Common.{inr, ◌⊎◌}
-use Rattle.std.proofs.lemmas.Option.{slice_get_within}
 use Rattle.event_core.specs.declared.ids.ThreadId.{ThreadId}
 use Rattle.event_core.specs.declared.ids.LockId.{LockId}
 use Rattle.event_core.specs.declared.events.Event.{Event}
-use Rattle.event_core.specs.declared.events.Op.TheVariants.{Load, Store, Acquire, Release, Fork, Join}
-use Rattle.event_core.specs.declared.events.AccessKind.TheVariants.{Read, Write}
+use Rattle.event_core.specs.declared.events.Op.TheVariants.{Fork, Join}
 use Rattle.event_core.specs.Log.{Does, Of}
 use Rattle.event_core.specs.Order.{Po, ProgramEdge, here, step, same_thread, fork_to_event, fork_to_join}
 use Rattle.event_core.specs.Order.{event_to_join}
@@ -14,52 +12,25 @@ use Rattle.event_core.specs.Orderly.{Orderly}
 use Rattle.event_core.specs.Refusal.{WellFormed}
 use Rattle.event_core.specs.declared.bounds.Limits.{Limits}
 use Rattle.event_core.specs.Count.{Past}
-use Rattle.event_core.specs.Turn.{Turn}
+use Rattle.event_core.specs.Effect.{Effect}
 use Rattle.event_core.specs.Rows.{Counted}
 use Rattle.event_core.proofs.Chains.{po_forward}
 use Rattle.event_core.proofs.LogFacts.{of_one, of_does, does_op}
-use Rattle.event_core.proofs.Stable.{longer, back, of, does, po_too}
+use Rattle.event_core.proofs.Stable.{longer, back, of, po_too}
 use Rattle.event_core.proofs.Counting.{counted_same, counted_longer, last_of, last_does, is_last}
 use Rattle.event_core.proofs.Counting.{last_thread, last_op}
-use Rattle.event_core.proofs.Turning.{Fits, accesses, opens, closes, forks, joins, again, inner}
+use Rattle.event_core.proofs.Effects.{Fits, accesses, opens, closes, forks, joins, again, inner}
 use Rattle.event_core.proofs.Growing.{Leads, fresh}
-use Rattle.hb_clocks.proofs.Brings.{Brings}
-
--- the events of a thread, and its fork
-abbrev pub Source : List Event → ThreadId → ℕ → Type 0
-Source log t g = Of log g t ⊎ ((v : ThreadId) × Does log g v (Fork t))
-
-pub source_within : (log : List Event) (t : ThreadId) (g : ℕ) → Source log t g → g < length log
-source_within log t g (inl o) = slice_get_within log g o.event o.at
-source_within log t g (inr d) = slice_get_within log g d.1.event d.1.at
+use Rattle.event_core.proofs.Brings.{Brings, join_brings}
+use Rattle.event_core.proofs.Pasts.{Source, source_within, old_source, new_source}
 
 module _ (log : List Event) (e : Event) where
-  old_source : (t : ThreadId) (g : ℕ) → g < length log → Source (log ++ e ∷ []) t g → Source log t g
-  old_source t g lt (inl o) = inl (of (back (longer log (e ∷ []))) lt o)
-  old_source t g lt (inr d) = inr (d.0, does (back (longer log (e ∷ []))) lt d.1)
-
-  new_source : (t : ThreadId) (g : ℕ) → g < length log → Source log t g → Source (log ++ e ∷ []) t g
-  new_source t g lt (inl o) = inl (of (longer log (e ∷ [])) lt o)
-  new_source t g lt (inr d) = inr (d.0, does (longer log (e ∷ [])) lt d.1)
-
   -- program order has no edge through a lock
   abbrev pub NoLock : LockId → ℕ → Type 0
   NoLock l i = ⊥
 
-  joined : (u : ThreadId) (i : ℕ) (k : Turn) → Fits log e k → e.op ≡ Join u → Past log (Po log) u i
-      → Brings log (Po log) NoLock k i
-  joined u i _ (joins v o) a p = let q : Join u ≡ Join v = sym a ∙ o in let r : u ≡ v = cc in
-      subst (λ x. Past log (Po log) x i) r p
-  joined u i _ (accesses x Read o) a p = absurd (let q : Join u ≡ Load x = sym a ∙ o in cc)
-  joined u i _ (accesses x Write o) a p = absurd (let q : Join u ≡ Store x = sym a ∙ o in cc)
-  joined u i _ (opens l o d) a p = absurd (let q : Join u ≡ Acquire l = sym a ∙ o in cc)
-  joined u i _ (closes l o d) a p = absurd (let q : Join u ≡ Release l = sym a ∙ o in cc)
-  joined u i _ (forks v o) a p = absurd (let q : Join u ≡ Fork v = sym a ∙ o in cc)
-  joined u i _ (again l o d) a p = absurd (let q : Join u ≡ Acquire l = sym a ∙ o in cc)
-  joined u i _ (inner l o d) a p = absurd (let q : Join u ≡ Release l = sym a ∙ o in cc)
-
   -- the last edge to the event comes from its thread, or from the thread that it joins
-  pub po_to : (k : Turn) → Fits log e k → (i : ℕ) → i < length log → Po (log ++ e ∷ []) i (length log)
+  pub po_to : (k : Effect) → Fits log e k → (i : ℕ) → i < length log → Po (log ++ e ∷ []) i (length log)
       → Past log (Po log) e.thread i ⊎ Brings log (Po log) NoLock k i
   po_to k f i lt here = absurd (omega arith)
   po_to k f i lt (step {g = g} c d) = go d
@@ -73,22 +44,28 @@ module _ (log : List Event) (e : Event) where
       go : ProgramEdge (log ++ e ∷ []) g (length log)
           → Past log (Po log) e.thread i ⊎ Brings log (Po log) NoLock k i
       go (same_thread u l a b) =
-          inl (g, old_source e.thread g l (inl (subst (λ x. Of (log ++ e ∷ []) g x) (mine b) a)), below l)
+          inl (
+            g,
+            old_source log e e.thread g l (inl (subst (λ x. Of (log ++ e ∷ []) g x) (mine b) a)),
+            below l,
+          )
       go (fork_to_event u v l a b) =
           inl (
             g,
-            old_source e.thread g l
+            old_source log e e.thread g l
                 (inr (v, subst (λ x. Does (log ++ e ∷ []) g v (Fork x)) (mine b) a)),
             below l,
           )
       go (fork_to_join u v w l a b) =
-          inr (joined u i k f (does_op (last_does log e) b) (g, old_source u g l (inr (v, a)), below l))
+          inr (join_brings log e (Po log) NoLock u i k f (does_op (last_does log e) b)
+          (g, old_source log e u g l (inr (v, a)), below l))
       go (event_to_join u w l a b) =
-          inr (joined u i k f (does_op (last_does log e) b) (g, old_source u g l (inl a), below l))
+          inr (join_brings log e (Po log) NoLock u i k f (does_op (last_does log e) b)
+          (g, old_source log e u g l (inl a), below l))
 
   -- from a thread to its next event, and to a join of it
   to_event : (g : ℕ) → g < length log → Source log e.thread g → ProgramEdge (log ++ e ∷ []) g (length log)
-  to_event g lt s = go (new_source e.thread g lt s)
+  to_event g lt s = go (new_source log e e.thread g lt s)
     where
       go : Source (log ++ e ∷ []) e.thread g → ProgramEdge (log ++ e ∷ []) g (length log)
       go (inl o) = same_thread e.thread lt o (last_of log e)
@@ -96,7 +73,7 @@ module _ (log : List Event) (e : Event) where
 
   to_join : (u : ThreadId) → e.op ≡ Join u → (g : ℕ) → g < length log → Source log u g
       → ProgramEdge (log ++ e ∷ []) g (length log)
-  to_join u o g lt s = go (new_source u g lt s)
+  to_join u o g lt s = go (new_source log e u g lt s)
     where
       joins_it : Does (log ++ e ∷ []) (length log) e.thread (Join u)
       joins_it = subst (λ p. Does (log ++ e ∷ []) (length log) e.thread p) o (last_does log e)
@@ -105,7 +82,7 @@ module _ (log : List Event) (e : Event) where
       go (inl a) = event_to_join u e.thread lt a joins_it
       go (inr d) = fork_to_join u d.0 e.thread lt d.1 joins_it
 
-  pub po_from : (k : Turn) → Fits log e k → (i : ℕ)
+  pub po_from : (k : Effect) → Fits log e k → (i : ℕ)
       → Past log (Po log) e.thread i ⊎ Brings log (Po log) NoLock k i
       → Po (log ++ e ∷ []) i (length log)
   po_from k f i (inl p) =
@@ -125,7 +102,7 @@ module _ (log : List Event) (e : Event) where
   past_old : (t : ThreadId) (i : ℕ) → Past log (Po log) t i → Past (log ++ e ∷ []) (Po (log ++ e ∷ [])) t i
   past_old t i p =
       let lt = source_within log t p.0 p.1 in
-      (p.0, new_source t p.0 lt p.1, po_too (longer log (e ∷ [])) lt p.2)
+      (p.0, new_source log e t p.0 lt p.1, po_too (longer log (e ∷ [])) lt p.2)
 
   past_last : (t : ThreadId) (i : ℕ) → Leads e t → Po (log ++ e ∷ []) i (length log)
       → Past (log ++ e ∷ []) (Po (log ++ e ∷ [])) t i
@@ -157,7 +134,7 @@ module _ (log : List Event) (e : Event) where
 
       go : Source (log ++ e ∷ []) t p.0 → (p.0 < length log) ⊎ (p.0 ≡ length log)
           → Past log (Po log) t i ⊎ (Leads e t × Po (log ++ e ∷ []) i (length log))
-      go s (inl lt) = inl (p.0, old_source t p.0 lt s, po_too (back (longer log (e ∷ []))) lt p.2)
+      go s (inl lt) = inl (p.0, old_source log e t p.0 lt s, po_too (back (longer log (e ∷ []))) lt p.2)
       go (inl o) (inr is) = inr (
         inl (last_thread log e p.0 t is o),
         subst

@@ -5,7 +5,8 @@ use Rattle.event_core.specs.declared.ids.LockId.{LockId}
 use Rattle.event_core.specs.declared.events.Op.{Op}
 use Rattle.event_core.specs.declared.events.Op.TheVariants.{Load, Acquire, Release, Fork, Join}
 use Rattle.event_core.specs.declared.replies.OutOfMemory.{OutOfMemory}
-use Rattle.hb_clocks.specs.Tables.{Tables, IsMade, HasThread, IsReady, KeepsRoom}
+use Rattle.hb_clocks.specs.Tables.{Tables, HasThread, IsReady, KeepsRoom}
+use Rattle.vector_clocks.specs.Rows.{IsMade}
 
 pub on_ok : (r : Result (Unit {0}) OutOfMemory) (P Q : Type 0) → (P → Q) → OnOk r P → OnOk r Q
 on_ok (Ok x) P Q f p = f p

@@ -7,18 +7,20 @@ use Rattle.event_core.specs.declared.ids.LockId.{LockId}
 use Rattle.event_core.specs.declared.events.Event.{Event}
 use Rattle.event_core.specs.declared.events.Op.{Op}
 use Rattle.event_core.specs.declared.events.Op.TheVariants.{Load, Store, Acquire, Release, Fork, Join}
-use Rattle.event_core.specs.Rows.{join, bump, with_row, Rows, to_child, to_lock, brought}
-use Rattle.event_core.specs.Turn.{Turn, Accesses, Opens, Closes, Forks, Joins, Inner}
+use Rattle.event_core.specs.Rows.{clock_after, join, bump, with_row, Rows, to_child, to_lock, brought}
+use Rattle.event_core.specs.Effect.{Effect, Accesses, Opens, Closes, Forks, Joins, Inner}
 use Rattle.event_core.proofs.Growing.{row_same, row_other}
 use Rattle.hb_clocks.specs.declared.holds.Hold.{Hold}
-use Rattle.hb_clocks.specs.Holds.{hold_at, holds_after, is_outer, turn_by, HasHold}
-use Rattle.hb_clocks.specs.State.{HbState, turn, without_locks, clock_after, after}
+use Rattle.hb_clocks.specs.Holds.{hold_at, holds_after, is_outer, effect_by, HasHold}
+use Rattle.hb_clocks.specs.State.{HbState, effect, without_locks, after}
 use Rattle.hb_clocks.specs.Stands.{IsFew, Admits, IsAlone}
-use Rattle.hb_clocks.specs.Tables.{Tables, rows_of, widths_of, hb_rows, state_from, IsMade, HasThread}
+use Rattle.hb_clocks.specs.Tables.{Tables, hb_rows, state_from, HasThread}
+use Rattle.vector_clocks.specs.Rows.{rows_of, widths_of, IsMade}
 use Rattle.hb_clocks.specs.Tables.{HasClocks, IsReady, KeepsRoom, ReleasesReady, AreTables}
-use Rattle.hb_clocks.proofs.HoldLaws.{AloneAt, of_holder, outer_turn, depths_after, holds_length, WasHeld}
+use Rattle.hb_clocks.proofs.HoldLaws.{AloneAt, of_holder, outer_effect, depths_after, holds_length, WasHeld}
 use Rattle.hb_clocks.proofs.HoldLaws.{IsAcquired, held_after}
-use Rattle.hb_clocks.proofs.TableLaws.{made_kept, wide_kept, releases_ready}
+use Rattle.hb_clocks.proofs.TableLaws.{releases_ready}
+use Rattle.vector_clocks.proofs.MadeRows.{made_kept, wide_kept}
 
 -- a row that is written twice
 row_again : (t : ℕ) (g h : ℕ → ℕ) (f : ℕ → ℕ → ℕ) → with_row t g (with_row t h f) ≡ with_row t g f
@@ -45,11 +47,11 @@ module _ (t : ℕ) (source : ℕ → ℕ) (f taken bumped : ℕ → ℕ → ℕ)
   own_bumped : bumped t ≡ bump t (join (f t) source)
   own_bumped = ap (λ (g : ℕ → ℕ → ℕ). g t) rows_bumped ∙ row_same t (bump t (join (f t) source)) f
 
-  pub child_step : (k : Turn) (given : ℕ → ℕ → ℕ) → given ≡ to_child k (bumped t) bumped
+  pub child_step : (k : Effect) (given : ℕ → ℕ → ℕ) → given ≡ to_child k (bumped t) bumped
       → given ≡ to_child k (bump t (join (f t) source)) (with_row t (bump t (join (f t) source)) f)
   child_step k given gives = gives ∙ ap₂ (to_child k) own_bumped rows_bumped
 
-  pub lock_step : (k : Turn) (locks given : ℕ → ℕ → ℕ) → given ≡ to_lock k (bumped t) locks
+  pub lock_step : (k : Effect) (locks given : ℕ → ℕ → ℕ) → given ≡ to_lock k (bumped t) locks
       → given ≡ to_lock k (bump t (join (f t) source)) locks
   lock_step k locks given gives = gives ∙ ap (λ g. to_lock k g locks) own_bumped
 
@@ -64,7 +66,7 @@ own_few t most source f taken takes a b =
 -- what is brought is as few as what it is brought from
 pub brought_few : (most : ℕ) (r : Rows) → ((t u : ThreadId) → r.thread t.0 u.0 ≤ most)
     → ((l : LockId) (u : ThreadId) → r.lock l.0 u.0 ≤ most)
-    → (k : Turn) (u : ThreadId) → brought k r u.0 ≤ most
+    → (k : Effect) (u : ThreadId) → brought k r u.0 ≤ most
 brought_few most r a b (Joins v) u = a v u
 brought_few most r a b (Opens l) u = b l u
 brought_few most r a b (Accesses x k) u = omega arith
@@ -89,13 +91,13 @@ module _ (po hb lock : List (List ℕ)) (holds : List Hold) (e : Event) where
   abbrev old : HbState
   old = state_from po hb lock holds
 
-  -- the turn as the code tells it
-  abbrev pub told : Turn
-  told = turn_by e.op (is_outer e.thread.0 e.op holds)
+  -- the effect as the code tells it
+  abbrev pub told : Effect
+  told = effect_by e.op (is_outer e.thread.0 e.op holds)
 
-  pub turn_told : Admits (state_from po hb lock holds) e.thread e.op
-      → turn e (state_from po hb lock holds) ≡ told
-  turn_told a = outer_turn holds e.thread.0 e.op (alone_at old holds e.thread e.op refl a.alone)
+  pub effect_told : Admits (state_from po hb lock holds) e.thread e.op
+      → effect e (state_from po hb lock holds) ≡ told
+  effect_told a = outer_effect holds e.thread.0 e.op (alone_at old holds e.thread e.op refl a.alone)
 
   pub exact_step : (po' hb' lock' : List (List ℕ)) (holds' : List Hold) → HasHold (length holds) e.op
       → Admits (state_from po hb lock holds) e.thread e.op
@@ -107,7 +109,7 @@ module _ (po hb lock : List (List ℕ)) (holds : List Hold) (e : Event) where
       → holds' ≡ holds_after e.thread.0 e.op holds
       → state_from po' hb' lock' holds' ≡ after e (state_from po hb lock holds)
   exact_step po' hb' lock' holds' room a p h l d =
-      let k : told ≡ turn e (state_from po hb lock holds) = sym (turn_told a) in
+      let k : told ≡ effect e (state_from po hb lock holds) = sym (effect_told a) in
       same_state (state_from po' hb' lock' holds') (after e (state_from po hb lock holds))
       (p ∙ ap (λ k. to_child k (clock_after e.thread k (without_locks (rows_of po)))
       (with_row e.thread.0 (clock_after e.thread k (without_locks (rows_of po))) (rows_of po))) k)

@@ -4,7 +4,7 @@ use Rattle.std.specs.Prelude.{slice_index_or, slice_set}
 use Rattle.event_core.specs.declared.events.AccessKind.TheVariants.{Read, Write}
 use Rattle.event_core.specs.declared.events.Op.{Op}
 use Rattle.event_core.specs.declared.events.Op.TheVariants.{Load, Store, Acquire, Release, Fork, Join}
-use Rattle.event_core.specs.Turn.{Turn, Accesses, Opens, Closes, Forks, Joins, Inner}
+use Rattle.event_core.specs.Effect.{Effect, Accesses, Opens, Closes, Forks, Joins, Inner}
 use Rattle.hb_clocks.specs.declared.holds.Hold.{Hold}
 
 abbrev pub no_hold : Hold
@@ -34,13 +34,13 @@ is_outer t (Release l) holds = nat_eq (hold_at holds l.0).holder t && nat_eq (ho
 is_outer t _ holds = false
 
 -- what the operation is, by whether it is outer
-abbrev pub turn_by : Op → Bool → Turn
-turn_by (Load x) outer = Accesses x Read
-turn_by (Store x) outer = Accesses x Write
-turn_by (Acquire l) outer = cond outer (Opens l) Inner
-turn_by (Release l) outer = cond outer (Closes l) Inner
-turn_by (Fork u) outer = Forks u
-turn_by (Join u) outer = Joins u
+abbrev pub effect_by : Op → Bool → Effect
+effect_by (Load x) outer = Accesses x Read
+effect_by (Store x) outer = Accesses x Write
+effect_by (Acquire l) outer = cond outer (Opens l) Inner
+effect_by (Release l) outer = cond outer (Closes l) Inner
+effect_by (Fork u) outer = Forks u
+effect_by (Join u) outer = Joins u
 
 -- there is a hold for the lock that the operation names
 abbrev pub HasHold : ℕ → Op → Type 0

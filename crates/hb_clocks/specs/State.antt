@@ -1,13 +1,11 @@
 -- What the clocks mean, and what an event makes of it.
-use Rattle.std.specs.Prelude.{ℕ, ◌+◌, ◌-◌}
+use Rattle.std.specs.Prelude.{ℕ}
 use Rattle.event_core.specs.declared.ids.ThreadId.{ThreadId}
 use Rattle.event_core.specs.declared.events.Event.{Event}
-use Rattle.event_core.specs.declared.events.Op.{Op}
-use Rattle.event_core.specs.declared.events.Op.TheVariants.{Acquire, Release}
-use Rattle.hb_clocks.specs.Marks.{Named}
-use Rattle.event_core.specs.Turn.{Turn, turn_of, Opens, Joins}
-use Rattle.event_core.specs.Rows.{no_clock, no_rows, join, bump, with_row, Rows, to_child, rows_after}
-use Rattle.event_core.specs.Rows.{brought}
+use Rattle.vector_clocks.specs.Marks.{Named}
+use Rattle.event_core.specs.Effect.{Effect, effect_of, Opens, Joins}
+use Rattle.event_core.specs.Rows.{no_clock, no_rows, with_row, Rows, to_child, rows_after, clock_after}
+use Rattle.event_core.specs.Rows.{depth_after}
 
 pub record HbState : Type 0 where
   -- of each thread how many events of each thread are below what it does next, in program order
@@ -22,39 +20,29 @@ abbrev pub empty : HbState
 empty = record { po = λ _. no_clock; hb = no_rows; depth = λ _ _. 0 }
 
 -- what the event is to the clocks
-abbrev pub turn : Event → HbState → Turn
-turn e s = turn_of (s.depth e.thread.0) e.op
+abbrev pub effect : Event → HbState → Effect
+effect e s = effect_of (s.depth e.thread.0) e.op
 
 -- program order has no edge through a lock
 abbrev pub without_locks : (ℕ → ℕ → ℕ) → Rows
 without_locks threads = record { thread = threads; lock = λ _. no_clock }
 
--- the clock of an event: its thread's, what is brought to it, and the event itself
-abbrev pub clock_after : ThreadId → Turn → Rows → ℕ → ℕ
-clock_after t k r = bump t.0 (join (r.thread t.0) (brought k r))
-
 abbrev pub po_row : Event → HbState → ℕ → ℕ
-po_row e s = clock_after e.thread (turn e s) (without_locks s.po)
+po_row e s = clock_after e.thread (effect e s) (without_locks s.po)
 
 abbrev pub hb_row : Event → HbState → ℕ → ℕ
-hb_row e s = clock_after e.thread (turn e s) s.hb
-
--- how often each lock is held after the operation of thread t
-abbrev pub depth_after : ℕ → Op → (ℕ → ℕ → ℕ) → ℕ → ℕ → ℕ
-depth_after t (Acquire l) d = with_row t (with_row l.0 (d t l.0 + 1) (d t)) d
-depth_after t (Release l) d = with_row t (with_row l.0 (d t l.0 - 1) (d t)) d
-depth_after t _ d = d
+hb_row e s = clock_after e.thread (effect e s) s.hb
 
 -- the step of an event
 abbrev pub after : Event → HbState → HbState
 after e s = record {
-  po = to_child (turn e s) (po_row e s) (with_row e.thread.0 (po_row e s) s.po);
-  hb = rows_after e.thread (turn e s) (hb_row e s) s.hb;
+  po = to_child (effect e s) (po_row e s) (with_row e.thread.0 (po_row e s) s.po);
+  hb = rows_after e.thread (effect e s) (hb_row e s) s.hb;
   depth = depth_after e.thread.0 e.op s.depth;
 }
 
 -- how many joins of clocks the step takes
-abbrev pub joins_of : Turn → ℕ
+abbrev pub joins_of : Effect → ℕ
 joins_of (Opens l) = 1
 joins_of (Joins u) = 2
 joins_of _ = 0

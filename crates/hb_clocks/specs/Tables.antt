@@ -1,11 +1,11 @@
 -- The tables of clocks: what they mean, and the room in them.
-use Rattle.std.specs.Prelude.{◌≡◌, ℕ, ◌<◌, List, [], length, replicate, slice_index_or}
+use Rattle.std.specs.Prelude.{◌≡◌, ℕ, ◌<◌, List, length, replicate}
 use Rattle.event_core.specs.declared.ids.ThreadId.{ThreadId}
 use Rattle.event_core.specs.declared.events.Event.{Event}
 use Rattle.event_core.specs.declared.events.Op.{Op}
 use Rattle.event_core.specs.declared.events.Op.TheVariants.{Acquire, Release, Fork, Join}
 use Rattle.event_core.specs.Rows.{Rows}
-use Rattle.hb_clocks.specs.Counts.{counts_of}
+use Rattle.vector_clocks.specs.Rows.{rows_of, IsMade, AreWide}
 use Rattle.hb_clocks.specs.State.{HbState}
 use Rattle.hb_clocks.specs.Stands.{IsHeldRelease}
 use Rattle.hb_clocks.specs.Holds.{hold_at, depths_of, HasHold}
@@ -22,16 +22,6 @@ pub record Tables : Type 0 where
 abbrev pub tables : ℕ → List (List ℕ) → List (List ℕ) → List (List ℕ) → List Hold → Tables
 tables width po hb lock holds = record { width = width; po = po; hb = hb; lock = lock; holds = holds }
 
-abbrev pub row_at : List (List ℕ) → ℕ → List ℕ
-row_at rows t = slice_index_or rows t []
-
-abbrev pub widths_of : List (List ℕ) → ℕ → ℕ
-widths_of rows t = length (row_at rows t)
-
--- zeros where there is no clock
-abbrev pub rows_of : List (List ℕ) → ℕ → ℕ → ℕ
-rows_of rows t = counts_of (row_at rows t)
-
 abbrev pub hb_rows : List (List ℕ) → List (List ℕ) → Rows
 hb_rows hb lock = record { thread = rows_of hb; lock = rows_of lock }
 
@@ -45,14 +35,6 @@ state_from po hb lock holds = record {
 -- what the tables mean
 abbrev pub state_of : Tables → HbState
 state_of t = state_from t.po t.hb t.lock t.holds
-
--- the clock was made
-pub record IsMade (width : ℕ) (rows : List (List ℕ)) (t : ℕ) : Type 0 where
-  pub wide : widths_of rows t ≡ width
-
--- a clock that has numbers has the width
-pub record AreWide (width : ℕ) (rows : List (List ℕ)) : Type 0 where
-  pub wide : (t : ℕ) → 0 < widths_of rows t → widths_of rows t ≡ width
 
 -- the thread is below the width, and both of its clocks were made
 pub record HasThread (width : ℕ) (po hb : List (List ℕ)) (t : ℕ) : Type 0 where

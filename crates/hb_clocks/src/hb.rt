@@ -11,23 +11,21 @@ ghost use Rattle.event_core.specs.declared.bounds.Limits.{Limits as Bounds};
 ghost use Rattle.event_core.specs.Order.{Po, Hb};
 ghost use Rattle.event_core.specs.Refusal.{WellFormed};
 ghost use Rattle.event_core.specs.Rows.{join, Counted};
-ghost use Rattle.hb_clocks.specs.Counts.{counts_of};
-ghost use Rattle.hb_clocks.specs.Marks.{IsLatest, Names};
-ghost use Rattle.hb_clocks.specs.Work.{more_joins};
-ghost use Rattle.hb_clocks.specs.State.{empty, after, turn, joins_of, latest_mark};
+ghost use Rattle.vector_clocks.specs.Counts.{counts_of};
+ghost use Rattle.vector_clocks.specs.Marks.{IsLatest, Names};
+ghost use Rattle.vector_clocks.specs.Work.{more_joins};
+ghost use Rattle.hb_clocks.specs.State.{empty, after, effect, joins_of, latest_mark};
 ghost use Rattle.hb_clocks.specs.Stands.{Stands, Admits, IsFew, IsHeldRelease};
 ghost use Rattle.hb_clocks.specs.Tables.{state_of, IsReady, KeepsRoom, ReleasesReady, IsWithin, HasThread};
-ghost use Rattle.hb_clocks.specs.Tables.{IsMade};
+ghost use Rattle.vector_clocks.specs.Rows.{IsMade};
 
-use crate::clock::Clock;
-use crate::holds::{Hold, grow_holds, may_enter};
-use crate::mark::Mark;
-use crate::rows::{is_made, make_row, row_or};
+use crate::holds::{Hold, NO_HOLD, may_enter};
 use crate::step::advance_tables;
-use crate::work::Work;
-use event_core::{Event, Limits, LockId, Op, OutOfMemory, ThreadId};
+use event_core::{Event, Limits, LockId, Op, OutOfMemory, ThreadId, grow_to};
 use std::alloc::Global;
 use std::marker::Model;
+use vector_clocks::rows::{is_made, make_row, row_or};
+use vector_clocks::{Clock, Mark, Work};
 
 /// The clocks of all threads and locks.
 ///
@@ -136,7 +134,7 @@ impl HbClocks {
         ensures kept { KeepsRoom self.old self.new }
         ensures releases { ReleasesReady self.new }
         ensures width { self.new.width ≡ self.old.width }
-        ensures work { work.new ≡ more_joins (joins_of (turn event.now (state_of self.old))) work.old }
+        ensures work { work.new ≡ more_joins (joins_of (effect event.now (state_of self.old))) work.old }
     {
         advance_tables(
             &mut self.po,
@@ -217,7 +215,7 @@ impl HbClocks {
         ensures width { self.new.width ≡ self.old.width }
     {
         let at = lock.0 as usize;
-        grow_holds(&mut self.holds, at + 1)?;
+        grow_to(&mut self.holds, at + 1, || NO_HOLD)?;
         make_row(&mut self.locks, self.alloc, self.width, at)
     }
 

@@ -1,9 +1,9 @@
 //! Who holds each lock, and how often. A lock has at most one holder.
-ghost use Rattle.std.specs.Prelude.{◌≡◌, ℕ, ◌+◌, ◌<◌, ◌^◌, ◌&&◌, nat_eq, length, slice_set, OnOk, IsTrue};
-ghost use Rattle.std.specs.Prelude.{◌≤◌, ◌↔◌};
+ghost use Rattle.std.specs.Prelude.{◌≡◌, ℕ, ◌+◌, ◌<◌, ◌^◌, ◌&&◌, nat_eq, length, slice_set, IsTrue};
+ghost use Rattle.std.specs.Prelude.{◌↔◌};
 ghost use Rattle.hb_clocks.specs.Holds.{hold_at, lowered, holds_after, is_outer, HasHold, Alone};
 
-use event_core::{Op, OutOfMemory, ThreadId};
+use event_core::{Op, ThreadId};
 
 /// How often a lock is held, and by which thread where it is.
 #[derive(Clone, Copy)]
@@ -11,6 +11,12 @@ pub struct Hold {
     pub holder: u32,
     pub depth: u64,
 }
+
+/// That of a lock which was not acquired.
+pub(crate) const NO_HOLD: Hold = Hold {
+    holder: 0,
+    depth: 0,
+};
 
 // Counts an acquire or a release, and tells whether it is an outer one.
 #[inline(always)]
@@ -59,23 +65,6 @@ fn leave(holds: &mut [Hold], lock: usize, thread: ThreadId) -> bool
         depth: depth.saturating_sub(1),
     };
     depth == 1
-}
-
-// Makes places for the holds of so many locks.
-pub(crate) fn grow_holds(holds: &mut Vec<Hold>, count: usize) -> Result<(), OutOfMemory>
-    ensures same { (l : ℕ) → hold_at holds.new.items l ≡ hold_at holds.old.items l }
-    ensures more { length holds.old.items ≤ length holds.new.items }
-    ensures ok { OnOk result (count ≤ length holds.new.items) }
-{
-    'growing: while holds.len() < count {
-        let Ok(()) = holds.push(Hold {
-            holder: 0,
-            depth: 0,
-        }) else {
-            return Err(OutOfMemory);
-        };
-    }
-    Ok(())
 }
 
 // Whether no other thread holds the lock.

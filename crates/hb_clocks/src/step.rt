@@ -2,17 +2,17 @@
 //! what it hands on.
 ghost use Rattle.std.specs.Prelude.{◌≡◌, ◌+◌, ◌<◌, ◌^◌, length};
 ghost use Rattle.event_core.specs.Rows.{join, with_row, brought, to_child, to_lock};
-ghost use Rattle.hb_clocks.specs.Holds.{turn_by, holds_after, HasHold};
-ghost use Rattle.hb_clocks.specs.State.{without_locks, joins_of, after, turn};
-ghost use Rattle.hb_clocks.specs.Work.{more_joins};
+ghost use Rattle.hb_clocks.specs.Holds.{effect_by, holds_after, HasHold};
+ghost use Rattle.hb_clocks.specs.State.{without_locks, joins_of, after, effect};
+ghost use Rattle.vector_clocks.specs.Work.{more_joins};
 ghost use Rattle.hb_clocks.specs.Stands.{Admits, IsApart, IsFew};
-ghost use Rattle.hb_clocks.specs.Tables.{rows_of, widths_of, hb_rows, state_from, HasThread, HasClocks};
+ghost use Rattle.hb_clocks.specs.Tables.{hb_rows, state_from, HasThread, HasClocks};
+ghost use Rattle.vector_clocks.specs.Rows.{rows_of, widths_of};
 
-use crate::clock::Clock;
 use crate::holds::{Hold, count_depth};
-use crate::rows::{bump_row, copy_row, copy_rows, join_row, join_rows};
-use crate::work::Work;
 use event_core::{Event, Op, ThreadId};
+use vector_clocks::rows::{bump_row, copy_row, copy_rows, join_row, join_rows};
+use vector_clocks::{Clock, Work};
 
 // An outer acquire takes the clock of the lock's latest outer release, and a join the clocks of the
 // thread that it names.
@@ -31,14 +31,14 @@ fn take(
     requires apart { IsApart thread op }
     requires few { work.old.joins < 2 ^ 62 }
     ensures po { rows_of po.new ≡ with_row thread.0
-        (join (rows_of po.old thread.0) (brought (turn_by op outer) (without_locks (rows_of po.old))))
+        (join (rows_of po.old thread.0) (brought (effect_by op outer) (without_locks (rows_of po.old))))
         (rows_of po.old) }
     ensures hb { rows_of hb.new ≡ with_row thread.0
-        (join (rows_of hb.old thread.0) (brought (turn_by op outer) (hb_rows hb.old locks.now)))
+        (join (rows_of hb.old thread.0) (brought (effect_by op outer) (hb_rows hb.old locks.now)))
         (rows_of hb.old) }
     ensures po_widths { widths_of po.new ≡ widths_of po.old }
     ensures hb_widths { widths_of hb.new ≡ widths_of hb.old }
-    ensures work { work.new ≡ more_joins (joins_of (turn_by op outer)) work.old }
+    ensures work { work.new ≡ more_joins (joins_of (effect_by op outer)) work.old }
 {
     let at = thread.0 as usize;
     match op {
@@ -69,10 +69,10 @@ fn give(
     requires thread { HasThread (widths_of po.old thread.0) po.old hb.old thread.0 }
     requires clocks { HasClocks (widths_of po.old thread.0) po.old hb.old locks.old op }
     requires apart { IsApart thread op }
-    ensures po { rows_of po.new ≡ to_child (turn_by op outer) (rows_of po.old thread.0) (rows_of po.old) }
-    ensures hb { rows_of hb.new ≡ to_child (turn_by op outer) (rows_of hb.old thread.0) (rows_of hb.old) }
+    ensures po { rows_of po.new ≡ to_child (effect_by op outer) (rows_of po.old thread.0) (rows_of po.old) }
+    ensures hb { rows_of hb.new ≡ to_child (effect_by op outer) (rows_of hb.old thread.0) (rows_of hb.old) }
     ensures lock { rows_of locks.new
-        ≡ to_lock (turn_by op outer) (rows_of hb.old thread.0) (rows_of locks.old) }
+        ≡ to_lock (effect_by op outer) (rows_of hb.old thread.0) (rows_of locks.old) }
     ensures po_widths { widths_of po.new ≡ widths_of po.old }
     ensures hb_widths { widths_of hb.new ≡ widths_of hb.old }
     ensures lock_widths { widths_of locks.new ≡ widths_of locks.old }
@@ -116,7 +116,7 @@ pub(crate) fn advance_tables(
     ensures hb_widths { widths_of hb.new ≡ widths_of hb.old }
     ensures lock_widths { widths_of locks.new ≡ widths_of locks.old }
     ensures work { work.new
-        ≡ more_joins (joins_of (turn event.now (state_from po.old hb.old locks.old holds.old))) work.old }
+        ≡ more_joins (joins_of (effect event.now (state_from po.old hb.old locks.old holds.old))) work.old }
 {
     let outer = count_depth(holds, event.thread, event.op);
     take(po, hb, locks, event.thread, event.op, outer, work);

@@ -13,7 +13,7 @@ use Rattle.lock_queues.specs.declared.sections.Entry.{Entry}
 use Rattle.lock_queues.specs.Sections.{entry_at, no_entry}
 use Rattle.lock_queues.specs.Rooms.{has_room_in, IsRoom, AreRooms}
 use Rattle.lock_queues.specs.Queue.{IsKept, first_of}
-use Rattle.hb_clocks.specs.Marks.{Named}
+use Rattle.vector_clocks.specs.Marks.{Named}
 use Rattle.std.specs.Option.{option_or}
 use Rattle.lock_queues.proofs.Lookup.{thread_at, room_is, rooms_more, rooms_set, rooms_push, rooms_remove}
 use Rattle.lock_queues.proofs.Placing.{Placed, placed_within}

@@ -11,3 +11,7 @@ pub mod Tables
 pub mod Searching
 pub mod Sameness
 pub mod Answering
+mod CountedLists
+mod SectionLists
+mod LogSteps
+mod LogSearches

@@ -6,8 +6,8 @@ use Rattle.std.proofs.lemmas.List.{get_or_past, get_or-set_same, set-set, set-ge
 use mathlib.Core.Logic.{inl, inr}
 use Rattle.event_core.specs.Rows.{bump, with_row}
 use Rattle.event_core.proofs.Growing.{row_same, row_other}
-use Rattle.hb_clocks.specs.Counts.{counts_of}
-use Rattle.hb_clocks.proofs.Releases.{bump_same, bump_other}
+use Rattle.vector_clocks.specs.Counts.{counts_of}
+use Rattle.vector_clocks.proofs.Releases.{bump_same, bump_other}
 use Rattle.lock_queues.specs.Sections.{before, lowered, raised}
 use Rattle.lock_queues.proofs.Changes.{found_set}
 

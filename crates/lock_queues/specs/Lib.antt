@@ -3,3 +3,5 @@ pub mod Rooms
 pub mod Queue
 pub mod Queues
 pub mod Searched
+pub mod Standing
+pub mod Laws

@@ -1,7 +1,7 @@
 -- What is kept of one lock.
 use Rattle.std.specs.Prelude.{ℕ, ◌≡◌, ◌+◌, ◌<◌, ◌≤◌, List, [], ◌∷◌, length, slice_index, slice_index_or}
 use Rattle.std.specs.Prelude.{Option, Some, None}
-use Rattle.hb_clocks.specs.Marks.{Named}
+use Rattle.vector_clocks.specs.Marks.{Named}
 use Rattle.lock_queues.specs.Sections.{entry_at}
 use Rattle.lock_queues.specs.Rooms.{AreRooms, opened_in}
 use Rattle.lock_queues.specs.declared.rooms.Room.{Room}

@@ -2,7 +2,7 @@
 use Rattle.std.specs.Prelude.{ℕ, ◌≡◌, ◌-◌, ◌<◌, ◌≤◌, List, length, IsTrue, Some, None}
 use Rattle.event_core.specs.Closed.{Closed, Has, is_counted, below_closed}
 use Rattle.event_core.specs.Rows.{with_row, bump, no_clock}
-use Rattle.hb_clocks.specs.Counts.{counts_of}
+use Rattle.vector_clocks.specs.Counts.{counts_of}
 use Rattle.lock_queues.specs.Sections.{closed_at, latest_counted}
 use Rattle.lock_queues.specs.Queues.{Tables, closed_of, opened_of, found_of, has_room}
 

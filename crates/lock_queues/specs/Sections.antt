@@ -5,8 +5,8 @@ use Rattle.std.specs.Option.{option_or}
 use Rattle.std.proofs.Math.ListN.{take, drop}
 use Rattle.event_core.specs.Closed.{Closed, is_counted}
 use Rattle.event_core.specs.Rows.{with_row}
-use Rattle.hb_clocks.specs.Counts.{counts_of}
-use Rattle.hb_clocks.specs.Marks.{Named}
+use Rattle.vector_clocks.specs.Counts.{counts_of}
+use Rattle.vector_clocks.specs.Marks.{Named}
 use Rattle.lock_queues.specs.declared.sections.Entry.{Entry}
 
 -- the mark of the acquire, and the numbers of the release's clock, beyond which each is 0

@@ -3,6 +3,7 @@
 #![tactic(auto)]
 
 mod before;
+pub mod laws;
 mod queue;
 mod queues;
 mod rooms;

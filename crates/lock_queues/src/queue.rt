@@ -10,9 +10,9 @@ use crate::rooms::{Room, find};
 use crate::search::search_from;
 use crate::sections::{ClosedSection, Entry, read};
 use event_core::{OutOfMemory, ThreadId};
-use hb_clocks::{Clock, Mark, Work};
 use std::alloc::Global;
 use std::marker::Model;
+use vector_clocks::{Clock, Mark, Work};
 
 #[derive(Drop)]
 pub(crate) struct Queue {
@@ -51,7 +51,7 @@ impl Queue {
     ghost use Rattle.std.specs.Prelude.{true, false, MatchOption, IsTrue, OnOk, OnErr, slice_index};
     ghost use Rattle.std.specs.Prelude.{vec_capacity};
     ghost use Rattle.event_core.specs.Rows.{with_row};
-    ghost use Rattle.hb_clocks.specs.Counts.{counts_of};
+    ghost use Rattle.vector_clocks.specs.Counts.{counts_of};
     ghost use Rattle.lock_queues.specs.Rooms.{has_room_in, opened_in};
     ghost use Rattle.lock_queues.specs.Sections.{before, entry_at, closed_as, section_of, CountsEntry};
     ghost use Rattle.lock_queues.specs.Sections.{AreReadable, HasJoined};

@@ -17,9 +17,9 @@ ghost use Rattle.lock_queues.specs.Queues.{AreWide, count_rooms};
 use crate::queue::Queue;
 use crate::sections::ClosedSection;
 use event_core::{Limits, LockId, OutOfMemory, ThreadId};
-use hb_clocks::{Clock, Mark, Work};
 use std::alloc::Global;
 use std::marker::Model;
+use vector_clocks::{Clock, Mark, Work};
 
 /// Of each lock its closed critical sections in the order of their releases, and of each thread how
 /// many of them it has found counted.
@@ -55,18 +55,25 @@ impl Model for Queues {
 }
 
 impl Queues {
-    ghost use Rattle.std.specs.Prelude.{◌≡◌, ℕ, ◌+◌, ◌-◌, ◌<◌, ◌≤◌, ◌^◌, ◌∷◌, ◌++◌, [], length, true, false};
-    ghost use Rattle.std.specs.Prelude.{IfOk, OnOk, OnErr, IsOk, IfSome, IsTrue, IsSomeAnd, MatchOption};
+    ghost use Rattle.std.specs.Prelude.{◌≡◌, ℕ, ◌+◌, ◌-◌, ◌<◌, ◌≤◌, ◌^◌, ◌∷◌, ◌++◌, [], List, length, true};
+    ghost use Rattle.std.specs.Prelude.{false, IfOk, OnOk, OnErr, IsOk, IfSome, IsTrue, IsSomeAnd};
+    ghost use Rattle.std.specs.Prelude.{MatchOption};
     ghost use Rattle.std.specs.Borrow.{sem};
     ghost use Rattle.std.specs.Io.BufRead.{Rests};
-    ghost use Rattle.event_core.specs.Closed.{below_closed};
-    ghost use Rattle.event_core.specs.Rows.{bump, no_clock, with_row};
-    ghost use Rattle.hb_clocks.specs.Counts.{counts_of};
+    ghost use Rattle.event_core.specs.declared.events.Event.{Event as AnEvent};
+    ghost use Rattle.event_core.specs.declared.bounds.Limits.{Limits as Bounds};
+    ghost use Rattle.event_core.specs.Refusal.{WellFormed};
+    ghost use Rattle.event_core.specs.Order.{Hb};
+    ghost use Rattle.event_core.specs.Closed.{OpensSection, EndsSection, below_closed};
+    ghost use Rattle.event_core.specs.Rows.{bump, no_clock, with_row, Counted};
+    ghost use Rattle.vector_clocks.specs.Counts.{counts_of};
+    ghost use Rattle.vector_clocks.specs.Marks.{Names};
     ghost use Rattle.lock_queues.specs.Queues.{closed_of, opened_of, found_of, has_room, counted_of};
     ghost use Rattle.lock_queues.specs.Queues.{SameMeaning};
     ghost use Rattle.lock_queues.specs.Sections.{before, closed_at, latest_counted};
     ghost use Rattle.lock_queues.specs.Searched.{CountsEarlier, FindsCounted, IsAboveAll, IsLatestBefore};
     ghost use Rattle.lock_queues.specs.Searched.{IsSection};
+    ghost use Rattle.lock_queues.specs.Standing.{Stands, CountsNone, IsLatest};
     ghost use Rattle.lock_queues.specs.contracts.queues.Queues.{the_row};
 
     /// No sections. It takes no memory.
@@ -76,6 +83,7 @@ impl Queues {
         ensures closed { IfOk result (λ v. closed_of v ≡ (λ _. [])) }
         ensures opened { IfOk result (λ v. opened_of v ≡ (λ _ _. 0)) }
         ensures found { IfOk result (λ v. found_of v ≡ (λ _ _. 0)) }
+        ensures stands { IfOk result (λ v. Stands [] v) }
         ensures rooms { IfOk result (λ v. has_room v ≡ (λ _ _. false)) }
     {
         Ok(Queues {
@@ -160,6 +168,10 @@ impl Queues {
             (opened_of self.old) }
         ensures closed { closed_of self.new ≡ closed_of self.old }
         ensures found { found_of self.new ≡ found_of self.old }
+        ensures stands { (limits : Bounds) (log : List AnEvent) (e : AnEvent)
+            → WellFormed limits (log ++ e ∷ []) → OpensSection log thread lock e
+            → Names (log ++ e ∷ []) mark thread (length log)
+            → Stands log self.old → Stands (log ++ e ∷ []) self.new }
         ensures rooms { has_room self.new ≡ has_room self.old }
         ensures limits { self.new.limits ≡ self.old.limits }
     {
@@ -197,6 +209,10 @@ impl Queues {
             (below_closed (counts_of clock.now) (closed_of self.old lock.0) ≡ no_clock)
             (λ answer. bump answer.by.0 (counts_of answer.before.now)
             ≡ below_closed (counts_of clock.now) (closed_of self.old lock.0)) }
+        ensures in_log { (limits : Bounds) (log : List AnEvent) → WellFormed limits log → Stands log self.old
+            → MatchOption result (CountsNone log lock (counts_of clock.now))
+            (λ answer. IsLatest log lock (counts_of clock.now) answer.by
+            (bump answer.by.0 (counts_of answer.before.now))) }
         ensures within { IfSome result (λ answer. answer.by.0 < length answer.before.now) }
         ensures own { IfSome result (λ answer. answer.own ≡ counts_of answer.before.now answer.by.0) }
         ensures width { IfSome result (λ answer. length answer.before.now ≤ self.old.limits.threads) }
@@ -231,6 +247,10 @@ impl Queues {
         ensures opened { opened_of self.new
             ≡ with_row thread.0 (with_row lock.0 0 (opened_of self.old thread.0)) (opened_of self.old) }
         ensures found { found_of self.new ≡ found_of self.old }
+        ensures stands { (limits : Bounds) (log : List AnEvent) (e : AnEvent)
+            → WellFormed limits (log ++ e ∷ []) → EndsSection log thread lock e
+            → Counted (log ++ e ∷ []) (λ i. Hb (log ++ e ∷ []) i (length log)) (counts_of clock.now)
+            → Stands log self.old → Stands (log ++ e ∷ []) self.new }
         ensures rooms { has_room self.new
             ≡ with_row thread.0 (with_row lock.0 false (has_room self.old thread.0)) (has_room self.old) }
         ensures limits { self.new.limits ≡ self.old.limits }

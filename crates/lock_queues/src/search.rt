@@ -4,7 +4,7 @@ ghost use Rattle.lock_queues.specs.Queue.{first_of};
 ghost use Rattle.lock_queues.specs.Sections.{entry_at, Counts};
 
 use crate::sections::Entry;
-use hb_clocks::{Clock, Mark, Work};
+use vector_clocks::{Clock, Mark, Work};
 
 // How many of the sections the clock counts one after another from the first, of which so many are known
 // to be. The first of the others that is not counted ends the search.

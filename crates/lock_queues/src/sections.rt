@@ -9,8 +9,8 @@ ghost use Rattle.std.specs.Prelude.{◌≡◌, ◌+◌, ◌≤◌, length};
 ghost use Rattle.lock_queues.specs.Sections.{numbers_of};
 
 use event_core::ThreadId;
-use hb_clocks::Mark;
 use std::mem::size_of;
+use vector_clocks::Mark;
 
 /// A closed section: the mark of its acquire, how many events of its own thread happened before its release,
 /// and how many numbers of its release there are, from which place on.

@@ -7,3 +7,4 @@ pub mod First
 pub mod Answered
 pub mod Marked
 pub mod Barred
+pub mod LineLaws

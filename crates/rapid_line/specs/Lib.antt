@@ -3,3 +3,4 @@ pub mod Grammar
 pub mod Causes
 pub mod Reading
 pub mod Marks
+pub mod Lines

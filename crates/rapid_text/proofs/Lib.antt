@@ -3,6 +3,7 @@ pub mod NameLaws
 pub mod Ends
 pub mod NoteLaws
 pub mod Lines
+pub mod LongLines
 pub mod Pieces
 pub mod WindowLaws
 pub mod Outputs
@@ -12,3 +13,4 @@ pub mod Written
 pub mod NameGrowth
 pub mod Joined
 pub mod Begins
+pub mod FeedLaws

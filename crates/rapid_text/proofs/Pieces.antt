@@ -1,4 +1,4 @@
--- A text is judged line by line, however it is cut.
+-- The steps of a push: the lines that end in a piece, judged one after another.
 use Rattle.std.proofs.Common.{
   ◌≡◌,
   ℕ,
@@ -6,14 +6,11 @@ use Rattle.std.proofs.Common.{
   ◌-◌,
   ◌<◌,
   ◌≤◌,
-  Bool,
-  false,
   List,
   [],
   ◌∷◌,
   ◌++◌,
   length,
-  get_or,
   take,
   drop,
   Option,
@@ -29,343 +26,247 @@ use Rattle.std.proofs.Common.{
   ◌∙◌,
   append_assoc,
   arith,
-  inl,
-  inr,
-  min,
 }
-use Rattle.std.specs.Prelude.{◌&&◌, ◌==◌, nat_lt, IfSome}
-use Rattle.std.proofs.lemmas.Bool.{or_parts, lt-ltb, eqb-false, ne_eqb, cases_Bool}
-use Rattle.std.proofs.lemmas.List.{
-  length-append,
-  length-take,
-  length-drop,
-  take_all,
-  take-append-drop,
-  append-nil,
-  drop_at,
-  drop_all,
-  drop-drop,
-}
+use Rattle.std.specs.Prelude.{unwrap_or}
+use Rattle.std.proofs.lemmas.List.{length-append, append-nil, take-append-le, drop_at, drop_all, take_all}
 use Rattle.event_core.specs.declared.events.Event.{Event}
 use Rattle.rapid_line.specs.declared.words.LineFault.TheVariants.{LineTooLong}
+use Rattle.rapid_line.specs.Cut.{count, Lacks, after_last}
+use Rattle.rapid_line.specs.Lines.{Lines, lines_of, to_come, most, Cuts, Keeps, IsTooLong}
+use Rattle.rapid_line.proofs.Cuts.{count-append, count-Lacks}
+use Rattle.rapid_line.proofs.Cuts.{after_last-Lacks, after_last-more, after_last-end}
+use Rattle.rapid_line.proofs.LineLaws.{first_cut}
 use Rattle.rapid_text.specs.declared.causes.Cause.{Cause}
 use Rattle.rapid_text.specs.declared.causes.Cause.TheVariants as causes
-use Rattle.rapid_text.specs.declared.causes.TextFault.{TextFault}
-use Rattle.rapid_line.specs.Cut.{has, count, Lacks, cut, after_last}
-use Rattle.rapid_line.specs.Reading.{line_of}
 use Rattle.rapid_text.specs.Tables.{Tables, TablesGrow}
+use Rattle.rapid_text.specs.Events.{content, reading}
+use Rattle.rapid_text.specs.Texts.{Judgement, stopped, with_event, after_line, judge, BeginsAt}
+use Rattle.rapid_text.specs.Cutting.{Cutting, judged, Stops, Pushes}
+use Rattle.rapid_text.proofs.LongLines.{reading_long}
 use Rattle.rapid_text.proofs.NameGrowth.{TablesGrow-refl, TablesGrow-trans}
-use Rattle.rapid_text.specs.Events.{content, reading, Fails}
-use Rattle.rapid_text.specs.Texts.{
-  onto_first,
-  lines_of,
-  Judgement,
-  ended,
-  stopped,
-  with_event,
-  after_line,
-  judge,
-  BeginsAt,
+
+-- what is still to be judged of the lines to come, if these bytes follow
+abbrev pub judged_lines : Tables → Lines → List ℕ → Judgement
+judged_lines names lines more = judge (to_come lines more) names lines.unfinished
+
+-- what a cutter holds that has not failed
+abbrev pub cutting_of : Tables → Lines → ℕ → Cutting
+cutting_of names lines line = record {
+  names = names;
+  line = line;
+  unfinished = lines.unfinished;
+  kept = lines.kept;
+  taken = lines.taken;
+  failed = None;
 }
-use Rattle.rapid_text.specs.Cutting.{
-  Cutting,
-  judged,
-  most,
-  Stops,
-  JudgedUpTo,
-  Pushes,
-  FailsAt,
-  TooLongOrMemory,
-  ClosesAt,
-  Closed,
-  EndsLine,
-  LineFails,
-  Keeps,
-  RestFails,
+
+-- what a cutter holds, of which it is known whether it has failed
+abbrev view_of : Tables → Lines → ℕ → Option ℕ → Cutting
+view_of names lines line failed = record {
+  names = names;
+  line = line;
+  unfinished = unwrap_or failed lines.unfinished;
+  kept = lines.kept;
+  taken = lines.taken;
+  failed = failed;
 }
-use Rattle.rapid_line.proofs.Cuts.{Lacks-append, IsCut, IsCut-from, count-append, count-Lacks}
-use Rattle.rapid_line.proofs.Cuts.{after_last-Lacks, after_last-more, after_last-end}
-use Rattle.std.proofs.Math.Seq.{take-add, take-append-add}
 
--- ---- a line that is too long
+pub live : (names : Tables) (lines : Lines) (line : ℕ) (failed : Option ℕ) → failed ≡ None
+    → view_of names lines line failed ≡ cutting_of names lines line
+live names lines line failed none = ap (λ (o : Option ℕ). view_of names lines line o) none
 
-pub content_long : (bytes : List ℕ) → 1025 < length bytes → 1024 < length (content bytes)
-content_long bytes h =
-    elim (cases_Bool (nat_lt 0 (length bytes) && (get_or bytes (length bytes - 1) 0 == 13))) [
-      | inl same ↦ let e : length (take (length bytes - 1) bytes) ≡ min (length bytes - 1) (length bytes) =
-          length-take (length bytes - 1) bytes in rw same (omega (arith, e))
-      | inr differs ↦ rw differs (omega arith)
-    ]
+-- ---- the loop
 
-line_long : (bytes : List ℕ) → 1024 < length bytes → line_of bytes ≡ Err LineTooLong
-unfolding line_of
-line_long bytes h = rw (lt-ltb 1024 (length bytes) h) refl
-
-pub reading_long : (t : Tables) (bytes : List ℕ) → 1025 < length bytes
-    → reading t (content bytes) ≡ Err (causes.Line LineTooLong)
-unfolding reading
-reading_long t bytes h =
-    let long : 1024 < length (content bytes) = content_long bytes h in
-    rw (ne_eqb (length (content bytes)) 0 (λ z. omega arith), line_long (content bytes) long) refl
-
-pub too_long_fails : (f : Cause) (t : Tables) (bytes : List ℕ) → TooLongOrMemory f bytes
-    → Fails f (reading t (content bytes))
-too_long_fails f t bytes (inl h) = rw h tt
-too_long_fails f t bytes (inr h) = rw h.0 (reading_long t bytes h.1)
-
--- ---- the lines of a text
-
--- a line, and what follows its LF
-pub lines_of_line : (a b : List ℕ) → Lacks 10 a → lines_of (a ++ 10 ∷ b) ≡ a ∷ lines_of b
-lines_of_line [] b h = refl
-lines_of_line (x ∷ a) b h =
-    let parts = or_parts (x == 10) (has 10 a) h in
-    rw (parts.0, lines_of_line a b parts.1) refl
-
--- a line without an ending
-pub lines_of_rest : (x : ℕ) (a : List ℕ) → Lacks 10 (x ∷ a) → lines_of (x ∷ a) ≡ (x ∷ a) ∷ []
-lines_of_rest x [] h = rw (or_parts (x == 10) false h).0 refl
-lines_of_rest x (y ∷ a) h =
-    let parts = or_parts (x == 10) (has 10 (y ∷ a)) h in
-    rw (parts.0, lines_of_rest y a parts.1) refl
-
--- the first line of a text goes on at least as far as no LF comes
-pub record Begins (a text : List ℕ) : Type 0 where
-  pub first : List ℕ
-  pub rest : List (List ℕ)
-  pub is : lines_of text ≡ (a ++ first) ∷ rest
-
-onto_begins : (x : ℕ) (a text : List ℕ) → (x == 10) ≡ false → Begins a text → Begins (x ∷ a) (x ∷ text)
-onto_begins x a text n h = record { first = h.first; rest = h.rest; is = rw (n, h.is) refl }
-
-onto_cases : (x : ℕ) (ls : List (List ℕ))
-    → (first : List ℕ) × (rest : List (List ℕ)) × (onto_first x ls ≡ (x ∷ first) ∷ rest)
-onto_cases x [] = ([], [], refl)
-onto_cases x (l ∷ ls) = (l, ls, refl)
-
-pub begins : (x : ℕ) (a more : List ℕ) → Lacks 10 (x ∷ a) → Begins (x ∷ a) ((x ∷ a) ++ more)
-begins x [] more h =
-    let n = (or_parts (x == 10) false h).0 in
-    let o = onto_cases x (lines_of more) in
-    record { first = o.0; rest = o.1; is = rw (n, o.2) refl }
-begins x (y ∷ a) more h =
-    let parts = or_parts (x == 10) (has 10 (y ∷ a)) h in
-    onto_begins x (y ∷ a) ((y ∷ a) ++ more) parts.0 (begins y a more parts.1)
-
--- ---- the steps of a push
-
--- what is still to be judged, when so many bytes of the piece were used
-pub record Going (start now : Cutting) (piece : List ℕ) (used : ℕ) : Type 0 where
-  pub sound : (more : List ℕ) → judged start (piece ++ more) ≡ judged now (drop used piece ++ more)
-  pub within : used ≤ length piece
-  pub taken : now.taken ≡ start.taken + used
-  pub room : start.taken + length piece ≤ most
-  pub lines : now.unfinished ≡ start.unfinished + count 10 (take used piece)
-  pub kept : now.kept ≡ after_last 10 (start.kept ++ take used piece)
-  pub line : now.line ≡ start.line
-  pub grows : TablesGrow start.names now.names
-  pub live : (start.failed ≡ None) × (now.failed ≡ None)
+-- the lines that end in the front of the piece were judged and have no event, and the rest is still to be cut
+pub record Going (start : Cutting) (piece : List ℕ) (names : Tables) (lines : Lines) (rest : List ℕ)
+    : Type 0 where
+  pub sound : (more : List ℕ) → judged start (piece ++ more) ≡ judged_lines names lines (rest ++ more)
+  pub front : List ℕ
+  pub is : piece ≡ front ++ rest
+  pub ended : lines.unfinished ≡ start.unfinished + count 10 front
+  pub kept : lines.kept ≡ after_last 10 (start.kept ++ front)
+  pub taken : lines.taken ≡ start.taken + length front
+  pub room : lines.taken + length rest ≤ most
+  pub grows : TablesGrow start.names names
 
 -- before the first line of the piece
-pub goes_first : (start : Cutting) (piece : List ℕ) → Lacks 10 start.kept → start.failed ≡ None
-    → start.taken + length piece ≤ most → Going start start piece 0
-goes_first start piece lf live room = record {
+pub goes_first : (names : Tables) (lines : Lines) (line : ℕ) (piece : List ℕ) → Lacks 10 lines.kept
+    → lines.taken + length piece ≤ most → Going (cutting_of names lines line) piece names lines piece
+goes_first names lines line piece lf room = record {
   sound = λ more. refl;
-  within = omega arith;
+  front = [];
+  is = refl;
+  ended = omega arith;
+  kept = sym (ap (λ (t : List ℕ). after_last 10 t) (append-nil lines.kept) ∙ after_last-Lacks 10 lines.kept lf);
   taken = omega arith;
   room = room;
-  lines = omega arith;
-  kept = sym (ap (λ (t : List ℕ). after_last 10 t) (append-nil start.kept) ∙ after_last-Lacks 10 start.kept lf);
-  line = refl;
-  grows = TablesGrow-refl start.names;
-  live = (live, live);
+  grows = TablesGrow-refl names;
 }
 
-with_event_line : (m n : ℕ) (event : Option Event) (j : Judgement) → IfSome event (λ _. m ≡ n)
-    → with_event n event j ≡ with_event m event j
-with_event_line m n None j h = refl
-with_event_line m n (Some e) j h = ap (λ (k : ℕ). with_event k (Some e) j) (sym h)
+-- what the line comes to, and then the others
+line_judged : (names : Tables) (lines : Lines) (rest line : List ℕ) (others : List (List ℕ)) (more : List ℕ)
+    (read : Result (Option Event × Tables) Cause) → to_come lines (rest ++ more) ≡ line ∷ others
+    → reading names (content line) ≡ read
+    → judged_lines names lines (rest ++ more)
+    ≡ after_line names lines.unfinished read (λ t. judge others t (lines.unfinished + 1))
+line_judged names lines rest line others more read law is =
+    ap (λ (ls : List (List ℕ)). judge ls names lines.unfinished) law
+    ∙ ap (λ (r : Result (Option Event × Tables) Cause). after_line names lines.unfinished r
+    (λ t. judge others t (lines.unfinished + 1))) is
 
--- a line that is judged
-judged_line : (t u : Tables) (n : ℕ) (whole more : List ℕ) (event : Option Event) → Lacks 10 whole
-    → reading t (content whole) ≡ Ok (event, u) →
-    judge (lines_of (whole ++ 10 ∷ more)) t n ≡ with_event n event (judge (lines_of more) u (n + 1))
-judged_line t u n whole more event lf r =
-    ap (λ (ls : List (List ℕ)). judge ls t n) (lines_of_line whole more lf) ∙ ap
-    (λ (x : Result (Option Event × Tables) Cause). after_line t n x
-    (λ v. judge (lines_of more) v (n + 1))) r
+-- a line that was judged
+sound_step : (start : Cutting) (piece : List ℕ) (names later : Tables) (lines next : Lines)
+    (rest line after : List ℕ) (event : Option Event) → Going start piece names lines rest
+    → Cuts lines rest line after next → reading names (content line) ≡ Ok (event, later) → (more : List ℕ)
+    → judged start (piece ++ more)
+    ≡ with_event lines.unfinished event (judged_lines later next (after ++ more))
+sound_step start piece names later lines next rest line after event g c r more =
+    g.sound more
+    ∙ line_judged names lines rest line (to_come next (after ++ more)) more (Ok (event, later)) (c.law more) r
+    ∙ ap (λ (n : ℕ). with_event lines.unfinished event (judge (to_come next (after ++ more)) later n))
+    (sym c.unfinished)
 
-regroup : (kept line rest more : List ℕ)
-    → kept ++ ((line ++ 10 ∷ rest) ++ more) ≡ (kept ++ line) ++ 10 ∷ (rest ++ more)
-regroup kept line rest more =
-    ap (λ (t : List ℕ). kept ++ t) (append_assoc line (10 ∷ rest) more) ∙ sym
-    (append_assoc kept line (10 ∷ (rest ++ more)))
+-- the front of the piece, up to the end of the line
+record Longer (start : Cutting) (piece : List ℕ) (next : Lines) (after : List ℕ) : Type 0 where
+  front : List ℕ
+  is : piece ≡ front ++ after
+  ended : next.unfinished ≡ start.unfinished + count 10 front
+  kept : next.kept ≡ after_last 10 (start.kept ++ front)
+  taken : next.taken ≡ start.taken + length front
+  room : next.taken + length after ≤ most
 
-pub step_line : (now new : Cutting) (line rest more : List ℕ) (event : Option Event) → Lacks 10 line
-    → EndsLine now new line event →
-    judged now ((line ++ 10 ∷ rest) ++ more) ≡ with_event new.line event (judged new (rest ++ more))
-step_line now new line rest more event lf h =
-    let a = ap (λ (t : List ℕ). judge (lines_of t) now.names now.unfinished)
-    (regroup now.kept line rest more) in
-    let b = judged_line now.names new.names now.unfinished (now.kept ++ line) (rest ++ more) event
-    (Lacks-append 10 now.kept line h.kept_lf lf) h.read in
-    let c = with_event_line new.line now.unfinished event
-    (judge (lines_of (rest ++ more)) new.names (now.unfinished + 1)) h.answered in
-    let d : judged new (rest ++ more) ≡ judge (lines_of (rest ++ more)) new.names (now.unfinished + 1) =
-    ap (λ (k : List ℕ). judge (lines_of (k ++ (rest ++ more))) new.names new.unfinished) h.kept ∙ ap
-    (λ (m : ℕ). judge (lines_of (rest ++ more)) new.names m) h.unfinished in
-    a ∙ b ∙ c ∙ ap (λ (j : Judgement). with_event new.line event j) (sym d)
-
--- what the cut of the rest of a piece says
-record Cuts (piece : List ℕ) (used : ℕ) (line : List ℕ) : Type 0 where
-  rest : List ℕ
-  is : drop used piece ≡ line ++ 10 ∷ rest
-  lf : Lacks 10 line
-  after : drop (used + (length line + 1)) piece ≡ rest
-  upto : take (used + (length line + 1)) piece ≡ (take used piece ++ line) ++ 10 ∷ []
-  within : used + (length line + 1) ≤ length piece
-
-cuts : (piece : List ℕ) (used : ℕ) (line rest : List ℕ) → used ≤ length piece
-    → cut 10 (drop used piece) ≡ Some (line, rest) → Cuts piece used line
-cuts piece used line rest le e =
-    let P : Option (List ℕ × List ℕ) → Type 0 = λ o. IfSome o (λ q. IsCut 10 (drop used piece) q.0 q.1) in
-    let c : IsCut 10 (drop used piece) line rest = subst P e (IsCut-from 10 (drop used piece)) in
-    let len = length-append line (10 ∷ rest) in
-    let len' = ap (λ (t : List ℕ). length t) c.is in
-    let ld = length-drop used piece in
-    let lp = length-append line (10 ∷ []) in
-    let after : drop (used + (length line + 1)) piece ≡ rest =
-    sym (drop-drop (length line + 1) used piece) ∙ ap (λ (t : List ℕ). drop (length line + 1) t)
-    (c.is ∙ sym (append_assoc line (10 ∷ []) rest)) ∙ drop_at (line ++ 10 ∷ []) rest (length line + 1)
-    (omega (arith, lp)) in
-    let upto : take (used + (length line + 1)) piece ≡ (take used piece ++ line) ++ 10 ∷ [] =
-    take-add used (length line + 1) piece
-    ∙ ap (λ (t : List ℕ). take used piece ++ take (length line + 1) t) c.is
-    ∙ ap (λ (t : List ℕ). take used piece ++ t) (take-append-add line (10 ∷ rest) 1)
-    ∙ sym (append_assoc (take used piece) line (10 ∷ [])) in
+longer : (start : Cutting) (piece : List ℕ) (names : Tables) (lines next : Lines) (rest line after : List ℕ)
+    → Going start piece names lines rest → Cuts lines rest line after next → Longer start piece next after
+longer start piece names lines next rest line after g c =
+    let front = g.front ++ (c.end ++ 10 ∷ []) in
+    let first = first_cut rest c.end after (sym c.first) in
+    let whole : piece ≡ front ++ after =
+    g.is ∙ ap (λ (t : List ℕ). g.front ++ t) (first.is ∙ sym (append_assoc c.end (10 ∷ []) after))
+    ∙ sym (append_assoc g.front (c.end ++ 10 ∷ []) after) in
+    let one : count 10 (10 ∷ []) ≡ 1 = refl in
+    let counts = count-append 10 g.front (c.end ++ 10 ∷ []) in
+    let parts = count-append 10 c.end (10 ∷ []) in
+    let none = count-Lacks 10 c.end first.lacks in
+    let long = length-append g.front (c.end ++ 10 ∷ []) in
+    let end = length-append c.end (10 ∷ []) in
+    let all = ap (λ (t : List ℕ). length t) whole in
+    let both = length-append front after in
+    let was = ap (λ (t : List ℕ). length t) g.is in
+    let split = length-append g.front rest in
     record {
-      rest = rest;
-      is = c.is;
-      lf = c.lacks;
-      after = after;
-      upto = upto;
-      within = omega
-          (arith, len, len', ld, le);
+      front = front;
+      is = whole;
+      ended = omega (arith, c.unfinished, g.ended, counts, parts, none, one);
+      kept = c.kept
+          ∙ sym (ap (λ (t : List ℕ). after_last 10 t)
+          (ap (λ (t : List ℕ). start.kept ++ t) (sym (append_assoc g.front c.end (10 ∷ [])))
+          ∙ sym (append_assoc start.kept (g.front ++ c.end) (10 ∷ [])))
+          ∙ after_last-end 10 (start.kept ++ (g.front ++ c.end)));
+      taken = omega (arith, c.taken, g.taken, long, end);
+      room = omega (arith, g.room, c.taken, all, both, was, split, long, end);
     }
 
-sound_step : (start now new : Cutting) (piece : List ℕ) (used : ℕ) (line : List ℕ) (event : Option Event)
-    → Going start now piece used → Cuts piece used line → EndsLine now new line event → (more : List ℕ) →
-    judged start (piece ++ more) ≡ with_event new.line event
-    (judged new (drop (used + (length line + 1)) piece ++ more))
-sound_step start now new piece used line event g c h more =
-    g.sound more ∙ ap (λ (t : List ℕ). judged now (t ++ more)) c.is
-    ∙ step_line now new line c.rest more event c.lf h ∙ ap
-    (λ (t : List ℕ). with_event new.line event (judged new (t ++ more))) (sym c.after)
-
--- the line is one more, and nothing follows its LF
-one_line : (piece : List ℕ) (used : ℕ) (line : List ℕ) → Cuts piece used line
-    → count 10 (take (used + (length line + 1)) piece) ≡ count 10 (take used piece) + 1
-one_line piece used line c =
-    let all = ap (count 10) c.upto in
-    let parts = count-append 10 (take used piece ++ line) (10 ∷ []) in
-    let front = count-append 10 (take used piece) line in
-    let none = count-Lacks 10 line c.lf in
-    let end : count 10 (10 ∷ []) ≡ 1 = refl in
-    omega (arith, all, parts, front, none, end)
-
-none_kept : (kept piece : List ℕ) (used : ℕ) (line : List ℕ) → Cuts piece used line
-    → after_last 10 (kept ++ take (used + (length line + 1)) piece) ≡ []
-none_kept kept piece used line c =
-    ap (λ (t : List ℕ). after_last 10 (kept ++ t)) c.upto
-    ∙ ap (λ (t : List ℕ). after_last 10 t) (sym (append_assoc kept (take used piece ++ line) (10 ∷ [])))
-    ∙ after_last-end 10 (kept ++ (take used piece ++ line))
-
--- a line with no event: the loop goes on
-pub goes_on : (start now new : Cutting) (piece : List ℕ) (used : ℕ) (line rest : List ℕ)
-    → Going start now piece used → Some (line, rest) ≡ cut 10 (drop used piece)
-    → EndsLine now new line None → TablesGrow now.names new.names
-    → Going start new piece (used + (length line + 1))
-goes_on start now new piece used line rest g e h more =
-    let c = cuts piece used line rest g.within (sym e) in
+-- a line without an event: the loop goes on
+pub goes_on : (start : Cutting) (piece : List ℕ) (names later : Tables) (lines next : Lines)
+    (rest line after : List ℕ) → Going start piece names lines rest → Cuts lines rest line after next
+    → reading names (content line) ≡ Ok (None, later) → TablesGrow names later
+    → Going start piece later next after
+goes_on start piece names later lines next rest line after g c r grows =
+    let l = longer start piece names lines next rest line after g c in
     record {
-      sound = sound_step start now new piece used line None g c h;
-      within = c.within;
-      taken = omega (arith, g.taken, h.taken);
-      room = g.room;
-      lines = let more = one_line piece used line c in omega (arith, g.lines, h.unfinished, more);
-      kept = h.kept ∙ sym (none_kept start.kept piece used line c);
-      line = h.unanswered refl ∙ g.line;
-      grows = TablesGrow-trans start.names now.names new.names g.grows more;
-      live = (g.live.0, h.live);
+      sound = sound_step start piece names later lines next rest line after None g c r;
+      front = l.front;
+      is = l.is;
+      ended = l.ended;
+      kept = l.kept;
+      taken = l.taken;
+      room = l.room;
+      grows = TablesGrow-trans start.names names later g.grows grows;
     }
+
+-- and fewer bytes are left
+pub goes_down : (lines next : Lines) (rest line after : List ℕ) → Cuts lines rest line after next
+    → length after < length rest
+goes_down lines next rest line after c =
+    let first = first_cut rest c.end after (sym c.first) in
+    let all = ap (λ (t : List ℕ). length t) first.is in
+    let parts = length-append c.end (10 ∷ after) in
+    omega arith
+
+-- so many bytes were used
+used : (piece front rest : List ℕ) → piece ≡ front ++ rest
+    → (length piece - length rest ≡ length front) × (take (length front) piece ≡ front)
+    × (drop (length front) piece ≡ rest)
+used piece front rest is =
+    let all = ap (λ (t : List ℕ). length t) is in
+    let parts = length-append front rest in (
+      omega (arith, all, parts),
+      ap (λ (t : List ℕ). take (length front) t) is
+          ∙ take-append-le (length front) front rest (omega arith)
+          ∙ take_all (length front) front (omega arith),
+      ap (λ (t : List ℕ). drop (length front) t) is ∙ drop_at front rest (length front) refl,
+    )
 
 -- a line with an event: the push ends
-pub gives : (start now new : Cutting) (piece : List ℕ) (used : ℕ) (line rest : List ℕ) (event : Event)
-    → Going start now piece used → Some (line, rest) ≡ cut 10 (drop used piece)
-    → EndsLine now new line (Some event) → Pushes start new piece (used + (length line + 1)) (Some event)
-gives start now new piece used line rest event g e h =
-    let c = cuts piece used line rest g.within (sym e) in
+pub gives : (start : Cutting) (piece : List ℕ) (names later : Tables) (lines next : Lines)
+    (rest line after : List ℕ) (event : Event) → Going start piece names lines rest
+    → Cuts lines rest line after next → reading names (content line) ≡ Ok (Some event, later)
+    → start.failed ≡ None
+    → Pushes start (cutting_of later next lines.unfinished) piece (length piece - length after) (Some event)
+gives start piece names later lines next rest line after event g c r live =
+    let l = longer start piece names lines next rest line after g c in
+    let u = used piece l.front after l.is in
+    let same = λ (t : List ℕ). with_event lines.unfinished (Some event) (judged_lines later next t) in
+    let gave : Pushes start (cutting_of later next lines.unfinished) piece (length l.front) (Some event) =
     record {
-      sound = sound_step start now new piece used line (Some event) g c h;
-      used_within = c.within;
-      all_used = λ n. absurd cc;
-      up_to = h.kept;
-      lines = let more = one_line piece used line c in omega (arith, g.lines, h.unfinished, more);
-      kept = h.kept ∙ sym (none_kept start.kept piece used line c);
-      told = let at = h.answered in omega (arith, at, h.unfinished);
-      line = λ n. absurd cc;
-      taken = omega (arith, g.taken, h.taken);
-      live = (g.live.0, h.live);
-    }
+      sound = λ more. sound_step start piece names later lines next rest line after (Some event) g c r more
+          ∙ ap (λ (t : List ℕ). same (t ++ more)) (sym u.2);
+      used_within = let all = ap (λ (t : List ℕ). length t) l.is in
+          let parts = length-append l.front after in
+          omega (arith, all, parts);
+      all_used = λ none. absurd cc;
+      up_to = c.kept;
+      lines = l.ended ∙ ap (λ (t : List ℕ). start.unfinished + count 10 t) (sym u.1);
+      kept = l.kept ∙ ap (λ (t : List ℕ). after_last 10 (start.kept ++ t)) (sym u.1);
+      taken = l.taken;
+      told = omega (arith, c.unfinished);
+      line = λ none. absurd cc;
+      live = (live, refl);
+    } in
+    subst (λ (n : ℕ). Pushes start (cutting_of later next lines.unfinished) piece n (Some event)) (sym u.0) gave
 
--- room for the line
-pub line_room : (start now : Cutting) (piece : List ℕ) (used : ℕ) (line rest : List ℕ)
-    → Going start now piece used → Some (line, rest) ≡ cut 10 (drop used piece)
-    → now.taken + length line < most
-line_room start now piece used line rest g e =
-    let c = cuts piece used line rest g.within (sym e) in
-    let w = c.within in
-    omega (arith, g.taken, g.room, w)
-
-pub line_lf : (piece : List ℕ) (used : ℕ) (line rest : List ℕ) → used ≤ length piece
-    → Some (line, rest) ≡ cut 10 (drop used piece)
-    → Lacks 10 line × (used + (length line + 1) ≤ length piece)
-line_lf piece used line rest le e = let c = cuts piece used line rest le (sym e) in (c.lf, c.within)
-
--- the rest is kept
-pub keeps : (start now new : Cutting) (piece : List ℕ) (used : ℕ) → Going start now piece used
-    → Keeps now new (drop used piece) → Pushes start new piece (length piece) None
-keeps start now new piece used g h =
-    let rest = drop used piece in
-    let lf = h.unended in
-    let ld = length-drop used piece in
-    let whole : take (length piece) piece ≡ take used piece ++ rest =
-    take_all (length piece) piece (omega arith) ∙ sym (take-append-drop used piece) in
+-- no line ends: the push ends
+pub keeps : (start : Cutting) (piece : List ℕ) (names : Tables) (lines next : Lines) (rest : List ℕ)
+    → Going start piece names lines rest → Keeps lines rest next → start.failed ≡ None
+    → Pushes start (cutting_of names next start.line) piece (length piece) None
+keeps start piece names lines next rest g k live =
+    let none : drop (length piece) piece ≡ [] = drop_all (length piece) piece (omega arith) in
+    let all : take (length piece) piece ≡ g.front ++ rest =
+    take_all (length piece) piece (omega arith) ∙ g.is in
+    let counts = count-append 10 g.front rest in
+    let lf = count-Lacks 10 rest k.unended in
+    let whole = ap (λ (t : List ℕ). length t) g.is in
+    let parts = length-append g.front rest in
     record {
-      sound = λ more.
-          let none : drop (length piece) piece ≡ [] = drop_all (length piece) piece (omega arith) in
-          let same : judged new more ≡ judged now (rest ++ more) =
-          ap (λ (k : List ℕ). judge (lines_of (k ++ more)) new.names new.unfinished) h.kept
-          ∙ ap (λ (t : List ℕ). judge (lines_of t) new.names new.unfinished)
-          (append_assoc now.kept rest more)
-          ∙ ap (λ (t : Tables). judge (lines_of (now.kept ++ (rest ++ more))) t new.unfinished) h.names
-          ∙ ap (λ (m : ℕ). judge (lines_of (now.kept ++ (rest ++ more))) now.names m) h.unfinished in
-          g.sound more ∙ sym same ∙ ap (λ (t : List ℕ). judged new (t ++ more)) (sym none);
+      sound = λ more. g.sound more
+          ∙ ap (λ (n : ℕ). judge (to_come lines (rest ++ more)) names n) (sym k.unfinished)
+          ∙ ap (λ (t : List ℕ). judge (lines_of t) names next.unfinished)
+          (sym (append_assoc lines.kept rest more))
+          ∙ ap (λ (t : List ℕ). judge (lines_of (t ++ more)) names next.unfinished) (sym k.kept)
+          ∙ ap (λ (t : List ℕ). judged_lines names next (t ++ more)) (sym none);
       used_within = omega arith;
       all_used = λ _. refl;
       up_to = tt;
-      lines = let all = ap (count 10) whole in
-          let parts = count-append 10 (take used piece) rest in
-          let none = count-Lacks 10 rest lf in
-          omega (arith, g.lines, h.unfinished, all, parts, none);
-      kept = h.kept ∙ ap (λ (k : List ℕ). k ++ rest) g.kept
-          ∙ sym (after_last-more 10 (start.kept ++ take used piece) rest lf)
-          ∙ ap (λ (t : List ℕ). after_last 10 t) (append_assoc start.kept (take used piece) rest)
-          ∙ ap (λ (t : List ℕ). after_last 10 (start.kept ++ t)) (sym whole);
+      lines = let same = ap (λ (t : List ℕ). count 10 t) all in
+          omega (arith, k.unfinished, g.ended, counts, lf, same);
+      kept = k.kept ∙ ap (λ (t : List ℕ). t ++ rest) g.kept
+          ∙ sym (after_last-more 10 (start.kept ++ g.front) rest k.unended)
+          ∙ ap (λ (t : List ℕ). after_last 10 t) (append_assoc start.kept g.front rest)
+          ∙ ap (λ (t : List ℕ). after_last 10 (start.kept ++ t)) (sym all);
+      taken = omega (arith, k.taken, g.taken, whole, parts);
       told = tt;
-      line = λ _. h.line ∙ g.line;
-      taken = omega (arith, g.taken, h.taken, ld, g.within);
-      live = (g.live.0, h.live);
+      line = λ _. refl;
+      live = (live, refl);
     }
 
 -- ---- faults
@@ -380,122 +281,24 @@ begins_here s more n names is h = record {
   grows = h;
 }
 
--- the lines of the piece before the one that failed were judged
-pub judged_up_to : (start now : Cutting) (piece : List ℕ) (used n : ℕ) (names : Tables)
-    → Going start now piece used → n ≡ now.unfinished → TablesGrow now.names names
-    → JudgedUpTo start piece n names
-judged_up_to start now piece used n names g is h more =
-    subst (λ (j : Judgement). BeginsAt n names j) (sym (g.sound more))
-    (begins_here now (drop used piece ++ more) n names is h)
+-- where the next line has the cause, the text stops there
+stops : (start : Cutting) (piece : List ℕ) (names : Tables) (lines : Lines) (rest line : List ℕ)
+    (others : List (List ℕ)) (k : Cause) (more : List ℕ) → Going start piece names lines rest
+    → to_come lines (rest ++ more) ≡ line ∷ others → reading names (content line) ≡ Err k
+    → ((judged start (piece ++ more)).events ≡ [])
+    × ((judged start (piece ++ more)).fault ≡ Some (lines.unfinished, k))
+stops start piece names lines rest line others k more g law r =
+    let stop : judged start (piece ++ more) ≡ stopped names lines.unfinished k =
+    g.sound more ∙ line_judged names lines rest line others more (Err k) law r in
+    (ap (λ (j : Judgement). j.events) stop, ap (λ (j : Judgement). j.fault) stop)
 
--- where the first line of what is left has a cause, the text stops there
-stops_by : (s : Cutting) (t : List ℕ) (f : TextFault) (l : List ℕ) (ls : List (List ℕ))
-    → lines_of (s.kept ++ t) ≡ l ∷ ls → f.line ≡ s.unfinished → reading s.names (content l) ≡ Err f.cause →
-    ((judged s t).events ≡ []) × ((judged s t).fault ≡ Some (f.line, f.cause))
-stops_by s t f l ls e n r =
-    let j : judged s t ≡ stopped s.names s.unfinished f.cause =
-    ap (λ (x : List (List ℕ)). judge x s.names s.unfinished) e ∙ ap
-    (λ (x : Result (Option Event × Tables) Cause). after_line s.names s.unfinished x
-    (λ v. judge ls v (s.unfinished + 1))) r in (
-      ap (λ (x : Judgement). x.events) j,
-      ap (λ (x : Judgement). x.fault) j ∙ ap
-          (λ (m : ℕ). let o : Option (ℕ × Cause) = Some (m, f.cause) in o) (sym n),
-    )
-
--- the fault of a line
-line_stops : (start now : Cutting) (piece : List ℕ) (used : ℕ) (line : List ℕ) (f : TextFault)
-    → Going start now piece used → Cuts piece used line → LineFails now line f
-    → reading now.names (content (now.kept ++ line)) ≡ Err f.cause → Stops start piece f
-line_stops start now piece used line f g c h r more =
-    let here : judged start (piece ++ more) ≡ judged now ((line ++ 10 ∷ c.rest) ++ more) = g.sound more ∙ ap
-    (λ (t : List ℕ). judged now (t ++ more)) c.is in
-    let lines = ap (λ (t : List ℕ). lines_of t) (regroup now.kept line c.rest more) ∙ lines_of_line
-    (now.kept ++ line) (c.rest ++ more) (Lacks-append 10 now.kept line h.kept_lf c.lf) in
-    let both = stops_by now ((line ++ 10 ∷ c.rest) ++ more) f (now.kept ++ line)
-    (lines_of (c.rest ++ more)) lines h.at r in
-    (ap (λ (j : Judgement). j.events) here ∙ both.0, ap (λ (j : Judgement). j.fault) here ∙ both.1)
-
-line_cases : (start now : Cutting) (piece : List ℕ) (used : ℕ) (line : List ℕ) (f : TextFault) (k : Cause)
-    → f.cause ≡ k → Going start now piece used → Cuts piece used line → LineFails now line f
-    → Fails k (reading now.names (content (now.kept ++ line))) → FailsAt start piece f k
-line_cases start now piece used line f causes.OutOfMemory is g c h r = tt
-line_cases start now piece used line f (causes.Line x) is g c h r =
-    line_stops start now piece used line f g c h (r ∙ ap
-    (λ (y : Cause). let o : Result (Option Event × Tables) Cause = Err y in o) (sym is))
-line_cases start now piece used line f (causes.TooManyNames x) is g c h r =
-    line_stops start now piece used line f g c h (r ∙ ap
-    (λ (y : Cause). let o : Result (Option Event × Tables) Cause = Err y in o) (sym is))
-line_cases start now piece used line f causes.Read is g c h r = absurd r
-line_cases start now piece used line f causes.Failed is g c h r = absurd r
-
-pub line_fails : (start now : Cutting) (piece : List ℕ) (used : ℕ) (line rest : List ℕ) (f : TextFault)
-    → Going start now piece used → Some (line, rest) ≡ cut 10 (drop used piece) → LineFails now line f
-    → FailsAt start piece f f.cause
-line_fails start now piece used line rest f g e h = line_cases start now piece used line f f.cause refl g
-    (cuts piece used line rest g.within (sym e)) h h.cause
-
--- the fault of a rest that is too long
-long_stops : (start now : Cutting) (piece : List ℕ) (used : ℕ) (f : TextFault) (bytes : List ℕ)
-    → bytes ≡ now.kept ++ drop used piece → Going start now piece used → Lacks 10 bytes
-    → f.line ≡ now.unfinished → f.cause ≡ causes.Line LineTooLong → 1025 < length bytes
-    → Stops start piece f
-long_stops start now piece used f [] is g lf n k h more = absurd (omega arith)
-long_stops start now piece used f (x ∷ a) is g lf n k h more =
-    let b = begins x a more lf in
-    let text : now.kept ++ (drop used piece ++ more) ≡ (x ∷ a) ++ more = sym
-    (append_assoc now.kept (drop used piece) more) ∙ ap (λ (t : List ℕ). t ++ more) (sym is) in
-    let len = length-append (x ∷ a) b.first in
-    let r : reading now.names (content ((x ∷ a) ++ b.first)) ≡ Err f.cause = reading_long now.names
-    ((x ∷ a) ++ b.first) (omega (arith, len)) ∙ ap
-    (λ (y : Cause). let o : Result (Option Event × Tables) Cause = Err y in o) (sym k) in
-    let both = stops_by now (drop used piece ++ more) f ((x ∷ a) ++ b.first) b.rest
-    (ap (λ (t : List ℕ). lines_of t) text ∙ b.is) n r in (
-      ap (λ (j : Judgement). j.events) (g.sound more) ∙ both.0,
-      ap (λ (j : Judgement). j.fault)
-          (g.sound more) ∙ both.1,
-    )
-
-pub rest_fails : (start now : Cutting) (piece : List ℕ) (used : ℕ) (f : TextFault)
-    → Going start now piece used → Lacks 10 (drop used piece) → RestFails now (drop used piece) f
-    → FailsAt start piece f f.cause
-rest_fails start now piece used f g lf h =
-    elim h.cause [
-      | inl memory ↦ subst (λ (k : Cause). FailsAt start piece f k) (sym memory) tt
-      | inr long ↦ subst (λ (k : Cause). FailsAt start piece f k) (sym long.0)
-          (long_stops start now piece used f (now.kept ++ drop used piece) refl g
-          (Lacks-append 10 now.kept (drop used piece) h.kept_lf lf) h.at long.0 long.1)
-    ]
-
--- ---- the end
-
-whole_kept : (kept : List ℕ) → Lacks 10 kept → 0 < length kept → lines_of (kept ++ []) ≡ kept ∷ []
-whole_kept [] lf h = absurd (omega arith)
-whole_kept (x ∷ a) lf h = ap (λ (t : List ℕ). lines_of t) (append-nil (x ∷ a)) ∙ lines_of_rest x a lf
-
-pub closes : (old new : Cutting) (event : Option Event) → Lacks 10 old.kept → 0 < length old.kept
-    → reading old.names (content old.kept) ≡ Ok (event, new.names)
-    → IfSome event (λ _. new.line ≡ old.unfinished)
-    → judged old [] ≡ with_event new.line event (ended new.names)
-closes old new event lf h r n =
-    ap (λ (x : List (List ℕ)). judge x old.names old.unfinished) (whole_kept old.kept lf h)
-    ∙ ap (λ (x : Result (Option Event × Tables) Cause). after_line old.names old.unfinished x
-    (λ v. ended v)) r
-    ∙ with_event_line new.line old.unfinished event (ended new.names) n
-
-closed_by : (old : Cutting) (f : TextFault) → Lacks 10 old.kept → 0 < length old.kept
-    → f.line ≡ old.unfinished → reading old.names (content old.kept) ≡ Err f.cause → Closed old f
-closed_by old f lf h n r = stops_by old [] f old.kept [] (whole_kept old.kept lf h) n r
-
-pub closes_at : (old : Cutting) (f : TextFault) (k : Cause) → f.cause ≡ k → Lacks 10 old.kept
-    → 0 < length old.kept → f.line ≡ old.unfinished → Fails k (reading old.names (content old.kept))
-    → ClosesAt old f k
-closes_at old f causes.OutOfMemory is lf h n r = tt
-closes_at old f (causes.Line x) is lf h n r = closed_by old f lf h n
-    (r ∙ ap (λ (y : Cause). let o : Result (Option Event × Tables) Cause = Err y in o) (sym is))
-closes_at old f (causes.TooManyNames x) is lf h n r = closed_by old f lf h n
-    (r ∙ ap (λ (y : Cause). let o : Result (Option Event × Tables) Cause = Err y in o) (sym is))
-closes_at old f causes.Read is lf h n r = absurd r
-closes_at old f causes.Failed is lf h n r = absurd r
-
-pub filled : (n : ℕ) (b : Bool) → b ≡ (n == 0) → b ≡ false → 0 < n
-filled n b e h = let ne : n ≡ 0 → ⊥ = eqb-false n 0 (sym e ∙ h) in omega arith
+-- the fault of a line that is too long
+pub long_at : (start : Cutting) (piece : List ℕ) (names : Tables) (lines : Lines) (rest : List ℕ) (n : ℕ)
+    → n ≡ lines.unfinished → Going start piece names lines rest → IsTooLong lines rest
+    → Stops start piece (record { line = n; cause = causes.Line LineTooLong })
+long_at start piece names lines rest n at g long more =
+    let next = long.law more in
+    let both = stops start piece names lines rest next.0 next.1 (causes.Line LineTooLong) more g next.2
+    (reading_long names next.0 next.3) in
+    let told : ℕ → Option (ℕ × Cause) = λ m. Some (m, causes.Line LineTooLong) in
+    (both.0, both.1 ∙ ap told (sym at))

@@ -1,32 +1,14 @@
 -- A text in pieces: what a cutter holds, and what a push and the end of the text do to it.
-use Rattle.std.specs.Prelude.{
-  ◌≡◌,
-  ℕ,
-  ◌+◌,
-  ◌≤◌,
-  ◌<◌,
-  List,
-  [],
-  ◌++◌,
-  length,
-  take,
-  drop,
-  Option,
-  Some,
-  None,
-  Ok,
-  ◌⊎◌,
-  IfSome,
-}
+use Rattle.std.specs.Prelude.{◌≡◌, ℕ, ◌+◌, ◌≤◌, ◌<◌, List, [], ◌++◌, length, take, drop, Option, Some, None, IfSome}
 use Rattle.event_core.specs.declared.events.Event.{Event}
 use Rattle.event_core.specs.Bounds.{Bounds}
-use Rattle.rapid_line.specs.declared.words.LineFault.TheVariants.{LineTooLong}
 use Rattle.rapid_text.specs.declared.causes.Cause.{Cause}
 use Rattle.rapid_text.specs.declared.causes.Cause.TheVariants as causes
 use Rattle.rapid_text.specs.declared.causes.TextFault.{TextFault}
-use Rattle.rapid_line.specs.Cut.{count, Lacks, after_last}
+use Rattle.rapid_line.specs.Cut.{count, after_last}
+-- the most bytes that a cutter takes, 2 ^ 60
+pub use Rattle.rapid_line.specs.Lines.{most}
 use Rattle.rapid_text.specs.Tables.{Tables, no_names}
-use Rattle.rapid_text.specs.Events.{content, reading, Fails}
 use Rattle.rapid_text.specs.Texts.{Judgement, judge, lines_of, with_event, ended, BeginsAt}
 
 -- what a cutter holds: the names, the last answer's line, the number and the bytes of the line whose end was
@@ -46,10 +28,6 @@ begun l = record { names = no_names l; line = 0; unfinished = 1; kept = []; take
 -- the text still to be judged is what is kept, followed by what is still to come
 abbrev pub judged : Cutting → List ℕ → Judgement
 judged s more = judge (lines_of (s.kept ++ more)) s.names s.unfinished
-
--- the most bytes that a cutter takes, 2 ^ 60
-abbrev pub most : ℕ
-most = 1152921504606846976
 
 -- a push that took the bytes and gave the event, if there was one
 pub record Pushes (old new : Cutting) (piece : List ℕ) (used : ℕ) (event : Option Event) : Type 0 where
@@ -111,42 +89,3 @@ ClosesAt s f (causes.TooManyNames k) = Closed s f
 -- the answer after a fault
 abbrev pub failed_at : ℕ → TextFault
 failed_at n = record { line = n; cause = causes.Failed }
-
--- ---- the steps of a push
-
--- too long, unless memory ran out
-abbrev pub TooLongOrMemory : Cause → List ℕ → Type 0
-TooLongOrMemory f bytes = (f ≡ causes.OutOfMemory) ⊎ ((f ≡ causes.Line LineTooLong) × (1025 < length bytes))
-
--- a line that ended was read
-pub record EndsLine (old new : Cutting) (line : List ℕ) (event : Option Event) : Type 0 where
-  pub read : reading old.names (content (old.kept ++ line)) ≡ Ok (event, new.names)
-  pub kept_lf : Lacks 10 old.kept
-  pub kept : new.kept ≡ []
-  pub unfinished : new.unfinished ≡ old.unfinished + 1
-  pub answered : IfSome event (λ _. new.line ≡ old.unfinished)
-  pub unanswered : event ≡ None → new.line ≡ old.line
-  pub taken : new.taken ≡ old.taken + length line + 1
-  pub live : new.failed ≡ None
-
--- a line that ended has a fault
-pub record LineFails (old : Cutting) (line : List ℕ) (f : TextFault) : Type 0 where
-  pub at : f.line ≡ old.unfinished
-  pub kept_lf : Lacks 10 old.kept
-  pub cause : Fails f.cause (reading old.names (content (old.kept ++ line)))
-
--- bytes were kept
-pub record Keeps (old new : Cutting) (bytes : List ℕ) : Type 0 where
-  pub unended : Lacks 10 bytes
-  pub kept : new.kept ≡ old.kept ++ bytes
-  pub names : new.names ≡ old.names
-  pub line : new.line ≡ old.line
-  pub unfinished : new.unfinished ≡ old.unfinished
-  pub taken : new.taken ≡ old.taken + length bytes
-  pub live : new.failed ≡ None
-
--- bytes could not be kept
-pub record RestFails (old : Cutting) (bytes : List ℕ) (f : TextFault) : Type 0 where
-  pub at : f.line ≡ old.unfinished
-  pub kept_lf : Lacks 10 old.kept
-  pub cause : TooLongOrMemory f.cause (old.kept ++ bytes)

@@ -10,3 +10,4 @@ pub mod Turns
 pub mod Pushing
 pub mod Pulling
 pub mod Reading
+pub mod Feeding

@@ -1,56 +1,37 @@
-//! A text in any pieces, cut into lines.
+//! A text, which comes in pieces, read as events.
 //!
-//! A line that lies whole in a piece is judged in place, and of a line whose end was not seen no more is kept
-//! than can still be a line. So memory does not grow with the text but for new names.
+//! It is cut into lines, and each is judged where it lies. So memory does not grow with the text but for new
+//! names.
 //!
 //! The way of a line that lies whole in a piece is inlined from here to its event, since an answer that is
 //! handed up through memory costs more than the judgement. What is rare stands in functions of its own.
-ghost use Rattle.std.specs.Prelude.{◌≡◌, ℕ, ◌+◌, ◌<◌, ◌≤◌, length, IfOk, IfErr, OnOk, Ok, None, Some};
-ghost use Rattle.std.specs.Prelude.{[], IfSome};
+ghost use Rattle.std.specs.Prelude.{◌≡◌, ℕ, ◌+◌, ◌<◌, ◌≤◌, length, IfOk, IfErr, OnOk, Ok, None, Some, IsOk};
+ghost use Rattle.std.specs.Prelude.{[], IfSome, unwrap_or};
 ghost use Rattle.std.specs.Result.{IsErrOf};
 ghost use Rattle.rapid_line.specs.Cut.{Lacks};
-ghost use Rattle.rapid_line.specs.Marks.{IsKnown};
+ghost use Rattle.rapid_line.specs.Lines.{IsKnownCut, text_of};
 ghost use Rattle.rapid_text.specs.Tables.{TablesGrow};
 ghost use Rattle.rapid_text.specs.Events.{IsOfNames};
 ghost use Rattle.rapid_text.specs.Cutting.{Cutting, most, begun, Pushes, FailsAt, Closes, ClosesAt};
-ghost use Rattle.rapid_text.specs.Cutting.{failed_at, judged, JudgedUpTo, EndsLine, LineFails, Keeps};
-ghost use Rattle.rapid_text.specs.Cutting.{RestFails};
+ghost use Rattle.rapid_text.specs.Cutting.{failed_at, judged, JudgedUpTo};
 ghost use Rattle.rapid_text.specs.Texts.{BeginsAt};
 ghost use Rattle.rapid_text.specs.declared.causes.Cause.TheVariants.{Read};
 
 use crate::causes::{Cause, TextFault};
 use crate::event_lines::line_event;
-use crate::kept_lines::{MOST_KEPT, cut_line, keep, unmarked, whole_line};
 use crate::names::Names;
 use event_core::{Event, Limits, OutOfMemory};
-use rapid_line::Line;
+use rapid_line::{CutLine, LineCutter, LineFault, LineTooLong};
 use std::alloc::Global;
 use std::marker::Model;
 
-/// The most bytes that a cutter takes, 2 to the 60th, so that no number of a line or of bytes overflows.
-const MOST_BYTES: u64 = 1152921504606846976;
-
-/// The line of the last answer.
-#[inline(always)]
-fn line_told(event: &Option<Event>, now: u64, before: u64) -> u64
-    ensures some { IfSome event.now (λ _. result ≡ now) }
-    ensures none { event.now ≡ None → result ≡ before }
-{
-    if event.is_some() { now } else { before }
-}
-
-/// Cuts a text, which comes in pieces, into lines, and tells the event of each.
+/// Gives the events of a text, which comes in pieces.
 #[derive(Drop)]
 pub struct Cutter {
     names: Names,
-    /// The bytes of the line whose end was not seen.
-    kept: Vec<u8>,
+    lines: LineCutter,
     /// The line of the last answer.
     line: u64,
-    /// The number of the line whose end was not seen.
-    unfinished: u64,
-    /// How many bytes came.
-    taken: u64,
     /// The line of the first fault.
     failed: Option<u64>,
 }
@@ -61,100 +42,40 @@ impl Model for Cutter {
     ghost view = { λ s. record {
       names = s.names;
       line = s.line;
-      unfinished = s.unfinished;
-      kept = s.kept.items;
-      taken = s.taken;
+      unfinished = unwrap_or s.failed s.lines.unfinished;
+      kept = s.lines.kept;
+      taken = s.lines.taken;
       failed = s.failed;
     } };
 
-    ghost invariant = { λ s. Lacks 10 s.kept.items × (length s.kept.items ≤ 1025) × (s.taken ≤ most) ×
-        (s.unfinished + length s.kept.items ≤ s.taken + 1) × ((n : ℕ) → s.failed ≡ Some n → s.line ≡ n) ×
-        ((n : ℕ) → s.failed ≡ Some n → s.unfinished ≡ n) };
+    ghost invariant = { λ s. Lacks 10 s.lines.kept × (length s.lines.kept ≤ 1025)
+        × ((n : ℕ) → s.failed ≡ Some n → s.line ≡ n) };
+}
+
+/// The fault, at whose line a cutter fails from now on.
+#[inline(never)]
+fn fail(told: &mut u64, failed: &mut Option<u64>, line: u64, cause: Cause) -> TextFault
+    ensures fault { result ≡ record { line = line; cause = cause } }
+    ensures told { told.new ≡ line }
+    ensures failed { failed.new ≡ Some line }
+{
+    *told = line;
+    *failed = Some(line);
+    TextFault { line, cause }
 }
 
 impl Cutter {
-    /// A cutter before the first byte of a text. The memory for an unfinished line is taken here.
+    /// A cutter before the first byte of a text. It takes no memory, and so succeeds.
     pub fn new(alloc: Global, limits: Limits) -> Result<Cutter, OutOfMemory>
-        ensures { IfOk result (λ s. s ≡ begun limits) }
+        ensures succeeds { IsOk result }
+        ensures begun { IfOk result (λ s. s ≡ begun limits) }
     {
-        let Ok(kept) = Vec::with_capacity(alloc, MOST_KEPT) else {
-            return Err(OutOfMemory);
-        };
         Ok(Cutter {
             names: Names::new(alloc, limits),
-            kept,
+            lines: LineCutter::new(),
             line: 0,
-            unfinished: 1,
-            taken: 0,
             failed: None,
         })
-    }
-
-    /// Fails from now on.
-    #[inline(never)]
-    fn fail(&mut self, cause: Cause) -> TextFault
-        ensures fault { result ≡ record { line = self.old.unfinished; cause = cause } }
-        ensures failed { self.new ≡
-            record self.old { line = self.old.unfinished; failed = Some self.old.unfinished } }
-        ensures kept { length self.new.kept ≤ 1025 }
-        ensures unfinished { Lacks 10 self.new.kept }
-    {
-        self.line = self.unfinished;
-        self.failed = Some(self.unfinished);
-        TextFault {
-            line: self.unfinished,
-            cause,
-        }
-    }
-
-    /// Judges the line that ends with these bytes, and an LF.
-    #[inline(always)]
-    fn end_line(&mut self, line: Line<'_>) -> Result<Option<Event>, TextFault>
-        requires lf { Lacks 10 line.bytes.now }
-        requires known { IsKnown line }
-        requires room { self.old.taken + length line.bytes.now < most }
-        requires live { self.old.failed ≡ None }
-        ensures ok { IfOk result (EndsLine self.old self.new line.entry.bytes.now) }
-        ensures grows { TablesGrow self.old.names self.new.names }
-        ensures named { IfOk result (λ e. IfSome e (IsOfNames self.new.names)) }
-        ensures fault { IfErr result (LineFails self.old line.entry.bytes.now) }
-        ensures failed { IfErr result (λ f. self.new.failed ≡ Some f.line) }
-        ensures line { IfErr result (λ f. self.new.line ≡ f.line) }
-        ensures kept { length self.new.kept ≤ 1025 }
-        ensures unfinished { Lacks 10 self.new.kept }
-    {
-        match whole_line(&mut self.names, &mut self.kept, line) {
-            Ok(event) => {
-                self.line = line_told(&event, self.unfinished, self.line);
-                self.unfinished += 1;
-                self.taken += line.bytes.len() as u64 + 1;
-                Ok(event)
-            }
-            Err(cause) => Err(self.fail(cause)),
-        }
-    }
-
-    /// Keeps the bytes, in which no line ends.
-    #[inline(never)]
-    fn keep_rest(&mut self, bytes: &[u8]) -> Result<(), TextFault>
-        requires lf { Lacks 10 bytes.now }
-        requires room { self.old.taken + length bytes.now ≤ most }
-        requires live { self.old.failed ≡ None }
-        ensures ok { OnOk result (Keeps self.old self.new bytes.now) }
-        ensures grows { TablesGrow self.old.names self.new.names }
-        ensures fault { IfErr result (RestFails self.old bytes.now) }
-        ensures failed { IfErr result (λ f. self.new.failed ≡ Some f.line) }
-        ensures line { IfErr result (λ f. self.new.line ≡ f.line) }
-        ensures kept { length self.new.kept ≤ 1025 }
-        ensures unfinished { Lacks 10 self.new.kept }
-    {
-        match keep(&mut self.kept, bytes) {
-            Ok(()) => {
-                self.taken += bytes.len() as u64;
-                Ok(())
-            }
-            Err(cause) => Err(self.fail(cause)),
-        }
     }
 
     /// Takes bytes up to the end of the first line with an event, or all of them where no line with an event
@@ -185,18 +106,40 @@ impl Cutter {
                 cause: Cause::Failed,
             });
         }
-        if piece.len() as u64 > MOST_BYTES - self.taken {
-            return Err(self.fail(Cause::Read));
+        if !self.lines.has_room(piece) {
+            let line = self.lines.unfinished();
+            return Err(fail(&mut self.line, &mut self.failed, line, Cause::Read));
         }
-        let mut used = 0;
-        'lines: while let Some((line, _)) = cut_line(&piece[used..]) {
-            used += line.bytes.len() + 1;
-            if let Some(event) = self.end_line(line)? {
-                return Ok((used, Some(event)));
+        let mut rest = piece;
+        'lines: loop {
+            let (line, after) = match self.lines.next_line(rest) {
+                Ok(Some(cut)) => cut,
+                Ok(None) => return Ok((piece.len(), None)),
+                Err(LineTooLong) => {
+                    let line = self.lines.unfinished();
+                    return Err(fail(
+                        &mut self.line,
+                        &mut self.failed,
+                        line,
+                        Cause::Line(LineFault::LineTooLong),
+                    ));
+                }
+            };
+            rest = after;
+            match line_event(&mut self.names, self.lines.line(line)) {
+                Ok(None) => {}
+                Ok(Some(event)) => {
+                    self.line = line.number;
+                    return Ok((piece.len() - rest.len(), Some(event)));
+                }
+                Err(cause) => return Err(fail(
+                    &mut self.line,
+                    &mut self.failed,
+                    line.number,
+                    cause,
+                )),
             }
         }
-        self.keep_rest(&piece[used..])?;
-        Ok((piece.len(), None))
     }
 
     /// Judges what is left, as the last line.
@@ -219,17 +162,16 @@ impl Cutter {
                 cause: Cause::Failed,
             });
         }
-        if self.kept.is_empty() {
+        let Some(line) = self.lines.last_line() else {
             return Ok(None);
-        }
-        match line_event(&mut self.names, unmarked(self.kept.as_slice())) {
-            Ok(event) => {
-                self.line = line_told(&event, self.unfinished, self.line);
-                self.unfinished += 1;
-                self.kept.clear();
-                Ok(event)
+        };
+        match line_event(&mut self.names, self.lines.line(line)) {
+            Ok(None) => Ok(None),
+            Ok(Some(event)) => {
+                self.line = line.number;
+                Ok(Some(event))
             }
-            Err(cause) => Err(self.fail(cause)),
+            Err(cause) => Err(fail(&mut self.line, &mut self.failed, line.number, cause)),
         }
     }
 
@@ -247,7 +189,8 @@ impl Cutter {
                 cause: Cause::Failed,
             };
         }
-        self.fail(Cause::Read)
+        let line = self.lines.unfinished();
+        fail(&mut self.line, &mut self.failed, line, Cause::Read)
     }
 
     /// The line of the first fault.
@@ -271,7 +214,10 @@ impl Cutter {
     pub fn unfinished(&self) -> u64
         ensures { result ≡ self.now.unfinished }
     {
-        self.unfinished
+        if let Some(line) = self.failed {
+            return line;
+        }
+        self.lines.unfinished()
     }
 
     /// The names so far.

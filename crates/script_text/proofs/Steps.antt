@@ -6,7 +6,8 @@ use Rattle.std.specs.Prelude.{Result, OnOk, IfErr}
 use Rattle.rapid_line.specs.Cut.{Lacks, content}
 use Rattle.rapid_line.proofs.Cuts.{Lacks-append}
 use Rattle.rapid_text.specs.Texts.{lines_of}
-use Rattle.rapid_text.proofs.Pieces.{lines_of_line, lines_of_rest, begins, content_long}
+use Rattle.rapid_line.proofs.LineLaws.{lines_of_line, lines_of_rest, begins}
+use Rattle.rapid_text.proofs.LongLines.{content_long}
 use Rattle.script_text.specs.declared.causes.ScriptCause.{ScriptCause}
 use Rattle.script_text.specs.declared.causes.ScriptCause.TheVariants as causes
 use Rattle.script_text.specs.declared.causes.ScriptFault.{ScriptFault}

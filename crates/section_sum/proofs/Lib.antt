@@ -8,3 +8,7 @@ mod Says
 mod Passing
 mod Sayings
 mod Meaning
+mod OpenAccesses
+mod ClosedAccesses
+mod Steps
+mod PairedSections

@@ -117,13 +117,13 @@ closed_says : (th number : ℕ) (s : Side) (t : ℕ) → others_at (closed_side 
     ≡ cond (not (nat_eq t th) && s.noted) number (others_at s.newest t)
 closed_says th number s t = by s.noted
   where
-    turn : (b : Bool) (x y : ℕ) → cond b x y ≡ cond (not b && true) y x
-    turn true x y = refl
-    turn false x y = refl
+    effect : (b : Bool) (x y : ℕ) → cond b x y ≡ cond (not b && true) y x
+    effect true x y = refl
+    effect false x y = refl
 
     by : (b : Bool) → others_at (cond b (closed_two th number s.newest) s.newest) t
         ≡ cond (not (nat_eq t th) && b) number (others_at s.newest t)
-    by true = two th number s.newest t ∙ turn (nat_eq t th) _ _
+    by true = two th number s.newest t ∙ effect (nat_eq t th) _ _
     by false = ap (λ b. cond b number (others_at s.newest t)) (sym (and_false (not (nat_eq t th))))
 
 -- the open section is the thread's

@@ -6,3 +6,6 @@ pub mod Entries
 pub mod Sums
 pub mod Locks
 pub mod Sources
+pub mod Standing
+pub mod Paired
+pub mod Laws

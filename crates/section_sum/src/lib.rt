@@ -12,13 +12,14 @@
 //! What is known of it, as the clock of its release, is kept once for all summaries that name it, and not
 //! here. So a variable has a cell of one size under each lock, whatever the number of threads.
 //!
-//! Contracts speak of numbers alone and of no log: which open section has which access (`noted_of`), the
-//! newest of the other threads' closed sections (`others_of`, 0 where there is none), and where there is
-//! room (`room_of`).
+//! Contracts speak of numbers: which open section has which access (`noted_of`), the newest of the other
+//! threads' closed sections (`others_of`, 0 where there is none), and where there is room (`room_of`). And
+//! they say what the numbers mean for a log (`Stands`), which each call keeps: no log is stored.
 #![tactic(auto)]
 
 mod cell;
 mod cells;
+pub mod laws;
 mod lock;
 mod locks;
 mod newest;

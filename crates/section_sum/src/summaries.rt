@@ -1,10 +1,18 @@
 //! The summaries of all locks.
-ghost use Rattle.std.specs.Prelude.{◌≡◌, ℕ, ◌≤◌, ◌↔◌, ◌||◌, ◌&&◌, length, nat_eq, cond};
+ghost use Rattle.std.specs.Prelude.{◌≡◌, ℕ, ◌+◌, ◌<◌, ◌≤◌, ◌↔◌, ◌||◌, ◌&&◌, List, [], ◌∷◌, ◌++◌, length};
+ghost use Rattle.std.specs.Prelude.{nat_eq, cond};
 ghost use Rattle.std.specs.Prelude.{not, false, OnOk, OnErr, IsTrue};
 ghost use Rattle.event_core.specs.declared.events.AccessKind.{AccessKind as Kind};
+ghost use Rattle.event_core.specs.declared.events.Event.{Event};
+ghost use Rattle.event_core.specs.declared.bounds.Limits.{Limits};
+ghost use Rattle.event_core.specs.Log.{depth};
+ghost use Rattle.event_core.specs.Refusal.{WellFormed};
+ghost use Rattle.event_core.specs.Closed.{EndsSection, ended};
 ghost use Rattle.section_sum.specs.Sums.{noted_of, others_of, sources_of, is_access, HasRoom};
 ghost use Rattle.section_sum.specs.Sums.{IsAlone, SameNoted, SameOthers, KeepsRoom};
 ghost use Rattle.section_sum.specs.Sources.{left, most_sources};
+ghost use Rattle.section_sum.specs.Standing.{Stands, IsAccess, AreHeld};
+ghost use Rattle.section_sum.specs.Paired.{AreSources};
 
 use crate::cells::Cells;
 use crate::lock::Lock;
@@ -39,6 +47,7 @@ impl Summaries {
     pub fn new(alloc: Global) -> Summaries
         ensures nothing_noted { (t l v : ℕ) (k : Kind) → noted_of result t l v k ≡ false }
         ensures no_others { (l v : ℕ) (k : Kind) (t : ℕ) → others_of result l v k t ≡ 0 }
+        ensures stands { Stands [] result }
     {
         Summaries {
             alloc,
@@ -60,6 +69,7 @@ impl Summaries {
         // In any case the same is known.
         ensures noted { SameNoted self.old self.new }
         ensures others { SameOthers self.old self.new }
+        ensures stands { (log : List Event) → Stands log self.old → Stands log self.new }
     {
         make_room_held(&mut self.cells, &mut self.locks, self.alloc, held, var)
     }
@@ -79,6 +89,9 @@ impl Summaries {
         ensures noted { (t l v : ℕ) (k : Kind) → noted_of self.new t l v k
             ≡ (noted_of self.old t l v k || is_access thread.0 held.now var.0 kind t l v k) }
         ensures others { SameOthers self.old self.new }
+        ensures stands { (limits : Limits) (log : List Event) (e : Event) → WellFormed limits (log ++ e ∷ [])
+            → IsAccess thread var kind e → AreHeld log thread held.now
+            → Stands log self.old → Stands (log ++ e ∷ []) self.new }
         ensures kept { KeepsRoom self.old self.new }
     {
         note_held(&mut self.cells, &mut self.locks, thread, held, var, kind);
@@ -93,6 +106,9 @@ impl Summaries {
         ensures others { (l v : ℕ) (k : Kind) (t : ℕ) → others_of self.new l v k t
             ≡ cond (nat_eq l lock.0 && (not (nat_eq t thread.0) && noted_of self.old thread.0 l v k))
             number (others_of self.old l v k t) }
+        ensures stands { (limits : Limits) (log : List Event) (e : Event) → WellFormed limits (log ++ e ∷ [])
+            → EndsSection log thread lock e → number ≡ ended log lock + 1
+            → Stands log self.old → Stands (log ++ e ∷ []) self.new }
         ensures kept { KeepsRoom self.old self.new }
     {
         close_under(&mut self.cells, &mut self.locks, thread, lock, number);
@@ -103,6 +119,8 @@ impl Summaries {
     pub fn sources(&self, thread: ThreadId, lock: LockId, var: VarId, kind: AccessKind) -> Sources
         ensures exact { left result ≡ sources_of self.now lock.0 var.0 kind thread.0 }
         ensures at_most { length (left result) ≤ most_sources kind }
+        ensures paired { (log : List Event) (e : Event) → IsAccess thread var kind e
+            → 0 < depth log thread lock → Stands log self.now → AreSources log e lock (left result) }
     {
         sources_under(&self.cells, &self.locks, thread, lock, var, kind)
     }

@@ -17,11 +17,11 @@ use Rattle.event_core.specs.declared.replies.Refusal.TheVariants.{TargetRange}
 use Rattle.event_core.specs.Closed.{Has}
 use Rattle.event_core.specs.Log.{depth}
 use Rattle.event_core.specs.Refusal.{WellFormed, lock_at, sum_locks}
-use Rattle.event_core.specs.Turn.{Opens, Closes, Inner, turn_of}
+use Rattle.event_core.specs.Effect.{Opens, Closes, Inner, effect_of}
 use Rattle.event_core.proofs.Depth.{opener}
 use Rattle.event_core.proofs.Legality.{reasons_at, when_none}
 use Rattle.event_core.proofs.Members.{any_has}
-use Rattle.wcp_laws.specs.Step.{turn}
+use Rattle.wcp_laws.specs.Step.{effect}
 use Rattle.wcp_clocks.specs.declared.parts.Parts.{Parts}
 use Rattle.wcp_clocks.specs.Parts.{state_of, work_of, most_joins}
 use Rattle.wcp_clocks.specs.StandsFor.{StandsFor}
@@ -104,7 +104,7 @@ held_few m log p t w st =
         (lt-ltb 0 (depth log t (lock_at q)) up)
 
 -- the joins of one event
-event_joins : (d : ℕ → ℕ) (o : Op) (held more : ℕ) → held ≤ more → most_joins (turn_of d o) held ≤ joins_at o more
+event_joins : (d : ℕ → ℕ) (o : Op) (held more : ℕ) → held ≤ more → most_joins (effect_of d o) held ≤ joins_at o more
 event_joins d (Load x) held more few = omega arith
 event_joins d (Store x) held more few = omega arith
 event_joins d (Acquire l) held more few = go (nat_eq (d l.0) 0)
@@ -144,7 +144,7 @@ pub joins_step : (m : Limits) (log : List Event) (e : Event) (old new : Parts) �
 joins_step m log e old new w st work was =
     let held : length ((state_of old).held e.thread.0) ≤ locks_held m log e.thread
     = held_few m log old e.thread w st in
-    let here : most_joins (turn e (state_of old)) (length ((state_of old).held e.thread.0))
+    let here : most_joins (effect e (state_of old)) (length ((state_of old).held e.thread.0))
     ≤ joins_at e.op (locks_held m log e.thread)
     = event_joins ((state_of old).depth e.thread.0) e.op _ (locks_held m log e.thread) held in
     let added = work.joins in

@@ -5,6 +5,5 @@ pub mod ClockLaws
 pub mod Replaying
 pub mod RunMore
 pub mod SwapReplies
-pub mod ActRunMore
 pub mod NeverMemory
 pub mod Joining

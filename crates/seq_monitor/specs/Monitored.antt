@@ -46,10 +46,11 @@ pub record Monitored : Type 0 where
   pub log : List Event
   pub parts : Parts
 
--- the limits and the log are the same, and so is all that they determine
+-- the limits and the log are the same, and so is all that they determine; and the clocks did no work
 pub record IsSame (old new : Monitored) : Type 0 where
   pub limits : new.limits ≡ old.limits
   pub log : new.log ≡ old.log
+  pub work : work_of new.parts.clocks ≡ work_of old.parts.clocks
 
 -- the slots that are taken where an event follows so many acquires that are not yet released: its own, and
 -- one for each release that is still to come
@@ -123,11 +124,10 @@ pub record IsReplay (limits : Limits) (log : List Event) (parts : Parts) (verdic
   pub event_slots : holds ≤ parts.events
   pub verdict_slots : holds ≤ parts.verdicts
 
--- n events by k threads took at most n * k + n comparisons of an acquire with a clock
-abbrev pub HasFewComparisons : Monitored → Type 0
-HasFewComparisons m =
-    (work_of m.parts.clocks).comparisons ≤ length m.log * threads_in m.limits.threads m.log + length m.log
-
--- an event took at most three joins, and an access at most two for each lock that its thread held
-abbrev pub HasFewJoins : Monitored → Type 0
-HasFewJoins m = (work_of m.parts.clocks).joins ≤ joins_of m.limits m.log
+-- the work of the clocks. The n events of the log, by k threads, took at most n * k + n comparisons of an
+-- acquire with a clock. Each of them took at most three joins of clocks, or where it is an access at most two
+-- for each lock that its thread held.
+pub record HasBoundedWork (m : Monitored) : Type 0 where
+  pub comparisons : (work_of m.parts.clocks).comparisons
+      ≤ length m.log * threads_in m.limits.threads m.log + length m.log
+  pub joins : (work_of m.parts.clocks).joins ≤ joins_of m.limits m.log

@@ -10,23 +10,23 @@ use Rattle.event_core.specs.declared.events.Op.{Op}
 use Rattle.event_core.specs.declared.events.Op.TheVariants.{Load, Store, Acquire, Release, Fork, Join}
 use Rattle.event_core.specs.Closed.{Has}
 use Rattle.event_core.specs.Rows.{join, with_row}
-use Rattle.event_core.specs.Turn.{Accesses}
+use Rattle.event_core.specs.Effect.{Accesses}
 use Rattle.hb_clocks.specs.State as hb
 use Rattle.hb_clocks.specs.Tables as hb_tables
-use Rattle.hb_clocks.specs.Work.{Done, more_joins}
+use Rattle.vector_clocks.specs.Work.{Done, more_joins}
 use Rattle.lock_queues.specs.Queues.{closed_of}
 use Rattle.section_sum.specs.Sums.{Sums, noted_of, is_access, SameOthers}
 use Rattle.section_sum.specs.Sums.{KeepsRoom as sum_rooms}
-use Rattle.wcp_laws.specs.Step.{turn, join_all}
+use Rattle.wcp_laws.specs.Step.{effect, join_all}
 use Rattle.wcp_clocks.specs.declared.parts.Parts.{Parts}
 use Rattle.wcp_clocks.specs.HeldLists.{list_at, numbers_of, held_of}
 use Rattle.wcp_clocks.specs.StrictRows.{StrictTables, strict_of, SameRoom}
 use Rattle.wcp_clocks.specs.Parts.{hb_of, state_of, Fits, HasNamed, KeepsReady}
 use Rattle.wcp_clocks.specs.Stepping.{IsStepBy, strict_clock}
 use Rattle.wcp_clocks.specs.Met.{met_clocks, met_under, AreNumbers}
-use Rattle.wcp_clocks.proofs.TurnWords.{same_sources, same_noted, same_clocks, same_numbers}
+use Rattle.wcp_clocks.proofs.EffectWords.{same_sources, same_noted, same_clocks, same_numbers}
 
-module _ (e : Event) (x : VarId) (k : AccessKind) (old : Parts) (told : turn e (state_of old) ≡ Accesses x k)
+module _ (e : Event) (x : VarId) (k : AccessKind) (old : Parts) (told : effect e (state_of old) ≡ Accesses x k)
     (fits : Fits e old) where
   abbrev t : ℕ
   t = e.thread.0
@@ -61,7 +61,7 @@ module _ (e : Event) (x : VarId) (k : AccessKind) (old : Parts) (told : turn e (
       → SameOthers old.sums sums → AreNumbers old.sums (closed_of old.queues)
       → hb_tables.state_of tables ≡ hb.after e (hb_of old) → tables.width ≡ old.hb.width
       → hb_tables.KeepsRoom old.hb tables
-      → work ≡ more_joins (hb.joins_of (hb.turn e (hb_of old))) joined
+      → work ≡ more_joins (hb.joins_of (hb.effect e (hb_of old))) joined
       → IsStepBy e (Accesses x k) old
       (record { hb = tables; rows = taken; sums = sums; queues = old.queues; held = old.held; work = work })
   access_step locks taken tables sums joined work of threads lock room joins comparisons noted others

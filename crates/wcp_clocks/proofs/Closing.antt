@@ -9,11 +9,11 @@ use Rattle.std.proofs.lemmas.Bool.{cases_Bool, cases_eq, ne_eqb}
 use Rattle.event_core.specs.declared.events.AccessKind.{AccessKind}
 use Rattle.event_core.specs.Closed.{Closed}
 use Rattle.event_core.specs.Rows.{join, brought, with_row}
-use Rattle.event_core.specs.Turn.{Turn, Closes}
+use Rattle.event_core.specs.Effect.{Effect, Closes}
 use Rattle.event_core.specs.declared.events.Event.{Event}
 use Rattle.event_core.specs.declared.ids.LockId.{LockId}
-use Rattle.hb_clocks.specs.State.{HbState, turn, hb_row}
-use Rattle.hb_clocks.proofs.Releases.{bump_same}
+use Rattle.hb_clocks.specs.State.{HbState, effect, hb_row}
+use Rattle.vector_clocks.proofs.Releases.{bump_same}
 use Rattle.event_core.proofs.Growing.{row_same, row_other}
 use Rattle.lock_queues.specs.Sections.{closed_as, no_section, before}
 use Rattle.lock_queues.proofs.Lowering.{before_bumped}
@@ -21,20 +21,20 @@ use Rattle.section_sum.specs.Sums.{Sums, noted_of, others_of}
 use Rattle.wcp_clocks.specs.Met.{release_at, met_clocks, AreNumbers}
 
 -- just before a closing release its thread has the clock that it had
-pub before_closing : (e : Event) (s : HbState) (l : LockId) → turn e s ≡ Closes l → (u : ℕ)
+pub before_closing : (e : Event) (s : HbState) (l : LockId) → effect e s ≡ Closes l → (u : ℕ)
     → before e.thread.0 (hb_row e s) u ≡ s.hb.thread e.thread.0 u
 before_closing e s l is u =
     let t : ℕ = e.thread.0 in
-    let none : brought (turn e s) s.hb u ≡ 0 = ap (λ (k : Turn). brought k s.hb u) is in
-    let all : before t (hb_row e s) u ≡ max (s.hb.thread t u) (brought (turn e s) s.hb u)
-    = before_bumped t (join (s.hb.thread t) (brought (turn e s) s.hb)) u in
+    let none : brought (effect e s) s.hb u ≡ 0 = ap (λ (k : Effect). brought k s.hb u) is in
+    let all : before t (hb_row e s) u ≡ max (s.hb.thread t u) (brought (effect e s) s.hb u)
+    = before_bumped t (join (s.hb.thread t) (brought (effect e s) s.hb)) u in
     omega arith
 
 pub counts_itself : (e : Event) (s : HbState) → 0 < hb_row e s e.thread.0
 counts_itself e s =
     let t : ℕ = e.thread.0 in
-    let own : hb_row e s t ≡ join (s.hb.thread t) (brought (turn e s) s.hb) t + 1
-    = bump_same t (join (s.hb.thread t) (brought (turn e s) s.hb)) in
+    let own : hb_row e s t ≡ join (s.hb.thread t) (brought (effect e s) s.hb) t + 1
+    = bump_same t (join (s.hb.thread t) (brought (effect e s) s.hb)) in
     omega arith
 
 -- the sections before the last one are as they were

@@ -18,14 +18,14 @@ use Rattle.event_core.proofs.Legality.{orderly}
 use Rattle.event_core.proofs.Members.{any_has}
 use Rattle.event_core.proofs.Slots.{slots}
 use Rattle.event_core.specs.Refusal.{open_acquires}
-use Rattle.hb_clocks.specs.State.{HbState, turn, hb_row, po_row, after}
+use Rattle.hb_clocks.specs.State.{HbState, effect, hb_row, po_row, after}
 use Rattle.hb_clocks.specs.Stands.{Stands as OrderStands}
 use Rattle.hb_clocks.proofs.LegalSteps.{step_stands}
 use Rattle.hb_clocks.proofs.Conditions.{admits_legal, few_in_log, events_within}
 use Rattle.section_sum.specs.Sums.{IsAlone, noted_of}
 use Rattle.event_core.specs.Count.{events_of}
 use Rattle.event_core.proofs.Counting.{events_grow, grown_length}
-use Rattle.event_core.specs.Turn.{Closes}
+use Rattle.event_core.specs.Effect.{Closes}
 use Rattle.wcp_laws.specs.Found.{sum_below}
 use Rattle.wcp_laws.proofs.FoundLaws.{closes_after_first}
 use Rattle.wcp_laws.specs.State.{State}
@@ -95,9 +95,9 @@ own_next : (limits : Limits) (log : List Event) (e : Event) (s : HbState) → We
 own_next limits log e s w st =
     let next : OrderStands (log ++ e ∷ []) (after e s) = step_stands limits log e s w st in
     let hb : (after e s).hb.thread e.thread.0 ≡ hb_row e s
-    = own_row (turn e s) e.thread.0 (hb_row e s) s.hb.thread in
+    = own_row (effect e s) e.thread.0 (hb_row e s) s.hb.thread in
     let po : (after e s).po e.thread.0 ≡ po_row e s
-    = own_row (turn e s) e.thread.0 (po_row e s) s.po in
+    = own_row (effect e s) e.thread.0 (po_row e s) s.po in
     ap (λ (f : ℕ → ℕ). f e.thread.0) (sym hb) ∙ next.hb_own e.thread ∙ sym (next.po_own e.thread)
     ∙ ap (λ (f : ℕ → ℕ). f e.thread.0) po
 
@@ -137,7 +137,7 @@ closed_few log p l st =
 -- a section that is closed after them has a number
 few_closed : (limits : Limits) (log : List Event) (e : Event) (p : Parts) → limits.events ≤ 4294967296
     → WellFormed limits (log ++ e ∷ []) → StandsFor log p → (l : LockId)
-    → wcp.turn e (state_of p) ≡ Closes l → length ((state_of p).closed l.0) + 1 < 4294967296
+    → wcp.effect e (state_of p) ≡ Closes l → length ((state_of p).closed l.0) + 1 < 4294967296
 few_closed limits log e p most w st l told =
     let some : 0 < length log = closes_after_first log e (state_of p) st.strict l told in
     let one : length ((state_of p).closed l.0) ≤ sum_below (λ k. length ((state_of p).closed k)) (suc l.0)

@@ -16,17 +16,17 @@ use Rattle.event_core.specs.Closed.{Has, first, later}
 use Rattle.event_core.specs.Log.{depth}
 use Rattle.event_core.specs.Refusal.{WellFormed}
 use Rattle.event_core.specs.Rows.{with_row}
-use Rattle.event_core.specs.Turn.{Turn, Accesses, Opens, Closes, Forks, Joins, Inner}
+use Rattle.event_core.specs.Effect.{Effect, Accesses, Opens, Closes, Forks, Joins, Inner}
 use Rattle.event_core.proofs.Counting.{nat_eq_other}
 use Rattle.event_core.proofs.Depth.{opener}
 use Rattle.event_core.proofs.Growing.{row_same, row_other}
 use Rattle.event_core.proofs.Legality.{reasons_at, when_none}
 use Rattle.event_core.proofs.Members.{any_has}
-use Rattle.event_core.proofs.Turning.{Fits, accesses, opens, closes, forks, joins, again, inner}
+use Rattle.event_core.proofs.Effects.{Fits, accesses, opens, closes, forks, joins, again, inner}
 use Rattle.wcp_laws.specs.State.{State}
 use Rattle.wcp_laws.specs.Standing.{Stands}
-use Rattle.wcp_laws.specs.Step.{turn, after, held_after, without}
-use Rattle.wcp_laws.proofs.Clocks.{turn_fits}
+use Rattle.wcp_laws.specs.Step.{effect, after, held_after, without}
+use Rattle.wcp_laws.proofs.Clocks.{effect_fits}
 use Rattle.wcp_clocks.specs.Parts.{state_of}
 use Rattle.wcp_clocks.specs.StandsFor.{AreDistinct, HeldWithin}
 
@@ -76,7 +76,7 @@ distinct_row t xs h was is u = go (cases_eq u.0 t)
         subst (IsDistinct nat_eq) (sym (ap (with_row t xs h) same ∙ row_same t xs h)) is
     go (inr other) = subst (IsDistinct nat_eq) (sym (row_other t xs h u.0 other)) (was u)
 
-distinct_after : (t : ThreadId) (k : Turn) (h : ℕ → List ℕ)
+distinct_after : (t : ThreadId) (k : Effect) (h : ℕ → List ℕ)
     → ((l : LockId) → k ≡ Opens l → Has l.0 (h t.0) → ⊥) → AreDistinct h
     → AreDistinct (held_after t.0 k h)
 distinct_after t (Opens l) h new was =
@@ -89,7 +89,7 @@ distinct_after t (Joins u) h new was = was
 distinct_after t Inner h new was = was
 
 -- a lock that is opened was not held
-opened_anew : (log : List Event) (e : Event) (k : Turn) → Fits log e k → (l : LockId) → k ≡ Opens l
+opened_anew : (log : List Event) (e : Event) (k : Effect) → Fits log e k → (l : LockId) → k ≡ Opens l
     → depth log e.thread l ≡ 0
 opened_anew log e _ (opens m o zero) l is =
     let same : m ≡ l = cc in subst (λ (n : LockId). depth log e.thread n ≡ 0) same zero
@@ -103,13 +103,13 @@ opened_anew log e _ (inner m o d) l is = cc
 pub distinct_step : (log : List Event) (e : Event) (s : State) → Stands log s → AreDistinct s.held
     → AreDistinct (after e s).held
 distinct_step log e s st was =
-    distinct_after e.thread (turn e s) s.held new was
+    distinct_after e.thread (effect e s) s.held new was
   where
-    new : (l : LockId) → turn e s ≡ Opens l → Has l.0 (s.held e.thread.0) → ⊥
+    new : (l : LockId) → effect e s ≡ Opens l → Has l.0 (s.held e.thread.0) → ⊥
     new l is has =
         let up : 0 < depth log e.thread l = (st.held e.thread l).0 has in
         let none : depth log e.thread l ≡ 0
-        = opened_anew log e (turn e s) (turn_fits log e s st) l is in
+        = opened_anew log e (effect e s) (effect_fits log e s st) l is in
         omega arith
 
 -- a lock that is held is within the limit

@@ -16,6 +16,6 @@ mod SourcesCount
 pub mod Standing
 pub mod Stepped
 mod Taking
-mod TurnWords
+mod EffectWords
 mod Wholeness
 pub mod WorkLaws

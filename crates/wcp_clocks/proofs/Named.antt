@@ -11,16 +11,16 @@ use Rattle.event_core.specs.declared.ids.ThreadId.{ThreadId}
 use Rattle.event_core.specs.declared.replies.Refusal.TheVariants.{ThreadRange, TargetRange}
 use Rattle.event_core.specs.Bounds.{Bounds}
 use Rattle.event_core.specs.Refusal.{Legal, WellFormed, refusal, reasons, in_range}
-use Rattle.event_core.specs.Turn.{Turn, Closes}
+use Rattle.event_core.specs.Effect.{Effect, Closes}
 use Rattle.event_core.proofs.Growth.{well_formed_last}
 use Rattle.event_core.proofs.Legality.{AllNone, all_none, legal_reasons, when_none}
-use Rattle.event_core.proofs.Turning.{Fits, accesses, opens, closes, forks, joins, again, inner}
+use Rattle.event_core.proofs.Effects.{Fits, accesses, opens, closes, forks, joins, again, inner}
 use Rattle.wcp_laws.specs.State.{State}
 use Rattle.wcp_laws.specs.Standing.{Stands}
-use Rattle.wcp_laws.specs.Step.{turn}
+use Rattle.wcp_laws.specs.Step.{effect}
 use Rattle.wcp_clocks.specs.Parts.{NamesWithin}
 use Rattle.wcp_clocks.specs.StandsFor.{WithinWhereLegal}
-use Rattle.wcp_laws.proofs.Clocks.{turn_fits}
+use Rattle.wcp_laws.proofs.Clocks.{effect_fits}
 
 pub thread_within : (limits : Limits) (log : List Event) (e : Event) → WellFormed limits (log ++ e ∷ [])
     → e.thread.0 < limits.threads
@@ -73,13 +73,13 @@ within_where_legal limits log e p w width same = (
 -- the lock that is closed
 pub closed_within : (limits : Limits) (log : List Event) (e : Event) (s : State)
     → WellFormed limits (log ++ e ∷ []) → Stands log s
-    → (l : LockId) → turn e s ≡ Closes l → l.0 < limits.locks
+    → (l : LockId) → effect e s ≡ Closes l → l.0 < limits.locks
 closed_within limits log e s w st l is =
     in_range_is l.0 limits.locks
-    (subst (λ (o : Op). not (in_range limits o) ≡ false) (releases (turn e s) (turn_fits log e s st) is)
+    (subst (λ (o : Op). not (in_range limits o) ≡ false) (releases (effect e s) (effect_fits log e s st) is)
     (target_in_range limits log e w))
   where
-    releases : (k : Turn) → Fits log e k → k ≡ Closes l → e.op ≡ Release l
+    releases : (k : Effect) → Fits log e k → k ≡ Closes l → e.op ≡ Release l
     releases _ (closes m o d) q = let same : m ≡ l = cc in subst (λ (n : LockId). e.op ≡ Release n) same o
     releases _ (accesses x j o) q = cc
     releases _ (opens m o d) q = cc

@@ -7,6 +7,7 @@ use Rattle.event_core.specs.declared.events.Event.{Event}
 use Rattle.event_core.specs.declared.events.Op.{Op}
 use Rattle.event_core.specs.declared.events.Op.TheVariants.{Load, Store, Acquire, Release, Fork, Join}
 use Rattle.event_core.specs.Bounds.{Bounds}
+use Rattle.vector_clocks.specs.Rows.{IsMade}
 use Rattle.hb_clocks.specs.Tables as hb
 use Rattle.hb_clocks.proofs.Room.{thread_stays}
 use Rattle.wcp_clocks.specs.declared.parts.Parts.{Parts}
@@ -61,7 +62,7 @@ ordered_lock old new order t m own others threads o = record {
       t,
       record {
         thread = own.thread;
-        clocks = subst (hb.IsMade order.width order.lock) (sym q) own.clocks;
+        clocks = subst (IsMade order.width order.lock) (sym q) own.clocks;
         hold = subst (λ n. n < length order.holds) (sym q) own.hold;
       },
     )

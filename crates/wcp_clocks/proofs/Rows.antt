@@ -2,12 +2,12 @@
 use Rattle.std.proofs.Common.{◌≡◌, ℕ, max, sym, subst, ◌∙◌, arith}
 use Rattle.std.proofs.Common.{List, length, ap}
 use Rattle.std.proofs.lemmas.List.{ext_get_or}
-use Rattle.hb_clocks.specs.Counts.{counts_of}
-use Rattle.hb_clocks.specs.Tables.{row_at, rows_of, IsMade}
+use Rattle.vector_clocks.specs.Counts.{counts_of}
+use Rattle.vector_clocks.specs.Rows.{row_at, rows_of, IsMade}
 use Rattle.std.proofs.Common.{inl, inr, ◌⊎◌}
 use Rattle.std.proofs.lemmas.Bool.{cases_eq}
 use Rattle.event_core.specs.Rows.{no_clock, join, with_row, to_child}
-use Rattle.event_core.specs.Turn.{Turn, Accesses, Opens, Closes, Forks, Joins, Inner}
+use Rattle.event_core.specs.Effect.{Effect, Accesses, Opens, Closes, Forks, Joins, Inner}
 use Rattle.event_core.proofs.Growing.{row_same, row_other}
 
 -- a row that is written with what it has
@@ -28,7 +28,7 @@ row_again t g h f i a = go (cases_eq a t) i
     go (inr n) = row_other t g (with_row t h f) a n ∙ row_other t h f a n ∙ sym (row_other t g f a n)
 
 -- the row of the event's own thread
-pub own_row : (k : Turn) (t : ℕ) (g : ℕ → ℕ) (f : ℕ → ℕ → ℕ) → to_child k g (with_row t g f) t ≡ g
+pub own_row : (k : Effect) (t : ℕ) (g : ℕ → ℕ) (f : ℕ → ℕ → ℕ) → to_child k g (with_row t g f) t ≡ g
 own_row (Forks u) t g f = go (cases_eq t u.0)
   where
     go : (t ≡ u.0) ⊎ (t ≡ u.0 → ⊥) → with_row u.0 g (with_row t g f) t ≡ g

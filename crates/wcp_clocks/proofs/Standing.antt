@@ -9,7 +9,7 @@ use Rattle.hb_clocks.specs.Stands as hb_stands
 use Rattle.hb_clocks.proofs.Conditions as hb_conditions
 use Rattle.hb_clocks.proofs.LegalSteps as hb_steps
 use Rattle.wcp_laws.specs.State.{State, empty}
-use Rattle.wcp_laws.specs.Step.{turn, after}
+use Rattle.wcp_laws.specs.Step.{effect, after}
 use Rattle.wcp_laws.specs.Standing.{Stands}
 use Rattle.wcp_laws.specs.Conditions.{found_at}
 use Rattle.wcp_laws.specs.Found.{FoundFits}
@@ -47,11 +47,11 @@ same_stand log old new same st =
 pub step_stands : (limits : Limits) (log : List Event) (e : Event) (old new : Parts)
     → WellFormed limits (log ++ e ∷ []) → hb_of new ≡ hb.after e (hb_of old)
     → state_of new ≡ after e (state_of old)
-    → found_in new ≡ found_at e.thread (turn e (state_of old)) (state_of old) (found_in old)
+    → found_in new ≡ found_at e.thread (effect e (state_of old)) (state_of old) (found_in old)
     → StandsFor log old → StandsFor (log ++ e ∷ []) new
 step_stands limits log e old new w is_h is_s is_f st =
     renamed (log ++ e ∷ []) new (hb.after e (hb_of old)) (after e (state_of old))
-    (found_at e.thread (turn e (state_of old)) (state_of old) (found_in old)) is_h is_s is_f
+    (found_at e.thread (effect e (state_of old)) (state_of old) (found_in old)) is_h is_s is_f
     (hb_steps.step_stands limits log e (hb_of old) w st.hb)
     (laws_steps.step_stands limits log e (state_of old) w st.strict)
     (found_step limits log e (state_of old) (found_in old) w st.strict st.found)

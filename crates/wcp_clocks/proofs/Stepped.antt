@@ -6,11 +6,11 @@ use Rattle.event_core.specs.declared.ids.LockId.{LockId}
 use Rattle.event_core.specs.declared.events.Event.{Event}
 use Rattle.event_core.specs.declared.events.Op.{Op}
 use Rattle.event_core.specs.declared.events.Op.TheVariants.{Load, Store, Acquire, Release, Fork, Join}
-use Rattle.event_core.specs.Rows.{with_row, to_child, to_lock}
-use Rattle.event_core.specs.Turn.{Turn, Opens, Closes, Inner, turn_of}
+use Rattle.event_core.specs.Rows.{with_row, to_child, to_lock, depth_after}
+use Rattle.event_core.specs.Effect.{Effect, Opens, Closes, Inner, effect_of}
 use Rattle.event_core.proofs.Growing.{row_same, row_other}
 use Rattle.hb_clocks.specs.State as hb
-use Rattle.wcp_laws.specs.Step.{turn, after, hb_row, opened_after, held_after, noted_after, others_after}
+use Rattle.wcp_laws.specs.Step.{effect, after, hb_row, opened_after, held_after, noted_after, others_after}
 use Rattle.wcp_laws.specs.Step.{closed_after}
 use Rattle.wcp_laws.specs.Conditions.{found_at}
 use Rattle.wcp_clocks.specs.declared.parts.Parts.{Parts}
@@ -27,7 +27,7 @@ use Rattle.wcp_clocks.specs.Stepping.{IsStep, IsStepBy, strict_clock}
 abbrev IsTaken : ℕ → Op → ℕ → ℕ → Type 0
 IsTaken t op u l = (u ≡ t) × (m : LockId) × (op ≡ Acquire m) × (l ≡ m.0)
 
-held_before : (t : ℕ) (op : Op) (d : ℕ → ℕ → ℕ) (u l : ℕ) → 0 < hb.depth_after t op d u l
+held_before : (t : ℕ) (op : Op) (d : ℕ → ℕ → ℕ) (u l : ℕ) → 0 < depth_after t op d u l
     → (0 < d u l) ⊎ IsTaken t op u l
 held_before t (Acquire m) d u l h = go (cases_eq u t) (cases_eq l m.0)
   where
@@ -65,7 +65,7 @@ held_before t (Store x) d u l h = inl h
 held_before t (Fork v) d u l h = inl h
 held_before t (Join v) d u l h = inl h
 
-module _ (e : Event) (k : Turn) (old new : Parts) (told : turn e (state_of old)
+module _ (e : Event) (k : Effect) (old new : Parts) (told : effect e (state_of old)
     ≡ k) (by : IsStepBy e k old new) where
   exact : state_of new ≡ after e (state_of old)
   exact i = record {
@@ -103,7 +103,7 @@ module _ (e : Event) (k : Turn) (old new : Parts) (told : turn e (state_of old)
         (ordered_same old.rows new.rows old.hb by.room.had_thread by.room.had_lock parts.ordered);
   }
     where
-      was : (t l : ℕ) → 0 < (hb_of new).depth t l → 0 < hb.depth_after e.thread.0 e.op (hb_of old).depth t l
+      was : (t l : ℕ) → 0 < (hb_of new).depth t l → 0 < depth_after e.thread.0 e.op (hb_of old).depth t l
       was t l h = subst (λ (s : hb.HbState). 0 < s.depth t l) by.hb h
 
       thread : (l t : ℕ) → (0 < (hb_of old).depth t l) ⊎ IsTaken e.thread.0 e.op t l → HasThread new.rows t
@@ -129,17 +129,17 @@ module _ (e : Event) (k : Turn) (old new : Parts) (told : turn e (state_of old)
     kept = kept;
   }
 
--- the turn of an acquire and of a release, by the depth that the thread holds the lock to
-outer_acquire : (d : ℕ → ℕ) (l : LockId) → d l.0 ≡ 0 → turn_of d (Acquire l) ≡ Opens l
+-- the effect of an acquire and of a release, by the depth that the thread holds the lock to
+outer_acquire : (d : ℕ → ℕ) (l : LockId) → d l.0 ≡ 0 → effect_of d (Acquire l) ≡ Opens l
 outer_acquire d l e = ap (λ b. cond b (Opens l) Inner) (eq-eqb (d l.0) 0 e)
 
-inner_acquire : (d : ℕ → ℕ) (l : LockId) → (d l.0 ≡ 0 → ⊥) → turn_of d (Acquire l) ≡ Inner
+inner_acquire : (d : ℕ → ℕ) (l : LockId) → (d l.0 ≡ 0 → ⊥) → effect_of d (Acquire l) ≡ Inner
 inner_acquire d l n = ap (λ b. cond b (Opens l) Inner) (ne_eqb (d l.0) 0 n)
 
-outer_release : (d : ℕ → ℕ) (l : LockId) → d l.0 ≡ 1 → turn_of d (Release l) ≡ Closes l
+outer_release : (d : ℕ → ℕ) (l : LockId) → d l.0 ≡ 1 → effect_of d (Release l) ≡ Closes l
 outer_release d l e = ap (λ b. cond b (Closes l) Inner) (eq-eqb (d l.0) 1 e)
 
-inner_release : (d : ℕ → ℕ) (l : LockId) → (d l.0 ≡ 1 → ⊥) → turn_of d (Release l) ≡ Inner
+inner_release : (d : ℕ → ℕ) (l : LockId) → (d l.0 ≡ 1 → ⊥) → effect_of d (Release l) ≡ Inner
 inner_release d l n = ap (λ b. cond b (Closes l) Inner) (ne_eqb (d l.0) 1 n)
 
 -- the step of an outer acquire
@@ -148,7 +148,7 @@ pub opened : (e : Event) (l : LockId) (old new : Parts) → e.op ≡ Acquire l
     → AreParts old → IsReady old e → Fits e old → IsStep e old new
 opened e l old new op depth by parts ready fits =
     stepped e (Opens l) old new
-    (ap (turn_of ((hb_of old).depth e.thread.0)) op ∙ outer_acquire ((hb_of old).depth e.thread.0) l depth)
+    (ap (effect_of ((hb_of old).depth e.thread.0)) op ∙ outer_acquire ((hb_of old).depth e.thread.0) l depth)
     by parts ready fits (λ a. absurd (subst IsAccess op a))
 
 -- and of an inner one
@@ -157,7 +157,7 @@ pub acquired_again : (e : Event) (l : LockId) (old new : Parts) → e.op ≡ Acq
     → AreParts old → IsReady old e → Fits e old → IsStep e old new
 acquired_again e l old new op depth by parts ready fits =
     stepped e Inner old new
-    (ap (turn_of ((hb_of old).depth e.thread.0)) op ∙ inner_acquire ((hb_of old).depth e.thread.0) l depth)
+    (ap (effect_of ((hb_of old).depth e.thread.0)) op ∙ inner_acquire ((hb_of old).depth e.thread.0) l depth)
     by parts ready fits (λ a. absurd (subst IsAccess op a))
 
 -- the step of an outer release
@@ -166,7 +166,7 @@ pub closed : (e : Event) (l : LockId) (old new : Parts) → e.op ≡ Release l
     → AreParts old → IsReady old e → Fits e old → IsStep e old new
 closed e l old new op depth by parts ready fits =
     stepped e (Closes l) old new
-    (ap (turn_of ((hb_of old).depth e.thread.0)) op ∙ outer_release ((hb_of old).depth e.thread.0) l depth)
+    (ap (effect_of ((hb_of old).depth e.thread.0)) op ∙ outer_release ((hb_of old).depth e.thread.0) l depth)
     by parts ready fits (λ a. absurd (subst IsAccess op a))
 
 -- and of an inner one
@@ -175,5 +175,5 @@ pub released_again : (e : Event) (l : LockId) (old new : Parts) → e.op ≡ Rel
     → AreParts old → IsReady old e → Fits e old → IsStep e old new
 released_again e l old new op depth by parts ready fits =
     stepped e Inner old new
-    (ap (turn_of ((hb_of old).depth e.thread.0)) op ∙ inner_release ((hb_of old).depth e.thread.0) l depth)
+    (ap (effect_of ((hb_of old).depth e.thread.0)) op ∙ inner_release ((hb_of old).depth e.thread.0) l depth)
     by parts ready fits (λ a. absurd (subst IsAccess op a))

@@ -9,11 +9,11 @@ use Rattle.event_core.specs.declared.events.AccessKind.TheVariants.{Read, Write}
 use Rattle.event_core.specs.declared.events.Event.{Event}
 use Rattle.event_core.specs.Closed.{Closed, Has, first, later, is_counted, below_closed}
 use Rattle.event_core.specs.Rows.{Rows, no_clock, join, with_row, to_child, to_lock, brought}
-use Rattle.event_core.specs.Turn.{Turn, Accesses, Opens, Closes, Forks, Joins, Inner}
+use Rattle.event_core.specs.Effect.{Effect, Accesses, Opens, Closes, Forks, Joins, Inner}
 use Rattle.event_core.proofs.Members.{has_split}
-use Rattle.hb_clocks.specs.State.{clock_after}
+use Rattle.event_core.specs.Rows.{clock_after}
 use Rattle.wcp_laws.specs.State.{State}
-use Rattle.wcp_laws.specs.Step.{turn, after, hb_row, sources, join_all, extra, others_after, closed_after}
+use Rattle.wcp_laws.specs.Step.{effect, after, hb_row, sources, join_all, extra, others_after, closed_after}
 use Rattle.wcp_clocks.specs.Whole.{IsWhole, IsWholeWithin, AreWhole, own_of}
 use Rattle.wcp_clocks.proofs.Rows.{own_row}
 
@@ -57,8 +57,8 @@ none_whole s others strict strict_lock hb hb_lock closed = record {
       whole = λ l q has h u. absurd (empty l q has);
     }
 
--- an event of the thread, where it is turn k
-module _ (s : State) (t : ThreadId) (k : Turn) (w : AreWhole s)
+-- an event of the thread, where it is effect k
+module _ (s : State) (t : ThreadId) (k : Effect) (w : AreWhole s)
     (grows : (u : ℕ) → s.hb.thread u u
     ≤ to_child k (clock_after t k s.hb) (with_row t.0 (clock_after t k s.hb) s.hb.thread) u u) where
   -- what is at or below the event, but for itself
@@ -111,7 +111,7 @@ module _ (s : State) (t : ThreadId) (k : Turn) (w : AreWhole s)
   member : (l : ℕ) (q : Closed) → Has q (closed_after t.0 k g s l) → Either q
   member l q = go k
     where
-      go : (r : Turn) → Has q (closed_after t.0 r g s l) → Either q
+      go : (r : Effect) → Has q (closed_after t.0 r g s l) → Either q
       go (Closes m) h = either (nat_eq l m.0) h
         where
           new : Closed
@@ -149,7 +149,7 @@ module _ (s : State) (t : ThreadId) (k : Turn) (w : AreWhole s)
   brought_whole : (r : Rows) → ((u : ℕ) → It (r.thread u)) → ((l : ℕ) → It (r.lock l)) → It (brought k r)
   brought_whole r threads locks = go k
     where
-      go : (k : Turn) → It (brought k r)
+      go : (k : Effect) → It (brought k r)
       go (Joins u) = threads u.0
       go (Opens l) = locks l.0
       go (Accesses y i) = w.none
@@ -214,7 +214,7 @@ module _ (s : State) (t : ThreadId) (k : Turn) (w : AreWhole s)
   strict_whole : It c
   strict_whole = both (s.strict.thread t.0) (extra t k s) (w.strict t.0) (go k)
     where
-      go : (k : Turn) → It (extra t k s)
+      go : (k : Effect) → It (extra t k s)
       go (Accesses x j) = all_whole x j (s.held t.0)
       go (Closes l) = closed_whole (s.strict.thread t.0) (s.closed l.0) (w.closed l.0)
       go (Opens l) = w.strict_lock l.0
@@ -238,7 +238,7 @@ module _ (s : State) (t : ThreadId) (k : Turn) (w : AreWhole s)
       own_written : (v : ℕ) → Next (with_row t.0 h f v)
       own_written = written f h t.0 each it
 
-      go : (r : Turn) → Next (to_child r h (with_row t.0 h f) v)
+      go : (r : Effect) → Next (to_child r h (with_row t.0 h f) v)
       go (Forks u) = written (with_row t.0 h f) h u.0 own_written it v
       go (Accesses y i) = own_written v
       go (Opens m) = own_written v
@@ -250,7 +250,7 @@ module _ (s : State) (t : ThreadId) (k : Turn) (w : AreWhole s)
       → Next (to_lock k h f l)
   to_locks f h each it l = go k
     where
-      go : (r : Turn) → Next (to_lock r h f l)
+      go : (r : Effect) → Next (to_lock r h f l)
       go (Closes m) = written f h m.0 each it l
       go (Forks u) = each l
       go (Accesses y i) = each l
@@ -268,7 +268,7 @@ module _ (s : State) (t : ThreadId) (k : Turn) (w : AreWhole s)
       either true = next_both (s.others l x j v) g old new_whole
       either false = old
 
-      go : (r : Turn) → Next (others_after t.0 r g s l x j v)
+      go : (r : Effect) → Next (others_after t.0 r g s l x j v)
       go (Closes m) = either (nat_eq l m.0 && (not (nat_eq v t.0) && s.noted t.0 l x j))
       go (Forks u) = old
       go (Accesses y i) = old
@@ -305,5 +305,5 @@ whole_after e s w grows = record {
     t : ThreadId
     t = e.thread
 
-    k : Turn
-    k = turn e s
+    k : Effect
+    k = effect e s

@@ -8,14 +8,14 @@ use Rattle.event_core.specs.declared.ids.ThreadId.{ThreadId}
 use Rattle.event_core.specs.Closed.{number_counted}
 use Rattle.event_core.specs.Refusal.{WellFormed}
 use Rattle.event_core.specs.Rows.{with_row}
-use Rattle.event_core.specs.Turn.{Turn, Accesses, Opens, Closes, Forks, Joins, Inner}
+use Rattle.event_core.specs.Effect.{Effect, Accesses, Opens, Closes, Forks, Joins, Inner}
 use Rattle.event_core.proofs.Counting.{grown_length}
 use Rattle.event_core.proofs.Growing.{row_same}
 use Rattle.event_core.proofs.Growth.{well_formed_front}
-use Rattle.hb_clocks.specs.Work.{Done}
+use Rattle.vector_clocks.specs.Work.{Done}
 use Rattle.wcp_laws.specs.Conditions.{found_at}
 use Rattle.wcp_laws.specs.Found.{total_found, threads_in}
-use Rattle.wcp_laws.specs.Step.{turn}
+use Rattle.wcp_laws.specs.Step.{effect}
 use Rattle.wcp_laws.proofs.FoundLaws.{found_at_close, found_at_most, threads_within}
 use Rattle.wcp_clocks.specs.declared.parts.Parts.{Parts}
 use Rattle.wcp_clocks.specs.Parts.{state_of, found_in, most_joins, FewComparisons}
@@ -26,7 +26,7 @@ use Rattle.wcp_clocks.proofs.HeldLocks.{held_within}
 use Rattle.wcp_clocks.proofs.Named.{thread_within, closed_within}
 
 -- the joins of one event
-joins_within : (k : Turn) (held locks : ℕ) → held ≤ locks → most_joins k held ≤ 2 * locks + 3
+joins_within : (k : Effect) (held locks : ℕ) → held ≤ locks → most_joins k held ≤ 2 * locks + 3
 joins_within (Accesses x k) held locks few = omega arith
 joins_within (Opens l) held locks few = omega arith
 joins_within (Closes l) held locks few = omega arith
@@ -45,7 +45,7 @@ none_compared m old new n same found was =
     omega arith
 
 -- a closing release compares what it newly finds, and once more
-comparisons_within : (m : Limits) (t : ThreadId) (k : Turn) (old new : Parts) (n : ℕ) → t.0 < m.threads
+comparisons_within : (m : Limits) (t : ThreadId) (k : Effect) (old new : Parts) (n : ℕ) → t.0 < m.threads
     → ((l : LockId) → k ≡ Closes l → l.0 < m.locks)
     → FewComparisons t k old new → found_in new ≡ found_at t k (state_of old) (found_in old)
     → old.work.comparisons ≤ total_found m.locks m.threads (found_in old) + n
@@ -94,7 +94,7 @@ same_work limits log old new same was = record {
 pub work_step : WorkStep
 work_step limits log e old new w st was is =
     let front : WellFormed limits log = well_formed_front limits log (e ∷ []) w in
-    let k : Turn = turn e (state_of old) in
+    let k : Effect = effect e (state_of old) in
     let grown : length (log ++ e ∷ []) ≡ length log + 1 = grown_length log e in
     let most : most_joins k (length ((state_of old).held e.thread.0)) ≤ 2 * limits.locks + 3
     = joins_within k (length ((state_of old).held e.thread.0)) limits.locks

@@ -8,15 +8,15 @@ use Rattle.event_core.specs.declared.events.Op.TheVariants.{Load, Store, Acquire
 use Rattle.event_core.specs.declared.events.Event.{Event}
 use Rattle.event_core.specs.declared.bounds.Limits.{Limits}
 use Rattle.event_core.specs.Closed.{Has}
-use Rattle.event_core.specs.Turn.{Turn, Accesses, Closes}
+use Rattle.event_core.specs.Effect.{Effect, Accesses, Closes}
 use Rattle.hb_clocks.specs.State.{HbState, po_row}
 use Rattle.hb_clocks.specs.Stands.{Admits, IsFew}
 use Rattle.hb_clocks.specs.Tables as hb
-use Rattle.hb_clocks.specs.Work.{Done}
+use Rattle.vector_clocks.specs.Work.{Done}
 use Rattle.section_sum.specs.Sums.{noted_of, HasRoom, IsAlone}
 use Rattle.lock_queues.specs.Queues.{closed_of, opened_of, found_of, has_room}
 use Rattle.wcp_laws.specs.State.{State}
-use Rattle.wcp_laws.specs.Step.{turn, hb_row, after}
+use Rattle.wcp_laws.specs.Step.{effect, hb_row, after}
 use Rattle.wcp_laws.specs.Conditions.{IsSound, CursorsStand}
 use Rattle.wcp_clocks.specs.declared.parts.Parts.{Parts}
 use Rattle.wcp_clocks.specs.HeldLists.{list_at, held_of, room_at}
@@ -122,7 +122,7 @@ pub record Fits (e : Event) (p : Parts) : Type 0 where
   -- before its thread's event it counts fewer events than a log may have
   pub few_counts : (u : ℕ) → (hb_of p).hb.thread e.thread.0 u < 4294967296
   -- a section that is closed has a number
-  pub few_closed : (l : LockId) → turn e (state_of p) ≡ Closes l
+  pub few_closed : (l : LockId) → effect e (state_of p) ≡ Closes l
       → length (closed_of p.queues l.0) + 1 < 4294967296
   pub held : (l : LockId) → Has l.0 (held_of p.held e.thread.0) ↔ (0 < (hb_of p).depth e.thread.0 l.0)
   pub cursors : CursorsStand (state_of p) (found_in p)
@@ -153,12 +153,12 @@ pub record SameLimits (old new : Parts) : Type 0 where
   pub limits : limits_of new ≡ limits_of old
 
 -- how many joins an event takes at most, where its thread holds so many locks
-abbrev pub most_joins : Turn → ℕ → ℕ
+abbrev pub most_joins : Effect → ℕ → ℕ
 most_joins (Accesses x k) held = 2 * held
 most_joins _ held = 3
 
 -- a closing release makes one comparison more than it finds sections, at most, and nothing else makes one
-abbrev pub FewComparisons : ThreadId → Turn → Parts → Parts → Type 0
+abbrev pub FewComparisons : ThreadId → Effect → Parts → Parts → Type 0
 FewComparisons t (Closes l) old new = (work_of new).comparisons + found_in old l.0 t.0
     ≤ (work_of old).comparisons + found_in new l.0 t.0 + 1
 FewComparisons t _ old new = (work_of new).comparisons ≡ (work_of old).comparisons

@@ -2,12 +2,12 @@
 use Rattle.std.specs.Prelude.{◌≡◌, ℕ, ◌+◌, ◌≤◌, length}
 use Rattle.event_core.specs.declared.events.Event.{Event}
 use Rattle.event_core.specs.Rows.{join, with_row, to_child, to_lock}
-use Rattle.event_core.specs.Turn.{Turn}
+use Rattle.event_core.specs.Effect.{Effect}
 use Rattle.hb_clocks.specs.State as hb
 use Rattle.hb_clocks.specs.Tables.{KeepsRoom as KeepsOrder}
 use Rattle.section_sum.specs.Sums.{noted_of}
 use Rattle.lock_queues.specs.Queues.{closed_of, opened_of}
-use Rattle.wcp_laws.specs.Step.{turn, after, hb_row, extra, opened_after, held_after, noted_after}
+use Rattle.wcp_laws.specs.Step.{effect, after, hb_row, extra, opened_after, held_after, noted_after}
 use Rattle.wcp_laws.specs.Step.{others_after, closed_after}
 use Rattle.wcp_laws.specs.Conditions.{found_at}
 use Rattle.wcp_clocks.specs.declared.parts.Parts.{Parts}
@@ -21,20 +21,20 @@ use Rattle.wcp_clocks.specs.Met.{met_clocks, AreNumbers}
 pub record IsStep (e : Event) (old new : Parts) : Type 0 where
   pub exact : state_of new ≡ after e (state_of old)
   pub hb : hb_of new ≡ hb.after e (hb_of old)
-  pub found : found_in new ≡ found_at e.thread (turn e (state_of old)) (state_of old) (found_in old)
+  pub found : found_in new ≡ found_at e.thread (effect e (state_of old)) (state_of old) (found_in old)
   pub joins : new.work.joins
-      ≤ old.work.joins + most_joins (turn e (state_of old)) (length (held_of old.held e.thread.0))
-  pub comparisons : FewComparisons e.thread (turn e (state_of old)) old new
+      ≤ old.work.joins + most_joins (effect e (state_of old)) (length (held_of old.held e.thread.0))
+  pub comparisons : FewComparisons e.thread (effect e (state_of old)) old new
   pub limits : SameLimits old new
   pub parts : AreParts new
   pub kept : IsAccess e.op → KeepsReady old new
 
--- the event's strict clock, where the turn is k
-abbrev pub strict_clock : Event → Turn → Parts → ℕ → ℕ
+-- the event's strict clock, where the effect is k
+abbrev pub strict_clock : Event → Effect → Parts → ℕ → ℕ
 strict_clock e k p = join ((strict_of p.rows).thread e.thread.0) (extra e.thread k (state_of p))
 
--- the step part by part, where the turn is k
-pub record IsStepBy (e : Event) (k : Turn) (old new : Parts) : Type 0 where
+-- the step part by part, where the effect is k
+pub record IsStepBy (e : Event) (k : Effect) (old new : Parts) : Type 0 where
   pub hb : hb_of new ≡ hb.after e (hb_of old)
   pub order_room : KeepsOrder old.hb new.hb
   pub threads : (strict_of new.rows).thread ≡ to_child k (strict_clock e k old)

@@ -3,7 +3,7 @@ use Rattle.std.specs.Prelude.{◌≡◌, ◌+◌, ◌*◌, ◌≤◌, List, [], 
 use Rattle.event_core.specs.declared.events.Event.{Event}
 use Rattle.event_core.specs.declared.bounds.Limits.{Limits}
 use Rattle.event_core.specs.Refusal.{WellFormed}
-use Rattle.wcp_laws.specs.Step.{turn}
+use Rattle.wcp_laws.specs.Step.{effect}
 use Rattle.wcp_laws.specs.Conditions.{found_at}
 use Rattle.wcp_laws.specs.Found.{total_found, threads_in}
 use Rattle.wcp_clocks.specs.declared.parts.Parts.{Parts}
@@ -19,10 +19,10 @@ pub record WorkWithin (limits : Limits) (log : List Event) (p : Parts) : Type 0 
 
 -- what the event found, and the work that it took at most
 pub record IsWorkOf (e : Event) (old new : Parts) : Type 0 where
-  pub found : found_in new ≡ found_at e.thread (turn e (state_of old)) (state_of old) (found_in old)
+  pub found : found_in new ≡ found_at e.thread (effect e (state_of old)) (state_of old) (found_in old)
   pub joins : (work_of new).joins ≤ (work_of old).joins
-      + most_joins (turn e (state_of old)) (length ((state_of old).held e.thread.0))
-  pub comparisons : FewComparisons e.thread (turn e (state_of old)) old new
+      + most_joins (effect e (state_of old)) (length ((state_of old).held e.thread.0))
+  pub comparisons : FewComparisons e.thread (effect e (state_of old)) old new
 
 -- no work is within the bounds of the empty log
 abbrev pub NoWork : Type 0

@@ -15,28 +15,28 @@ ghost use Rattle.event_core.specs.Refusal.{WellFormed};
 ghost use Rattle.event_core.specs.Count.{Counts};
 ghost use Rattle.event_core.specs.Rows.{Counted, join};
 ghost use Rattle.event_core.specs.Wcp.{Strict, Below};
-ghost use Rattle.hb_clocks.specs.Counts.{counts_of};
-ghost use Rattle.hb_clocks.specs.Marks.{IsLatest};
+ghost use Rattle.vector_clocks.specs.Counts.{counts_of};
+ghost use Rattle.vector_clocks.specs.Marks.{IsLatest};
 ghost use Rattle.hb_clocks.specs.State.{empty as hb_empty, after as hb_after};
 ghost use Rattle.hb_clocks.specs.Stands.{IsHeldRelease};
 ghost use Rattle.wcp_laws.specs.State.{empty};
-ghost use Rattle.wcp_laws.specs.Step.{after, turn};
+ghost use Rattle.wcp_laws.specs.Step.{after, effect};
 ghost use Rattle.wcp_laws.specs.Conditions.{found_at};
 ghost use Rattle.wcp_clocks.specs.Parts.{hb_of, state_of, width_of, limits_of, work_of, found_in};
 ghost use Rattle.wcp_clocks.specs.Parts.{IsReady, Fits, KeepsReady, SameLimits, SameNumbers, most_joins};
 ghost use Rattle.wcp_clocks.specs.Parts.{FewComparisons, IsWithin, IsAccess, IsReadyToSwap};
 ghost use Rattle.wcp_clocks.specs.StandsFor.{StandsFor};
 
+use crate::effects::step;
 use crate::numbers::{below_clock, below_number, strict_number};
 use crate::parts::Parts;
 use crate::room::{
     are_both_ready, are_ready, new_parts, prepare_both, prepare_parts, ready_or_grow,
 };
-use crate::turns::step;
 use event_core::{Event, Limits, OutOfMemory, ThreadId, VarId};
-use hb_clocks::JoinedClocks;
 use std::alloc::Global;
 use std::marker::Model;
+use vector_clocks::JoinedClocks;
 
 /// The clocks of the strict relation, and of all that it stands on.
 ///
@@ -136,14 +136,14 @@ impl WcpClocks {
         requires fits { Fits event.now self.old }
         ensures exact { state_of self.new ≡ after event.now (state_of self.old) }
         ensures happens_before { hb_of self.new ≡ hb_after event.now (hb_of self.old) }
-        ensures found { found_in self.new ≡ found_at event.now.thread (turn event.now (state_of self.old))
+        ensures found { found_in self.new ≡ found_at event.now.thread (effect event.now (state_of self.old))
             (state_of self.old) (found_in self.old) }
         ensures stands { (limits : Bounds) (log : List AnEvent) → WellFormed limits (log ++ event.now ∷ [])
             → StandsFor log self.old → StandsFor (log ++ event.now ∷ []) self.new }
         ensures joins { (work_of self.new).joins ≤ (work_of self.old).joins
-            + most_joins (turn event.now (state_of self.old))
+            + most_joins (effect event.now (state_of self.old))
             (length ((state_of self.old).held event.now.thread.0)) }
-        ensures comparisons { FewComparisons event.now.thread (turn event.now (state_of self.old)) self.old
+        ensures comparisons { FewComparisons event.now.thread (effect event.now (state_of self.old)) self.old
             self.new }
         ensures kept { IsAccess event.now.op → KeepsReady self.old self.new }
         ensures limits { SameLimits self.old self.new }

@@ -2,6 +2,7 @@
 #![tactic(auto)]
 
 mod clocks;
+mod effects;
 mod holdings;
 pub mod laws;
 mod numbers;
@@ -9,6 +10,5 @@ mod parts;
 mod room;
 mod sources;
 mod strict;
-mod turns;
 
 pub use clocks::WcpClocks;

@@ -1,12 +1,12 @@
 //! What the parts say of a thread's latest event.
 ghost use Rattle.std.specs.Prelude.{◌≡◌, ◌<◌, length, max};
 ghost use Rattle.event_core.specs.Rows.{join};
-ghost use Rattle.hb_clocks.specs.Counts.{counts_of};
+ghost use Rattle.vector_clocks.specs.Counts.{counts_of};
 ghost use Rattle.wcp_clocks.specs.Parts.{hb_of, state_of, AreParts};
 
 use crate::parts::Parts;
 use event_core::ThreadId;
-use hb_clocks::JoinedClocks;
+use vector_clocks::JoinedClocks;
 
 // How many events of the other thread strictly precede it.
 pub(crate) fn strict_number(parts: &Parts, thread: ThreadId, other: ThreadId) -> u64

@@ -1,9 +1,10 @@
 //! The parts that the clocks stand on.
 use crate::holdings::Holdings;
 use crate::strict::StrictRows;
-use hb_clocks::{HbClocks, Work};
+use hb_clocks::HbClocks;
 use lock_queues::Queues;
 use section_sum::Summaries;
+use vector_clocks::Work;
 
 /// Clocks of program order and happens-before, of the strict relation, what closed sections saw, and
 /// the work that was done.

@@ -10,8 +10,8 @@ use Rattle.event_core.specs.Count.{events_of, Past, LockPast}
 use Rattle.event_core.specs.Order.{Hb, here}
 use Rattle.event_core.specs.Orderly.{Orderly}
 use Rattle.event_core.specs.Refusal.{WellFormed}
-use Rattle.event_core.specs.Rows.{Counted, RowsStand, rows_after}
-use Rattle.event_core.specs.Turn.{Turn, Accesses, Opens, Closes, Forks, Joins, Inner}
+use Rattle.event_core.specs.Rows.{brought, Counted, RowsStand, rows_after}
+use Rattle.event_core.specs.Effect.{Effect, Accesses, Opens, Closes, Forks, Joins, Inner}
 use Rattle.event_core.specs.Wcp.{Strict, rule_c_right}
 use Rattle.event_core.proofs.Chains.{hb_forward, hb_trans}
 use Rattle.event_core.proofs.Counting.{counted_join, counted_longer, events_own, events_other}
@@ -19,52 +19,56 @@ use Rattle.event_core.proofs.Growing.{Leads, leads_cases, rows_stand, led_row, o
 use Rattle.event_core.proofs.Legality.{orderly}
 use Rattle.event_core.proofs.Main.{strict_forward}
 use Rattle.event_core.proofs.Stable.{longer, back, hb_too, strict_too}
-use Rattle.event_core.proofs.Turning.{Fits, fits}
-use Rattle.hb_clocks.proofs.Brings.{clock_counted, own_row, forked_none}
-use Rattle.hb_clocks.proofs.HbSteps.{hb_to, hb_from}
+use Rattle.event_core.proofs.Effects.{Fits, fits}
+use Rattle.event_core.proofs.Brings.{Brings, counted_brings, clock_counted, own_row, forked_none}
+use Rattle.event_core.proofs.HbSteps.{hb_to, hb_from}
 use Rattle.wcp_laws.specs.Standing.{Stands}
 use Rattle.wcp_laws.specs.State.{State}
-use Rattle.wcp_laws.specs.Step.{turn, extra, hb_row, strict_row}
-use Rattle.wcp_laws.proofs.Brings.{counted_brought}
+use Rattle.wcp_laws.specs.Step.{effect, extra, hb_row, strict_row}
 use Rattle.wcp_laws.proofs.ClosedSections.{counted_behind}
 use Rattle.wcp_laws.proofs.Sources.{counted_under}
 use Rattle.wcp_laws.proofs.StrictSteps.{Adds, strict_to, strict_from}
 
-pub turn_fits : (log : List Event) (e : Event) (s : State) → Stands log s → Fits log e (turn e s)
-turn_fits log e s st = fits log e (s.depth e.thread.0) (λ l. st.depths e.thread l)
+pub effect_fits : (log : List Event) (e : Event) (s : State) → Stands log s → Fits log e (effect e s)
+effect_fits log e s st = fits log e (s.depth e.thread.0) (λ l. st.depths e.thread l)
+
+counted_brought : (log : List Event) (s : State) → Stands log s → (k : Effect)
+    → Counted log (Brings log (Strict log) (LockPast log (Strict log)) k) (brought k s.strict)
+counted_brought log s st =
+    counted_brings log (Strict log) (LockPast log (Strict log)) s.strict st.strict.thread st.strict.lock
 
 -- what an event adds to the strict clock of its thread is counted
-counted_adds : (log : List Event) (s : State) → Stands log s → (t : ThreadId) (k : Turn)
+counted_adds : (log : List Event) (s : State) → Stands log s → (t : ThreadId) (k : Effect)
     → Counted log (Adds log t k) (extra t k s)
 counted_adds log s st t (Accesses x k) = counted_under log s st x k t
 counted_adds log s st t (Closes l) = counted_behind log s st t l
-counted_adds log s st t (Opens l) = counted_brought log (Strict log) s.strict st.strict (Opens l)
-counted_adds log s st t (Joins u) = counted_brought log (Strict log) s.strict st.strict (Joins u)
-counted_adds log s st t (Forks u) = counted_brought log (Strict log) s.strict st.strict (Forks u)
-counted_adds log s st t Inner = counted_brought log (Strict log) s.strict st.strict Inner
+counted_adds log s st t (Opens l) = counted_brought log s st (Opens l)
+counted_adds log s st t (Joins u) = counted_brought log s st (Joins u)
+counted_adds log s st t (Forks u) = counted_brought log s st (Forks u)
+counted_adds log s st t Inner = counted_brought log s st Inner
 
 module _ (log : List Event) (e : Event) (s : State) (st : Stands log s) where
-  fit : Fits log e (turn e s)
-  fit = turn_fits log e s st
+  fit : Fits log e (effect e s)
+  fit = effect_fits log e s st
 
   -- the event's clock of happens-before counts what is below it
   pub hb_counted : Counted (log ++ e ∷ []) (λ i. Hb (log ++ e ∷ []) i (length log)) (hb_row e s)
   hb_counted = clock_counted log (Hb log) (LockPast log (Hb log)) s.hb st.hb.thread st.hb.lock st.own e
-      (turn e s) (Hb (log ++ e ∷ []))
-      (λ i. here) here (hb_to log e (turn e s) fit) (hb_from log e (turn e s) fit)
+      (effect e s) (Hb (log ++ e ∷ []))
+      (λ i. here) here (hb_to log e (effect e s) fit) (hb_from log e (effect e s) fit)
 
   -- its own number is that of its thread's events
   pub own_clock : hb_row e s e.thread.0 ≡ events_of log e.thread + 1
   own_clock = own_row log (Hb log) (LockPast log (Hb log)) s.hb st.hb.thread st.hb.lock st.own e.thread
-      (turn e s)
+      (effect e s)
 
   -- of a thread that it forks there is no event
   pub forked_clock : Orderly (log ++ e ∷ []) → (t : ThreadId) → e.op ≡ Fork t
       → hb_row e s t.0 ≡ events_of (log ++ e ∷ []) t
   forked_clock ord t o =
-      forked_none log (Hb log) (LockPast log (Hb log)) s.hb st.hb.thread st.hb.lock st.own e (turn e s)
+      forked_none log (Hb log) (LockPast log (Hb log)) s.hb st.hb.thread st.hb.lock st.own e (effect e s)
       (Hb (log ++ e ∷ []))
-      (λ i. here) here (hb_to log e (turn e s) fit) (hb_from log e (turn e s) fit) ord t o
+      (λ i. here) here (hb_to log e (effect e s) fit) (hb_from log e (effect e s) fit) ord t o
 
 module _ (limits : Limits) (log : List Event) (e : Event) (s : State)
     (w : WellFormed limits (log ++ e ∷ []))
@@ -81,41 +85,41 @@ module _ (limits : Limits) (log : List Event) (e : Event) (s : State)
   -- the event's strict clock counts what strictly precedes it
   strict_counted : Counted (log ++ e ∷ []) (λ i. Strict (log ++ e ∷ []) i (length log)) (strict_row e s)
   strict_counted =
-      counted_longer log e (λ i. Past log (Strict log) e.thread i ⊎ Adds log e.thread (turn e s) i)
+      counted_longer log e (λ i. Past log (Strict log) e.thread i ⊎ Adds log e.thread (effect e s) i)
       (λ i. Strict (log ++ e ∷ []) i (length log)) (strict_row e s)
-      (strict_from log e ord (turn e s) (turn_fits log e s st))
-      (λ i lt p. strict_to log e ord (turn e s) (turn_fits log e s st) i p) (λ i p. strict_forward p)
-      (counted_join log (Past log (Strict log) e.thread) (Adds log e.thread (turn e s))
-      (s.strict.thread e.thread.0) (extra e.thread (turn e s) s)
-      (st.strict.thread e.thread) (counted_adds log s st e.thread (turn e s)))
+      (strict_from log e ord (effect e s) (effect_fits log e s st))
+      (λ i lt p. strict_to log e ord (effect e s) (effect_fits log e s st) i p) (λ i p. strict_forward p)
+      (counted_join log (Past log (Strict log) e.thread) (Adds log e.thread (effect e s))
+      (s.strict.thread e.thread.0) (extra e.thread (effect e s) s)
+      (st.strict.thread e.thread) (counted_adds log s st e.thread (effect e s)))
 
   pub hb_stands : RowsStand (log ++ e ∷ []) (Hb (log ++ e ∷ []))
-      (rows_after e.thread (turn e s) (hb_row e s) s.hb)
+      (rows_after e.thread (effect e s) (hb_row e s) s.hb)
   hb_stands =
       rows_stand limits log e w ord (Hb log) (Hb (log ++ e ∷ [])) same_hb (λ i j h. hb_forward h)
-      (λ i g j a b. hb_trans a b) (turn e s) (turn_fits log e s st) (hb_row e s) s.hb st.hb
+      (λ i g j a b. hb_trans a b) (effect e s) (effect_fits log e s st) (hb_row e s) s.hb st.hb
       (hb_counted log e s st)
 
   pub strict_stands : RowsStand (log ++ e ∷ []) (Strict (log ++ e ∷ []))
-      (rows_after e.thread (turn e s) (strict_row e s) s.strict)
+      (rows_after e.thread (effect e s) (strict_row e s) s.strict)
   strict_stands =
       rows_stand limits log e w ord (Strict log) (Strict (log ++ e ∷ [])) same_strict
       (λ i j h. (let lt : i < j = strict_forward h in omega arith))
-      (λ i g j a b. rule_c_right a b) (turn e s) (turn_fits log e s st) (strict_row e s) s.strict st.strict
-      strict_counted
+      (λ i g j a b. rule_c_right a b)
+      (effect e s) (effect_fits log e s st) (strict_row e s) s.strict st.strict strict_counted
 
   -- a thread's own number is that of its events
   module _ (t : ThreadId) where
-    led : Leads e t → (rows_after e.thread (turn e s) (hb_row e s) s.hb).thread t.0 ≡ hb_row e s
+    led : Leads e t → (rows_after e.thread (effect e s) (hb_row e s) s.hb).thread t.0 ≡ hb_row e s
     led = led_row limits log e w ord (Hb log) (Hb (log ++ e ∷ [])) same_hb (λ i j h. hb_forward h)
-        (λ i g j a b. hb_trans a b) (turn e s) (turn_fits log e s st) t (hb_row e s) s.hb.thread
+        (λ i g j a b. hb_trans a b) (effect e s) (effect_fits log e s st) t (hb_row e s) s.hb.thread
 
     other : (Leads e t → ⊥)
-        → (rows_after e.thread (turn e s) (hb_row e s) s.hb).thread t.0 ≡ s.hb.thread t.0
+        → (rows_after e.thread (effect e s) (hb_row e s) s.hb).thread t.0 ≡ s.hb.thread t.0
     other = other_row limits log e w ord (Hb log) (Hb (log ++ e ∷ [])) same_hb (λ i j h. hb_forward h)
-        (λ i g j a b. hb_trans a b) (turn e s) (turn_fits log e s st) t (hb_row e s) s.hb.thread
+        (λ i g j a b. hb_trans a b) (effect e s) (effect_fits log e s st) t (hb_row e s) s.hb.thread
 
-    pub own_stands : (rows_after e.thread (turn e s) (hb_row e s) s.hb).thread t.0 t.0
+    pub own_stands : (rows_after e.thread (effect e s) (hb_row e s) s.hb).thread t.0 t.0
         ≡ events_of (log ++ e ∷ []) t
     unfolding Leads
     own_stands = go (leads_cases e t)
@@ -124,7 +128,7 @@ module _ (limits : Limits) (log : List Event) (e : Event) (s : State)
         mine = own_clock log e s st ∙ sym (events_own log e)
 
         go : Leads e t ⊎ (Leads e t → ⊥)
-            → (rows_after e.thread (turn e s) (hb_row e s) s.hb).thread t.0 t.0
+            → (rows_after e.thread (effect e s) (hb_row e s) s.hb).thread t.0 t.0
             ≡ events_of (log ++ e ∷ []) t
         go (inl (inl a)) =
             ap (λ (row : ℕ → ℕ). row t.0) (led (inl a))

@@ -12,7 +12,7 @@ use Rattle.event_core.specs.Log.{OuterRelease, Section}
 use Rattle.event_core.specs.Order.{Hb}
 use Rattle.event_core.specs.Orderly.{Orderly}
 use Rattle.event_core.specs.Rows.{with_row, Counted}
-use Rattle.event_core.specs.Turn.{Turn, Accesses, Opens, Closes, Forks, Joins, Inner}
+use Rattle.event_core.specs.Effect.{Effect, Accesses, Opens, Closes, Forks, Joins, Inner}
 use Rattle.event_core.proofs.Chains.{hb_forward}
 use Rattle.event_core.proofs.Counting.{counted_longer, is_last, last_thread}
 use Rattle.event_core.proofs.Depth.{same_lock_id, lock_cases, section_of}
@@ -20,13 +20,13 @@ use Rattle.event_core.proofs.Growing.{row_same, row_other}
 use Rattle.event_core.proofs.LogFacts.{of_does}
 use Rattle.event_core.proofs.Members.{has_front, has_last, has_split}
 use Rattle.event_core.proofs.Stable.{longer, back, section_too, hb_too}
-use Rattle.event_core.proofs.Turning.{Fits, accesses, opens, closes, forks, joins, again, inner, front}
-use Rattle.event_core.proofs.Turning.{last_closes}
+use Rattle.event_core.proofs.Effects.{Fits, accesses, opens, closes, forks, joins, again, inner, front}
+use Rattle.event_core.proofs.Effects.{last_closes}
 use Rattle.wcp_laws.specs.Standing.{Stands}
 use Rattle.wcp_laws.specs.State.{State}
 use Rattle.wcp_laws.specs.Step.{closed_after}
-use Rattle.wcp_laws.proofs.Closings.{closing_open}
-use Rattle.wcp_laws.proofs.OpenSections.{is_closes}
+use Rattle.event_core.proofs.OpenSections.{closing_open}
+use Rattle.event_core.proofs.OpenSections.{is_closes}
 
 module _ (log : List Event) (e : Event) (ord : Orderly (log ++ e ∷ [])) where
   -- the entry of a closed section is its entry in the longer log
@@ -48,7 +48,7 @@ module _ (log : List Event) (e : Event) (ord : Orderly (log ++ e ∷ [])) where
       lt = slice_get_within log r c.section.closed.does.event c.section.closed.does.at
 
   -- the lists have the closed sections
-  pub closed_stand : (k : Turn) → Fits log e k → (g : ℕ → ℕ)
+  pub closed_stand : (k : Effect) → Fits log e k → (g : ℕ → ℕ)
       → Counted (log ++ e ∷ []) (λ i. Hb (log ++ e ∷ []) i (length log)) g → (s : State) → Stands log s
       → (l : LockId) → ClosedStand (log ++ e ∷ []) l (closed_after e.thread.0 k g s l.0)
   closed_stand k fit g is s st l = go k fit
@@ -135,10 +135,10 @@ module _ (log : List Event) (e : Event) (ord : Orderly (log ++ e ∷ [])) where
                     (subst (λ v. IsClosed (log ++ e ∷ []) v l a (length log) (entry l)) th (of_it a x')),
               )
 
-      no_close : (k : Turn) → Fits log e k → ((l : LockId) → k ≡ Closes l → ⊥) → Goal (s.closed l.0)
+      no_close : (k : Effect) → Fits log e k → ((l : LockId) → k ≡ Closes l → ⊥) → Goal (s.closed l.0)
       no_close k f none = kept (λ c. none l (is_closes log e ord k f l c))
 
-      go : (k : Turn) → Fits log e k → Goal (closed_after e.thread.0 k g s l.0)
+      go : (k : Effect) → Fits log e k → Goal (closed_after e.thread.0 k g s l.0)
       go _ (accesses y i o) = no_close (Accesses y i) (accesses y i o) (λ l q. cc)
       go _ (opens n o d) = no_close (Opens n) (opens n o d) (λ l q. cc)
       go _ (forks u o) = no_close (Forks u) (forks u o) (λ l q. cc)

@@ -18,7 +18,7 @@ use Rattle.event_core.proofs.Members.{none_in}
 use Rattle.wcp_laws.specs.Standing.{Stands}
 use Rattle.wcp_laws.specs.State.{State}
 use Rattle.wcp_laws.proofs.StrictSteps.{Behind}
-use Rattle.wcp_laws.proofs.Tests.{not_both}
+use Rattle.event_core.proofs.Tests.{not_both}
 
 -- the test of a section's acquire says whether the acquire is in the clock's set
 pub counted_is : (log : List Event) (P : ℕ → Type 0) (c : ℕ → ℕ) (u : ThreadId) (l : LockId) (a r : ℕ)

@@ -6,26 +6,26 @@ use Rattle.event_core.specs.declared.ids.LockId.{LockId}
 use Rattle.event_core.specs.Count.{events_of}
 use Rattle.event_core.specs.Log.{depth}
 use Rattle.event_core.specs.Refusal.{WellFormed}
-use Rattle.event_core.specs.Turn.{Closes}
+use Rattle.event_core.specs.Effect.{Closes}
 use Rattle.event_core.proofs.Growth.{well_formed_front}
 use Rattle.event_core.proofs.Legality.{orderly}
 use Rattle.wcp_laws.specs.Conditions.{SoundWhereLegal}
 use Rattle.wcp_laws.specs.Standing.{Stands}
 use Rattle.wcp_laws.specs.State.{State}
-use Rattle.wcp_laws.specs.Step.{turn}
-use Rattle.wcp_laws.proofs.Clocks.{turn_fits}
-use Rattle.wcp_laws.proofs.OpenSections.{closes_at, open_by_depth}
+use Rattle.wcp_laws.specs.Step.{effect}
+use Rattle.wcp_laws.proofs.Clocks.{effect_fits}
+use Rattle.event_core.proofs.OpenSections.{closes_at, open_by_depth}
 use Rattle.wcp_laws.proofs.Ordering.{counted_earlier, releases_above}
 
 -- the section that an event closes was opened
 opened_before : (limits : Limits) (log : List Event) (e : Event) (s : State)
     → WellFormed limits (log ++ e ∷ []) → Stands log s
-    → (l : LockId) → turn e s ≡ Closes l → 0 < s.opened e.thread.0 l.0
+    → (l : LockId) → effect e s ≡ Closes l → 0 < s.opened e.thread.0 l.0
 opened_before limits log e s w st l is =
     let ord = orderly limits (log ++ e ∷ []) w in
-    let closed = closes_at log e ord (turn e s) (turn_fits log e s st) l is in
-    let one : depth log e.thread l ≡ 1 = closed.1 in
-    let section = open_by_depth log e ord e.thread l (omega arith) in
+    let closed = closes_at log e ord (effect e s) (effect_fits log e s st) l is in
+    let one : depth log e.thread l ≡ 1 = closed.outer in
+    let section = open_by_depth log e.thread l (omega arith) in
     let at : s.opened e.thread.0 l.0 ≡ events_of (take section.0 log) e.thread + 1
     = st.opened e.thread l section.0 section.1 in
     omega arith

@@ -9,15 +9,15 @@ use Rattle.event_core.specs.declared.ids.ThreadId.{ThreadId}
 use Rattle.event_core.specs.Closed.{Closed, is_counted, number_counted}
 use Rattle.event_core.specs.Refusal.{WellFormed}
 use Rattle.event_core.specs.Rows.{with_row}
-use Rattle.event_core.specs.Turn.{Turn, Accesses, Opens, Closes, Forks, Joins, Inner}
+use Rattle.event_core.specs.Effect.{Effect, Accesses, Opens, Closes, Forks, Joins, Inner}
 use Rattle.event_core.proofs.Depth.{lock_cases, same_lock_id, same_thread_id}
 use Rattle.event_core.proofs.Growing.{row_same, row_other}
-use Rattle.hb_clocks.proofs.Depths.{cell_same, cell_other}
+use Rattle.event_core.proofs.DepthSteps.{cell_same, cell_other}
 use Rattle.wcp_laws.specs.Conditions.{CursorsStand, found_at}
 use Rattle.wcp_laws.specs.Standing.{Stands}
 use Rattle.wcp_laws.specs.State.{State}
-use Rattle.wcp_laws.specs.Step.{turn, hb_row, after, closed_after}
-use Rattle.wcp_laws.proofs.Depths.{cell_cases}
+use Rattle.wcp_laws.specs.Step.{effect, hb_row, after, closed_after}
+use Rattle.event_core.proofs.HeldDepths.{cell_cases}
 use Rattle.wcp_laws.proofs.Ordering.{strict_grows}
 
 -- a higher clock counts at least as many sections
@@ -54,7 +54,7 @@ number_longer c (q ∷ qs) rs =
     omega arith
 
 -- an event takes no closed section away
-number_after : (c : ℕ → ℕ) (t : ℕ) (k : Turn) (g : ℕ → ℕ) (s : State) (l : LockId)
+number_after : (c : ℕ → ℕ) (t : ℕ) (k : Effect) (g : ℕ → ℕ) (s : State) (l : LockId)
     → number_counted c (s.closed l.0) ≤ number_counted c (closed_after t k g s l.0)
 number_after c t (Accesses x j) g s l = omega arith
 number_after c t (Opens n) g s l = omega arith
@@ -81,7 +81,7 @@ number_after c t (Closes n) g s l = go (lock_cases n l)
         (sym (row_other n.0 longer s.closed l.0 (λ q. other (same_lock_id (sym q))))) (omega arith)
 
 -- what an event finds counted is so before it
-found_stands : (t : ThreadId) (k : Turn) (s : State) (f : ℕ → ℕ → ℕ) → CursorsStand s f
+found_stands : (t : ThreadId) (k : Effect) (s : State) (f : ℕ → ℕ → ℕ) → CursorsStand s f
     → CursorsStand s (found_at t k s f)
 found_stands t (Accesses x j) s f stand l u = stand l u
 found_stands t (Opens n) s f stand l u = stand l u
@@ -111,16 +111,16 @@ found_stands t (Closes n) s f stand l u = go (cell_cases t u n l)
 -- what was found counted stays so
 pub cursors_step : (limits : Limits) (log : List Event) (e : Event) (s : State) (f : ℕ → ℕ → ℕ)
     → WellFormed limits (log ++ e ∷ []) → Stands log s → CursorsStand s f
-    → CursorsStand (after e s) (found_at e.thread (turn e s) s f)
+    → CursorsStand (after e s) (found_at e.thread (effect e s) s f)
 cursors_step limits log e s f w st stand l t =
-    let found : found_at e.thread (turn e s) s f l.0 t.0
+    let found : found_at e.thread (effect e s) s f l.0 t.0
     ≤ number_counted (s.strict.thread t.0) (s.closed l.0)
-    = found_stands e.thread (turn e s) s f stand l t in
+    = found_stands e.thread (effect e s) s f stand l t in
     let up : number_counted (s.strict.thread t.0) (s.closed l.0)
     ≤ number_counted ((after e s).strict.thread t.0) (s.closed l.0)
     = number_up (s.strict.thread t.0) ((after e s).strict.thread t.0) (s.closed l.0)
     (λ u. strict_grows limits log e s t u w st) in
     let more : number_counted ((after e s).strict.thread t.0) (s.closed l.0)
-    ≤ number_counted ((after e s).strict.thread t.0) (closed_after e.thread.0 (turn e s) (hb_row e s) s l.0)
-    = number_after ((after e s).strict.thread t.0) e.thread.0 (turn e s) (hb_row e s) s l in
+    ≤ number_counted ((after e s).strict.thread t.0) (closed_after e.thread.0 (effect e s) (hb_row e s) s l.0)
+    = number_after ((after e s).strict.thread t.0) e.thread.0 (effect e s) (hb_row e s) s l in
     omega arith

@@ -13,17 +13,17 @@ use Rattle.event_core.specs.Rows.{with_row}
 use Rattle.event_core.specs.declared.events.Op.{Op}
 use Rattle.event_core.specs.declared.events.Op.TheVariants.{Load, Store, Acquire, Release, Fork, Join}
 use Rattle.event_core.specs.Log.{depth}
-use Rattle.event_core.specs.Turn.{Turn, Accesses, Opens, Closes, Forks, Joins, Inner, turn_of}
+use Rattle.event_core.specs.Effect.{Effect, Accesses, Opens, Closes, Forks, Joins, Inner, effect_of}
 use Rattle.event_core.proofs.Counting.{events_own, events_other, grown_length}
 use Rattle.event_core.proofs.Depth.{thread_cases, same_thread_id}
 use Rattle.event_core.proofs.Growing.{row_same, row_other}
-use Rattle.hb_clocks.proofs.Depths.{cell_other}
+use Rattle.event_core.proofs.DepthSteps.{cell_other}
 use Rattle.wcp_laws.specs.Conditions.{found_at}
 use Rattle.wcp_laws.specs.Found.{sum_below, total_found, total_closed, has_events, threads_in, FoundFits}
 use Rattle.wcp_laws.specs.Found.{NothingFoundFits, FoundStep, FoundAtClose, FoundAtMost, ThreadsWithin}
 use Rattle.wcp_laws.specs.Standing.{Stands}
 use Rattle.wcp_laws.specs.State.{State}
-use Rattle.wcp_laws.specs.Step.{turn, hb_row, closed_after}
+use Rattle.wcp_laws.specs.Step.{effect, hb_row, closed_after}
 use Rattle.wcp_laws.proofs.Cursors.{cursors_step}
 use Rattle.wcp_laws.proofs.Sums.{sum_same, sum_within, sum_changed, sum_table}
 
@@ -45,7 +45,7 @@ nothing_found_fits = record {
 -- a thread that has no event has found nothing: the event is another's
 found_own : (log : List Event) (e : Event) (s : State) (f : ℕ → ℕ → ℕ)
     → ((l : LockId) (t : ThreadId) → events_of log t ≡ 0 → f l.0 t.0 ≡ 0)
-    → (k : Turn) (l : LockId) (t : ThreadId) → events_of (log ++ e ∷ []) t ≡ 0
+    → (k : Effect) (l : LockId) (t : ThreadId) → events_of (log ++ e ∷ []) t ≡ 0
     → found_at e.thread k s f l.0 t.0 ≡ 0
 found_own log e s f own k l t none = go (thread_cases e.thread t)
   where
@@ -56,7 +56,7 @@ found_own log e s f own k l t none = go (thread_cases e.thread t)
         absurd (omega arith)
     go (inr other) = kept k ∙ own l t (sym (events_other log e t other) ∙ none)
       where
-        kept : (k : Turn) → found_at e.thread k s f l.0 t.0 ≡ f l.0 t.0
+        kept : (k : Effect) → found_at e.thread k s f l.0 t.0 ≡ f l.0 t.0
         kept (Closes n) =
             cell_other n.0 e.thread.0 (number_counted (s.strict.thread e.thread.0) (s.closed n.0)) f l.0 t.0
             (λ p q. other (same_thread_id (sym q)))
@@ -67,7 +67,7 @@ found_own log e s f own k l t none = go (thread_cases e.thread t)
         kept Inner = refl
 
 -- an event closes one section at most
-closes_one : (locks t : ℕ) (k : Turn) (g : ℕ → ℕ) (s : State)
+closes_one : (locks t : ℕ) (k : Effect) (g : ℕ → ℕ) (s : State)
     → total_closed locks (closed_after t k g s) ≤ total_closed locks s.closed + 1
 closes_one locks t (Accesses x k) g s = omega arith
 closes_one locks t (Opens l) g s = omega arith
@@ -105,7 +105,7 @@ closes_one locks t (Closes l) g s = go (cases_lt l.0 locks)
         omega arith
 
 -- an event that is no closing release closes none
-closes_none : (locks t : ℕ) (k : Turn) (g : ℕ → ℕ) (s : State) → ((l : LockId) → k ≡ Closes l → ⊥)
+closes_none : (locks t : ℕ) (k : Effect) (g : ℕ → ℕ) (s : State) → ((l : LockId) → k ≡ Closes l → ⊥)
     → total_closed locks (closed_after t k g s) ≡ total_closed locks s.closed
 closes_none locks t (Accesses x k) g s n = refl
 closes_none locks t (Opens l) g s n = refl
@@ -115,14 +115,14 @@ closes_none locks t Inner g s n = refl
 closes_none locks t (Closes l) g s n = absurd (n l refl)
 
 -- nothing is held at first, so the first event is none
-first_closes_none : (e : Event) (s : State) → Stands [] s → (l : LockId) → turn e s ≡ Closes l → ⊥
+first_closes_none : (e : Event) (s : State) → Stands [] s → (l : LockId) → effect e s ≡ Closes l → ⊥
 unfolding depth
 first_closes_none e s st l = go e.op
   where
     none : (m : LockId) → s.depth e.thread.0 m.0 ≡ 0
     none m = st.depths e.thread m
 
-    go : (op : Op) → turn_of (s.depth e.thread.0) op ≡ Closes l → ⊥
+    go : (op : Op) → effect_of (s.depth e.thread.0) op ≡ Closes l → ⊥
     go (Load x) q = absurd (cc q)
     go (Store x) q = absurd (cc q)
     go (Acquire m) q = absurd (cc (sym (ap (λ d. cond (nat_eq d 0) (Opens m) Inner) (none m)) ∙ q))
@@ -132,31 +132,31 @@ first_closes_none e s st l = go e.op
 
 -- a closing release has an event before it
 pub closes_after_first : (log : List Event) (e : Event) (s : State) → Stands log s → (l : LockId)
-    → turn e s ≡ Closes l → 0 < length log
+    → effect e s ≡ Closes l → 0 < length log
 closes_after_first [] e s st l told = absurd (first_closes_none e s st l told)
 closes_after_first (x ∷ xs) e s st l told = omega arith
 
 fewer_step : (locks : ℕ) (log : List Event) (e : Event) (s : State) → Stands log s
     → (0 < length log → total_closed locks s.closed < length log) → total_closed locks s.closed ≤ length log
-    → total_closed locks (closed_after e.thread.0 (turn e s) (hb_row e s) s) < length (log ++ e ∷ [])
+    → total_closed locks (closed_after e.thread.0 (effect e s) (hb_row e s) s) < length (log ++ e ∷ [])
 fewer_step locks [] e s st old few =
-    let same = closes_none locks e.thread.0 (turn e s) (hb_row e s) s (first_closes_none e s st) in
+    let same = closes_none locks e.thread.0 (effect e s) (hb_row e s) s (first_closes_none e s st) in
     omega arith
 fewer_step locks (x ∷ xs) e s st old few =
     let less = old (omega arith) in
-    let one = closes_one locks e.thread.0 (turn e s) (hb_row e s) s in
+    let one = closes_one locks e.thread.0 (effect e s) (hb_row e s) s in
     let grown = grown_length (x ∷ xs) e in
     omega arith
 
 pub found_step : FoundStep
 found_step limits log e s f w st fits = record {
   counted = cursors_step limits log e s f w st fits.counted;
-  own = found_own log e s f fits.own (turn e s);
+  own = found_own log e s f fits.own (effect e s);
   few = λ locks.
       (let old : total_closed locks s.closed ≤ length log = fits.few locks in
-      let one : total_closed locks (closed_after e.thread.0 (turn e s) (hb_row e s) s)
+      let one : total_closed locks (closed_after e.thread.0 (effect e s) (hb_row e s) s)
       ≤ total_closed locks s.closed + 1
-      = closes_one locks e.thread.0 (turn e s) (hb_row e s) s in
+      = closes_one locks e.thread.0 (effect e s) (hb_row e s) s in
       let grown = grown_length log e in
       omega arith);
   fewer = λ locks some. fewer_step locks log e s st (fits.fewer locks) (fits.few locks);

@@ -10,15 +10,15 @@ use Rattle.event_core.specs.Closed.{Has, first, later}
 use Rattle.event_core.specs.Log.{depth}
 use Rattle.event_core.specs.Orderly.{Orderly}
 use Rattle.event_core.specs.Rows.{with_row}
-use Rattle.event_core.specs.Turn.{Turn, Accesses, Opens, Closes, Forks, Joins, Inner}
+use Rattle.event_core.specs.Effect.{Effect, Accesses, Opens, Closes, Forks, Joins, Inner}
 use Rattle.event_core.proofs.Counting.{nat_eq_other}
 use Rattle.event_core.proofs.Depth.{same_lock_id, same_thread_id, thread_cases, lock_cases}
 use Rattle.event_core.proofs.Growing.{row_same, row_other}
 use Rattle.event_core.proofs.Members.{none_in, has_front, has_last, has_split}
-use Rattle.event_core.proofs.Turning.{Fits, accesses, opens, closes, forks, joins, again, inner, depth_up}
-use Rattle.event_core.proofs.Turning.{depth_down}
+use Rattle.event_core.proofs.Effects.{Fits, accesses, opens, closes, forks, joins, again, inner, depth_up}
+use Rattle.event_core.proofs.Effects.{depth_down}
 use Rattle.wcp_laws.specs.Step.{held_after, without}
-use Rattle.wcp_laws.proofs.Depths.{held_same}
+use Rattle.event_core.proofs.HeldDepths.{held_same}
 
 -- the members of a list without one
 without_has : {l : ℕ} (n : ℕ) (xs : List ℕ) → Has l (without n xs) → Has l xs × (l ≡ n → ⊥)
@@ -59,7 +59,7 @@ has_without {l = l} n (b ∷ bs) h ne = go (cases_eq b n) (λ g. has_without n b
 
 module _ (log : List Event) (e : Event) (ord : Orderly (log ++ e ∷ [])) where
   -- the list has the locks that the thread holds
-  pub held_stand : (k : Turn) → Fits log e k → (h : ℕ → List ℕ)
+  pub held_stand : (k : Effect) → Fits log e k → (h : ℕ → List ℕ)
       → ((t : ThreadId) (l : LockId) → Has l.0 (h t.0) ↔ (0 < depth log t l))
       → (t : ThreadId) (l : LockId)
       → Has l.0 (held_after e.thread.0 k h t.0) ↔ (0 < depth (log ++ e ∷ []) t l)
@@ -68,13 +68,13 @@ module _ (log : List Event) (e : Event) (ord : Orderly (log ++ e ∷ [])) where
       Goal : List ℕ → Type 0
       Goal xs = Has l.0 xs ↔ (0 < depth (log ++ e ∷ []) t l)
 
-      kept : (k : Turn) → Fits log e k → (e.thread ≡ t → k ≡ Opens l → ⊥)
+      kept : (k : Effect) → Fits log e k → (e.thread ≡ t → k ≡ Opens l → ⊥)
           → (e.thread ≡ t → k ≡ Closes l → ⊥) → Goal (h t.0)
       kept k f uo uc =
           let s = held_same log e ord k f t l uo uc in let p = was t l in
           (λ x. s.1 (p.0 x), λ x. p.1 (s.0 x))
 
-      go : (k : Turn) → Fits log e k → Goal (held_after e.thread.0 k h t.0)
+      go : (k : Effect) → Fits log e k → Goal (held_after e.thread.0 k h t.0)
       go _ (accesses x j o) = kept (Accesses x j) (accesses x j o) (λ p q. cc) (λ p q. cc)
       go _ (forks u o) = kept (Forks u) (forks u o) (λ p q. cc) (λ p q. cc)
       go _ (joins u o) = kept (Joins u) (joins u o) (λ p q. cc) (λ p q. cc)
@@ -144,20 +144,3 @@ module _ (log : List Event) (e : Event) (ord : Orderly (log ++ e ∷ [])) where
                     λ x. has_without n.0 (h e.thread.0) ((was e.thread l).1 (s.0 x))
                         (λ r. ne (same_lock_id (sym r))),
                   )
-
-  -- a lock that is held and not closed is held
-  pub still_held : (k : Turn) → Fits log e k → (t : ThreadId) (l : LockId) → 0 < depth log t l
-      → (e.thread ≡ t → k ≡ Closes l → ⊥) → 0 < depth (log ++ e ∷ []) t l
-  still_held k f t l up nc = (held_same log e ord k f t l (never k f) nc).1 up
-    where
-      never : (k : Turn) → Fits log e k → e.thread ≡ t → k ≡ Opens l → ⊥
-      never _ (opens n o d) q r =
-          let s : n ≡ l = cc in
-          let z : depth log t l ≡ 0
-          = subst (λ v. depth log v l ≡ 0) q (subst (λ x. depth log e.thread x ≡ 0) s d) in omega arith
-      never _ (accesses x j o) q r = cc
-      never _ (forks u o) q r = cc
-      never _ (joins u o) q r = cc
-      never _ (closes n o d) q r = cc
-      never _ (again n o d) q r = cc
-      never _ (inner n o d) q r = cc

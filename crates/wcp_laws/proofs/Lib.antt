@@ -1,12 +1,9 @@
 pub mod Accesses
-pub mod Brings
 pub mod Clocks
 pub mod ClosedLists
 pub mod ClosedSections
-pub mod Closings
 pub mod Conditions
 pub mod Cursors
-pub mod Depths
 pub mod Empty
 pub mod FoundLaws
 pub mod HeldLocks
@@ -19,4 +16,3 @@ pub mod SmallLogs
 pub mod Sources
 pub mod StrictSteps
 pub mod Sums
-pub mod Tests

@@ -15,19 +15,19 @@ use Rattle.event_core.specs.declared.ids.VarId.{VarId}
 use Rattle.event_core.specs.Closed.{Noted}
 use Rattle.event_core.specs.Log.{Does, depth}
 use Rattle.event_core.specs.Orderly.{Orderly}
-use Rattle.event_core.specs.Turn.{Turn, Accesses, Opens, Closes, Forks, Joins, Inner, access_of}
+use Rattle.event_core.specs.Effect.{Effect, Accesses, Opens, Closes, Forks, Joins, Inner, access_of}
 use Rattle.event_core.proofs.Counting.{last_does, is_last, last_thread, last_op}
 use Rattle.event_core.proofs.Depth.{same_lock_id, same_thread_id}
 use Rattle.event_core.proofs.LogFacts.{of_does}
 use Rattle.event_core.proofs.Stable.{longer, back, does}
-use Rattle.event_core.proofs.Turning.{Fits, accesses, opens, closes, forks, joins, again, inner, depth_down}
+use Rattle.event_core.proofs.Effects.{Fits, accesses, opens, closes, forks, joins, again, inner, depth_down}
 use Rattle.wcp_laws.specs.Step.{kind_eq, noted_after}
-use Rattle.wcp_laws.proofs.Accesses.{access_no_acquire, access_no_release, access_no_fork, access_no_join}
-use Rattle.wcp_laws.proofs.Accesses.{access_one}
-use Rattle.wcp_laws.proofs.Depths.{cell_cases, depth_access}
-use Rattle.wcp_laws.proofs.HeldLocks.{still_held}
-use Rattle.wcp_laws.proofs.OpenSections.{open_old, open_new, open_held, open_by_depth}
-use Rattle.wcp_laws.proofs.Tests.{negated, not_negated}
+use Rattle.event_core.proofs.Accesses.{access_no_acquire, access_no_release, access_no_fork, access_no_join}
+use Rattle.event_core.proofs.Accesses.{access_one}
+use Rattle.event_core.proofs.HeldDepths.{cell_cases, depth_access}
+use Rattle.event_core.proofs.HeldDepths.{still_held}
+use Rattle.event_core.proofs.OpenSections.{open_old, open_new, open_held, open_by_depth}
+use Rattle.event_core.proofs.Tests.{negated, not_negated}
 
 -- the test of kinds
 kind_eq_is : (a b : AccessKind) → kind_eq a b ≡ true → a ≡ b
@@ -86,7 +86,7 @@ module _ (log : List Event) (e : Event) (ord : Orderly (log ++ e ∷ [])) where
   pub noted_new : (t : ThreadId) (l : LockId) (x : VarId) (j : AccessKind) → e.thread ≡ t
       → e.op ≡ access_of x j → 0 < depth log t l → Noted (log ++ e ∷ []) t l x j
   noted_new t l x j th o up =
-      let p = open_by_depth log e ord t l up in
+      let p = open_by_depth log t l up in
       record {
         acquire = p.0;
         is_open =
@@ -104,10 +104,10 @@ module _ (log : List Event) (e : Event) (ord : Orderly (log ++ e ∷ [])) where
   noted_held : (t : ThreadId) (l : LockId) (x : VarId) (j : AccessKind) → Noted log t l x j
       → 0 < depth log t l
   -- the lock of what is noted is held
-  noted_held t l x j n = open_held log e ord log t l n.acquire n.is_open
+  noted_held t l x j n = open_held log t l n.acquire n.is_open
 
   -- the table has what is noted
-  pub noted_stand : (k : Turn) → Fits log e k → (d : ℕ → ℕ → ℕ)
+  pub noted_stand : (k : Effect) → Fits log e k → (d : ℕ → ℕ → ℕ)
       → ((t : ThreadId) (l : LockId) → d t.0 l.0 ≡ depth log t l) → (f : ℕ → ℕ → ℕ → AccessKind → Bool)
       → ((t : ThreadId) (l : LockId) (x : VarId) (j : AccessKind) → IsTrue (f t.0 l.0 x.0 j)
       ↔ Noted log t l x j)
@@ -116,7 +116,7 @@ module _ (log : List Event) (e : Event) (ord : Orderly (log ++ e ∷ [])) where
   noted_stand k fit d is f was t l x j = go k fit
     where
       -- where nothing is noted and nothing closed
-      kept : (k : Turn) → Fits log e k → ((y : VarId) (i : AccessKind) → e.op ≡ access_of y i → ⊥)
+      kept : (k : Effect) → Fits log e k → ((y : VarId) (i : AccessKind) → e.op ≡ access_of y i → ⊥)
           → (e.thread ≡ t → k ≡ Closes l → ⊥) → IsTrue (f t.0 l.0 x.0 j) ↔ Noted (log ++ e ∷ []) t l x j
       kept k fit na nc = (
         λ h. (let n = (was t l x j).0 h in
@@ -127,7 +127,7 @@ module _ (log : List Event) (e : Event) (ord : Orderly (log ++ e ∷ [])) where
       same_var : {y z : VarId} → y.0 ≡ z.0 → y ≡ z
       same_var q = ap (λ (n : ℕ). let v : VarId = record { 0 = n } in v) q
 
-      go : (k : Turn) → Fits log e k
+      go : (k : Effect) → Fits log e k
           → IsTrue (noted_after e.thread.0 k d f t.0 l.0 x.0 j) ↔ Noted (log ++ e ∷ []) t l x j
       go _ (forks u o) = kept (Forks u) (forks u o) (λ y i p. access_no_fork y i u (sym p ∙ o)) (λ p q. cc)
       go _ (joins u o) = kept (Joins u) (joins u o) (λ y i p. access_no_join y i u (sym p ∙ o)) (λ p q. cc)
@@ -141,7 +141,7 @@ module _ (log : List Event) (e : Event) (ord : Orderly (log ++ e ∷ [])) where
         λ h. to (or_cases _ _ h),
         λ n. from (noted_to t l x j n)
             (subst (λ v. 0 < v) (depth_access log e ord y i o t l)
-            (open_held log e ord (log ++ e ∷ []) t l n.acquire n.is_open)),
+            (open_held (log ++ e ∷ []) t l n.acquire n.is_open)),
       )
         where
           to : (f t.0 l.0 x.0 j ≡ true)
@@ -191,7 +191,7 @@ module _ (log : List Event) (e : Event) (ord : Orderly (log ++ e ∷ [])) where
                 = subst (λ v. depth (log ++ e ∷ []) v l ≡ 0) c.0
                 (subst (λ y. depth (log ++ e ∷ []) e.thread y ≡ 0) c.1 down) in
                 let up : 0 < depth (log ++ e ∷ []) t l
-                = open_held log e ord (log ++ e ∷ []) t l m.acquire m.is_open in
+                = open_held (log ++ e ∷ []) t l m.acquire m.is_open in
                 omega arith),
           )
           by (inr ne) = (

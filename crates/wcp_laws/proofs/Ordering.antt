@@ -1,20 +1,18 @@
 -- What the order of sections says of the clocks.
-use Rattle.std.proofs.Common.{◌≡◌, ℕ, ◌<◌, ◌≤◌, max, List, [], ◌∷◌, ◌++◌, true, length, sym, subst, arith}
+use Rattle.std.proofs.Common.{◌≡◌, ℕ, ◌<◌, ◌≤◌, [], ◌∷◌, ◌++◌, true, length, sym, subst, arith}
 use Rattle.std.proofs.Common.{take, ◌⊎◌}
 use Rattle.std.proofs.lemmas.Bool.{cases_lt, cases_order}
 use Rattle.std.proofs.lemmas.Option.{slice_get_within}
 use mathlib.Core.Logic.{inl, inr}
-use Rattle.event_core.specs.declared.events.Event.{Event}
-use Rattle.event_core.specs.declared.events.Op.TheVariants.{Release}
 use Rattle.event_core.specs.declared.ids.ThreadId.{ThreadId}
-use Rattle.event_core.specs.Closed.{is_counted, Others, IsClosed}
-use Rattle.event_core.specs.Count.{events_of, Counts, Past}
-use Rattle.event_core.specs.Log.{Of, Section, depth}
+use Rattle.event_core.specs.Closed.{EndsSection, is_counted, Others, IsClosed}
+use Rattle.event_core.specs.Count.{events_of, Past}
+use Rattle.event_core.specs.Log.{Of, Section}
 use Rattle.event_core.specs.Order.{Hb, Po, here}
 use Rattle.event_core.specs.Orderly.{Orderly}
 use Rattle.event_core.specs.Wcp.{Strict, rule_c_left, rule_c_right}
 use Rattle.event_core.proofs.Chains.{hb_forward, hb_trans, hb_thread}
-use Rattle.event_core.proofs.CountLaws.{counts_union, counts_same, counts_longer, counts_at_most, own}
+use Rattle.event_core.proofs.CountLaws.{counts_union, counts_same, counts_grow, own}
 use Rattle.event_core.proofs.CountLaws.{brought_hb}
 use Rattle.event_core.proofs.Depth.{section_of}
 use Rattle.event_core.proofs.Legality.{orderly}
@@ -22,36 +20,15 @@ use Rattle.event_core.proofs.LogFacts.{of_does}
 use Rattle.event_core.proofs.Main.{strict_forward}
 use Rattle.event_core.proofs.MoreLaws.{sections_ordered, one_acquire}
 use Rattle.event_core.proofs.Stable.{longer, section_too, hb_too, strict_too}
-use Rattle.event_core.proofs.Turning.{last_closes}
-use Rattle.hb_clocks.proofs.PoSteps.{Source, source_within}
+use Rattle.event_core.proofs.Effects.{last_closes}
+use Rattle.event_core.proofs.Pasts.{Source, source_within, new_source}
 use Rattle.wcp_laws.specs.Conditions.{ReleasesAbove, CountedEarlier, StrictGrows, StrictIsLatest}
 use Rattle.wcp_laws.specs.Conditions.{BelowIsLatest}
-use Rattle.wcp_laws.specs.Step.{turn, hb_row, after}
-use Rattle.wcp_laws.proofs.Brings.{new_source}
-use Rattle.wcp_laws.proofs.Clocks.{turn_fits, hb_counted}
+use Rattle.wcp_laws.specs.Step.{effect, hb_row, after}
+use Rattle.wcp_laws.proofs.Clocks.{effect_fits, hb_counted}
 use Rattle.wcp_laws.proofs.ClosedSections.{counted_is, is_counted_of}
 use Rattle.wcp_laws.proofs.LegalSteps.{step_stands}
-use Rattle.wcp_laws.proofs.OpenSections.{closes_at}
-
--- a set within another has the lower count
-pub counts_mono : (log : List Event) (u : ThreadId) (P Q : ℕ → Type 0) (m n : ℕ) → ((i : ℕ) → P i → Q i)
-    → Counts log u P m → Counts log u Q n → m ≤ n
-counts_mono log u P Q m n sub a b =
-    let both : Counts log u Q (max m n)
-    = counts_same log u (λ i. P i ⊎ Q i) Q (max m n)
-    (λ i o. (λ p. elim p [ inl x ↦ sub i x | inr y ↦ y ], λ q. inr q))
-    (counts_union log u P Q m n a b) in
-    let le : max m n ≤ n = counts_at_most log u Q (max m n) n both b in
-    omega arith
-
--- and so has a set within another of a longer log
-counts_grow : (log : List Event) (e : Event) (u : ThreadId) (P Q : ℕ → Type 0) (m n : ℕ)
-    → ((i : ℕ) → P i → Q i) → ((i : ℕ) → P i → i < length log) → Counts log u P m
-    → Counts (log ++ e ∷ []) u Q n → m ≤ n
-counts_grow log e u P Q m n sub within a b =
-    counts_mono (log ++ e ∷ []) u (λ i. P i × (i < length log)) Q m n (λ i p. sub i p.0)
-    (counts_longer log (e ∷ []) u P (λ i. P i × (i < length log)) m (λ i lt. (λ p. (p, lt), λ p. p.0))
-    (λ i le p. let lt : i < length log = p.1 in omega arith) a) b
+use Rattle.event_core.proofs.OpenSections.{closes_at}
 
 -- a closing release is above the earlier sections of its lock, and what is below them
 pub releases_above : ReleasesAbove
@@ -70,12 +47,12 @@ releases_above limits log e s l w st is = (
     ord : Orderly (log ++ e ∷ [])
     ord = orderly limits (log ++ e ∷ []) w
 
-    release : (e.op ≡ Release l) × (depth log e.thread l ≡ 1)
-    release = closes_at log e ord (turn e s) (turn_fits log e s st) l is
+    release : EndsSection log e.thread l e
+    release = closes_at log e ord (effect e s) (effect_fits log e s st) l is
 
     mine : (a : ℕ) × Section (log ++ e ∷ []) e.thread l a (length log)
     mine =
-        section_of (log ++ e ∷ []) e.thread l (length log) ord (last_closes log e l release.0 release.1)
+        section_of (log ++ e ∷ []) e.thread l (length log) ord (last_closes log e l release.op release.outer)
 
     within : (i : ℕ) (v : ThreadId) (a r : ℕ) → Section log v l a r → Hb log i r → i < length log
     within i v a r x b =

@@ -14,21 +14,21 @@ use Rattle.event_core.specs.Log.{Does, OuterRelease, Section}
 use Rattle.event_core.specs.Order.{Hb}
 use Rattle.event_core.specs.Orderly.{Orderly}
 use Rattle.event_core.specs.Rows.{join, Counted}
-use Rattle.event_core.specs.Turn.{Turn, Accesses, Opens, Closes, Forks, Joins, Inner, access_of}
+use Rattle.event_core.specs.Effect.{Effect, Accesses, Opens, Closes, Forks, Joins, Inner, access_of}
 use Rattle.event_core.proofs.Chains.{hb_forward}
 use Rattle.event_core.proofs.Counting.{counted_join, counted_same, counted_longer, is_last, last_thread}
 use Rattle.event_core.proofs.Depth.{same_lock_id, same_thread_id}
 use Rattle.event_core.proofs.LogFacts.{of_does, does_op}
 use Rattle.event_core.proofs.Stable.{longer, back, does, section_too, hb_too}
-use Rattle.event_core.proofs.Turning.{Fits, accesses, opens, closes, forks, joins, again, inner}
-use Rattle.event_core.proofs.Turning.{last_closes}
+use Rattle.event_core.proofs.Effects.{Fits, accesses, opens, closes, forks, joins, again, inner}
+use Rattle.event_core.proofs.Effects.{last_closes}
 use Rattle.wcp_laws.specs.Standing.{Stands}
 use Rattle.wcp_laws.specs.State.{State}
 use Rattle.wcp_laws.specs.Step.{others_after}
-use Rattle.wcp_laws.proofs.Accesses.{access_no_release}
-use Rattle.wcp_laws.proofs.Closings.{closing_open, closing_section}
-use Rattle.wcp_laws.proofs.OpenSections.{is_closes}
-use Rattle.wcp_laws.proofs.Tests.{negated, not_both, not_negated}
+use Rattle.event_core.proofs.Accesses.{access_no_release}
+use Rattle.event_core.proofs.OpenSections.{closing_open, closing_section}
+use Rattle.event_core.proofs.OpenSections.{is_closes}
+use Rattle.event_core.proofs.Tests.{negated, not_both, not_negated}
 
 module _ (log : List Event) (e : Event) (ord : Orderly (log ++ e ∷ [])) where
   -- i is below the release of the section that the event closes, which has the access
@@ -134,7 +134,7 @@ module _ (log : List Event) (e : Event) (ord : Orderly (log ++ e ∷ [])) where
       let le : i ≤ q.release = hb_forward q.below in omega arith
 
   -- the tables of other threads' sections count them
-  pub others_stand : (k : Turn) → Fits log e k → (g : ℕ → ℕ)
+  pub others_stand : (k : Effect) → Fits log e k → (g : ℕ → ℕ)
       → Counted (log ++ e ∷ []) (λ i. Hb (log ++ e ∷ []) i (length log)) g → (s : State) → Stands log s
       → (l : LockId) (x : VarId) (j : AccessKind) (t : ThreadId)
       → Counted (log ++ e ∷ []) (Others (log ++ e ∷ []) l x j t)
@@ -176,10 +176,10 @@ module _ (log : List Event) (e : Event) (ord : Orderly (log ++ e ∷ [])) where
           (λ i p. (others_old l x j t i p, others_within l x j t i p, p)) (λ i lt p. p.2) (λ i p. p.1)
           (st.others l x j t)) is)
 
-      no_close : (k : Turn) → Fits log e k → ((l : LockId) → k ≡ Closes l → ⊥) → Goal was
+      no_close : (k : Effect) → Fits log e k → ((l : LockId) → k ≡ Closes l → ⊥) → Goal was
       no_close k f none = kept (λ i q. none l (is_closes log e ord k f l q.closes))
 
-      go : (k : Turn) → Fits log e k → Goal (others_after e.thread.0 k g s l.0 x.0 j t.0)
+      go : (k : Effect) → Fits log e k → Goal (others_after e.thread.0 k g s l.0 x.0 j t.0)
       go _ (accesses y i o) = no_close (Accesses y i) (accesses y i o) (λ l q. cc)
       go _ (opens n o d) = no_close (Opens n) (opens n o d) (λ l q. cc)
       go _ (forks u o) = no_close (Forks u) (forks u o) (λ l q. cc)

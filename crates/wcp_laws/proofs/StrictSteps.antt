@@ -12,11 +12,11 @@ use Rattle.event_core.specs.declared.ids.LockId.{LockId}
 use Rattle.event_core.specs.declared.ids.ThreadId.{ThreadId}
 use Rattle.event_core.specs.declared.ids.VarId.{VarId}
 use Rattle.event_core.specs.Closed.{Others}
-use Rattle.event_core.specs.Count.{Past}
+use Rattle.event_core.specs.Count.{Past, LockPast}
 use Rattle.event_core.specs.Log.{Does, depth, OuterRelease, Section, InSection, OpsConflict}
 use Rattle.event_core.specs.Order.{Hb}
 use Rattle.event_core.specs.Orderly.{Orderly}
-use Rattle.event_core.specs.Turn.{Turn, Accesses, Opens, Closes, Forks, Joins, Inner, access_of}
+use Rattle.event_core.specs.Effect.{Effect, Accesses, Opens, Closes, Forks, Joins, Inner, access_of}
 use Rattle.event_core.specs.Wcp.{Meets, Strict}
 use Rattle.event_core.proofs.Counting.{last_of, last_does}
 use Rattle.event_core.proofs.Depth.{Opener, opener}
@@ -25,12 +25,13 @@ use Rattle.event_core.proofs.Stable.{longer, back, of, does, acquire, releases_i
 use Rattle.event_core.proofs.Stable.{strict_too}
 use Rattle.event_core.proofs.StrictStep.{Comes, from_own, from_join, from_lock, from_access, from_release}
 use Rattle.event_core.proofs.StrictStep.{strict_comes, comes_strict}
-use Rattle.event_core.proofs.Turning.{Fits, accesses, opens, closes, forks, joins, again, inner}
-use Rattle.event_core.proofs.Turning.{last_closes, last_opens, closes_at_one}
-use Rattle.hb_clocks.proofs.PoSteps.{source_within}
-use Rattle.wcp_laws.proofs.Accesses.{access_no_acquire, access_no_release, access_no_fork, access_no_join}
-use Rattle.wcp_laws.proofs.Accesses.{conflict_access, Met, met_by}
-use Rattle.wcp_laws.proofs.Brings.{Brought, join_brings, acquire_brings, old_source, new_source}
+use Rattle.event_core.proofs.Effects.{Fits, accesses, opens, closes, forks, joins, again, inner}
+use Rattle.event_core.proofs.Effects.{last_closes, last_opens, closes_at_one}
+use Rattle.event_core.proofs.Accesses.{access_no_acquire, access_no_release, access_no_fork, access_no_join}
+use Rattle.event_core.proofs.Accesses.{conflict_access}
+use Rattle.wcp_laws.proofs.Accesses.{Met, met_by}
+use Rattle.event_core.proofs.Brings.{Brings, join_brings, acquire_brings}
+use Rattle.event_core.proofs.Pasts.{source_within, old_source, new_source}
 
 -- an earlier section whose acquire is strictly below the thread
 pub record Behind (log : List Event) (t : ThreadId) (l : LockId) (i : ℕ) : Type 0 where
@@ -42,13 +43,14 @@ pub record Behind (log : List Event) (t : ThreadId) (l : LockId) (i : ℕ) : Typ
   pub below : Hb log i release
 
 -- what the event adds to the strict clock of its thread
-abbrev pub Adds : List Event → ThreadId → Turn → ℕ → Type 0
+abbrev pub Adds : List Event → ThreadId → Effect → ℕ → Type 0
 Adds log t (Accesses x k) i = (l : LockId) × (0 < depth log t l) × Met log x k t l i
 Adds log t (Closes l) i = Behind log t l i
-Adds log t k i = Brought log (Strict log) k i
+Adds log t k i = Brings log (Strict log) (LockPast log (Strict log)) k i
 
 -- what a join or an outer acquire brings is added
-brought_adds : (log : List Event) (t : ThreadId) (k : Turn) (i : ℕ) → Brought log (Strict log) k i
+brought_adds : (log : List Event) (t : ThreadId) (k : Effect) (i : ℕ)
+    → Brings log (Strict log) (LockPast log (Strict log)) k i
     → Adds log t k i
 brought_adds log t (Joins u) i p = p
 brought_adds log t (Opens l) i p = p
@@ -172,7 +174,7 @@ module _ (log : List Event) (e : Event) (ord : Orderly (log ++ e ∷ [])) where
       }
 
   -- only an access meets a release
-  access_adds : (k : Turn) → Fits log e k → (i r : ℕ) → Meets (log ++ e ∷ []) r (length log)
+  access_adds : (k : Effect) → Fits log e k → (i r : ℕ) → Meets (log ++ e ∷ []) r (length log)
       → Hb (log ++ e ∷ []) i r → Adds log e.thread k i
   access_adds k f i r m h = go (conflict_access m.conflict.first m.conflict.second m.conflict.ops)
     where
@@ -182,7 +184,7 @@ module _ (log : List Event) (e : Event) (ord : Orderly (log ++ e ∷ [])) where
       go : (x : VarId) × (j : AccessKind) × (m.conflict.second ≡ access_of x j) → Adds log e.thread k i
       go c = by k f (sym second ∙ c.2)
         where
-          by : (k : Turn) → Fits log e k → e.op ≡ access_of c.0 c.1 → Adds log e.thread k i
+          by : (k : Effect) → Fits log e k → e.op ≡ access_of c.0 c.1 → Adds log e.thread k i
           by _ (accesses x j o) a = meets_adds x j i r o m h
           by _ (opens l o d) a = absurd (access_no_acquire c.0 c.1 l (sym a ∙ o))
           by _ (closes l o d) a = absurd (access_no_release c.0 c.1 l (sym a ∙ o))
@@ -192,12 +194,12 @@ module _ (log : List Event) (e : Event) (ord : Orderly (log ++ e ∷ [])) where
           by _ (joins u o) a = absurd (access_no_join c.0 c.1 u (sym a ∙ o))
 
   -- only a closing release comes after an earlier section
-  release_adds : (k : Turn) → Fits log e k → (l : LockId) (i : ℕ)
+  release_adds : (k : Effect) → Fits log e k → (l : LockId) (i : ℕ)
       → OuterRelease (log ++ e ∷ []) (length log) e.thread l → Behind log e.thread l i
       → Adds log e.thread k i
   release_adds k f l i q b = by k f (does_op (last_does log e) q.does)
     where
-      by : (k : Turn) → Fits log e k → e.op ≡ Release l → Adds log e.thread k i
+      by : (k : Effect) → Fits log e k → e.op ≡ Release l → Adds log e.thread k i
       by _ (closes n o d) a =
           let h : Release l ≡ Release n = sym a ∙ o in
           let r : l ≡ n = cc in
@@ -213,7 +215,7 @@ module _ (log : List Event) (e : Event) (ord : Orderly (log ++ e ∷ [])) where
       by _ (joins u o) a = absurd (let h : Release l ≡ Join u = sym a ∙ o in cc)
 
   -- what strictly precedes the event is in its thread's past, or is added
-  pub strict_to : (k : Turn) → Fits log e k → (i : ℕ) → Strict (log ++ e ∷ []) i (length log)
+  pub strict_to : (k : Effect) → Fits log e k → (i : ℕ) → Strict (log ++ e ∷ []) i (length log)
       → Past log (Strict log) e.thread i ⊎ Adds log e.thread k i
   strict_to k f i s = go (strict_comes (log ++ e ∷ []) e.thread i (length log) ord (last_of log e) s)
     where
@@ -223,11 +225,12 @@ module _ (log : List Event) (e : Event) (ord : Orderly (log ++ e ∷ [])) where
           inl (g, old_source log e e.thread g lt a, strict_too (back (longer log (e ∷ []))) lt d)
       go (from_join u g lt j a d) =
           inr (brought_adds log e.thread k i
-          (join_brings log e (Strict log) u i k f (does_op (last_does log e) j)
+          (join_brings log e (Strict log) (LockPast log (Strict log)) u i k f (does_op (last_does log e) j)
           (g, old_source log e u g lt a, strict_too (back (longer log (e ∷ []))) lt d)))
       go (from_lock l g lt j a d) =
           inr (brought_adds log e.thread k i
-          (acquire_brings log e (Strict log) l i k f (does_op (last_does log e) j.does)
+          (acquire_brings log e (Strict log) (LockPast log (Strict log)) l i k f
+          (does_op (last_does log e) j.does)
           (subst (λ xs. depth xs e.thread l ≡ 0) (take-append_seam log (e ∷ [])) j.outer) (
             g,
             (a.0, releases_it (back (longer log (e ∷ []))) lt a.1),
@@ -248,7 +251,7 @@ module _ (log : List Event) (e : Event) (ord : Orderly (log ++ e ∷ [])) where
   into {i = i} c = comes_strict (log ++ e ∷ []) e.thread i (length log) ord (last_of log e) c
 
   -- and what is in the past or added strictly precedes it
-  pub strict_from : (k : Turn) → Fits log e k → (i : ℕ)
+  pub strict_from : (k : Effect) → Fits log e k → (i : ℕ)
       → Past log (Strict log) e.thread i ⊎ Adds log e.thread k i → Strict (log ++ e ∷ []) i (length log)
   strict_from k f i (inl p) =
       let lt = source_within log e.thread p.0 p.1 in

@@ -11,17 +11,17 @@ use Rattle.event_core.specs.Order.{Po}
 use Rattle.event_core.specs.Wcp.{Strict, Below}
 use Rattle.event_core.specs.Refusal.{WellFormed}
 use Rattle.event_core.specs.Count.{Counts}
-use Rattle.event_core.specs.Turn.{Turn, Closes}
+use Rattle.event_core.specs.Effect.{Effect, Closes}
 use Rattle.event_core.specs.Rows.{with_row}
 use Rattle.event_core.specs.Closed.{Closed, is_counted, Has, number_counted}
 use Rattle.wcp_laws.specs.State.{State}
-use Rattle.wcp_laws.specs.Step.{turn, hb_row, after}
+use Rattle.wcp_laws.specs.Step.{effect, hb_row, after}
 use Rattle.wcp_laws.specs.Standing.{Stands}
 
 -- a closing release's clock is at or above those of the closed sections of its lock
 abbrev pub ReleasesAbove : Type 0
 ReleasesAbove = (limits : Limits) (log : List Event) (e : Event) (s : State) (l : LockId)
-    → WellFormed limits (log ++ e ∷ []) → Stands log s → turn e s ≡ Closes l
+    → WellFormed limits (log ++ e ∷ []) → Stands log s → effect e s ≡ Closes l
     → ((q : Closed) (u : ThreadId) → Has q (s.closed l.0) → q.release u.0 ≤ hb_row e s u.0)
     × ((x : VarId) (k : AccessKind) (t u : ThreadId) → s.others l.0 x.0 k t.0 u.0 ≤ hb_row e s u.0)
 
@@ -54,9 +54,9 @@ BelowIsLatest = (limits : Limits) (log : List Event) (s : State) (j n : ℕ) (t 
 -- what is asked of the numbers at an event, with no log
 pub record IsSound (e : Event) (s : State) : Type 0 where
   -- a closing release's clock is at or above the clocks that are kept of its lock
-  pub above_closed : (l : LockId) (q : Closed) (u : ThreadId) → turn e s ≡ Closes l
+  pub above_closed : (l : LockId) (q : Closed) (u : ThreadId) → effect e s ≡ Closes l
       → Has q (s.closed l.0) → q.release u.0 ≤ hb_row e s u.0
-  pub above_others : (l : LockId) (x : VarId) (k : AccessKind) (t u : ThreadId) → turn e s ≡ Closes l
+  pub above_others : (l : LockId) (x : VarId) (k : AccessKind) (t u : ThreadId) → effect e s ≡ Closes l
       → s.others l.0 x.0 k t.0 u.0 ≤ hb_row e s u.0
   -- the thread's strict clock counts, with a closed section, the earlier ones of its lock
   pub earlier : (l : LockId) (p q : Closed) → Has p (s.closed l.0) → Has q (s.closed l.0)
@@ -66,7 +66,7 @@ pub record IsSound (e : Event) (s : State) : Type 0 where
   -- the thread's strict clock counts at most the thread's own events
   pub own_strict : s.strict.thread e.thread.0 e.thread.0 ≤ s.hb.thread e.thread.0 e.thread.0
   -- the section that a release closes was opened: positions begin at 1
-  pub opened : (l : LockId) → turn e s ≡ Closes l → 0 < s.opened e.thread.0 l.0
+  pub opened : (l : LockId) → effect e s ≡ Closes l → 0 < s.opened e.thread.0 l.0
 
 -- at each legal event the numbers are so
 abbrev pub SoundWhereLegal : Type 0
@@ -79,7 +79,7 @@ CursorsStand s f = (l : LockId) (t : ThreadId)
     → f l.0 t.0 ≤ number_counted (s.strict.thread t.0) (s.closed l.0)
 
 -- a closing release finds all that its thread's strict clock counts
-abbrev pub found_at : ThreadId → Turn → State → (ℕ → ℕ → ℕ) → ℕ → ℕ → ℕ
+abbrev pub found_at : ThreadId → Effect → State → (ℕ → ℕ → ℕ) → ℕ → ℕ → ℕ
 found_at t (Closes l) s f =
     with_row l.0 (with_row t.0 (number_counted (s.strict.thread t.0) (s.closed l.0)) (f l.0)) f
 found_at t _ s f = f

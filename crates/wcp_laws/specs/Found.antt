@@ -10,10 +10,10 @@ use Rattle.event_core.specs.declared.events.Event.{Event}
 use Rattle.event_core.specs.declared.bounds.Limits.{Limits}
 use Rattle.event_core.specs.Refusal.{WellFormed}
 use Rattle.event_core.specs.Count.{events_of}
-use Rattle.event_core.specs.Turn.{Closes}
+use Rattle.event_core.specs.Effect.{Closes}
 use Rattle.event_core.specs.Closed.{Closed, number_counted}
 use Rattle.wcp_laws.specs.State.{State, empty}
-use Rattle.wcp_laws.specs.Step.{turn, after}
+use Rattle.wcp_laws.specs.Step.{effect, after}
 use Rattle.wcp_laws.specs.Standing.{Stands}
 use Rattle.wcp_laws.specs.Conditions.{CursorsStand, found_at}
 
@@ -56,7 +56,7 @@ NothingFoundFits = FoundFits [] empty (λ _ _. 0)
 abbrev pub FoundStep : Type 0
 FoundStep = (limits : Limits) (log : List Event) (e : Event) (s : State) (f : ℕ → ℕ → ℕ)
     → WellFormed limits (log ++ e ∷ []) → Stands log s → FoundFits log s f
-    → FoundFits (log ++ e ∷ []) (after e s) (found_at e.thread (turn e s) s f)
+    → FoundFits (log ++ e ∷ []) (after e s) (found_at e.thread (effect e s) s f)
 
 -- a closing release changes the total by what its thread newly finds on its lock
 abbrev pub FoundAtClose : Type 0

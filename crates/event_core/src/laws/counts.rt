@@ -1,7 +1,7 @@
 //! The laws of counted sets, by which every clock takes its steps, and what is below a new event.
 ghost use Rattle.std.specs.Prelude.{ℕ};
 ghost use Rattle.event_core.specs.CountLaws.{
-  OneCount,
+  CountIsUnique,
   JoinIsUnion,
   NewEventAddsOne,
   LongerLogKeepsCounts,
@@ -17,8 +17,8 @@ pub trait Set {
 }
 
 /// A set has one count.
-pub fn one_count<P: Set>()
-    ensures { OneCount P.has }
+pub fn count_is_unique<P: Set>()
+    ensures { CountIsUnique P.has }
 {}
 
 /// Join is union: the greater of two counts counts both sets together.

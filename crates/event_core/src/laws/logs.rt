@@ -9,6 +9,7 @@ ghost use Rattle.event_core.specs.LogLaws.{
   EndedThreadsRest,
   OwnStepsAreOwnEvents,
   OwnEventsAreCounted,
+  SectionsAreNumbered,
 };
 
 /// A log grows by legal events, and by nothing else.
@@ -56,4 +57,9 @@ pub fn own_steps_are_own_events()
 /// A thread has as many events as stand in the list of them.
 pub fn own_events_are_counted()
     ensures { OwnEventsAreCounted }
+{}
+
+/// The sections on each lock are numbered from 1, in the order of their releases.
+pub fn sections_are_numbered()
+    ensures { SectionsAreNumbered }
 {}

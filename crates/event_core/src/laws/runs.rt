@@ -1,12 +1,12 @@
 //! The laws of verdicts, outcomes, runs and swaps.
 ghost use Rattle.event_core.specs.RunLaws.{
-  OneVerdict,
+  VerdictIsUnique,
   VerdictsStay,
-  OneOutcome,
-  OneRun,
+  OutcomeIsUnique,
+  RunIsUnique,
   RunsKeepLogsWellFormed,
-  OneDone,
-  OneActRun,
+  ActOutcomeIsUnique,
+  ActRunIsUnique,
   ActRunsKeepLogsWellFormed,
   SwapIsRefusedAsItsLoad,
   SwapNeedsTwoSlots,
@@ -16,8 +16,8 @@ ghost use Rattle.event_core.specs.RunLaws.{
 };
 
 /// An event has one verdict.
-pub fn one_verdict()
-    ensures { OneVerdict }
+pub fn verdict_is_unique()
+    ensures { VerdictIsUnique }
 {}
 
 /// A verdict is the same in every longer log.
@@ -26,13 +26,13 @@ pub fn verdicts_stay()
 {}
 
 /// A call has one outcome.
-pub fn one_outcome()
-    ensures { OneOutcome }
+pub fn outcome_is_unique()
+    ensures { OutcomeIsUnique }
 {}
 
 /// A list of calls has one run.
-pub fn one_run()
-    ensures { OneRun }
+pub fn run_is_unique()
+    ensures { RunIsUnique }
 {}
 
 /// The log at the end of a run is well formed.
@@ -41,13 +41,13 @@ pub fn runs_keep_logs_well_formed()
 {}
 
 /// An act has one outcome.
-pub fn one_done()
-    ensures { OneDone }
+pub fn act_outcome_is_unique()
+    ensures { ActOutcomeIsUnique }
 {}
 
 /// A list of acts has one run.
-pub fn one_act_run()
-    ensures { OneActRun }
+pub fn act_run_is_unique()
+    ensures { ActRunIsUnique }
 {}
 
 /// The log at the end of a run of acts is well formed.

@@ -5,7 +5,8 @@ use Rattle.std.specs.Vec.{with_items}
 use Rattle.hb_clocks.specs.declared.holds.Hold.{Hold}
 use Rattle.hb_clocks.specs.Holds.{holds_after}
 use Rattle.hb_clocks.specs.Stands.{Stands}
-use Rattle.hb_clocks.specs.Tables.{Tables, widths_of, state_of, IsReady}
+use Rattle.hb_clocks.specs.Tables.{Tables, state_of, IsReady}
+use Rattle.vector_clocks.specs.Rows.{widths_of}
 use Rattle.hb_clocks.proofs.LegalSteps.{step_stands}
 use Rattle.hb_clocks.proofs.TableSteps.{IsStepped, stepped}
 use Rattle.hb_clocks.proofs.hb.HbClocks.advance.Goals as goal

@@ -2,9 +2,9 @@ use Rattle.std.proofs.Common.{◌≡◌, ℕ, ◌<◌, ◌-◌, ◌++◌, ◌∷
 use Rattle.std.proofs.Common.{false, length-set, vec_capacity}
 use Rattle.std.proofs.Common.{Option}
 use Rattle.std.specs.List.{remove}
-use Rattle.hb_clocks.specs.Marks.{Named}
+use Rattle.vector_clocks.specs.Marks.{Named}
 use Rattle.event_core.specs.Rows.{with_row}
-use Rattle.hb_clocks.specs.Counts.{counts_of}
+use Rattle.vector_clocks.specs.Counts.{counts_of}
 use Rattle.lock_queues.specs.declared.rooms.Room.{Room}
 use Rattle.lock_queues.specs.declared.sections.Entry.{Entry}
 use Rattle.lock_queues.specs.Sections.{before, lowered}

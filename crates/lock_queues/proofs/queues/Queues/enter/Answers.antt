@@ -5,6 +5,7 @@ use Rattle.event_core.specs.Rows.{with_row}
 use Rattle.lock_queues.specs.Rooms.{has_room_in, opened_in}
 use Rattle.lock_queues.specs.Queue.{Kept}
 use Rattle.lock_queues.specs.Queues.{Tables, closed_of, opened_of, found_of, has_room}
+use Rattle.lock_queues.proofs.LogSteps.{enter_stands}
 use Rattle.lock_queues.proofs.Lifting.{read_room, lifted_same, lifted_cell}
 use Rattle.lock_queues.proofs.Tables.{kept_set}
 use Rattle.lock_queues.proofs.queues.Queues.enter.Goals as goal
@@ -67,3 +68,8 @@ returns-clause-rooms c =
     let here = c.enter.ensures.rooms ∙ ap (λ (q : Kept). has_room_in q.rooms) read.is in
     (λ i v m. lifted_same (λ (q : Kept). has_room_in q.rooms) _ l c.enter.new.self read.within here m i v)
     ∙ ap has_room c.self.view_is
+
+pub returns-clause-stands : goal.returns-clause-stands
+returns-clause-stands c = λ limits log e.
+    enter_stands limits log e c.args.self.now c.args.thread c.args.lock c.args.mark
+    (returns-clause-closed c) (returns-clause-opened c) (returns-clause-found c)

@@ -4,12 +4,14 @@ use Rattle.std.specs.Prelude.{MatchOption, IsSomeAnd}
 use Rattle.event_core.specs.Closed.{Closed, number_counted, below_closed}
 use Rattle.event_core.specs.Rows.{with_row, bump, no_clock}
 use Rattle.event_core.proofs.Growing.{row_same}
-use Rattle.hb_clocks.specs.Counts.{counts_of}
+use Rattle.vector_clocks.specs.Counts.{counts_of}
 use Rattle.lock_queues.specs.Sections.{closed_at, latest_counted}
 use Rattle.lock_queues.specs.Searched.{IsSection}
 use Rattle.lock_queues.specs.declared.sections.ClosedSection.{ClosedSection}
 use Rattle.lock_queues.specs.Queues.{Tables, closed_of, found_of}
+use Rattle.lock_queues.specs.Standing.{CountsNone, IsLatest}
 use Rattle.lock_queues.proofs.Answering.{match_option, if_some}
+use Rattle.lock_queues.proofs.LogSearches.{none_in_log, told_in_log}
 use Rattle.lock_queues.proofs.queues.Queues.last_below.Goals as goal
 
 pub latest-requires : goal.latest-requires
@@ -31,7 +33,8 @@ returns c =
     = ap (λ (f : ℕ → ℕ → ℕ). f l t) c.find_counted.ensures.found.found
     ∙ ap (λ (f : ℕ → ℕ). f t) (row_same l (with_row t n (found_of old l)) (found_of old))
     ∙ row_same t n (found_of old l) in
-    let closed : closed_of new l ≡ qs = ap (λ (f : ℕ → List Closed). f l) c.find_counted.ensures.found.closed in
+    let closed : closed_of new l ≡ qs
+    = ap (λ (f : ℕ → List Closed). f l) c.find_counted.ensures.found.closed in
     let wide : new.limits.threads ≡ threads = ap (λ b. b.threads) c.find_counted.ensures.found.limits in
     let Reads : ℕ → List Closed → ℕ → ClosedSection → Type 0
     = λ k xs w r. (0 < k) × IsSection r.by.0 r.own r.before.now w (closed_at xs (k - 1)) in
@@ -44,21 +47,31 @@ returns c =
     (subst (λ (k : ℕ). MatchOption c.latest.result (k ≡ 0) (Reads k (closed_of new l) new.limits.threads))
     found c.latest.ensures)) in
     let answer = match_option c.latest.result (n ≡ 0) in
-    let before = c.find_counted.ensures.latest in (
+    let before = c.find_counted.ensures.latest in
+    let Latest : Type 0
+    = MatchOption c.latest.result (latest_counted clock qs ≡ None)
+    (λ r. IsSomeAnd (latest_counted clock qs) (Told r)) in
+    let latest : Latest
+    = answer (latest_counted clock qs ≡ None) (Reads n qs threads)
+    (λ r. IsSomeAnd (latest_counted clock qs) (Told r))
+    (λ z. before.none_latest z)
+    (λ r h. subst (λ (o : Option Closed). IsSomeAnd o (Told r)) (sym (before.latest h.0))
+    (sym h.1.thread, sym h.1.release))
+    known in (
       (refl, λ _. tt, c.find_counted.ensures.found),
       record {
         number = answer (n ≡ 0) (Reads n qs threads) (λ _. 0 < n) (λ z. z) (λ r h. h.0) known;
-        latest =
-            answer (latest_counted clock qs ≡ None) (Reads n qs threads)
-            (λ r. IsSomeAnd (latest_counted clock qs) (Told r))
-            (λ z. before.none_latest z)
-            (λ r h. subst (λ (o : Option Closed). IsSomeAnd o (Told r)) (sym (before.latest h.0))
-            (sym h.1.thread, sym h.1.release))
-            known;
+        latest = latest;
         below =
             answer (below_closed clock qs ≡ no_clock) (Reads n qs threads)
             (λ r. bump r.by.0 (counts_of r.before.now) ≡ below_closed clock qs) (λ z. before.none_below z)
             (λ r h. h.1.release ∙ sym (before.below h.0)) known;
+        in_log = λ limits log w st. match_option c.latest.result (latest_counted clock qs ≡ None)
+            (CountsNone log c.args.lock clock) (λ r. IsSomeAnd (latest_counted clock qs) (Told r))
+            (λ r. IsLatest log c.args.lock clock r.by (bump r.by.0 (counts_of r.before.now)))
+            (λ none. none_in_log limits log old c.args.lock clock w st none)
+            (λ r told. told_in_log limits log old c.args.lock clock r.by
+            (bump r.by.0 (counts_of r.before.now)) w st told) latest;
         within = if_some c.latest.result (n ≡ 0) (Reads n qs threads) (λ r. r.by.0 < length r.before.now)
             (λ r h. h.1.counted) known;
         own = if_some c.latest.result (n ≡ 0) (Reads n qs threads)

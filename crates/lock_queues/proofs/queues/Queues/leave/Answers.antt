@@ -3,12 +3,13 @@ use Rattle.std.proofs.Common.{ap, sym, subst, ◌∙◌, arith}
 use Rattle.std.specs.Prelude.{slice_index}
 use Rattle.event_core.specs.Closed.{Closed}
 use Rattle.event_core.specs.Rows.{with_row}
-use Rattle.hb_clocks.specs.Counts.{counts_of}
+use Rattle.vector_clocks.specs.Counts.{counts_of}
 use Rattle.lock_queues.specs.Sections.{closed_as, sections_of}
 use Rattle.lock_queues.specs.Rooms.{has_room_in, opened_in}
 use Rattle.lock_queues.specs.Searched.{IsAboveAll}
 use Rattle.lock_queues.specs.Queue.{Kept, queue_at}
 use Rattle.lock_queues.specs.Queues.{Tables, closed_of, opened_of, found_of, has_room}
+use Rattle.lock_queues.proofs.LogSteps.{leave_stands}
 use Rattle.lock_queues.proofs.Lifting.{read_entered, lifted, lifted_same, lifted_cell}
 use Rattle.lock_queues.proofs.Storing.{sections_grown, joined_closed}
 use Rattle.lock_queues.proofs.Tables.{kept_joined, joined_at, some_made, one_fits}
@@ -104,3 +105,8 @@ returns-clause-rooms c =
     let row = λ (q : Kept). has_room_in q.rooms in
     (λ i v m. lifted_cell row _ t l c.leave.new.self false read.within here v m i)
     ∙ ap (λ (v : Tables). with_row t (with_row l false (has_room v t)) (has_room v)) c.self.view_is
+
+pub returns-clause-stands : goal.returns-clause-stands
+returns-clause-stands c = λ limits log e.
+    leave_stands limits log e c.args.self.now c.args.thread c.args.lock (counts_of c.args.clock.now)
+    (returns-clause-closed c) (returns-clause-opened c) (returns-clause-found c)

@@ -1,97 +1,87 @@
-use Rattle.std.proofs.Common.{◌∙◌, ap, sym, subst, List, ℕ, ◌-◌, drop, take, length, arith}
-use Rattle.std.proofs.lemmas.Result.{err_from_is_err_and}
-use Rattle.std.proofs.lemmas.List.{take_rest}
-use Rattle.rapid_line.specs.Cut.{cut}
-use Rattle.rapid_line.proofs.Cuts.{cut_None}
-use Rattle.rapid_text.proofs.Pieces.{goes_on, gives, line_room, line_lf, line_fails, rest_fails}
-use Rattle.rapid_text.proofs.Pieces.{goes_first, keeps, judged_up_to}
-use Rattle.rapid_text.specs.Cutting.{Cutting, Keeps, RestFails}
+use Rattle.std.proofs.Common.{◌≡◌, ◌∙◌, ap, sym, subst, arith, length, length-append, List, ℕ}
+use Rattle.rapid_line.specs.Lines.{Lines}
+use Rattle.rapid_text.specs.declared.causes.TextFault.{TextFault}
+use Rattle.rapid_text.specs.Cutting.{Cutting, FailsAt}
+use Rattle.rapid_text.proofs.NameGrowth.{TablesGrow-trans}
+use Rattle.rapid_text.proofs.Pieces.{Going, live, goes_first, goes_on, goes_down, gives, keeps, long_at}
 use Rattle.rapid_text.proofs.cutter.Cutter.push.Goals as goal
 
 pub lines-init : goal.lines-init
 lines-init c =
-    let old : Cutting = record {
-      names = c.self.inside.names;
-      line = c.self.inside.line;
-      unfinished = c.self.inside.unfinished;
-      kept = c.self.inside.kept.items;
-      taken = c.self.inside.taken;
-      failed = c.self.inside.failed;
-    } in
-    rw (← c.self.view_is) (goes_first old c.args.piece.now c.self.invariant.0 c.in_default.is
-    (omega (arith, c.if-piece-self.false, c.self.invariant.2)))
+    let inside = c.self.inside in
+    let piece = c.args.piece.now in
+    let start = sym (live inside.names inside.lines inside.line inside.failed c.in_default.is) ∙ c.self.view_is in
+    record {
+      going = subst (λ (s : Cutting). Going s piece inside.names inside.lines piece) start
+          (goes_first inside.names inside.lines inside.line piece c.self.invariant.0
+          (c.has_room.ensures.0 c.if-not-has_room.false));
+      line = ap (λ (s : Cutting). s.line) c.self.view_is;
+      live = c.in_default.is;
+    }
 
-pub end_line-requires-clause-lf : goal.end_line-requires-clause-lf
-end_line-requires-clause-lf c =
-    (line_lf c.args.piece.now c.lines.used c.in-Some-cut_line.line.bytes.now c.in-Some-cut_line.field-0-1.now
-    c.lines.invariant.within (c.in-Some-cut_line.ensures.cut ∙ ap (λ (t : List ℕ). cut 10 t)
-    (take_rest c.args.piece.now c.lines.used))).0
+pub returns-in-Ok-None-clause-ok : goal.returns-in-Ok-None-clause-ok
+returns-in-Ok-None-clause-ok c =
+    let now = c.lines.self-inside in
+    let live_start = ap (λ (s : Cutting). s.failed) (sym c.self.view_is) ∙ c.in_default.is in
+    rw (live now.names c.next_line.new.self now.line now.failed c.lines.invariant.live, c.lines.invariant.line)
+    (keeps c.args.self.now c.args.piece.now now.names now.lines c.next_line.new.self c.lines.rest.now
+    c.lines.invariant.going (rw c.in-Ok-None.field-0-is at c.in-Ok-None.ensures.none) live_start)
 
-pub end_line-requires-clause-room : goal.end_line-requires-clause-room
-end_line-requires-clause-room c =
-    line_room c.args.self.now c.lines.self c.args.piece.now c.lines.used c.in-Some-cut_line.line.bytes.now
-    c.in-Some-cut_line.field-0-1.now c.lines.invariant
-    (c.in-Some-cut_line.ensures.cut ∙ ap (λ (t : List ℕ). cut 10 t) (take_rest c.args.piece.now c.lines.used))
+pub returns-in-Err-clause-fault : goal.returns-in-Err-clause-fault
+returns-in-Err-clause-fault c =
+    let lines = c.lines.self-inside.lines in
+    let at : c.unfinished-line-in-Err.result ≡ lines.unfinished =
+    c.unfinished-line-in-Err.ensures ∙ ap (λ (s : Lines). s.unfinished) c.in-Err.ensures.err in
+    subst (λ (f : TextFault). FailsAt c.args.self.now c.args.piece.now f f.cause)
+    (sym c.fail-in-Err.ensures.fault)
+    (long_at c.args.self.now c.args.piece.now c.lines.self-inside.names lines c.lines.rest.now
+    c.unfinished-line-in-Err.result at c.lines.invariant.going c.in-Err.ensures.too_long)
 
-pub returns-in_err-event-clause-fault : goal.returns-in_err-event-clause-fault
-returns-in_err-event-clause-fault c =
-    let p = err_from_is_err_and c.from_residual.result c.from_residual.ensures.1 in
-    rw (p.1, p.2)
-    (line_fails c.args.self.now c.lines.self c.args.piece.now c.lines.used c.in-Some-cut_line.line.bytes.now
-    c.in-Some-cut_line.field-0-1.now c.in_err-event.field-0.0 c.lines.invariant
-    (c.in-Some-cut_line.ensures.cut ∙ ap (λ (t : List ℕ). cut 10 t)
-    (take_rest c.args.piece.now c.lines.used)) c.in_err-event.ensures.fault)
-
-pub returns-in_err-event-clause-before : goal.returns-in_err-event-clause-before
-returns-in_err-event-clause-before c =
-    let p = err_from_is_err_and c.from_residual.result c.from_residual.ensures.1 in
-    rw (p.1, p.2)
-    (judged_up_to c.args.self.now c.lines.self c.args.piece.now c.lines.used c.in_err-event.field-0.0.line
-    c.end_line.new.self.names c.lines.invariant c.in_err-event.ensures.fault.at
-    c.in_err-event.ensures.grows)
-
-pub returns-in-Some-2-clause-ok : goal.returns-in-Some-2-clause-ok
-returns-in-Some-2-clause-ok c =
-    gives c.args.self.now c.lines.self c.end_line.new.self c.args.piece.now c.lines.used
-    c.in-Some-cut_line.line.bytes.now c.in-Some-cut_line.field-0-1.now c.in-Some-2.event c.lines.invariant
-    (c.in-Some-cut_line.ensures.cut ∙ ap (λ (t : List ℕ). cut 10 t) (take_rest c.args.piece.now c.lines.used))
-    (rw (← c.in-Some-2.is) c.in_ok-event.ensures.ok)
+pub lines-smaller : goal.lines-smaller
+lines-smaller c =
+    goes_down c.lines.self-inside.lines c.next_line.new.self c.lines.rest.now _ c.in-Ok-Some.cut.1.now
+    (rw c.in-Ok-Some.field-0-is at c.in-Ok-Some.ensures.line)
 
 pub lines-preserved : goal.lines-preserved
 lines-preserved c =
-    goes_on c.args.self.now c.lines.self c.end_line.new.self c.args.piece.now c.lines.used
-    c.in-Some-cut_line.line.bytes.now c.in-Some-cut_line.field-0-1.now c.lines.invariant
-    (c.in-Some-cut_line.ensures.cut ∙ ap (λ (t : List ℕ). cut 10 t) (take_rest c.args.piece.now c.lines.used))
-    (rw (← c.in_default-2.is) c.in_ok-event.ensures.ok) c.in_ok-event.ensures.grows
+    let now = c.lines.self-inside in
+    let cut = rw c.in-Ok-Some.field-0-is at c.in-Ok-Some.ensures.line in
+    record {
+      going = goes_on c.args.self.now c.args.piece.now now.names c.line_event.new.names now.lines
+          c.next_line.new.self c.lines.rest.now _ c.in-Ok-Some.cut.1.now c.lines.invariant.going cut
+          (rw (c.line.ensures.bytes, c.in-Ok-None-line_event.field-0-is) at c.in-Ok-None-line_event.ensures.ok)
+          c.line_event.ensures.grows;
+      line = c.lines.invariant.line;
+      live = c.lines.invariant.live;
+    }
 
-pub keep_rest-requires-clause-lf : goal.keep_rest-requires-clause-lf
-keep_rest-requires-clause-lf c = cut_None 10 (take (length c.args.piece.now - c.lines.used)
-    (drop c.lines.used c.args.piece.now)) (sym c.in_default-cut_line.ensures.cut)
+pub overflow_sub-result : goal.overflow_sub-result
+overflow_sub-result c =
+    let less = goes_down c.lines.self-inside.lines c.next_line.new.self c.lines.rest.now _ c.in-Ok-Some.cut.1.now
+    (rw c.in-Ok-Some.field-0-is at c.in-Ok-Some.ensures.line) in
+    let all = ap (λ (t : List ℕ). length t) c.lines.invariant.going.is in
+    let parts = length-append c.lines.invariant.going.front c.lines.rest.now in
+    omega arith
 
-pub returns-in_err-keep_rest-clause-fault : goal.returns-in_err-keep_rest-clause-fault
-returns-in_err-keep_rest-clause-fault c =
-    let p = err_from_is_err_and c.from_residual-in_err-keep_rest.result
-    c.from_residual-in_err-keep_rest.ensures.1 in
-    let rest = take_rest c.args.piece.now c.lines.used in
-    rw (p.1, p.2)
-    (rest_fails c.args.self.now c.lines.self c.args.piece.now c.lines.used c.in_err-keep_rest.field-0.0
-    c.lines.invariant (cut_None 10 (drop c.lines.used c.args.piece.now)
-    (ap (λ (t : List ℕ). cut 10 t) (sym rest) ∙ sym c.in_default-cut_line.ensures.cut))
-    (subst (λ
-    (t : List ℕ). RestFails c.lines.self t c.in_err-keep_rest.field-0.0) rest
-    c.in_err-keep_rest.ensures.fault))
+pub returns-in-Ok-Some-line_event-clause-ok : goal.returns-in-Ok-Some-line_event-clause-ok
+returns-in-Ok-Some-line_event-clause-ok c =
+    let now = c.lines.self-inside in
+    let live_start = ap (λ (s : Cutting). s.failed) (sym c.self.view_is) ∙ c.in_default.is in
+    let cut = rw c.in-Ok-Some.field-0-is at c.in-Ok-Some.ensures.line in
+    let number = rw c.in-Ok-Some.field-0-is at c.in-Ok-Some.ensures.number in
+    let line = c.in-Ok-Some.cut.0.number in
+    rw (live c.line_event.new.names c.next_line.new.self line now.failed c.lines.invariant.live, number)
+    (gives c.args.self.now c.args.piece.now now.names c.line_event.new.names now.lines c.next_line.new.self
+    c.lines.rest.now _ c.in-Ok-Some.cut.1.now c.in-Ok-Some-line_event.event c.lines.invariant.going cut
+    (rw (c.line.ensures.bytes, c.in-Ok-Some-line_event.field-0-is) at c.in-Ok-Some-line_event.ensures.ok)
+    live_start)
 
-pub returns-in_err-keep_rest-clause-before : goal.returns-in_err-keep_rest-clause-before
-returns-in_err-keep_rest-clause-before c =
-    let p = err_from_is_err_and c.from_residual-in_err-keep_rest.result
-    c.from_residual-in_err-keep_rest.ensures.1 in
-    rw (p.1, p.2)
-    (judged_up_to c.args.self.now c.lines.self c.args.piece.now c.lines.used
-    c.in_err-keep_rest.field-0.0.line c.keep_rest.new.self.names c.lines.invariant
-    c.in_err-keep_rest.ensures.fault.at c.in_err-keep_rest.ensures.grows)
+pub returns-in-Ok-Some-line_event-clause-grows : goal.returns-in-Ok-Some-line_event-clause-grows
+returns-in-Ok-Some-line_event-clause-grows c =
+    TablesGrow-trans c.args.self.now.names c.lines.self-inside.names c.line_event.new.names
+    c.lines.invariant.going.grows c.line_event.ensures.grows
 
-pub returns-clause-ok : goal.returns-clause-ok
-returns-clause-ok c =
-    keeps c.args.self.now c.lines.self c.keep_rest.new.self c.args.piece.now c.lines.used c.lines.invariant
-    (subst (λ (t : List ℕ). Keeps c.lines.self c.keep_rest.new.self t)
-    (take_rest c.args.piece.now c.lines.used) c.in_ok-keep_rest.ensures.ok)
+pub returns-in-Err-line_event-clause-grows : goal.returns-in-Err-line_event-clause-grows
+returns-in-Err-line_event-clause-grows c =
+    TablesGrow-trans c.args.self.now.names c.lines.self-inside.names c.line_event.new.names
+    c.lines.invariant.going.grows c.line_event.ensures.grows

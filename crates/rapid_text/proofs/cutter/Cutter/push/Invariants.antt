@@ -1,9 +1,13 @@
-use Rattle.std.proofs.Common.{length, ◌-◌}
+use Rattle.std.proofs.Common.{◌≡◌, length, None}
 use Rattle.rapid_text.proofs.Pieces.{Going}
 use Rattle.rapid_text.proofs.cutter.Cutter.push.Given as goal
 
 abbrev pub invariant-lines : goal.invariant-lines
-invariant-lines l = Going l.fn.self l.self l.piece l.used
+invariant-lines l = record {
+  going : Going l.fn.self l.piece l.self-inside.names l.self-inside.lines l.rest;
+  line : l.self-inside.line ≡ l.fn.self.line;
+  live : l.self-inside.failed ≡ None;
+}
 
 abbrev pub decreases-lines : goal.decreases-lines
-decreases-lines l = length l.piece - l.used
+decreases-lines l = length l.rest

@@ -3,6 +3,7 @@ use Rattle.section_sum.specs.Cells.{Stored, no_cells}
 use Rattle.section_sum.specs.Entries.{entries_of, noted_at, others_on}
 use Rattle.section_sum.specs.Sums.{noted_of, others_of}
 use Rattle.section_sum.proofs.Says.{none_noted, none_others}
+use Rattle.section_sum.proofs.Steps.{nothing_stands}
 use Rattle.section_sum.proofs.summaries.Summaries.new.Goals as goal
 
 pub returns-clause-nothing_noted : goal.returns-clause-nothing_noted
@@ -16,3 +17,7 @@ unfolding others_of
 returns-clause-no_others c = λ l v k t.
     subst (λ (s : Stored). others_on (entries_of s c.new-2.result.items l) v k t ≡ 0) (sym c.new.ensures)
     (none_others (entries_of no_cells c.new-2.result.items l) (λ x. refl) v k t)
+
+pub returns-clause-stands : goal.returns-clause-stands
+returns-clause-stands c =
+    nothing_stands _ (returns-clause-nothing_noted c) (returns-clause-no_others c)

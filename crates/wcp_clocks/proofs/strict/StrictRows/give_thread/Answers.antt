@@ -1,7 +1,7 @@
 use Rattle.std.proofs.Common.{refl, ap, subst, ◌∙◌}
 use Rattle.std.proofs.lemmas.List.{with_items_is}
 use Rattle.std.specs.Vec.{with_items}
-use Rattle.hb_clocks.specs.Tables.{widths_of}
+use Rattle.vector_clocks.specs.Rows.{widths_of}
 use Rattle.wcp_clocks.specs.StrictRows.{StrictTables, SameRoom}
 use Rattle.wcp_clocks.proofs.Kept.{SameWidths, room_kept, tables_kept}
 use Rattle.wcp_clocks.proofs.strict.StrictRows.give_thread.Goals as goal

@@ -1,0 +1,5 @@
+use Rattle.event_core.proofs.Growth.{run_is_unique}
+use Rattle.event_core.proofs.laws.runs.run_is_unique.Goals as goal
+
+pub returns : goal.returns
+returns c = run_is_unique

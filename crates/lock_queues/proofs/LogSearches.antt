@@ -1,0 +1,343 @@
+-- What a search by a clock finds of the sections that stand for a log.
+use Rattle.std.proofs.Common.{◌≡◌, ℕ, ◌<◌, ◌≤◌, ◌+◌, ◌-◌, List, [], ◌∷◌, ◌++◌, length, refl, sym, ap}
+use Rattle.std.proofs.Common.{subst, ◌∙◌, arith, take, ◌⊎◌, true, Option, Some, None}
+use Rattle.std.specs.Prelude.{IsSomeAnd}
+use Rattle.std.proofs.lemmas.Bool.{cases_order, cases_lt, leb-true, le-leb}
+use Rattle.std.proofs.lemmas.Option.{slice_get_within}
+use mathlib.Core.Logic.{inl, inr}
+use Rattle.event_core.specs.declared.bounds.Limits.{Limits}
+use Rattle.event_core.specs.declared.events.Event.{Event}
+use Rattle.event_core.specs.declared.ids.LockId.{LockId}
+use Rattle.event_core.specs.declared.ids.ThreadId.{ThreadId}
+use Rattle.event_core.specs.Closed.{Closed, IsClosed, ended, number_of}
+use Rattle.event_core.specs.Closed.{is_counted, number_counted}
+use Rattle.event_core.specs.Count.{events_of, Past}
+use Rattle.event_core.specs.Log.{Of, depth, OuterRelease, Section}
+use Rattle.event_core.specs.Order.{Hb, here}
+use Rattle.event_core.specs.Orderly.{Orderly}
+use Rattle.event_core.specs.Refusal.{WellFormed}
+use Rattle.event_core.specs.Rows.{with_row, Counted}
+use Rattle.event_core.specs.Wcp.{Strict, rule_c_left}
+use Rattle.event_core.proofs.Chains.{hb_forward, hb_trans, hb_thread}
+use Rattle.event_core.proofs.CountLaws.{counts_grow}
+use Rattle.event_core.proofs.Depth.{section_of, same_lock_id, same_thread_id}
+use Rattle.event_core.proofs.Effects.{last_closes}
+use Rattle.event_core.proofs.Growing.{cell_same, cell_other}
+use Rattle.event_core.proofs.Growth.{well_formed_front}
+use Rattle.event_core.proofs.HeldDepths.{cell_cases}
+use Rattle.event_core.proofs.Legality.{orderly}
+use Rattle.event_core.proofs.LogFacts.{of_does}
+use Rattle.event_core.proofs.MoreLaws.{sections_ordered, one_acquire}
+use Rattle.event_core.proofs.SectionNumbers.{number_order, ended_mono}
+use Rattle.event_core.proofs.Stable.{longer, section_too, hb_too}
+use Rattle.lock_queues.specs.Sections.{closed_at, latest_counted}
+use Rattle.lock_queues.specs.Queues.{Tables, closed_of, opened_of, found_of}
+use Rattle.lock_queues.specs.Searched.{CountsEarlier}
+use Rattle.lock_queues.specs.Standing.{AreSections, AreOf, Stands, CountsEvent, CountsNone, IsLatest}
+use Rattle.lock_queues.specs.Laws.{StrictClocksMayAsk, FindingKeepsThem, ReleasesAreAbove}
+use Rattle.lock_queues.proofs.CountedLists.{CountsAt, number_most, number_least, counted_first, none_counted}
+use Rattle.lock_queues.proofs.CountedLists.{IsLatestAt, latest_place}
+use Rattle.lock_queues.proofs.LogSteps.{same_are, holder_has_events}
+use Rattle.lock_queues.proofs.SectionLists.{Entered, entered, has_place, place_within}
+
+-- the test of an entry is that of the acquire of its section
+pub counts_acquire : (log : List Event) (c : ℕ → ℕ) (u : ThreadId) (l : LockId) (a r : ℕ) (q : Closed)
+    → IsClosed log u l a r q → is_counted c q ≡ true → CountsEvent log c u a
+counts_acquire log c u l a r q is h =
+    let le : q.position ≤ c q.thread = leb-true q.position (c q.thread) h in
+    let same : c q.thread ≡ c u.0 = ap c is.thread in
+    let at : q.position ≡ events_of (take a log) u + 1 = is.position in
+    omega arith
+
+pub acquire_counted : (log : List Event) (c : ℕ → ℕ) (u : ThreadId) (l : LockId) (a r : ℕ) (q : Closed)
+    → IsClosed log u l a r q → CountsEvent log c u a → is_counted c q ≡ true
+acquire_counted log c u l a r q is lt =
+    let same : c q.thread ≡ c u.0 = ap c is.thread in
+    let at : q.position ≡ events_of (take a log) u + 1 = is.position in
+    le-leb q.position (c q.thread) (omega (arith, lt, same, at))
+
+module _ (log : List Event) (ord : Orderly log) (t : ThreadId) (c : ℕ → ℕ)
+    (counted : Counted log (Past log (Strict log) t) c) where
+  -- the clock counts an acquire where it strictly precedes the thread's events
+  to_past : (u : ThreadId) (l : LockId) (a r : ℕ) → Section log u l a r → CountsEvent log c u a
+      → Past log (Strict log) t a
+  to_past u l a r s lt = ((counted u).first a (of_does s.inside.opened.does)).1 lt
+
+  from_past : (u : ThreadId) (l : LockId) (a r : ℕ) → Section log u l a r → Past log (Strict log) t a
+      → CountsEvent log c u a
+  from_past u l a r s p = ((counted u).first a (of_does s.inside.opened.does)).0 p
+
+  -- with a section the clock counts the earlier ones on its lock
+  earlier : (l : LockId) (u v : ThreadId) (a r b s : ℕ) → Section log u l a r → Section log v l b s → r ≤ s
+      → CountsEvent log c v b → CountsEvent log c u a
+  earlier l u v a r b s x y le is = go (cases_order r s)
+    where
+      p : Past log (Strict log) t b
+      p = to_past v l b s y is
+
+      go : (r ≡ s) ⊎ ((r < s) ⊎ (s < r)) → CountsEvent log c u a
+      go (inl same) =
+          let z : Section log u l a s = subst (λ n. Section log u l a n) same x in
+          from_past u l a r x (subst (λ n. Past log (Strict log) t n) (sym (one_acquire z y)) p)
+      go (inr (inl lt)) =
+          let up : Hb log a b
+          = hb_trans (hb_thread u (of_does x.inside.opened.does) (of_does x.closed.does) x.inside.from)
+          (sections_ordered ord x y lt) in
+          from_past u l a r x (p.0, p.1, rule_c_left up p.2)
+      go (inr (inr gt)) = absurd (omega (arith, gt, le))
+
+  module _ (l : LockId) (qs : List Closed) (are : AreSections log l qs) where
+    -- so do the entries, place by place
+    before : (k m : ℕ) → k ≤ m → m < length qs → CountsAt c qs m → CountsAt c qs k
+    before k m le lt h =
+        let x = entered log l qs ord are k (omega arith) in
+        let y = entered log l qs ord are m lt in
+        let up = number_order log l x.release y.release y.thread y.is.section.closed
+        (let i = x.number in let j = y.number in omega (arith, i, j, le)) in
+        acquire_counted log c x.thread l x.acquire x.release (closed_at qs k) x.is
+        (earlier l x.thread y.thread x.acquire x.release y.acquire y.release x.is.section y.is.section up
+        (counts_acquire log c y.thread l y.acquire y.release (closed_at qs m) y.is h))
+
+    -- of two entries the one with the lower release clock is the earlier one
+    pub counts_earlier : CountsEarlier c qs
+    counts_earlier p q hp hq le is = go (cases_lt y.0 x.0)
+      where
+        x : (k : ℕ) × (k < length qs) × (closed_at qs k ≡ p)
+        x = has_place p qs hp
+
+        y : (k : ℕ) × (k < length qs) × (closed_at qs k ≡ q)
+        y = has_place q qs hq
+
+        at_y : CountsAt c qs y.0
+        at_y = subst (λ z. is_counted c z ≡ true) (sym y.2) is
+
+        go : (y.0 < x.0) ⊎ (x.0 ≤ y.0) → is_counted c p ≡ true
+        go (inr up) = subst (λ z. is_counted c z ≡ true) x.2 (before x.0 y.0 up y.1 at_y)
+        go (inl down) =
+            let i = entered log l qs ord are x.0 x.1 in
+            let j = entered log l qs ord are y.0 y.1 in
+            let up : j.release < i.release
+            = lower j.release i.release j.thread i.thread j.is.section.closed i.is.section.closed
+            (let m = i.number in let n = j.number in omega (arith, m, n, down)) in
+            absurd (above i.thread i.acquire i.release j.thread j.acquire j.release i.is j.is up)
+          where
+            lower : (r s : ℕ) (u v : ThreadId) → OuterRelease log r u l → OuterRelease log s v l
+                → number_of log l r < number_of log l s → r < s
+            lower r s u v o o' lt = by (cases_lt r s)
+              where
+                by : (r < s) ⊎ (s ≤ r) → r < s
+                by (inl h) = h
+                by (inr h) =
+                    let le' = number_order_back s r h in absurd (omega (arith, lt, le'))
+                  where
+                    number_order_back : (s r : ℕ) → s ≤ r → number_of log l s ≤ number_of log l r
+                    number_order_back s r h = omega (arith, ended_mono log l s r h)
+
+            -- the later release counts itself, and the earlier one does not
+            above : (u : ThreadId) (a r : ℕ) (v : ThreadId) (b s : ℕ)
+                → IsClosed log u l a r (closed_at qs x.0) → IsClosed log v l b s (closed_at qs y.0)
+                → s < r → ⊥
+            above u a r v b s p' q' lt =
+                let o : Of log r u = of_does p'.section.closed.does in
+                let mine : events_of (take r log) u < (closed_at qs x.0).release u.0
+                = ((p'.release u).first r o).0 here in
+                let at : (closed_at qs x.0).release u.0 ≤ (closed_at qs y.0).release u.0
+                = subst (λ z. (closed_at qs x.0).release u.0 ≤ z.release u.0) (sym y.2)
+                (subst (λ z. z.release u.0 ≤ q.release u.0) (sym x.2) (le u.0)) in
+                let h : Hb log r s = ((q'.release u).first r o).1 (omega (arith, mine, at)) in
+                let f : r ≤ s = hb_forward h in
+                omega (arith, f, lt)
+
+    -- what has been found is counted
+    pub found_counted : (n : ℕ) → n ≤ ended log l
+        → ((u : ThreadId) (a r : ℕ) → Section log u l a r → number_of log l r ≤ n → Past log (Strict log) t a)
+        → n ≤ number_counted c qs
+    found_counted n most found =
+        let count : length qs ≡ ended log l = are.count in
+        number_least c qs n (omega (arith, count, most)) (λ k lt.
+        (let x = entered log l qs ord are k (omega (arith, count, most, lt)) in
+        acquire_counted log c x.thread l x.acquire x.release (closed_at qs k) x.is
+        (from_past x.thread l x.acquire x.release x.is.section
+        (found x.thread x.acquire x.release x.is.section (let i = x.number in omega (arith, i, lt))))))
+
+    -- and what is counted may be found
+    pub counted_found : (u : ThreadId) (a r : ℕ) → Section log u l a r
+        → number_of log l r ≤ number_counted c qs → Past log (Strict log) t a
+    counted_found u a r s le =
+        let place = place_within log l qs are u a r s in
+        let at : CountsAt c qs (number_of log l r - 1)
+        = counted_first c qs before (number_of log l r - 1) (omega (arith, le)) in
+        to_past u l a r s
+        (counts_acquire log c u l a r (closed_at qs (number_of log l r - 1)) (are.each u a r s) at)
+
+-- the clock of what strictly precedes a thread's events may ask
+pub strict_clocks_may_ask : StrictClocksMayAsk
+strict_clocks_may_ask limits log v t l c w counted st =
+    let ord = orderly limits log w in (
+      found_counted log ord t c counted l (closed_of v l.0) (st.closed_are l) (found_of v l.0 t.0)
+          (st.most t l) (st.found_are t l),
+      counts_earlier log ord t c counted l (closed_of v l.0) (st.closed_are l),
+    )
+
+-- what is found by it keeps the meaning
+finds : (limits : Limits) (log : List Event) (v : Tables) (t : ThreadId) (l : LockId) (c : ℕ → ℕ)
+    → WellFormed limits log → Counted log (Past log (Strict log) t) c → 0 < depth log t l → Stands log v
+    → AreOf log (closed_of v) (opened_of v)
+    (with_row l.0 (with_row t.0 (number_counted c (closed_of v l.0)) (found_of v l.0)) (found_of v))
+finds limits log v t l c w counted up st = record {
+  closed_are = st.closed_are;
+  opened_are = st.opened_are;
+  found_are = λ u m. by u m (cell_cases t u l m);
+  most = λ u m. most u m (cell_cases t u l m);
+  none = λ u m. none u m (cell_cases t u l m);
+}
+  where
+    n : ℕ
+    n = number_counted c (closed_of v l.0)
+
+    new : ℕ → ℕ → ℕ
+    new = with_row l.0 (with_row t.0 n (found_of v l.0)) (found_of v)
+
+    ord : Orderly log
+    ord = orderly limits log w
+
+    kept : (u : ThreadId) (m : LockId) → (t ≡ u → l ≡ m → ⊥) → new m.0 u.0 ≡ found_of v m.0 u.0
+    kept u m ne =
+        cell_other l.0 t.0 n (found_of v) m.0 u.0
+        (λ q r. ne (same_thread_id (sym r)) (same_lock_id (sym q)))
+
+    here_is : new l.0 t.0 ≡ n
+    here_is = cell_same l.0 t.0 n (found_of v)
+
+    by : (u : ThreadId) (m : LockId) → ((t ≡ u) × (l ≡ m)) ⊎ (t ≡ u → l ≡ m → ⊥)
+        → (x : ThreadId) (a r : ℕ) → Section log x m a r → number_of log m r ≤ new m.0 u.0
+        → Past log (Strict log) u a
+    by u m (inl same) =
+        subst (λ (z : ThreadId). (x : ThreadId) (a r : ℕ) → Section log x m a r
+        → number_of log m r ≤ new m.0 z.0 → Past log (Strict log) z a) same.0
+        (subst (λ (y : LockId). (x : ThreadId) (a r : ℕ) → Section log x y a r
+        → number_of log y r ≤ new y.0 t.0 → Past log (Strict log) t a) same.1
+        (λ x a r s le. counted_found log ord t c counted l (closed_of v l.0) (st.closed_are l) x a r s
+        (subst (λ k. number_of log l r ≤ k) here_is le)))
+    by u m (inr ne) =
+        λ x a r s le. st.found_are u m x a r s (subst (λ k. number_of log m r ≤ k) (kept u m ne) le)
+
+    most : (u : ThreadId) (m : LockId) → ((t ≡ u) × (l ≡ m)) ⊎ (t ≡ u → l ≡ m → ⊥)
+        → new m.0 u.0 ≤ ended log m
+    most u m (inl same) =
+        subst (λ (z : ThreadId). new m.0 z.0 ≤ ended log m) same.0
+        (subst (λ (y : LockId). new y.0 t.0 ≤ ended log y) same.1
+        (let few = number_most c (closed_of v l.0) in
+        let count = (st.closed_are l).count in omega (arith, here_is, few, count)))
+    most u m (inr ne) = let few = st.most u m in let same = kept u m ne in omega (arith, few, same)
+
+    none : (u : ThreadId) (m : LockId) → ((t ≡ u) × (l ≡ m)) ⊎ (t ≡ u → l ≡ m → ⊥)
+        → events_of log u ≡ 0 → new m.0 u.0 ≡ 0
+    none u m (inl same) z =
+        absurd (let some = holder_has_events log t l up in
+        let same_events : events_of log t ≡ events_of log u = ap (events_of log) same.0 in
+        omega (arith, some, same_events, z))
+    none u m (inr ne) z = kept u m ne ∙ st.none u m z
+
+pub finding_keeps_them : FindingKeepsThem
+finding_keeps_them limits log old new t l c w counted up is st =
+    same_are is.closed is.opened is.found (finds limits log old t l c w counted up st)
+
+-- the clock of a release is at or above those of the sections on its lock
+pub releases_are_above : ReleasesAreAbove
+releases_are_above limits log e v l c w is counted st q u h =
+    subst (λ z. z.release u ≤ c u) x.2
+    (counts_grow log e thread (λ i. Hb log i y.release) (λ i. Hb (log ++ e ∷ []) i (length log))
+    ((closed_at (closed_of v l.0) x.0).release u) (c u) below within (y.is.release thread) (counted thread))
+  where
+    thread : ThreadId
+    thread = record { 0 = u }
+
+    ord : Orderly (log ++ e ∷ [])
+    ord = orderly limits (log ++ e ∷ []) w
+
+    x : (k : ℕ) × (k < length (closed_of v l.0)) × (closed_at (closed_of v l.0) k ≡ q)
+    x = has_place q (closed_of v l.0) h
+
+    y : Entered log l x.0 (closed_at (closed_of v l.0) x.0)
+    y =
+        entered log l (closed_of v l.0) (orderly limits log (well_formed_front limits log (e ∷ []) w))
+        (st.closed_are l) x.0 x.1
+
+    lt : y.release < length log
+    lt =
+        slice_get_within log y.release y.is.section.closed.does.event y.is.section.closed.does.at
+
+    mine : (a : ℕ) × Section (log ++ e ∷ []) e.thread l a (length log)
+    mine = section_of (log ++ e ∷ []) e.thread l (length log) ord (last_closes log e l is.op is.outer)
+
+    within : (i : ℕ) → Hb log i y.release → i < length log
+    within i b = let le : i ≤ y.release = hb_forward b in let l' = lt in omega arith
+
+    below : (i : ℕ) → Hb log i y.release → Hb (log ++ e ∷ []) i (length log)
+    below i b =
+        hb_trans (hb_too (longer log (e ∷ [])) lt b)
+        (hb_trans (sections_ordered ord (section_too (longer log (e ∷ [])) lt y.is.section) mine.1 lt)
+        (hb_thread e.thread (of_does mine.1.inside.opened.does) (of_does mine.1.closed.does)
+        mine.1.inside.from))
+
+-- no section has an acquire that the clock counts
+pub none_in_log : (limits : Limits) (log : List Event) (v : Tables) (l : LockId) (c : ℕ → ℕ)
+    → WellFormed limits log → Stands log v → latest_counted c (closed_of v l.0) ≡ None → CountsNone log l c
+none_in_log limits log v l c w st none u a r s is =
+    none_counted c (closed_of v l.0) none (number_of log l r - 1)
+    (place_within log l (closed_of v l.0) (st.closed_are l) u a r s)
+    (acquire_counted log c u l a r (closed_at (closed_of v l.0) (number_of log l r - 1))
+    ((st.closed_are l).each u a r s) is)
+
+-- or the latest that has one is that of the entry
+pub latest_in_log : (limits : Limits) (log : List Event) (v : Tables) (l : LockId) (c : ℕ → ℕ) (u : ThreadId)
+    (clock : ℕ → ℕ) (q : Closed) → WellFormed limits log → Stands log v
+    → latest_counted c (closed_of v l.0) ≡ Some q → q.thread ≡ u.0 → q.release ≡ clock
+    → IsLatest log l c u clock
+latest_in_log limits log v l c u clock q w st is thread release = record {
+  acquire = x.acquire;
+  release = x.release;
+  section = subst (λ t. Section log t l x.acquire x.release) same x.is.section;
+  counted =
+      subst (λ t. CountsEvent log c t x.acquire) same
+      (counts_acquire log c x.thread l x.acquire x.release entry x.is p.counted);
+  latest = λ t b s y h.
+      number_order log l s x.release x.thread x.is.section.closed
+      (let place = p.latest (number_of log l s - 1) (place_within log l qs are t b s y)
+      (acquire_counted log c t l b s (closed_at qs (number_of log l s - 1)) (are.each t b s y) h) in
+      let number = x.number in omega (arith, place, number));
+  clock_is =
+      subst (λ f. Counted log (λ i. Hb log i x.release) f) (ap (λ (z : Closed). z.release) p.is ∙ release)
+      x.is.release;
+}
+  where
+    qs : List Closed
+    qs = closed_of v l.0
+
+    are : AreSections log l qs
+    are = st.closed_are l
+
+    p : IsLatestAt c qs q
+    p = latest_place c qs q is
+
+    entry : Closed
+    entry = closed_at qs p.place
+
+    x : Entered log l p.place entry
+    x = entered log l qs (orderly limits log w) are p.place p.within
+
+    same : x.thread ≡ u
+    same = same_thread_id (sym x.is.thread ∙ ap (λ (z : Closed). z.thread) p.is ∙ thread)
+
+-- the same of what is told of the entry
+pub told_in_log : (limits : Limits) (log : List Event) (v : Tables) (l : LockId) (c : ℕ → ℕ) (u : ThreadId)
+    (clock : ℕ → ℕ) → WellFormed limits log → Stands log v
+    → IsSomeAnd (latest_counted c (closed_of v l.0)) (λ q. (q.thread ≡ u.0) × (q.release ≡ clock))
+    → IsLatest log l c u clock
+told_in_log limits log v l c u clock w st told = go (latest_counted c (closed_of v l.0)) refl told
+  where
+    go : (o : Option Closed) → latest_counted c (closed_of v l.0) ≡ o
+        → IsSomeAnd o (λ q. (q.thread ≡ u.0) × (q.release ≡ clock)) → IsLatest log l c u clock
+    go (Some q) is both = latest_in_log limits log v l c u clock q w st is both.0 both.1
+    go None is both = absurd both

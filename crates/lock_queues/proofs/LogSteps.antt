@@ -1,0 +1,310 @@
+-- The calls keep what the queues stand for.
+use Rattle.std.proofs.Common.{◌≡◌, ℕ, ◌<◌, ◌≤◌, ◌+◌, ◌-◌, List, [], ◌∷◌, ◌++◌, length, refl, sym, ap}
+use Rattle.std.proofs.Common.{subst, ◌∙◌, arith, take, ◌⊎◌}
+use Rattle.std.proofs.lemmas.Option.{slice_get_within}
+use Rattle.std.proofs.Math.Seq.{take-append_seam}
+use mathlib.Core.Logic.{inl, inr}
+use Rattle.event_core.specs.declared.bounds.Limits.{Limits}
+use Rattle.event_core.specs.declared.events.Event.{Event}
+use Rattle.event_core.specs.declared.events.Op.TheVariants.{Acquire, Release}
+use Rattle.event_core.specs.declared.ids.LockId.{LockId}
+use Rattle.event_core.specs.declared.ids.ThreadId.{ThreadId}
+use Rattle.event_core.specs.Closed.{Closed, Open, OpensSection, EndsSection, ended, number_of}
+use Rattle.event_core.specs.Count.{events_of, Past}
+use Rattle.event_core.specs.Log.{Of, depth, OuterRelease, Section}
+use Rattle.event_core.specs.Order.{Hb}
+use Rattle.event_core.specs.Orderly.{Orderly}
+use Rattle.event_core.specs.Refusal.{WellFormed}
+use Rattle.event_core.specs.Rows.{with_row, Counted}
+use Rattle.event_core.specs.Wcp.{Strict}
+use Rattle.event_core.proofs.CountLaws.{rank_below}
+use Rattle.event_core.proofs.Counting.{is_last, last_thread, last_op, events_grow}
+use Rattle.event_core.proofs.Depth.{lock_cases, same_lock_id, same_thread_id}
+use Rattle.event_core.proofs.Effects.{front, depth_down, last_closes}
+use Rattle.event_core.proofs.Growing.{row_same, row_other, cell_same, cell_other}
+use Rattle.event_core.proofs.Legality.{orderly}
+use Rattle.event_core.proofs.LogFacts.{of_does}
+use Rattle.event_core.proofs.OpenSections.{ends_at, open_old, open_held, open_by_depth}
+use Rattle.event_core.proofs.SectionNumbers.{number_longer, number_last}
+use Rattle.event_core.proofs.SectionNumbers.{ended_none, ended_snoc}
+use Rattle.event_core.proofs.Stable.{longer, back, of, does, section_too, strict_too}
+use Rattle.vector_clocks.specs.Marks.{Named, Names}
+use Rattle.lock_queues.specs.Queues.{Tables, closed_of, opened_of, found_of}
+use Rattle.lock_queues.specs.Standing.{AreSections, AreOf, Stands, IsOther}
+use Rattle.lock_queues.specs.Laws.{SameStand, OthersLeaveThem, HoldersHaveEntered}
+use Rattle.lock_queues.proofs.SectionLists.{sections_same, sections_more}
+
+-- a thread's past is in its past of the longer log
+past_longer : (log : List Event) (e : Event) (t : ThreadId) (i : ℕ) → Past log (Strict log) t i
+    → Past (log ++ e ∷ []) (Strict (log ++ e ∷ [])) t i
+past_longer log e t i (j, inl o, s) =
+    let lt = slice_get_within log j o.event o.at in
+    (j, inl (of (longer log (e ∷ [])) lt o), strict_too (longer log (e ∷ [])) lt s)
+past_longer log e t i (j, inr d, s) =
+    let lt = slice_get_within log j d.1.event d.1.at in
+    (j, inr (d.0, does (longer log (e ∷ [])) lt d.1), strict_too (longer log (e ∷ [])) lt s)
+
+-- who holds a lock has an event
+pub holder_has_events : (log : List Event) (t : ThreadId) (l : LockId) → 0 < depth log t l
+    → 0 < events_of log t
+holder_has_events log t l up =
+    let p = open_by_depth log t l up in
+    let lt = rank_below log t p.0 (of_does p.1.opened.does) in
+    omega (arith, lt)
+
+module _ (log : List Event) (e : Event) (ord : Orderly (log ++ e ∷ [])) where
+  -- what was found is so after the event
+  found_longer : (found : ℕ → ℕ → ℕ) → ((t : ThreadId) (l : LockId) → found l.0 t.0 ≤ ended log l)
+      → ((t : ThreadId) (l : LockId) (u : ThreadId) (a r : ℕ) → Section log u l a r
+      → number_of log l r ≤ found l.0 t.0 → Past log (Strict log) t a)
+      → (t : ThreadId) (l : LockId) (u : ThreadId) (a r : ℕ) → Section (log ++ e ∷ []) u l a r
+      → number_of (log ++ e ∷ []) l r ≤ found l.0 t.0 → Past (log ++ e ∷ []) (Strict (log ++ e ∷ [])) t a
+  found_longer found most was t l u a r x le = go (is_last log e r u (of_does x.closed.does))
+    where
+      go : (r < length log) ⊎ (r ≡ length log) → Past (log ++ e ∷ []) (Strict (log ++ e ∷ [])) t a
+      go (inl lt) =
+          let same = number_longer log e l r (omega arith) in
+          past_longer log e t a
+          (was t l u a r (section_too (back (longer log (e ∷ []))) lt x) (omega (arith, same, le)))
+      go (inr at) =
+          let last : number_of (log ++ e ∷ []) l r ≡ ended log l + 1
+          = ap (number_of (log ++ e ∷ []) l) at ∙ number_last log e l in
+          let few = most t l in
+          absurd (omega (arith, last, few, le))
+
+  -- an event ends no section twice, and takes none away
+  ended_more : (l : LockId) → ended log l ≤ ended (log ++ e ∷ []) l
+  ended_more l = let up = ended_snoc log l e in omega (arith, up)
+
+  -- tables with the sections of the longer log and the positions of its open ones
+  next : {closed closed' : ℕ → List Closed} {opened opened' found : ℕ → ℕ → ℕ} → AreOf log closed opened found
+      → ((l : LockId) → AreSections (log ++ e ∷ []) l (closed' l.0))
+      → ((t : ThreadId) (l : LockId) (a : ℕ) → Open (log ++ e ∷ []) t l a
+      → opened' t.0 l.0 ≡ events_of (take a (log ++ e ∷ [])) t + 1)
+      → AreOf (log ++ e ∷ []) closed' opened' found
+  next st sections positions = record {
+    closed_are = sections;
+    opened_are = positions;
+    found_are = found_longer _ st.most st.found_are;
+    most = λ t l. (let a = st.most t l in let b = ended_more l in omega (arith, a, b));
+    none = λ t l z. st.none t l (let up = events_grow log e t in omega (arith, up, z));
+  }
+
+  -- a section that was open before the event
+  opened_before : {closed : ℕ → List Closed} {opened found : ℕ → ℕ → ℕ} → AreOf log closed opened found
+      → (t : ThreadId) (l : LockId) (a : ℕ) → Open (log ++ e ∷ []) t l a → a < length log
+      → opened t.0 l.0 ≡ events_of (take a (log ++ e ∷ [])) t + 1
+  opened_before st t l a p lt =
+      st.opened_are t l a (open_old log e ord t l a p lt)
+      ∙ sym (ap (λ xs. events_of xs t + 1) (front log e a (omega arith)))
+
+  -- and one that the event opens
+  opened_now : (t : ThreadId) (l : LockId) (a : ℕ) → Open (log ++ e ∷ []) t l a → a ≡ length log
+      → (e.thread ≡ t) × OpensSection log e.thread l e
+  opened_now t l a p is =
+      let th : e.thread ≡ t = last_thread log e a t is (of_does p.opened.does) in
+      let outer : depth log t l ≡ 0
+      = subst (λ xs. depth xs t l ≡ 0) (take-append_seam log (e ∷ []))
+      (subst (λ n. depth (take n (log ++ e ∷ [])) t l ≡ 0) is p.opened.outer) in (
+        th,
+        record {
+          thread = refl;
+          op = last_op log e a t (Acquire l) is p.opened.does;
+          outer = subst (λ v. depth log v l ≡ 0) (sym th) outer;
+        },
+      )
+
+  -- an event that neither opens nor ends a section
+  pub others_leave : {closed : ℕ → List Closed} {opened found : ℕ → ℕ → ℕ} → IsOther log e
+      → AreOf log closed opened found → AreOf (log ++ e ∷ []) closed opened found
+  others_leave {closed = closed} {opened = opened} other st =
+      next st
+      (λ l. sections_same log e ord l (closed l.0) (λ r. other.ends l (ends_at log e ord l r))
+      (st.closed_are l))
+      (λ t l a p. at t l a p (is_last log e a t (of_does p.opened.does)))
+    where
+      at : (t : ThreadId) (l : LockId) (a : ℕ) → Open (log ++ e ∷ []) t l a
+          → (a < length log) ⊎ (a ≡ length log)
+          → opened t.0 l.0 ≡ events_of (take a (log ++ e ∷ [])) t + 1
+      at t l a p (inl lt) = opened_before st t l a p lt
+      at t l a p (inr is) = absurd (other.opens l (opened_now t l a p is).1)
+
+  -- an event that opens one
+  opens_own : {closed : ℕ → List Closed} {opened found : ℕ → ℕ → ℕ} (l : LockId) (n : ℕ)
+      → OpensSection log e.thread l e → n ≡ events_of log e.thread + 1 → AreOf log closed opened found
+      → AreOf (log ++ e ∷ []) closed (with_row e.thread.0 (with_row l.0 n (opened e.thread.0)) opened) found
+  opens_own {closed = closed} {opened = opened} l n is number st =
+      next st (λ m. sections_same log e ord m (closed m.0) (λ r. not_ends m (ends_at log e ord m r).op)
+      (st.closed_are m))
+      (λ t m a p. at t m a p (is_last log e a t (of_does p.opened.does)))
+    where
+      new : ℕ → ℕ → ℕ
+      new = with_row e.thread.0 (with_row l.0 n (opened e.thread.0)) opened
+
+      not_ends : (m : LockId) → e.op ≡ Release m → ⊥
+      not_ends m r = let q : Acquire l ≡ Release m = sym is.op ∙ r in cc
+
+      at : (t : ThreadId) (m : LockId) (a : ℕ) → Open (log ++ e ∷ []) t m a
+          → (a < length log) ⊎ (a ≡ length log)
+          → new t.0 m.0 ≡ events_of (take a (log ++ e ∷ [])) t + 1
+      at t m a p (inl lt) =
+          cell_other e.thread.0 l.0 n opened t.0 m.0 apart ∙ opened_before st t m a p lt
+        where
+          apart : t.0 ≡ e.thread.0 → m.0 ≡ l.0 → ⊥
+          apart q r =
+              let up : 0 < depth log t m = open_held log t m a (open_old log e ord t m a p lt) in
+              let zero_at : depth log t m ≡ 0
+              = subst (λ v. depth log v m ≡ 0) (same_thread_id (sym q))
+              (subst (λ v. depth log e.thread v ≡ 0) (same_lock_id (sym r)) is.outer) in
+              omega arith
+      at t m a p (inr last) =
+          let x = opened_now t m a p last in
+          let q : Acquire l ≡ Acquire m = sym is.op ∙ x.1.op in
+          let same : l ≡ m = cc in
+          let here : new e.thread.0 l.0 ≡ events_of log e.thread + 1
+          = cell_same e.thread.0 l.0 n opened ∙ number in
+          let taken : take a (log ++ e ∷ []) ≡ log
+          = ap (λ k. take k (log ++ e ∷ [])) last ∙ take-append_seam log (e ∷ []) in
+          subst (λ (v : ThreadId). new v.0 m.0 ≡ events_of (take a (log ++ e ∷ [])) v + 1) x.0
+          (subst (λ (y : LockId). new e.thread.0 y.0 ≡ events_of (take a (log ++ e ∷ [])) e.thread + 1) same
+          (here ∙ sym (ap (λ xs. events_of xs e.thread + 1) taken)))
+
+  -- an event that ends one
+  ends_own : {closed : ℕ → List Closed} {opened found : ℕ → ℕ → ℕ} (l : LockId) (clock : ℕ → ℕ)
+      → EndsSection log e.thread l e → Counted (log ++ e ∷ []) (λ i. Hb (log ++ e ∷ []) i (length log)) clock
+      → AreOf log closed opened found
+      → AreOf (log ++ e ∷ [])
+      (with_row l.0 (closed l.0 ++ record {
+        thread = e.thread.0;
+        position = opened e.thread.0 l.0;
+        release = clock;
+      } ∷ []) closed)
+      (with_row e.thread.0 (with_row l.0 0 (opened e.thread.0)) opened) found
+  ends_own {closed = closed} {opened = opened} l clock is counted st =
+      next st (λ m. sections m (lock_cases l m))
+      (λ t m a p. at t m a p (is_last log e a t (of_does p.opened.does)))
+    where
+      entry : Closed
+      entry = record { thread = e.thread.0; position = opened e.thread.0 l.0; release = clock }
+
+      longer_list : List Closed
+      longer_list = closed l.0 ++ entry ∷ []
+
+      closes : OuterRelease (log ++ e ∷ []) (length log) e.thread l
+      closes = last_closes log e l is.op is.outer
+
+      sections : (m : LockId) → (l ≡ m) ⊎ (l ≡ m → ⊥)
+          → AreSections (log ++ e ∷ []) m (with_row l.0 longer_list closed m.0)
+      sections m (inl same) =
+          subst (λ (y : LockId). AreSections (log ++ e ∷ []) y (with_row l.0 longer_list closed y.0)) same
+          (subst (λ qs. AreSections (log ++ e ∷ []) l qs) (sym (row_same l.0 longer_list closed))
+          (sections_more log e ord l (closed l.0) entry closes refl (λ a p. st.opened_are e.thread l a p)
+          counted (st.closed_are l)))
+      sections m (inr ne) =
+          subst (λ qs. AreSections (log ++ e ∷ []) m qs)
+          (sym (row_other l.0 longer_list closed m.0 (λ q. ne (same_lock_id (sym q)))))
+          (sections_same log e ord m (closed m.0) (λ r. ne (
+          let q : Release l ≡ Release m = sym is.op ∙ (ends_at log e ord m r).op in cc)) (st.closed_are m))
+
+      new : ℕ → ℕ → ℕ
+      new = with_row e.thread.0 (with_row l.0 0 (opened e.thread.0)) opened
+
+      at : (t : ThreadId) (m : LockId) (a : ℕ) → Open (log ++ e ∷ []) t m a
+          → (a < length log) ⊎ (a ≡ length log)
+          → new t.0 m.0 ≡ events_of (take a (log ++ e ∷ [])) t + 1
+      at t m a p (inl lt) =
+          cell_other e.thread.0 l.0 0 opened t.0 m.0 apart ∙ opened_before st t m a p lt
+        where
+          apart : t.0 ≡ e.thread.0 → m.0 ≡ l.0 → ⊥
+          apart q r =
+              let up : 0 < depth (log ++ e ∷ []) t m = open_held (log ++ e ∷ []) t m a p in
+              let down : depth (log ++ e ∷ []) e.thread l ≡ 0
+              = depth_down log e l is.op ∙ ap (λ v. v - 1) is.outer in
+              let zero_at : depth (log ++ e ∷ []) t m ≡ 0
+              = subst (λ v. depth (log ++ e ∷ []) v m ≡ 0) (same_thread_id (sym q))
+              (subst (λ v. depth (log ++ e ∷ []) e.thread v ≡ 0) (same_lock_id (sym r)) down) in
+              omega arith
+      at t m a p (inr last) =
+          let q : Acquire m ≡ Release l = sym (opened_now t m a p last).1.op ∙ is.op in absurd cc
+
+-- tables that are the same are of the same log
+pub same_are : {log : List Event} {closed closed' : ℕ → List Closed} {opened opened' found found' : ℕ → ℕ → ℕ}
+    → closed' ≡ closed → opened' ≡ opened → found' ≡ found → AreOf log closed opened found
+    → AreOf log closed' opened' found'
+same_are {log = log} {closed' = closed'} {opened = opened} {opened' = opened'} {found = found} c o f are =
+    subst (λ g. AreOf log closed' opened' g) (sym f)
+    (subst (λ g. AreOf log closed' g found) (sym o) (subst (λ g. AreOf log g opened found) (sym c) are))
+
+-- tables without sections are of the empty log
+pub nothing_stands : {closed : ℕ → List Closed} {opened found : ℕ → ℕ → ℕ} → closed ≡ (λ _. [])
+    → opened ≡ (λ _ _. 0) → found ≡ (λ _ _. 0) → AreOf [] closed opened found
+nothing_stands c o f = same_are c o f (record {
+  closed_are = λ l. record {
+    count = sym (none_ended l);
+    each = λ u a r s. absurd (never (of_does s.closed.does));
+  };
+  opened_are = λ t l a p. absurd (never (of_does p.opened.does));
+  found_are = λ t l u a r s le. absurd (never (of_does s.closed.does));
+  most = λ t l. omega arith;
+  none = λ t l z. refl;
+})
+  where
+    never : {i : ℕ} {u : ThreadId} → Of [] i u → ⊥
+    never {i = i} o = let lt : i < 0 = slice_get_within [] i o.event o.at in omega arith
+
+    none_ended : (l : LockId) → ended [] l ≡ 0
+    none_ended l = ended_none [] l
+
+-- so are those that hold the same
+pub same_stand : SameStand
+same_stand log old new same st = same_are same.closed same.opened same.found st
+
+pub others_leave_them : OthersLeaveThem
+others_leave_them limits log e v w other st =
+    others_leave log e (orderly limits (log ++ e ∷ []) w) other st
+
+pub enter_stands : {closed : ℕ → List Closed} {opened found : ℕ → ℕ → ℕ} (limits : Limits) (log : List Event)
+    (e : Event) (old : Tables) (t : ThreadId) (l : LockId) (mark : Named) → closed ≡ closed_of old
+    → opened ≡ with_row t.0 (with_row l.0 mark.position (opened_of old t.0)) (opened_of old)
+    → found ≡ found_of old → WellFormed limits (log ++ e ∷ []) → OpensSection log t l e
+    → Names (log ++ e ∷ []) mark t (length log) → Stands log old → AreOf (log ++ e ∷ []) closed opened found
+enter_stands limits log e old t l mark c o f w is names st =
+    let number : mark.position ≡ events_of log t + 1
+    = names.position ∙ ap (λ xs. events_of xs t + 1) (take-append_seam log (e ∷ [])) in
+    same_are c o f
+    (subst (λ (u : ThreadId). AreOf (log ++ e ∷ []) (closed_of old)
+    (with_row u.0 (with_row l.0 mark.position (opened_of old u.0)) (opened_of old)) (found_of old)) is.thread
+    (opens_own log e (orderly limits (log ++ e ∷ []) w) l mark.position
+    (record { thread = refl; op = is.op; outer = subst (λ u. depth log u l ≡ 0) (sym is.thread) is.outer })
+    (number ∙ sym (ap (λ u. events_of log u + 1) is.thread)) st))
+
+pub leave_stands : {closed : ℕ → List Closed} {opened found : ℕ → ℕ → ℕ} (limits : Limits) (log : List Event)
+    (e : Event) (old : Tables) (t : ThreadId) (l : LockId) (clock : ℕ → ℕ)
+    → closed ≡ with_row l.0 (closed_of old l.0 ++ record {
+      thread = t.0;
+      position = opened_of old t.0 l.0;
+      release = clock;
+    } ∷ []) (closed_of old)
+    → opened ≡ with_row t.0 (with_row l.0 0 (opened_of old t.0)) (opened_of old)
+    → found ≡ found_of old → WellFormed limits (log ++ e ∷ []) → EndsSection log t l e
+    → Counted (log ++ e ∷ []) (λ i. Hb (log ++ e ∷ []) i (length log)) clock
+    → Stands log old → AreOf (log ++ e ∷ []) closed opened found
+leave_stands limits log e old t l clock c o f w is counted st =
+    same_are c o f
+    (subst (λ (u : ThreadId). AreOf (log ++ e ∷ [])
+    (with_row l.0 (closed_of old l.0 ++ record {
+      thread = u.0;
+      position = opened_of old u.0 l.0;
+      release = clock;
+    } ∷ []) (closed_of old))
+    (with_row u.0 (with_row l.0 0 (opened_of old u.0)) (opened_of old)) (found_of old)) is.thread
+    (ends_own log e (orderly limits (log ++ e ∷ []) w) l clock
+    (record { thread = refl; op = is.op; outer = subst (λ u. depth log u l ≡ 1) (sym is.thread) is.outer })
+    counted st))
+
+-- a thread that holds a lock has entered its section
+pub holders_have_entered : HoldersHaveEntered
+holders_have_entered log v t l up st =
+    let p = open_by_depth log t l up in
+    let at = st.opened_are t l p.0 p.1 in
+    omega (arith, at)

@@ -1,0 +1,5 @@
+use Rattle.lock_queues.proofs.LogSteps.{same_stand}
+use Rattle.lock_queues.proofs.laws.same_stand.Goals as goal
+
+pub returns : goal.returns
+returns c = same_stand

@@ -1,0 +1,5 @@
+use Rattle.lock_queues.proofs.LogSearches.{strict_clocks_may_ask}
+use Rattle.lock_queues.proofs.laws.strict_clocks_may_ask.Goals as goal
+
+pub returns : goal.returns
+returns c = strict_clocks_may_ask

@@ -1,0 +1,13 @@
+use Rattle.std.proofs.Common.{List, [], refl, sym, subst}
+use Rattle.lock_queues.specs.Queue.{Kept}
+use Rattle.lock_queues.specs.Queues.{closed_of, opened_of, found_of}
+use Rattle.lock_queues.specs.Standing.{AreOf}
+use Rattle.lock_queues.proofs.LogSteps.{nothing_stands}
+use Rattle.lock_queues.proofs.Searching.{tables}
+use Rattle.lock_queues.proofs.queues.Queues.new.Goals as goal
+
+pub returns-clause-stands : goal.returns-clause-stands
+returns-clause-stands c =
+    subst (λ (qs : List Kept). let v = tables c.args.limits.now qs c.new-2.result.items in
+    AreOf [] (closed_of v) (opened_of v) (found_of v)) (sym c.new.ensures.items)
+    (nothing_stands refl refl refl)

@@ -1,0 +1,29 @@
+-- A line of more than 1,025 bytes has a content that is too long.
+use Rattle.std.proofs.Common.{◌≡◌, ℕ, ◌-◌, ◌<◌, List, length, get_or, take, Err, refl, arith, inl, inr, min}
+use Rattle.std.specs.Prelude.{◌&&◌, ◌==◌, nat_lt}
+use Rattle.std.proofs.lemmas.Bool.{lt-ltb, ne_eqb, cases_Bool}
+use Rattle.std.proofs.lemmas.List.{length-take}
+use Rattle.rapid_line.specs.declared.words.LineFault.TheVariants.{LineTooLong}
+use Rattle.rapid_line.specs.Reading.{line_of}
+use Rattle.rapid_text.specs.declared.causes.Cause.TheVariants as causes
+use Rattle.rapid_text.specs.Tables.{Tables}
+use Rattle.rapid_text.specs.Events.{content, reading}
+
+pub content_long : (bytes : List ℕ) → 1025 < length bytes → 1024 < length (content bytes)
+content_long bytes h =
+    elim (cases_Bool (nat_lt 0 (length bytes) && (get_or bytes (length bytes - 1) 0 == 13))) [
+      | inl same ↦ let e : length (take (length bytes - 1) bytes) ≡ min (length bytes - 1) (length bytes) =
+          length-take (length bytes - 1) bytes in rw same (omega (arith, e))
+      | inr differs ↦ rw differs (omega arith)
+    ]
+
+line_long : (bytes : List ℕ) → 1024 < length bytes → line_of bytes ≡ Err LineTooLong
+unfolding line_of
+line_long bytes h = rw (lt-ltb 1024 (length bytes) h) refl
+
+pub reading_long : (t : Tables) (bytes : List ℕ) → 1025 < length bytes
+    → reading t (content bytes) ≡ Err (causes.Line LineTooLong)
+unfolding reading
+reading_long t bytes h =
+    let long : 1024 < length (content bytes) = content_long bytes h in
+    rw (ne_eqb (length (content bytes)) 0 (λ z. omega arith), line_long (content bytes) long) refl

@@ -1,0 +1,34 @@
+use Rattle.std.proofs.Common.{◌≡◌, ◌≤◌, ◌+◌, ◌++◌, List, ℕ, arith, length, length-append, rules, take}
+use Rattle.std.proofs.lemmas.List.{length-take-le}
+use Rattle.rapid_text.proofs.FeedLaws.{pulled_more, given}
+use Rattle.rapid_text.proofs.feeding.feed_all.Goals as goal
+
+pub returns-then-not-feed-clause-stopped : goal.returns-then-not-feed-clause-stopped
+returns-then-not-feed-clause-stopped g c is =
+    let left = g.I.Input.left in
+    let short = length-take-le c.in-Ok.count c.pull.new.buf c.in-Ok.ensures.within in
+    pulled_more (left c.args.input.now) (left c.pulls.input) (left c.pull.new.self) c.pulls.counter c.args.turns
+    (take c.in-Ok.count c.pull.new.buf) _ _ c.pulls.invariant.pulled c.in-Ok.ensures.bytes.0
+    (omega (arith, short, c.in-Ok.ensures.within, c.pull.auto.buf, c.pulls.invariant.room))
+    (omega arith)
+    (λ bytes took. g.met.S.Sink.stops_after c.args.sink.now c.pulls.sink c.feed.new.self bytes _ took.0
+    (c.feed.ensures.stops c.if-not-feed.true))
+
+pub pulls-preserved : goal.pulls-preserved
+pulls-preserved g c =
+    let left = g.I.Input.left in
+    let short = length-take-le c.in-Ok.count c.pull.new.buf c.in-Ok.ensures.within in
+    let some = given c.in-Ok.count c.pull.new.buf c.in-Ok.ensures.within c.if-count-eq0.false in
+    record {
+      pulled = pulled_more (left c.args.input.now) (left c.pulls.input) (left c.pull.new.self) c.pulls.counter
+          (c.pulls.counter + 1) (take c.in-Ok.count c.pull.new.buf) _ _ c.pulls.invariant.pulled
+          c.in-Ok.ensures.bytes.0 (omega (arith, short, c.in-Ok.ensures.within, c.pull.auto.buf, c.pulls.invariant.room)) (omega arith)
+          (λ bytes took.
+          let parts = length-append bytes (take c.in-Ok.count c.pull.new.buf) in (
+            g.met.S.Sink.takes_both c.args.sink.now c.pulls.sink c.feed.new.self bytes _ took.0
+                (c.feed.ensures.takes c.if-not-feed.false),
+            omega (arith, some, parts, took.1),
+          ));
+      room = omega (arith, c.pull.auto.buf, c.pulls.invariant.room);
+      healthy = search rules;
+    }

@@ -1,0 +1,5 @@
+pub mod JoinLaws
+pub mod MadeRows
+pub mod Releases
+pub mod RowLaws
+pub mod Unused

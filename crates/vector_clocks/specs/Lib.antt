@@ -1,0 +1,4 @@
+pub mod Counts
+pub mod Marks
+pub mod Rows
+pub mod Work

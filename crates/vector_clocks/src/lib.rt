@@ -1,0 +1,14 @@
+//! Vector clocks: of each thread, how many of its events are in a set. Rows of them, marks of events, and the
+//! work that is done on them.
+#![tactic(auto)]
+
+mod clock;
+mod joined;
+mod mark;
+pub mod rows;
+mod work;
+
+pub use clock::Clock;
+pub use joined::JoinedClocks;
+pub use mark::Mark;
+pub use work::Work;

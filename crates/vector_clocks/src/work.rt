@@ -1,0 +1,47 @@
+//! The work that a monitor does on clocks, as its bounds count it.
+ghost use Rattle.std.specs.Prelude.{◌≡◌, ◌+◌, ◌<◌, ◌^◌};
+
+use std::marker::Model;
+
+/// How many comparisons of a mark with a clock and how many joins of clocks were made.
+///
+/// Contracts alone see the numbers. One is made with a monitor's clocks of happens-before, and none beside it.
+#[derive(Drop)]
+pub struct Work {
+    comparisons: u64,
+    joins: u64,
+}
+
+impl Model for Work {
+    ghost use Rattle.vector_clocks.specs.Work.{Done};
+
+    ghost Value = { Done };
+
+    ghost view = { λ w. record { comparisons = w.comparisons; joins = w.joins } };
+}
+
+impl Work {
+    /// None were made.
+    pub fn new() -> Work
+        ensures { result ≡ record { comparisons = 0; joins = 0 } }
+    {
+        Work {
+            comparisons: 0,
+            joins: 0,
+        }
+    }
+
+    pub(crate) fn add_comparison(&mut self)
+        requires { self.old.comparisons < 2 ^ 63 }
+        ensures { self.new ≡ record self.old { comparisons = self.old.comparisons + 1 } }
+    {
+        self.comparisons += 1;
+    }
+
+    pub(crate) fn add_join(&mut self)
+        requires { self.old.joins < 2 ^ 63 }
+        ensures { self.new ≡ record self.old { joins = self.old.joins + 1 } }
+    {
+        self.joins += 1;
+    }
+}

@@ -1,0 +1,131 @@
+use Rattle.std.proofs.Common.{◌≡◌, ℕ, suc, ◌≤◌, ◌<◌, ◌++◌, ◌∷◌, [], List, length, length-append, ap, ap₂, sym}
+use Rattle.std.proofs.Common.{subst, ◌∙◌, arith}
+use Rattle.event_core.specs.Closed.{Closed, Has}
+use Rattle.event_core.specs.Rows.{with_row}
+use Rattle.event_core.specs.Effect.{Effect, Closes}
+use Rattle.event_core.proofs.Growing.{row_same}
+use Rattle.vector_clocks.specs.Counts.{counts_of}
+use Rattle.vector_clocks.specs.Work.{Done}
+use Rattle.event_core.specs.declared.events.AccessKind.{AccessKind}
+use Rattle.lock_queues.specs.Queues.{closed_of, opened_of, found_of}
+use Rattle.lock_queues.specs.Sections.{before}
+use Rattle.wcp_clocks.specs.Met.{met_clocks}
+use Rattle.wcp_laws.specs.Step.{hb_row}
+use Rattle.wcp_clocks.specs.Parts.{hb_of, state_of}
+use Rattle.wcp_clocks.proofs.Taking.{room_then}
+use Rattle.wcp_clocks.proofs.EffectWords.{own_happens_before, closed_noted}
+use Rattle.wcp_clocks.proofs.Closing.{closing_clocks, closing_numbers}
+use Rattle.wcp_clocks.proofs.Closing.{before_closing, counts_itself}
+use Rattle.wcp_clocks.proofs.Passing.{own_written, joins_told}
+use Rattle.wcp_clocks.proofs.effects.close.Goals as goal
+
+pub count-requires : goal.count-requires
+count-requires c =
+    let l : ℕ = c.args.lock.0 in
+    let few = c.requires.fits.few_closed c.args.lock c.requires.effect in
+    let was = ap (λ (f : ℕ → List Closed). length (f l)) c.take_closed.ensures.found.closed in
+    let at = ap (λ (f : ℕ → List Closed). length (f l)) c.leave.ensures.closed
+    ∙ ap (λ (qs : List Closed). length qs) (row_same l _ (closed_of c.take_closed.new.queues))
+    ∙ length-append (closed_of c.take_closed.new.queues l) _ in
+    omega arith
+
+pub leave-requires-clause-entered : goal.leave-requires-clause-entered
+leave-requires-clause-entered c =
+    subst (λ (f : ℕ → ℕ → ℕ). 0 < f c.args.event.now.thread.0 c.args.lock.0)
+    (sym c.take_closed.ensures.found.opened) (c.requires.fits.sound.opened c.args.lock c.requires.effect)
+
+pub leave-requires-clause-above : goal.leave-requires-clause-above
+leave-requires-clause-above c q u has =
+    subst (λ (g : ℕ → ℕ). q.release u ≤ g u)
+    (sym (c.hb-clock.ensures.exact
+    ∙ own_happens_before c.args.event.now (hb_of c.args.parts.now) _ c.advance.ensures.exact))
+    (c.requires.fits.sound.above_closed c.args.lock q (record { 0 = u }) c.requires.effect
+    (subst (λ (f : ℕ → List Closed). Has q (f c.args.lock.0))
+    c.take_closed.ensures.found.closed has))
+
+pub leave-requires-clause-counted : goal.leave-requires-clause-counted
+leave-requires-clause-counted c =
+    let e = c.args.event.now in
+    let old = hb_of c.args.parts.now in
+    subst (λ (f : ℕ → ℕ). 0 < f e.thread.0)
+    (sym (c.hb-clock.ensures.exact ∙ own_happens_before e old _ c.advance.ensures.exact))
+    (counts_itself e old)
+
+pub leave-requires-clause-few : goal.leave-requires-clause-few
+leave-requires-clause-few c u =
+    let e = c.args.event.now in
+    let old = hb_of c.args.parts.now in
+    subst (λ (f : ℕ → ℕ). before e.thread.0 f u < 4294967296)
+    (sym (c.hb-clock.ensures.exact ∙ own_happens_before e old _ c.advance.ensures.exact))
+    (let same = before_closing e old c.args.lock c.requires.effect u in
+    let few = c.requires.fits.few_counts u in
+    omega arith)
+
+pub take_closed-requires-clause-whole : goal.take_closed-requires-clause-whole
+take_closed-requires-clause-whole c = (c.requires.parts.whole.strict c.args.event.now.thread.0).whole
+
+pub returns : goal.returns
+returns c =
+    let e = c.args.event.now in
+    let old = c.args.parts.now in
+    let k : Effect = Closes c.args.lock in
+    let t : ℕ = e.thread.0 in
+    let l : ℕ = c.args.lock.0 in
+    let taken = c.take_closed in
+    let left = c.leave.ensures in
+    let own = own_written e k old taken.new.rows taken.ensures.threads in
+    let g = c.hb-clock.ensures.exact ∙ own_happens_before e (hb_of old) _ c.advance.ensures.exact in
+    let q : Closed = record {
+      thread = t;
+      position = opened_of taken.new.queues t l;
+      release = counts_of c.hb-clock.result.now;
+    } in
+    let longer : closed_of c.leave.new.self
+    ≡ with_row l (closed_of old.queues l ++ q ∷ []) (closed_of old.queues)
+    = left.closed ∙ ap (λ (f : ℕ → List Closed). with_row l (f l ++ q ∷ []) f) taken.ensures.found.closed in
+    let next : c.count.result ≡ suc (length (closed_of old.queues l))
+    = (let w = ap (λ (f : ℕ → List Closed). length (f l)) longer
+    ∙ ap (λ (qs : List Closed). length qs) (row_same l (closed_of old.queues l ++ q ∷ [])
+    (closed_of old.queues))
+    ∙ length-append (closed_of old.queues l) (q ∷ []) in
+    omega arith) in
+    let above : (x : ℕ) (k : AccessKind) (v u : ℕ)
+    → met_clocks old.sums (closed_of old.queues) l x k v u ≤ hb_row e (state_of old) u
+    = λ x k v u. c.requires.fits.sound.above_others c.args.lock (record { 0 = x }) k (record { 0 = v })
+    (record { 0 = u }) c.requires.effect in
+    record {
+      hb = c.advance.ensures.exact;
+      order_room = c.advance.ensures.kept;
+      threads = c.give_lock.ensures.threads ∙ taken.ensures.threads;
+      locks = c.give_lock.ensures.locks
+          ∙ ap₂ (λ (a : ℕ → ℕ) (f : ℕ → ℕ → ℕ). with_row l a f) own taken.ensures.locks;
+      opened = left.opened
+          ∙ ap (λ (f : ℕ → ℕ → ℕ). with_row t (with_row l 0 (f t)) f) taken.ensures.found.opened;
+      held = c.remove.ensures.held;
+      noted = closed_noted old.sums c.close.new.self (hb_of old).depth e.thread c.args.lock
+          c.close.ensures.noted;
+      others = closing_clocks old.sums c.close.new.self t l c.count.result q (closed_of old.queues)
+          (closed_of c.leave.new.self) c.requires.parts.numbers next longer c.close.ensures.others
+          (hb_row e (state_of old)) g above;
+      numbers = closing_numbers old.sums c.close.new.self t l c.count.result q (closed_of old.queues)
+          (closed_of c.leave.new.self) c.requires.parts.numbers next longer c.close.ensures.others;
+      closed = left.closed
+          ∙ ap₂ (λ (f : ℕ → List Closed) (q : Closed). with_row l
+          (f l ++ q ∷ []) f) taken.ensures.found.closed
+          (ap₂ (λ (n : ℕ) (a : ℕ → ℕ). record { thread = t; position = n; release = a })
+          (ap (λ (f : ℕ → ℕ → ℕ). f t l) taken.ensures.found.opened) g);
+      found = left.found ∙ taken.ensures.found.found;
+      joins = (let w = taken.ensures.joins in
+          let j = joins_told e k old taken.new.work c.advance.new.work c.requires.effect c.advance.ensures.work
+          in
+          omega arith);
+      comparisons = (let w = taken.ensures.comparisons in
+          let d = ap (λ (d : Done). d.comparisons) c.advance.ensures.work in
+          let n = ap (λ (f : ℕ → ℕ → ℕ). f l t) (left.found ∙ taken.ensures.found.found)
+          ∙ ap (λ (f : ℕ → ℕ). f t) (row_same l _ (found_of old.queues))
+          ∙ row_same t _ (found_of old.queues l) in
+          omega arith);
+      room = room_then old.rows taken.new.rows c.give_lock.new.self taken.ensures.kept
+          c.give_lock.ensures.kept;
+      limits = record { width = c.advance.ensures.width; limits = left.limits ∙ taken.ensures.found.limits };
+    }

@@ -1,0 +1,55 @@
+use Rattle.std.proofs.Common.{◌≡◌, ℕ, ap, sym, subst, ◌∙◌, arith, refl}
+use Rattle.event_core.specs.Rows.{with_row}
+use Rattle.event_core.specs.Effect.{Effect, Opens}
+use Rattle.vector_clocks.specs.Work.{Done}
+use Rattle.lock_queues.specs.Queues.{opened_of}
+use Rattle.wcp_laws.specs.Step.{hb_row}
+use Rattle.wcp_clocks.specs.Met.{met_clocks, AreNumbers}
+use Rattle.wcp_clocks.specs.Parts.{hb_of, state_of}
+use Rattle.wcp_clocks.proofs.EffectWords.{own_program_order, own_counted}
+use Rattle.wcp_clocks.proofs.Passing.{joins_told}
+use Rattle.wcp_clocks.proofs.effects.open.Goals as goal
+
+pub advance-requires-clause-work : goal.advance-requires-clause-work
+advance-requires-clause-work c =
+    let w = ap (λ (d : Done). d.joins) c.take_lock.ensures.work in
+    let few = c.requires.fits.joins in omega arith
+
+pub mark-requires : goal.mark-requires
+mark-requires c = own_counted c.args.event.now (hb_of c.args.parts.now) _ c.advance.ensures.exact
+
+pub returns : goal.returns
+returns c =
+    let e = c.args.event.now in
+    let old = c.args.parts.now in
+    let k : Effect = Opens c.args.lock in
+    let t : ℕ = e.thread.0 in
+    let taken = c.take_lock in
+    let position : c.mark.result.position ≡ hb_row e (state_of old) t =
+    ap (λ m. m.position) c.mark.ensures.exact
+    ∙ ap (λ (f : ℕ → ℕ). f t) (own_program_order e (hb_of old) _ c.advance.ensures.exact)
+    ∙ sym c.requires.fits.own_next in
+    record {
+      hb = c.advance.ensures.exact;
+      order_room = c.advance.ensures.kept;
+      threads = taken.ensures.threads;
+      locks = taken.ensures.locks;
+      opened = c.enter.ensures.opened
+          ∙ ap (λ (n : ℕ). with_row t (with_row c.args.lock.0 n (opened_of old.queues t))
+          (opened_of old.queues))
+          position;
+      held = c.add.ensures;
+      noted = refl;
+      others = ap (met_clocks old.sums) c.enter.ensures.closed;
+      numbers = subst (AreNumbers old.sums) (sym c.enter.ensures.closed) c.requires.parts.numbers;
+      closed = c.enter.ensures.closed;
+      found = c.enter.ensures.found;
+      joins = (let w = ap (λ (d : Done). d.joins) taken.ensures.work in
+          let j = joins_told e k old taken.new.work c.advance.new.work c.requires.effect c.advance.ensures.work
+          in
+          omega arith);
+      comparisons = ap (λ (d : Done). d.comparisons) c.advance.ensures.work
+          ∙ ap (λ (d : Done). d.comparisons) taken.ensures.work;
+      room = taken.ensures.kept;
+      limits = record { width = c.advance.ensures.width; limits = c.enter.ensures.limits };
+    }
