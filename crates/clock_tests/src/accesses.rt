@@ -8,9 +8,9 @@ ghost use Rattle.access_check.specs.Tables.{count_at, IsWithin};
 use access_check::Accesses;
 use event_core::{Event, Limits, LockId, Op, OutOfMemory, Roots, SiteId, ThreadId, VarId, Verdict};
 use hb_clocks::HbClocks;
-use vector_clocks::{Clock, JoinedClocks, Work};
 use std::alloc::Global;
 use std::process::Abort;
+use vector_clocks::{Clock, JoinedClocks, Work};
 
 const T0: ThreadId = ThreadId(0);
 

@@ -9,9 +9,9 @@ ghost use Rattle.hb_clocks.specs.Tables.{state_of, IsReady, IsWithin};
 
 use event_core::{Event, Limits, LockId, Op, OutOfMemory, Roots, SiteId, ThreadId, VarId};
 use hb_clocks::HbClocks;
-use vector_clocks::{Clock, JoinedClocks, Mark, Work};
 use std::alloc::Global;
 use std::process::Abort;
+use vector_clocks::{Clock, JoinedClocks, Mark, Work};
 
 const T0: ThreadId = ThreadId(0);
 

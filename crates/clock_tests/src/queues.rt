@@ -7,10 +7,10 @@ ghost use Rattle.lock_queues.specs.Queues.{closed_of, found_of, has_room, SameMe
 
 use crate::clocks::{Run, event};
 use event_core::{Limits, LockId, Op, Roots, ThreadId, VarId};
-use vector_clocks::{Clock, Mark, Work};
 use lock_queues::Queues;
 use std::alloc::Global;
 use std::process::Abort;
+use vector_clocks::{Clock, Mark, Work};
 
 const T0: ThreadId = ThreadId(0);
 
