@@ -6,7 +6,6 @@ use Rattle.std.specs.Prelude.{IfSome, IsSome, slice_index}
 use Rattle.std.specs.List.{remove}
 use Rattle.std.proofs.lemmas.Bool.{cases_lt, cases_eq}
 use Rattle.std.proofs.lemmas.List.{get_or_push, get_or_append_left, get_or_past, length_push}
-use Rattle.std.proofs.lemmas.List.{get_or-set_same, get_or-set_other}
 use mathlib.Core.Logic.{inl, inr}
 use Rattle.event_core.specs.Rows.{with_row}
 use Rattle.event_core.proofs.Growing.{row_same, row_other}
@@ -75,17 +74,6 @@ found_push found i t = go (cases_lt t (length found)) (cases_eq (length found) t
     go (inr past) (inr not_so) =
         let n = length_push found 0 in
         get_or_past (found ++ 0 ∷ []) t 0 (omega (arith, not_so)) ∙ sym (get_or_past found t 0 past)
-
--- a thread has found n
-pub found_set : (found : List ℕ) (t n : ℕ) → t < length found
-    → slice_index (set found t n) ≡ with_row t n (slice_index found)
-found_set found t n lt i u = go (cases_eq u t) i
-  where
-    go : (u ≡ t) ⊎ (u ≡ t → ⊥) → slice_index (set found t n) u ≡ with_row t n (slice_index found) u
-    go (inl is) =
-        ap (slice_index (set found t n)) is ∙ get_or-set_same found t n 0 lt
-        ∙ sym (row_here t n (slice_index found) u is)
-    go (inr other) = get_or-set_other found t u n 0 other ∙ sym (row_other t n (slice_index found) u other)
 
 -- where one thread more has room, those that had have it
 pub row_true : (t : ℕ) (f : ℕ → Bool) (u : ℕ) → f u ≡ true → with_row t true f u ≡ true

@@ -69,7 +69,8 @@ first_pushed (e ∷ es) x b is = ap (λ o. option_or o (Some x.acquire)) is
 -- the thread leaves
 pub kept_left : {w : ℕ} {es : List Entry} {b : Option Named} {rooms : List Room} {found : List ℕ}
     {m t i : ℕ} (x : Entry) (more : ℕ)
-    → IsKept w es b rooms found m → Placed rooms t i → x.width ≤ w → x.acquire.thread < x.width → m ≤ more
+    → IsKept w es b rooms found m → Placed rooms t i → x.place.width ≤ w
+    → x.acquire.thread < x.place.width → m ≤ more
     → IsKept w (es ++ x ∷ []) (option_or b (Some x.acquire)) (remove rooms i) found more
 kept_left {w = w} {es = es} {b = b} {rooms = rooms} {found = found} {t = t} {i = i} x more kept p wide
     own le =
@@ -80,8 +81,8 @@ kept_left {w = w} {es = es} {b = b} {rooms = rooms} {found = found} {t = t} {i =
       first = first_pushed es x b kept.first;
       threads = kept.threads;
       within = λ v. (let h = kept.within v in omega arith);
-      wide = each_pushed (λ (e : Entry). e.width ≤ w) es x kept.wide wide;
-      marked = each_pushed (λ (e : Entry). e.acquire.thread < e.width) es x kept.marked own;
+      wide = each_pushed (λ (e : Entry). e.place.width ≤ w) es x kept.wide wide;
+      marked = each_pushed (λ (e : Entry). e.acquire.thread < e.place.width) es x kept.marked own;
       own =
           subst (λ k. AreRooms (length found) (remove rooms k)) (sym p.at)
           (rooms_remove (length found) rooms t p.has kept.own);

@@ -1,6 +1,5 @@
 pub mod Placing
 pub mod Lookup
-pub mod Lowering
 pub mod Counting
 pub mod Latest
 pub mod Keeping

@@ -60,10 +60,9 @@ queue_read v b qs ns l n q is some within read =
     get_or_read qs l q (known_listed qs l (omega arith)) read no_queue
 
 -- a section of the queue, as a read gives it
-pub section_read : (v : Tables) (b : Bounds) (qs : List Kept) (ns ms : List ℕ) (l k : ℕ) (q : Kept)
-    → tables b qs ns ≡ v → q ≡ queue_at qs l → ms ≡ ns
-    → closed_as (section_of ms (entry_at q.entries k)) ≡ closed_at (closed_of v l) k
-section_read v b qs ns ms l k q is read numbers =
-    ap₂ (λ (xs : List ℕ) (es : List Entry). closed_as (section_of xs (entry_at es k))) numbers
-    (ap (λ (x : Kept). x.entries) read)
+pub section_read : (v : Tables) (b : Bounds) (qs : List Kept) (ns : List ℕ) (l k : ℕ) (q : Kept)
+    → tables b qs ns ≡ v → q ≡ queue_at qs l
+    → closed_as (section_of ns (entry_at q.entries k)) ≡ closed_at (closed_of v l) k
+section_read v b qs ns l k q is read =
+    ap (λ (x : Kept). closed_as (section_of ns (entry_at x.entries k))) read
     ∙ sym (closed_is ns (queue_at qs l).entries k) ∙ ap (λ (u : Tables). closed_at (closed_of u l) k) is

@@ -8,9 +8,10 @@ use Rattle.std.proofs.lemmas.List.{length_push, map_push}
 use mathlib.Core.Logic.{inl, inr}
 use Rattle.event_core.specs.Closed.{Closed}
 use Rattle.vector_clocks.specs.Counts.{counts_of}
+use Rattle.vector_clocks.specs.Releases.{Place, numbers_at, raised, IsReadable}
 use Rattle.lock_queues.specs.declared.sections.Entry.{Entry}
 use Rattle.lock_queues.specs.Sections.{Section, closed_as, section_at, no_section, section_of, sections_of}
-use Rattle.lock_queues.specs.Sections.{closed_at, entry_at, numbers_of, raised, AreRising, IsReadable}
+use Rattle.lock_queues.specs.Sections.{closed_at, entry_at, AreRising}
 use Rattle.lock_queues.specs.Sections.{AreReadable}
 use Rattle.lock_queues.specs.Sections.{HasJoined}
 use Rattle.lock_queues.specs.Searched.{IsAboveAll}
@@ -42,20 +43,21 @@ pub acquire_is : (ns : List ℕ) (es : List Entry) (k : ℕ)
 acquire_is ns es k = ap (λ (s : Section). s.acquire) (section_is ns es k)
 
 -- further numbers change no section
-numbers_grown : (ns ms : List ℕ) (e : Entry) → e.start + e.width ≤ length ns
-    → numbers_of (ns ++ ms) e ≡ numbers_of ns e
-numbers_grown ns ms e within =
-    let left = length-drop e.start ns in
-    ap (take e.width) (drop-append-le e.start ns ms (omega arith))
-    ∙ take-append-le e.width (drop e.start ns) ms (omega arith)
+numbers_grown : (ns ms : List ℕ) (p : Place) → p.start + p.width ≤ length ns
+    → numbers_at (ns ++ ms) p ≡ numbers_at ns p
+numbers_grown ns ms p within =
+    let left = length-drop p.start ns in
+    ap (take p.width) (drop-append-le p.start ns ms (omega arith))
+    ∙ take-append-le p.width (drop p.start ns) ms (omega arith)
 
-pub readable_grown : (ns ms : List ℕ) (e : Entry) → IsReadable ns e → IsReadable (ns ++ ms) e
+pub readable_grown : (ns ms : List ℕ) (e : Entry) → IsReadable ns e.acquire.thread e.place
+    → IsReadable (ns ++ ms) e.acquire.thread e.place
 readable_grown ns ms e is =
     let longer = length-append ns ms in
     let within = is.within in
     record {
       within = omega arith;
-      own = ap (λ xs. counts_of xs e.acquire.thread) (numbers_grown ns ms e is.within) ∙ is.own;
+      own = ap (λ xs. counts_of xs e.acquire.thread) (numbers_grown ns ms e.place is.within) ∙ is.own;
     }
 
 pub sections_grown : (ns ms : List ℕ) (es : List Entry) → AreReadable ns es
@@ -64,12 +66,12 @@ sections_grown ns ms [] are = refl
 sections_grown ns ms (e ∷ es) are =
     ap₂ (λ (s : Section) (ss : List Section). s ∷ ss)
     (ap (λ xs. record { acquire = e.acquire; release = raised e.acquire.thread xs })
-    (numbers_grown ns ms e (are zero (omega arith)).within))
+    (numbers_grown ns ms e.place (are zero (omega arith)).within))
     (sections_grown ns ms es (λ k lt. are (suc k) (omega arith)))
 
 -- an entry that joins, with its numbers after all others
-joined_numbers : (ns ms : List ℕ) (x : Entry) → x.start ≡ length ns → x.width ≡ length ms
-    → numbers_of (ns ++ ms) x ≡ ms
+joined_numbers : (ns ms : List ℕ) (x : Place) → x.start ≡ length ns → x.width ≡ length ms
+    → numbers_at (ns ++ ms) x ≡ ms
 joined_numbers ns ms x start width =
     ap₂ (λ w s. take w (drop s (ns ++ ms))) width start ∙ ap (take (length ms)) (drop-append_seam ns ms)
     ∙ take-length ms
@@ -77,20 +79,20 @@ joined_numbers ns ms x start width =
 -- the section that joined
 abbrev pub joined_section : {ns ms : List ℕ} {es fs : List Entry} {t p w : ℕ} {c : ℕ → ℕ}
     → HasJoined ns ms es fs t p w c → Section
-joined_section j = record { acquire = j.entry.acquire; release = raised j.entry.acquire.thread j.added }
+joined_section j = record { acquire = j.entry.acquire; release = raised j.entry.acquire.thread j.kept.added }
 
 pub joined_release : {ns ms : List ℕ} {es fs : List Entry} {t p w : ℕ} {c : ℕ → ℕ}
     → (j : HasJoined ns ms es fs t p w c) → counts_of (joined_section j).release ≡ c
-joined_release j = ap (λ u. counts_of (raised u j.added)) j.thread ∙ j.release
+joined_release j = ap (λ u. counts_of (raised u j.kept.added)) j.thread ∙ j.kept.release
 
 pub joined_sections : {ns ms : List ℕ} {es fs : List Entry} {t p w : ℕ} {c : ℕ → ℕ}
     → (j : HasJoined ns ms es fs t p w c) → AreReadable ns es
     → sections_of ms fs ≡ sections_of ns es ++ joined_section j ∷ []
 joined_sections {ns = ns} {es = es} j are =
-    ap₂ sections_of j.numbers j.entries ∙ map_push (section_of (ns ++ j.added)) es j.entry
-    ∙ ap₂ (λ (ss : List Section) (s : Section). ss ++ s ∷ []) (sections_grown ns j.added es are)
+    ap₂ sections_of j.kept.numbers j.entries ∙ map_push (section_of (ns ++ j.kept.added)) es j.entry
+    ∙ ap₂ (λ (ss : List Section) (s : Section). ss ++ s ∷ []) (sections_grown ns j.kept.added es are)
     (ap (λ xs. record { acquire = j.entry.acquire; release = raised j.entry.acquire.thread xs })
-    (joined_numbers ns j.added j.entry j.start j.count))
+    (joined_numbers ns j.kept.added j.entry.place j.kept.start j.kept.count))
 
 pub joined_closed : {ns ms : List ℕ} {es fs : List Entry} {t p w : ℕ} {c : ℕ → ℕ}
     → (j : HasJoined ns ms es fs t p w c) → AreReadable ns es
@@ -105,18 +107,18 @@ joined_closed {ns = ns} {es = es} {t = t} {p = p} {c = c} j are =
 pub joined_readable : {ns ms : List ℕ} {es fs : List Entry} {t p w : ℕ} {c : ℕ → ℕ}
     → (j : HasJoined ns ms es fs t p w c) → AreReadable ns es → AreReadable ms fs
 joined_readable {ns = ns} {es = es} {fs = fs} j are =
-    let longer = length-append ns j.added in
-    let start = j.start in
-    let width = j.count in
-    let mine : IsReadable (ns ++ j.added) j.entry
+    let longer = length-append ns j.kept.added in
+    let start = j.kept.start in
+    let width = j.kept.count in
+    let mine : IsReadable (ns ++ j.kept.added) j.entry.acquire.thread j.entry.place
     = record {
       within = omega arith;
-      own = ap₂ counts_of (joined_numbers ns j.added j.entry j.start j.count) j.thread ∙ j.own;
+      own = ap₂ counts_of (joined_numbers ns j.kept.added j.entry.place j.kept.start j.kept.count) j.thread ∙ j.kept.own;
     } in
-    subst (λ (xs : List ℕ). AreReadable xs fs) (sym j.numbers)
-    (subst (AreReadable (ns ++ j.added)) (sym j.entries)
-    (each_pushed (IsReadable (ns ++ j.added)) es j.entry
-    (λ k lt. readable_grown ns j.added (entry_at es k) (are k lt)) mine))
+    subst (λ (xs : List ℕ). AreReadable xs fs) (sym j.kept.numbers)
+    (subst (AreReadable (ns ++ j.kept.added)) (sym j.entries)
+    (each_pushed (λ (e : Entry). IsReadable (ns ++ j.kept.added) e.acquire.thread e.place) es j.entry
+    (λ k lt. readable_grown ns j.kept.added (entry_at es k) (are k lt)) mine))
 
 -- a section that is closed after the others
 at_old : (closed : List Section) (x : Section) (k : ℕ) → k < length closed

@@ -128,17 +128,17 @@ kept_joined {w = w} {qs = qs} {ns = ns} {ms = ms} {made = made} l q now kept lt 
     record {
       wide = wide_set w qs l q lt kept.wide width;
       readable = each_set (λ (k : Kept). AreReadable ms k.entries) qs l q lt
-          (λ m. subst (λ (xs : List ℕ). AreReadable xs (queue_at qs m).entries) (sym j.numbers)
-          (λ k within. readable_grown ns j.added _ (kept.readable m k within)))
+          (λ m. subst (λ (xs : List ℕ). AreReadable xs (queue_at qs m).entries) (sym j.kept.numbers)
+          (λ k within. readable_grown ns j.kept.added _ (kept.readable m k within)))
           (joined_readable j (kept.readable l));
       rising = each_set (λ (k : Kept). AreRising (sections_of ms k.entries)) qs l q lt
           (λ m. subst AreRising
-          (sym (ap (λ (xs : List ℕ). sections_of xs (queue_at qs m).entries) j.numbers
-          ∙ sections_grown ns j.added (queue_at qs m).entries (kept.readable m))) (kept.rising m))
+          (sym (ap (λ (xs : List ℕ). sections_of xs (queue_at qs m).entries) j.kept.numbers
+          ∙ sections_grown ns j.kept.added (queue_at qs m).entries (kept.readable m))) (kept.rising m))
           (joined_rising j (kept.readable l) (kept.rising l) above);
       rooms = omega (arith, counted, sum, rooms, one);
-      spare = (let numbers = ap length j.numbers ∙ length-append ns j.added in
-          let few = j.within in
+      spare = (let numbers = ap length j.kept.numbers ∙ length-append ns j.kept.added in
+          let few = j.kept.within in
           let enough = kept.spare in
           let times = one_fewer made now w one in
           omega (arith, numbers, few, enough, times, le));

@@ -28,9 +28,9 @@ pub record IsKept (width : ℕ) (entries : List Entry) (begun : Option Named) (r
   pub first : begun ≡ first_of entries
   pub threads : length found ≤ width
   pub within : (t : ℕ) → slice_index found t ≤ length entries
-  pub wide : (k : ℕ) → k < length entries → (entry_at entries k).width ≤ width
+  pub wide : (k : ℕ) → k < length entries → (entry_at entries k).place.width ≤ width
   pub marked : (k : ℕ) → k < length entries
-      → (entry_at entries k).acquire.thread < (entry_at entries k).width
+      → (entry_at entries k).acquire.thread < (entry_at entries k).place.width
   pub own : AreRooms (length found) rooms
   pub spare : length entries + length rooms ≤ most
 

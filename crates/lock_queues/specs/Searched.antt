@@ -1,8 +1,9 @@
 -- What a search of a lock's closed sections asks and does.
 use Rattle.std.specs.Prelude.{ℕ, ◌≡◌, ◌-◌, ◌<◌, ◌≤◌, List, length, IsTrue, Some, None}
 use Rattle.event_core.specs.Closed.{Closed, Has, is_counted, below_closed}
-use Rattle.event_core.specs.Rows.{with_row, bump, no_clock}
+use Rattle.event_core.specs.Rows.{with_row, no_clock}
 use Rattle.vector_clocks.specs.Counts.{counts_of}
+use Rattle.vector_clocks.specs.Releases.{Release, clock_of}
 use Rattle.lock_queues.specs.Sections.{closed_at, latest_counted}
 use Rattle.lock_queues.specs.Queues.{Tables, closed_of, opened_of, found_of, has_room}
 
@@ -16,14 +17,11 @@ CountsEarlier c qs =
 abbrev pub IsAboveAll : (ℕ → ℕ) → List Closed → Type 0
 IsAboveAll c qs = (q : Closed) (u : ℕ) → Has q qs → q.release u ≤ c u
 
--- what is told of a closed section: its thread, the numbers from just before its release, of no more threads
--- than there are, and that thread's number once more. The release is one more event of its thread.
-pub record IsSection (by own : ℕ) (before : List ℕ) (width : ℕ) (q : Closed) : Type 0 where
-  pub thread : by ≡ q.thread
-  pub counted : by < length before
-  pub number : own ≡ counts_of before by
-  pub release : bump by (counts_of before) ≡ q.release
-  pub within : length before ≤ width
+-- what is told of a closed section: the clock of its release, with numbers of no more threads than there are
+pub record IsSection (r : Release) (width : ℕ) (q : Closed) : Type 0 where
+  pub thread : r.by ≡ q.thread
+  pub release : clock_of r ≡ q.release
+  pub within : length r.before ≤ width
 
 -- the thread has found so many of the lock's sections counted, and nothing else has changed
 pub record FindsCounted (old new : Tables) (thread lock number : ℕ) : Type 0 where

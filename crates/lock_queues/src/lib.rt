@@ -2,7 +2,6 @@
 //! clock counts, and by their numbers those that rule (a) asks for.
 #![tactic(auto)]
 
-mod before;
 pub mod laws;
 mod queue;
 mod queues;
@@ -11,4 +10,3 @@ mod search;
 mod sections;
 
 pub use queues::Queues;
-pub use sections::ClosedSection;

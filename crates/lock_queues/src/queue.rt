@@ -5,14 +5,13 @@
 //! is found by looking through them.
 ghost use Rattle.std.specs.Prelude.{◌≡◌, ◌≤◌, length, max, slice_index, OnOk};
 
-use crate::before::{number_before, push_before};
 use crate::rooms::{Room, find};
 use crate::search::search_from;
-use crate::sections::{ClosedSection, Entry, read};
+use crate::sections::Entry;
 use event_core::{OutOfMemory, ThreadId};
 use std::alloc::Global;
 use std::marker::Model;
-use vector_clocks::{Clock, Mark, Work};
+use vector_clocks::{Clock, Mark, ReleaseClock, ReleaseClocks, Work};
 
 #[derive(Drop)]
 pub(crate) struct Queue {
@@ -53,7 +52,8 @@ impl Queue {
     ghost use Rattle.event_core.specs.Rows.{with_row};
     ghost use Rattle.vector_clocks.specs.Counts.{counts_of};
     ghost use Rattle.lock_queues.specs.Rooms.{has_room_in, opened_in};
-    ghost use Rattle.lock_queues.specs.Sections.{before, entry_at, closed_as, section_of, CountsEntry};
+    ghost use Rattle.vector_clocks.specs.Releases.{before};
+    ghost use Rattle.lock_queues.specs.Sections.{entry_at, closed_as, section_of, CountsEntry};
     ghost use Rattle.lock_queues.specs.Sections.{AreReadable, HasJoined};
     ghost use Rattle.lock_queues.specs.Searched.{IsSection};
     ghost use Rattle.lock_queues.specs.Queue.{SameMeaning, no_queue};
@@ -156,36 +156,29 @@ impl Queue {
         room.enter(mark);
     }
 
-    // The thread's open section is closed with the clock, whose numbers join those of the other sections.
-    pub(crate) fn leave(&mut self, numbers: &mut Vec<u32>, thread: ThreadId, clock: &Clock)
+    // The thread's open section is closed with the clock of its release, which joins those of the others.
+    pub(crate) fn leave(&mut self, releases: &mut ReleaseClocks, thread: ThreadId, clock: &Clock)
         requires entered { 0 < opened_in self.old.rooms thread.0 }
         requires width { length clock.now ≡ self.old.width }
         requires small { self.old.width < 2 ^ 32 }
         requires counted { 0 < counts_of clock.now thread.0 }
         requires few { (u : ℕ) → before thread.0 (counts_of clock.now) u < 2 ^ 32 }
-        requires memory { length numbers.old.items + self.old.width ≤ vec_capacity numbers.old }
-        ensures joined { HasJoined numbers.old.items numbers.new.items self.old.entries self.new.entries
-            thread.0 (opened_in self.old.rooms thread.0) self.old.width (counts_of clock.now) }
+        requires memory { length releases.old.numbers + self.old.width ≤ releases.old.most }
+        ensures joined { HasJoined releases.old.numbers releases.new.numbers self.old.entries
+            self.new.entries thread.0 (opened_in self.old.rooms thread.0) self.old.width (counts_of clock.now) }
         ensures opened { opened_in self.new.rooms ≡ with_row thread.0 0 (opened_in self.old.rooms) }
         ensures rooms { has_room_in self.new.rooms ≡ with_row thread.0 false (has_room_in self.old.rooms) }
         ensures many { length self.new.rooms + 1 ≡ length self.old.rooms }
         ensures found { self.new.found ≡ self.old.found }
         ensures width { self.new.width ≡ self.old.width }
-        ensures memory { vec_capacity numbers.old ≤ vec_capacity numbers.new }
+        ensures memory { releases.old.most ≤ releases.new.most }
     {
         let at = find(&self.rooms, thread);
         let room = self.rooms.remove(at);
         let acquire = room.opened.unwrap();
         self.first = self.first.or(Some(acquire));
-        let release = clock.counts();
-        let start = numbers.len();
-        push_before(numbers, release, thread);
-        self.entries.push_reserved(Entry {
-            acquire,
-            own: number_before(release, thread, thread.0 as usize),
-            width: release.len() as u32,
-            start,
-        });
+        let place = releases.push(thread, clock);
+        self.entries.push_reserved(Entry { acquire, place });
     }
 
     // How many of the sections the clock counts, which the thread then has found.
@@ -214,25 +207,25 @@ impl Queue {
         more
     }
 
-    // The latest section that the thread has found.
+    // The clock of the release of the latest section that the thread has found.
     pub(crate) fn latest<'a>(
         &self,
-        numbers: &'a [u32],
+        releases: &'a ReleaseClocks,
         thread: ThreadId,
-    ) -> Option<ClosedSection<'a>>
+    ) -> Option<ReleaseClock<'a>>
         requires room { IsTrue (has_room_in self.now.rooms thread.0) }
-        requires readable { AreReadable numbers.now self.now.entries }
+        requires readable { AreReadable releases.now.numbers self.now.entries }
         ensures { MatchOption result (slice_index self.now.found thread.0 ≡ 0)
             (λ answer. (0 < slice_index self.now.found thread.0)
-            × IsSection answer.by.0 answer.own answer.before.now self.now.width
-            (closed_as (section_of numbers.now
+            × IsSection answer self.now.width
+            (closed_as (section_of releases.now.numbers
             (entry_at self.now.entries (slice_index self.now.found thread.0 - 1))))) }
     {
         let number = self.found[thread.0 as usize];
         if number == 0 {
             return None;
         }
-        Some(self.section(numbers, number - 1))
+        Some(self.section(releases, number - 1))
     }
 
     // How many sections are closed.
@@ -242,14 +235,15 @@ impl Queue {
         self.entries.len()
     }
 
-    // The closed section at the place.
-    pub(crate) fn section<'a>(&self, numbers: &'a [u32], place: usize) -> ClosedSection<'a>
-        requires within { place < length self.now.entries }
-        requires readable { AreReadable numbers.now self.now.entries }
-        ensures { IsSection result.by.0 result.own result.before.now self.now.width
-            (closed_as (section_of numbers.now (entry_at self.now.entries place))) }
+    // The clock of the release of the closed section at the place.
+    pub(crate) fn section<'a>(&self, releases: &'a ReleaseClocks, at: usize) -> ReleaseClock<'a>
+        requires within { at < length self.now.entries }
+        requires readable { AreReadable releases.now.numbers self.now.entries }
+        ensures { IsSection result self.now.width
+            (closed_as (section_of releases.now.numbers (entry_at self.now.entries at))) }
     {
-        read(&self.entries[place], numbers)
+        let entry = &self.entries[at];
+        releases.at(entry.acquire.thread(), &entry.place)
     }
 }
 

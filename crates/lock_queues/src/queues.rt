@@ -10,16 +10,15 @@
 //!
 //! Rule (a) asks for single sections, by their numbers: so what names a section keeps its number alone, and
 //! the clock of its release is kept once, here.
-ghost use Rattle.std.specs.Prelude.{◌≡◌, ℕ, ◌+◌, ◌*◌, ◌≤◌, length, vec_capacity, OnOk, IsTrue};
+ghost use Rattle.std.specs.Prelude.{◌≡◌, ℕ, ◌≤◌, length, OnOk};
 ghost use Rattle.lock_queues.specs.Queue.{AreAlike};
 ghost use Rattle.lock_queues.specs.Queues.{AreWide, count_rooms};
 
 use crate::queue::Queue;
-use crate::sections::ClosedSection;
 use event_core::{Limits, LockId, OutOfMemory, ThreadId};
 use std::alloc::Global;
 use std::marker::Model;
-use vector_clocks::{Clock, Mark, Work};
+use vector_clocks::{Clock, Mark, ReleaseClock, ReleaseClocks, Work};
 
 /// Of each lock its closed critical sections in the order of their releases, and of each thread how
 /// many of them it has found counted.
@@ -32,14 +31,13 @@ pub struct Queues {
     limits: Limits,
     // By the number of the lock, as far as room was made.
     queues: Vec<Queue>,
-    // Of the releases of all closed sections. There is memory for those of one more of each room.
-    numbers: Vec<u32>,
+    // Of all closed sections. There is memory for those of one more of each room.
+    releases: ReleaseClocks,
     // How many rooms there are on all locks.
     rooms: usize,
 }
 
 impl Model for Queues {
-    ghost use Rattle.std.specs.Prelude.{vec_capacity};
     ghost use Rattle.lock_queues.specs.Queues.{Tables, AreKept};
 
     ghost Value = { Tables };
@@ -47,11 +45,11 @@ impl Model for Queues {
     ghost view = { λ a. record {
       limits = a.limits;
       queues = a.queues.items;
-      numbers = a.numbers.items;
+      numbers = a.releases.numbers;
     } };
 
     ghost invariant = { λ a.
-        AreKept a.limits.threads a.queues.items a.numbers.items a.rooms (vec_capacity a.numbers) };
+        AreKept a.limits.threads a.queues.items a.releases.numbers a.rooms a.releases.most };
 }
 
 impl Queues {
@@ -65,12 +63,13 @@ impl Queues {
     ghost use Rattle.event_core.specs.Refusal.{WellFormed};
     ghost use Rattle.event_core.specs.Order.{Hb};
     ghost use Rattle.event_core.specs.Closed.{OpensSection, EndsSection, below_closed};
-    ghost use Rattle.event_core.specs.Rows.{bump, no_clock, with_row, Counted};
+    ghost use Rattle.event_core.specs.Rows.{no_clock, with_row, Counted};
     ghost use Rattle.vector_clocks.specs.Counts.{counts_of};
     ghost use Rattle.vector_clocks.specs.Marks.{Names};
+    ghost use Rattle.vector_clocks.specs.Releases.{before, clock_of};
     ghost use Rattle.lock_queues.specs.Queues.{closed_of, opened_of, found_of, has_room, counted_of};
     ghost use Rattle.lock_queues.specs.Queues.{SameMeaning};
-    ghost use Rattle.lock_queues.specs.Sections.{before, closed_at, latest_counted};
+    ghost use Rattle.lock_queues.specs.Sections.{closed_at, latest_counted};
     ghost use Rattle.lock_queues.specs.Searched.{CountsEarlier, FindsCounted, IsAboveAll, IsLatestBefore};
     ghost use Rattle.lock_queues.specs.Searched.{IsSection};
     ghost use Rattle.lock_queues.specs.Standing.{Stands, CountsNone, IsLatest};
@@ -90,7 +89,7 @@ impl Queues {
             alloc,
             limits: *limits,
             queues: Vec::new(alloc),
-            numbers: Vec::new(alloc),
+            releases: ReleaseClocks::new(alloc),
             rooms: 0,
         })
     }
@@ -116,7 +115,7 @@ impl Queues {
         let Some(rooms) = self.rooms.checked_add(1) else {
             return Err(OutOfMemory);
         };
-        reserve(&mut self.numbers, rooms, width)?;
+        self.releases.make_room(rooms, width)?;
         grow(&mut self.queues, self.alloc, width, at + 1)?;
         let queue = &mut self.queues[at];
         queue.make_room(thread)?;
@@ -148,7 +147,7 @@ impl Queues {
             return false;
         };
         let width = self.limits.threads() as usize;
-        if self.queues.len() <= at || !has_spare(&self.numbers, rooms, width) {
+        if self.queues.len() <= at || !self.releases.has_room(rooms, width) {
             return false;
         }
         let queue = &mut self.queues[at];
@@ -179,8 +178,8 @@ impl Queues {
         queue.enter(thread, mark);
     }
 
-    /// The latest closed section on the lock whose acquire the clock counts, if there is one. It is asked at
-    /// the release of the thread's open section, before `leave`.
+    /// The clock of the release of the latest closed section on the lock whose acquire the clock counts, if
+    /// there is one. It is asked at the release of the thread's open section, before `leave`.
     ///
     /// The search begins after the sections that the thread has found before, and stops at the first
     /// that is not counted: at most one comparison more than the sections newly found.
@@ -190,7 +189,7 @@ impl Queues {
         lock: LockId,
         clock: &Clock,
         work: &mut Work,
-    ) -> Option<ClosedSection<'_>>
+    ) -> Option<ReleaseClock<'_>>
         requires entered { 0 < opened_of self.old thread.0 lock.0 }
         requires width { length clock.now ≡ self.old.limits.threads }
         requires before { found_of self.old lock.0 thread.0 ≤ counted_of self.old lock.0 clock.now }
@@ -203,19 +202,14 @@ impl Queues {
         ensures latest { MatchOption result
             (latest_counted (counts_of clock.now) (closed_of self.old lock.0) ≡ None)
             (λ answer. IsSomeAnd (latest_counted (counts_of clock.now) (closed_of self.old lock.0))
-            (λ section. (section.thread ≡ answer.by.0)
-            × (section.release ≡ bump answer.by.0 (counts_of answer.before.now)))) }
+            (λ section. (section.thread ≡ answer.by) × (section.release ≡ clock_of answer))) }
         ensures below { MatchOption result
             (below_closed (counts_of clock.now) (closed_of self.old lock.0) ≡ no_clock)
-            (λ answer. bump answer.by.0 (counts_of answer.before.now)
-            ≡ below_closed (counts_of clock.now) (closed_of self.old lock.0)) }
+            (λ answer. clock_of answer ≡ below_closed (counts_of clock.now) (closed_of self.old lock.0)) }
         ensures in_log { (limits : Bounds) (log : List AnEvent) → WellFormed limits log → Stands log self.old
             → MatchOption result (CountsNone log lock (counts_of clock.now))
-            (λ answer. IsLatest log lock (counts_of clock.now) answer.by
-            (bump answer.by.0 (counts_of answer.before.now))) }
-        ensures within { IfSome result (λ answer. answer.by.0 < length answer.before.now) }
-        ensures own { IfSome result (λ answer. answer.own ≡ counts_of answer.before.now answer.by.0) }
-        ensures width { IfSome result (λ answer. length answer.before.now ≤ self.old.limits.threads) }
+            (λ answer. IsLatest log lock (counts_of clock.now) (record { 0 = answer.by }) (clock_of answer)) }
+        ensures width { IfSome result (λ answer. length answer.before ≤ self.old.limits.threads) }
 
         // What it costs.
         ensures comparisons { work.new.comparisons + found_of self.old lock.0 thread.0
@@ -257,7 +251,7 @@ impl Queues {
     {
         let _threads = self.limits.threads();
         let queue = &mut self.queues[lock.0 as usize];
-        queue.leave(&mut self.numbers, thread, clock);
+        queue.leave(&mut self.releases, thread, clock);
         self.rooms -= 1;
     }
 
@@ -274,19 +268,17 @@ impl Queues {
         }
     }
 
-    /// The lock's closed section with the number: its place in the order of their releases, from 1.
-    pub fn section(&self, lock: LockId, number: u32) -> ClosedSection<'_>
+    /// The clock of the release of the lock's closed section with the number: its place in the order of their
+    /// releases, from 1.
+    pub fn section(&self, lock: LockId, number: u32) -> ReleaseClock<'_>
         requires some { 0 < number }
         requires within { number ≤ length (closed_of self.now lock.0) }
-        ensures by { result.by.0 ≡ (closed_at (closed_of self.now lock.0) (number - 1)).thread }
-        ensures within { result.by.0 < length result.before.now }
-        ensures own { result.own ≡ counts_of result.before.now result.by.0 }
-        ensures release { bump result.by.0 (counts_of result.before.now)
-            ≡ (closed_at (closed_of self.now lock.0) (number - 1)).release }
-        ensures width { length result.before.now ≤ self.now.limits.threads }
+        ensures by { result.by ≡ (closed_at (closed_of self.now lock.0) (number - 1)).thread }
+        ensures release { clock_of result ≡ (closed_at (closed_of self.now lock.0) (number - 1)).release }
+        ensures width { length result.before ≤ self.now.limits.threads }
     {
         let place = number as usize - 1;
-        self.queues[lock.0 as usize].section(&self.numbers, place)
+        self.queues[lock.0 as usize].section(&self.releases, place)
     }
 
     // The thread finds how many of the lock's sections the clock counts.
@@ -308,41 +300,16 @@ impl Queues {
         queue.find_counted(thread, clock, work);
     }
 
-    // The latest section that the thread has found.
-    fn latest(&self, thread: ThreadId, lock: LockId) -> Option<ClosedSection<'_>>
+    // The clock of the release of the latest section that the thread has found.
+    fn latest(&self, thread: ThreadId, lock: LockId) -> Option<ReleaseClock<'_>>
         requires entered { 0 < opened_of self.now thread.0 lock.0 }
         ensures { MatchOption result (found_of self.now lock.0 thread.0 ≡ 0)
             (λ answer. (0 < found_of self.now lock.0 thread.0)
-            × IsSection answer.by.0 answer.own answer.before.now self.now.limits.threads
+            × IsSection answer self.now.limits.threads
             (closed_at (closed_of self.now lock.0) (found_of self.now lock.0 thread.0 - 1))) }
     {
-        self.queues[lock.0 as usize].latest(&self.numbers, thread)
+        self.queues[lock.0 as usize].latest(&self.releases, thread)
     }
-}
-
-// Makes room for the numbers of the releases of so many sections more.
-fn reserve(numbers: &mut Vec<u32>, more: usize, width: usize) -> Result<(), OutOfMemory>
-    ensures same { numbers.new.items ≡ numbers.old.items }
-    ensures larger { vec_capacity numbers.old ≤ vec_capacity numbers.new }
-    ensures ok { OnOk result (length numbers.new.items + more * width ≤ vec_capacity numbers.new) }
-{
-    let Some(count) = more.checked_mul(width) else {
-        return Err(OutOfMemory);
-    };
-    let Ok(()) = numbers.reserve(count) else {
-        return Err(OutOfMemory);
-    };
-    Ok(())
-}
-
-// Whether there is room for the numbers of the releases of so many sections more.
-fn has_spare(numbers: &Vec<u32>, more: usize, width: usize) -> bool
-    ensures { IsTrue result → length numbers.now.items + more * width ≤ vec_capacity numbers.now }
-{
-    let Some(count) = more.checked_mul(width) else {
-        return false;
-    };
-    count <= numbers.capacity() - numbers.len()
 }
 
 // Further locks have no sections.

@@ -1,4 +1,5 @@
 pub mod JoinLaws
+pub mod Lowering
 pub mod MadeRows
 pub mod Releases
 pub mod RowLaws

@@ -3,9 +3,11 @@
 //! A clock keeps beside its numbers how far it is in use, so that a join and a copy go no further
 //! than the threads that there are, however many there may be.
 ghost use Rattle.std.specs.Prelude.{◌≡◌, ◌+◌, ◌<◌, ◌≤◌, ◌^◌, [], length, max, replicate, slice_set, IfOk};
-ghost use Rattle.event_core.specs.Rows.{join, bump, with_row};
+ghost use Rattle.event_core.specs.Rows.{join, with_row};
 ghost use Rattle.vector_clocks.specs.Counts.{counts_of, IsUnusedFrom};
+ghost use Rattle.vector_clocks.specs.Releases.{clock_of};
 
+use crate::release::ReleaseClock;
 use crate::work::Work;
 use event_core::{OutOfMemory, ThreadId};
 use std::alloc::Global;
@@ -67,21 +69,17 @@ impl Clock {
         &self.counts[..self.used]
     }
 
-    /// Takes the greater number of each thread from the clock of a release by the thread, of which the list
-    /// has the numbers just before it: the release is one more. Beyond the list each number is 0. It is one
-    /// join.
-    pub fn join_release(&mut self, by: ThreadId, before: &[u32], work: &mut Work)
-        requires own { by.0 < length before.now }
-        requires within { length before.now ≤ length self.old }
+    /// Takes the greater number of each thread from the clock of a release. It is one join.
+    pub fn join_release(&mut self, release: &ReleaseClock<'_>, work: &mut Work)
+        requires within { length release.now.before ≤ length self.old }
         requires few { work.old.joins < 2 ^ 63 }
         ensures width { length self.new ≡ length self.old }
-        ensures greater { counts_of self.new
-            ≡ join (counts_of self.old) (bump by.0 (counts_of before.now)) }
+        ensures greater { counts_of self.new ≡ join (counts_of self.old) (clock_of release.now) }
         ensures work { work.new ≡ record work.old { joins = work.old.joins + 1 } }
     {
         work.add_join();
-        self.raise_before(before);
-        self.count_release(by, before[by.0 as usize]);
+        self.raise_before(release.counts_before());
+        self.count_release(release.by(), release.own());
     }
 
     /// Takes the other clock's numbers.

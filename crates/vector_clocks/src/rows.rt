@@ -2,9 +2,11 @@
 ghost use Rattle.std.specs.Prelude.{◌≡◌, ◌≢◌, ℕ, ◌+◌, ◌<◌, ◌^◌, ◌≤◌, ◌↔◌, length, replicate, OnOk, IsTrue};
 ghost use Rattle.event_core.specs.Rows.{join, bump, with_row};
 ghost use Rattle.vector_clocks.specs.Counts.{counts_of};
+ghost use Rattle.vector_clocks.specs.Releases.{clock_of};
 ghost use Rattle.vector_clocks.specs.Rows.{rows_of, widths_of, IsMade, AreWide};
 
 use crate::clock::Clock;
+use crate::release::ReleaseClock;
 use crate::work::Work;
 use event_core::{OutOfMemory, ThreadId, grow_to};
 use std::alloc::Global;
@@ -22,25 +24,17 @@ pub fn join_row(rows: &mut [Clock], at: usize, other: &Clock, work: &mut Work)
     rows[at].join(other, work);
 }
 
-/// The row takes the greater numbers of the clock of a release by the thread, of which the list has the
-/// numbers just before it, counted as one join. Beyond the list each number is 0.
-pub fn join_row_release(
-    rows: &mut [Clock],
-    at: usize,
-    by: ThreadId,
-    before: &[u32],
-    work: &mut Work,
-)
+/// The row takes the greater numbers of the clock of a release, counted as one join.
+pub fn join_row_release(rows: &mut [Clock], at: usize, release: &ReleaseClock<'_>, work: &mut Work)
     requires room { at < length rows.old }
-    requires own { by.0 < length before.now }
-    requires within { length before.now ≤ widths_of rows.old at }
+    requires within { length release.now.before ≤ widths_of rows.old at }
     requires few { work.old.joins < 2 ^ 63 }
     ensures rows { rows_of rows.new
-        ≡ with_row at (join (rows_of rows.old at) (bump by.0 (counts_of before.now))) (rows_of rows.old) }
+        ≡ with_row at (join (rows_of rows.old at) (clock_of release.now)) (rows_of rows.old) }
     ensures widths { widths_of rows.new ≡ widths_of rows.old }
     ensures work { work.new ≡ record work.old { joins = work.old.joins + 1 } }
 {
-    rows[at].join_release(by, before, work);
+    rows[at].join_release(release, work);
 }
 
 /// The row becomes the clock, uncounted.

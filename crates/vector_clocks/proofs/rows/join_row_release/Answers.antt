@@ -1,7 +1,8 @@
 use Rattle.std.proofs.Common.{ap, ◌∙◌, [], List, ℕ}
 use Rattle.std.proofs.lemmas.List.{get_or_default}
-use Rattle.event_core.specs.Rows.{join, bump, with_row}
+use Rattle.event_core.specs.Rows.{join, with_row}
 use Rattle.vector_clocks.specs.Counts.{counts_of}
+use Rattle.vector_clocks.specs.Releases.{clock_of}
 use Rattle.vector_clocks.specs.Rows.{rows_of}
 use Rattle.vector_clocks.proofs.RowLaws.{rows_set}
 use Rattle.vector_clocks.proofs.rows.join_row_release.Goals as goal
@@ -12,4 +13,4 @@ returns-clause-rows c =
     rows_set _ _ _ c.requires.room
     ∙ ap (λ g. with_row c.args.at g (rows_of c.args.rows.now))
     (c.join_release.ensures.greater
-    ∙ ap (λ (xs : List ℕ). join (counts_of xs) (bump c.args.by.0 (counts_of c.args.before.now))) read)
+    ∙ ap (λ (xs : List ℕ). join (counts_of xs) (clock_of c.args.release.now)) read)

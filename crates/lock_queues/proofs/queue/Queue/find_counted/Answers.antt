@@ -7,7 +7,7 @@ use Rattle.lock_queues.specs.Rooms.{has_room_in}
 use Rattle.lock_queues.specs.Sections.{CountsEntry}
 use Rattle.lock_queues.specs.Queue.{Kept}
 use Rattle.lock_queues.proofs.Keeping.{thread_within}
-use Rattle.lock_queues.proofs.Changes.{found_set}
+use Rattle.vector_clocks.proofs.Lowering.{counts_set}
 use Rattle.lock_queues.proofs.queue.Queue.find_counted.Goals as goal
 
 pub index-requires : goal.index-requires
@@ -47,7 +47,7 @@ pub returns-clause-found : goal.returns-clause-found
 returns-clause-found c =
     let same = ap (λ (k : Kept). has_room_in k.rooms c.args.thread.0) c.self.view_is in
     let lt = thread_within c.args.thread.0 c.self.invariant (same ∙ c.requires.room) in
-    found_set c.self.inside.found.items c.args.thread.0 c.search_from-more.result lt
+    counts_set c.self.inside.found.items c.args.thread.0 c.search_from-more.result lt
     ∙ ap (λ (k : Kept). with_row c.args.thread.0 c.search_from-more.result (slice_index k.found))
     c.self.view_is
 

@@ -35,8 +35,7 @@ returns c =
     = here ∙ ap (λ (k : Kept). slice_index k.found c.args.thread.0) c.self.view_is in
     let some : 0 < c.index-number.result.now = omega (arith, c.if-number-eq0.false) in (
       omega arith,
-      subst (λ n. IsSection c.section.result.by.0 c.section.result.own c.section.result.before.now
-          c.args.self.now.width
-          (closed_as (section_of c.args.numbers.now (entry_at c.args.self.now.entries (n - 1))))) is
+      subst (λ n. IsSection c.section.result c.args.self.now.width
+          (closed_as (section_of c.args.releases.now.numbers (entry_at c.args.self.now.entries (n - 1))))) is
           c.section.ensures,
     )

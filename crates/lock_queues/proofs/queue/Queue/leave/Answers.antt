@@ -1,18 +1,17 @@
 use Rattle.std.proofs.Common.{◌≡◌, ℕ, ◌<◌, ◌-◌, ◌++◌, ◌∷◌, [], ap, sym, subst, ◌∙◌, arith, List, length}
-use Rattle.std.proofs.Common.{false, length-set, vec_capacity}
+use Rattle.std.proofs.Common.{false, vec_capacity}
 use Rattle.std.proofs.Common.{Option}
 use Rattle.std.specs.List.{remove}
 use Rattle.vector_clocks.specs.Marks.{Named}
 use Rattle.event_core.specs.Rows.{with_row}
 use Rattle.vector_clocks.specs.Counts.{counts_of}
+use Rattle.vector_clocks.specs.Releases.{IsAdded}
 use Rattle.lock_queues.specs.declared.rooms.Room.{Room}
 use Rattle.lock_queues.specs.declared.sections.Entry.{Entry}
-use Rattle.lock_queues.specs.Sections.{before, lowered}
 use Rattle.lock_queues.specs.Rooms.{has_room_in, opened_in, position_of}
 use Rattle.lock_queues.specs.Queue.{Kept, IsKept}
 use Rattle.lock_queues.proofs.Placing.{placed_entered, placed_within, room_read}
 use Rattle.lock_queues.proofs.Keeping.{kept_left}
-use Rattle.lock_queues.proofs.Lowering.{counted_within, raised_lowered, lowered_at}
 use Rattle.lock_queues.proofs.Changes.{some_opened, mark_of, opened_remove, has_remove}
 use Rattle.lock_queues.proofs.queue.Queue.leave.Goals as goal
 
@@ -34,62 +33,33 @@ unwrap-acquire-requires c =
     let opened = room.opened in
     some_opened c.remove-room.result.opened (omega arith)
 
-pub push_before-requires-clause-own : goal.push_before-requires-clause-own
-push_before-requires-clause-own c =
-    counted_within c.counts-release.result.now c.args.thread.0
-    (subst (λ (f : ℕ → ℕ). 0 < f c.args.thread.0) (sym c.counts-release.ensures.counts) c.requires.counted)
-
-pub push_before-requires-clause-counted : goal.push_before-requires-clause-counted
-push_before-requires-clause-counted c =
-    subst (λ (f : ℕ → ℕ). 0 < f c.args.thread.0) (sym c.counts-release.ensures.counts) c.requires.counted
-
-pub push_before-requires-clause-few : goal.push_before-requires-clause-few
-push_before-requires-clause-few c =
-    subst (λ (f : ℕ → ℕ). (u : ℕ) → before c.args.thread.0 f u < 4294967296)
-    (sym c.counts-release.ensures.counts) c.requires.few
-
-pub number_before-requires-clause-within : goal.number_before-requires-clause-within
-number_before-requires-clause-within c =
-    counted_within c.counts-release.result.now c.args.thread.0
-    (subst (λ (f : ℕ → ℕ). 0 < f c.args.thread.0) (sym c.counts-release.ensures.counts) c.requires.counted)
-
-pub number_before-requires-clause-counted : goal.number_before-requires-clause-counted
-number_before-requires-clause-counted c =
-    subst (λ (f : ℕ → ℕ). 0 < f c.args.thread.0) (sym c.counts-release.ensures.counts) c.requires.counted
-
-pub number_before-requires-clause-few : goal.number_before-requires-clause-few
-number_before-requires-clause-few c =
-    subst (λ (f : ℕ → ℕ). before c.args.thread.0 f c.args.thread.0 < 4294967296)
-    (sym c.counts-release.ensures.counts) (c.requires.few c.args.thread.0)
+pub push-place-requires-clause-room : goal.push-place-requires-clause-room
+push-place-requires-clause-room c =
+    let wide = c.requires.width in
+    let memory = c.requires.memory in
+    omega arith
 
 pub invariant_of-self : goal.invariant_of-self
 invariant_of-self c =
     let t : ℕ = c.args.thread.0 in
-    let release = c.counts-release.result.now in
     let rooms_is = ap (λ (k : Kept). k.rooms) c.self.view_is in
     let p = placed_entered _ _ _ _ _ rooms_is c.deref.ensures.value c.find-at.ensures c.requires.entered in
     let room = room_read c.remove-room.result c.self.invariant.own p c.remove-room.ensures.value in
     let marked = mark_of c.remove-room.result.opened c.unwrap-acquire.result _ c.unwrap-acquire.ensures
     room.own in
     let thread : c.unwrap-acquire.result.thread ≡ t = marked ∙ sym room.thread in
-    let own : t < length release
-    = counted_within release t
-    (subst (λ (f : ℕ → ℕ). 0 < f t) (sym c.counts-release.ensures.counts) c.requires.counted) in
+    let added = c.push-place.ensures.added in
+    let own = added.marked in
+    let count = added.count in
+    let within = added.within in
     let width = ap (λ (k : Kept). k.width) c.self.view_is in
     let wide = c.requires.width in
-    let used = c.counts-release.ensures.within in
     let capacity = c.push_reserved.ensures.capacity in
     let Keeps : List Entry → Option Named → List Room → Type 0
     = λ es first rs. IsKept c.self.inside.width es first rs c.self.inside.found.items
     (vec_capacity c.push_reserved.new.self) in
     let first = c.or-self-inside.result in
-    let x : Entry
-    = record {
-      acquire = c.unwrap-acquire.result;
-      own = c.number_before.result;
-      width = length release;
-      start = c.len-start.result;
-    } in
+    let x : Entry = record { acquire = c.unwrap-acquire.result; place = c.push-place.result } in
     subst (λ rs. Keeps c.push_reserved.new.self.items first rs) (sym c.remove-room.ensures.items)
     (subst (λ es. Keeps es first (remove c.self.inside.rooms.items c.find-at.result))
     (sym c.push_reserved.ensures.items)
@@ -101,43 +71,20 @@ invariant_of-self c =
 pub returns-clause-joined : goal.returns-clause-joined
 returns-clause-joined c =
     let t : ℕ = c.args.thread.0 in
-    let release = c.counts-release.result.now in
     let rooms_is = ap (λ (k : Kept). k.rooms) c.self.view_is in
     let p = placed_entered _ _ _ _ _ rooms_is c.deref.ensures.value c.find-at.ensures c.requires.entered in
     let room = room_read c.remove-room.result c.self.invariant.own p c.remove-room.ensures.value in
     let marked = mark_of c.remove-room.result.opened c.unwrap-acquire.result _ c.unwrap-acquire.ensures
     room.own in
-    let thread : c.unwrap-acquire.result.thread ≡ t = marked ∙ sym room.thread in
-    let counted : 0 < counts_of release t
-    = subst (λ (f : ℕ → ℕ). 0 < f t) (sym c.counts-release.ensures.counts) c.requires.counted in
-    let own : t < length release = counted_within release t counted in
-    let same : length (lowered t release) ≡ length release = length-set release t (counts_of release t - 1) in
-    let width = ap (λ (k : Kept). k.width) c.self.view_is in
-    let wide = c.requires.width in
-    let used = c.counts-release.ensures.within in
-    let x : Entry
-    = record {
-      acquire = c.unwrap-acquire.result;
-      own = c.number_before.result;
-      width = length release;
-      start = c.len-start.result;
-    } in
-    let numbers = c.args.numbers.now.ok.0 in
-    let len = c.len-start.ensures in
+    let x : Entry = record { acquire = c.unwrap-acquire.result; place = c.push-place.result } in
     record {
-      added = lowered t release;
       entry = x;
-      numbers = c.push_before.ensures.items;
       entries = c.push_reserved.ensures.items ∙ ap (λ (k : Kept). k.entries ++ x ∷ []) c.self.view_is;
-      start = omega arith;
-      count = sym same;
-      thread = thread;
+      thread = marked ∙ sym room.thread;
       acquired = sym (room.opened ∙ ap position_of c.unwrap-acquire.ensures)
           ∙ ap (λ (k : Kept). opened_in k.rooms t) c.self.view_is;
-      marked = omega arith;
-      own = ap (λ (f : ℕ → ℕ). f t) (lowered_at t release own) ∙ sym c.number_before.ensures;
-      release = ap counts_of (raised_lowered t release counted) ∙ c.counts-release.ensures.counts;
-      within = omega arith;
+      kept = subst (λ w. IsAdded c.args.releases.now.numbers c.push-place.new.self.numbers t
+          c.push-place.result w (counts_of c.args.clock.now)) c.requires.width c.push-place.ensures.added;
     }
 
 pub returns-clause-opened : goal.returns-clause-opened

@@ -55,7 +55,7 @@ returns-clause-found c =
     let clock = c.args.clock.now in
     let entered = subst (λ (v : Tables). 0 < opened_of v t l) (sym c.self.view_is) c.requires.entered in
     let qs = c.self.inside.queues.items in
-    let ns = c.self.inside.numbers.items in
+    let ns = c.self.inside.releases.numbers in
     let read = read_entered qs t l c.index_mut-queue.result.now entered c.index_mut-queue.ensures.value in
     let are = are_of _ _ qs ns l clock _ c.self.view_is c.self.invariant read.is c.requires.earlier in
     let number

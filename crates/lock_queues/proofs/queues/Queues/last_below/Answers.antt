@@ -2,12 +2,12 @@ use Rattle.std.proofs.Common.{◌≡◌, ℕ, ◌-◌, ◌<◌, ◌≤◌, lengt
 use Rattle.std.proofs.Common.{List, Option, None}
 use Rattle.std.specs.Prelude.{MatchOption, IsSomeAnd}
 use Rattle.event_core.specs.Closed.{Closed, number_counted, below_closed}
-use Rattle.event_core.specs.Rows.{with_row, bump, no_clock}
+use Rattle.event_core.specs.Rows.{with_row, no_clock}
 use Rattle.event_core.proofs.Growing.{row_same}
 use Rattle.vector_clocks.specs.Counts.{counts_of}
+use Rattle.vector_clocks.specs.Releases.{Release, clock_of}
 use Rattle.lock_queues.specs.Sections.{closed_at, latest_counted}
 use Rattle.lock_queues.specs.Searched.{IsSection}
-use Rattle.lock_queues.specs.declared.sections.ClosedSection.{ClosedSection}
 use Rattle.lock_queues.specs.Queues.{Tables, closed_of, found_of}
 use Rattle.lock_queues.specs.Standing.{CountsNone, IsLatest}
 use Rattle.lock_queues.proofs.Answering.{match_option, if_some}
@@ -36,10 +36,10 @@ returns c =
     let closed : closed_of new l ≡ qs
     = ap (λ (f : ℕ → List Closed). f l) c.find_counted.ensures.found.closed in
     let wide : new.limits.threads ≡ threads = ap (λ b. b.threads) c.find_counted.ensures.found.limits in
-    let Reads : ℕ → List Closed → ℕ → ClosedSection → Type 0
-    = λ k xs w r. (0 < k) × IsSection r.by.0 r.own r.before.now w (closed_at xs (k - 1)) in
-    let Told : ClosedSection → Closed → Type 0
-    = λ r q. (q.thread ≡ r.by.0) × (q.release ≡ bump r.by.0 (counts_of r.before.now)) in
+    let Reads : ℕ → List Closed → ℕ → Release → Type 0
+    = λ k xs w r. (0 < k) × IsSection r w (closed_at xs (k - 1)) in
+    let Told : Release → Closed → Type 0
+    = λ r q. (q.thread ≡ r.by) × (q.release ≡ clock_of r) in
     let known : MatchOption c.latest.result (n ≡ 0) (Reads n qs threads)
     = subst (λ (w : ℕ). MatchOption c.latest.result (n ≡ 0) (Reads n qs w)) wide
     (subst (λ (xs : List Closed). MatchOption c.latest.result (n ≡ 0) (Reads n xs new.limits.threads))
@@ -64,19 +64,15 @@ returns c =
         latest = latest;
         below =
             answer (below_closed clock qs ≡ no_clock) (Reads n qs threads)
-            (λ r. bump r.by.0 (counts_of r.before.now) ≡ below_closed clock qs) (λ z. before.none_below z)
+            (λ r. clock_of r ≡ below_closed clock qs) (λ z. before.none_below z)
             (λ r h. h.1.release ∙ sym (before.below h.0)) known;
         in_log = λ limits log w st. match_option c.latest.result (latest_counted clock qs ≡ None)
             (CountsNone log c.args.lock clock) (λ r. IsSomeAnd (latest_counted clock qs) (Told r))
-            (λ r. IsLatest log c.args.lock clock r.by (bump r.by.0 (counts_of r.before.now)))
+            (λ r. IsLatest log c.args.lock clock (record { 0 = r.by }) (clock_of r))
             (λ none. none_in_log limits log old c.args.lock clock w st none)
-            (λ r told. told_in_log limits log old c.args.lock clock r.by
-            (bump r.by.0 (counts_of r.before.now)) w st told) latest;
-        within = if_some c.latest.result (n ≡ 0) (Reads n qs threads) (λ r. r.by.0 < length r.before.now)
-            (λ r h. h.1.counted) known;
-        own = if_some c.latest.result (n ≡ 0) (Reads n qs threads)
-            (λ r. r.own ≡ counts_of r.before.now r.by.0) (λ r h. h.1.number) known;
-        width = if_some c.latest.result (n ≡ 0) (Reads n qs threads) (λ r. length r.before.now ≤ threads)
+            (λ r told. told_in_log limits log old c.args.lock clock (record { 0 = r.by }) (clock_of r) w st
+            told) latest;
+        width = if_some c.latest.result (n ≡ 0) (Reads n qs threads) (λ r. length r.before ≤ threads)
             (λ r h. h.1.within) known;
         comparisons = c.find_counted.ensures.comparisons;
         joins = c.find_counted.ensures.joins;

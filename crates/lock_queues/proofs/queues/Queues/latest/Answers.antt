@@ -26,9 +26,8 @@ latest-requires-clause-readable c =
     let entered = subst (λ (v : Tables). 0 < opened_of v t l) (sym c.self.view_is) c.requires.entered in
     let qs = c.self.inside.queues.items in
     let read = read_entered qs t l c.index.result.now entered c.index.ensures in
-    subst (λ (ns : List ℕ). AreReadable ns c.index.result.now.entries) (sym c.deref.ensures.value)
-    (subst (λ (q : Kept). AreReadable c.self.inside.numbers.items q.entries) (sym read.is)
-    (c.self.invariant.readable l))
+    subst (λ (q : Kept). AreReadable c.self.inside.releases.numbers q.entries) (sym read.is)
+    (c.self.invariant.readable l)
 
 pub returns : goal.returns
 returns c =
@@ -36,17 +35,15 @@ returns c =
     let l = c.args.lock.0 in
     let entered = subst (λ (v : Tables). 0 < opened_of v t l) (sym c.self.view_is) c.requires.entered in
     let qs : List Kept = c.self.inside.queues.items in
-    let ns : List ℕ = c.self.inside.numbers.items in
+    let ns : List ℕ = c.self.inside.releases.numbers in
     let read = read_entered qs t l c.index.result.now entered c.index.ensures in
     let Tells : ℕ → ℕ → Closed → Type 0
     = λ n w x. MatchOption c.latest.result (n ≡ 0)
-    (λ answer. (0 < n) × IsSection answer.by.0 answer.own answer.before.now w x) in
-    let Reads : Kept → List ℕ → Type 0
-    = λ q ms. Tells (slice_index q.found t) q.width
-    (closed_as (section_of ms (entry_at q.entries (slice_index q.found t - 1)))) in
-    let here : Reads (queue_at qs l) ns
-    = subst (Reads (queue_at qs l)) c.deref.ensures.value
-    (subst (λ (q : Kept). Reads q c.deref.result.now) read.is c.latest.ensures) in
+    (λ answer. (0 < n) × IsSection answer w x) in
+    let Reads : Kept → Type 0
+    = λ q. Tells (slice_index q.found t) q.width
+    (closed_as (section_of ns (entry_at q.entries (slice_index q.found t - 1)))) in
+    let here : Reads (queue_at qs l) = subst Reads read.is c.latest.ensures in
     let n : ℕ = slice_index (queue_at qs l).found t in
     subst (λ (v : Tables). Tells (found_of v l t) v.limits.threads (closed_at (closed_of v l)
     (found_of v l t - 1)))

@@ -52,19 +52,19 @@ returns-clause-closed c =
     let t = c.args.thread.0 in
     let l = c.args.lock.0 in
     let qs : List Kept = c.self.inside.queues.items in
-    let ns = c.self.inside.numbers.items in
+    let ns = c.self.inside.releases.numbers in
     let entered = subst (λ (v : Tables). 0 < opened_of v t l) (sym c.self.view_is) c.requires.entered in
     let read = read_entered qs t l c.index_mut-queue.result.now entered c.index_mut-queue.ensures.value in
     let left : ℕ → Closed
     = λ n. record { thread = t; position = n; release = counts_of c.args.clock.now } in
     let joins = joined_at qs l _ c.leave.new.self read.is (c.self.invariant.wide l read.within)
     c.leave.ensures.joined in
-    let grown : (m : ℕ) → map closed_as (sections_of c.leave.new.numbers.items (queue_at qs m).entries)
+    let grown : (m : ℕ) → map closed_as (sections_of c.leave.new.releases.numbers (queue_at qs m).entries)
     ≡ map closed_as (sections_of ns (queue_at qs m).entries)
-    = λ m. ap (λ ms. map closed_as (sections_of ms (queue_at qs m).entries)) joins.numbers
-    ∙ ap (map closed_as) (sections_grown ns joins.added (queue_at qs m).entries
+    = λ m. ap (λ ms. map closed_as (sections_of ms (queue_at qs m).entries)) joins.kept.numbers
+    ∙ ap (map closed_as) (sections_grown ns joins.kept.added (queue_at qs m).entries
     (c.self.invariant.readable m)) in
-    (λ i m. lifted (λ (q : Kept). map closed_as (sections_of c.leave.new.numbers.items q.entries)) qs l
+    (λ i m. lifted (λ (q : Kept). map closed_as (sections_of c.leave.new.releases.numbers q.entries)) qs l
     c.leave.new.self _ read.within (joined_closed joins (c.self.invariant.readable l)) m i)
     ∙ ap (with_row l (map closed_as (sections_of ns (queue_at qs l).entries)
     ++ left (opened_in (queue_at qs l).rooms t) ∷ []))

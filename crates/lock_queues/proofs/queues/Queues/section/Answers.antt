@@ -8,25 +8,22 @@ use Rattle.lock_queues.proofs.queues.Queues.section.Goals as goal
 pub section-requires-clause-readable : goal.section-requires-clause-readable
 section-requires-clause-readable c =
     let qs = c.self.inside.queues.items in
-    let ns = c.self.inside.numbers.items in
+    let ns = c.self.inside.releases.numbers in
     let read = queue_read _ _ qs ns _ _ _ c.self.view_is c.requires.some c.requires.within c.index.ensures in
-    subst (λ (ms : List ℕ). AreReadable ms c.index.result.now.entries) (sym c.deref.ensures.value)
-    (subst (λ (q : Kept). AreReadable ns q.entries) (sym read) (c.self.invariant.readable c.args.lock.0))
+    subst (λ (q : Kept). AreReadable ns q.entries) (sym read) (c.self.invariant.readable c.args.lock.0)
 
 pub returns-clause-by : goal.returns-clause-by
 returns-clause-by c =
     let qs = c.self.inside.queues.items in
-    let ns = c.self.inside.numbers.items in
+    let ns = c.self.inside.releases.numbers in
     let read = queue_read _ _ qs ns _ _ _ c.self.view_is c.requires.some c.requires.within c.index.ensures in
-    let section
-    = section_read _ _ qs ns _ _ (c.args.number - 1) _ c.self.view_is read c.deref.ensures.value in
+    let section = section_read _ _ qs ns _ (c.args.number - 1) _ c.self.view_is read in
     c.section.ensures.thread ∙ ap (λ (q : Closed). q.thread) section
 
 pub returns-clause-release : goal.returns-clause-release
 returns-clause-release c =
     let qs = c.self.inside.queues.items in
-    let ns = c.self.inside.numbers.items in
+    let ns = c.self.inside.releases.numbers in
     let read = queue_read _ _ qs ns _ _ _ c.self.view_is c.requires.some c.requires.within c.index.ensures in
-    let section
-    = section_read _ _ qs ns _ _ (c.args.number - 1) _ c.self.view_is read c.deref.ensures.value in
+    let section = section_read _ _ qs ns _ (c.args.number - 1) _ c.self.view_is read in
     c.section.ensures.release ∙ ap (λ (q : Closed). q.release) section

@@ -2,14 +2,13 @@
 use Rattle.std.proofs.Common.{◌≡◌, ℕ, ◌+◌, ◌-◌, ◌<◌, ◌≤◌, ◌⊎◌, List, length, set}
 use Rattle.std.proofs.Common.{cond, nat_eq, sym, ap, subst, ◌∙◌, arith}
 use Rattle.std.proofs.lemmas.Bool.{cases_lt, cases_eq}
-use Rattle.std.proofs.lemmas.List.{get_or_past, get_or-set_same, set-set, set-get_or}
+use Rattle.std.proofs.lemmas.List.{get_or_past, get_or-set_same, get_or-set_other, set-set, set-get_or}
 use mathlib.Core.Logic.{inl, inr}
 use Rattle.event_core.specs.Rows.{bump, with_row}
 use Rattle.event_core.proofs.Growing.{row_same, row_other}
 use Rattle.vector_clocks.specs.Counts.{counts_of}
+use Rattle.vector_clocks.specs.Releases.{before, lowered, raised}
 use Rattle.vector_clocks.proofs.Releases.{bump_same, bump_other}
-use Rattle.lock_queues.specs.Sections.{before, lowered, raised}
-use Rattle.lock_queues.proofs.Changes.{found_set}
 
 -- a thread that is counted has a number
 pub counted_within : (ns : List ℕ) (t : ℕ) → 0 < counts_of ns t → t < length ns
@@ -19,8 +18,18 @@ counted_within ns t some = go (cases_lt t (length ns))
     go (inl lt) = lt
     go (inr le) = let none : counts_of ns t ≡ 0 = get_or_past ns t 0 le in absurd (omega arith)
 
+-- the number of a thread is written
+pub counts_set : (ns : List ℕ) (t n : ℕ) → t < length ns → counts_of (set ns t n) ≡ with_row t n (counts_of ns)
+counts_set ns t n lt i u = go (cases_eq u t) i
+  where
+    go : (u ≡ t) ⊎ (u ≡ t → ⊥) → counts_of (set ns t n) u ≡ with_row t n (counts_of ns) u
+    go (inl is) =
+        ap (counts_of (set ns t n)) is ∙ get_or-set_same ns t n 0 lt
+        ∙ sym (ap (with_row t n (counts_of ns)) is ∙ row_same t n (counts_of ns))
+    go (inr other) = get_or-set_other ns t u n 0 other ∙ sym (row_other t n (counts_of ns) u other)
+
 pub lowered_at : (t : ℕ) (ns : List ℕ) → t < length ns → counts_of (lowered t ns) ≡ before t (counts_of ns)
-lowered_at t ns lt = found_set ns t (counts_of ns t - 1) lt
+lowered_at t ns lt = counts_set ns t (counts_of ns t - 1) lt
 
 -- a clock with one event more, just before that event
 pub before_bumped : (t : ℕ) (f : ℕ → ℕ) (u : ℕ) → before t (bump t f) u ≡ f u
@@ -43,7 +52,7 @@ row_bumped t f i u = go (cases_eq u t) i
     go (inr n) = row_other t (f t + 1) f u n ∙ sym (row_other t (f u + 1) f u n)
 
 pub raised_at : (t : ℕ) (ns : List ℕ) → t < length ns → counts_of (raised t ns) ≡ bump t (counts_of ns)
-raised_at t ns lt = found_set ns t (counts_of ns t + 1) lt ∙ row_bumped t (counts_of ns)
+raised_at t ns lt = counts_set ns t (counts_of ns t + 1) lt ∙ row_bumped t (counts_of ns)
 
 pub raised_lowered : (t : ℕ) (ns : List ℕ) → 0 < counts_of ns t → raised t (lowered t ns) ≡ ns
 raised_lowered t ns some =

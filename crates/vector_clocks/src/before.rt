@@ -1,7 +1,7 @@
 //! The numbers of a release's clock from just before it, in 32 bits each.
 ghost use Rattle.std.specs.Prelude.{◌≡◌, ℕ, ◌+◌, ◌<◌, ◌≤◌, ◌^◌, ◌++◌, length, vec_capacity};
 ghost use Rattle.vector_clocks.specs.Counts.{counts_of};
-ghost use Rattle.lock_queues.specs.Sections.{before, lowered};
+ghost use Rattle.vector_clocks.specs.Releases.{before, lowered};
 
 use event_core::ThreadId;
 

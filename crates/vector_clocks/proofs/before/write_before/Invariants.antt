@@ -1,6 +1,6 @@
 use Rattle.std.proofs.Common.{◌≡◌, ℕ, ◌<◌, length, get_or}
-use Rattle.lock_queues.specs.Sections.{lowered}
-use Rattle.lock_queues.proofs.before.write_before.Given as goal
+use Rattle.vector_clocks.specs.Releases.{lowered}
+use Rattle.vector_clocks.proofs.before.write_before.Given as goal
 
 -- the numbers below u are written
 abbrev pub invariant-loop-u : goal.invariant-loop-u
