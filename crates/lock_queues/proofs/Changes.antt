@@ -12,7 +12,7 @@ use Rattle.event_core.proofs.Growing.{row_same, row_other}
 use Rattle.vector_clocks.specs.Marks.{Named}
 use Rattle.lock_queues.specs.declared.rooms.Room.{Room}
 use Rattle.lock_queues.specs.Rooms.{has_room_in, opened_in, position_of, AreRooms}
-use Rattle.lock_queues.proofs.Lookup.{row_kept, row_here, looked_past, looked_set, looked_push, looked_remove}
+use Rattle.lock_queues.proofs.Lookup.{row_kept, looked_past, looked_set, looked_push, looked_remove}
 use Rattle.lock_queues.proofs.Placing.{Placed}
 
 -- the mark of an entered room

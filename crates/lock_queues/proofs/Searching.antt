@@ -1,10 +1,9 @@
 -- What a search of a lock's sections finds, by the queue and the numbers that the tables have.
-use Rattle.std.proofs.Common.{◌≡◌, ℕ, ◌<◌, ◌≤◌, List, length, get_or, ap, ap₂, sym, subst, ◌∙◌, arith}
+use Rattle.std.proofs.Common.{◌≡◌, ℕ, ◌<◌, ◌≤◌, List, length, get_or, ap, sym, subst, ◌∙◌, arith}
 use Rattle.std.proofs.lemmas.List.{get_or_read}
 use Rattle.event_core.specs.Bounds.{Bounds}
 use Rattle.event_core.specs.Closed.{number_counted}
 use Rattle.vector_clocks.specs.Counts.{counts_of}
-use Rattle.lock_queues.specs.declared.sections.Entry.{Entry}
 use Rattle.lock_queues.specs.Sections.{closed_as, closed_at, section_of, section_at, entry_at, Counts}
 use Rattle.lock_queues.specs.Sections.{CountsEntry, AreRising}
 use Rattle.lock_queues.specs.Searched.{CountsEarlier}

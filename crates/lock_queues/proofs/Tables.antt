@@ -7,7 +7,7 @@ use Rattle.std.proofs.lemmas.Bool.{cases_eq}
 use Rattle.std.proofs.lemmas.List.Sums.{sum_by-set, sum_by_push}
 use mathlib.Core.Logic.{inl, inr}
 use Rattle.lock_queues.specs.declared.sections.Entry.{Entry}
-use Rattle.lock_queues.specs.Sections.{closed_as, sections_of, AreReadable, AreRising, HasJoined}
+use Rattle.lock_queues.specs.Sections.{closed_as, entry_at, sections_of, AreReadable, AreRising, HasJoined}
 use Rattle.lock_queues.specs.Searched.{IsAboveAll}
 use Rattle.lock_queues.specs.Queue.{Kept, queue_at, no_queue, AreAlike}
 use Rattle.lock_queues.specs.Queues.{AreWide, AreKept, count_rooms}
@@ -129,7 +129,8 @@ kept_joined {w = w} {qs = qs} {ns = ns} {ms = ms} {made = made} l q now kept lt 
       wide = wide_set w qs l q lt kept.wide width;
       readable = each_set (λ (k : Kept). AreReadable ms k.entries) qs l q lt
           (λ m. subst (λ (xs : List ℕ). AreReadable xs (queue_at qs m).entries) (sym j.kept.numbers)
-          (λ k within. readable_grown ns j.kept.added _ (kept.readable m k within)))
+          (λ k within. readable_grown ns j.kept.added (entry_at (queue_at qs m).entries k)
+          (kept.readable m k within)))
           (joined_readable j (kept.readable l));
       rising = each_set (λ (k : Kept). AreRising (sections_of ms k.entries)) qs l q lt
           (λ m. subst AreRising

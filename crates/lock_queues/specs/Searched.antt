@@ -2,8 +2,8 @@
 use Rattle.std.specs.Prelude.{ℕ, ◌≡◌, ◌-◌, ◌<◌, ◌≤◌, List, length, IsTrue, Some, None}
 use Rattle.event_core.specs.Closed.{Closed, Has, is_counted, below_closed}
 use Rattle.event_core.specs.Rows.{with_row, no_clock}
-use Rattle.vector_clocks.specs.Counts.{counts_of}
-use Rattle.vector_clocks.specs.Releases.{Release, clock_of}
+use Rattle.vector_clocks.specs.declared.release.ReleaseClock.{ReleaseClock}
+use Rattle.vector_clocks.specs.Released.{thread_of, before_of, clock_of}
 use Rattle.lock_queues.specs.Sections.{closed_at, latest_counted}
 use Rattle.lock_queues.specs.Queues.{Tables, closed_of, opened_of, found_of, has_room}
 
@@ -18,10 +18,10 @@ abbrev pub IsAboveAll : (ℕ → ℕ) → List Closed → Type 0
 IsAboveAll c qs = (q : Closed) (u : ℕ) → Has q qs → q.release u ≤ c u
 
 -- what is told of a closed section: the clock of its release, with numbers of no more threads than there are
-pub record IsSection (r : Release) (width : ℕ) (q : Closed) : Type 0 where
-  pub thread : r.by ≡ q.thread
+pub record IsSection (r : ReleaseClock) (width : ℕ) (q : Closed) : Type 0 where
+  pub thread : (thread_of r).0 ≡ q.thread
   pub release : clock_of r ≡ q.release
-  pub within : length r.before ≤ width
+  pub within : length (before_of r) ≤ width
 
 -- the thread has found so many of the lock's sections counted, and nothing else has changed
 pub record FindsCounted (old new : Tables) (thread lock number : ℕ) : Type 0 where

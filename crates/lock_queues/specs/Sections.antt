@@ -1,10 +1,8 @@
 -- The closed sections of one lock, as they are kept and as clocks see them.
-use Rattle.std.specs.Prelude.{ℕ, ◌≡◌, ◌+◌, ◌-◌, ◌≤◌, ◌<◌, List, [], ◌∷◌, ◌++◌, length, map}
-use Rattle.std.specs.Prelude.{slice_index_or, slice_set, Option, Some, None, cond}
+use Rattle.std.specs.Prelude.{ℕ, ◌≡◌, ◌≤◌, ◌<◌, List, [], ◌∷◌, ◌++◌, length, map}
+use Rattle.std.specs.Prelude.{slice_index_or, Option, Some, None, cond}
 use Rattle.std.specs.Option.{option_or}
-use Rattle.std.proofs.Math.ListN.{take, drop}
 use Rattle.event_core.specs.Closed.{Closed, is_counted}
-use Rattle.event_core.specs.Rows.{with_row}
 use Rattle.vector_clocks.specs.Counts.{counts_of}
 use Rattle.vector_clocks.specs.Marks.{Named}
 use Rattle.vector_clocks.specs.Releases.{numbers_at, raised, IsReadable, IsAdded}

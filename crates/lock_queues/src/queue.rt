@@ -198,8 +198,10 @@ impl Queue {
         ensures rooms { self.new.rooms ≡ self.old.rooms }
         ensures width { self.new.width ≡ self.old.width }
         ensures joins { work.new.joins ≡ work.old.joins }
-        ensures comparisons { work.new.comparisons + slice_index self.old.found thread.0
+        ensures most { work.new.comparisons + slice_index self.old.found thread.0
             ≤ work.old.comparisons + result + 1 }
+        ensures least { work.old.comparisons + result
+            ≤ work.new.comparisons + slice_index self.old.found thread.0 }
     {
         let at = thread.0 as usize;
         let more = search_from(self.first, &self.entries, self.found[at], clock, work);

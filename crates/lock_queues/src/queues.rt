@@ -66,7 +66,8 @@ impl Queues {
     ghost use Rattle.event_core.specs.Rows.{no_clock, with_row, Counted};
     ghost use Rattle.vector_clocks.specs.Counts.{counts_of};
     ghost use Rattle.vector_clocks.specs.Marks.{Names};
-    ghost use Rattle.vector_clocks.specs.Releases.{before, clock_of};
+    ghost use Rattle.vector_clocks.specs.Released.{thread_of, before_of, clock_of};
+    ghost use Rattle.vector_clocks.specs.Releases.{before};
     ghost use Rattle.lock_queues.specs.Queues.{closed_of, opened_of, found_of, has_room, counted_of};
     ghost use Rattle.lock_queues.specs.Queues.{SameMeaning};
     ghost use Rattle.lock_queues.specs.Sections.{closed_at, latest_counted};
@@ -182,7 +183,7 @@ impl Queues {
     /// there is one. It is asked at the release of the thread's open section, before `leave`.
     ///
     /// The search begins after the sections that the thread has found before, and stops at the first
-    /// that is not counted: at most one comparison more than the sections newly found.
+    /// that is not counted: as many comparisons as sections are newly found, or one more.
     pub fn last_below(
         &mut self,
         thread: ThreadId,
@@ -202,18 +203,20 @@ impl Queues {
         ensures latest { MatchOption result
             (latest_counted (counts_of clock.now) (closed_of self.old lock.0) ≡ None)
             (λ answer. IsSomeAnd (latest_counted (counts_of clock.now) (closed_of self.old lock.0))
-            (λ section. (section.thread ≡ answer.by) × (section.release ≡ clock_of answer))) }
+            (λ section. (section.thread ≡ (thread_of answer).0) × (section.release ≡ clock_of answer))) }
         ensures below { MatchOption result
             (below_closed (counts_of clock.now) (closed_of self.old lock.0) ≡ no_clock)
             (λ answer. clock_of answer ≡ below_closed (counts_of clock.now) (closed_of self.old lock.0)) }
         ensures in_log { (limits : Bounds) (log : List AnEvent) → WellFormed limits log → Stands log self.old
             → MatchOption result (CountsNone log lock (counts_of clock.now))
-            (λ answer. IsLatest log lock (counts_of clock.now) (record { 0 = answer.by }) (clock_of answer)) }
-        ensures width { IfSome result (λ answer. length answer.before ≤ self.old.limits.threads) }
+            (λ answer. IsLatest log lock (counts_of clock.now) (thread_of answer) (clock_of answer)) }
+        ensures width { IfSome result (λ answer. length (before_of answer) ≤ self.old.limits.threads) }
 
         // What it costs.
         ensures comparisons { work.new.comparisons + found_of self.old lock.0 thread.0
             ≤ work.old.comparisons + counted_of self.old lock.0 clock.now + 1 }
+        ensures no_fewer { work.old.comparisons + counted_of self.old lock.0 clock.now
+            ≤ work.new.comparisons + found_of self.old lock.0 thread.0 }
         ensures joins { work.new.joins ≡ work.old.joins }
 
         // Once the answer is let go, the thread has found the counted sections.
@@ -273,9 +276,9 @@ impl Queues {
     pub fn section(&self, lock: LockId, number: u32) -> ReleaseClock<'_>
         requires some { 0 < number }
         requires within { number ≤ length (closed_of self.now lock.0) }
-        ensures by { result.by ≡ (closed_at (closed_of self.now lock.0) (number - 1)).thread }
+        ensures by { (thread_of result).0 ≡ (closed_at (closed_of self.now lock.0) (number - 1)).thread }
         ensures release { clock_of result ≡ (closed_at (closed_of self.now lock.0) (number - 1)).release }
-        ensures width { length result.before ≤ self.now.limits.threads }
+        ensures width { length (before_of result) ≤ self.now.limits.threads }
     {
         let place = number as usize - 1;
         self.queues[lock.0 as usize].section(&self.releases, place)
@@ -295,6 +298,8 @@ impl Queues {
         ensures joins { work.new.joins ≡ work.old.joins }
         ensures comparisons { work.new.comparisons + found_of self.old lock.0 thread.0
             ≤ work.old.comparisons + counted_of self.old lock.0 clock.now + 1 }
+        ensures no_fewer { work.old.comparisons + counted_of self.old lock.0 clock.now
+            ≤ work.new.comparisons + found_of self.old lock.0 thread.0 }
     {
         let queue = &mut self.queues[lock.0 as usize];
         queue.find_counted(thread, clock, work);

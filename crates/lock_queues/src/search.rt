@@ -19,7 +19,8 @@ fn search(entries: &[Entry], known: usize, clock: &Clock, work: &mut Work) -> us
         → Counts clock.now (entry_at entries.now result).acquire → ⊥ }
     ensures within { result ≤ length entries.now }
     ensures joins { work.new.joins ≡ work.old.joins }
-    ensures comparisons { work.new.comparisons + known ≤ work.old.comparisons + result + 1 }
+    ensures most { work.new.comparisons + known ≤ work.old.comparisons + result + 1 }
+    ensures least { work.old.comparisons + result ≤ work.new.comparisons + known }
 {
     let mut more = known;
     'searching: while more < entries.len() {
@@ -52,7 +53,8 @@ pub(crate) fn search_from(
         → Counts clock.now (entry_at entries.now result).acquire → ⊥ }
     ensures within { result ≤ length entries.now }
     ensures joins { work.new.joins ≡ work.old.joins }
-    ensures comparisons { work.new.comparisons + known ≤ work.old.comparisons + result + 1 }
+    ensures most { work.new.comparisons + known ≤ work.old.comparisons + result + 1 }
+    ensures least { work.old.comparisons + result ≤ work.new.comparisons + known }
 {
     if known > 0 {
         return search(entries, known, clock, work);

@@ -1,5 +1,6 @@
 pub mod Counts
 pub mod Marks
+pub mod Released
 pub mod Releases
 pub mod Rows
 pub mod Work

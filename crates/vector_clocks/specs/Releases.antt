@@ -1,17 +1,8 @@
 -- Clocks of releases, of which the numbers from just before are kept.
 use Rattle.std.specs.Prelude.{ℕ, ◌≡◌, ◌+◌, ◌-◌, ◌<◌, ◌≤◌, List, ◌++◌, length, slice_set}
 use Rattle.std.proofs.Math.ListN.{take, drop}
-use Rattle.event_core.specs.Rows.{bump, with_row}
+use Rattle.event_core.specs.Rows.{with_row}
 use Rattle.vector_clocks.specs.Counts.{counts_of}
-
--- the thread of a release, and the numbers from just before it, beyond which each is 0
-pub record Release : Type 0 where
-  pub by : ℕ
-  pub before : List ℕ
-
--- its clock: the release is one more event of its thread
-abbrev pub clock_of : Release → ℕ → ℕ
-clock_of r = bump r.by (counts_of r.before)
 
 -- the clock just before a release by the thread
 abbrev pub before : ℕ → (ℕ → ℕ) → ℕ → ℕ

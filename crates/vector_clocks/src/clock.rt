@@ -5,7 +5,7 @@
 ghost use Rattle.std.specs.Prelude.{◌≡◌, ◌+◌, ◌<◌, ◌≤◌, ◌^◌, [], length, max, replicate, slice_set, IfOk};
 ghost use Rattle.event_core.specs.Rows.{join, with_row};
 ghost use Rattle.vector_clocks.specs.Counts.{counts_of, IsUnusedFrom};
-ghost use Rattle.vector_clocks.specs.Releases.{clock_of};
+ghost use Rattle.vector_clocks.specs.Released.{before_of, clock_of};
 
 use crate::release::ReleaseClock;
 use crate::work::Work;
@@ -71,7 +71,7 @@ impl Clock {
 
     /// Takes the greater number of each thread from the clock of a release. It is one join.
     pub fn join_release(&mut self, release: &ReleaseClock<'_>, work: &mut Work)
-        requires within { length release.now.before ≤ length self.old }
+        requires within { length (before_of release.now) ≤ length self.old }
         requires few { work.old.joins < 2 ^ 63 }
         ensures width { length self.new ≡ length self.old }
         ensures greater { counts_of self.new ≡ join (counts_of self.old) (clock_of release.now) }

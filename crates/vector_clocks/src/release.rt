@@ -3,7 +3,8 @@
 //! A clock is kept whole, as far as it is in use, and what is lent is one of them. So who joins the clock of
 //! a release joins one that stood. Each number is that from just before the release, which is one more event
 //! of its own thread: so all fit in 32 bits, since a log has at most 2^32 events.
-ghost use Rattle.std.specs.Prelude.{◌≡◌, ◌≤◌, length};
+ghost use Rattle.std.specs.Prelude.{◌≡◌, ◌<◌, length};
+ghost use Rattle.vector_clocks.specs.Counts.{counts_of};
 
 use crate::before::{number_before, push_before};
 use crate::clock::Clock;
@@ -49,29 +50,19 @@ impl Model for ReleasePlace {
 ///
 /// The thread's own number stands beside the others too: who asks whether the release is counted needs no
 /// other, and the others lie elsewhere in memory.
-#[derive(Drop)]
+#[derive(Clone, Copy)]
 pub struct ReleaseClock<'a> {
     by: ThreadId,
     own: u32,
     before: &'a [u32],
-}
-
-impl<'a> Model for ReleaseClock<'a> {
-    ghost use Rattle.std.specs.Prelude.{◌≡◌, ◌<◌, length};
-    ghost use Rattle.vector_clocks.specs.Counts.{counts_of};
-    ghost use Rattle.vector_clocks.specs.Releases.{Release};
-
-    ghost Value = { Release };
-
-    ghost view = { λ r. record { by = r.by.0; before = r.before.now } };
-
-    ghost invariant = { λ r.
-        (r.by.0 < length r.before.now) × (r.own ≡ counts_of r.before.now r.by.0) };
+    ghost marked: { by.0 < length before.now },
+    ghost own_number: { own ≡ counts_of before.now by.0 },
 }
 
 impl ReleaseClocks {
     ghost use Rattle.std.specs.Prelude.{◌≡◌, ℕ, ◌+◌, ◌*◌, ◌<◌, ◌≤◌, ◌^◌, ◌↔◌, [], length, OnOk, IsTrue};
     ghost use Rattle.vector_clocks.specs.Counts.{counts_of};
+    ghost use Rattle.vector_clocks.specs.Released.{thread_of, before_of};
     ghost use Rattle.vector_clocks.specs.Releases.{before, numbers_at, IsReadable, IsAdded};
 
     /// None are kept. It takes no memory.
@@ -133,8 +124,8 @@ impl ReleaseClocks {
     pub fn at(&self, by: ThreadId, place: &ReleasePlace) -> ReleaseClock<'_>
         requires readable { IsReadable self.now.numbers by.0 place.now }
         requires marked { by.0 < place.now.width }
-        ensures by { result.by ≡ by.0 }
-        ensures before { result.before ≡ numbers_at self.now.numbers place.now }
+        ensures by { thread_of result ≡ by }
+        ensures before { before_of result ≡ numbers_at self.now.numbers place.now }
     {
         let numbers = &self.numbers;
         let end = place.start + place.width as usize;
@@ -149,26 +140,26 @@ impl ReleaseClocks {
 impl<'a> ReleaseClock<'a> {
     ghost use Rattle.std.specs.Prelude.{◌≡◌, ◌<◌, ◌≤◌, ◌↔◌, length, IsTrue};
     ghost use Rattle.vector_clocks.specs.Counts.{counts_of};
-    ghost use Rattle.vector_clocks.specs.Releases.{clock_of};
+    ghost use Rattle.vector_clocks.specs.Released.{thread_of, before_of, clock_of};
 
     /// The thread whose release it is.
     pub fn by(&self) -> ThreadId
-        ensures thread { result.0 ≡ self.now.by }
-        ensures within { result.0 < length self.now.before }
+        ensures thread { result ≡ thread_of self.now }
+        ensures within { result.0 < length (before_of self.now) }
     {
         self.by
     }
 
     /// How many events of its thread happened before it.
     pub fn own(&self) -> u32
-        ensures { result ≡ counts_of self.now.before self.now.by }
+        ensures { result ≡ counts_of (before_of self.now) (thread_of self.now).0 }
     {
         self.own
     }
 
     /// Of each thread how many events happened before it, from thread 0 on. Beyond them each number is 0.
     pub fn counts_before(&self) -> &[u32]
-        ensures { result.now ≡ self.now.before }
+        ensures { result.now ≡ before_of self.now }
     {
         self.before
     }
@@ -176,8 +167,9 @@ impl<'a> ReleaseClock<'a> {
     /// Whether the clock counts the release.
     #[inline(always)]
     pub fn counted(&self, clock: &Clock) -> bool
-        requires { length self.now.before ≤ length clock.now }
-        ensures { IsTrue result ↔ (clock_of self.now self.now.by ≤ counts_of clock.now self.now.by) }
+        requires { length (before_of self.now) ≤ length clock.now }
+        ensures { IsTrue result ↔ (clock_of self.now (thread_of self.now).0
+            ≤ counts_of clock.now (thread_of self.now).0) }
     {
         self.own as u64 + 1 <= clock.at(self.by)
     }

@@ -2,7 +2,7 @@
 ghost use Rattle.std.specs.Prelude.{◌≡◌, ◌≢◌, ℕ, ◌+◌, ◌<◌, ◌^◌, ◌≤◌, ◌↔◌, length, replicate, OnOk, IsTrue};
 ghost use Rattle.event_core.specs.Rows.{join, bump, with_row};
 ghost use Rattle.vector_clocks.specs.Counts.{counts_of};
-ghost use Rattle.vector_clocks.specs.Releases.{clock_of};
+ghost use Rattle.vector_clocks.specs.Released.{before_of, clock_of};
 ghost use Rattle.vector_clocks.specs.Rows.{rows_of, widths_of, IsMade, AreWide};
 
 use crate::clock::Clock;
@@ -27,7 +27,7 @@ pub fn join_row(rows: &mut [Clock], at: usize, other: &Clock, work: &mut Work)
 /// The row takes the greater numbers of the clock of a release, counted as one join.
 pub fn join_row_release(rows: &mut [Clock], at: usize, release: &ReleaseClock<'_>, work: &mut Work)
     requires room { at < length rows.old }
-    requires within { length release.now.before ≤ widths_of rows.old at }
+    requires within { length (before_of release.now) ≤ widths_of rows.old at }
     requires few { work.old.joins < 2 ^ 63 }
     ensures rows { rows_of rows.new
         ≡ with_row at (join (rows_of rows.old at) (clock_of release.now)) (rows_of rows.old) }

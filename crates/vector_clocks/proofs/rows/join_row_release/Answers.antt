@@ -2,7 +2,7 @@ use Rattle.std.proofs.Common.{ap, ◌∙◌, [], List, ℕ}
 use Rattle.std.proofs.lemmas.List.{get_or_default}
 use Rattle.event_core.specs.Rows.{join, with_row}
 use Rattle.vector_clocks.specs.Counts.{counts_of}
-use Rattle.vector_clocks.specs.Releases.{clock_of}
+use Rattle.vector_clocks.specs.Released.{clock_of}
 use Rattle.vector_clocks.specs.Rows.{rows_of}
 use Rattle.vector_clocks.proofs.RowLaws.{rows_set}
 use Rattle.vector_clocks.proofs.rows.join_row_release.Goals as goal

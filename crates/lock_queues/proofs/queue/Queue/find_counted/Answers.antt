@@ -51,11 +51,20 @@ returns-clause-found c =
     ∙ ap (λ (k : Kept). with_row c.args.thread.0 c.search_from-more.result (slice_index k.found))
     c.self.view_is
 
-pub returns-clause-comparisons : goal.returns-clause-comparisons
-returns-clause-comparisons c =
+pub returns-clause-most : goal.returns-clause-most
+returns-clause-most c =
     let same = ap (λ (k : Kept). has_room_in k.rooms c.args.thread.0) c.self.view_is in
     let lt = thread_within c.args.thread.0 c.self.invariant (same ∙ c.requires.room) in
     let here = get_or_read c.self.inside.found.items c.args.thread.0 _ lt c.index.ensures 0 in
     let is = ap (λ (k : Kept). slice_index k.found c.args.thread.0) c.self.view_is in
-    let work = c.search_from-more.ensures.comparisons in
+    let work = c.search_from-more.ensures.most in
+    omega arith
+
+pub returns-clause-least : goal.returns-clause-least
+returns-clause-least c =
+    let same = ap (λ (k : Kept). has_room_in k.rooms c.args.thread.0) c.self.view_is in
+    let lt = thread_within c.args.thread.0 c.self.invariant (same ∙ c.requires.room) in
+    let here = get_or_read c.self.inside.found.items c.args.thread.0 _ lt c.index.ensures 0 in
+    let is = ap (λ (k : Kept). slice_index k.found c.args.thread.0) c.self.view_is in
+    let work = c.search_from-more.ensures.least in
     omega arith

@@ -1,4 +1,4 @@
-use Rattle.std.proofs.Common.{◌≡◌, ℕ, ◌<◌, ◌-◌, ◌++◌, ◌∷◌, [], ap, sym, subst, ◌∙◌, arith, List, length}
+use Rattle.std.proofs.Common.{◌≡◌, ℕ, ◌++◌, ◌∷◌, [], ap, sym, subst, ◌∙◌, arith, List}
 use Rattle.std.proofs.Common.{false, vec_capacity}
 use Rattle.std.proofs.Common.{Option}
 use Rattle.std.specs.List.{remove}

@@ -110,5 +110,21 @@ returns-clause-comparisons c =
     = number_found _ _ _ _ _ are c.find_counted.ensures.within c.find_counted.ensures.counted c.find_counted.ensures.stopped in
     let found = ap (λ (q : Kept). slice_index q.found t) read.is
     ∙ ap (λ (v : Tables). found_of v l t) c.self.view_is in
-    let work = c.find_counted.ensures.comparisons in
+    let work = c.find_counted.ensures.most in
+    omega arith
+
+pub returns-clause-no_fewer : goal.returns-clause-no_fewer
+returns-clause-no_fewer c =
+    let t = c.args.thread.0 in
+    let l = c.args.lock.0 in
+    let clock = c.args.clock.now in
+    let entered = subst (λ (v : Tables). 0 < opened_of v t l) (sym c.self.view_is) c.requires.entered in
+    let qs = c.self.inside.queues.items in
+    let read = read_entered qs t l c.index_mut-queue.result.now entered c.index_mut-queue.ensures.value in
+    let are = are_of _ _ qs _ l clock _ c.self.view_is c.self.invariant read.is c.requires.earlier in
+    let number
+    = number_found _ _ _ _ _ are c.find_counted.ensures.within c.find_counted.ensures.counted c.find_counted.ensures.stopped in
+    let found = ap (λ (q : Kept). slice_index q.found t) read.is
+    ∙ ap (λ (v : Tables). found_of v l t) c.self.view_is in
+    let work = c.find_counted.ensures.least in
     omega arith

@@ -5,7 +5,8 @@ use Rattle.event_core.specs.Closed.{Closed, number_counted, below_closed}
 use Rattle.event_core.specs.Rows.{with_row, no_clock}
 use Rattle.event_core.proofs.Growing.{row_same}
 use Rattle.vector_clocks.specs.Counts.{counts_of}
-use Rattle.vector_clocks.specs.Releases.{Release, clock_of}
+use Rattle.vector_clocks.specs.declared.release.ReleaseClock.{ReleaseClock}
+use Rattle.vector_clocks.specs.Released.{thread_of, before_of, clock_of}
 use Rattle.lock_queues.specs.Sections.{closed_at, latest_counted}
 use Rattle.lock_queues.specs.Searched.{IsSection}
 use Rattle.lock_queues.specs.Queues.{Tables, closed_of, found_of}
@@ -36,10 +37,10 @@ returns c =
     let closed : closed_of new l ≡ qs
     = ap (λ (f : ℕ → List Closed). f l) c.find_counted.ensures.found.closed in
     let wide : new.limits.threads ≡ threads = ap (λ b. b.threads) c.find_counted.ensures.found.limits in
-    let Reads : ℕ → List Closed → ℕ → Release → Type 0
+    let Reads : ℕ → List Closed → ℕ → ReleaseClock → Type 0
     = λ k xs w r. (0 < k) × IsSection r w (closed_at xs (k - 1)) in
-    let Told : Release → Closed → Type 0
-    = λ r q. (q.thread ≡ r.by) × (q.release ≡ clock_of r) in
+    let Told : ReleaseClock → Closed → Type 0
+    = λ r q. (q.thread ≡ (thread_of r).0) × (q.release ≡ clock_of r) in
     let known : MatchOption c.latest.result (n ≡ 0) (Reads n qs threads)
     = subst (λ (w : ℕ). MatchOption c.latest.result (n ≡ 0) (Reads n qs w)) wide
     (subst (λ (xs : List Closed). MatchOption c.latest.result (n ≡ 0) (Reads n xs new.limits.threads))
@@ -68,13 +69,14 @@ returns c =
             (λ r h. h.1.release ∙ sym (before.below h.0)) known;
         in_log = λ limits log w st. match_option c.latest.result (latest_counted clock qs ≡ None)
             (CountsNone log c.args.lock clock) (λ r. IsSomeAnd (latest_counted clock qs) (Told r))
-            (λ r. IsLatest log c.args.lock clock (record { 0 = r.by }) (clock_of r))
+            (λ r. IsLatest log c.args.lock clock (thread_of r) (clock_of r))
             (λ none. none_in_log limits log old c.args.lock clock w st none)
-            (λ r told. told_in_log limits log old c.args.lock clock (record { 0 = r.by }) (clock_of r) w st
+            (λ r told. told_in_log limits log old c.args.lock clock (thread_of r) (clock_of r) w st
             told) latest;
-        width = if_some c.latest.result (n ≡ 0) (Reads n qs threads) (λ r. length r.before ≤ threads)
+        width = if_some c.latest.result (n ≡ 0) (Reads n qs threads) (λ r. length (before_of r) ≤ threads)
             (λ r h. h.1.within) known;
         comparisons = c.find_counted.ensures.comparisons;
+        no_fewer = c.find_counted.ensures.no_fewer;
         joins = c.find_counted.ensures.joins;
         after = tt;
       },

@@ -1,4 +1,4 @@
-use Rattle.std.proofs.Common.{ℕ, ◌-◌, List, ap, sym, subst, ◌∙◌}
+use Rattle.std.proofs.Common.{◌-◌, ap, sym, subst, ◌∙◌}
 use Rattle.event_core.specs.Closed.{Closed}
 use Rattle.lock_queues.specs.Sections.{AreReadable}
 use Rattle.lock_queues.specs.Queue.{Kept}
