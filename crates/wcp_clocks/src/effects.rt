@@ -248,8 +248,8 @@ fn take_closed(
 {
     let latest = queues.last_below(thread, lock, rows.strict(thread), work);
     if let Some(section) = latest {
-        if !rows.counts(thread, section.by, section.own) {
-            rows.take_release(thread, section.by, section.before, work);
+        if !rows.counts(thread, &section) {
+            rows.take_release(thread, &section, work);
         }
     }
 }

@@ -46,8 +46,8 @@ fn take_under(
 {
     for number in sums.sources(thread, lock, var, kind) {
         let section = queues.section(lock, number);
-        if !rows.counts(thread, section.by, section.own) {
-            rows.take_release(thread, section.by, section.before, work);
+        if !rows.counts(thread, &section) {
+            rows.take_release(thread, &section, work);
         }
     }
 }

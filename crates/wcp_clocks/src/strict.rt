@@ -1,8 +1,9 @@
 //! The clocks of the strict relation: a row for each thread and each lock.
 ghost use Rattle.std.specs.Prelude.{◌≡◌, ◌≢◌, ℕ, ◌+◌, ◌*◌, ◌<◌, ◌≤◌, ◌^◌, ◌↔◌, length, IfOk, OnOk, IsTrue};
 ghost use Rattle.std.specs.Prelude.{nat_le};
-ghost use Rattle.event_core.specs.Rows.{join, bump, with_row, no_rows};
+ghost use Rattle.event_core.specs.Rows.{join, with_row, no_rows};
 ghost use Rattle.vector_clocks.specs.Counts.{counts_of};
+ghost use Rattle.vector_clocks.specs.Released.{thread_of, before_of, clock_of};
 ghost use Rattle.vector_clocks.specs.Rows.{row_at};
 ghost use Rattle.wcp_clocks.specs.StrictRows.{strict_of, HasThread, HasLock, KeepsRoom, SameRoom};
 ghost use Rattle.wcp_clocks.specs.StrictRows.{SameClocks};
@@ -13,7 +14,7 @@ use std::marker::Model;
 use vector_clocks::rows::{
     copy_row, copy_rows, is_made, join_row, join_row_release, join_rows, make_row, row_or,
 };
-use vector_clocks::{Clock, Work};
+use vector_clocks::{Clock, ReleaseClock, Work};
 
 /// The clocks of the strict relation. Only `new` and the calls that make room take memory.
 #[derive(Drop)]
@@ -107,35 +108,33 @@ impl StrictRows {
         row_or(&self.threads, thread.0 as usize, &self.zeros)
     }
 
-    // Whether the thread's strict clock counts the release by the other thread, which had so many events
-    // before it.
-    pub(crate) fn counts(&self, thread: ThreadId, by: ThreadId, own: u32) -> bool
-        requires within { by.0 < self.now.width }
-        ensures { result ≡ nat_le (own + 1) ((strict_of self.now).thread thread.0 by.0) }
+    // Whether the thread's strict clock counts the release.
+    pub(crate) fn counts(&self, thread: ThreadId, release: &ReleaseClock<'_>) -> bool
+        requires within { length (before_of release.now) ≤ self.now.width }
+        ensures { result ≡ nat_le (clock_of release.now (thread_of release.now).0)
+            ((strict_of self.now).thread thread.0 (thread_of release.now).0) }
     {
-        own as u64 + 1 <= self.strict(thread).at(by)
+        release.counted(self.strict(thread))
     }
 
     // The thread's strict clock takes the greater numbers of the release, and counts it. It is one join.
     pub(crate) fn take_release(
         &mut self,
         thread: ThreadId,
-        by: ThreadId,
-        before: &[u32],
+        release: &ReleaseClock<'_>,
         work: &mut Work,
     )
         requires room { HasThread self.old thread.0 }
-        requires own { by.0 < length before.now }
-        requires within { length before.now ≤ self.old.width }
+        requires within { length (before_of release.now) ≤ self.old.width }
         requires few { work.old.joins < 2 ^ 63 }
         ensures threads { (strict_of self.new).thread ≡ with_row thread.0
-            (join ((strict_of self.old).thread thread.0) (bump by.0 (counts_of before.now)))
+            (join ((strict_of self.old).thread thread.0) (clock_of release.now))
             (strict_of self.old).thread }
         ensures locks { (strict_of self.new).lock ≡ (strict_of self.old).lock }
         ensures kept { SameRoom self.old self.new }
         ensures work { work.new ≡ record work.old { joins = work.old.joins + 1 } }
     {
-        join_row_release(&mut self.threads, thread.0 as usize, by, before, work);
+        join_row_release(&mut self.threads, thread.0 as usize, release, work);
     }
 
     // The thread's strict clock takes the greater numbers of the lock's. It is one join.

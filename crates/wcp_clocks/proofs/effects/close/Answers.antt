@@ -8,7 +8,7 @@ use Rattle.vector_clocks.specs.Counts.{counts_of}
 use Rattle.vector_clocks.specs.Work.{Done}
 use Rattle.event_core.specs.declared.events.AccessKind.{AccessKind}
 use Rattle.lock_queues.specs.Queues.{closed_of, opened_of, found_of}
-use Rattle.lock_queues.specs.Sections.{before}
+use Rattle.vector_clocks.specs.Releases.{before}
 use Rattle.wcp_clocks.specs.Met.{met_clocks}
 use Rattle.wcp_laws.specs.Step.{hb_row}
 use Rattle.wcp_clocks.specs.Parts.{hb_of, state_of}

@@ -1,14 +1,13 @@
-use Rattle.std.proofs.Common.{◌≡◌, ◌+◌, ◌<◌, ◌≤◌, ℕ, List, sym, ap, subst, ◌∙◌}
+use Rattle.std.proofs.Common.{◌≡◌, ◌<◌, ◌≤◌, ℕ, List, sym, ap, subst, ◌∙◌}
 use Rattle.std.proofs.Common.{arith}
 use Rattle.std.proofs.lemmas.Bool.{leb-true}
 use Rattle.std.proofs.lemmas.List.Elements.{All-head}
 use Rattle.event_core.specs.declared.events.AccessKind.{AccessKind}
 use Rattle.event_core.specs.declared.events.AccessKind.TheVariants.{Read, Write}
 use Rattle.event_core.specs.Closed.{Closed}
-use Rattle.event_core.specs.Rows.{bump, join, with_row}
-use Rattle.vector_clocks.specs.Counts.{counts_of}
+use Rattle.event_core.specs.Rows.{join, with_row}
+use Rattle.vector_clocks.specs.Released.{thread_of, clock_of}
 use Rattle.vector_clocks.specs.Rows.{rows_of}
-use Rattle.vector_clocks.proofs.Releases.{bump_same}
 use Rattle.lock_queues.specs.Queues.{closed_of}
 use Rattle.section_sum.specs.declared.sources.Sources.{Sources}
 use Rattle.section_sum.specs.Sources.{left, most_sources}
@@ -50,8 +49,7 @@ loop-number-preserved-then-not-counts c =
     let here = subst (λ ns. IsTaking sums closed l x t source c.args.rows.now now c.args.work.now
     c.loop-number.work ns) c.in-Some.ensures.steps c.loop-number.invariant in
     let some : 0 < n = (All-head (IsMet sums l x t) n rest here.met).some in
-    let clock : bump c.section-section.result.by.0 (counts_of c.section-section.result.before.now)
-    ≡ release_at (closed l) n
+    let clock : clock_of c.section-section.result ≡ release_at (closed l) n
     = c.section-section.ensures.release ∙ release_is (closed l) n some in
     taking_on sums closed l x t source c.args.rows.now now c.take_release.new.self c.args.work.now
     c.loop-number.work c.take_release.new.work n rest c.requires.releases here
@@ -72,19 +70,13 @@ loop-number-preserved c =
     let here = subst (λ ns. IsTaking sums closed l x t source c.args.rows.now now c.args.work.now
     c.loop-number.work ns) c.in-Some.ensures.steps c.loop-number.invariant in
     let some : 0 < n = (All-head (IsMet sums l x t) n rest here.met).some in
-    let by : c.section-section.result.by.0 ≡ thread_at (closed l) n
+    let by : (thread_of c.section-section.result).0 ≡ thread_at (closed l) n
     = c.section-section.ensures.by ∙ thread_is (closed l) n some in
-    let clock : bump c.section-section.result.by.0 (counts_of c.section-section.result.before.now)
-    ≡ release_at (closed l) n
+    let clock : clock_of c.section-section.result ≡ release_at (closed l) n
     = c.section-section.ensures.release ∙ release_is (closed l) n some in
-    let own : bump c.section-section.result.by.0 (counts_of c.section-section.result.before.now)
-    c.section-section.result.by.0 ≡ c.section-section.result.own + 1
-    = bump_same c.section-section.result.by.0 (counts_of c.section-section.result.before.now)
-    ∙ ap (λ n. n + 1) (sym c.section-section.ensures.own) in
     taking_past sums closed l x t source c.args.rows.now now c.args.work.now c.loop-number.work n rest
     c.requires.numbers here
     (subst (λ b. release_at (closed l) n b ≤ rows_of now.thread t b) by
-    (subst (λ (g : ℕ → ℕ). g c.section-section.result.by.0
-    ≤ rows_of now.thread t c.section-section.result.by.0) clock
-    (subst (λ n. n ≤ rows_of now.thread t c.section-section.result.by.0) (sym own)
-    (leb-true _ _ (sym c.counts.ensures ∙ c.if-not-counts.false)))))
+    (subst (λ (g : ℕ → ℕ). g (thread_of c.section-section.result).0
+    ≤ rows_of now.thread t (thread_of c.section-section.result).0) clock
+    (leb-true _ _ (sym c.counts.ensures ∙ c.if-not-counts.false))))
