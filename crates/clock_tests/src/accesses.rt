@@ -1,16 +1,16 @@
-//! Worked logs of accesses, and the verdicts on them by clocks made by hand.
+//! Worked logs of accesses, and the verdicts on them by clocks of other logs.
 //!
 //! Where a growth is refused once, the same call is made again and gives the same verdict.
-ghost use Rattle.std.specs.Prelude.{◌≡◌, ℕ, ◌≤◌, ◌↔◌, length, IfOk, IsTrue};
+ghost use Rattle.std.specs.Prelude.{◌≡◌, ℕ, ◌≤◌, ◌↔◌, length, IsTrue};
 ghost use Rattle.event_core.specs.declared.events.Op.{Op as Operation};
 ghost use Rattle.access_check.specs.Tables.{count_at, IsWithin};
 
+use crate::clocks::{Run, event};
 use access_check::Accesses;
-use event_core::{Event, Limits, LockId, Op, OutOfMemory, Roots, SiteId, ThreadId, VarId, Verdict};
-use hb_clocks::HbClocks;
+use event_core::{Event, Limits, LockId, Op, OutOfMemory, Roots, ThreadId, VarId, Verdict};
 use std::alloc::Global;
 use std::process::Abort;
-use vector_clocks::{Clock, JoinedClocks, Work};
+use vector_clocks::JoinedClocks;
 
 const T0: ThreadId = ThreadId(0);
 
@@ -149,96 +149,24 @@ impl Log {
     }
 }
 
-/// A clock of zeros, and one that counts the first events of thread 0 and no others.
-#[derive(Drop)]
-struct Counting {
-    zeros: Clock,
-    counted: Clock,
-    work: Work,
-    counts: u64,
-    ghost zeros_width: { length zeros ≡ 3 },
-    ghost counted_width: { length counted ≡ 3 },
-    ghost joins: { work.joins ≤ counts },
-    ghost short: { counts ≤ 64 },
-}
-
-// Where a growth is refused, the same call is made again.
-fn clock_of_zeros(alloc: Global) -> Result<Clock, OutOfMemory>
-    ensures { IfOk result (λ clock. length clock ≡ 3) }
-{
-    match Clock::new(alloc, 3) {
-        Ok(clock) => Ok(clock),
-        Err(OutOfMemory) => Clock::new(alloc, 3),
+// The clocks of a log of so many events of thread 0 and of no others.
+fn clocks_of(rt: &impl Abort, alloc: Global, count: u32) -> Run {
+    let mut run = Run::new(rt, alloc);
+    for _ in 0..count {
+        run.take(rt, &event(T0, Op::Load(X)));
     }
-}
-
-// What counts the work is made with clocks, which are let go.
-fn no_work_once(alloc: Global, limits: &Limits) -> Result<Work, OutOfMemory>
-    ensures { IfOk result (λ work. work.joins ≡ 0) }
-{
-    let (clocks, work) = HbClocks::new(alloc, limits)?;
-    drop(clocks);
-    Ok(work)
-}
-
-fn no_work(alloc: Global, limits: &Limits) -> Result<Work, OutOfMemory>
-    ensures { IfOk result (λ work. work.joins ≡ 0) }
-{
-    match no_work_once(alloc, limits) {
-        Ok(work) => Ok(work),
-        Err(OutOfMemory) => no_work_once(alloc, limits),
-    }
-}
-
-impl Counting {
-    fn new(rt: &impl Abort, alloc: Global, limits: &Limits) -> Counting {
-        Counting {
-            zeros: clock_of_zeros(alloc).expect(rt, "memory"),
-            counted: clock_of_zeros(alloc).expect(rt, "memory"),
-            work: no_work(alloc, limits).expect(rt, "memory"),
-            counts: 0,
-        }
-    }
-
-    // Counts the first so many events of thread 0.
-    fn count(&mut self, rt: &impl Abort, count: u32) {
-        assert!(rt; self.counts < 64);
-        self.counted.copy_from(&self.zeros);
-        if 0 < count {
-            let before = [count - 1];
-            self.counted.join_release(T0, &before, &mut self.work);
-        }
-        self.counts += 1;
-    }
-
-    fn clock(&self) -> JoinedClocks<'_>
-        ensures { length result ≡ 3 }
-    {
-        JoinedClocks::new(&self.zeros, &self.counted)
-    }
-}
-
-fn event(thread: ThreadId, op: Op) -> Event
-    ensures thread { result.thread ≡ thread }
-    ensures op { result.op ≡ op }
-{
-    Event {
-        thread,
-        op,
-        site: SiteId(0),
-        value: 0,
-    }
+    run
 }
 
 fn expect_verdicts(rt: &impl Abort, alloc: Global, rows: &[Judged]) {
     let mut log = Log::new(rt, alloc);
-    let mut counting = Counting::new(rt, alloc, &log.limits);
     for (thread, op, count, wanted) in rows {
-        counting.count(rt, *count);
-        let verdict = log.step(rt, &event(*thread, *op), &counting.clock());
+        let run = clocks_of(rt, alloc, *count);
+        let clock = JoinedClocks::new(run.clocks.po(T0), run.clocks.po(T1));
+        let verdict = log.step(rt, &event(*thread, *op), &clock);
         assert!(rt; verdict == *wanted, "event {}", log.length);
+        drop(run);
     }
-    drop(counting);
     drop(log);
 }
 

@@ -11,7 +11,7 @@ use event_core::{Event, Limits, LockId, Op, OutOfMemory, Roots, SiteId, ThreadId
 use hb_clocks::HbClocks;
 use std::alloc::Global;
 use std::process::Abort;
-use vector_clocks::{Clock, JoinedClocks, Mark, Work};
+use vector_clocks::{Clock, JoinedClocks, Mark, ReleaseClock, Work};
 
 const T0: ThreadId = ThreadId(0);
 
@@ -51,8 +51,6 @@ enum Row {
     Copy(ThreadId),
     /// It takes the greater numbers of the thread's clock of happens-before.
     Join(ThreadId),
-    /// It takes the numbers of a release by the thread, just before which they are these.
-    JoinRelease(ThreadId, &'static [u32]),
     /// Its numbers.
     Clock([u64; 3]),
     /// The numbers of the threads' clocks of program order, read as one.
@@ -147,16 +145,6 @@ const READ_AS_ONE: &[Row] = &[
     Row::Take(T0, Op::Store(Y)),
     Row::Take(T2, Op::Store(X)),
     Row::Joined(T0, T2, [2, 0, 1]),
-];
-
-const RELEASES: &[Row] = &[
-    Row::Take(T0, Op::Store(X)),
-    Row::Take(T0, Op::Store(Y)),
-    Row::Copy(T0),
-    Row::JoinRelease(T1, &[1, 4]),
-    Row::Clock([2, 5, 0]),
-    Row::JoinRelease(T1, &[3, 2, 6]),
-    Row::Clock([3, 5, 6]),
 ];
 
 /// The clocks of three threads, and one beside them. A call takes an event, compares a mark or joins a clock.
@@ -298,7 +286,8 @@ impl Run {
         assert_eq!(rt; [by_po, by_hb], *wanted);
     }
 
-    fn copy(&mut self, thread: ThreadId) {
+    // The clock beside the others takes the numbers of the thread's clock of program order.
+    pub fn copy(&mut self, thread: ThreadId) {
         self.beside.copy_from(self.clocks.po(thread));
     }
 
@@ -308,11 +297,16 @@ impl Run {
         self.calls += 1;
     }
 
-    fn join_release(&mut self, rt: &impl Abort, by: ThreadId, before: &[u32]) {
+    // It takes the greater numbers of the release.
+    pub fn join_release(&mut self, rt: &impl Abort, release: &ReleaseClock) {
         assert!(rt; self.calls < 100);
-        assert!(rt; (by.0 as usize) < before.len() && before.len() <= 3);
-        self.beside.join_release(by, before, &mut self.work);
+        assert!(rt; release.counts_before().len() <= 3);
+        self.beside.join_release(release, &mut self.work);
         self.calls += 1;
+    }
+
+    pub fn expect_beside(&self, rt: &impl Abort, wanted: &[u64; 3]) {
+        expect_numbers(rt, &self.beside, wanted);
     }
 
     fn expect_joined(&self, rt: &impl Abort, first: ThreadId, second: ThreadId, wanted: &[u64; 3]) {
@@ -342,8 +336,7 @@ impl Run {
             Row::Counts(thread, wanted) => self.expect_counts(rt, *thread, wanted),
             Row::Copy(thread) => self.copy(*thread),
             Row::Join(thread) => self.join(rt, *thread),
-            Row::JoinRelease(by, before) => self.join_release(rt, *by, before),
-            Row::Clock(wanted) => expect_numbers(rt, &self.beside, wanted),
+            Row::Clock(wanted) => self.expect_beside(rt, wanted),
             Row::Joined(first, second, wanted) => self.expect_joined(rt, *first, *second, wanted),
         }
     }
@@ -385,11 +378,6 @@ fn clocks_take_the_greater_numbers(rt: HostRuntime) {
 #[test]
 fn two_clocks_are_read_as_their_join(rt: HostRuntime) {
     follow_all(&rt, rt.alloc(), READ_AS_ONE);
-}
-
-#[test]
-fn a_release_is_one_more_than_the_numbers_before_it(rt: HostRuntime) {
-    follow_all(&rt, rt.alloc(), RELEASES);
 }
 
 #[test]

@@ -40,6 +40,12 @@ enum Row {
     /// What a release of the thread finds on the lock, by the clock of another thread: the section's thread,
     /// and how many events of that thread there were before its release.
     Finds(ThreadId, LockId, ThreadId, Option<(ThreadId, u32)>),
+    /// A clock takes the numbers of the thread.
+    Copy(ThreadId),
+    /// It takes the greater numbers of the release of the lock's closed section of the number.
+    JoinRelease(LockId, u32),
+    /// Its numbers.
+    Clock([u64; 3]),
 }
 
 const ROOM: &[Row] = &[
@@ -76,6 +82,25 @@ const ONE_SECTION: &[Row] = &[
     Row::Close(T1, L),
     Row::Count(L, 1),
     Row::Section(L, 1, T1, 0, &[0, 0]),
+];
+
+const RELEASES: &[Row] = &[
+    Row::Take(T0),
+    Row::Take(T0),
+    Row::Take(T1),
+    Row::Take(T1),
+    Row::Take(T1),
+    Row::Close(T1, L),
+    Row::Section(L, 1, T1, 2, &[0, 2]),
+    Row::Copy(T0),
+    Row::Clock([2, 0, 0]),
+    Row::JoinRelease(L, 1),
+    Row::Clock([2, 3, 0]),
+    Row::Close(T0, M),
+    Row::Section(M, 1, T0, 1, &[1]),
+    Row::Copy(T1),
+    Row::JoinRelease(M, 1),
+    Row::Clock([2, 3, 0]),
 ];
 
 /// The sections of three threads on two locks, and the clocks of those threads.
@@ -158,7 +183,7 @@ fn find(
     assert!(rt; queues.has_room(thread, lock));
     queues.enter(thread, lock, mark);
     let below = queues.last_below(thread, lock, clock, work)?;
-    Some((below.by, below.own))
+    Some((below.by(), below.own()))
 }
 
 impl Sections {
@@ -194,8 +219,15 @@ impl Sections {
         assert!(rt; 0 < number);
         assert!(rt; number <= self.queues.count(lock));
         let section = self.queues.section(lock, number);
-        assert_eq!(rt; (section.by, section.own), (wanted.0, wanted.1));
-        assert_eq!(rt; section.before, wanted.2);
+        assert_eq!(rt; (section.by(), section.own()), (wanted.0, wanted.1));
+        assert_eq!(rt; section.counts_before(), wanted.2);
+    }
+
+    fn join_release(&mut self, rt: &impl Abort, lock: LockId, number: u32) {
+        assert!(rt; 0 < number);
+        assert!(rt; number <= self.queues.count(lock));
+        self.run
+            .join_release(rt, &self.queues.section(lock, number));
     }
 
     fn expect_found(
@@ -242,6 +274,9 @@ impl Sections {
             Row::Finds(thread, lock, other, wanted) => {
                 self.expect_found(rt, *thread, *lock, *other, wanted);
             }
+            Row::Copy(thread) => self.run.copy(*thread),
+            Row::JoinRelease(lock, number) => self.join_release(rt, *lock, *number),
+            Row::Clock(wanted) => self.run.expect_beside(rt, wanted),
         }
     }
 }
@@ -252,6 +287,11 @@ fn follow_all(rt: &impl Abort, alloc: Global, rows: &[Row]) {
         sections.follow(rt, row);
     }
     drop(sections);
+}
+
+#[test]
+fn a_release_is_one_more_than_the_numbers_before_it(rt: HostRuntime) {
+    follow_all(&rt, rt.alloc(), RELEASES);
 }
 
 #[test]
