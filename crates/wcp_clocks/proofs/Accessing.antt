@@ -23,7 +23,7 @@ use Rattle.wcp_clocks.specs.HeldLists.{list_at, numbers_of, held_of}
 use Rattle.wcp_clocks.specs.StrictRows.{StrictTables, strict_of, SameRoom}
 use Rattle.wcp_clocks.specs.Parts.{hb_of, state_of, Fits, HasNamed, KeepsReady}
 use Rattle.wcp_clocks.specs.Stepping.{IsStepBy, strict_clock}
-use Rattle.wcp_clocks.specs.Met.{met_clocks, met_under, AreNumbers}
+use Rattle.wcp_clocks.specs.Met.{met_clocks, met_under, joins_under, AreNumbers}
 use Rattle.wcp_clocks.proofs.EffectWords.{same_sources, same_noted, same_clocks, same_numbers}
 
 module _ (e : Event) (x : VarId) (k : AccessKind) (old : Parts) (told : effect e (state_of old) ≡ Accesses x k)
@@ -55,7 +55,10 @@ module _ (e : Event) (x : VarId) (k : AccessKind) (old : Parts) (told : effect e
       (numbers_of locks)))
       (strict_of old.rows).thread
       → (strict_of taken).lock ≡ (strict_of old.rows).lock → SameRoom old.rows taken
-      → joined.joins ≤ old.work.joins + 2 * length locks → joined.comparisons ≡ old.work.comparisons
+      → joined.joins ≤ old.work.joins + 2 * length locks
+      → joined.joins ≡ old.work.joins + joins_under old.sums (closed_of old.queues) x.0 k t
+      ((strict_of old.rows).thread t) (numbers_of locks)
+      → joined.comparisons ≡ old.work.comparisons
       → ((v l y : ℕ) (j : AccessKind) → noted_of sums v l y j
       ≡ (noted_of old.sums v l y j || is_access t locks x.0 k v l y j))
       → SameOthers old.sums sums → AreNumbers old.sums (closed_of old.queues)
@@ -64,7 +67,7 @@ module _ (e : Event) (x : VarId) (k : AccessKind) (old : Parts) (told : effect e
       → work ≡ more_joins (hb.joins_of (hb.effect e (hb_of old))) joined
       → IsStepBy e (Accesses x k) old
       (record { hb = tables; rows = taken; sums = sums; queues = old.queues; held = old.held; work = work })
-  access_step locks taken tables sums joined work of threads lock room joins comparisons noted others
+  access_step locks taken tables sums joined work of threads lock room joins made comparisons noted others
       numbers exact width order done =
       record {
         hb = exact;
@@ -86,7 +89,13 @@ module _ (e : Event) (x : VarId) (k : AccessKind) (old : Parts) (told : effect e
             length-map (list_at old.held t).locks (λ (l : LockId). l.0)
             ∙ ap (λ (ls : List LockId). length ls) (sym of) in
             omega arith);
+        joins_exact = (let w : work.joins ≡ joined.joins + 0 = ap (λ (d : Done). d.joins) done
+            ∙ ap (λ k. joined.joins + hb.joins_of k) told in
+            let n = ap (λ (ls : List LockId). joins_under old.sums (closed_of old.queues) x.0 k t
+            ((strict_of old.rows).thread t) (numbers_of ls)) of in
+            omega arith);
         comparisons = ap (λ (d : Done). d.comparisons) done ∙ comparisons;
+        no_fewer = tt;
         room = room;
         limits = record { width = width; limits = refl };
       }

@@ -17,7 +17,7 @@ use Rattle.wcp_clocks.specs.declared.parts.Parts.{Parts}
 use Rattle.wcp_clocks.specs.HeldLists.{held_of}
 use Rattle.wcp_clocks.specs.StrictRows.{strict_of, HasThread, HasLock}
 use Rattle.wcp_clocks.specs.Parts.{hb_of, state_of, found_in, AreParts, IsReady, HasNamed, most_joins}
-use Rattle.wcp_clocks.specs.Parts.{FewComparisons, Fits, IsAccess, KeepsReady}
+use Rattle.wcp_clocks.specs.Parts.{joins_at, FewComparisons, NoFewer, Fits, IsAccess, KeepsReady}
 use Rattle.wcp_clocks.specs.Whole.{AreWhole}
 use Rattle.wcp_clocks.proofs.Ordered.{ordered_more, ordered_same}
 use Rattle.wcp_clocks.proofs.Wholeness.{whole_after}
@@ -123,7 +123,10 @@ module _ (e : Event) (k : Effect) (old new : Parts) (told : effect e (state_of o
     found = by.found ∙ ap (λ k. found_at e.thread k (state_of old) (found_in old)) (sym told);
     joins = subst (λ k. new.work.joins ≤ old.work.joins + most_joins k (length (held_of old.held e.thread.0)))
         (sym told) by.joins;
+    joins_exact = subst (λ k. new.work.joins ≡ old.work.joins + joins_at e.thread k old) (sym told)
+        by.joins_exact;
     comparisons = subst (λ k. FewComparisons e.thread k old new) (sym told) by.comparisons;
+    no_fewer = subst (λ k. NoFewer e.thread k old new) (sym told) by.no_fewer;
     limits = by.limits;
     parts = kept_parts parts ready fits;
     kept = kept;

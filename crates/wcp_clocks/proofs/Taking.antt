@@ -1,10 +1,10 @@
 -- A thread's strict clock takes one clock after another.
 use Rattle.std.proofs.Common.{◌≡◌, ℕ, zero, suc, ◌+◌, ◌-◌, ◌*◌, ◌<◌, ◌≤◌, List, [], ◌∷◌, ◌++◌, length}
-use Rattle.std.proofs.Common.{cond, All, max}
+use Rattle.std.proofs.Common.{cond, All, max, true, false}
 use Rattle.std.proofs.Common.{refl, sym, ap, ap₂, subst, ◌∙◌, arith}
 use Rattle.std.proofs.lemmas.List.{length_push, append-nil}
 use Rattle.std.proofs.lemmas.List.Elements.{All-head, All-tail, All-nil, All-cons, All-append}
-use Rattle.std.proofs.lemmas.Bool.{ne_eqb}
+use Rattle.std.proofs.lemmas.Bool.{ne_eqb, leb-true}
 use Rattle.event_core.specs.Rows.{join, with_row}
 use Rattle.event_core.proofs.Growing.{row_same}
 use Rattle.vector_clocks.specs.Rows.{rows_of}
@@ -16,6 +16,7 @@ use Rattle.lock_queues.specs.Sections.{closed_at}
 use Rattle.section_sum.specs.Newest.{section}
 use Rattle.section_sum.specs.Sums.{Sums, others_of, sources_of}
 use Rattle.wcp_clocks.specs.Met.{release_at, thread_at, met_clocks, met_under, joined_all}
+use Rattle.wcp_clocks.specs.Met.{counts_release, joins_for, joins_under}
 use Rattle.wcp_clocks.specs.Met.{IsMet, AreNumbers, AreWholeIn}
 use Rattle.wcp_clocks.specs.Whole.{IsWhole}
 use Rattle.wcp_clocks.proofs.Wholeness.{whole_join}
@@ -88,7 +89,7 @@ counted s closed l x t n f are whole m le i u = at i
         omega arith
 
 -- what has been taken of the source, where the rest is still to be taken
-pub record IsTaking (s : Sums) (closed : ℕ → List Closed) (l x t : ℕ) (source : ℕ → ℕ)
+pub record IsTaking (s : Sums) (closed : ℕ → List Closed) (l x t : ℕ) (source : ℕ → ℕ) (all : List ℕ)
     (old now : StrictTables) (before after : Done) (rest : List ℕ) : Type 0 where
   pub shape : rows_of now.thread ≡ with_row t (rows_of now.thread t) (rows_of old.thread)
   pub joined : (u : ℕ) → joined_all (closed l) (rows_of now.thread t) rest u
@@ -98,6 +99,8 @@ pub record IsTaking (s : Sums) (closed : ℕ → List Closed) (l x t : ℕ) (sou
   pub met : All (IsMet s l x t) rest
   pub whole : IsWhole closed (rows_of now.thread t)
   pub joins : after.joins + length rest ≤ before.joins + 2
+  pub made : after.joins + joins_for (closed l) (rows_of now.thread t) rest
+      ≡ before.joins + joins_for (closed l) (rows_of old.thread t) all
   pub comparisons : after.comparisons ≡ before.comparisons
 
 -- the sections that an access meets, joined
@@ -151,7 +154,8 @@ sources_met s l x t Write =
 pub taking_begins : (s : Sums) (closed : ℕ → List Closed) (l x t : ℕ) (k : AccessKind) (old : StrictTables)
     (before : Done) (rest : List ℕ) → rest ≡ sources_of s l x k t → length rest ≤ 2
     → IsWhole closed (rows_of old.thread t)
-    → IsTaking s closed l x t (met_under (met_clocks s closed) x k t l) old old before before rest
+    → IsTaking s closed l x t (met_under (met_clocks s closed) x k t l) (sources_of s l x k t) old old before
+    before rest
 taking_begins s closed l x t k old before rest is few whole = record {
   shape = row_kept t (rows_of old.thread);
   joined = λ u. ap (λ ns. joined_all (closed l) (rows_of old.thread t) ns u) is
@@ -161,39 +165,45 @@ taking_begins s closed l x t k old before rest is few whole = record {
   met = subst (All (IsMet s l x t)) (sym is) (sources_met s l x t k);
   whole = whole;
   joins = omega arith;
+  made = ap (λ ns. before.joins + joins_for (closed l) (rows_of old.thread t) ns) is;
   comparisons = refl;
 }
 
 -- a release that is counted brings nothing
-pub taking_past : (s : Sums) (closed : ℕ → List Closed) (l x t : ℕ) (source : ℕ → ℕ) (old now : StrictTables)
-    (before after : Done) (n : ℕ) (rest : List ℕ) → AreNumbers s closed
-    → IsTaking s closed l x t source old now before after (n ∷ rest)
-    → release_at (closed l) n (thread_at (closed l) n) ≤ rows_of now.thread t (thread_at (closed l) n)
-    → IsTaking s closed l x t source old now before after rest
-taking_past s closed l x t source old now before after n rest are is le = record {
+pub taking_past : (s : Sums) (closed : ℕ → List Closed) (l x t : ℕ) (source : ℕ → ℕ) (all : List ℕ)
+    (old now : StrictTables) (before after : Done) (n : ℕ) (rest : List ℕ) → AreNumbers s closed
+    → IsTaking s closed l x t source all old now before after (n ∷ rest)
+    → counts_release (closed l) (rows_of now.thread t) n ≡ true
+    → IsTaking s closed l x t source all old now before after rest
+taking_past s closed l x t source all old now before after n rest are is counts = record {
   shape = is.shape;
   joined = λ u. ap (λ (g : ℕ → ℕ). joined_all (closed l) g rest u)
       (counted s closed l x t n (rows_of now.thread t) are is.whole (All-head
-      (IsMet s l x t) n rest is.met) le)
+      (IsMet s l x t) n rest is.met) (leb-true _ _ counts))
       ∙ is.joined u;
   lock = is.lock;
   kept = is.kept;
   met = All-tail (IsMet s l x t) n rest is.met;
   whole = is.whole;
   joins = (let j = is.joins in omega arith);
+  made = ap (λ b. after.joins + cond b (joins_for (closed l) (rows_of now.thread t) rest)
+      (suc (joins_for (closed l) (join (rows_of now.thread t) (release_at (closed l) n)) rest))) (sym counts)
+      ∙ is.made;
   comparisons = is.comparisons;
 }
 
-pub taking_on : (s : Sums) (closed : ℕ → List Closed) (l x t : ℕ) (source : ℕ → ℕ)
+pub taking_on : (s : Sums) (closed : ℕ → List Closed) (l x t : ℕ) (source : ℕ → ℕ) (all : List ℕ)
     (old now new : StrictTables) (before after done : Done) (n : ℕ) (rest : List ℕ)
     → AreWholeIn s closed
-    → IsTaking s closed l x t source old now before after (n ∷ rest)
+    → IsTaking s closed l x t source all old now before after (n ∷ rest)
+    → counts_release (closed l) (rows_of now.thread t) n ≡ false
     → rows_of new.thread ≡ with_row t (join (rows_of now.thread t) (release_at (closed l) n))
     (rows_of now.thread)
     → rows_of new.lock ≡ rows_of now.lock → SameRoom now new
     → done ≡ record after { joins = after.joins + 1 }
-    → IsTaking s closed l x t source old new before done rest
-taking_on s closed l x t source old now new before after done n rest each is threads lock kept work =
+    → IsTaking s closed l x t source all old new before done rest
+taking_on s closed l x t source all old now new before after done n rest each is not_yet threads lock kept
+    work =
     record {
       shape = threads ∙ ap (with_row t (join (rows_of now.thread t) (release_at (closed l) n))) is.shape
           ∙ row_again t (join (rows_of now.thread t) (release_at (closed l) n)) (rows_of now.thread t)
@@ -208,6 +218,15 @@ taking_on s closed l x t source old now new before after done n rest each is thr
           (release_at (closed l) n) is.whole
           (met_whole s closed l x t n each (All-head (IsMet s l x t) n rest is.met)));
       joins = (let w = ap (λ (d : Done). d.joins) work in let j = is.joins in omega arith);
+      made = (let w = ap (λ (d : Done). d.joins) work in
+          let taken = ap (λ (g : ℕ → ℕ). joins_for (closed l) g rest) own in
+          let one : after.joins + suc (joins_for (closed l)
+          (join (rows_of now.thread t) (release_at (closed l) n)) rest)
+          ≡ before.joins + joins_for (closed l) (rows_of old.thread t) all
+          = ap (λ b. after.joins + cond b (joins_for (closed l) (rows_of now.thread t) rest)
+          (suc (joins_for (closed l) (join (rows_of now.thread t) (release_at (closed l) n)) rest)))
+          (sym not_yet) ∙ is.made in
+          omega arith);
       comparisons = ap (λ (d : Done). d.comparisons) work ∙ is.comparisons;
     }
   where
@@ -216,14 +235,16 @@ taking_on s closed l x t source old now new before after done n rest each is thr
         ∙ row_same t (join (rows_of now.thread t) (release_at (closed l) n)) (rows_of now.thread)
 
 -- what has been taken under the first of the locks
-pub record HasTaken (s : Sums) (closed : ℕ → List Closed) (t : ℕ) (source : ℕ → ℕ → ℕ)
+pub record HasTaken (s : Sums) (closed : ℕ → List Closed) (x : ℕ) (k : AccessKind) (t : ℕ)
     (old now : StrictTables) (before after : Done) (locks : List ℕ) : Type 0 where
   pub threads : rows_of now.thread
-      ≡ with_row t (join (rows_of old.thread t) (join_all source locks)) (rows_of old.thread)
+      ≡ with_row t (join (rows_of old.thread t) (join_all (met_under (met_clocks s closed) x k t) locks))
+      (rows_of old.thread)
   pub lock : rows_of now.lock ≡ rows_of old.lock
   pub kept : SameRoom old now
   pub whole : IsWhole closed (rows_of now.thread t)
   pub joins : after.joins ≤ before.joins + 2 * length locks
+  pub made : after.joins ≡ before.joins + joins_under s closed x k t (rows_of old.thread t) locks
   pub comparisons : after.comparisons ≡ before.comparisons
 
 -- the clock of one lock more
@@ -236,37 +257,62 @@ join_all_more source f locks l i u = go f locks u i
     go f [] u = omega arith
     go f (m ∷ ms) u = let e = go f ms u in omega arith
 
-pub taken_begins : (s : Sums) (closed : ℕ → List Closed) (t : ℕ) (source : ℕ → ℕ
-    → ℕ) (old : StrictTables) (before : Done)
-    → IsWhole closed (rows_of old.thread t)
-    → HasTaken s closed t source old old before before []
-taken_begins s closed t source old before whole = record {
+-- and its joins
+joins_more : (s : Sums) (closed : ℕ → List Closed) (x : ℕ) (k : AccessKind) (t : ℕ) (f : ℕ → ℕ)
+    (locks : List ℕ) (l : ℕ)
+    → joins_under s closed x k t f (locks ++ l ∷ [])
+    ≡ joins_under s closed x k t f locks
+    + joins_for (closed l) (join f (join_all (met_under (met_clocks s closed) x k t) locks))
+    (sources_of s l x k t)
+joins_more s closed x k t f [] l =
+    let same = ap (λ (g : ℕ → ℕ). joins_for (closed l) g (sources_of s l x k t)) (join_nothing f) in
+    omega arith
+joins_more s closed x k t f (m ∷ ms) l =
+    let source : ℕ → ℕ → ℕ = met_under (met_clocks s closed) x k t in
+    let rest = joins_more s closed x k t (join f (source m)) ms l in
+    let same = ap (λ (g : ℕ → ℕ). joins_for (closed l) g (sources_of s l x k t))
+    (join_again f (source m) (join_all source ms)) in
+    omega arith
+  where
+    join_again : (a b c : ℕ → ℕ) → join (join a b) c ≡ join a (join b c)
+    join_again a b c i u = at (a u) (b u) (c u) i
+      where
+        at : (p q r : ℕ) → max (max p q) r ≡ max p (max q r)
+        at p q r = omega arith
+
+pub taken_begins : (s : Sums) (closed : ℕ → List Closed) (x : ℕ) (k : AccessKind) (t : ℕ)
+    (old : StrictTables) (before : Done) → IsWhole closed (rows_of old.thread t)
+    → HasTaken s closed x k t old old before before []
+taken_begins s closed x k t old before whole = record {
   threads = row_kept t (rows_of old.thread) ∙ ap (λ g. with_row t g (rows_of old.thread)) (sym (join_nothing
       (rows_of old.thread t)));
   lock = refl;
   kept = room_same old;
   whole = whole;
   joins = omega arith;
+  made = omega arith;
   comparisons = refl;
 }
 
 -- the sources under a lock are whole
-pub sources_whole : (s : Sums) (closed : ℕ → List Closed) (l x t : ℕ) (k : AccessKind) → AreWholeIn s closed
+sources_whole : (s : Sums) (closed : ℕ → List Closed) (l x t : ℕ) (k : AccessKind) → AreWholeIn s closed
     → IsWhole closed (met_under (met_clocks s closed) x k t l)
 sources_whole s closed l x t Read each = each l x Write t
 sources_whole s closed l x t Write each =
     whole_join closed (met_clocks s closed l x Read t)
     (met_clocks s closed l x Write t) (each l x Read t) (each l x Write t)
 
-pub taken_on : (s : Sums) (closed : ℕ → List Closed) (t : ℕ) (source : ℕ → ℕ
-    → ℕ) (old now new : StrictTables) (before after done : Done)
-    (locks : List ℕ) (l : ℕ) → IsWhole closed (source l)
-    → HasTaken s closed t source old now before after locks
-    → rows_of new.thread ≡ with_row t (join (rows_of now.thread t) (source l)) (rows_of now.thread)
+pub taken_on : (s : Sums) (closed : ℕ → List Closed) (x : ℕ) (k : AccessKind) (t : ℕ)
+    (old now new : StrictTables) (before after done : Done) (locks : List ℕ) (l : ℕ) → AreWholeIn s closed
+    → HasTaken s closed x k t old now before after locks
+    → rows_of new.thread
+    ≡ with_row t (join (rows_of now.thread t) (met_under (met_clocks s closed) x k t l)) (rows_of now.thread)
     → rows_of new.lock ≡ rows_of now.lock → SameRoom now new
-    → done.joins ≤ after.joins + 2 → done.comparisons ≡ after.comparisons
-    → HasTaken s closed t source old new before done (locks ++ l ∷ [])
-taken_on s closed t source old now new before after done locks l whole is threads lock kept joins
+    → done.joins ≤ after.joins + 2
+    → done.joins ≡ after.joins + joins_for (closed l) (rows_of now.thread t) (sources_of s l x k t)
+    → done.comparisons ≡ after.comparisons
+    → HasTaken s closed x k t old new before done (locks ++ l ∷ [])
+taken_on s closed x k t old now new before after done locks l each is threads lock kept joins exact
     comparisons =
     record {
       threads = threads ∙ ap₂ (λ g f. with_row t g f) own is.threads
@@ -279,12 +325,22 @@ taken_on s closed t source old now new before after done locks l whole is thread
           (sym (ap (λ (f : ℕ → ℕ → ℕ). f t) threads
           ∙ row_same t (join (rows_of now.thread t) (source l)) (rows_of now.thread)))
           (whole_join closed (rows_of now.thread t)
-          (source l) is.whole whole);
+          (source l) is.whole (sources_whole s closed l x t k each));
       joins = (let n = length_push locks l in let j = is.joins in omega arith);
+      made = (let j = is.made in
+          let more = joins_more s closed x k t (rows_of old.thread t) locks l in
+          let here = ap (λ (g : ℕ → ℕ). joins_for (closed l) g (sources_of s l x k t)) taken in
+          omega arith);
       comparisons = comparisons ∙ is.comparisons;
     }
   where
+    source : ℕ → ℕ → ℕ
+    source = met_under (met_clocks s closed) x k t
+
+    taken : rows_of now.thread t ≡ join (rows_of old.thread t) (join_all source locks)
+    taken = ap (λ (f : ℕ → ℕ → ℕ). f t) is.threads
+        ∙ row_same t (join (rows_of old.thread t) (join_all source locks)) (rows_of old.thread)
+
     own : join (rows_of now.thread t) (source l)
         ≡ join (join (rows_of old.thread t) (join_all source locks)) (source l)
-    own = ap (λ (g : ℕ → ℕ). join g (source l)) (ap (λ (f : ℕ → ℕ → ℕ). f t) is.threads
-        ∙ row_same t (join (rows_of old.thread t) (join_all source locks)) (rows_of old.thread))
+    own = ap (λ (g : ℕ → ℕ). join g (source l)) taken

@@ -1,10 +1,11 @@
 -- The closed sections that an access meets, by their numbers on a lock, and their clocks.
-use Rattle.std.specs.Prelude.{ℕ, zero, suc, ◌≡◌, ◌<◌, ◌≤◌, List, [], ◌∷◌, length}
+use Rattle.std.specs.Prelude.{ℕ, zero, suc, ◌≡◌, ◌+◌, ◌<◌, ◌≤◌, List, [], ◌∷◌, length, Bool, cond, nat_le}
+use Rattle.std.specs.Prelude.{Option, Some, None}
 use Rattle.event_core.specs.declared.events.AccessKind.{AccessKind}
 use Rattle.event_core.specs.declared.events.AccessKind.TheVariants.{Read, Write}
 use Rattle.event_core.specs.Closed.{Closed}
 use Rattle.event_core.specs.Rows.{no_clock, join}
-use Rattle.section_sum.specs.Sums.{Sums, others_of}
+use Rattle.section_sum.specs.Sums.{Sums, others_of, sources_of}
 use Rattle.lock_queues.specs.Sections.{closed_at}
 use Rattle.wcp_clocks.specs.Whole.{IsWhole}
 
@@ -44,6 +45,29 @@ met_under others x Write t l = join (others l x Read t) (others l x Write t)
 abbrev pub joined_all : List Closed → (ℕ → ℕ) → List ℕ → ℕ → ℕ
 joined_all qs f [] = f
 joined_all qs f (n ∷ ns) = joined_all qs (join f (release_at qs n)) ns
+
+-- whether the clock counts the section's release
+abbrev pub counts_release : List Closed → (ℕ → ℕ) → ℕ → Bool
+counts_release qs f n = nat_le (release_at qs n (thread_at qs n)) (f (thread_at qs n))
+
+-- how many joins take the clock f through those sections in turn: one for each release that it does not count
+-- by then
+abbrev pub joins_for : List Closed → (ℕ → ℕ) → List ℕ → ℕ
+joins_for qs f [] = 0
+joins_for qs f (n ∷ ns) =
+    cond (counts_release qs f n) (joins_for qs f ns) (suc (joins_for qs (join f (release_at qs n)) ns))
+
+-- the same through the sections that an access of the kind by the thread meets, under one lock after another
+abbrev pub joins_under : Sums → (ℕ → List Closed) → ℕ → AccessKind → ℕ → (ℕ → ℕ) → List ℕ → ℕ
+joins_under s closed x k t f [] = 0
+joins_under s closed x k t f (l ∷ ls) =
+    joins_for (closed l) f (sources_of s l x k t)
+    + joins_under s closed x k t (join f (met_under (met_clocks s closed) x k t l)) ls
+
+-- and for the one that a closing release finds
+abbrev pub joins_latest : Option Closed → (ℕ → ℕ) → ℕ
+joins_latest None f = 0
+joins_latest (Some q) f = cond (nat_le (q.release q.thread) (f q.thread)) 0 1
 
 -- the number is that of a section that an access of the thread to the variable meets
 pub record IsMet (s : Sums) (l x t n : ℕ) : Type 0 where

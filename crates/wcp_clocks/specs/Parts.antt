@@ -8,12 +8,13 @@ use Rattle.event_core.specs.declared.events.Op.TheVariants.{Load, Store, Acquire
 use Rattle.event_core.specs.declared.events.Event.{Event}
 use Rattle.event_core.specs.declared.bounds.Limits.{Limits}
 use Rattle.event_core.specs.Closed.{Has}
-use Rattle.event_core.specs.Effect.{Effect, Accesses, Closes}
+use Rattle.event_core.specs.Effect.{Effect, Accesses, Opens, Closes, Joins}
 use Rattle.hb_clocks.specs.State.{HbState, po_row}
 use Rattle.hb_clocks.specs.Stands.{Admits, IsFew}
 use Rattle.hb_clocks.specs.Tables as hb
 use Rattle.vector_clocks.specs.Work.{Done}
 use Rattle.section_sum.specs.Sums.{noted_of, HasRoom, IsAlone}
+use Rattle.lock_queues.specs.Sections.{latest_counted}
 use Rattle.lock_queues.specs.Queues.{closed_of, opened_of, found_of, has_room}
 use Rattle.wcp_laws.specs.State.{State}
 use Rattle.wcp_laws.specs.Step.{effect, hb_row, after}
@@ -21,7 +22,7 @@ use Rattle.wcp_laws.specs.Conditions.{IsSound, CursorsStand}
 use Rattle.wcp_clocks.specs.declared.parts.Parts.{Parts}
 use Rattle.wcp_clocks.specs.HeldLists.{list_at, held_of, room_at}
 use Rattle.wcp_clocks.specs.StrictRows.{StrictTables, strict_of, HasThread, HasLock}
-use Rattle.wcp_clocks.specs.Met.{met_clocks, AreNumbers}
+use Rattle.wcp_clocks.specs.Met.{met_clocks, AreNumbers, joins_under, joins_latest}
 use Rattle.wcp_clocks.specs.Whole.{AreWhole, own_of}
 
 -- program order, happens-before and the depths of locks
@@ -157,11 +158,29 @@ abbrev pub most_joins : Effect → ℕ → ℕ
 most_joins (Accesses x k) held = 2 * held
 most_joins _ held = 3
 
+-- how many joins it takes: two at an outer acquire and three at a join, and else one for each release that
+-- its thread's strict clock takes and does not count by then
+abbrev pub joins_at : ThreadId → Effect → Parts → ℕ
+joins_at t (Opens l) p = 2
+joins_at t (Joins u) p = 3
+joins_at t (Accesses x k) p =
+    joins_under p.sums (closed_of p.queues) x.0 k t.0 ((strict_of p.rows).thread t.0) (held_of p.held t.0)
+joins_at t (Closes l) p =
+    joins_latest (latest_counted ((strict_of p.rows).thread t.0) (closed_of p.queues l.0))
+    ((strict_of p.rows).thread t.0)
+joins_at t _ p = 0
+
 -- a closing release makes one comparison more than it finds sections, at most, and nothing else makes one
 abbrev pub FewComparisons : ThreadId → Effect → Parts → Parts → Type 0
 FewComparisons t (Closes l) old new = (work_of new).comparisons + found_in old l.0 t.0
     ≤ (work_of old).comparisons + found_in new l.0 t.0 + 1
 FewComparisons t _ old new = (work_of new).comparisons ≡ (work_of old).comparisons
+
+-- and no fewer than it finds sections
+abbrev pub NoFewer : ThreadId → Effect → Parts → Parts → Type 0
+NoFewer t (Closes l) old new = (work_of old).comparisons + found_in new l.0 t.0
+    ≤ (work_of new).comparisons + found_in old l.0 t.0
+NoFewer t _ old new = Unit {0}
 
 -- the numbers that the event names are within the limits
 abbrev pub NamesWithin : Parts → Op → Type 0

@@ -14,7 +14,7 @@ use Rattle.wcp_clocks.specs.declared.parts.Parts.{Parts}
 use Rattle.wcp_clocks.specs.HeldLists.{held_of}
 use Rattle.wcp_clocks.specs.StrictRows.{strict_of, SameRoom}
 use Rattle.wcp_clocks.specs.Parts.{hb_of, state_of, found_in, AreParts, SameLimits, most_joins}
-use Rattle.wcp_clocks.specs.Parts.{FewComparisons, IsAccess, KeepsReady}
+use Rattle.wcp_clocks.specs.Parts.{joins_at, FewComparisons, NoFewer, IsAccess, KeepsReady}
 use Rattle.wcp_clocks.specs.Met.{met_clocks, AreNumbers}
 
 -- the step of the event
@@ -24,7 +24,9 @@ pub record IsStep (e : Event) (old new : Parts) : Type 0 where
   pub found : found_in new ≡ found_at e.thread (effect e (state_of old)) (state_of old) (found_in old)
   pub joins : new.work.joins
       ≤ old.work.joins + most_joins (effect e (state_of old)) (length (held_of old.held e.thread.0))
+  pub joins_exact : new.work.joins ≡ old.work.joins + joins_at e.thread (effect e (state_of old)) old
   pub comparisons : FewComparisons e.thread (effect e (state_of old)) old new
+  pub no_fewer : NoFewer e.thread (effect e (state_of old)) old new
   pub limits : SameLimits old new
   pub parts : AreParts new
   pub kept : IsAccess e.op → KeepsReady old new
@@ -50,6 +52,8 @@ pub record IsStepBy (e : Event) (k : Effect) (old new : Parts) : Type 0 where
   pub closed : closed_of new.queues ≡ closed_after e.thread.0 k (hb_row e (state_of old)) (state_of old)
   pub found : found_in new ≡ found_at e.thread k (state_of old) (found_in old)
   pub joins : new.work.joins ≤ old.work.joins + most_joins k (length (held_of old.held e.thread.0))
+  pub joins_exact : new.work.joins ≡ old.work.joins + joins_at e.thread k old
   pub comparisons : FewComparisons e.thread k old new
+  pub no_fewer : NoFewer e.thread k old new
   pub room : SameRoom old.rows new.rows
   pub limits : SameLimits old new

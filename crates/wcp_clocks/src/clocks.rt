@@ -24,7 +24,8 @@ ghost use Rattle.wcp_laws.specs.Step.{after, effect};
 ghost use Rattle.wcp_laws.specs.Conditions.{found_at};
 ghost use Rattle.wcp_clocks.specs.Parts.{hb_of, state_of, width_of, limits_of, work_of, found_in};
 ghost use Rattle.wcp_clocks.specs.Parts.{IsReady, Fits, KeepsReady, SameLimits, SameNumbers, most_joins};
-ghost use Rattle.wcp_clocks.specs.Parts.{FewComparisons, IsWithin, IsAccess, IsReadyToSwap};
+ghost use Rattle.wcp_clocks.specs.Parts.{joins_at, FewComparisons, NoFewer, IsWithin, IsAccess};
+ghost use Rattle.wcp_clocks.specs.Parts.{IsReadyToSwap};
 ghost use Rattle.wcp_clocks.specs.StandsFor.{StandsFor};
 
 use crate::effects::step;
@@ -127,9 +128,10 @@ impl WcpClocks {
 
     /// The event joins the log that the clocks stand for.
     ///
-    /// It takes at most three joins of clocks, or at an access two for each lock that its thread holds. A
-    /// release that ends a section makes at most one comparison more than the sections that it newly
-    /// finds below it, and nothing else makes one.
+    /// It takes at most three joins of clocks, or at an access two for each lock that its thread holds: one
+    /// for each clock that is taken and not counted by then, and no join goes uncounted. A release that ends a
+    /// section makes a comparison for each section that it newly finds below it, and at most one more; nothing
+    /// else makes one.
     #[inline(always)]
     pub fn advance(&mut self, event: &Event)
         requires ready { IsReady self.old event.now }
@@ -143,7 +145,11 @@ impl WcpClocks {
         ensures joins { (work_of self.new).joins ≤ (work_of self.old).joins
             + most_joins (effect event.now (state_of self.old))
             (length ((state_of self.old).held event.now.thread.0)) }
+        ensures joins_exact { (work_of self.new).joins ≡ (work_of self.old).joins
+            + joins_at event.now.thread (effect event.now (state_of self.old)) self.old }
         ensures comparisons { FewComparisons event.now.thread (effect event.now (state_of self.old)) self.old
+            self.new }
+        ensures no_fewer { NoFewer event.now.thread (effect event.now (state_of self.old)) self.old
             self.new }
         ensures kept { IsAccess event.now.op → KeepsReady self.old self.new }
         ensures limits { SameLimits self.old self.new }

@@ -5,13 +5,15 @@ ghost use Rattle.event_core.specs.Effect.{Accesses, Opens, Closes, Forks, Joins,
 ghost use Rattle.section_sum.specs.Sums.{HasRoom, IsAlone, KeepsRoom, SameOthers, noted_of, is_access};
 ghost use Rattle.wcp_laws.specs.Step.{effect, join_all};
 ghost use Rattle.wcp_clocks.specs.HeldLists.{numbers_of};
-ghost use Rattle.wcp_clocks.specs.Met.{met_clocks, met_under, AreNumbers, AreWholeIn};
+ghost use Rattle.wcp_clocks.specs.Met.{met_clocks, met_under, joins_under, joins_latest};
+ghost use Rattle.wcp_clocks.specs.Met.{AreNumbers, AreWholeIn};
 ghost use Rattle.wcp_clocks.specs.Whole.{IsWhole};
 ghost use Rattle.event_core.specs.declared.events.AccessKind.{AccessKind as Kind};
 ghost use Rattle.wcp_clocks.specs.Parts.{state_of, AreParts, IsReady, Fits, KeepsReady};
 ghost use Rattle.wcp_clocks.specs.Stepping.{IsStepBy, IsStep};
 ghost use Rattle.event_core.specs.Rows.{join, with_row};
 ghost use Rattle.event_core.specs.Closed.{below_closed, number_counted};
+ghost use Rattle.lock_queues.specs.Sections.{latest_counted};
 ghost use Rattle.lock_queues.specs.Queues.{closed_of, opened_of, found_of};
 ghost use Rattle.lock_queues.specs.Searched.{CountsEarlier, FindsCounted};
 ghost use Rattle.wcp_clocks.specs.StrictRows.{strict_of, HasThread, SameRoom};
@@ -43,7 +45,6 @@ pub(crate) fn step(parts: &mut Parts, event: &Event)
 }
 
 // An acquire. The outer one opens a section.
-#[tactic(auto, using(crate::proofs::Stepped::opened, crate::proofs::Stepped::acquired_again))]
 fn acquire(parts: &mut Parts, event: &Event, lock: LockId)
     requires op { event.now.op ≡ Acquire lock }
     requires parts { AreParts parts.old }
@@ -59,7 +60,6 @@ fn acquire(parts: &mut Parts, event: &Event, lock: LockId)
 }
 
 // A release. The outer one closes its section.
-#[tactic(auto, using(crate::proofs::Stepped::closed, crate::proofs::Stepped::released_again))]
 fn release(parts: &mut Parts, event: &Event, lock: LockId)
     requires op { event.now.op ≡ Release lock }
     requires parts { AreParts parts.old }
@@ -132,6 +132,9 @@ fn meet_sections(
     ensures others { SameOthers sums.old sums.new }
     ensures places { KeepsRoom sums.old sums.new }
     ensures joins { work.new.joins ≤ work.old.joins + 2 * length held.now }
+    ensures joins_exact { work.new.joins ≡ work.old.joins
+        + joins_under sums.old (closed_of queues.now) var.0 kind thread.0
+        ((strict_of rows.old).thread thread.0) (numbers_of held.now) }
     ensures comparisons { work.new.comparisons ≡ work.old.comparisons }
 {
     take_sources(rows, sums, queues, thread, held, var, kind, work);
@@ -242,9 +245,15 @@ fn take_closed(
     ensures found { FindsCounted queues.old queues.new thread.0 lock.0
         (number_counted ((strict_of rows.old).thread thread.0) (closed_of queues.old lock.0)) }
     ensures joins { work.new.joins ≤ work.old.joins + 1 }
+    ensures joins_exact { work.new.joins ≡ work.old.joins
+        + joins_latest (latest_counted ((strict_of rows.old).thread thread.0) (closed_of queues.old lock.0))
+        ((strict_of rows.old).thread thread.0) }
     ensures comparisons { work.new.comparisons + found_of queues.old lock.0 thread.0
         ≤ work.old.comparisons
         + number_counted ((strict_of rows.old).thread thread.0) (closed_of queues.old lock.0) + 1 }
+    ensures no_fewer { work.old.comparisons
+        + number_counted ((strict_of rows.old).thread thread.0) (closed_of queues.old lock.0)
+        ≤ work.new.comparisons + found_of queues.old lock.0 thread.0 }
 {
     let latest = queues.last_below(thread, lock, rows.strict(thread), work);
     if let Some(section) = latest {

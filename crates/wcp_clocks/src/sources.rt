@@ -4,9 +4,11 @@
 ghost use Rattle.std.specs.Prelude.{◌≡◌, ℕ, ◌+◌, ◌*◌, ◌<◌, ◌≤◌, ◌^◌, length};
 ghost use Rattle.event_core.specs.Rows.{join, with_row};
 ghost use Rattle.lock_queues.specs.Queues.{closed_of};
+ghost use Rattle.section_sum.specs.Sums.{sources_of};
 ghost use Rattle.wcp_laws.specs.Step.{join_all};
 ghost use Rattle.wcp_clocks.specs.HeldLists.{numbers_of};
-ghost use Rattle.wcp_clocks.specs.Met.{met_clocks, met_under, AreNumbers, AreWholeIn};
+ghost use Rattle.wcp_clocks.specs.Met.{met_clocks, met_under, joins_for, joins_under};
+ghost use Rattle.wcp_clocks.specs.Met.{AreNumbers, AreWholeIn};
 ghost use Rattle.wcp_clocks.specs.Whole.{IsWhole};
 ghost use Rattle.wcp_clocks.specs.StrictRows.{strict_of, HasThread, SameRoom};
 
@@ -42,6 +44,9 @@ fn take_under(
     ensures locks { (strict_of rows.new).lock ≡ (strict_of rows.old).lock }
     ensures kept { SameRoom rows.old rows.new }
     ensures joins { work.new.joins ≤ work.old.joins + 2 }
+    ensures joins_exact { work.new.joins ≡ work.old.joins
+        + joins_for (closed_of queues.now lock.0) ((strict_of rows.old).thread thread.0)
+        (sources_of sums.now lock.0 var.0 kind thread.0) }
     ensures comparisons { work.new.comparisons ≡ work.old.comparisons }
 {
     for number in sums.sources(thread, lock, var, kind) {
@@ -78,6 +83,9 @@ pub(crate) fn take_sources(
     ensures locks { (strict_of rows.new).lock ≡ (strict_of rows.old).lock }
     ensures kept { SameRoom rows.old rows.new }
     ensures joins { work.new.joins ≤ work.old.joins + 2 * length held.now }
+    ensures joins_exact { work.new.joins ≡ work.old.joins
+        + joins_under sums.now (closed_of queues.now) var.0 kind thread.0
+        ((strict_of rows.old).thread thread.0) (numbers_of held.now) }
     ensures comparisons { work.new.comparisons ≡ work.old.comparisons }
 {
     for lock in held {

@@ -119,7 +119,17 @@ returns c =
           let j = joins_told e k old taken.new.work c.advance.new.work c.requires.effect c.advance.ensures.work
           in
           omega arith);
+      joins_exact = (let w = taken.ensures.joins_exact in
+          let j = joins_told e k old taken.new.work c.advance.new.work c.requires.effect c.advance.ensures.work
+          in
+          omega arith);
       comparisons = (let w = taken.ensures.comparisons in
+          let d = ap (λ (d : Done). d.comparisons) c.advance.ensures.work in
+          let n = ap (λ (f : ℕ → ℕ → ℕ). f l t) (left.found ∙ taken.ensures.found.found)
+          ∙ ap (λ (f : ℕ → ℕ). f t) (row_same l _ (found_of old.queues))
+          ∙ row_same t _ (found_of old.queues l) in
+          omega arith);
+      no_fewer = (let w = taken.ensures.no_fewer in
           let d = ap (λ (d : Done). d.comparisons) c.advance.ensures.work in
           let n = ap (λ (f : ℕ → ℕ → ℕ). f l t) (left.found ∙ taken.ensures.found.found)
           ∙ ap (λ (f : ℕ → ℕ). f t) (row_same l _ (found_of old.queues))

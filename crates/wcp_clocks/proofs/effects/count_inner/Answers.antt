@@ -24,7 +24,10 @@ returns c =
       joins = (let j = joins_told e Inner old old.work c.advance.new.work c.requires.effect
           c.advance.ensures.work in
           omega arith);
+      joins_exact = joins_told e Inner old old.work c.advance.new.work c.requires.effect
+          c.advance.ensures.work;
       comparisons = ap (λ (d : Done). d.comparisons) c.advance.ensures.work;
+      no_fewer = tt;
       room = room_same old.rows;
       limits = record { width = c.advance.ensures.width; limits = refl };
     }

@@ -28,7 +28,9 @@ returns c =
       joins = (let j = joins_told e k old old.work c.advance.new.work c.requires.effect c.advance.ensures.work
           in
           omega arith);
+      joins_exact = joins_told e k old old.work c.advance.new.work c.requires.effect c.advance.ensures.work;
       comparisons = ap (λ (d : Done). d.comparisons) c.advance.ensures.work;
+      no_fewer = tt;
       room = give.kept;
       limits = record { width = c.advance.ensures.width; limits = refl };
     }

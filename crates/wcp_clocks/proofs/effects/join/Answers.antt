@@ -31,8 +31,13 @@ returns c =
           let j = joins_told e k old taken.new.work c.advance.new.work c.requires.effect c.advance.ensures.work
           in
           omega arith);
+      joins_exact = (let w = ap (λ (d : Done). d.joins) taken.ensures.work in
+          let j = joins_told e k old taken.new.work c.advance.new.work c.requires.effect c.advance.ensures.work
+          in
+          omega arith);
       comparisons = ap (λ (d : Done). d.comparisons) c.advance.ensures.work
           ∙ ap (λ (d : Done). d.comparisons) taken.ensures.work;
+      no_fewer = tt;
       room = taken.ensures.kept;
       limits = record { width = c.advance.ensures.width; limits = refl };
     }
