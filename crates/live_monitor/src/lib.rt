@@ -68,5 +68,6 @@ mod unnamed;
 
 pub use book::Book;
 pub use closed::Closed;
+pub use seq_monitor::{Race, Verdicts};
 pub use shared::Shared;
 pub use unnamed::{StartFault, Unnamed, start};

@@ -10,13 +10,16 @@ use log_pass::{Blank, Name, Pass};
 use seq_monitor::Monitor;
 use std::alloc::Global;
 use std::marker::Model;
+use thiserror::Error;
 
 /// Why there is no monitor to start.
-#[derive(Clone, Copy, Debug, PartialEq, Eq)]
+#[derive(Clone, Copy, Debug, PartialEq, Eq, Error)]
 pub enum StartFault {
     /// The limits let more threads than thread 0 run from the beginning.
+    #[error("only thread 0 may run from the beginning")]
     RootsFree,
     /// There was no memory for it.
+    #[error("out of memory")]
     NoRoom,
 }
 

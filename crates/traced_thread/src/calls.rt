@@ -1,0 +1,125 @@
+//! Accesses and locks.
+ghost use Rattle.std.specs.Prelude.{◌≡◌, Some, IfOk, IfErr};
+ghost use Rattle.event_core.specs.Refusal.{refusal};
+ghost use Rattle.event_core.specs.Steps.{log_of};
+ghost use Rattle.live_monitor.specs.Calls.{
+  load_by,
+  store_by,
+  acquire_by,
+  release_by,
+  Accepted,
+  Declined,
+};
+ghost use Rattle.live_monitor.specs.Swaps.{AcceptedSwap, DeclinedSwap};
+ghost use Rattle.traced_thread.specs.Handles.{HasComeTo};
+
+use crate::handle::{TracedThread, take};
+use event_core::{LockId, Refusal, Reply, SiteId, SwapReply, VarId};
+use log_pass::Name;
+use std::sync::Wait;
+
+impl<'m, N: Name> TracedThread<'m, N> {
+    /// Loads the variable: the reply has the last value that was stored to it, or 0.
+    pub fn load<R: Wait>(&mut self, rt: &R, var: VarId, site: SiteId) -> Result<Reply, Refusal>
+        ensures later { HasComeTo N.limits self.old self.new }
+        ensures accepted { IfOk result
+            (λ reply. Accepted N.limits (load_by self.old.thread var site) self.old self.new reply) }
+        ensures declined { IfErr result
+            (λ answer. Declined N.limits (load_by self.old.thread var site) self.old self.new answer) }
+    {
+        let (pass, answer) = self.monitor.load(rt, take(&mut self.pass), var, site);
+        self.pass = Some(pass);
+        answer
+    }
+
+    /// Stores the value to the variable.
+    pub fn store<R: Wait>(
+        &mut self,
+        rt: &R,
+        var: VarId,
+        value: u64,
+        site: SiteId,
+    ) -> Result<Reply, Refusal>
+        ensures later { HasComeTo N.limits self.old self.new }
+        ensures accepted { IfOk result (λ reply.
+            Accepted N.limits (store_by self.old.thread var value site) self.old self.new reply) }
+        ensures declined { IfErr result (λ answer.
+            Declined N.limits (store_by self.old.thread var value site) self.old self.new answer) }
+    {
+        let (pass, answer) = self
+            .monitor
+            .store(rt, take(&mut self.pass), var, value, site);
+        self.pass = Some(pass);
+        answer
+    }
+
+    /// Loads the variable and stores the value to it, as one step: no other thread's event stands between.
+    pub fn swap<R: Wait>(
+        &mut self,
+        rt: &R,
+        var: VarId,
+        value: u64,
+        site: SiteId,
+    ) -> Result<SwapReply, Refusal>
+        ensures later { HasComeTo N.limits self.old self.new }
+        ensures accepted { IfOk result (λ reply.
+            AcceptedSwap N.limits self.old.thread var site value self.old self.new reply) }
+        ensures declined { IfErr result
+            (λ answer. DeclinedSwap N.limits self.old.thread var self.old self.new answer) }
+    {
+        let (pass, answer) = self
+            .monitor
+            .swap(rt, take(&mut self.pass), var, value, site);
+        self.pass = Some(pass);
+        answer
+    }
+
+    /// Acquires the lock. It is refused while another thread holds it.
+    pub fn acquire<R: Wait>(&mut self, rt: &R, lock: LockId, site: SiteId) -> Result<Reply, Refusal>
+        ensures later { HasComeTo N.limits self.old self.new }
+        ensures accepted { IfOk result
+            (λ reply. Accepted N.limits (acquire_by self.old.thread lock site) self.old self.new reply) }
+        ensures declined { IfErr result
+            (λ answer. Declined N.limits (acquire_by self.old.thread lock site) self.old self.new answer) }
+    {
+        let (pass, answer) = self.monitor.acquire(rt, take(&mut self.pass), lock, site);
+        self.pass = Some(pass);
+        answer
+    }
+
+    /// Acquires the lock. While another thread holds it, it is tried again, so many times in all, and once at
+    /// least. `Held` is the answer of the last try.
+    pub fn acquire_within<R: Wait>(
+        &mut self,
+        rt: &R,
+        lock: LockId,
+        site: SiteId,
+        tries: u32,
+    ) -> Result<Reply, Refusal>
+        ensures later { HasComeTo N.limits self.old self.new }
+        ensures accepted { IfOk result
+            (λ reply. Accepted N.limits (acquire_by self.old.thread lock site) self.old self.new reply) }
+        ensures declined { IfErr result
+            (λ answer. Declined N.limits (acquire_by self.old.thread lock site) self.old self.new answer) }
+    {
+        let pass = take(&mut self.pass);
+        let (pass, answer) = self.monitor.acquire_within(rt, pass, lock, site, tries);
+        self.pass = Some(pass);
+        answer
+    }
+
+    /// Releases the lock. It is never refused for want of memory.
+    pub fn release<R: Wait>(&mut self, rt: &R, lock: LockId, site: SiteId) -> Result<Reply, Refusal>
+        ensures later { HasComeTo N.limits self.old self.new }
+        ensures accepted { IfOk result
+            (λ reply. Accepted N.limits (release_by self.old.thread lock site) self.old self.new reply) }
+        ensures declined { IfErr result
+            (λ answer. Declined N.limits (release_by self.old.thread lock site) self.old self.new answer) }
+        ensures refused { IfErr result (λ answer.
+            refusal N.limits (log_of self.new.seen) (release_by self.old.thread lock site) ≡ Some answer) }
+    {
+        let (pass, answer) = self.monitor.release(rt, take(&mut self.pass), lock, site);
+        self.pass = Some(pass);
+        answer
+    }
+}
