@@ -169,10 +169,8 @@ impl Lasts {
         if self.has_room(thread) {
             return Ok(());
         }
-        match self.rest.reserve(1) {
-            Ok(()) => Ok(()),
-            Err(_) => Err(OutOfMemory),
-        }
+        self.rest.reserve(1)?;
+        Ok(())
     }
 
     /// Whether there is room for an access by the thread.

@@ -11,9 +11,12 @@ ghost use Rattle.access_check.specs.Tables.{count_at, touches_at, touched_after,
 
 use crate::lasts::{Access, Last};
 use crate::touches::Touches;
-use event_core::{AccessKind, Event, Op, OutOfMemory, ThreadId, Verdict};
+use event_core::{AccessKind, Event, Op, OutOfMemory, ThreadId, Verdict, grow_to};
 use std::alloc::Global;
 use vector_clocks::JoinedClocks;
+
+// So many variables get a table at once.
+const VARS_AT_ONCE: usize = 64;
 
 /// So many threads have a count.
 pub(crate) fn grow_counts(counts: &mut Vec<u64>, threads: usize) -> Result<(), OutOfMemory>
@@ -22,26 +25,19 @@ pub(crate) fn grow_counts(counts: &mut Vec<u64>, threads: usize) -> Result<(), O
     ensures most { length counts.new.items ≤ max (length counts.old.items) threads }
     ensures ok { OnOk result (threads ≤ length counts.new.items) }
 {
-    'growing: while counts.len() < threads {
-        if counts.push(0).is_err() {
-            return Err(OutOfMemory);
-        }
-    }
-    Ok(())
+    grow_to(counts, threads, || 0)
 }
 
-// So many variables have a table.
-fn grow_vars(vars: &mut Vec<Touches>, alloc: Global, count: usize) -> Result<(), OutOfMemory>
+// The variable has a table, and so have the next ones: mostly the variables that are met first have the next
+// numbers.
+#[inline(never)]
+fn grow_vars(vars: &mut Vec<Touches>, alloc: Global, var: usize) -> Result<(), OutOfMemory>
+    requires { var < 2 ^ 32 }
     ensures same { (x : ℕ) → touches_at vars.new.items x ≡ touches_at vars.old.items x }
     ensures more { length vars.old.items ≤ length vars.new.items }
-    ensures ok { OnOk result (count ≤ length vars.new.items) }
+    ensures ok { OnOk result (var < length vars.new.items) }
 {
-    'growing: while vars.len() < count {
-        if vars.push(Touches::new(alloc)).is_err() {
-            return Err(OutOfMemory);
-        }
-    }
-    Ok(())
+    grow_to(vars, var + VARS_AT_ONCE, || Touches::new(alloc))
 }
 
 // The variable's table has room for an access of that kind by the thread.
@@ -75,7 +71,9 @@ pub(crate) fn grow_at(
         → RoomAt vars.new.items t x k }
     ensures room { OnOk result (RoomAt vars.new.items thread var kind) }
 {
-    grow_vars(vars, alloc, var + 1)?;
+    if vars.len() <= var {
+        grow_vars(vars, alloc, var)?;
+    }
     make_room_at(vars, var, thread, kind)
 }
 
