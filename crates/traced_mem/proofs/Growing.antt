@@ -1,15 +1,14 @@
 -- A further row that says nothing.
-use Rattle.std.proofs.Common.{◌≡◌, ℕ, ◌+◌, ◌<◌, ◌≤◌, List, [], ◌∷◌, ◌++◌, length, get_or, refl, sym, ap, ◌∙◌}
-use Rattle.std.proofs.Common.{arith, inl, inr, subst, max}
+use Rattle.std.proofs.Common.{◌≡◌, ℕ, ◌<◌, ◌≤◌, List, [], ◌∷◌, ◌++◌, length, get_or, refl, sym, ap, ◌∙◌}
+use Rattle.std.proofs.Common.{arith, inl, inr, subst}
 use Rattle.traced_mem.specs.declared.rows.ThreadRow.{ThreadRow}
-use Rattle.std.proofs.Math.Nat.{le-max_left, le-max_right}
 use Rattle.event_core.specs.declared.ids.ThreadId.{ThreadId}
 use Rattle.event_core.specs.declared.events.Op.{Op}
 use Rattle.event_core.specs.declared.events.Op.TheVariants.{Load, Store, Acquire, Release, Fork, Join}
 use Rattle.traced_mem.specs.declared.rows.LockRow.{LockRow}
 use Rattle.traced_mem.specs.Meaning.{Thread}
 use Rattle.traced_mem.specs.Tables.{Tables, meaning, cells_of, lock_of, lock_at, HeldBelow, thread_at}
-use Rattle.traced_mem.specs.Tables.{threads_of, thread_of, blank_thread}
+use Rattle.traced_mem.specs.Tables.{threads_of, thread_of}
 use Rattle.traced_mem.specs.Room.{HasRoom, IsReady, Grown}
 use Rattle.std.proofs.lemmas.Bool.{cases_lt, cases_eq}
 use Rattle.std.proofs.lemmas.List.{get_or_past, get_or_push, get_or_append_left, length_push}
@@ -31,28 +30,18 @@ pub padded_push : {A : Type 0} (xs ys : List A) (x d : A) → ys ≡ xs ++ x ∷
     → reads d ys ≡ reads d xs
 padded_push xs ys x d e is j i = (ap (λ zs. get_or zs i d) (e ∙ ap (λ z. xs ++ z ∷ []) is) ∙ padded xs d i) j
 
-pub longer_by : {A : Type 0} (xs ys : List A) (x : A) → ys ≡ xs ++ x ∷ [] → length ys ≡ length xs + 1
-longer_by xs ys x e = ap length e ∙ length_push xs x
-
 pub grown_none : (xs : List ThreadRow) → Grown xs xs
 grown_none xs = record { rows = refl; more = omega arith; capacity = λ u. omega arith }
 
-pub grown_again : {xs ys zs : List ThreadRow} → Grown xs ys → Grown ys zs → Grown xs zs
-grown_again g h = record {
-  rows = h.rows ∙ g.rows;
-  more = (let a = g.more in let b = h.more in omega arith);
-  capacity = λ u. (let a = g.capacity u in let b = h.capacity u in omega arith);
+-- rows that read the same, and no fewer
+pub grown_same : (old new : List ThreadRow) → length old ≤ length new
+    → ((u : ℕ) → thread_at new u ≡ thread_at old u) → Grown old new
+grown_same old new more same = record {
+  rows = λ i u. thread_of (same u i);
+  more = more;
+  capacity = λ u. (let c : (thread_at new u).held.capacity ≡ (thread_at old u).held.capacity =
+      λ i. (same u i).held.capacity in omega arith);
 }
-
-pub grown_push : (xs ys : List ThreadRow) (x : ThreadRow) → ys ≡ xs ++ x ∷ [] → x ≡ blank_thread → Grown xs ys
-grown_push xs ys x e is =
-    let same = padded_push xs ys x blank_thread e is in
-    record {
-      rows = λ i u. thread_of (same i u);
-      more = (let n = longer_by xs ys x e in omega arith);
-      capacity = λ u. (let c : (thread_at ys u).held.capacity ≡ (thread_at xs u).held.capacity =
-          λ i. (same i u).held.capacity in omega arith);
-    }
 
 pub below_grown : (n m : ℕ) (old new : List LockRow) → n ≤ m → lock_at new ≡ lock_at old → HeldBelow n old
     → HeldBelow m new
@@ -70,13 +59,13 @@ same_meaning old new a b t l c i =
     record { length = a i; holds = b i; thread = t i; lock = λ x. lock_of (l i x); cell = c i }
 
 pub ready_grown : (old new : Tables) → Grown old.threads new.threads → length old.locks ≤ length new.locks
-    → length old.cells ≤ length new.cells
+    → old.room ≤ new.room
     → (u : ThreadId) (o : Op) → IsReady old u o → IsReady new u o
 ready_grown old new g ls cs u o r =
     record { caller = (let a = r.caller in let b = g.more in omega arith); room = room o r.room }
   where
-    room : (o : Op) → HasRoom old.threads (length old.locks) (length old.cells) u o
-        → HasRoom new.threads (length new.locks) (length new.cells) u o
+    room : (o : Op) → HasRoom old.threads (length old.locks) old.room u o
+        → HasRoom new.threads (length new.locks) new.room u o
     room (Load x) h = tt
     room (Store x) h = omega arith
     room (Acquire l) h = (
@@ -91,9 +80,3 @@ ready_grown old new g ls cs u o r =
     room (Release l) h = omega arith
     room (Fork v) h = let b = g.more in omega arith
     room (Join v) h = let b = g.more in omega arith
-
-pub at_most_max : (a b : ℕ) → a ≤ max a b
-at_most_max a b = le-max_left a b
-
-pub within_max : (n a b : ℕ) → n ≤ b → n ≤ max a b
-within_max n a b h = let r = le-max_right a b in omega arith

@@ -107,7 +107,7 @@ step_no_more c p locks f u m free = by_op p free
 pub still_ready : (old new : Tables) (locks : ℕ → Lock) (c : ThreadId) (p : Op) (u : ThreadId) (o : Op)
     → takes_place c p u o ≡ false
     → length new.threads ≡ length old.threads → length new.locks ≡ length old.locks
-    → length new.cells ≡ length old.cells
+    → new.room ≡ old.room
     → ((u : ℕ) → (thread_at new.threads u).held.capacity ≡ (thread_at old.threads u).held.capacity)
     → threads_of new.threads ≡ threads_after c p locks
     (updated c.0 (mentioned_again (threads_of old.threads c.0)) (threads_of old.threads))
@@ -116,8 +116,8 @@ still_ready old new locks c p u o free ts ls cs caps rows r =
     record { caller = (let a = r.caller in omega arith); room = room o free r.room }
   where
     room : (o : Op) → takes_place c p u o ≡ false
-        → HasRoom old.threads (length old.locks) (length old.cells) u o
-        → HasRoom new.threads (length new.locks) (length new.cells) u o
+        → HasRoom old.threads (length old.locks) old.room u o
+        → HasRoom new.threads (length new.locks) new.room u o
     room (Load x) free h = tt
     room (Store x) free h = omega arith
     room (Acquire l) free h = (
@@ -137,11 +137,11 @@ still_ready old new locks c p u o free ts ls cs caps rows r =
     room (Join v) free h = omega arith
 
 -- readiness, of equal tables
-pub ready_of_parts : (t : Tables) (threads : List ThreadRow) (locks : List LockRow) (cells : List ℕ)
-    → threads ≡ t.threads → locks ≡ t.locks → cells ≡ t.cells
+pub ready_of_parts : (t : Tables) (threads : List ThreadRow) (locks : List LockRow)
+    → threads ≡ t.threads → locks ≡ t.locks
     → (u : ThreadId) (o : Op) → IsReady t u o
-    → IsReady (record t { threads = threads; locks = locks; cells = cells }) u o
-ready_of_parts t threads locks cells a b c u o r =
-    let same : t ≡ record t { threads = threads; locks = locks; cells = cells }
-    = λ i. record t { threads = sym a i; locks = sym b i; cells = sym c i } in
+    → IsReady (record t { threads = threads; locks = locks }) u o
+ready_of_parts t threads locks a b u o r =
+    let same : t ≡ record t { threads = threads; locks = locks }
+    = λ i. record t { threads = sym a i; locks = sym b i } in
     subst (λ (s : Tables). IsReady s u o) same r

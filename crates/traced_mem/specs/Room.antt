@@ -9,7 +9,7 @@ use Rattle.traced_mem.specs.declared.rows.ThreadRow.{ThreadRow}
 use Rattle.traced_mem.specs.declared.rows.LockRow.{LockRow}
 use Rattle.traced_mem.specs.Tables.{Tables, thread_at, lock_at, threads_of}
 
--- there are rows for what the operation names, and place for a lock that is acquired
+-- there are rows for what the operation names, or memory for its cell, and place for a lock that is acquired
 abbrev pub HasRoom : List ThreadRow → ℕ → ℕ → ThreadId → Op → Type 0
 HasRoom threads locks cells u (Load x) = Unit {0}
 HasRoom threads locks cells u (Store x) = x.0 < cells
@@ -21,7 +21,7 @@ HasRoom threads locks cells u (Join v) = v.0 < length threads
 -- there is room for the thread's operation
 pub record IsReady (t : Tables) (u : ThreadId) (o : Op) : Type 0 where
   pub caller : u.0 < length t.threads
-  pub room : HasRoom t.threads (length t.locks) (length t.cells) u o
+  pub room : HasRoom t.threads (length t.locks) t.room u o
 
 -- there is room for both operations of a swap
 abbrev pub IsReadyToSwap : Tables → ThreadId → VarId → Type 0

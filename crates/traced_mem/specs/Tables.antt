@@ -18,6 +18,8 @@ pub record Tables : Type 0 where
   pub threads : List ThreadRow
   pub locks : List LockRow
   pub cells : List ℕ
+  -- for so many cells there is memory
+  pub room : ℕ
 
 -- past a table's end nothing was done yet
 abbrev pub blank_thread : ThreadRow

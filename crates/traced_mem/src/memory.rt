@@ -29,13 +29,15 @@ pub struct Memory {
     length: u64,
     /// How many acquires are still to be released: so many slots of the log are kept.
     holds: u64,
-    /// By number, up to the greatest that was used. So are the locks and the cells.
+    /// By number, up to the greatest that was used. So are the locks, and the cells up to the greatest that
+    /// was stored to.
     threads: Vec<ThreadRow>,
     locks: Vec<LockRow>,
     cells: Vec<u64>,
 }
 
 impl Model for Memory {
+    ghost use Rattle.std.specs.Prelude.{vec_capacity};
     ghost use Rattle.traced_mem.specs.Tables.{Tables, AreTables};
 
     ghost Value = { Tables };
@@ -47,6 +49,7 @@ impl Model for Memory {
       threads = a.threads.items;
       locks = a.locks.items;
       cells = a.cells.items;
+      room = vec_capacity a.cells;
     } };
 
     ghost invariant = { λ a. AreTables a.limits a.length a.holds a.threads.items a.locks.items };
@@ -112,19 +115,14 @@ impl Memory {
         ensures kept { (u : Thread) (o : Operation) → IsReady self.old u o → IsReady self.new u o }
         ensures grown { GrownFor self.old self.new thread op }
     {
-        let grown = grow(
+        grow(
             &mut self.threads,
             &mut self.locks,
             &mut self.cells,
             self.alloc,
             thread,
             op,
-        );
-        if grown.is_ok() {
-            Ok(())
-        } else {
-            Err(OutOfMemory)
-        }
+        )
     }
 
     /// Performs the call, and answers its event's value. It takes no memory.

@@ -1,5 +1,5 @@
 //! The rows of the tables, and what one event changes in one row.
-ghost use Rattle.std.specs.Prelude.{◌≡◌, ℕ, ◌+◌, ◌<◌, ◌^◌, length, nat_eq};
+ghost use Rattle.std.specs.Prelude.{◌≡◌, ℕ, ◌+◌, ◌<◌, ◌^◌, length, nat_eq, vec_capacity};
 ghost use Rattle.std.specs.List.{position};
 ghost use Rattle.smallvec.specs.SmallVec.{HasRoomFor};
 ghost use Rattle.event_core.specs.declared.ids.LockId.{LockId as Lock};
@@ -160,11 +160,26 @@ pub fn lessen(locks: &mut [LockRow], lock: usize)
     row.depth -= 1;
 }
 
-/// The variable has the value.
-pub fn write(cells: &mut [u64], cell: usize, value: u64)
-    requires { cell < length cells.old }
-    ensures rows { cells_of cells.new ≡ updated cell value (cells_of cells.old) }
-    ensures same { length cells.new ≡ length cells.old }
+/// The variable has the value. It takes no memory.
+#[inline(always)]
+pub fn write(cells: &mut Vec<u64>, cell: usize, value: u64)
+    requires { cell < vec_capacity cells.old }
+    ensures rows { cells_of cells.new.items ≡ updated cell value (cells_of cells.old.items) }
+    ensures room { vec_capacity cells.new ≡ vec_capacity cells.old }
 {
+    lengthen(cells, cell);
     cells[cell] = value;
+}
+
+// The list reaches to the cell.
+#[inline(always)]
+fn lengthen(cells: &mut Vec<u64>, cell: usize)
+    requires { cell < vec_capacity cells.old }
+    ensures same { cells_of cells.new.items ≡ cells_of cells.old.items }
+    ensures room { vec_capacity cells.new ≡ vec_capacity cells.old }
+    ensures there { cell < length cells.new.items }
+{
+    'growing: while cells.len() <= cell {
+        cells.push_reserved(0);
+    }
 }

@@ -1,5 +1,5 @@
 //! One accepted event, on all tables.
-ghost use Rattle.std.specs.Prelude.{◌≡◌, ℕ, ◌<◌, length};
+ghost use Rattle.std.specs.Prelude.{◌≡◌, ℕ, ◌<◌, length, vec_capacity};
 ghost use Rattle.traced_mem.specs.After.{
   updated,
   mentioned_again,
@@ -16,19 +16,24 @@ use event_core::{Call, Op};
 
 /// The call's step, on the tables. They have room for it.
 #[inline(always)]
-pub fn apply_rows(threads: &mut [ThreadRow], locks: &mut [LockRow], cells: &mut [u64], call: &Call)
+pub fn apply_rows(
+    threads: &mut [ThreadRow],
+    locks: &mut [LockRow],
+    cells: &mut Vec<u64>,
+    call: &Call,
+)
     requires caller { call.now.thread.0 < length threads.old }
-    requires room { HasRoom threads.old (length locks.old) (length cells.old) call.now.thread call.now.op }
+    requires room { HasRoom threads.old (length locks.old) (vec_capacity cells.old) call.now.thread call.now.op }
     requires fits { DepthFits locks.old call.now.op }
     ensures threads { threads_of threads.new
         ≡ threads_after call.now.thread call.now.op (locks_of locks.old)
         (updated call.now.thread.0 (mentioned_again (threads_of threads.old call.now.thread.0))
         (threads_of threads.old)) }
     ensures locks { locks_of locks.new ≡ locks_after call.now.thread call.now.op (locks_of locks.old) }
-    ensures cells { cells_of cells.new ≡ cells_after call.now.op call.now.arg (cells_of cells.old) }
+    ensures cells { cells_of cells.new.items ≡ cells_after call.now.op call.now.arg (cells_of cells.old.items) }
     ensures same_threads { length threads.new ≡ length threads.old }
     ensures same_locks { length locks.new ≡ length locks.old }
-    ensures same_cells { length cells.new ≡ length cells.old }
+    ensures same_cells { vec_capacity cells.new ≡ vec_capacity cells.old }
     ensures same_room { (u : ℕ)
         → (thread_at threads.new u).held.capacity ≡ (thread_at threads.old u).held.capacity }
     ensures total { total locks.new ≡ holds_after call.now.op (total locks.old) }

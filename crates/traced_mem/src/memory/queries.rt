@@ -79,11 +79,11 @@ impl Memory {
     fn has_room_for(&self, thread: ThreadId, op: Op) -> bool
         requires { thread.0 < length self.now.threads }
         ensures { IsTrue result
-            ↔ HasRoom self.now.threads (length self.now.locks) (length self.now.cells) thread op }
+            ↔ HasRoom self.now.threads (length self.now.locks) self.now.room thread op }
     {
         match op {
             Op::Load(_) => true,
-            Op::Store(var) => (var.0 as usize) < self.cells.len(),
+            Op::Store(var) => (var.0 as usize) < self.cells.capacity(),
             Op::Acquire(lock) => (lock.0 as usize) < self.locks.len()
                 && {
                     let held = &self.threads[thread.0 as usize].held;

@@ -1,5 +1,5 @@
-use Rattle.std.proofs.Common.{length, ap, sym, refl, subst, ◌∙◌}
-use Rattle.traced_mem.specs.Tables.{meaning, Tables}
+use Rattle.std.proofs.Common.{length, ap, sym, refl, subst, ◌∙◌, vec_capacity}
+use Rattle.traced_mem.specs.Tables.{meaning, cells_of, Tables}
 use Rattle.traced_mem.specs.Room.{IsReady}
 use Rattle.traced_mem.proofs.Growing.{below_grown, same_meaning, ready_grown}
 use Rattle.traced_mem.proofs.memory.Memory.make_room.Goals as goal
@@ -7,10 +7,10 @@ use Rattle.traced_mem.proofs.memory.Memory.make_room.Goals as goal
 pub invariant_of-self : goal.invariant_of-self
 invariant_of-self c = record {
   kept = c.self.invariant.kept;
-  sum = c.self.invariant.sum ∙ sym c.grow-grown.ensures.total;
+  sum = c.self.invariant.sum ∙ sym c.grow.ensures.total;
   held = below_grown (length c.self.inside.threads.items)
-      (length c.grow-grown.new.threads.items) c.self.inside.locks.items
-      c.grow-grown.new.locks.items c.grow-grown.ensures.threads.more c.grow-grown.ensures.locks
+      (length c.grow.new.threads.items) c.self.inside.locks.items
+      c.grow.new.locks.items c.grow.ensures.threads.more c.grow.ensures.locks
       c.self.invariant.held;
 }
 
@@ -23,14 +23,16 @@ returns-clause-same c =
       threads = c.self.inside.threads.items;
       locks = c.self.inside.locks.items;
       cells = c.self.inside.cells.items;
+      room = vec_capacity c.self.inside.cells;
     } in
     let n : Tables = record t {
-      threads = c.grow-grown.new.threads.items;
-      locks = c.grow-grown.new.locks.items;
-      cells = c.grow-grown.new.cells.items;
+      threads = c.grow.new.threads.items;
+      locks = c.grow.new.locks.items;
+      cells = c.grow.new.cells.items;
+      room = vec_capacity c.grow.new.cells;
     } in
-    same_meaning t n refl refl c.grow-grown.ensures.threads.rows c.grow-grown.ensures.locks
-    c.grow-grown.ensures.cells ∙ ap meaning c.self.view_is
+    same_meaning t n refl refl c.grow.ensures.threads.rows c.grow.ensures.locks
+    (ap cells_of c.grow.ensures.cells) ∙ ap meaning c.self.view_is
 
 pub returns-clause-kept : goal.returns-clause-kept
 returns-clause-kept c u o r =
@@ -41,12 +43,14 @@ returns-clause-kept c u o r =
       threads = c.self.inside.threads.items;
       locks = c.self.inside.locks.items;
       cells = c.self.inside.cells.items;
+      room = vec_capacity c.self.inside.cells;
     } in
     let n : Tables = record t {
-      threads = c.grow-grown.new.threads.items;
-      locks = c.grow-grown.new.locks.items;
-      cells = c.grow-grown.new.cells.items;
+      threads = c.grow.new.threads.items;
+      locks = c.grow.new.locks.items;
+      cells = c.grow.new.cells.items;
+      room = vec_capacity c.grow.new.cells;
     } in
-    ready_grown t n c.grow-grown.ensures.threads c.grow-grown.ensures.more_locks
-    c.grow-grown.ensures.more_cells
+    ready_grown t n c.grow.ensures.threads c.grow.ensures.more_locks
+    c.grow.ensures.more_cells
     u o (subst (λ (s : Tables). IsReady s u o) (sym c.self.view_is) r)

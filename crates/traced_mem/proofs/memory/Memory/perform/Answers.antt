@@ -1,4 +1,5 @@
 use Rattle.std.proofs.Common.{◌≡◌, ◌+◌, ◌≤◌, List, ◌++◌, take, drop, length, ap, sym, subst, ◌∙◌, arith}
+use Rattle.std.proofs.Common.{vec_capacity}
 use Rattle.traced_mem.specs.declared.rows.ThreadRow.{ThreadRow}
 use Rattle.traced_mem.specs.declared.rows.LockRow.{LockRow}
 use Rattle.traced_mem.specs.After.{holds_after}
@@ -63,11 +64,11 @@ returns-clause-kept c u o free r =
       threads = c.self.inside.threads.items;
       locks = c.self.inside.locks.items;
       cells = c.self.inside.cells.items;
+      room = vec_capacity c.self.inside.cells;
     } in
     let lent : Tables = record old {
       threads = c.deref_mut.result.now;
       locks = c.deref_mut-2.result.now;
-      cells = c.deref_mut-3.result.now;
     } in
     let next : Tables = record {
       limits = c.self.inside.limits;
@@ -75,24 +76,21 @@ returns-clause-kept c u o free r =
       holds = c.count_holds-holds.result;
       threads = c.apply_rows.new.threads;
       locks = c.apply_rows.new.locks;
-      cells = c.apply_rows.new.cells;
+      cells = c.apply_rows.new.cells.items;
+      room = vec_capacity c.apply_rows.new.cells;
     } in
     let before : IsReady lent u o
-    = ready_of_parts old lent.threads lent.locks lent.cells
-    c.deref_mut.ensures.value c.deref_mut-2.ensures.value c.deref_mut-3.ensures.value u o
+    = ready_of_parts old lent.threads lent.locks c.deref_mut.ensures.value c.deref_mut-2.ensures.value u o
     (subst (λ (s : Tables). IsReady s u o) (sym c.self.view_is) r) in
     let after : IsReady next u o
     = still_ready lent next (locks_of lent.locks) c.args.call.now.thread c.args.call.now.op u o free
     c.apply_rows.ensures.same_threads c.apply_rows.ensures.same_locks c.apply_rows.ensures.same_cells
     c.apply_rows.ensures.same_room c.apply_rows.ensures.threads before in
-    ready_of_parts next _ _ _
+    ready_of_parts next _ _
     (refilled c.self.inside.threads.len c.apply_rows.new.threads c.self.inside.threads.items
     (c.apply_rows.ensures.same_threads ∙ ap length c.deref_mut.ensures.value)
     (sym c.deref_mut.ensures.len ∙ ap length c.deref_mut.ensures.value))
     (refilled c.self.inside.locks.len c.apply_rows.new.locks c.self.inside.locks.items
     (c.apply_rows.ensures.same_locks ∙ ap length c.deref_mut-2.ensures.value)
     (sym c.deref_mut-2.ensures.len ∙ ap length c.deref_mut-2.ensures.value))
-    (refilled c.self.inside.cells.len c.apply_rows.new.cells c.self.inside.cells.items
-    (c.apply_rows.ensures.same_cells ∙ ap length c.deref_mut-3.ensures.value)
-    (sym c.deref_mut-3.ensures.len ∙ ap length c.deref_mut-3.ensures.value))
     u o after
