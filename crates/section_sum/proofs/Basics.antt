@@ -122,9 +122,3 @@ not_false false e = sym e
 pub not_true : (b : Bool) → not b ≡ true → b ≡ false
 not_true true e = sym e
 not_true false e = refl
-
--- what holds of an Ok
-pub of_ok : {T E : Type 0} (r : Result T E) (P : T → Type 0) (Q : Type 0) → is_err r ≡ false
-    → ((x : T) → P x → Q) → IfOk r P → Q
-of_ok (Ok x) P Q e f h = f x h
-of_ok (Err x) P Q e f h = false_true (sym e)

@@ -63,12 +63,8 @@ impl Cells {
             (λ _. self.new ≡ self.old) }
     {
         let at = self.cells.len();
-        if self.cells.reserve(1).is_err() {
-            return Err(OutOfMemory);
-        }
-        if self.places.insert(Place { lock, var }).is_err() {
-            return Err(OutOfMemory);
-        }
+        self.cells.reserve(1)?;
+        self.places.insert(Place { lock, var })?;
         self.cells.push_reserved(new_cell());
         Ok(at)
     }

@@ -100,9 +100,7 @@ impl Lock {
             return Ok(());
         }
         let count = self.count + 1;
-        if self.listed.reserve(count).is_err() {
-            return Err(OutOfMemory);
-        }
+        self.listed.reserve(count)?;
         let at = cells.add(lock, var)?;
         self.count = count;
         self.sought = Some(Sought { var: var.0, at });

@@ -10,7 +10,7 @@ use crate::cell::sources;
 use crate::cells::Cells;
 use crate::lock::Lock;
 use crate::sources::Sources;
-use event_core::{AccessKind, LockId, OutOfMemory, ThreadId, VarId};
+use event_core::{AccessKind, LockId, OutOfMemory, ThreadId, VarId, grow_to};
 use std::alloc::Global;
 
 /// Makes room for the variable under each of the locks. Where there is room it takes no memory.
@@ -59,23 +59,7 @@ fn make_lock(locks: &mut Vec<Lock>, alloc: Global, lock: LockId) -> Result<(), O
     ensures there { OnOk result (lock.0 < length locks.new.items) }
     ensures refused { OnErr result (length locks.new.items ≤ lock.0) }
 {
-    'growing: while locks.len() <= lock.0 as usize {
-        add_lock(locks, alloc)?;
-    }
-    Ok(())
-}
-
-// A lock without cells joins the others.
-fn add_lock(locks: &mut Vec<Lock>, alloc: Global) -> Result<(), OutOfMemory>
-    ensures same { (l : ℕ) → kept_at locks.new.items l ≡ kept_at locks.old.items l }
-    ensures longer { OnOk result (length locks.new.items ≡ length locks.old.items + 1) }
-    ensures refused { OnErr result (locks.new.items ≡ locks.old.items) }
-{
-    if locks.reserve(1).is_err() {
-        return Err(OutOfMemory);
-    }
-    locks.push_reserved(Lock::new(alloc));
-    Ok(())
+    grow_to(locks, lock.0 as usize + 1, || Lock::new(alloc))
 }
 
 /// Whether accesses to the variable need no memory under each of the locks.

@@ -23,14 +23,16 @@ pub fn apply_rows(
     call: &Call,
 )
     requires caller { call.now.thread.0 < length threads.old }
-    requires room { HasRoom threads.old (length locks.old) (vec_capacity cells.old) call.now.thread call.now.op }
+    requires room { HasRoom threads.old (length locks.old) (vec_capacity cells.old) call.now.thread
+        call.now.op }
     requires fits { DepthFits locks.old call.now.op }
     ensures threads { threads_of threads.new
         ≡ threads_after call.now.thread call.now.op (locks_of locks.old)
         (updated call.now.thread.0 (mentioned_again (threads_of threads.old call.now.thread.0))
         (threads_of threads.old)) }
     ensures locks { locks_of locks.new ≡ locks_after call.now.thread call.now.op (locks_of locks.old) }
-    ensures cells { cells_of cells.new.items ≡ cells_after call.now.op call.now.arg (cells_of cells.old.items) }
+    ensures cells { cells_of cells.new.items
+        ≡ cells_after call.now.op call.now.arg (cells_of cells.old.items) }
     ensures same_threads { length threads.new ≡ length threads.old }
     ensures same_locks { length locks.new ≡ length locks.old }
     ensures same_cells { vec_capacity cells.new ≡ vec_capacity cells.old }

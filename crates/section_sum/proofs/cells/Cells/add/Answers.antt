@@ -1,8 +1,6 @@
-use Rattle.std.proofs.Common.{rules, ◌≡◌, ◌++◌, ◌∷◌, [], false, length, sym, ap, ◌∙◌, arith, if◌then◌else◌}
-use Rattle.std.specs.Prelude.{is_err}
+use Rattle.std.proofs.Common.{rules, ◌≡◌, ◌++◌, ◌∷◌, [], length, sym, ap, ◌∙◌, arith, if◌then◌else◌}
 use Rattle.std.proofs.lemmas.List.{length_push}
 use Rattle.section_sum.specs.Cells.{Stored, place, place_of}
-use Rattle.section_sum.proofs.Basics.{of_ok}
 use Rattle.section_sum.proofs.Standing.{absent}
 use Rattle.section_sum.proofs.cells.Cells.add.Goals as goal
 
@@ -10,13 +8,11 @@ pub invariant_of-self-2 : goal.invariant_of-self-2
 invariant_of-self-2 c =
     let keys = c.self.inside.places.keys in
     let new = place c.args.lock.0 c.args.var.0 in
-    let ok : is_err c.insert.result ≡ false = sym c.is_err-2.ensures.value ∙ c.if-is_err-2.false in
     let none = absent keys c.args.lock.0 c.args.var.0
     (ap (λ (s : Stored). place_of s.places c.args.lock.0 c.args.var.0) c.self.view_is ∙ c.requires.new
     ∙ sym (ap (λ (s : Stored). length s.places) c.self.view_is)) in
     let grew : c.insert.new.self.keys ≡ keys ++ new ∷ []
-    = of_ok c.insert.result _ _ ok (λ r e. e ∙ ap (λ b. if b then keys else keys ++ new ∷ []) none)
-    c.insert.ensures.keys in
+    = c.in_ok-insert.ensures.keys ∙ ap (λ b. if b then keys else keys ++ new ∷ []) none in
     let long = ap length grew ∙ length_push keys new in
     let was = c.self.invariant in
     let pushed = ap length c.push_reserved.ensures.items ∙ length_push _ _ in
@@ -27,11 +23,9 @@ pub returns : goal.returns
 returns c =
     let keys = c.self.inside.places.keys in
     let new = place c.args.lock.0 c.args.var.0 in
-    let ok : is_err c.insert.result ≡ false = sym c.is_err-2.ensures.value ∙ c.if-is_err-2.false in
     let none = absent keys c.args.lock.0 c.args.var.0
     (ap (λ (s : Stored). place_of s.places c.args.lock.0 c.args.var.0) c.self.view_is ∙ c.requires.new
     ∙ sym (ap (λ (s : Stored). length s.places) c.self.view_is)) in
     let grew : c.insert.new.self.keys ≡ keys ++ new ∷ []
-    = of_ok c.insert.result _ _ ok (λ r e. e ∙ ap (λ b. if b then keys else keys ++ new ∷ []) none)
-    c.insert.ensures.keys in
+    = c.in_ok-insert.ensures.keys ∙ ap (λ b. if b then keys else keys ++ new ∷ []) none in
     search (rules, grew)
