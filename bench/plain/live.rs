@@ -63,8 +63,8 @@ impl Shared {
         Some(answer)
     }
 
-    /// Acquires the lock, loads and stores a variable, and releases the lock. It answers how often the acquire
-    /// was refused.
+    /// Acquires the lock, loads and stores a variable, and releases the lock. It answers how often the
+    /// acquire was refused.
     fn section(&self, thread: u32, lock: u32, var: u32) -> u64 {
         let mut refused = 0;
         while self.call(thread, ACQUIRE, lock, 0).is_none() {
