@@ -1,6 +1,7 @@
 //! Weak causal precedence of one log, closed under its rules.
 use crate::orders::{happens_before, program_order};
 use crate::pairs::{MOST_EVENTS, MOST_PAIRS, Pairs};
+use crate::rules::Rules;
 use crate::sections::{Section, sections};
 use event_core::{Event, Op, VarId, Verdict};
 use std::alloc::{AllocError, Global};
@@ -12,10 +13,6 @@ pub struct Closure {
     pub happens_before: Pairs,
     /// The least relation that is closed under the three rules.
     pub strict: Pairs,
-    /// The least one that is closed under rules (a) and (c).
-    pub by_conflicts: Pairs,
-    /// What rule (b) added: pairs that no other rule gives before.
-    pub by_sections: Pairs,
 }
 
 // The variable that an access touches.
@@ -26,67 +23,63 @@ fn variable(op: Op) -> Option<VarId> {
     }
 }
 
-// Whether the events are accesses of one variable by different threads, at least one of them a store.
-fn conflict(one: &Event, other: &Event) -> bool {
-    one.thread != other.thread
-        && variable(one.op).is_some()
+// Whether the events are accesses of one variable, at least one of them a store.
+fn touch(one: &Event, other: &Event) -> bool {
+    variable(one.op).is_some()
         && variable(one.op) == variable(other.op)
         && (matches!(one.op, Op::Store(_)) || matches!(other.op, Op::Store(_)))
 }
 
+// Whether they are such accesses by different threads.
+fn conflict(one: &Event, other: &Event) -> bool {
+    one.thread != other.thread && touch(one, other)
+}
+
 // Whether an event of the section conflicts with the access.
-fn has_conflict(log: &[Event], section: &Section, access: &Event) -> bool {
+fn has_conflict(log: &[Event], section: &Section, access: &Event, rules: Rules) -> bool {
+    let may_conflict = section.thread != access.thread || rules.has_own_conflicts();
     let mut events = log.iter().enumerate();
-    events.any(|(index, event)| section.has(event.thread, index) && conflict(event, access))
+    may_conflict
+        && events.any(|(index, event)| section.has(event.thread, index) && touch(event, access))
 }
 
 impl Closure {
     /// Closes the relations of the log.
-    pub fn of(alloc: Global, log: &[Event]) -> Result<Closure, AllocError> {
+    pub fn of(alloc: Global, log: &[Event], rules: Rules) -> Result<Closure, AllocError> {
         let sections = sections(alloc, log)?;
-        let program_order = program_order(log);
+        let program_order = program_order(log, rules);
         let mut closure = Closure {
             program_order,
             happens_before: happens_before(program_order, &sections),
             strict: Pairs::new(),
-            by_conflicts: Pairs::new(),
-            by_sections: Pairs::new(),
         };
-        closure.order_conflicts(log, &sections);
-        closure.compose();
-        closure.by_conflicts = closure.strict;
+        closure.order_conflicts(log, &sections, rules);
         // Each round but the last adds a pair.
         for _round in 0..MOST_PAIRS {
-            if !closure.order_sections(log, &sections) {
+            if !closure.order_sections(log, &sections, rules) {
                 break;
             }
-            closure.compose();
         }
         Ok(closure)
     }
 
-    /// The relations that the log would have without rule (b).
-    pub fn without_rule_b(&self) -> Closure {
-        Closure {
-            strict: self.by_conflicts,
-            by_sections: Pairs::new(),
-            ..*self
-        }
-    }
-
     // Rule (a): a release is below a later access inside a section on its lock, where the release's own
     // section has an event that conflicts with the access.
-    fn order_conflicts(&mut self, log: &[Event], sections: &[Section]) {
+    fn order_conflicts(&mut self, log: &[Event], sections: &[Section], rules: Rules) {
         for (index, access) in log.iter().enumerate() {
             for ended in sections {
-                let inside = sections.iter().any(|section| section.lock == ended.lock
-                    && section.has(access.thread, index));
-                if let Some(release) = ended.release
-                    && release < index
-                    && inside
-                    && has_conflict(log, ended, access)
-                {
-                    self.strict.insert(release, index);
+                for around in sections {
+                    if let (Some(release), Some(end)) = (
+                        ended.release,
+                        rules.end_of_a(around, index),
+                    )
+                        && release < end
+                        && ended.lock == around.lock
+                        && around.has(access.thread, index)
+                        && has_conflict(log, ended, access, rules)
+                    {
+                        self.order(release, end);
+                    }
                 }
             }
         }
@@ -94,17 +87,17 @@ impl Closure {
 
     // Rule (b): of two sections on one lock the earlier's release is below the later's, where some event of
     // the earlier section is strictly below some event of the later one. Answers whether it added a pair.
-    fn order_sections(&mut self, log: &[Event], sections: &[Section]) -> bool {
+    fn order_sections(&mut self, log: &[Event], sections: &[Section], rules: Rules) -> bool {
         let mut added = false;
         for earlier in sections {
             for later in sections {
                 if let (Some(first), Some(second)) = (earlier.release, later.release)
                     && earlier.lock == later.lock
                     && first < second
+                    && rules.has_b(earlier, later)
                     && self.is_below(log, earlier, later)
-                    && self.strict.insert(first, second)
+                    && self.order(first, second)
                 {
-                    self.by_sections.insert(first, second);
                     added = true;
                 }
             }
@@ -122,35 +115,18 @@ impl Closure {
         })
     }
 
-    // Rule (c), until it adds nothing: what happens before or after a strict pair is strict as well.
-    fn compose(&mut self) {
-        // Each pass but the last adds a pair.
-        for _pass in 0..MOST_PAIRS {
-            if !self.compose_once() {
-                return;
+    // Orders the two events and, by rule (c), each that happens before the first and each that happens after
+    // the second. Answers whether they were not ordered yet.
+    fn order(&mut self, first: usize, second: usize) -> bool {
+        if self.strict.contains(first, second) {
+            return false;
+        }
+        for before in 0..MOST_EVENTS {
+            if self.happens_before.contains(before, first) {
+                self.strict.insert_all(before, second, &self.happens_before);
             }
         }
-    }
-
-    // One pass of rule (c) over all events. Answers whether it added a pair.
-    fn compose_once(&mut self) -> bool {
-        let mut added = false;
-        for middle in 0..MOST_EVENTS {
-            for first in 0..MOST_EVENTS {
-                for second in 0..MOST_EVENTS {
-                    if self.follows(first, middle, second) && self.strict.insert(first, second) {
-                        added = true;
-                    }
-                }
-            }
-        }
-        added
-    }
-
-    // Whether one of the two steps is strict and the other is of happens-before.
-    fn follows(&self, first: usize, middle: usize, second: usize) -> bool {
-        self.happens_before.contains(first, middle) && self.strict.contains(middle, second)
-            || self.strict.contains(first, middle) && self.happens_before.contains(middle, second)
+        true
     }
 
     /// Whether the first event is strictly below the second, or below it by program order.

@@ -1,7 +1,8 @@
 //! The comparison of a monitor's verdicts with those of the closure.
 use crate::closure::Closure;
 use crate::pairs::MOST_EVENTS;
-use crate::told::Told;
+use crate::rules::Rules;
+use event_core::{Event, Verdict};
 use std::alloc::Global;
 use std::process::Abort;
 use std::test::Fail;
@@ -10,14 +11,15 @@ use std::test::Fail;
 pub fn compare(
     rt: &impl Abort,
     alloc: Global,
-    told: &Told,
+    log: &[Event],
+    verdicts: &[Verdict],
     number: usize,
 ) -> Result<Closure, Fail> {
-    assert!(rt; told.log.len() <= MOST_EVENTS, "log {number}");
-    assert!(rt; told.log.len() == told.verdicts.len(), "log {number}");
-    let closure = Closure::of(alloc, &told.log)?;
-    for (index, answered) in told.verdicts.iter().enumerate() {
-        let closed = closure.verdict(&told.log, index);
+    assert!(rt; log.len() <= MOST_EVENTS, "log {number}");
+    assert!(rt; log.len() == verdicts.len(), "log {number}");
+    let closure = Closure::of(alloc, log, Rules::Whole)?;
+    for (index, answered) in verdicts.iter().enumerate() {
+        let closed = closure.verdict(log, index);
         assert!(rt;
             *answered == closed,
             "log {number}, event {index}: {answered:?}, not {closed:?}"

@@ -1,38 +1,14 @@
 //! Random calls, the same in each run.
 ghost use Rattle.std.specs.Prelude.{◌<◌};
 
-use crate::calls::{L, M, T0, T1, X, Y, call};
+use crate::calls::call;
+use crate::templates::{Cast, LOCKS, TEMPLATES, THREADS, VARS, template};
 use crate::told::add;
-use event_core::Op::{self, Acquire, Load, Release, Store};
-use event_core::{Call, LockId, ThreadId, VarId};
+use event_core::{Act, Call, LockId, Op, SiteId, ThreadId, VarId};
 use std::alloc::{AllocError, Global};
 
-const THREADS: u32 = 3;
-
-const LOCKS: u32 = 2;
-
-const VARS: u32 = 2;
-
-// Both threads touch `X` in a section on `M`. The first one's is in its section on `L`, so by rule (b) the
-// release of that is below the other's release of `L`. A lock that is held is acquired once more.
-const SECTIONS: &[(ThreadId, Op)] = &[
-    (T0, Acquire(L)),
-    (T0, Acquire(M)),
-    (T0, Acquire(L)),
-    (T0, Store(X)),
-    (T0, Release(M)),
-    (T0, Store(Y)),
-    (T0, Release(L)),
-    (T0, Release(L)),
-    (T1, Acquire(M)),
-    (T1, Acquire(M)),
-    (T1, Load(X)),
-    (T1, Release(M)),
-    (T1, Release(M)),
-    (T1, Acquire(L)),
-    (T1, Release(L)),
-    (T1, Load(Y)),
-];
+// How many acts there are after a template. A monitor refuses most of them.
+const TAIL: u32 = 64;
 
 /// A source of random numbers: xorshift64 (Marsaglia, "Xorshift RNGs", 2003).
 #[derive(Drop)]
@@ -88,15 +64,40 @@ impl Generator {
         Ok(calls)
     }
 
-    /// The calls of nested sections, and before each of them perhaps another.
-    pub fn calls_in_sections(&mut self, alloc: Global) -> Result<Vec<Call>, AllocError> {
-        let mut calls = Vec::new(alloc);
-        for (thread, op) in SECTIONS {
-            if self.below(2) == 0 {
-                add(&mut calls, self.call())?;
-            }
-            add(&mut calls, call(*thread, *op, 0))?;
+    // A call, or a swap in place of some of the stores.
+    fn act(&mut self, thread: ThreadId, op: Op) -> Act {
+        let is_swap = self.below(4) == 0;
+        match op {
+            Op::Store(var) if is_swap => Act::Swap {
+                thread,
+                var,
+                site: SiteId(0),
+                arg: 0,
+            },
+            _ => Act::One(call(thread, op, 0)),
         }
-        Ok(calls)
+    }
+
+    // An act by any thread.
+    fn any_act(&mut self) -> Act {
+        let call = self.call();
+        self.act(call.thread, call.op)
+    }
+
+    /// The acts of one of the templates, before each of them perhaps another, and a tail of others. Any
+    /// threads, locks and variables stand for those of the template.
+    pub fn acts(&mut self, alloc: Global) -> Result<Vec<Act>, AllocError> {
+        let mut acts = Vec::new(alloc);
+        let cast = Cast::new(self.below(THREADS), self.below(LOCKS), self.below(VARS));
+        for (thread, op) in template(self.below(TEMPLATES)) {
+            if self.below(4) == 0 {
+                add(&mut acts, self.any_act())?;
+            }
+            add(&mut acts, self.act(cast.thread(*thread), cast.op(*op)))?;
+        }
+        for _act in 0..TAIL {
+            add(&mut acts, self.any_act())?;
+        }
+        Ok(acts)
     }
 }

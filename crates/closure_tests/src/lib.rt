@@ -9,6 +9,8 @@
 #![tactic(auto)]
 
 #[cfg(test)]
+mod broken_rules;
+#[cfg(test)]
 mod calls;
 #[cfg(test)]
 mod closure;
@@ -16,6 +18,8 @@ mod closure;
 mod compared;
 #[cfg(test)]
 mod generator;
+#[cfg(test)]
+mod judged;
 #[cfg(test)]
 mod orders;
 #[cfg(test)]
@@ -25,6 +29,8 @@ mod random_logs;
 #[cfg(test)]
 mod room;
 #[cfg(test)]
+mod rules;
+#[cfg(test)]
 mod runs;
 #[cfg(test)]
 mod sections;
@@ -32,6 +38,8 @@ mod sections;
 mod steps;
 #[cfg(test)]
 mod swaps;
+#[cfg(test)]
+mod templates;
 #[cfg(test)]
 mod told;
 #[cfg(test)]

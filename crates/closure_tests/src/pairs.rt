@@ -1,6 +1,6 @@
 //! Sets of pairs of events. An event is named by its index in the log.
 
-/// How many events a log may have.
+/// How many events a log may have: as many as a row has bits.
 pub const MOST_EVENTS: usize = 32;
 
 /// How many pairs there may be.
@@ -9,39 +9,44 @@ pub const MOST_PAIRS: usize = 1024;
 /// A set of pairs of events.
 #[derive(Clone, Copy)]
 pub struct Pairs {
-    held: [[bool; MOST_EVENTS]; MOST_EVENTS],
+    // A row for each event. The bit of an index says that the event there is paired with it.
+    rows: [u32; MOST_EVENTS],
 }
 
 impl Pairs {
     /// The set without pairs.
     pub fn new() -> Pairs {
         Pairs {
-            held: [[false; MOST_EVENTS]; MOST_EVENTS],
+            rows: [0; MOST_EVENTS],
         }
     }
 
     /// Whether the pair is in the set.
     pub fn contains(&self, first: usize, second: usize) -> bool {
-        first < MOST_EVENTS && second < MOST_EVENTS && self.held[first][second]
+        first < MOST_EVENTS && second < MOST_EVENTS && self.rows[first] & (1 << second) != 0
     }
 
-    /// Adds the pair, and answers whether it is new.
-    pub fn insert(&mut self, first: usize, second: usize) -> bool {
-        if first >= MOST_EVENTS || second >= MOST_EVENTS || self.held[first][second] {
-            return false;
+    /// Adds the pair.
+    pub fn insert(&mut self, first: usize, second: usize) {
+        if first < MOST_EVENTS && second < MOST_EVENTS {
+            self.rows[first] |= 1 << second;
         }
-        self.held[first][second] = true;
-        true
+    }
+
+    /// Pairs the first event with each that the other set pairs with the middle one.
+    pub fn insert_all(&mut self, first: usize, middle: usize, other: &Pairs) {
+        if first < MOST_EVENTS && middle < MOST_EVENTS {
+            self.rows[first] |= other.rows[middle];
+        }
     }
 
     /// Adds what follows from the pairs by any number of steps from one to the next.
     pub fn close(&mut self) {
         for middle in 0..MOST_EVENTS {
+            let old = *self;
             for first in 0..MOST_EVENTS {
-                for second in 0..MOST_EVENTS {
-                    if self.contains(first, middle) && self.contains(middle, second) {
-                        self.insert(first, second);
-                    }
+                if old.contains(first, middle) {
+                    self.insert_all(first, middle, &old);
                 }
             }
         }
@@ -49,13 +54,9 @@ impl Pairs {
 
     /// The pairs that are not in the other set.
     pub fn without(&self, other: &Pairs) -> Pairs {
-        let mut left = Pairs::new();
-        for first in 0..MOST_EVENTS {
-            for second in 0..MOST_EVENTS {
-                if self.contains(first, second) && !other.contains(first, second) {
-                    left.insert(first, second);
-                }
-            }
+        let mut left = *self;
+        for (row, more) in left.rows.iter_mut().zip(&other.rows) {
+            *row &= !*more;
         }
         left
     }
@@ -63,12 +64,8 @@ impl Pairs {
     /// How many pairs there are.
     pub fn count(&self) -> u64 {
         let mut count: u64 = 0;
-        for row in &self.held {
-            for held in row {
-                if *held {
-                    count = count.saturating_add(1);
-                }
-            }
+        for row in &self.rows {
+            count = count.saturating_add(u64::from(row.count_ones()));
         }
         count
     }

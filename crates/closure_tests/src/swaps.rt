@@ -2,6 +2,7 @@
 //!
 //! What is refused memory once is asked for once more.
 use crate::calls::{T0, T1, X, call};
+use crate::judged::take;
 use crate::told::{add, monitor};
 use event_core::Op::{self, Fork, Load};
 use event_core::Refusal::{self, LogFull};
@@ -113,31 +114,6 @@ fn done(answer: Answer) -> Done {
             store,
         }),
         Answer::Refused(refusal) => Done::Refused(refusal),
-    }
-}
-
-fn take_once(monitor: &mut Monitor, act: Act) -> Done {
-    match act {
-        Act::One(call) => match monitor.step(call) {
-            Ok(reply) => Done::One(reply),
-            Err(refusal) => Done::Refused(refusal),
-        },
-        Act::Swap {
-            thread,
-            var,
-            site,
-            arg,
-        } => match monitor.swap(thread, var, arg, site) {
-            Ok(reply) => Done::Swap(reply),
-            Err(refusal) => Done::Refused(refusal),
-        },
-    }
-}
-
-fn take(monitor: &mut Monitor, act: Act) -> Done {
-    match take_once(monitor, act) {
-        Done::Refused(Refusal::OutOfMemory) => take_once(monitor, act),
-        done => done,
     }
 }
 

@@ -43,6 +43,16 @@ pub fn monitor(alloc: Global, limits: &Limits) -> Result<Monitor, OutOfMemory> {
     }
 }
 
+/// Adds the events of the monitor's log to the list.
+pub fn copy_log(monitor: &Monitor, events: &mut Vec<Event>) -> Result<(), AllocError> {
+    for index in 0..monitor.log().len() {
+        if let Some(event) = monitor.log().get(index) {
+            add(events, event)?;
+        }
+    }
+    Ok(())
+}
+
 /// What becomes of the call at the first try.
 pub fn step_once(monitor: &mut Monitor, call: Call) -> Outcome {
     match monitor.step(call) {
@@ -152,11 +162,7 @@ impl Told {
 
     // Keeps the log and the races that the monitor holds. Its list of verdicts has those that it answered.
     fn hold(&mut self, rt: &impl Abort, monitor: &Monitor) -> Result<(), AllocError> {
-        for index in 0..monitor.log().len() {
-            if let Some(event) = monitor.log().get(index) {
-                add(&mut self.log, event)?;
-            }
-        }
+        copy_log(monitor, &mut self.log)?;
         for race in monitor.verdicts().races() {
             add(&mut self.races, *race)?;
         }

@@ -250,7 +250,7 @@ fn expect(rt: &impl Abort, alloc: Global, worked: &Worked, number: usize) -> Res
     }
     let told = tell_both(rt, alloc, &limits, &calls)?;
     expect_races(rt, worked, &told);
-    compare(rt, alloc, &told, number)?;
+    compare(rt, alloc, &told.log, &told.verdicts, number)?;
     Ok(())
 }
 
