@@ -35,8 +35,8 @@ abbrev pub line_start : List ℕ → List ℕ
 line_start [] = []
 line_start (b ∷ bs) = if b == 10 then [] else b ∷ line_start bs
 
--- what a line cutter holds: the number and the bytes of the line whose end was not seen, the last line that did
--- not lie whole in a piece, and how many bytes came
+-- what a line cutter holds: the number and the bytes of the line whose end was not seen, the last line that
+-- did not lie whole in a piece, and how many bytes came
 pub record Lines : Type 0 where
   pub unfinished : ℕ
   pub kept : List ℕ

@@ -1,8 +1,8 @@
 //! A text, which comes in pieces, cut into lines.
 //!
-//! A line that lies whole in a piece stays where it is. Of a line whose end was not seen at most 1,025 bytes are
-//! kept, and with one byte more it is too long: a content of at most 1,024 bytes and a CR is shorter. So no
-//! memory is taken, however long the text is.
+//! A line that lies whole in a piece stays where it is. Of a line whose end was not seen at most 1,025 bytes
+//! are kept, and with one byte more it is too long: a content of at most 1,024 bytes and a CR is shorter. So
+//! no memory is taken, however long the text is.
 //!
 //! The way of a line that lies whole in a piece is inlined, since an answer that is handed up through memory
 //! costs more than the cut. What is rare stands in functions of its own.
@@ -170,8 +170,8 @@ impl LineCutter {
         piece.len() as u64 <= MOST_BYTES - self.taken
     }
 
-    /// The first line that ends in the piece, with what was kept of it, and the rest of the piece; none, where no
-    /// line ends in the piece, and then all of it is kept.
+    /// The first line that ends in the piece, with what was kept of it, and the rest of the piece; none, where
+    /// no line ends in the piece, and then all of it is kept.
     #[inline(always)]
     #[tactic(auto, using(crate::proofs::LineLaws::next_lines))]
     pub fn next_line<'a>(
