@@ -139,7 +139,7 @@ fn a_failed_read_is_told_where_it_failed(rt: HostRuntime) -> Result<(), Fail> {
 }
 
 #[test]
-fn reads_no_more_often_than_the_turns(rt: HostRuntime) -> Result<(), Fail> {
+fn a_reader_is_asked_no_more_often_than_the_turns(rt: HostRuntime) -> Result<(), Fail> {
     for (turns, cause) in TURNS {
         let reading = Reading {
             text: b"m r x\na r x",

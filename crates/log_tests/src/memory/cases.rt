@@ -63,6 +63,7 @@ pub const CASES: &[Case] = &[
         events: 4,
         roots: Roots::OnlyMain,
         rows: &[
+            Ready(0, ACQUIRE, false),
             Called(0, ACQUIRE, 0, Ok(0)),
             Called(0, ACQUIRE, 0, Ok(0)),
             Holder(Some(ThreadId(0)), 2),
