@@ -122,7 +122,7 @@ fn make_room(rt: &impl Abort, queues: &mut Queues, thread: ThreadId, lock: LockI
     ensures { SameMeaning queues.old queues.new }
 {
     if queues.make_room(thread, lock).is_err() {
-        assert!(rt; !queues.has_room(thread, lock));
+        assert!(rt; !queues.ready(thread, lock));
         assert!(rt; queues.make_room(thread, lock).is_ok(), "memory");
     }
 }
@@ -153,7 +153,7 @@ fn close_first(
     ensures found { found_of queues.new ≡ found_of queues.old }
     ensures limits { queues.new.limits ≡ queues.old.limits }
 {
-    assert!(rt; queues.has_room(thread, lock));
+    assert!(rt; queues.ready(thread, lock));
     expect_none(rt, queues, lock);
     queues.enter(thread, lock, mark);
     queues.leave(thread, lock, clock);
@@ -180,7 +180,7 @@ fn find(
     ensures closed { closed_of queues.new ≡ closed_of queues.old }
     ensures limits { queues.new.limits ≡ queues.old.limits }
 {
-    assert!(rt; queues.has_room(thread, lock));
+    assert!(rt; queues.ready(thread, lock));
     queues.enter(thread, lock, mark);
     let below = queues.last_below(thread, lock, clock, work)?;
     Some((below.by(), below.own()))
@@ -261,7 +261,7 @@ impl Sections {
             Row::Take(thread) => self.run.take(rt, &event(*thread, Op::Load(VarId(0)))),
             Row::MakeRoom(thread, lock) => self.make_room(rt, *thread, *lock),
             Row::HasRoom(thread, lock, wanted) => {
-                assert!(rt; self.queues.has_room(*thread, *lock) == *wanted);
+                assert!(rt; self.queues.ready(*thread, *lock) == *wanted);
             }
             Row::SpareRoom(thread, lock, wanted) => {
                 assert!(rt; self.queues.take_spare_room(*thread, *lock) == *wanted);

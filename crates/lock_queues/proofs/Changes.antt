@@ -1,11 +1,10 @@
 -- What a queue says of each thread after a change.
-use Rattle.std.proofs.Common.{◌≡◌, ℕ, ◌<◌, ◌≤◌, ◌⊎◌, true, false, Option, Some, None, List, [], ◌∷◌, ◌++◌}
-use Rattle.std.proofs.Common.{length, set, Bool}
+use Rattle.std.proofs.Common.{◌≡◌, ℕ, ◌<◌, ◌⊎◌, true, false, Option, Some, None, List, [], ◌∷◌, ◌++◌}
+use Rattle.std.proofs.Common.{set, Bool}
 use Rattle.std.proofs.Common.{rules, sym, ap, subst, ◌∙◌, arith}
-use Rattle.std.specs.Prelude.{IfSome, IsSome, slice_index}
+use Rattle.std.specs.Prelude.{IfSome, IsSome}
 use Rattle.std.specs.List.{remove}
-use Rattle.std.proofs.lemmas.Bool.{cases_lt, cases_eq}
-use Rattle.std.proofs.lemmas.List.{get_or_push, get_or_append_left, get_or_past, length_push}
+use Rattle.std.proofs.lemmas.Bool.{cases_eq}
 use mathlib.Core.Logic.{inl, inr}
 use Rattle.event_core.specs.Rows.{with_row}
 use Rattle.event_core.proofs.Growing.{row_same, row_other}
@@ -62,18 +61,6 @@ pub has_remove : (n : ℕ) {rooms : List Room} {t i : ℕ} → AreRooms n rooms 
 has_remove n {rooms = rooms} {t = t} are p =
     ap (λ k. has_room_in (remove rooms k)) p.at
     ∙ (λ j u. looked_remove (λ _. true) false n rooms t are p.has u j)
-
--- a further thread has found none
-pub found_push : (found : List ℕ) → slice_index (found ++ 0 ∷ []) ≡ slice_index found
-found_push found i t = go (cases_lt t (length found)) (cases_eq (length found) t) i
-  where
-    go : (t < length found) ⊎ (length found ≤ t) → (length found ≡ t) ⊎ (length found ≡ t → ⊥)
-        → slice_index (found ++ 0 ∷ []) t ≡ slice_index found t
-    go (inl below) e = get_or_append_left found (0 ∷ []) 0 t below
-    go (inr past) (inl is) = get_or_push found 0 0 t is ∙ sym (get_or_past found t 0 past)
-    go (inr past) (inr not_so) =
-        let n = length_push found 0 in
-        get_or_past (found ++ 0 ∷ []) t 0 (omega (arith, not_so)) ∙ sym (get_or_past found t 0 past)
 
 -- where one thread more has room, those that had have it
 pub row_true : (t : ℕ) (f : ℕ → Bool) (u : ℕ) → f u ≡ true → with_row t true f u ≡ true

@@ -8,7 +8,7 @@ ghost use Rattle.std.specs.Prelude.{◌≡◌, ◌≤◌, length, max, slice_ind
 use crate::rooms::{Room, find};
 use crate::search::search_from;
 use crate::sections::Entry;
-use event_core::{OutOfMemory, ThreadId};
+use event_core::{OutOfMemory, ThreadId, grow_to};
 use std::alloc::Global;
 use std::marker::Model;
 use vector_clocks::{Clock, Mark, ReleaseClock, ReleaseClocks, Work};
@@ -72,7 +72,7 @@ impl Queue {
     }
 
     // Whether the thread has made room.
-    pub(crate) fn has_room(&self, thread: ThreadId) -> bool
+    pub(crate) fn ready(&self, thread: ThreadId) -> bool
         ensures { result ≡ has_room_in self.now.rooms thread.0 }
     {
         find(&self.rooms, thread) < self.rooms.len()
@@ -93,9 +93,7 @@ impl Queue {
             thread,
             opened: None,
         };
-        let Ok(()) = self.rooms.push(room) else {
-            return Err(OutOfMemory);
-        };
+        self.rooms.push(room)?;
         Ok(())
     }
 
@@ -132,10 +130,8 @@ impl Queue {
         ensures spare { OnOk result
             (length self.new.entries + (length self.new.rooms + 1) ≤ self.new.most) }
     {
-        grow(&mut self.found, thread.0 as usize + 1)?;
-        let Ok(()) = self.entries.reserve(self.rooms.len() + 1) else {
-            return Err(OutOfMemory);
-        };
+        grow_to(&mut self.found, thread.0 as usize + 1, || 0)?;
+        self.entries.reserve(self.rooms.len() + 1)?;
         Ok(())
     }
 
@@ -247,19 +243,4 @@ impl Queue {
         let entry = &self.entries[at];
         releases.at(entry.acquire.thread(), &entry.place)
     }
-}
-
-// Further threads have found none.
-fn grow(found: &mut Vec<usize>, count: usize) -> Result<(), OutOfMemory>
-    ensures same { slice_index found.new.items ≡ slice_index found.old.items }
-    ensures more { length found.old.items ≤ length found.new.items }
-    ensures most { length found.new.items ≤ max (length found.old.items) count }
-    ensures ok { OnOk result (count ≤ length found.new.items) }
-{
-    'growing: while found.len() < count {
-        let Ok(()) = found.push(0) else {
-            return Err(OutOfMemory);
-        };
-    }
-    Ok(())
 }

@@ -15,7 +15,7 @@ ghost use Rattle.lock_queues.specs.Queue.{AreAlike};
 ghost use Rattle.lock_queues.specs.Queues.{AreWide, count_rooms};
 
 use crate::queue::Queue;
-use event_core::{Limits, LockId, OutOfMemory, ThreadId};
+use event_core::{Limits, LockId, OutOfMemory, ThreadId, grow_to};
 use std::alloc::Global;
 use std::marker::Model;
 use vector_clocks::{Clock, Mark, ReleaseClock, ReleaseClocks, Work};
@@ -108,7 +108,7 @@ impl Queues {
         ensures err { OnErr result (has_room self.new ≡ has_room self.old) }
         ensures again { IsTrue (has_room self.old thread.0 lock.0) → IsOk result }
     {
-        if self.has_room(thread, lock) {
+        if self.ready(thread, lock) {
             return Ok(());
         }
         let at = lock.0 as usize;
@@ -125,22 +125,22 @@ impl Queues {
     }
 
     /// Whether there is room for the thread's next section on the lock, or for its open one.
-    pub fn has_room(&self, thread: ThreadId, lock: LockId) -> bool
+    pub fn ready(&self, thread: ThreadId, lock: LockId) -> bool
         ensures room { result ≡ has_room self.now thread.0 lock.0 }
         ensures entered { 0 < opened_of self.now thread.0 lock.0 → IsTrue result }
     {
         let at = lock.0 as usize;
-        at < self.queues.len() && self.queues[at].has_room(thread)
+        at < self.queues.len() && self.queues[at].ready(thread)
     }
 
     /// Makes room for the thread's next section on the lock where that takes no memory. Tells whether there
-    /// is room for it now, or for the open one, as `has_room` does.
+    /// is room for it now, or for the open one, as `ready` does.
     pub fn take_spare_room(&mut self, thread: ThreadId, lock: LockId) -> bool
         ensures room { result ≡ has_room self.new thread.0 lock.0 }
         ensures same { SameMeaning self.old self.new }
         ensures kept { (t l : ℕ) → IsTrue (has_room self.old t l) → IsTrue (has_room self.new t l) }
     {
-        if self.has_room(thread, lock) {
+        if self.ready(thread, lock) {
             return true;
         }
         let at = lock.0 as usize;
@@ -148,7 +148,7 @@ impl Queues {
             return false;
         };
         let width = self.limits.threads() as usize;
-        if self.queues.len() <= at || !self.releases.has_room(rooms, width) {
+        if self.queues.len() <= at || !self.releases.ready(rooms, width) {
             return false;
         }
         let queue = &mut self.queues[at];
@@ -331,10 +331,5 @@ fn grow(
     ensures more { length queues.old.items ≤ length queues.new.items }
     ensures ok { OnOk result (count ≤ length queues.new.items) }
 {
-    'growing: while queues.len() < count {
-        let Ok(()) = queues.push(Queue::new(alloc, width)) else {
-            return Err(OutOfMemory);
-        };
-    }
-    Ok(())
+    grow_to(queues, count, || Queue::new(alloc, width))
 }

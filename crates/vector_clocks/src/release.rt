@@ -88,7 +88,7 @@ impl ReleaseClocks {
     }
 
     /// Whether there is room for so many clocks more of the width.
-    pub fn has_room(&self, more: usize, width: usize) -> bool
+    pub fn ready(&self, more: usize, width: usize) -> bool
         ensures { IsTrue result ↔ (length self.now.numbers + more * width ≤ self.now.most) }
     {
         let spare = self.numbers.capacity() - self.numbers.len();

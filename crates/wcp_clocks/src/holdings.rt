@@ -6,7 +6,7 @@ ghost use Rattle.wcp_laws.specs.Step.{without};
 ghost use Rattle.wcp_clocks.specs.HeldLists.{list_at, held_of, room_at, numbers_of, without_lock};
 ghost use Rattle.wcp_clocks.specs.HeldLists.{KeepsPlaces};
 
-use event_core::{LockId, OutOfMemory, ThreadId};
+use event_core::{LockId, OutOfMemory, ThreadId, grow_to};
 use std::alloc::Global;
 use std::marker::Model;
 
@@ -57,13 +57,11 @@ impl Holding {
         ensures more { self.old.room ≤ self.new.room }
         ensures room { OnOk result (0 < self.new.room) }
     {
-        match self.locks.reserve(1) {
-            Ok(()) => Ok(()),
-            Err(_) => Err(OutOfMemory),
-        }
+        self.locks.reserve(1)?;
+        Ok(())
     }
 
-    fn has_room(&self) -> bool
+    fn ready(&self) -> bool
         ensures { result ≡ nat_lt 0 self.now.room }
     {
         self.locks.len() < self.locks.capacity()
@@ -131,16 +129,17 @@ impl Holdings {
         ensures room { OnOk result (0 < room_at self.new thread.0) }
     {
         let at = thread.0 as usize;
-        grow(&mut self.lists, self.alloc, at + 1)?;
+        let alloc = self.alloc;
+        grow_to(&mut self.lists, at + 1, || Holding::new(alloc))?;
         make_room_at(&mut self.lists, at)
     }
 
     // Whether there is room for one lock more of the thread.
-    pub(crate) fn has_room(&self, thread: ThreadId) -> bool
+    pub(crate) fn ready(&self, thread: ThreadId) -> bool
         ensures { IsTrue result ↔ (0 < room_at self.now thread.0) }
     {
         let at = thread.0 as usize;
-        at < self.lists.len() && self.lists[at].has_room()
+        at < self.lists.len() && self.lists[at].ready()
     }
 
     // The thread holds one lock more.
@@ -160,20 +159,6 @@ impl Holdings {
     {
         remove_at(&mut self.lists, thread.0 as usize, lock);
     }
-}
-
-// So many threads have a list.
-fn grow(lists: &mut Vec<Holding>, alloc: Global, threads: usize) -> Result<(), OutOfMemory>
-    ensures same { (t : ℕ) → list_at lists.new.items t ≡ list_at lists.old.items t }
-    ensures more { length lists.old.items ≤ length lists.new.items }
-    ensures ok { OnOk result (threads ≤ length lists.new.items) }
-{
-    'growing: while lists.len() < threads {
-        if lists.push(Holding::new(alloc)).is_err() {
-            return Err(OutOfMemory);
-        }
-    }
-    Ok(())
 }
 
 fn make_room_at(lists: &mut [Holding], at: usize) -> Result<(), OutOfMemory>

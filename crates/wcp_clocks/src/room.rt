@@ -165,7 +165,7 @@ fn has_section_or_grow(parts: &mut Parts, thread: ThreadId, lock: LockId) -> boo
     ensures grown { HasGrown parts.old parts.new }
 {
     parts.rows.has_lock(lock)
-        && parts.held.has_room(thread)
+        && parts.held.ready(thread)
         && parts.queues.take_spare_room(thread, lock)
 }
 
@@ -187,7 +187,7 @@ fn has_section(parts: &Parts, thread: ThreadId, lock: LockId) -> bool
     ensures { IsTrue result ↔ (HasLock parts.now.rows lock.0
         × IsTrue (has_room parts.now.queues thread.0 lock.0) × (0 < room_at parts.now.held thread.0)) }
 {
-    parts.rows.has_lock(lock) && parts.queues.has_room(thread, lock) && parts.held.has_room(thread)
+    parts.rows.has_lock(lock) && parts.queues.ready(thread, lock) && parts.held.ready(thread)
 }
 
 // Whether the strict clocks of the event's thread and of what it names were made.

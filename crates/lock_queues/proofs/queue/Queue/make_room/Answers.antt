@@ -25,7 +25,7 @@ invariant_of-self-2 c =
     let spare = c.in_ok-reserve.ensures.spare in
     subst (λ (xs : List Room). IsKept c.self.inside.width c.self.inside.entries.items c.self.inside.first xs
     found (vec_capacity c.self.inside.entries))
-    (sym c.in-Ok.ensures.items) (kept_pushed s c.self.invariant none room (omega arith))
+    (sym c.in_ok-push.ensures.items) (kept_pushed s c.self.invariant none room (omega arith))
 
 pub returns-clause-same : goal.returns-clause-same
 returns-clause-same c =
@@ -37,7 +37,7 @@ returns-clause-same c =
       width = ap (λ (k : Kept). k.width) c.self.view_is ∙ c.in_ok-reserve.ensures.same.width;
       entries = ap (λ (k : Kept). k.entries) c.self.view_is ∙ c.in_ok-reserve.ensures.same.entries;
       opened =
-          ap opened_in c.in-Ok.ensures.items ∙ opened_push c.self.inside.rooms.items s refl none
+          ap opened_in c.in_ok-push.ensures.items ∙ opened_push c.self.inside.rooms.items s refl none
           ∙ ap opened_in same;
       found = ap (λ (k : Kept). slice_index k.found) c.self.view_is ∙ c.in_ok-reserve.ensures.same.found;
     }
@@ -48,5 +48,5 @@ returns-clause-ok c =
     let same = ap (λ (k : Kept). k.rooms) c.self.view_is ∙ c.in_ok-reserve.ensures.rooms in
     let none : has_room_in c.self.inside.rooms.items c.args.thread.0 ≡ false
     = ap (λ (xs : List Room). has_room_in xs c.args.thread.0) same ∙ c.requires.none in
-    ap has_room_in c.in-Ok.ensures.items ∙ has_push c.self.inside.rooms.items s none
+    ap has_room_in c.in_ok-push.ensures.items ∙ has_push c.self.inside.rooms.items s none
     ∙ ap (λ (xs : List Room). with_row c.args.thread.0 true (has_room_in xs)) same

@@ -19,7 +19,7 @@ invariant_of-self c =
     ∙ ap (λ (b : Bool). length c.index_mut-queue.result.now.rooms + cond {A = ℕ} b 1 0) c.if-is_made.true in
     let rooms = ap (λ (q : Kept). length q.rooms) is in
     let next = c.in-Some.ensures.1 in
-    let spare = c.has_room-else-len-at.ensures.0 c.if-not-has_room.false in
+    let spare = c.ready-else-len-at.ensures.0 c.if-not-ready.false in
     let times = ap (λ w. c.in-Some.rooms * w) c.threads-width.ensures.is in
     kept_set l c.take_spare_room-is_made.new.self _ c.self.invariant lt (same.width ∙ ap (λ (q : Kept). q.width) is)
     (same.entries ∙ ap (λ (q : Kept). q.entries) is) (omega (arith, next, rooms))

@@ -3,7 +3,7 @@ use Rattle.lock_queues.specs.Rooms.{has_room_in}
 use Rattle.lock_queues.specs.Queue.{Kept}
 use Rattle.lock_queues.specs.Queues.{Tables, opened_of}
 use Rattle.lock_queues.proofs.Lifting.{read_entered}
-use Rattle.lock_queues.proofs.queues.Queues.has_room.Goals as goal
+use Rattle.lock_queues.proofs.queues.Queues.ready.Goals as goal
 
 pub returns-then-at-len-clause-entered : goal.returns-then-at-len-clause-entered
 returns-then-at-len-clause-entered c open_now =
@@ -12,4 +12,4 @@ returns-then-at-len-clause-entered c open_now =
     let entered = subst (λ (v : Tables). 0 < opened_of v t l) (sym c.self.view_is) open_now in
     let qs = c.self.inside.queues.items in
     let read = read_entered qs t l c.index.result.now entered c.index.ensures in
-    c.has_room.ensures ∙ ap (λ (q : Kept). has_room_in q.rooms t) read.is ∙ read.has
+    c.ready.ensures ∙ ap (λ (q : Kept). has_room_in q.rooms t) read.is ∙ read.has

@@ -3,7 +3,7 @@ use Rattle.lock_queues.specs.declared.rooms.Room.{Room}
 use Rattle.lock_queues.specs.Rooms.{has_room_in}
 use Rattle.lock_queues.specs.Queue.{Kept}
 use Rattle.lock_queues.proofs.Placing.{has_by_place}
-use Rattle.lock_queues.proofs.queue.Queue.has_room.Goals as goal
+use Rattle.lock_queues.proofs.queue.Queue.ready.Goals as goal
 
 pub returns : goal.returns
 returns c =
