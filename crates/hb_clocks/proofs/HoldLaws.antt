@@ -1,8 +1,8 @@
 -- Who holds each lock after an operation, as how often each thread does.
-use Rattle.std.proofs.Common.{◌≤◌, ◌≡◌, ℕ, ◌<◌, ◌+◌, ◌-◌, List, Bool, true, false, ◌&&◌, length, set}
+use Rattle.std.proofs.Common.{◌≡◌, ℕ, ◌<◌, ◌+◌, ◌-◌, List, Bool, true, false, ◌&&◌, length, set}
 use Rattle.std.proofs.Common.{cond, nat_eq, refl, sym, ap, subst, ◌∙◌, arith, inl, inr, ◌⊎◌}
 use Rattle.std.proofs.lemmas.Bool.{cases_eq, eq-eqb}
-use Rattle.std.proofs.lemmas.List.{get_or-set_same, get_or-set_other, get_or_past, length-set}
+use Rattle.std.proofs.lemmas.List.{get_or-set_same, get_or-set_other, length-set}
 use Rattle.event_core.specs.declared.ids.LockId.{LockId}
 use Rattle.event_core.specs.declared.events.Op.{Op}
 use Rattle.event_core.specs.declared.events.Op.TheVariants.{Load, Store, Acquire, Release, Fork, Join}
@@ -239,9 +239,6 @@ alone_none holds t l none u n = go (nat_eq u (hold_at holds l).holder)
     go : (b : Bool) → cond b (hold_at holds l).depth 0 ≡ 0
     go true = none
     go false = refl
-
-pub alone_past : (holds : List Hold) (t l : ℕ) → length holds ≤ l → Alone holds t l
-alone_past holds t l le = alone_none holds t l (ap (λ (x : Hold). x.depth) (get_or_past holds l no_hold le))
 
 pub alone_holder : (holds : List Hold) (t l : ℕ) → (hold_at holds l).holder ≡ t → Alone holds t l
 alone_holder holds t l is u n = not_holder holds u l (λ e. n (e ∙ is))

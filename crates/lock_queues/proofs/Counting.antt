@@ -1,7 +1,7 @@
 -- Which sections a clock counts, where it counts each that is earlier than a counted one.
 use Rattle.std.proofs.Common.{◌≡◌, ℕ, suc, zero, ◌+◌, ◌<◌, ◌≤◌, ◌⊎◌, Bool, true, false, cond, List, [], ◌∷◌}
 use Rattle.std.proofs.Common.{map, length}
-use Rattle.std.proofs.Common.{refl, sym, ap, subst, ◌∙◌, arith}
+use Rattle.std.proofs.Common.{refl, ap, arith}
 use Rattle.std.proofs.lemmas.Bool.{cases_Bool, leb-true, le-leb}
 use mathlib.Core.Logic.{inl, inr}
 use Rattle.event_core.specs.Closed.{Has, first, later, is_counted, number_counted}
@@ -89,14 +89,6 @@ number_is (s ∷ ss) clock (suc f) le counted stop before =
     (λ lt is. stop (omega arith) is) (rest_before s ss clock before) in
     let head = counts_head s ss clock (is_counted_at (s ∷ ss) clock 0 (counted 0 (omega arith))) in
     omega arith
-
--- the same, of a slice that holds the sections
-pub number_seen : (seen ss : List Section) (clock : List ℕ) (f : ℕ) → seen ≡ ss → f ≤ length seen
-    → ((k : ℕ) → k < f → IsCounted seen clock k) → (f < length seen → IsCounted seen clock f → ⊥)
-    → CountsBefore ss clock → f ≡ number clock ss
-number_seen seen ss clock f is le counted stop before =
-    let here = subst (λ (xs : List Section). CountsBefore xs clock) (sym is) before in
-    sym (number_is seen clock f le counted stop here) ∙ ap (number clock) is
 
 pub number_within : (ss : List Section) (clock : List ℕ) → number clock ss ≤ length ss
 number_within [] clock = omega arith

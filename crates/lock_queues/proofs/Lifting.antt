@@ -1,5 +1,5 @@
 -- What a change of one queue is to the table of queues.
-use Rattle.std.proofs.Common.{◌≡◌, ℕ, ◌<◌, ◌≤◌, ◌⊎◌, Bool, true, false, List, length}
+use Rattle.std.proofs.Common.{◌≡◌, ℕ, ◌<◌, ◌≤◌, ◌⊎◌, true, false, List, length}
 use Rattle.std.proofs.Common.{get_or, set, sym, ap, ◌∙◌, arith}
 use Rattle.std.proofs.lemmas.Bool.{cases_lt, cases_eq}
 use Rattle.std.proofs.lemmas.List.{get_or-set_same, get_or-set_other, get_or_past, get_or_read}
@@ -105,13 +105,3 @@ lifted_cell {A = A} F qs t l q x lt e v m = go (cases_eq m l) (cases_eq v t)
         ap (λ (k : Kept). F k v) (at_other qs l m q away) ∙ ap (F (queue_at qs m)) own
         ∙ sym (at_thread own ∙ row_other l x (λ k. F (queue_at qs k) t) m away)
     go (inr away) (inr other) = ap (λ (k : Kept). F k v) (at_other qs l m q away) ∙ sym (at_others other)
-
--- what was true of a queue stays so
-pub lifted_kept : (F : Kept → Bool) (qs : List Kept) (l : ℕ) (q : Kept) → l < length qs
-    → (F (queue_at qs l) ≡ true → F q ≡ true) → (m : ℕ) → F (queue_at qs m) ≡ true
-    → F (queue_at (set qs l q) m) ≡ true
-lifted_kept F qs l q lt kept m was = go (cases_eq m l)
-  where
-    go : Whether m l → F (queue_at (set qs l q) m) ≡ true
-    go (inl is) = ap F (at_same qs l m q lt is) ∙ kept (ap (λ k. F (queue_at qs k)) (sym is) ∙ was)
-    go (inr away) = ap F (at_other qs l m q away) ∙ was

@@ -1,6 +1,6 @@
 -- The numbers of a release's clock just before the release, and with it again.
 use Rattle.std.proofs.Common.{◌≡◌, ℕ, ◌+◌, ◌-◌, ◌<◌, ◌≤◌, ◌⊎◌, List, length, set}
-use Rattle.std.proofs.Common.{cond, nat_eq, sym, ap, subst, ◌∙◌, arith}
+use Rattle.std.proofs.Common.{sym, ap, subst, ◌∙◌, arith}
 use Rattle.std.proofs.lemmas.Bool.{cases_lt, cases_eq}
 use Rattle.std.proofs.lemmas.List.{get_or_past, get_or-set_same, get_or-set_other, set-set, set-get_or}
 use mathlib.Core.Logic.{inl, inr}
@@ -42,17 +42,6 @@ before_bumped t f u = go (cases_eq u t)
         let own : before t (bump t f) t ≡ bump t f t - 1 = row_same t (bump t f t - 1) (bump t f) in
         omega arith)
     go (inr n) = row_other t (bump t f t - 1) (bump t f) u n ∙ bump_other t f u n
-
--- the release counts as one more event of its thread
-row_bumped : (t : ℕ) (f : ℕ → ℕ) → with_row t (f t + 1) f ≡ bump t f
-row_bumped t f i u = go (cases_eq u t) i
-  where
-    go : (u ≡ t) ⊎ (u ≡ t → ⊥) → with_row t (f t + 1) f u ≡ bump t f u
-    go (inl e) = ap (λ v. cond (nat_eq u t) (f v + 1) (f u)) (sym e)
-    go (inr n) = row_other t (f t + 1) f u n ∙ sym (row_other t (f u + 1) f u n)
-
-pub raised_at : (t : ℕ) (ns : List ℕ) → t < length ns → counts_of (raised t ns) ≡ bump t (counts_of ns)
-raised_at t ns lt = counts_set ns t (counts_of ns t + 1) lt ∙ row_bumped t (counts_of ns)
 
 pub raised_lowered : (t : ℕ) (ns : List ℕ) → 0 < counts_of ns t → raised t (lowered t ns) ≡ ns
 raised_lowered t ns some =

@@ -4,7 +4,7 @@ use Rattle.std.proofs.Common.{replicate, refl, sym, ap, subst, ◌∙◌, arith,
 use Rattle.std.proofs.lemmas.Bool.{cases_lt, cases_eq}
 use Rattle.std.proofs.lemmas.List.{get_or_past, get_or_read}
 use Rattle.std.proofs.lemmas.List.{get_or-replicate, length-replicate}
-use Rattle.event_core.specs.Rows.{with_row, no_clock}
+use Rattle.event_core.specs.Rows.{no_clock}
 use Rattle.event_core.proofs.Growing.{row_same, row_other}
 use Rattle.vector_clocks.specs.Counts.{counts_of}
 use Rattle.vector_clocks.specs.Rows.{row_at, rows_of, widths_of, IsMade, AreWide}
@@ -34,9 +34,6 @@ pub zeros_for : (w : ℕ) (zeros : List ℕ) (rows : List (List ℕ)) (t : ℕ) 
     → counts_of zeros ≡ rows_of rows t
 zeros_for w zeros rows t is none = zeros_none w zeros is ∙ sym (counts_none (row_at rows t) none)
 
-pub width_past : (rows : List (List ℕ)) (t : ℕ) → length rows ≤ t → widths_of rows t ≡ 0
-width_past rows t le = ap length (no_row rows t le)
-
 -- tables of equal widths
 pub made_kept : (w t : ℕ) (old new : List (List ℕ)) → widths_of new ≡ widths_of old → IsMade w old t
     → IsMade w new t
@@ -49,19 +46,9 @@ wide_kept w old new e a = record {
       ap (λ f. f t) e in let q : 0 < widths_of old t = omega arith in p ∙ a.wide t q);
 }
 
-pub made_within : (w t : ℕ) (rows : List (List ℕ)) → 0 < w → IsMade w rows t → t < length rows
-made_within w t rows some m = go (cases_lt t (length rows))
-  where
-    go : (t < length rows) ⊎ (length rows ≤ t) → t < length rows
-    go (inl l) = l
-    go (inr r) = absurd (let z = width_past rows t r in let s = m.wide in omega arith)
-
 -- one row is made with zeros
 module _ (w at : ℕ) (rows : List (List ℕ)) (row : List ℕ) (within : at < length rows)
     (none : widths_of rows at ≡ 0) (is : row ≡ replicate w 0) where
-  width_at : (t : ℕ) → widths_of (set rows at row) t ≡ with_row at (length row) (widths_of rows) t
-  width_at t = read_set length rows at row t within
-
   pub made_rows : rows_of (set rows at row) ≡ rows_of rows
   made_rows i t = go t (cases_eq t at) i
     where
@@ -71,46 +58,7 @@ module _ (w at : ℕ) (rows : List (List ℕ)) (row : List ℕ) (within : at < l
           ∙ zeros_for w row rows at is none)
       go t (inr n) = read_set counts_of rows at row t within ∙ row_other at (counts_of row) (rows_of rows) t n
 
-  wide_at : widths_of (set rows at row) at ≡ w
-  wide_at = width_at at ∙ row_same at (length row) (widths_of rows) ∙ ap length is
-      ∙ length-replicate {A = ℕ} w 0
-
-  pub wide_other : (t : ℕ) → (t ≡ at → ⊥) → widths_of (set rows at row) t ≡ widths_of rows t
-  wide_other t n = width_at t ∙ row_other at (length row) (widths_of rows) t n
-
-  pub made_row : IsMade w (set rows at row) at
-  made_row = record { wide = wide_at }
-
-  pub made_others : (t : ℕ) → IsMade w rows t → IsMade w (set rows at row) t
-  made_others t m = go (cases_eq t at)
-    where
-      go : (t ≡ at) ⊎ (t ≡ at → ⊥) → IsMade w (set rows at row) t
-      go (inl q) = subst (λ b. IsMade w (set rows at row) b) (sym q) made_row
-      go (inr n) = record { wide = wide_other t n ∙ m.wide }
-
-  pub made_wide : AreWide w rows → AreWide w (set rows at row)
-  made_wide a = record { wide = λ t h. go t h (cases_eq t at) }
-    where
-      go : (t : ℕ) → 0 < widths_of (set rows at row) t → (t ≡ at) ⊎ (t ≡ at → ⊥)
-          → widths_of (set rows at row) t ≡ w
-      go t h (inl q) = subst (λ b. widths_of (set rows at row) b ≡ w) (sym q) wide_at
-      go t h (inr n) = let e = wide_other t n in e
-          ∙ a.wide t (let g : 0 < widths_of rows t = omega arith in g)
-
--- a row that was read, without numbers and with some
+-- a row that was read
 pub read_width : (rows : List (List ℕ)) (t : ℕ) (row : List ℕ) → t < length rows → row ≡ get_or rows t row
     → widths_of rows t ≡ length row
 read_width rows t row lt is = sym (ap length (get_or_read rows t row lt is []))
-
-pub read_made : (w : ℕ) (rows : List (List ℕ)) (t : ℕ) (row : List ℕ) → t < length rows
-    → row ≡ get_or rows t row
-    → AreWide w rows → (length row ≡ 0 → ⊥) → IsMade w rows t
-read_made w rows t row lt is a some =
-    let e : widths_of rows t ≡ length row = read_width rows t row lt is in
-    let positive : 0 < widths_of rows t = go (cases_lt 0 (widths_of rows t)) e in
-    record { wide = a.wide t positive }
-  where
-    go : (0 < widths_of rows t) ⊎ (widths_of rows t ≤ 0) → widths_of rows t ≡ length row
-        → 0 < widths_of rows t
-    go (inl l) e = l
-    go (inr z) e = absurd (some (omega arith))

@@ -10,10 +10,6 @@ abbrev pub IsWhole : (ℕ → List Closed) → (ℕ → ℕ) → Type 0
 IsWhole closed f = (l : ℕ) (q : Closed) → Has q (closed l)
     → q.release q.thread ≤ f q.thread → (u : ℕ) → q.release u ≤ f u
 
--- so is the clock of each release
-abbrev pub ReleasesWhole : (ℕ → List Closed) → Type 0
-ReleasesWhole closed = (l : ℕ) (q : Closed) → Has q (closed l) → IsWhole closed q.release
-
 -- and it counts no more events of a thread than there are
 pub record IsWholeWithin (own : ℕ → ℕ) (closed : ℕ → List Closed) (f : ℕ → ℕ) : Type 0 where
   pub within : (u : ℕ) → f u ≤ own u
