@@ -5,103 +5,15 @@ ghost use Rattle.std.specs.Prelude.{◌≡◌, ℕ, ◌+◌, ◌<◌, ◌≤◌,
 ghost use Rattle.vector_clocks.specs.Counts.{counts_of};
 ghost use Rattle.lock_queues.specs.Queues.{closed_of, found_of, has_room, SameMeaning};
 
+mod cases;
+
 use crate::clocks::{Run, event};
+use cases::{ONE_SECTION, RELEASES, ROOM, Row, SPARE_ROOM, TWO_THREADS};
 use event_core::{Limits, LockId, Op, Roots, ThreadId, VarId};
 use lock_queues::Queues;
 use std::alloc::Global;
 use std::process::Abort;
 use vector_clocks::{Clock, Mark, Work};
-
-const T0: ThreadId = ThreadId(0);
-
-const T1: ThreadId = ThreadId(1);
-
-const L: LockId = LockId(0);
-
-const M: LockId = LockId(1);
-
-/// What is done, or what is found.
-enum Row {
-    /// The thread has one event more.
-    Take(ThreadId),
-    /// Room is made for the thread's next section on the lock.
-    MakeRoom(ThreadId, LockId),
-    /// Whether there is such room.
-    HasRoom(ThreadId, LockId, bool),
-    /// Whether there is such room, once it is made where that takes no memory.
-    SpareRoom(ThreadId, LockId, bool),
-    /// The thread has the first section on the lock, from its latest event on.
-    Close(ThreadId, LockId),
-    /// How many closed sections the lock has.
-    Count(LockId, u32),
-    /// The lock's closed section of the number: its thread, how many events of that thread there were before
-    /// its release, and how many of each.
-    Section(LockId, u32, ThreadId, u32, &'static [u32]),
-    /// What a release of the thread finds on the lock, by the clock of another thread: the section's thread,
-    /// and how many events of that thread there were before its release.
-    Finds(ThreadId, LockId, ThreadId, Option<(ThreadId, u32)>),
-    /// A clock takes the numbers of the thread.
-    Copy(ThreadId),
-    /// It takes the greater numbers of the release of the lock's closed section of the number.
-    JoinRelease(LockId, u32),
-    /// Its numbers.
-    Clock([u64; 3]),
-}
-
-const ROOM: &[Row] = &[
-    Row::HasRoom(T1, L, false),
-    // the first section needs memory
-    Row::SpareRoom(T1, L, false),
-    Row::MakeRoom(T1, L),
-    Row::HasRoom(T1, L, true),
-    Row::SpareRoom(T1, L, true),
-    Row::HasRoom(T0, L, false),
-    Row::HasRoom(T1, M, false),
-    Row::MakeRoom(T1, L),
-];
-
-const SPARE_ROOM: &[Row] = &[
-    Row::Take(T1),
-    Row::Close(T1, L),
-    Row::Close(T1, M),
-    Row::HasRoom(T1, L, false),
-    Row::SpareRoom(T1, L, true),
-    Row::HasRoom(T1, L, true),
-];
-
-const TWO_THREADS: &[Row] = &[
-    Row::Take(T0),
-    Row::Take(T1),
-    Row::Close(T0, L),
-    Row::Finds(T1, L, T0, Some((T0, 0))),
-];
-
-const ONE_SECTION: &[Row] = &[
-    Row::Take(T1),
-    Row::Count(L, 0),
-    Row::Close(T1, L),
-    Row::Count(L, 1),
-    Row::Section(L, 1, T1, 0, &[0, 0]),
-];
-
-const RELEASES: &[Row] = &[
-    Row::Take(T0),
-    Row::Take(T0),
-    Row::Take(T1),
-    Row::Take(T1),
-    Row::Take(T1),
-    Row::Close(T1, L),
-    Row::Section(L, 1, T1, 2, &[0, 2]),
-    Row::Copy(T0),
-    Row::Clock([2, 0, 0]),
-    Row::JoinRelease(L, 1),
-    Row::Clock([2, 3, 0]),
-    Row::Close(T0, M),
-    Row::Section(M, 1, T0, 1, &[1]),
-    Row::Copy(T1),
-    Row::JoinRelease(M, 1),
-    Row::Clock([2, 3, 0]),
-];
 
 /// The sections of three threads on two locks, and the clocks of those threads.
 #[derive(Drop)]
