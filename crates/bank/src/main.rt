@@ -16,19 +16,13 @@ use traced_thread::TracedThread;
 
 const ACCOUNTS: u32 = 4;
 
-const DEPOSIT: u64 = 100;
-
-const ROUNDS: u32 = 50;
-
 const TRIES: u32 = 1_000_000;
 
-const OPEN: SiteId = SiteId(0);
+const DESK: SiteId = SiteId(0);
 
 const MOVE: SiteId = SiteId(1);
 
 const LOOK: SiteId = SiteId(2);
-
-const COUNT: SiteId = SiteId(3);
 
 /// Moves money between two accounts, under both locks. The lesser lock is acquired first.
 fn transfer<N: Name, R: Wait>(
@@ -51,30 +45,18 @@ fn transfer<N: Name, R: Wait>(
 
 /// A teller's day: each transfer is to the account that lies so many further on.
 fn work<N: Name, R: Wait>(rt: &R, teller: &mut TracedThread<N>, step: u32) -> Result<(), Refusal> {
-    for round in 0..ROUNDS {
+    for round in 0..50 {
         let from = round % ACCOUNTS;
         transfer(rt, teller, from, (from + step % ACCOUNTS) % ACCOUNTS)?;
     }
     Ok(())
 }
 
-/// Joins the teller.
-fn end<'m, N: Name, R: Wait>(
-    rt: &R,
-    manager: &mut TracedThread<'m, N>,
-    teller: TracedThread<'m, N>,
-) -> Result<(), Refusal> {
-    match manager.join(rt, teller, COUNT) {
-        Ok(_) => Ok(()),
-        Err((refusal, _)) => Err(refusal),
-    }
-}
-
 /// All money, when no teller works.
 fn count<N: Name, R: Wait>(rt: &R, manager: &mut TracedThread<N>) -> Result<u64, Refusal> {
     let mut money = 0u64;
     for account in 0..ACCOUNTS {
-        money = money.saturating_add(manager.load(rt, VarId(account), COUNT)?.value);
+        money = money.saturating_add(manager.load(rt, VarId(account), DESK)?.value);
     }
     Ok(money)
 }
@@ -90,11 +72,11 @@ fn run<N: Name + Send + Sync, R: Threads + Wait + Sync>(
     let (shared, pass) = start::<N>(unnamed);
     let mut manager = TracedThread::new(&shared, pass);
     for account in 0..ACCOUNTS {
-        manager.store(rt, VarId(account), DEPOSIT, OPEN)?;
+        manager.store(rt, VarId(account), 100, DESK)?;
     }
-    let (mut first, _) = manager.fork(rt, ThreadId(1), OPEN)?;
-    let (mut second, _) = manager.fork(rt, ThreadId(2), OPEN)?;
-    let (mut third, _) = manager.fork(rt, ThreadId(3), OPEN)?;
+    let (mut first, _) = manager.fork(rt, ThreadId(1), DESK)?;
+    let (mut second, _) = manager.fork(rt, ThreadId(2), DESK)?;
+    let (mut third, _) = manager.fork(rt, ThreadId(3), DESK)?;
     let ((by_first, by_second), (by_third, look)) = join(
         rt,
         || join(rt, || work(rt, &mut first, 1), || work(rt, &mut second, 2)),
@@ -108,9 +90,15 @@ fn run<N: Name + Send + Sync, R: Threads + Wait + Sync>(
     by_second?;
     by_third?;
     look?;
-    end(rt, &mut manager, first)?;
-    end(rt, &mut manager, second)?;
-    end(rt, &mut manager, third)?;
+    manager
+        .join(rt, first, DESK)
+        .map_err(|(refusal, _)| refusal)?;
+    manager
+        .join(rt, second, DESK)
+        .map_err(|(refusal, _)| refusal)?;
+    manager
+        .join(rt, third, DESK)
+        .map_err(|(refusal, _)| refusal)?;
     let money = count(rt, &mut manager)?;
     let pass = manager.into_pass();
     Ok((shared.close(pass), money))
@@ -123,23 +111,10 @@ fn open_bank<R: Threads + Wait + Sync>(rt: &R, alloc: Global) -> anyhow::Result<
     Ok(run::<Brand, _>(rt, unnamed)?)
 }
 
-/// How many races there are in which neither event is the manager's look.
-fn races_of_tellers(closed: &Closed) -> usize {
-    let is_look = |index| closed
-        .log()
-        .get(index)
-        .is_some_and(|event| event.site == LOOK);
-    let races = closed.verdicts().races().iter();
-    races
-        .filter(|race| !is_look(race.event) && !is_look(race.with))
-        .count()
-}
-
 fn main(rt: HostRuntime) -> anyhow::Result<ExitCode> {
     let (closed, money) = open_bank(&rt, rt.alloc())?;
     let is_racy = !closed.verdicts().races().is_empty();
     println!(rt; "all money: {money}")?;
     println!(rt; "a race was found: {}", if is_racy { "yes" } else { "no" })?;
-    println!(rt; "races between tellers: {}", races_of_tellers(&closed))?;
     Ok(ExitCode::from(u8::from(is_racy)))
 }
