@@ -7,71 +7,17 @@ ghost use Rattle.hb_clocks.specs.State.{empty};
 ghost use Rattle.hb_clocks.specs.Stands.{IsAtMost};
 ghost use Rattle.hb_clocks.specs.Tables.{state_of, IsReady, IsWithin};
 
-use crate::rows::{L, M, Row, T0, T1, T2, X, Y};
+mod cases;
+
+use cases::{
+    EMPTY_CHILD, GREATER, INNER_RELEASE, MARKED, NESTED_SECTIONS, READ_AS_ONE, ROOM, Row, T0, T1,
+    T2,
+};
 use event_core::{Event, Limits, Op, OutOfMemory, Roots, SiteId, ThreadId};
 use hb_clocks::HbClocks;
 use std::alloc::Global;
 use std::process::Abort;
 use vector_clocks::{Clock, JoinedClocks, Mark, ReleaseClock, Work};
-
-const NESTED_SECTIONS: &[Row] = &[
-    Row::Take(T0, Op::Fork(T1)),
-    Row::Take(T0, Op::Acquire(L)),
-    Row::Take(T0, Op::Acquire(M)),
-    Row::Take(T0, Op::Store(X)),
-    Row::Take(T0, Op::Release(M)),
-    Row::Take(T0, Op::Store(Y)),
-    Row::Take(T0, Op::Release(L)),
-    Row::Take(T1, Op::Acquire(M)),
-    Row::Po(T1, [1, 1, 0]),
-    Row::Hb(T1, [5, 1, 0]),
-    Row::Take(T1, Op::Load(X)),
-    Row::Take(T1, Op::Release(M)),
-    Row::Take(T1, Op::Acquire(L)),
-    Row::Hb(T1, [7, 4, 0]),
-    Row::Take(T1, Op::Release(L)),
-    Row::Take(T1, Op::Load(Y)),
-    Row::Hb(T1, [7, 6, 0]),
-    Row::Po(T1, [1, 6, 0]),
-];
-
-const EMPTY_CHILD: &[Row] = &[
-    Row::Take(T0, Op::Store(X)),
-    Row::Take(T0, Op::Fork(T1)),
-    Row::Po(T1, [2, 0, 0]),
-    Row::Po(T2, [0, 0, 0]),
-    Row::Take(T2, Op::Join(T1)),
-    Row::Po(T2, [2, 0, 1]),
-    Row::Hb(T2, [2, 0, 1]),
-];
-
-const INNER_RELEASE: &[Row] = &[
-    Row::Take(T0, Op::Fork(T1)),
-    Row::Take(T0, Op::Acquire(L)),
-    Row::Take(T0, Op::Acquire(L)),
-    Row::Depth(T0, L, 2),
-    Row::Take(T0, Op::Release(L)),
-    Row::Depth(T0, L, 1),
-    Row::Admits(T1, Op::Acquire(L), false),
-    Row::Take(T0, Op::Store(X)),
-    Row::Take(T0, Op::Release(L)),
-    Row::Depth(T0, L, 0),
-    Row::Take(T1, Op::Acquire(L)),
-    Row::Hb(T1, [6, 1, 0]),
-    Row::Po(T1, [1, 1, 0]),
-];
-
-const ROOM: &[Row] = &[
-    Row::Ready(T0, Op::Acquire(L), false),
-    Row::MakeRoom(T0, Op::Acquire(L)),
-    Row::Ready(T0, Op::Acquire(L), true),
-    Row::Ready(T0, Op::Load(X), true),
-    Row::Ready(T1, Op::Acquire(L), false),
-    Row::Ready(T0, Op::Acquire(M), false),
-    Row::Ready(T0, Op::Fork(T1), false),
-    Row::Take(T0, Op::Acquire(L)),
-    Row::Ready(T0, Op::Release(L), true),
-];
 
 /// The clocks of three threads, and one beside them. A call takes an event, compares a mark or joins a clock.
 #[derive(Drop)]
@@ -268,7 +214,7 @@ impl Run {
     }
 }
 
-pub fn follow_all(rt: &impl Abort, alloc: Global, rows: &[Row]) {
+fn follow_all(rt: &impl Abort, alloc: Global, rows: &[Row]) {
     let mut run = Run::new(rt, alloc);
     for row in rows {
         run.follow(rt, row);
@@ -289,6 +235,21 @@ fn the_fork_of_an_empty_child_is_below_its_join(rt: HostRuntime) {
 #[test]
 fn the_outer_release_alone_hands_on(rt: HostRuntime) {
     follow_all(&rt, rt.alloc(), INNER_RELEASE);
+}
+
+#[test]
+fn a_mark_is_counted_from_its_event_on(rt: HostRuntime) {
+    follow_all(&rt, rt.alloc(), MARKED);
+}
+
+#[test]
+fn clocks_take_the_greater_numbers(rt: HostRuntime) {
+    follow_all(&rt, rt.alloc(), GREATER);
+}
+
+#[test]
+fn two_clocks_are_read_as_their_join(rt: HostRuntime) {
+    follow_all(&rt, rt.alloc(), READ_AS_ONE);
 }
 
 #[test]

@@ -13,14 +13,8 @@ mod clocks;
 #[cfg(test)]
 mod logs;
 #[cfg(test)]
-mod marks;
-#[cfg(test)]
 mod queues;
 #[cfg(test)]
-mod rows;
-#[cfg(test)]
 mod strict_clocks;
-#[cfg(test)]
-mod strict_room;
 #[cfg(test)]
 mod summaries;

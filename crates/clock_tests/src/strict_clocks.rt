@@ -1,136 +1,38 @@
-//! Strict clocks of small logs.
+//! Strict clocks of small logs, and room for an event.
 //!
 //! Each line of a log has an event, and how many events of each thread strictly precede it. These numbers are
 //! worked out by hand from the paper's rules. That the event is legal is learned from a memory, which permits
 //! its call. Where a growth is refused once, the same call is made again and gives the same numbers.
-ghost use Rattle.std.specs.Prelude.{◌≡◌, List, [], IfOk, OnOk};
+ghost use Rattle.std.specs.Prelude.{◌≡◌, ◌<◌, List, [], IfOk, OnOk};
 ghost use Rattle.event_core.specs.declared.events.Event.{Event as AnEvent};
 ghost use Rattle.traced_mem.specs.OfLog.{StandsFor as MemoryStandsFor};
 ghost use Rattle.traced_mem.specs.Room.{IsReady as MemoryIsReady};
 ghost use Rattle.traced_mem.specs.Tables.{Allows};
-ghost use Rattle.wcp_clocks.specs.Parts.{IsReady, IsWithin, SameLimits, SameNumbers};
+ghost use Rattle.wcp_clocks.specs.Parts.{IsReady, IsWithin, SameLimits, SameNumbers, event_by};
 ghost use Rattle.wcp_clocks.specs.Parts.{width_of, limits_of, work_of};
 ghost use Rattle.wcp_clocks.specs.StandsFor.{StandsFor};
 ghost use Rattle.clock_tests.specs.OneLog.{small, StandForOneLog};
 
-use event_core::{Call, Event, Limits, LockId, Op, OutOfMemory, Roots, SiteId, ThreadId, VarId};
+mod cases;
+
+use cases::{
+    CHILD, CROSSED_SECTIONS, EARLIER_RELEASE, INNER_RELEASES, K, L, Line, MAIN, OTHER,
+    RELEASES_OF_ONE_THREAD, X,
+};
+use event_core::{Call, Event, Limits, Op, OutOfMemory, Roots, SiteId, ThreadId, VarId};
 use std::alloc::Global;
 use std::process::Abort;
 use traced_mem::Memory;
 use wcp_clocks::WcpClocks;
 
-pub const MAIN: ThreadId = ThreadId(0);
-
-pub const CHILD: ThreadId = ThreadId(1);
-
-const OTHER: ThreadId = ThreadId(2);
-
-pub const L: LockId = LockId(0);
-
-pub const K: LockId = LockId(1);
-
-const M: LockId = LockId(2);
-
-const N: LockId = LockId(3);
-
-pub const X: VarId = VarId(0);
-
-const Y: VarId = VarId(1);
-
-const Z: VarId = VarId(2);
-
-/// An event, and of each thread how many events strictly precede it.
-type Line = (ThreadId, Op, [u64; 3]);
-
-// The child's load takes the release of k, main's fifth event, and with it the acquire of main's section
-// on l. So the child's release of l takes main's release of l, its seventh event.
-const EARLIER_RELEASE: &[Line] = &[
-    (MAIN, Op::Fork(CHILD), [0, 0, 0]),
-    (MAIN, Op::Acquire(L), [0, 0, 0]),
-    (MAIN, Op::Acquire(K), [0, 0, 0]),
-    (MAIN, Op::Store(X), [0, 0, 0]),
-    (MAIN, Op::Release(K), [0, 0, 0]),
-    (MAIN, Op::Store(Y), [0, 0, 0]),
-    (MAIN, Op::Release(L), [0, 0, 0]),
-    (CHILD, Op::Acquire(K), [0, 0, 0]),
-    (CHILD, Op::Load(X), [5, 0, 0]),
-    (CHILD, Op::Release(K), [5, 0, 0]),
-    (CHILD, Op::Acquire(L), [5, 0, 0]),
-    (CHILD, Op::Release(L), [7, 0, 0]),
-    (CHILD, Op::Load(Y), [7, 0, 0]),
-];
-
-// The child's load takes main's release of m, and with it the acquire of main's first section on l. The
-// lock k brings that to main. So main's second release of l takes the first, main's ninth event, and the
-// three events of the other thread that happen before it.
-const RELEASES_OF_ONE_THREAD: &[Line] = &[
-    (MAIN, Op::Fork(CHILD), [0, 0, 0]),
-    (MAIN, Op::Fork(OTHER), [0, 0, 0]),
-    (OTHER, Op::Store(Z), [0, 0, 0]),
-    (OTHER, Op::Acquire(N), [0, 0, 0]),
-    (OTHER, Op::Release(N), [0, 0, 0]),
-    (MAIN, Op::Acquire(L), [0, 0, 0]),
-    (MAIN, Op::Acquire(M), [0, 0, 0]),
-    (MAIN, Op::Store(X), [0, 0, 0]),
-    (MAIN, Op::Release(M), [0, 0, 0]),
-    (MAIN, Op::Acquire(N), [0, 0, 0]),
-    (MAIN, Op::Release(N), [0, 0, 0]),
-    (MAIN, Op::Release(L), [0, 0, 0]),
-    (CHILD, Op::Acquire(M), [0, 0, 0]),
-    (CHILD, Op::Load(X), [6, 0, 0]),
-    (CHILD, Op::Release(M), [6, 0, 0]),
-    (CHILD, Op::Acquire(K), [6, 0, 0]),
-    (CHILD, Op::Release(K), [6, 0, 0]),
-    (MAIN, Op::Acquire(K), [6, 0, 0]),
-    (MAIN, Op::Release(K), [6, 0, 0]),
-    (MAIN, Op::Acquire(L), [6, 0, 0]),
-    (MAIN, Op::Release(L), [9, 0, 3]),
-    (MAIN, Op::Load(Z), [9, 0, 3]),
-];
-
-// The section on l ends before the store to y, and the section on k after it.
-const CROSSED_SECTIONS: &[Line] = &[
-    (MAIN, Op::Fork(CHILD), [0, 0, 0]),
-    (MAIN, Op::Acquire(L), [0, 0, 0]),
-    (MAIN, Op::Acquire(K), [0, 0, 0]),
-    (MAIN, Op::Store(X), [0, 0, 0]),
-    (MAIN, Op::Release(L), [0, 0, 0]),
-    (MAIN, Op::Store(Y), [0, 0, 0]),
-    (MAIN, Op::Release(K), [0, 0, 0]),
-    (CHILD, Op::Acquire(L), [0, 0, 0]),
-    (CHILD, Op::Load(X), [5, 0, 0]),
-    (CHILD, Op::Load(Y), [5, 0, 0]),
-    (CHILD, Op::Release(L), [5, 0, 0]),
-    (CHILD, Op::Acquire(K), [5, 0, 0]),
-    (CHILD, Op::Load(Y), [7, 0, 0]),
-    (CHILD, Op::Release(K), [7, 0, 0]),
-    (MAIN, Op::Join(CHILD), [7, 0, 0]),
-];
-
-// Both stores come after an inner release, and are in the sections of the outer acquires. The outer release
-// is main's sixth event.
-const INNER_RELEASES: &[Line] = &[
-    (MAIN, Op::Fork(CHILD), [0, 0, 0]),
-    (MAIN, Op::Acquire(L), [0, 0, 0]),
-    (MAIN, Op::Acquire(L), [0, 0, 0]),
-    (MAIN, Op::Release(L), [0, 0, 0]),
-    (MAIN, Op::Store(X), [0, 0, 0]),
-    (MAIN, Op::Release(L), [0, 0, 0]),
-    (CHILD, Op::Acquire(L), [0, 0, 0]),
-    (CHILD, Op::Acquire(L), [0, 0, 0]),
-    (CHILD, Op::Release(L), [0, 0, 0]),
-    (CHILD, Op::Store(X), [6, 0, 0]),
-    (CHILD, Op::Release(L), [6, 0, 0]),
-];
-
-pub fn small_limits(rt: &impl Abort) -> Limits
+fn small_limits(rt: &impl Abort) -> Limits
     ensures { result ≡ small }
 {
     Limits::new(3, 4, 3, 64, Roots::OnlyMain).expect(rt, "small limits")
 }
 
 // Clocks of the empty log. Where a growth is refused, the same call is made again.
-pub fn begin_clocks(alloc: Global, limits: &Limits) -> Result<WcpClocks, OutOfMemory>
+fn begin_clocks(alloc: Global, limits: &Limits) -> Result<WcpClocks, OutOfMemory>
     ensures width { IfOk result (λ clocks. width_of clocks ≡ limits.now.threads) }
     ensures limits { IfOk result (λ clocks. limits_of clocks ≡ limits.now) }
     ensures stands { IfOk result (λ clocks. StandsFor [] clocks) }
@@ -142,7 +44,7 @@ pub fn begin_clocks(alloc: Global, limits: &Limits) -> Result<WcpClocks, OutOfMe
     }
 }
 
-pub fn make_room(clocks: &mut WcpClocks, event: &Event) -> Result<(), OutOfMemory>
+fn make_room(clocks: &mut WcpClocks, event: &Event) -> Result<(), OutOfMemory>
     requires { IsWithin clocks.old event.now }
     ensures same { SameNumbers clocks.old clocks.new }
     ensures limits { SameLimits clocks.old clocks.new }
@@ -262,4 +164,65 @@ fn a_release_ends_the_section_of_its_own_lock(rt: HostRuntime) {
 #[test]
 fn an_inner_release_ends_no_section(rt: HostRuntime) {
     follow(&rt, rt.alloc(), INNER_RELEASES, CHILD, [6, 5, 0]);
+}
+
+// Where a growth is refused, the same call is made again.
+fn make_room_to_swap(
+    clocks: &mut WcpClocks,
+    thread: ThreadId,
+    var: VarId,
+) -> Result<(), OutOfMemory>
+    requires { thread.0 < width_of clocks.old }
+    ensures { SameLimits clocks.old clocks.new }
+{
+    if clocks.prepare_swap(thread, var).is_ok() {
+        return Ok(());
+    }
+    clocks.prepare_swap(thread, var)
+}
+
+fn event(thread: ThreadId, op: Op) -> Event
+    ensures { result ≡ event_by thread op }
+{
+    Event {
+        thread,
+        op,
+        site: SiteId(0),
+        value: 0,
+    }
+}
+
+fn small_clocks(rt: &impl Abort, alloc: Global) -> WcpClocks
+    ensures width { width_of result ≡ 3 }
+    ensures limits { limits_of result ≡ small }
+{
+    begin_clocks(alloc, &small_limits(rt)).expect(rt, "memory")
+}
+
+#[test]
+fn room_is_made_for_one_event(rt: HostRuntime) {
+    let mut clocks = small_clocks(&rt, rt.alloc());
+    let acquire = event(MAIN, Op::Acquire(L));
+    assert!(rt; !clocks.ready(&acquire));
+    assert!(rt; make_room(&mut clocks, &acquire).is_ok(), "memory");
+    assert!(rt; clocks.ready(&acquire));
+    assert!(rt; clocks.ready(&event(MAIN, Op::Release(L))));
+    assert!(rt; !clocks.ready(&event(CHILD, Op::Acquire(L))));
+    assert!(rt; !clocks.ready(&event(MAIN, Op::Acquire(K))));
+    assert!(rt; !clocks.ready_swap(CHILD, X));
+    assert!(rt; make_room_to_swap(&mut clocks, CHILD, X).is_ok(), "memory");
+    assert!(rt; clocks.ready_swap(CHILD, X));
+    drop(clocks);
+}
+
+#[test]
+fn an_access_grows_where_its_thread_has_clocks(rt: HostRuntime) {
+    let mut clocks = small_clocks(&rt, rt.alloc());
+    let load = event(MAIN, Op::Load(X));
+    assert!(rt; !clocks.ready_or_grow(&load));
+    assert!(rt; make_room(&mut clocks, &load).is_ok(), "memory");
+    assert!(rt; clocks.ready_or_grow(&load));
+    assert!(rt; !clocks.ready_or_grow(&event(CHILD, Op::Load(X))));
+    assert!(rt; !clocks.ready_or_grow(&event(MAIN, Op::Acquire(L))));
+    drop(clocks);
 }
