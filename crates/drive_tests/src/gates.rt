@@ -1,6 +1,6 @@
 //! Gates that hold lines back.
-use crate::scripts::{Answer, expect_answer};
-use event_core::{LockId, Op, ThreadId, VarId};
+use crate::scripts::{Answer, Case, EVENTS, PATIENCE, expect_answer};
+use event_core::{LockId, Op, Refusal, ThreadId, VarId};
 use script_drive::{DriveFault, Gate};
 use std::sync::atomic::{AtomicBool, AtomicU64, AtomicUsize, Ordering};
 use std::test::*;
@@ -41,6 +41,17 @@ impl Gate for Meeting {
     fn done(&self, _thread: ThreadId, _line: u64) {}
 }
 
+const OVERLAP: Case<'static> = Case {
+    text: "m fork a\nm r x\na r y\n",
+    events: EVENTS,
+    patience: 1,
+    answer: Answer::Logs {
+        events: 3,
+        races: 0,
+        first: &[(0, Op::Fork(ThreadId(1)), 0, 0)],
+    },
+};
+
 #[test]
 fn workers_overlap(rt: HostRuntime) {
     for _ in 0..100 {
@@ -48,23 +59,11 @@ fn workers_overlap(rt: HostRuntime) {
             second: AtomicBool::new(false),
             third: AtomicBool::new(false),
         };
-        let answer = Answer::Logs {
-            events: 3,
-            races: 0,
-            first: &[(0, Op::Fork(ThreadId(1)), 0, 0)],
-        };
-        expect_answer(
-            &rt,
-            rt.alloc(),
-            "m fork a\nm r x\na r y\n",
-            &gate,
-            1,
-            &answer,
-        );
+        expect_answer(&rt, rt.alloc(), &gate, &OVERLAP);
     }
 }
 
-/// Never lets a line go ahead. It counts how often it is asked, and which lines were done.
+/// Never lets a line go ahead. It counts how often it is asked.
 #[derive(Drop)]
 struct Shut {
     asked: AtomicU64,
@@ -84,11 +83,16 @@ fn a_shut_gate_is_asked_as_often_as_patience_allows(rt: HostRuntime) {
     let gate = Shut {
         asked: AtomicU64::new(0),
     };
-    let stuck = DriveFault::Stuck {
-        thread: ThreadId(0),
-        line: 1,
+    let case = Case {
+        text: "m r x\n",
+        events: EVENTS,
+        patience: 3,
+        answer: Answer::Faults(DriveFault::Stuck {
+            thread: ThreadId(0),
+            line: 1,
+        }),
     };
-    expect_answer(&rt, rt.alloc(), "m r x\n", &gate, 3, &Answer::Faults(stuck));
+    expect_answer(&rt, rt.alloc(), &gate, &case);
     assert!(&rt; gate.asked.load(Ordering::SeqCst) == 3);
 }
 
@@ -110,51 +114,61 @@ impl Gate for InOrder {
     }
 }
 
+/// In which order the lines of the sections are run, and the answer.
+struct Order {
+    lines: &'static [u64],
+    case: Case<'static>,
+}
+
 /// A section of the main thread and one of its child, which both store.
 const SECTIONS: &str =
     "m fork a\nm acq l\nm w x 1\nm rel l\na acq l\na w x 2\na rel l\nm join a\nm r x\n";
 
-/// In which order the lines of the sections are run, and the answer.
-struct Order {
-    lines: &'static [u64],
-    answer: Answer,
-}
-
 const ORDERS: &[Order] = &[
     Order {
         lines: &[1, 2, 3, 4, 5, 6, 7, 8, 9],
-        answer: Answer::Logs {
-            events: 9,
-            races: 0,
-            first: &[
-                (0, Op::Fork(ThreadId(1)), 0, 0),
-                (0, Op::Acquire(LockId(0)), 1, 0),
-                (0, Op::Store(VarId(0)), 2, 1),
-                (0, Op::Release(LockId(0)), 3, 0),
-                (1, Op::Acquire(LockId(0)), 4, 0),
-                (1, Op::Store(VarId(0)), 5, 2),
-                (1, Op::Release(LockId(0)), 6, 0),
-                (0, Op::Join(ThreadId(1)), 7, 0),
-                (0, Op::Load(VarId(0)), 8, 2),
-            ],
+        case: Case {
+            text: SECTIONS,
+            events: EVENTS,
+            patience: PATIENCE,
+            answer: Answer::Logs {
+                events: 9,
+                races: 0,
+                first: &[
+                    (0, Op::Fork(ThreadId(1)), 0, 0),
+                    (0, Op::Acquire(LockId(0)), 1, 0),
+                    (0, Op::Store(VarId(0)), 2, 1),
+                    (0, Op::Release(LockId(0)), 3, 0),
+                    (1, Op::Acquire(LockId(0)), 4, 0),
+                    (1, Op::Store(VarId(0)), 5, 2),
+                    (1, Op::Release(LockId(0)), 6, 0),
+                    (0, Op::Join(ThreadId(1)), 7, 0),
+                    (0, Op::Load(VarId(0)), 8, 2),
+                ],
+            },
         },
     },
     Order {
         lines: &[1, 5, 6, 7, 2, 3, 4, 8, 9],
-        answer: Answer::Logs {
-            events: 9,
-            races: 0,
-            first: &[
-                (0, Op::Fork(ThreadId(1)), 0, 0),
-                (1, Op::Acquire(LockId(0)), 4, 0),
-                (1, Op::Store(VarId(0)), 5, 2),
-                (1, Op::Release(LockId(0)), 6, 0),
-                (0, Op::Acquire(LockId(0)), 1, 0),
-                (0, Op::Store(VarId(0)), 2, 1),
-                (0, Op::Release(LockId(0)), 3, 0),
-                (0, Op::Join(ThreadId(1)), 7, 0),
-                (0, Op::Load(VarId(0)), 8, 1),
-            ],
+        case: Case {
+            text: SECTIONS,
+            events: EVENTS,
+            patience: PATIENCE,
+            answer: Answer::Logs {
+                events: 9,
+                races: 0,
+                first: &[
+                    (0, Op::Fork(ThreadId(1)), 0, 0),
+                    (1, Op::Acquire(LockId(0)), 4, 0),
+                    (1, Op::Store(VarId(0)), 5, 2),
+                    (1, Op::Release(LockId(0)), 6, 0),
+                    (0, Op::Acquire(LockId(0)), 1, 0),
+                    (0, Op::Store(VarId(0)), 2, 1),
+                    (0, Op::Release(LockId(0)), 3, 0),
+                    (0, Op::Join(ThreadId(1)), 7, 0),
+                    (0, Op::Load(VarId(0)), 8, 1),
+                ],
+            },
         },
     },
 ];
@@ -166,6 +180,84 @@ fn a_gate_decides_which_section_comes_first(rt: HostRuntime) {
             lines: order.lines,
             done: AtomicUsize::new(0),
         };
-        expect_answer(&rt, rt.alloc(), SECTIONS, &gate, 1_000_000, &order.answer);
+        expect_answer(&rt, rt.alloc(), &gate, &order.case);
     }
+}
+
+/// What a gate is told.
+#[derive(Clone, Copy, PartialEq, Eq)]
+enum Notice {
+    /// The line is asked for, and may go ahead.
+    Asked(ThreadId, u64),
+    Done(ThreadId, u64),
+}
+
+use Notice::{Asked, Done};
+
+const MAIN: ThreadId = ThreadId(0);
+
+const CHILD: ThreadId = ThreadId(1);
+
+/// Lets a line go ahead once all was told that comes before it in the list.
+#[derive(Drop)]
+struct Listener {
+    expected: &'static [Notice],
+    heard: AtomicUsize,
+    others: AtomicUsize,
+}
+
+impl Listener {
+    // Whether this is told next.
+    fn hears(&self, notice: Notice) -> bool {
+        let next = self.heard.load(Ordering::SeqCst);
+        if next < self.expected.len() && self.expected[next] == notice {
+            self.heard.fetch_add(1, Ordering::SeqCst);
+            return true;
+        }
+        false
+    }
+}
+
+impl Gate for Listener {
+    fn enter(&self, thread: ThreadId, line: u64) -> bool {
+        self.hears(Asked(thread, line))
+    }
+
+    fn done(&self, thread: ThreadId, line: u64) {
+        if !self.hears(Done(thread, line)) {
+            self.others.fetch_add(1, Ordering::SeqCst);
+        }
+    }
+}
+
+#[test]
+fn a_gate_is_told_the_thread_and_the_line_and_only_of_accepted_calls_that_they_are_done(
+    rt: HostRuntime,
+) {
+    let gate = Listener {
+        expected: &[
+            Asked(MAIN, 1),
+            Done(MAIN, 1),
+            Asked(CHILD, 2),
+            Done(CHILD, 2),
+            Asked(MAIN, 3),
+            Done(MAIN, 3),
+            Asked(MAIN, 4),
+        ],
+        heard: AtomicUsize::new(0),
+        others: AtomicUsize::new(0),
+    };
+    let case = Case {
+        text: "m fork a\na r x\nm join a\nm rel l\n",
+        events: EVENTS,
+        patience: PATIENCE,
+        answer: Answer::Faults(DriveFault::Refused {
+            thread: MAIN,
+            line: 4,
+            refusal: Refusal::NotHolder,
+        }),
+    };
+    expect_answer(&rt, rt.alloc(), &gate, &case);
+    assert!(&rt; gate.heard.load(Ordering::SeqCst) == 7);
+    assert!(&rt; gate.others.load(Ordering::SeqCst) == 0);
 }

@@ -6,6 +6,8 @@
 #[cfg(test)]
 mod gates;
 #[cfg(test)]
+mod patience;
+#[cfg(test)]
 mod runs;
 #[cfg(test)]
 mod scripts;

@@ -1,23 +1,15 @@
 //! Worked cases, whose lines may go ahead at once.
-use crate::scripts::{Answer, expect_answer};
+use crate::scripts::{Answer, Case, EVENTS, PATIENCE, expect_answer};
 use Answer::{Faults, Logs};
 use DriveFault::{Refused, Stuck};
 use event_core::{Op, Refusal, ThreadId, VarId};
 use script_drive::{DriveFault, FreeGate};
 use std::test::*;
 
-const PATIENCE: u32 = 1_000_000;
-
-/// The text of a script, how often a line is tried, and the answer.
-struct Case {
-    text: &'static str,
-    patience: u32,
-    answer: Answer,
-}
-
-const CASES: &[Case] = &[
+const CASES: &[Case<'static>] = &[
     Case {
         text: "",
+        events: EVENTS,
         patience: PATIENCE,
         answer: Logs {
             events: 0,
@@ -28,6 +20,7 @@ const CASES: &[Case] = &[
     // A forked thread that has no lines, and one that is not joined.
     Case {
         text: "m fork a\nm join a\nm fork b\nb r x\n",
+        events: EVENTS,
         patience: PATIENCE,
         answer: Logs {
             events: 4,
@@ -38,6 +31,7 @@ const CASES: &[Case] = &[
     // The lines of all threads are in the log.
     Case {
         text: "m fork a\na w x 5\nm join a\nm r x\n",
+        events: EVENTS,
         patience: PATIENCE,
         answer: Logs {
             events: 4,
@@ -53,6 +47,7 @@ const CASES: &[Case] = &[
     // Whichever store comes second races.
     Case {
         text: "m fork a\nm w x 1\na w x 2\n",
+        events: EVENTS,
         patience: PATIENCE,
         answer: Logs {
             events: 3,
@@ -63,6 +58,7 @@ const CASES: &[Case] = &[
     // A lock that its holder acquires again.
     Case {
         text: "m acq l\nm acq l\n",
+        events: EVENTS,
         patience: PATIENCE,
         answer: Logs {
             events: 2,
@@ -72,6 +68,7 @@ const CASES: &[Case] = &[
     },
     Case {
         text: "m fork a\na swap x 4\nm join a\nm swap x 5\n",
+        events: EVENTS,
         patience: PATIENCE,
         answer: Logs {
             events: 6,
@@ -81,6 +78,7 @@ const CASES: &[Case] = &[
     },
     Case {
         text: "m acq l\nm fork a\na acq l\nm rel l\na rel l\nm join a\n",
+        events: EVENTS,
         patience: PATIENCE,
         answer: Logs {
             events: 6,
@@ -90,6 +88,7 @@ const CASES: &[Case] = &[
     },
     Case {
         text: "m rel l\n",
+        events: EVENTS,
         patience: PATIENCE,
         answer: Faults(Refused {
             thread: ThreadId(0),
@@ -100,6 +99,7 @@ const CASES: &[Case] = &[
     // The lock is another thread's.
     Case {
         text: "m acq l\nm fork a\na rel l\nm join a\n",
+        events: EVENTS,
         patience: PATIENCE,
         answer: Faults(Refused {
             thread: ThreadId(1),
@@ -110,6 +110,7 @@ const CASES: &[Case] = &[
     // The lock is never released.
     Case {
         text: "m acq l\nm fork a\na acq l\nm join a\n",
+        events: EVENTS,
         patience: 100,
         answer: Faults(Stuck {
             thread: ThreadId(1),
@@ -119,6 +120,7 @@ const CASES: &[Case] = &[
     // Of two threads that get no further the one with the lesser line is named.
     Case {
         text: "m acq l\nm fork a\nm fork b\na acq l\nb acq l\nm join a\n",
+        events: EVENTS,
         patience: 100,
         answer: Faults(Stuck {
             thread: ThreadId(1),
@@ -127,19 +129,63 @@ const CASES: &[Case] = &[
     },
     Case {
         text: "m acq l\nm fork a\nm fork b\nb acq l\na acq l\nm join a\n",
+        events: EVENTS,
         patience: 100,
         answer: Faults(Stuck {
             thread: ThreadId(2),
             line: 4,
         }),
     },
-    // Who waits for a thread that ended by a fault ends without one of its own.
+    // The monitor has no slot for the fork, and none for the join.
+    Case {
+        text: "m r x\nm fork a\n",
+        events: 1,
+        patience: PATIENCE,
+        answer: Faults(Refused {
+            thread: ThreadId(0),
+            line: 2,
+            refusal: Refusal::LogFull,
+        }),
+    },
+    Case {
+        text: "m fork a\nm r x\nm join a\n",
+        events: 2,
+        patience: PATIENCE,
+        answer: Faults(Refused {
+            thread: ThreadId(0),
+            line: 3,
+            refusal: Refusal::LogFull,
+        }),
+    },
+    // Who waits for a thread that ended by a fault ends without one of its own, whether the fault's line
+    // comes before the join or after it; and so does a thread whose fork then never comes.
     Case {
         text: "m fork a\nm fork b\na rel l\nb join a\nm join b\n",
+        events: EVENTS,
         patience: PATIENCE,
         answer: Faults(Refused {
             thread: ThreadId(1),
             line: 3,
+            refusal: Refusal::NotHolder,
+        }),
+    },
+    Case {
+        text: "m fork a\nm join a\na rel l\n",
+        events: EVENTS,
+        patience: PATIENCE,
+        answer: Faults(Refused {
+            thread: ThreadId(1),
+            line: 3,
+            refusal: Refusal::NotHolder,
+        }),
+    },
+    Case {
+        text: "m fork a\nm fork b\na join b\na fork c\nc r x\nb rel l\n",
+        events: EVENTS,
+        patience: PATIENCE,
+        answer: Faults(Refused {
+            thread: ThreadId(2),
+            line: 6,
             refusal: Refusal::NotHolder,
         }),
     },
@@ -148,14 +194,7 @@ const CASES: &[Case] = &[
 #[test]
 fn scripts_are_run_to_their_end_or_a_fault(rt: HostRuntime) {
     for case in CASES {
-        expect_answer(
-            &rt,
-            rt.alloc(),
-            case.text,
-            &FreeGate,
-            case.patience,
-            &case.answer,
-        );
+        expect_answer(&rt, rt.alloc(), &FreeGate, case);
     }
 }
 
@@ -168,11 +207,16 @@ fn two_hundred_workers_run_at_once(rt: HostRuntime) -> Result<(), Fail> {
     for child in 1..200 {
         text.push_str(&format!(in rt.alloc(); "t{child} r x\nm join t{child}\n")?)?;
     }
-    let answer = Logs {
-        events: 597,
-        races: 0,
-        first: &[],
+    let case = Case {
+        text: text.as_str(),
+        events: EVENTS,
+        patience: PATIENCE,
+        answer: Logs {
+            events: 597,
+            races: 0,
+            first: &[],
+        },
     };
-    expect_answer(&rt, rt.alloc(), &text, &FreeGate, PATIENCE, &answer);
+    expect_answer(&rt, rt.alloc(), &FreeGate, &case);
     Ok(())
 }

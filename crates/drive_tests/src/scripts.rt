@@ -5,8 +5,7 @@ ghost use Rattle.event_core.specs.declared.bounds.Roots.TheVariants.{OnlyMain};
 use event_core::{Event, Limits, Op, Roots, SiteId, ThreadId};
 use live_monitor::Closed;
 use rapid_text::Device;
-use script_drive::{DriveFault, Gate, drive};
-use script_text::{Script, ScriptFault};
+use script_drive::{DriveFault, Gate, Script, ScriptFault, drive};
 use std::alloc::Global;
 use std::process::Abort;
 use std::sync::Wait;
@@ -27,18 +26,32 @@ pub enum Answer {
     Faults(DriveFault),
 }
 
-/// 256 threads, 4 locks, 4 variables, 1,024 events.
-fn limits() -> Limits
-    ensures { result.roots ≡ OnlyMain }
-{
-    let Ok(limits) = Limits::new(256, 4, 4, 1024, Roots::OnlyMain) else {
-        unreachable!()
-    };
-    limits
+/// The text of a script, how many events the log may have, how often a line is tried, and the answer.
+#[derive(Clone, Copy)]
+pub struct Case<'t> {
+    pub text: &'t str,
+    pub events: u64,
+    pub patience: u32,
+    pub answer: Answer,
 }
 
-fn read(alloc: Global, text: &str) -> Result<Script, ScriptFault> {
-    Script::read(alloc, &mut Device::new(text.as_bytes()), limits(), 100)
+/// More events than the scripts have, and more tries than they need.
+pub const EVENTS: u64 = 1024;
+
+pub const PATIENCE: u32 = 100_000_000;
+
+/// 256 threads, 4 locks, 4 variables.
+fn limits<R: Abort>(rt: &R, events: u64) -> Limits
+    ensures { result.roots ≡ OnlyMain }
+{
+    match Limits::new(256, 4, 4, events, Roots::OnlyMain) {
+        Ok(limits) => limits,
+        Err(_) => panic!(rt; "the limits are within their bounds"),
+    }
+}
+
+fn read(alloc: Global, text: &str, limits: Limits) -> Result<Script, ScriptFault> {
+    Script::read(alloc, &mut Device::new(text.as_bytes()), limits, 100)
 }
 
 /// Where memory is refused, the script is run once more.
@@ -46,15 +59,18 @@ fn run<G: Gate + Sync, R: Threads + Wait + Abort + Sync>(
     rt: &R,
     alloc: Global,
     script: &Script,
+    limits: &Limits,
     gate: &G,
     patience: u32,
-) -> Result<Closed, DriveFault> {
-    drive(rt, alloc, script, &limits(), gate, patience).or_else(|fault| match fault {
-        DriveFault::OutOfMemory | DriveFault::NoWorker { .. } => {
-            drive(rt, alloc, script, &limits(), gate, patience)
+) -> Result<Closed, DriveFault>
+    requires { limits.now.roots ≡ OnlyMain }
+{
+    match drive(rt, alloc, script, limits, gate, patience) {
+        Err(DriveFault::OutOfMemory | DriveFault::NoWorker { .. }) => {
+            drive(rt, alloc, script, limits, gate, patience)
         }
-        fault => Err(fault),
-    })
+        answer => answer,
+    }
 }
 
 fn expect_log<R: Abort>(rt: &R, closed: &Closed, answer: &Answer) {
@@ -79,24 +95,25 @@ fn expect_log<R: Abort>(rt: &R, closed: &Closed, answer: &Answer) {
     }
 }
 
-/// Runs the script, which is to answer so. Where memory is refused, it is read once more.
+/// Runs the script of the case, which is to answer so. Where memory is refused, it is read once more.
 pub fn expect_answer<G: Gate + Sync, R: Threads + Wait + Abort + Sync>(
     rt: &R,
     alloc: Global,
-    text: &str,
     gate: &G,
-    patience: u32,
-    answer: &Answer,
+    case: &Case,
 ) {
-    let script = read(alloc, text)
-        .or_else(|_| read(alloc, text))
+    let limits = limits(rt, case.events);
+    let script = read(alloc, case.text, limits)
+        .or_else(|_| read(alloc, case.text, limits))
         .expect(rt, "a script");
-    match run(rt, alloc, &script, gate, patience) {
+    match run(rt, alloc, &script, &limits, gate, case.patience) {
         Ok(closed) => {
-            expect_log(rt, &closed, answer);
+            expect_log(rt, &closed, &case.answer);
             drop(closed);
         }
-        Err(fault) => assert!(rt; matches!(answer, Answer::Faults(wanted) if *wanted == fault)),
+        Err(fault) => {
+            assert!(rt; matches!(&case.answer, Answer::Faults(wanted) if *wanted == fault));
+        }
     }
     drop(script);
 }

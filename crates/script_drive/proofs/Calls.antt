@@ -11,7 +11,7 @@ use Rattle.event_core.specs.declared.ids.SiteId.{SiteId}
 use Rattle.event_core.specs.declared.events.Event.{Event}
 use Rattle.event_core.specs.declared.events.Call.{Call}
 use Rattle.event_core.specs.declared.events.Op.{Op}
-use Rattle.event_core.specs.declared.events.Op.TheVariants.{Join}
+use Rattle.event_core.specs.declared.events.Op.TheVariants.{Fork, Join}
 use Rattle.event_core.specs.declared.events.Act.TheVariants.{One}
 use Rattle.event_core.specs.declared.bounds.Limits.{Limits}
 use Rattle.event_core.specs.declared.replies.Reply.{Reply}
@@ -24,9 +24,10 @@ use Rattle.event_core.proofs.StepLaws.{log_of-snoc, own_logs}
 use Rattle.live_monitor.specs.Calls.{join_by, Accepted}
 use Rattle.log_pass.specs.declared.views.PassView.{PassView}
 use Rattle.script_text.specs.declared.lines.ScriptLine.{ScriptLine}
-use Rattle.script_text.specs.Lines.{act_join, op_join, act_thread, is_thread, join_of, thread_of}
+use Rattle.script_text.specs.Lines.{act_fork, act_join, op_fork, op_join, act_thread, is_thread}
+use Rattle.script_text.specs.Lines.{fork_of, join_of, thread_of}
 use Rattle.script_drive.specs.Lines.{Follows, asked_by, given, lines_by, unread}
-use Rattle.script_drive.specs.Workers.{Does, Done, Reach, Serves, Settled, joined}
+use Rattle.script_drive.specs.Workers.{Does, Done, Reach, Serves, Settled, forked, joined}
 
 -- the steps of a pass that a call's event joins, without what was read
 event_more : (m : Limits) (call : Call) (p q : PassView) (reply : Reply) (a : Accepted m call p q reply)
@@ -109,4 +110,15 @@ next_joined line call u to old new act op later serves next =
     = ap act_join act ∙ ap op_join op in
     let all : to ∷ new.joins ≡ u ∷ joined later
     = sym next ∙ (serves.joins ∙ ap (λ (o : Option ThreadId). cons_option o (joined later)) who) in
+    cc
+
+-- and whom the next fork's end reaches is whom the line forks
+pub next_forked : (line : ScriptLine) (call : Call) (u to : ThreadId) (old new : Reach)
+    → line.act ≡ One call → call.op ≡ Fork u → (later : List ScriptLine) → Serves old (line ∷ later)
+    → old.forks ≡ to ∷ new.forks → to ≡ u
+next_forked line call u to old new act op later serves next =
+    let who : fork_of line ≡ Some u
+    = ap act_fork act ∙ ap op_fork op in
+    let all : to ∷ new.forks ≡ u ∷ forked later
+    = sym next ∙ (serves.forks ∙ ap (λ (o : Option ThreadId). cons_option o (forked later)) who) in
     cc

@@ -1,4 +1,5 @@
 mod Calls
+mod ScriptFaults
 mod Settling
 mod Progress
 mod Whole

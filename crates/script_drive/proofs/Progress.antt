@@ -97,7 +97,7 @@ next_line reach lines i d lt serves =
     = drop-cons lines i d lt ∙ ap (λ (n : ℕ). get_or lines i d ∷ drop n lines) (sym (add-one i)) in
     subst (Serves reach) next serves
 
--- a kit with the ends for one more line
+-- a links with the ends for one more line
 pub served_more : (old new : Reach) (lines : List ScriptLine) (i : ℕ) (d : ScriptLine) → i < length lines
     → Serves old (take i lines) → new.forks ≡ old.forks ++ forked (get_or lines i d ∷ [])
     → new.joins ≡ old.joins ++ joined (get_or lines i d ∷ []) → Serves new (take (i + 1) lines)

@@ -1,28 +1,100 @@
 //! Why a drive ends before its script does.
+ghost use Rattle.std.specs.Prelude.{◌≡◌, [], None, IfSome};
+ghost use Rattle.script_drive.specs.Faults.{own_fault, rank, refused_at, stuck_at};
+ghost use Rattle.script_drive.specs.Faults.{IsAnswer, IsEarlier, IsFirst};
+
 use event_core::{Refusal, ThreadId};
 use script_text::ScriptLine;
+use thiserror::Error;
 
 /// Why a script was not run to its end. Lines are numbered from 1.
-#[derive(Clone, Copy, Debug, PartialEq, Eq)]
+#[derive(Clone, Copy, Debug, PartialEq, Eq, Error)]
 pub enum DriveFault {
     /// The line was tried as often as patience allows: its gate did not admit it, another thread held the
     /// lock that it acquires, or the thread that it joins did not end.
+    #[error("line {line}: it was tried as often as patience allows")]
     Stuck {
         thread: ThreadId,
         line: u64,
     },
     /// The line's call was refused.
+    #[error("line {line}: {refusal}")]
     Refused {
         thread: ThreadId,
         line: u64,
         refusal: Refusal,
     },
     /// No worker could be started for the thread that the line forks.
+    #[error("line {line}: no worker could be started for the thread that it forks")]
     NoWorker {
         line: u64,
     },
     /// A growth was refused.
+    #[error("out of memory")]
     OutOfMemory,
+}
+
+impl DriveFault {
+    /// Patience with the line is used up.
+    pub(crate) fn stuck(line: &ScriptLine) -> DriveFault
+        ensures { result ≡ stuck_at line.now }
+    {
+        DriveFault::Stuck {
+            thread: line.thread(),
+            line: line.line,
+        }
+    }
+
+    /// The line's call was refused. It is refused a lock that another thread holds only once patience is used
+    /// up.
+    pub(crate) fn refused(line: &ScriptLine, refusal: Refusal) -> DriveFault
+        ensures { result ≡ refused_at line.now refusal }
+    {
+        match refusal {
+            Refusal::Held { .. } => DriveFault::stuck(line),
+            Refusal::OutOfMemory => DriveFault::OutOfMemory,
+            refusal => DriveFault::Refused {
+                thread: line.thread(),
+                line: line.line,
+                refusal,
+            },
+        }
+    }
+
+    /// The lesser it is, the earlier the fault is answered: want of memory before all lines.
+    fn rank(&self) -> u128
+        ensures { result ≡ rank self.now }
+    {
+        match self {
+            DriveFault::OutOfMemory => 0,
+            DriveFault::Stuck { line, .. }
+            | DriveFault::Refused { line, .. }
+            | DriveFault::NoWorker { line } => u128::from(*line) + 1,
+        }
+    }
+
+    /// Which of the two is answered.
+    fn or_earlier(self, other: DriveFault) -> DriveFault
+        ensures { IsEarlier self other result }
+    {
+        if other.rank() < self.rank() {
+            other
+        } else {
+            self
+        }
+    }
+}
+
+/// The first of faults: want of memory, or else one with the least line.
+pub(crate) fn first_fault(faults: &[DriveFault]) -> Option<DriveFault>
+    ensures none { result ≡ None → faults.now ≡ [] }
+    ensures first { IfSome result (IsFirst faults.now) }
+{
+    let mut first = *faults.first()?;
+    for fault in faults {
+        first = first.or_earlier(*fault);
+    }
+    Some(first)
 }
 
 /// Why a worker ends before its lines do.
@@ -30,76 +102,31 @@ pub enum DriveFault {
 pub(crate) enum Halt {
     /// By a fault of its own.
     Fault(DriveFault),
-    /// Since the thread that the line joins ended by a fault.
-    Abandoned { thread: ThreadId, line: u64 },
+    /// The thread that this line joins ended before its lines did.
+    Abandoned(ScriptLine),
 }
 
 impl Halt {
-    /// Patience with the line is used up.
-    pub(crate) fn stuck(line: &ScriptLine) -> Halt {
-        Halt::Fault(DriveFault::Stuck {
-            thread: line.thread(),
-            line: line.line,
-        })
-    }
-
-    /// The line's call was refused. It is refused a lock that another thread holds only once patience is used
-    /// up.
-    pub(crate) fn refused(line: &ScriptLine, refusal: Refusal) -> Halt {
-        match refusal {
-            Refusal::Held { .. } => Halt::stuck(line),
-            Refusal::OutOfMemory => Halt::Fault(DriveFault::OutOfMemory),
-            refusal => Halt::Fault(DriveFault::Refused {
-                thread: line.thread(),
-                line: line.line,
-                refusal,
-            }),
-        }
-    }
-
-    /// The thread that the line joins ended by a fault.
-    pub(crate) fn abandoned(line: &ScriptLine) -> Halt {
-        Halt::Abandoned {
-            thread: line.thread(),
-            line: line.line,
-        }
-    }
-
-    /// The worker's own fault.
-    pub(crate) fn fault(self) -> Option<DriveFault> {
+    /// The worker's own fault. One that ended because another did has none.
+    pub(crate) fn fault(self) -> Option<DriveFault>
+        ensures { result ≡ own_fault self }
+    {
         match self {
             Halt::Fault(fault) => Some(fault),
-            Halt::Abandoned { .. } => None,
+            Halt::Abandoned(_) => None,
         }
     }
 
-    /// What is answered where this is thread 0's, and the other workers' first fault is that one.
-    pub(crate) fn answer(self, others: Option<DriveFault>) -> DriveFault {
-        match self {
-            Halt::Fault(fault) => fault.or_earlier(others),
-            Halt::Abandoned { thread, line } => {
-                others.unwrap_or(DriveFault::Stuck { thread, line })
-            }
-        }
-    }
-}
-
-impl DriveFault {
-    // Want of memory stands before all lines.
-    fn rank(&self) -> u64 {
-        match self {
-            DriveFault::OutOfMemory => 0,
-            DriveFault::Stuck { line, .. }
-            | DriveFault::Refused { line, .. }
-            | DriveFault::NoWorker { line } => *line,
-        }
-    }
-
-    /// Which of two workers' faults is answered.
-    pub(crate) fn or_earlier(self, other: Option<DriveFault>) -> DriveFault {
-        match other {
-            Some(other) if other.rank() < self.rank() => other,
-            _ => self,
+    /// What is answered where thread 0's worker ends so, and this is the first fault of the others.
+    pub(crate) fn answer(self, others: Option<DriveFault>) -> DriveFault
+        ensures { IsAnswer self others result }
+    {
+        match (self, others) {
+            (Halt::Fault(own), Some(other)) => own.or_earlier(other),
+            (Halt::Fault(own), None) => own,
+            (Halt::Abandoned(_), Some(other)) => other,
+            // A worker is abandoned by one that has a fault, so this is not reached.
+            (Halt::Abandoned(line), None) => DriveFault::stuck(&line),
         }
     }
 }

@@ -6,18 +6,19 @@
 //! what comes out is the first pass of a thread, or the pass of one that has made the calls of all its lines.
 //!
 //! What is proved of every schedule: the closed log is well formed, and its events of thread 0, and of each
-//! thread that thread 0 joins, are that thread's lines in order. It is not proved that a drive returns, nor
-//! which fault it names.
+//! thread that thread 0 joins, are that thread's lines in order; and a fault is one of a line of the script.
+//! It is not proved that a drive returns, nor which of the script's faults it meets.
 #![tactic(auto)]
 
+mod driving;
 mod faults;
 mod gate;
-mod kit;
 mod lines;
-mod stations;
+mod links;
 mod text;
 mod workers;
 
+pub use driving::drive;
 pub use faults::DriveFault;
 pub use gate::{FreeGate, Gate};
-pub use workers::drive;
+pub use script_text::{Script, ScriptCause, ScriptFault};

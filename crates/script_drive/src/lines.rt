@@ -1,16 +1,18 @@
 //! What a worker does: the calls of its thread's lines, in order.
-ghost use Rattle.std.specs.Prelude.{◌≡◌, ◌∷◌, ◌<◌, [], List, None, length, IfOk, IsOk, OnOk};
+ghost use Rattle.std.specs.Prelude.{◌≡◌, ◌∷◌, ◌<◌, [], List, None, length, Contains};
+ghost use Rattle.std.specs.Prelude.{IfErr, IfOk, IsErrAnd, IsOk, IsSome, OnOk};
 ghost use mathlib.Core.List.{IsPrefix};
-ghost use Rattle.event_core.specs.Steps.{log_of, Formed};
-ghost use Rattle.live_monitor.specs.Calls.{acquire_by, Accepted};
+ghost use Rattle.event_core.specs.Steps.{log_of, own_events, Formed};
+ghost use Rattle.live_monitor.specs.Calls.{acquire_by, Accepted, Declined};
 ghost use Rattle.script_text.specs.declared.lines.ScriptLine.{ScriptLine as Line};
-ghost use Rattle.script_text.specs.Lines.{thread_of};
+ghost use Rattle.script_text.specs.Lines.{join_of, thread_of};
+ghost use Rattle.script_drive.specs.Faults.{refused_at, ended_wait, IsHaltOf, IsNext};
 ghost use Rattle.script_drive.specs.Lines.{lines_by};
 ghost use Rattle.script_drive.specs.Workers.{AreSettled, Does, Done, Serves};
 
-use crate::faults::Halt;
+use crate::faults::{DriveFault, Halt};
 use crate::gate::Gate;
-use crate::kit::Kit;
+use crate::links::Links;
 use crate::text::{Ends, Text};
 use crossbeam_utils::Backoff;
 use event_core::{Act, LockId, Op, Refusal, Reply, SiteId};
@@ -32,6 +34,16 @@ fn may_enter<G: Gate>(gate: &G, line: &ScriptLine, patience: u32) -> bool {
     false
 }
 
+// How the wait for a pass ends where a look did not find it: not yet, unless the pass cannot come any more.
+fn ended_wait(error: TryRecvError, line: &ScriptLine) -> Option<Halt>
+    ensures { result ≡ ended_wait error line.now }
+{
+    match error {
+        TryRecvError::Empty => None,
+        TryRecvError::Disconnected => Some(Halt::Abandoned(*line)),
+    }
+}
+
 // Waits for the pass of the thread that the line joins, as long as patience allows.
 fn await_end<N: Name, S: Text, R: Wait>(
     rt: &R,
@@ -39,18 +51,25 @@ fn await_end<N: Name, S: Text, R: Wait>(
     line: &ScriptLine,
     patience: u32,
 ) -> Result<Pass<N>, Halt>
-    ensures { IfOk result (Done S.script.lines receiver.to) }
+    requires line { Contains S.script.lines line.now }
+    requires joins { IsSome (join_of line.now) }
+    ensures done { IfOk result (Done S.script.lines receiver.to) }
+    ensures halt { IfErr result (IsHaltOf N.limits S.script.lines) }
 {
     let mut receiver = receiver;
     let backoff = Backoff::new();
     for _ in 0..patience {
         match receiver.try_receive(rt) {
             Ok(pass) => return Ok(pass),
-            Err(TryRecvError::Disconnected) => return Err(Halt::abandoned(line)),
-            Err(TryRecvError::Empty) => backoff.snooze(),
+            Err(error) => {
+                if let Some(halt) = ended_wait(error, line) {
+                    return Err(halt);
+                }
+            }
         }
+        backoff.snooze();
     }
-    Err(Halt::stuck(line))
+    Err(Halt::Fault(DriveFault::stuck(line)))
 }
 
 // Acquires the lock. While another thread holds it, it is tried again, as often as patience allows.
@@ -68,6 +87,9 @@ fn acquire<N: Name, R: Wait>(
     ensures begins { IsPrefix pass.seen result.0.seen }
     ensures accepted { IfOk result.1
         (λ reply. Accepted N.limits (acquire_by pass.thread lock site) pass result.0 reply) }
+    ensures declined { IfErr result.1
+        (λ refusal. Declined N.limits (acquire_by pass.thread lock site) pass result.0 refusal) }
+    ensures own_events { log_of result.0.mine ≡ own_events result.0.thread (log_of result.0.seen) }
     ensures formed { Formed N.limits result.0.seen }
 {
     let mut pass = pass;
@@ -89,10 +111,12 @@ fn answered<N: Name, T: Drop>(
 ) -> Result<Pass<N>, Halt>
     ensures pass { IfOk result (λ pass. pass ≡ answer.0) }
     ensures accepted { IfOk result (λ _. IsOk answer.1) }
+    ensures refused { IfErr result (λ halt. IsErrAnd answer.1
+        (λ refusal. halt ≡ Halt.Fault (refused_at line.now refusal))) }
 {
     match answer {
         (pass, Ok(_)) => Ok(pass),
-        (_, Err(refusal)) => Err(Halt::refused(line, refusal)),
+        (_, Err(refusal)) => Err(Halt::Fault(DriveFault::refused(line, refusal))),
     }
 }
 
@@ -102,15 +126,17 @@ fn make_call<N: Name, S: Text, R: Wait>(
     shared: &Shared<N>,
     pass: Pass<N>,
     line: &ScriptLine,
-    kit: &mut Kit<N, S>,
+    links: &mut Links<N, S>,
     patience: u32,
 ) -> Result<Pass<N>, Halt>
     requires none_due { pass.due ≡ None }
     requires thread { thread_of line.now ≡ pass.thread }
-    requires serves { (later : List Line) × Serves kit.old (line.now ∷ later) }
+    requires next { IsNext S.script.lines line.now pass }
+    requires serves { (later : List Line) × Serves links.old (line.now ∷ later) }
     ensures does { IfOk result (Does N.limits S.script.lines line.now pass) }
-    ensures serves { (later : List Line) → Serves kit.old (line.now ∷ later)
-        → OnOk result (Serves kit.new later) }
+    ensures serves { (later : List Line) → Serves links.old (line.now ∷ later)
+        → OnOk result (Serves links.new later) }
+    ensures halt { IfErr result (IsHaltOf N.limits S.script.lines) }
 {
     match line.act {
         Act::One(call) => match call.op {
@@ -121,21 +147,23 @@ fn make_call<N: Name, S: Text, R: Wait>(
             }
             Op::Release(lock) => answered(line, shared.release(rt, pass, lock, call.site)),
             Op::Fork(_) => {
-                let birth = kit.next_birth();
+                let birth = links.next_birth();
                 match shared.fork(rt, pass, birth.to, call.site) {
                     (pass, Ok((child, _))) => {
                         birth.send(rt, child);
                         Ok(pass)
                     }
-                    (_, Err(refusal)) => Err(Halt::refused(line, refusal)),
+                    (_, Err(refusal)) => Err(Halt::Fault(DriveFault::refused(line, refusal))),
                 }
             }
             Op::Join(_) => {
-                let end = kit.next_end();
+                let end = links.next_end();
                 let child = await_end(rt, end, line, patience)?;
                 match shared.join(rt, pass, child, call.site) {
                     (pass, Ok(_)) => Ok(pass),
-                    (_, Err((refusal, _))) => Err(Halt::refused(line, refusal)),
+                    (_, Err((refusal, _))) => {
+                        Err(Halt::Fault(DriveFault::refused(line, refusal)))
+                    }
                 }
             }
         },
@@ -151,23 +179,24 @@ pub(crate) fn run_lines<N: Name, S: Text, G: Gate, R: Wait>(
     gate: &G,
     patience: u32,
     pass: Pass<N>,
-    mut kit: Kit<N, S>,
+    mut links: Links<N, S>,
 ) -> Result<Pass<N>, Halt>
     requires script { script.now ≡ S.script }
     requires thread { pass.thread.0 < length S.script.names.threads.names }
     requires new { (pass.due ≡ None) × (pass.mine ≡ []) }
-    requires serves { Serves kit (lines_by pass.thread S.script.lines) }
+    requires serves { Serves links (lines_by pass.thread S.script.lines) }
     ensures done { IfOk result (Done S.script.lines pass.thread) }
     ensures settled { IfOk result
         (λ last. AreSettled S.script.lines (log_of last.seen) (lines_by pass.thread S.script.lines)) }
+    ensures halt { IfErr result (IsHaltOf N.limits S.script.lines) }
 {
     let lines = script.lines_of(pass.thread());
     let mut pass = pass;
     for line in lines {
         if !may_enter(gate, line, patience) {
-            return Err(Halt::stuck(line));
+            return Err(Halt::Fault(DriveFault::stuck(line)));
         }
-        pass = make_call(rt, shared, pass, line, &mut kit, patience)?;
+        pass = make_call(rt, shared, pass, line, &mut links, patience)?;
         gate.done(line.thread(), line.line);
     }
     Ok(pass)

@@ -1,184 +1,179 @@
-//! One worker for each thread of a script.
-ghost use Rattle.std.specs.Prelude.{◌≡◌, ◌<◌, [], true, length, IfOk};
-ghost use Rattle.std.specs.List.{list_any};
-ghost use Rattle.event_core.specs.declared.bounds.Roots.TheVariants.{OnlyMain};
-ghost use Rattle.event_core.specs.declared.ids.ThreadId.{ThreadId as Thread};
-ghost use Rattle.event_core.specs.Refusal.{WellFormed};
-ghost use Rattle.event_core.specs.Steps.{log_of, own_events};
-ghost use Rattle.log_pass.specs.Views.{main, new_pass};
-ghost use Rattle.script_text.specs.Lines.{joins as line_joins};
-ghost use Rattle.script_drive.specs.Lines.{lines_by, Follows};
-ghost use Rattle.script_drive.specs.Workers.{AreSettled, Done, Serves};
+//! What workers are started with. All channels are made before the first line.
+ghost use Rattle.std.specs.Prelude.{◌≡◌, ◌<◌, ◌∷◌, ◌++◌, [], length, All, Contains, IfOk, IfSome, OnOk};
+ghost use Rattle.std.specs.Option.{ForSome};
+ghost use Rattle.log_pass.specs.Views.{main};
+ghost use Rattle.script_drive.specs.Faults.{IsForkLine};
+ghost use Rattle.script_drive.specs.Lines.{lines_by};
+ghost use Rattle.script_drive.specs.Workers.{forked, joined, Serves};
 
-use crate::faults::{DriveFault, Halt};
-use crate::gate::Gate;
-use crate::kit::Kit;
-use crate::lines::run_lines;
-use crate::stations::{FullKit, Station, stations};
-use crate::text::Text;
-use event_core::Limits;
-use live_monitor::{Closed, Shared, Unnamed, start};
-use log_pass::{Name, Pass};
-use script_text::Script;
-use std::alloc::Global;
-use std::marker::Brand;
-use std::sync::Wait;
-use std::thread;
-use std::thread::{JoinHandle, Threads};
+use crate::links::Links;
+use crate::text::{Births, Ends, Text};
+use event_core::ThreadId;
+use log_pass::Name;
+use pass_channel::{PassReceiver, PassSender, pass_channel};
+use script_text::{Script, ScriptLine};
+use std::alloc::{AllocError, Global};
+use std::marker::{Model, PhantomData};
 
-// Waits for the thread's pass, makes the calls of its lines, and sends the pass to who joins the thread. A
-// worker that ends before its lines do lets its ends go, which tells those that wait for it.
-fn work<N: Name, S: Text, G: Gate, R: Wait>(
-    rt: &R,
-    shared: &Shared<N>,
-    script: &Script,
-    gate: &G,
-    patience: u32,
-    station: Station<N, S>,
-) -> Option<DriveFault>
-    requires script { script.now ≡ S.script }
-{
-    let Station {
-        full_kit: FullKit { thread: _, kit },
-        birth,
-        end,
-    } = station;
-    let pass = birth.receiver.receive(rt)?;
-    match run_lines(rt, shared, script, gate, patience, pass, kit) {
-        Ok(last) => {
-            if let Some(end) = end {
-                end.send(rt, last);
-            }
-            None
+/// A thread and its links before its first line. Contracts see the thread, and whom the links reach: just
+/// those whom the thread's lines fork and join.
+#[derive(Drop)]
+pub(crate) struct OwnLinks<N: Name, S: Text> {
+    pub thread: ThreadId,
+    pub links: Links<N, S>,
+}
+
+impl<N: Name, S: Text> Model for OwnLinks<N, S> {
+    ghost use Rattle.script_drive.specs.Workers.{IsFull, OwnReach};
+
+    ghost Value = { OwnReach };
+
+    ghost view = { λ own. record { thread = own.thread; reach = own.links } };
+
+    ghost invariant = { λ own. IsFull S.script own.thread own.links };
+}
+
+/// Where a worker's first pass comes from, and the line of the script that forks its thread.
+#[derive(Drop)]
+pub(crate) struct Birth<N: Name, S: Text> {
+    pub receiver: PassReceiver<N, Births>,
+    pub line: u64,
+    script: PhantomData<S>,
+    ghost forks: { IsForkLine S.script.lines line },
+}
+
+/// A worker that is not started yet. Its last pass goes to the worker that joins it, if one does.
+#[derive(Drop)]
+pub(crate) struct Worker<N: Name, S: Text> {
+    pub own: OwnLinks<N, S>,
+    pub birth: Birth<N, S>,
+    pub end: Option<PassSender<N, Ends<S>>>,
+    ghost begins: { birth.receiver.to ≡ own.thread },
+    ghost ends: { ForSome end (λ sender. sender.to ≡ own.thread) },
+}
+
+// The ends of channels that no worker has yet.
+#[derive(Drop)]
+struct LooseEnds<N: Name, S: Text> {
+    births: Vec<Birth<N, S>>,
+    ends: Vec<PassSender<N, Ends<S>>>,
+}
+
+impl<N: Name, S: Text> LooseEnds<N, S> {
+    // Makes the channel for the thread that the line forks, if it forks one.
+    fn add_fork(
+        &mut self,
+        alloc: Global,
+        line: &ScriptLine,
+        links: &mut Links<N, S>,
+    ) -> Result<(), AllocError>
+        requires { Contains S.script.lines line.now }
+        ensures forks { OnOk result (links.new.forks ≡ links.old.forks ++ forked (line.now ∷ [])) }
+        ensures joins { links.new.joins ≡ links.old.joins }
+    {
+        if let Some(child) = line.fork() {
+            let (sender, receiver) = pass_channel::<N, Births>(alloc, child)?;
+            links.add_birth(sender)?;
+            self.births.push(Birth {
+                receiver,
+                line: line.line,
+                script: PhantomData,
+            })?;
         }
-        Err(halt) => halt.fault(),
+        Ok(())
+    }
+
+    // Makes the channel for the thread that the line joins, if it joins one.
+    fn add_join(
+        &mut self,
+        alloc: Global,
+        line: &ScriptLine,
+        links: &mut Links<N, S>,
+    ) -> Result<(), AllocError>
+        ensures forks { links.new.forks ≡ links.old.forks }
+        ensures joins { OnOk result (links.new.joins ≡ links.old.joins ++ joined (line.now ∷ [])) }
+    {
+        if let Some(child) = line.join() {
+            let (sender, receiver) = pass_channel::<N, Ends<S>>(alloc, child)?;
+            links.add_end(receiver)?;
+            self.ends.push(sender)?;
+        }
+        Ok(())
+    }
+
+    // The links for these lines of the script, with a channel for each thread that they fork or join.
+    fn connect(&mut self, alloc: Global, lines: &[ScriptLine]) -> Result<Links<N, S>, AllocError>
+        requires { All (Contains S.script.lines) lines.now }
+        ensures { IfOk result (λ links. Serves links lines.now) }
+    {
+        let mut links = Links::new(alloc);
+        for line in lines {
+            self.add_fork(alloc, line, &mut links)?;
+            self.add_join(alloc, line, &mut links)?;
+        }
+        Ok(links)
+    }
+
+    fn take_birth(&mut self, thread: ThreadId) -> Option<Birth<N, S>>
+        ensures { IfSome result (λ birth. birth.receiver.to ≡ thread) }
+    {
+        for at in 0..self.births.len() {
+            if self.births[at].receiver.to == thread {
+                return Some(self.births.swap_remove(at));
+            }
+        }
+        None
+    }
+
+    fn take_end(&mut self, thread: ThreadId) -> Option<PassSender<N, Ends<S>>>
+        ensures { IfSome result (λ sender. sender.to ≡ thread) }
+    {
+        for at in 0..self.ends.len() {
+            if self.ends[at].to == thread {
+                return Some(self.ends.swap_remove(at));
+            }
+        }
+        None
     }
 }
 
-// Each thread makes the calls of its lines, in a worker of its own. The pass is thread 0's.
-fn run_all<N: Name + Send + Sync, S: Text + Send, G: Gate + Sync, R: Threads + Wait + Sync>(
-    rt: &R,
+// The links of all threads but thread 0.
+fn other_links<N: Name, S: Text>(
     alloc: Global,
-    shared: &Shared<N>,
     script: &Script,
-    gate: &G,
-    patience: u32,
-    pass: Pass<N>,
-    kit: Kit<N, S>,
-    stations: Vec<Station<N, S>>,
-) -> Result<Pass<N>, DriveFault>
+    loose: &mut LooseEnds<N, S>,
+) -> Result<Vec<OwnLinks<N, S>>, AllocError>
+    requires script { script.now ≡ S.script }
+{
+    let mut others = Vec::new(alloc);
+    for number in 1..script.threads() {
+        let thread = ThreadId(number);
+        let links = loose.connect(alloc, script.lines_of(thread))?;
+        others.push(OwnLinks { thread, links })?;
+    }
+    Ok(others)
+}
+
+/// Thread 0's links, and a worker for each other thread.
+pub(crate) fn all_workers<N: Name, S: Text>(
+    alloc: Global,
+    script: &Script,
+) -> Result<(Links<N, S>, Vec<Worker<N, S>>), AllocError>
     requires script { script.now ≡ S.script }
     requires some { 0 < length S.script.names.threads.names }
-    requires pass { pass ≡ new_pass main [] }
-    requires serves { Serves kit (lines_by main S.script.lines) }
-    ensures done { IfOk result (Done S.script.lines main) }
-    ensures settled { IfOk result
-        (λ last. AreSettled S.script.lines (log_of last.seen) (lines_by main S.script.lines)) }
+    ensures main { IfOk result (λ made. Serves made.0 (lines_by main S.script.lines)) }
 {
-    thread::scope(
-        thread::scope_env(),
-        rt,
-        move |scope| -> Result<Pass<N>, DriveFault>
-            requires script { script.now ≡ S.script }
-            requires some { 0 < length S.script.names.threads.names }
-            requires pass { pass ≡ new_pass main [] }
-            requires serves { Serves kit (lines_by main S.script.lines) }
-            ensures done { IfOk result (Done S.script.lines main) }
-            ensures settled { IfOk result
-                (λ last. AreSettled S.script.lines (log_of last.seen) (lines_by main S.script.lines)) }
-        {
-            let mut workers: Vec<JoinHandle<Option<DriveFault>>> = Vec::new(alloc);
-            for station in stations {
-                let line = station.birth.line;
-                let started = scope.spawn(
-                    move ||
-                        requires { script.now ≡ S.script }
-                    { work(rt, shared, script, gate, patience, station) },
-                );
-                let Ok(worker) = started else {
-                    return Err(DriveFault::NoWorker { line });
-                };
-                if workers.push(worker).is_err() {
-                    return Err(DriveFault::OutOfMemory);
-                }
-            }
-            let result = run_lines(rt, shared, script, gate, patience, pass, kit);
-            let mut first = None;
-            for worker in workers {
-                if let Some(fault) = worker.join(rt) {
-                    first = Some(fault.or_earlier(first));
-                }
-            }
-            match (result, first) {
-                (Ok(last), None) => Ok(last),
-                (Ok(_), Some(fault)) => Err(fault),
-                (Err(halt), first) => Err(halt.answer(first)),
-            }
-        },
-    )
-}
-
-// Runs the script over a monitor that has a name.
-fn drive_in<N: Name + Send + Sync, S: Text + Send, G: Gate + Sync, R: Threads + Wait + Sync>(
-    rt: &R,
-    alloc: Global,
-    script: &Script,
-    unnamed: Unnamed,
-    gate: &G,
-    patience: u32,
-) -> Result<Closed, DriveFault>
-    requires table { unnamed.table ≡ N.table }
-    requires limits { unnamed.limits ≡ N.limits }
-    requires script { script.now ≡ S.script }
-    ensures limits { IfOk result (λ closed. closed.limits ≡ unnamed.limits) }
-    ensures well_formed { IfOk result (λ closed. WellFormed unnamed.limits closed.log) }
-    ensures main { IfOk result
-        (λ closed. Follows (own_events main closed.log) (lines_by main script.now.lines)) }
-    ensures joined { IfOk result (λ closed. (u : Thread)
-        → list_any (line_joins u.0) (lines_by main script.now.lines) ≡ true
-        → Follows (own_events u closed.log) (lines_by u script.now.lines)) }
-{
-    let (shared, pass) = start::<N>(unnamed);
-    if script.threads() == 0 {
-        return Ok(shared.close(pass));
+    let mut loose = LooseEnds {
+        births: Vec::new(alloc),
+        ends: Vec::new(alloc),
+    };
+    let main_links = loose.connect(alloc, script.lines_of(ThreadId(0)))?;
+    let mut workers = Vec::new(alloc);
+    for own in other_links(alloc, script, &mut loose)? {
+        let end = loose.take_end(own.thread);
+        if let Some(birth) = loose.take_birth(own.thread) {
+            workers.push(Worker { own, birth, end })?;
+        }
     }
-    let Ok((kit, stations)) = stations::<N, S>(alloc, script) else {
-        return Err(DriveFault::OutOfMemory);
-    };
-    let last = run_all(
-        rt, alloc, &shared, script, gate, patience, pass, kit, stations,
-    )?;
-    Ok(shared.close(last))
-}
-
-/// Runs the script, each of its threads by a worker of its own. A line is tried up to `patience` times: while
-/// its gate does not admit it, and then anew while another thread holds the lock that it acquires, or the
-/// thread that it joins has not ended.
-///
-/// The closed log is well formed, and its events of thread 0, and of each thread that thread 0 joins, are
-/// that thread's lines in order.
-///
-/// Where a worker cannot be started, no call is made. Where workers end by faults, the answer is want of
-/// memory if one of them had it, and else the fault with the least line.
-pub fn drive<G: Gate + Sync, R: Threads + Wait + Sync>(
-    rt: &R,
-    alloc: Global,
-    script: &Script,
-    limits: &Limits,
-    gate: &G,
-    patience: u32,
-) -> Result<Closed, DriveFault>
-    requires only_main { limits.now.roots ≡ OnlyMain }
-    ensures limits { IfOk result (λ closed. closed.limits ≡ limits.now) }
-    ensures well_formed { IfOk result (λ closed. WellFormed limits.now closed.log) }
-    ensures main { IfOk result
-        (λ closed. Follows (own_events main closed.log) (lines_by main script.now.lines)) }
-    ensures joined { IfOk result (λ closed. (u : Thread)
-        → list_any (line_joins u.0) (lines_by main script.now.lines) ≡ true
-        → Follows (own_events u closed.log) (lines_by u script.now.lines)) }
-{
-    let Ok(unnamed) = Unnamed::new(alloc, *limits) else {
-        return Err(DriveFault::OutOfMemory);
-    };
-    drive_in::<Brand, Brand, G, R>(rt, alloc, script, unnamed, gate, patience)
+    Ok((main_links, workers))
 }

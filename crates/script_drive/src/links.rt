@@ -11,12 +11,12 @@ use std::marker::Model;
 
 /// A worker's ends, in the order of its lines. Contracts see whom it is still to fork, and whom to join.
 #[derive(Drop)]
-pub(crate) struct Kit<N: Name, S: Text> {
+pub(crate) struct Links<N: Name, S: Text> {
     births: VecDeque<PassSender<N, Births>>,
     ends: VecDeque<PassReceiver<N, Ends<S>>>,
 }
 
-impl<N: Name, S: Text> Model for Kit<N, S> {
+impl<N: Name, S: Text> Model for Links<N, S> {
     ghost use Rattle.std.specs.Prelude.{map};
     ghost use Rattle.script_drive.specs.Workers.{Reach};
 
@@ -28,12 +28,12 @@ impl<N: Name, S: Text> Model for Kit<N, S> {
     } };
 }
 
-impl<N: Name, S: Text> Kit<N, S> {
-    pub(crate) fn new(alloc: Global) -> Kit<N, S>
+impl<N: Name, S: Text> Links<N, S> {
+    pub(crate) fn new(alloc: Global) -> Links<N, S>
         ensures forks { result.forks ≡ [] }
         ensures joins { result.joins ≡ [] }
     {
-        Kit {
+        Links {
             births: VecDeque::new(alloc),
             ends: VecDeque::new(alloc),
         }

@@ -6,7 +6,7 @@ use Rattle.script_text.specs.Scripts.{Parsed}
 use Rattle.script_drive.specs.Lines.{lines_by}
 use Rattle.script_drive.specs.Workers.{AreSettled, Done}
 use Rattle.script_drive.proofs.Whole.{closed_joined, closed_own, empty_done, no_lines, none_settled}
-use Rattle.script_drive.proofs.workers.drive_in.Goals as goal
+use Rattle.script_drive.proofs.driving.drive_in.Goals as goal
 
 pub returns-then-threads-eq0-clause-main : goal.returns-then-threads-eq0-clause-main
 returns-then-threads-eq0-clause-main g c =

@@ -1,4 +1,4 @@
-use Rattle.script_drive.proofs.workers.drive.Given as goal
+use Rattle.script_drive.proofs.driving.drive.Given as goal
 
 abbrev pub ghosts-drive_in-N-Name : goal.ghosts-drive_in-N-Name
 ghosts-drive_in-N-Name g a = record { table = a.unnamed.table; limits = a.unnamed.limits }

@@ -1,0 +1,211 @@
+-- The faults of workers are those of lines of the script.
+use Rattle.std.proofs.Common.{◌≡◌, ℕ, ◌+◌, ◌<◌, ◌≤◌, ◌⊎◌, List, ◌∷◌, ◌++◌, Some, refl, sym, ap}
+use Rattle.std.specs.Prelude.{IfErr, IsErrAnd, IsSome, Result, Ok, Err}
+use Rattle.std.proofs.Common.{◌∙◌, subst, length, get_or, take, drop, take-append-drop, add-one, arith}
+use Rattle.std.specs.List.{filter, All, Contains}
+use Rattle.std.proofs.Math.Seq.{drop-cons}
+use Rattle.std.proofs.lemmas.List.Elements.{All-contains_itself, All-filter, All-more, All-weaker}
+use Rattle.std.proofs.lemmas.List.Elements.{Contains-get_or}
+use mathlib.Core.Logic.{inl, inr}
+use Rattle.event_core.specs.declared.ids.ThreadId.{ThreadId}
+use Rattle.event_core.specs.declared.ids.SiteId.{SiteId}
+use Rattle.event_core.specs.declared.ids.VarId.{VarId}
+use Rattle.event_core.specs.declared.bounds.Limits.{Limits}
+use Rattle.event_core.specs.declared.events.Event.{Event}
+use Rattle.event_core.specs.declared.events.Act.TheVariants.{One, Swap}
+use Rattle.event_core.specs.declared.events.Call.{Call}
+use Rattle.event_core.specs.declared.events.Op.{Op}
+use Rattle.event_core.specs.declared.replies.Refusal.{Refusal}
+use Rattle.event_core.specs.declared.replies.Refusal.TheVariants.{ThreadRange, NotStarted, Ended, TargetRange}
+use Rattle.event_core.specs.declared.replies.Refusal.TheVariants.{Held, NotHolder, SelfTarget, AlreadyStarted}
+use Rattle.event_core.specs.declared.replies.Refusal.TheVariants.{TargetNotStarted, LogFull, OutOfMemory}
+use Rattle.event_core.specs.declared.replies.Reply.{Reply}
+use Rattle.event_core.specs.declared.replies.SwapReply.{SwapReply}
+use Rattle.event_core.specs.Acts.{swap_refusal}
+use Rattle.event_core.specs.Refusal.{first_of, reasons, refusal}
+use Rattle.event_core.specs.Steps.{log_of, own_events, Formed}
+use Rattle.live_monitor.specs.Calls.{call_by, Declined}
+use Rattle.live_monitor.specs.Swaps.{DeclinedSwap}
+use Rattle.log_pass.specs.declared.views.PassView.{PassView}
+use Rattle.script_text.specs.declared.lines.ScriptLine.{ScriptLine}
+use Rattle.script_text.specs.Lines.{act_thread, fork_of, is_of, thread_of}
+use Rattle.script_drive.specs.declared.faults.DriveFault.{DriveFault}
+use Rattle.script_drive.specs.declared.faults.Halt.{Halt}
+use Rattle.script_drive.specs.declared.faults.Halt.TheVariants.{Fault}
+use Rattle.script_drive.specs.Faults.{act_refusal, rank, refused_at, stuck_at, Fits, IsEarlier, IsFaultOf}
+use Rattle.script_drive.specs.Faults.{IsForkLine, IsHaltOf, IsNext, Refuses}
+use Rattle.script_drive.specs.Lines.{Follows, lines_by}
+use Rattle.script_drive.specs.Workers.{HasDone}
+use Rattle.script_drive.proofs.Progress.{own_line}
+
+-- ---- which is answered
+
+-- one more fault is looked at
+pub first_more : (faults : List DriveFault) (i : ℕ) (d first next : DriveFault) → i < length faults
+    → Contains faults first → All (λ g. rank first ≤ rank g) (take i faults)
+    → IsEarlier first (get_or faults i d) next
+    → Contains faults next × All (λ g. rank next ≤ rank g) (take (i + 1) faults)
+first_more faults i d first next lt one least earlier = (
+  elim (earlier.0) as (λ _. Contains faults next) [
+    | inl e ↦ subst (Contains faults) (sym e) one
+    | inr e ↦ subst (Contains faults) (sym e) (Contains-get_or faults i d lt)
+  ],
+  All-more (λ g. rank next ≤ rank g) faults i d lt
+      (All-weaker (λ g. rank first ≤ rank g) (λ g. rank next ≤ rank g)
+      (λ g le. omega (arith, le, earlier.1)) (take i faults) least)
+      earlier.2,
+)
+
+-- ---- the faults of a script
+
+pub stuck_fits : (m : Limits) (script : List ScriptLine) (l : ScriptLine) → Contains script l
+    → IsFaultOf m script (stuck_at l)
+stuck_fits m script l line = ∣ (l, line, (refl, refl)) ∣₁
+
+pub fork_fits : (script : List ScriptLine) (l : ScriptLine) → Contains script l → IsSome (fork_of l)
+    → IsForkLine script l.line
+fork_fits script l line forks = ∣ (l, line, (refl, forks)) ∣₁
+
+refused_fits : (m : Limits) (script : List ScriptLine) (l : ScriptLine) (why : Refusal) → Contains script l
+    → Refuses m script l why → Fits m script (refused_at l why)
+refused_fits m script l ThreadRange line r = (refl, (l, line, (refl, refl, r)))
+refused_fits m script l NotStarted line r = (refl, (l, line, (refl, refl, r)))
+refused_fits m script l Ended line r = (refl, (l, line, (refl, refl, r)))
+refused_fits m script l TargetRange line r = (refl, (l, line, (refl, refl, r)))
+refused_fits m script l (Held by) line r = (l, line, (refl, refl))
+refused_fits m script l NotHolder line r = (refl, (l, line, (refl, refl, r)))
+refused_fits m script l SelfTarget line r = (refl, (l, line, (refl, refl, r)))
+refused_fits m script l AlreadyStarted line r = (refl, (l, line, (refl, refl, r)))
+refused_fits m script l TargetNotStarted line r = (refl, (l, line, (refl, refl, r)))
+refused_fits m script l LogFull line r = (refl, (l, line, (refl, refl, r)))
+refused_fits m script l OutOfMemory line r = tt
+
+-- the act was refused so to a pass that had done the lines before, or memory ran out
+declined_fits : (m : Limits) (script : List ScriptLine) (l : ScriptLine) (p q : PassView) (why : Refusal)
+    → IsNext script l p → thread_of l ≡ p.thread → q.thread ≡ p.thread → q.mine ≡ p.mine → Formed m q.seen
+    → log_of q.mine ≡ own_events q.thread (log_of q.seen)
+    → (act_refusal m (log_of q.seen) l.act ≡ Some why) ⊎ (why ≡ OutOfMemory)
+    → IsFaultOf m script (refused_at l why)
+declined_fits m script l p q why next thread same mine formed own reason =
+    elim reason as (λ _. IsFaultOf m script (refused_at l why)) [
+      | inl refused ↦
+          ∣ refused_fits m script l why next.line (record {
+            before = next.before;
+            later = next.later;
+            place = next.place;
+            log = log_of q.seen;
+            well_formed = formed.well_formed;
+            own = subst (λ (es : List Event). Follows es next.before) events next.done;
+            refused = refused;
+          }) ∣₁
+      | inr e ↦ subst (λ (w : Refusal). IsFaultOf m script (refused_at l w)) (sym e) ∣ tt ∣₁
+    ]
+  where
+    events : log_of p.mine ≡ own_events (thread_of l) (log_of q.seen)
+    events = ap log_of (sym mine)
+        ∙ (own ∙ ap (λ (t : ThreadId). own_events t (log_of q.seen)) (same ∙ sym thread))
+
+-- a call is refused by what it does and whose it is
+same_refusal : (m : Limits) (log : List Event) (c d : Call) → c.thread ≡ d.thread → c.op ≡ d.op
+    → refusal m log c ≡ refusal m log d
+unfolding refusal
+same_refusal m log c d thread op = λ i.
+    let call : Call = record { thread = thread i; op = op i; site = c.site; arg = c.arg } in
+    first_of (reasons m log call)
+
+-- of a line's call
+pub call_fits : (m : Limits) (script : List ScriptLine) (l : ScriptLine) (call : Call) (op : Op)
+    (site : SiteId) (arg : ℕ) (p q : PassView) (why : Refusal) → l.act ≡ One call → call.op ≡ op
+    → IsNext script l p → thread_of l ≡ p.thread → q.thread ≡ p.thread
+    → Declined m (call_by p.thread op site arg) p q why → Formed m q.seen
+    → log_of q.mine ≡ own_events q.thread (log_of q.seen) → IsFaultOf m script (refused_at l why)
+call_fits m script l call op site arg p q why act is next thread same declined formed own =
+    declined_fits m script l p q why next thread same declined.mine formed own
+    (elim (declined.why) as (λ _. (act_refusal m (log_of q.seen) l.act ≡ Some why) ⊎ (why ≡ OutOfMemory)) [
+      | inl refused ↦ inl (ap (act_refusal m (log_of q.seen)) act
+          ∙ (same_refusal m (log_of q.seen) call (call_by p.thread op site arg)
+          (sym (ap act_thread act) ∙ thread) is ∙ refused))
+      | inr memory ↦ inr (memory.0)
+    ])
+
+-- a worker whose line was answered so
+answered_halts : {T : Type 0} (m : Limits) (script : List ScriptLine) (l : ScriptLine)
+    (answer : Result T Refusal) (result : Result PassView Halt)
+    → IfErr result (λ halt. IsErrAnd answer (λ why. halt ≡ Fault (refused_at l why)))
+    → IfErr answer (λ why. IsFaultOf m script (refused_at l why)) → IfErr result (IsHaltOf m script)
+answered_halts m script l answer (Ok p) refused fits = tt
+answered_halts m script l (Ok x) (Err halt) refused fits = absurd refused
+answered_halts m script l (Err why) (Err halt) refused fits = subst (IsHaltOf m script) (sym refused) fits
+
+-- after a line's call
+pub call_halts : (m : Limits) (script : List ScriptLine) (l : ScriptLine) (call : Call) (op : Op)
+    (site : SiteId) (arg : ℕ) (p q : PassView) (answer : Result Reply Refusal) (result : Result PassView Halt)
+    → l.act ≡ One call → call.op ≡ op → IsNext script l p → thread_of l ≡ p.thread → q.thread ≡ p.thread
+    → IfErr answer (Declined m (call_by p.thread op site arg) p q) → Formed m q.seen
+    → log_of q.mine ≡ own_events q.thread (log_of q.seen)
+    → IfErr result (λ halt. IsErrAnd answer (λ why. halt ≡ Fault (refused_at l why)))
+    → IfErr result (IsHaltOf m script)
+call_halts m script l call op site arg p q answer result act is next thread same declined formed own refused =
+    answered_halts m script l answer result refused (fits answer declined)
+  where
+    fits : (a : Result Reply Refusal) → IfErr a (Declined m (call_by p.thread op site arg) p q)
+        → IfErr a (λ why. IsFaultOf m script (refused_at l why))
+    fits (Ok x) d = tt
+    fits (Err why) d = call_fits m script l call op site arg p q why act is next thread same d formed own
+
+-- of a line's swap
+swap_fits : (m : Limits) (script : List ScriptLine) (l : ScriptLine) (t : ThreadId) (x : VarId)
+    (site : SiteId) (arg : ℕ) (p q : PassView) (why : Refusal) → l.act ≡ Swap t x site arg
+    → IsNext script l p → thread_of l ≡ p.thread → q.thread ≡ p.thread → DeclinedSwap m p.thread x p q why
+    → Formed m q.seen → log_of q.mine ≡ own_events q.thread (log_of q.seen)
+    → IsFaultOf m script (refused_at l why)
+swap_fits m script l t x site arg p q why act next thread same declined formed own =
+    declined_fits m script l p q why next thread same declined.mine formed own
+    (elim (declined.why) as (λ _. (act_refusal m (log_of q.seen) l.act ≡ Some why) ⊎ (why ≡ OutOfMemory)) [
+      | inl refused ↦ inl (ap (act_refusal m (log_of q.seen)) act
+          ∙ (ap (λ (u : ThreadId). swap_refusal m (log_of q.seen) u x) (sym (ap act_thread act) ∙ thread)
+          ∙ refused))
+      | inr memory ↦ inr (memory.0)
+    ])
+
+pub swap_halts : (m : Limits) (script : List ScriptLine) (l : ScriptLine) (t : ThreadId) (x : VarId)
+    (site : SiteId) (arg : ℕ) (p q : PassView) (answer : Result SwapReply Refusal)
+    (result : Result PassView Halt) → l.act ≡ Swap t x site arg → IsNext script l p
+    → thread_of l ≡ p.thread → q.thread ≡ p.thread → IfErr answer (DeclinedSwap m p.thread x p q)
+    → Formed m q.seen → log_of q.mine ≡ own_events q.thread (log_of q.seen)
+    → IfErr result (λ halt. IsErrAnd answer (λ why. halt ≡ Fault (refused_at l why)))
+    → IfErr result (IsHaltOf m script)
+swap_halts m script l t x site arg p q answer result act next thread same declined formed own refused =
+    answered_halts m script l answer result refused (fits answer declined)
+  where
+    fits : (a : Result SwapReply Refusal) → IfErr a (DeclinedSwap m p.thread x p q)
+        → IfErr a (λ why. IsFaultOf m script (refused_at l why))
+    fits (Ok y) d = tt
+    fits (Err why) d = swap_fits m script l t x site arg p q why act next thread same d formed own
+
+-- ---- the lines of a thread
+
+-- they are lines of the script
+pub own_lines : (n : ℕ) (script lines : List ScriptLine) → lines ≡ filter (is_of n) script
+    → All (Contains script) lines
+own_lines n script lines own = subst (All (Contains script)) (sym own)
+    (All-filter (is_of n) (Contains script) script (All-contains_itself script))
+
+pub next_at : (script lines : List ScriptLine) (t : ThreadId) (p : PassView) (i : ℕ) (d : ScriptLine)
+    → lines ≡ lines_by t script → i < length lines → HasDone script t p (take i lines)
+    → IsNext script (get_or lines i d) p
+next_at script lines t p i d own lt h = record {
+  line = own_lines t.0 script lines own i d lt;
+  before = take i lines;
+  later = drop (i + 1) lines;
+  place = place;
+  done = h.follows;
+}
+  where
+    rest : drop i lines ≡ get_or lines i d ∷ drop (i + 1) lines
+    rest = drop-cons lines i d lt ∙ ap (λ (n : ℕ). get_or lines i d ∷ drop n lines) (sym (add-one i))
+
+    place : lines_by (thread_of (get_or lines i d)) script
+        ≡ take i lines ++ get_or lines i d ∷ drop (i + 1) lines
+    place = ap (λ (u : ThreadId). lines_by u script) (own_line t t script lines i d own refl lt)
+        ∙ (sym own ∙ (sym (take-append-drop i lines) ∙ ap (λ (r : List ScriptLine). take i lines ++ r) rest))

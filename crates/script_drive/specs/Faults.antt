@@ -1,0 +1,129 @@
+-- Why a drive ends before its script does: which faults a script has, and which of several is answered.
+use Rattle.std.specs.Prelude.{◌≡◌, ℕ, ◌+◌, ◌≤◌, ◌⊎◌, Bool, true, false, List, ◌∷◌, ◌++◌, Option, Some}
+use Rattle.std.specs.Prelude.{None, IsSome}
+use Rattle.std.specs.List.{All, Contains}
+use Rattle.event_core.specs.declared.events.Act.{Act}
+use Rattle.event_core.specs.declared.events.Act.TheVariants.{One, Swap}
+use Rattle.event_core.specs.declared.events.Event.{Event}
+use Rattle.event_core.specs.declared.bounds.Limits.{Limits}
+use Rattle.event_core.specs.declared.replies.Refusal.{Refusal}
+use Rattle.event_core.specs.declared.replies.Refusal.TheVariants as refusals
+use Rattle.event_core.specs.Acts.{swap_refusal}
+use Rattle.event_core.specs.Refusal.{refusal, WellFormed}
+use Rattle.event_core.specs.Steps.{log_of, own_events}
+use Rattle.log_pass.specs.declared.views.PassView.{PassView}
+use Rattle.script_text.specs.declared.lines.ScriptLine.{ScriptLine}
+use Rattle.script_text.specs.Lines.{fork_of, join_of, thread_of}
+use Rattle.script_drive.specs.declared.faults.DriveFault.{DriveFault}
+use Rattle.script_drive.specs.declared.faults.DriveFault.TheVariants.{Stuck, Refused, NoWorker, OutOfMemory}
+use Rattle.script_drive.specs.declared.faults.Halt.{Halt}
+use Rattle.script_drive.specs.declared.faults.Halt.TheVariants.{Fault, Abandoned}
+use Rattle.script_drive.specs.Lines.{Follows, lines_by}
+use Rattle.crossbeam_channel.specs.declared.err.TryRecvError.{TryRecvError}
+use Rattle.crossbeam_channel.specs.declared.err.TryRecvError.TheVariants.{Empty, Disconnected}
+
+-- ---- one worker
+
+-- the fault of a line that was tried as often as patience allows
+abbrev pub stuck_at : ScriptLine → DriveFault
+stuck_at l = Stuck (thread_of l) l.line
+
+-- the fault of a line whose call was refused so; where another thread held the lock it was tried as often as
+-- patience allows
+abbrev pub refused_at : ScriptLine → Refusal → DriveFault
+refused_at l refusals.OutOfMemory = OutOfMemory
+refused_at l (refusals.Held by) = stuck_at l
+refused_at l why = Refused (thread_of l) l.line why
+
+-- a worker's own fault; one that ended because another did has none
+abbrev pub own_fault : Halt → Option DriveFault
+own_fault (Fault f) = Some f
+own_fault (Abandoned l) = None
+
+-- how a worker ends whose line waits for a thread's last pass and did not find it: not yet, unless that
+-- thread ended without one
+abbrev pub ended_wait : TryRecvError → ScriptLine → Option Halt
+ended_wait Empty l = None
+ended_wait Disconnected l = Some (Abandoned l)
+
+-- ---- which of several faults is answered
+
+-- want of memory comes before all lines
+abbrev pub rank : DriveFault → ℕ
+rank OutOfMemory = 0
+rank (Stuck t n) = n + 1
+rank (Refused t n why) = n + 1
+rank (NoWorker n) = n + 1
+
+-- the fault is one of these, and none of them comes before it
+pub record IsFirst (faults : List DriveFault) (f : DriveFault) : Type 0 where
+  pub one : Contains faults f
+  pub first : All (λ g. rank f ≤ rank g) faults
+
+-- the fault is one of these two, and neither comes before it
+abbrev pub IsEarlier : DriveFault → DriveFault → DriveFault → Type 0
+IsEarlier x y f = ((f ≡ x) ⊎ (f ≡ y)) × (rank f ≤ rank x) × (rank f ≤ rank y)
+
+-- the fault is answered where thread 0's worker ended so, and this is the first fault of the others: the
+-- first of both. Where there is none, it is that the line at which it was abandoned is stuck.
+abbrev pub IsAnswer : Halt → Option DriveFault → DriveFault → Type 0
+IsAnswer (Fault own) (Some other) f = IsEarlier own other f
+IsAnswer (Fault own) None f = f ≡ own
+IsAnswer (Abandoned l) (Some other) f = f ≡ other
+IsAnswer (Abandoned l) None f = f ≡ stuck_at l
+
+-- ---- the faults of a script
+
+-- why the act is refused after the log, if it is
+abbrev pub act_refusal : Limits → List Event → Act → Option Refusal
+act_refusal m log (One c) = refusal m log c
+act_refusal m log (Swap t x site arg) = swap_refusal m log t x
+
+-- the refusal is told; another thread's hold is not, since such an acquire is tried again
+abbrev pub is_told : Refusal → Bool
+is_told (refusals.Held by) = false
+is_told why = true
+
+-- the definition refuses the line's call so, after some well-formed log in which the line's thread has made
+-- just the calls of its lines before
+pub record Refuses (m : Limits) (script : List ScriptLine) (l : ScriptLine) (why : Refusal) : Type 0 where
+  pub before : List ScriptLine
+  pub later : List ScriptLine
+  pub place : lines_by (thread_of l) script ≡ before ++ l ∷ later
+  pub log : List Event
+  pub well_formed : WellFormed m log
+  pub own : Follows (own_events (thread_of l) log) before
+  pub refused : act_refusal m log l.act ≡ Some why
+
+-- some line of the script is so
+abbrev pub SomeLine : List ScriptLine → (ScriptLine → Type 0) → Type 0
+SomeLine script P = (l : ScriptLine) × Contains script l × P l
+
+-- a line of the script with this number forks a thread
+abbrev pub IsForkLine : List ScriptLine → ℕ → Type 0
+IsForkLine script n = ∥ SomeLine script (λ l. (l.line ≡ n) × IsSome (fork_of l)) ∥₁
+
+-- the fault fits a line of the script
+abbrev pub Fits : Limits → List ScriptLine → DriveFault → Type 0
+Fits m script OutOfMemory = Unit {0}
+Fits m script (Stuck t n) = SomeLine script (λ l. (thread_of l ≡ t) × (l.line ≡ n))
+Fits m script (Refused t n why) = (is_told why ≡ true)
+    × SomeLine script (λ l. (thread_of l ≡ t) × (l.line ≡ n) × Refuses m script l why)
+Fits m script (NoWorker n) = IsForkLine script n
+
+-- the fault is one of the script (truncated, so that it is a fact of which a worker's fault can keep a proof)
+abbrev pub IsFaultOf : Limits → List ScriptLine → DriveFault → Type 0
+IsFaultOf m script f = ∥ Fits m script f ∥₁
+
+-- the worker's own fault is one of the script; or the line of the script at which it ended joins a thread
+abbrev pub IsHaltOf : Limits → List ScriptLine → Halt → Type 0
+IsHaltOf m script (Fault f) = IsFaultOf m script f
+IsHaltOf m script (Abandoned l) = Contains script l × IsSome (join_of l)
+
+-- the line is the next of the pass's thread: the pass has done those before it
+pub record IsNext (script : List ScriptLine) (l : ScriptLine) (p : PassView) : Type 0 where
+  pub line : Contains script l
+  pub before : List ScriptLine
+  pub later : List ScriptLine
+  pub place : lines_by (thread_of l) script ≡ before ++ l ∷ later
+  pub done : Follows (log_of p.mine) before

@@ -1,0 +1,233 @@
+//! One worker for each thread of a script.
+ghost use Rattle.std.specs.Prelude.{◌≡◌, ◌<◌, [], true, length, All, IfErr, IfOk, OnOk};
+ghost use Rattle.std.specs.List.{list_any};
+ghost use Rattle.event_core.specs.declared.bounds.Roots.TheVariants.{OnlyMain};
+ghost use Rattle.event_core.specs.declared.ids.ThreadId.{ThreadId as Thread};
+ghost use Rattle.event_core.specs.Refusal.{WellFormed};
+ghost use Rattle.event_core.specs.Steps.{log_of, own_events};
+ghost use Rattle.log_pass.specs.Views.{main, new_pass};
+ghost use Rattle.script_text.specs.Lines.{joins as line_joins};
+ghost use Rattle.script_drive.specs.Faults.{IsFaultOf, IsHaltOf};
+ghost use Rattle.script_drive.specs.Lines.{lines_by, Follows};
+ghost use Rattle.script_drive.specs.Workers.{AreSettled, Done, Serves};
+
+use crate::faults::{DriveFault, Halt, first_fault};
+use crate::gate::Gate;
+use crate::lines::run_lines;
+use crate::links::Links;
+use crate::text::Text;
+use crate::workers::{OwnLinks, Worker, all_workers};
+use event_core::Limits;
+use live_monitor::{Closed, Shared, Unnamed, start};
+use log_pass::{Name, Pass};
+use script_text::Script;
+use std::alloc::{AllocError, Global};
+use std::marker::{Brand, PhantomData};
+use std::sync::Wait;
+use std::thread;
+use std::thread::{JoinHandle, Threads};
+
+// A worker's own fault.
+#[derive(Drop)]
+struct OwnFault<N: Name, S: Text> {
+    fault: DriveFault,
+    script: PhantomData<(N, S)>,
+    ghost fits: { IsFaultOf N.limits S.script.lines fault },
+}
+
+// Waits for the thread's pass, makes the calls of its lines, and sends the pass to who joins the thread. A
+// worker that ends before its lines do lets its ends go, which tells those that wait for it.
+fn work<N: Name, S: Text, G: Gate, R: Wait>(
+    rt: &R,
+    shared: &Shared<N>,
+    script: &Script,
+    gate: &G,
+    patience: u32,
+    worker: Worker<N, S>,
+) -> Option<OwnFault<N, S>>
+    requires script { script.now ≡ S.script }
+{
+    let Worker {
+        own: OwnLinks { thread: _, links },
+        birth,
+        end,
+    } = worker;
+    let pass = birth.receiver.receive(rt)?;
+    match run_lines(rt, shared, script, gate, patience, pass, links) {
+        Ok(last) => {
+            if let Some(end) = end {
+                end.send(rt, last);
+            }
+            None
+        }
+        Err(halt) => {
+            let fault = halt.fault()?;
+            Some(OwnFault {
+                fault,
+                script: PhantomData,
+            })
+        }
+    }
+}
+
+// The faults of the workers, once all have ended.
+fn own_faults<N: Name, S: Text, R: Threads>(
+    rt: &R,
+    alloc: Global,
+    workers: Vec<JoinHandle<Option<OwnFault<N, S>>>>,
+) -> Result<Vec<DriveFault>, AllocError>
+    ensures { IfOk result (λ faults. All (IsFaultOf N.limits S.script.lines) faults.items) }
+{
+    let mut faults = Vec::new(alloc);
+    for worker in workers {
+        if let Some(own) = worker.join(rt) {
+            faults.push(own.fault)?;
+        }
+    }
+    Ok(faults)
+}
+
+// Thread 0's last pass, or the fault that is answered, where the other workers have these faults.
+fn outcome<N: Name, S: Text>(
+    main: Result<Pass<N>, Halt>,
+    faults: &[DriveFault],
+) -> Result<Pass<N>, DriveFault>
+    requires halt { IfErr main (IsHaltOf N.limits S.script.lines) }
+    requires faults { All (IsFaultOf N.limits S.script.lines) faults.now }
+    ensures last { IfOk result (λ last. main ≡ Ok last) }
+    ensures none { OnOk result (faults.now ≡ []) }
+    ensures fault { IfErr result (IsFaultOf N.limits S.script.lines) }
+{
+    match (main, first_fault(faults)) {
+        (Ok(last), None) => Ok(last),
+        (Ok(_), Some(fault)) => Err(fault),
+        (Err(halt), first) => Err(halt.answer(first)),
+    }
+}
+
+// Each thread makes the calls of its lines, in a worker of its own. The pass is thread 0's.
+fn run_all<N: Name + Send + Sync, S: Text + Send, G: Gate + Sync, R: Threads + Wait + Sync>(
+    rt: &R,
+    alloc: Global,
+    shared: &Shared<N>,
+    script: &Script,
+    gate: &G,
+    patience: u32,
+    pass: Pass<N>,
+    links: Links<N, S>,
+    workers: Vec<Worker<N, S>>,
+) -> Result<Pass<N>, DriveFault>
+    requires script { script.now ≡ S.script }
+    requires some { 0 < length S.script.names.threads.names }
+    requires pass { pass ≡ new_pass main [] }
+    requires serves { Serves links (lines_by main S.script.lines) }
+    ensures done { IfOk result (Done S.script.lines main) }
+    ensures settled { IfOk result
+        (λ last. AreSettled S.script.lines (log_of last.seen) (lines_by main S.script.lines)) }
+    ensures fault { IfErr result (IsFaultOf N.limits S.script.lines) }
+{
+    thread::scope(
+        thread::scope_env(),
+        rt,
+        move |scope| -> Result<Pass<N>, DriveFault>
+            requires script { script.now ≡ S.script }
+            requires some { 0 < length S.script.names.threads.names }
+            requires pass { pass ≡ new_pass main [] }
+            requires serves { Serves links (lines_by main S.script.lines) }
+            ensures done { IfOk result (Done S.script.lines main) }
+            ensures settled { IfOk result
+                (λ last. AreSettled S.script.lines (log_of last.seen) (lines_by main S.script.lines)) }
+            ensures fault { IfErr result (IsFaultOf N.limits S.script.lines) }
+        {
+            let mut started: Vec<JoinHandle<Option<OwnFault<N, S>>>> = Vec::new(alloc);
+            for worker in workers {
+                let line = worker.birth.line;
+                let handle = scope.spawn(
+                    move ||
+                        requires { script.now ≡ S.script }
+                    { work(rt, shared, script, gate, patience, worker) },
+                );
+                let Ok(handle) = handle else {
+                    return Err(DriveFault::NoWorker { line });
+                };
+                if started.push(handle).is_err() {
+                    return Err(DriveFault::OutOfMemory);
+                }
+            }
+            let main = run_lines(rt, shared, script, gate, patience, pass, links);
+            let Ok(faults) = own_faults(rt, alloc, started) else {
+                return Err(DriveFault::OutOfMemory);
+            };
+            outcome::<N, S>(main, faults.as_slice())
+        },
+    )
+}
+
+// Runs the script over a monitor that has a name.
+fn drive_in<N: Name + Send + Sync, S: Text + Send, G: Gate + Sync, R: Threads + Wait + Sync>(
+    rt: &R,
+    alloc: Global,
+    script: &Script,
+    unnamed: Unnamed,
+    gate: &G,
+    patience: u32,
+) -> Result<Closed, DriveFault>
+    requires table { unnamed.table ≡ N.table }
+    requires limits { unnamed.limits ≡ N.limits }
+    requires script { script.now ≡ S.script }
+    ensures limits { IfOk result (λ closed. closed.limits ≡ unnamed.limits) }
+    ensures well_formed { IfOk result (λ closed. WellFormed unnamed.limits closed.log) }
+    ensures main { IfOk result
+        (λ closed. Follows (own_events main closed.log) (lines_by main script.now.lines)) }
+    ensures joined { IfOk result (λ closed. (u : Thread)
+        → list_any (line_joins u.0) (lines_by main script.now.lines) ≡ true
+        → Follows (own_events u closed.log) (lines_by u script.now.lines)) }
+    ensures fault { IfErr result (IsFaultOf unnamed.limits script.now.lines) }
+{
+    let (shared, pass) = start::<N>(unnamed);
+    if script.threads() == 0 {
+        return Ok(shared.close(pass));
+    }
+    let Ok((links, workers)) = all_workers::<N, S>(alloc, script) else {
+        return Err(DriveFault::OutOfMemory);
+    };
+    let last = run_all(
+        rt, alloc, &shared, script, gate, patience, pass, links, workers,
+    )?;
+    Ok(shared.close(last))
+}
+
+/// Runs the script, each of its threads by a worker of its own. A line is tried up to `patience` times: while
+/// its gate does not admit it, and then anew while another thread holds the lock that it acquires, or the
+/// thread that it joins has not ended.
+///
+/// The closed log is well formed, and its events of thread 0, and of each thread that thread 0 joins, are
+/// that thread's lines in order.
+///
+/// Where a worker cannot be started, no call is made. Where workers end by faults, the answer is want of
+/// memory if one of them had it, and else the fault with the least line. It is a fault of a line of the
+/// script, and a refusal is one that the line's call has after some log in which the line's thread has made
+/// the calls of its lines before.
+pub fn drive<G: Gate + Sync, R: Threads + Wait + Sync>(
+    rt: &R,
+    alloc: Global,
+    script: &Script,
+    limits: &Limits,
+    gate: &G,
+    patience: u32,
+) -> Result<Closed, DriveFault>
+    requires only_main { limits.now.roots ≡ OnlyMain }
+    ensures limits { IfOk result (λ closed. closed.limits ≡ limits.now) }
+    ensures well_formed { IfOk result (λ closed. WellFormed limits.now closed.log) }
+    ensures main { IfOk result
+        (λ closed. Follows (own_events main closed.log) (lines_by main script.now.lines)) }
+    ensures joined { IfOk result (λ closed. (u : Thread)
+        → list_any (line_joins u.0) (lines_by main script.now.lines) ≡ true
+        → Follows (own_events u closed.log) (lines_by u script.now.lines)) }
+    ensures fault { IfErr result (IsFaultOf limits.now script.now.lines) }
+{
+    let Ok(unnamed) = Unnamed::new(alloc, *limits) else {
+        return Err(DriveFault::OutOfMemory);
+    };
+    drive_in::<Brand, Brand, G, R>(rt, alloc, script, unnamed, gate, patience)
+}
