@@ -5,11 +5,23 @@
 #![tactic(auto)]
 
 #[cfg(test)]
+mod beginnings;
+#[cfg(test)]
+mod closed_logs;
+#[cfg(test)]
 mod command_lines;
+#[cfg(test)]
+mod commands;
 #[cfg(test)]
 mod copies;
 #[cfg(test)]
+mod devices;
+#[cfg(test)]
 mod doubles;
+#[cfg(test)]
+mod fed;
+#[cfg(test)]
+mod long_lines;
 #[cfg(test)]
 mod memory;
 #[cfg(test)]
@@ -22,6 +34,8 @@ mod runs;
 mod scripts;
 #[cfg(test)]
 mod traces;
+#[cfg(test)]
+mod turns;
 #[cfg(test)]
 mod words;
 #[cfg(test)]

@@ -1,0 +1,204 @@
+//! The log that a script's threads leave: its events, written line by line with the names of the script.
+ghost use Rattle.std.specs.Prelude.{◌≡◌, true};
+ghost use Rattle.rapid_text.specs.Events.{HasNames};
+ghost use Rattle.event_core.specs.declared.bounds.Roots.TheVariants.{OnlyMain};
+
+use crate::doubles::{Page, Room, Text};
+use crate::runs::{Answer, Run};
+use event_core::{Event, Limits, Roots, ThreadId};
+use live_monitor::Closed;
+use rapid_text::{Device, Kind, Names, parts_of, write_event};
+use script_drive::{DriveFault, FreeGate, Gate, drive};
+use script_text::Script;
+use std::fs::Files;
+use std::process::Abort;
+use std::sync::Wait;
+use std::sync::atomic::{AtomicBool, Ordering};
+use std::thread;
+use std::thread::Threads;
+
+/// A script, the logs that its threads may leave, and their report.
+#[derive(Clone, Copy)]
+struct Case {
+    script: &'static str,
+    patience: u32,
+    logs: &'static [&'static str],
+    report: &'static str,
+}
+
+const CASES: &[Case] = &[
+    Case {
+        script: "m fork a\na w x 5\nm join a\nm r x\n",
+        patience: 1000000,
+        logs: &["m|fork(a)|1\na|w(x)|2\nm|join(a)|3\nm|r(x)|4\n"],
+        report: "events 4 threads 2 locks 0 variables 1 races 0\n",
+    },
+    // The events of a swap stand at one place.
+    Case {
+        script: "m fork a\na swap x 4\nm join a\nm swap x 5\n",
+        patience: 1000000,
+        logs: &["m|fork(a)|1\na|r(x)|2\na|w(x)|2\nm|join(a)|3\nm|r(x)|4\nm|w(x)|4\n"],
+        report: "events 6 threads 2 locks 0 variables 1 races 0\n",
+    },
+    Case {
+        script: "\nm acq l\r\nm acq l\nm rel l",
+        patience: 1000000,
+        logs: &["m|acq(l)|2\nm|acq(l)|3\nm|rel(l)|4\n"],
+        report: "events 3 threads 1 locks 1 variables 0 races 0\n",
+    },
+];
+
+/// Lines 2 and 3 may come in either order.
+const OVERLAP: Case = Case {
+    script: "m fork a\nm r x\na r y\n",
+    patience: 1,
+    logs: &[
+        "m|fork(a)|1\nm|r(x)|2\na|r(y)|3\n",
+        "m|fork(a)|1\na|r(y)|3\nm|r(x)|2\n",
+    ],
+    report: "events 3 threads 2 locks 0 variables 2 races 0\n",
+};
+
+fn limits() -> Limits
+    ensures { result.roots ≡ OnlyMain }
+{
+    let Ok(limits) = Limits::new(2, 1, 2, 64, Roots::OnlyMain) else {
+        unreachable!()
+    };
+    limits
+}
+
+/// Whether the numbers of the event have names.
+fn is_named(names: &Names, event: &Event) -> bool
+    ensures { result ≡ true → HasNames names.now event.now }
+{
+    let (_, kind, number) = parts_of(event.op);
+    event.thread.0 < names.count(Kind::Thread)
+        && number < names.count(kind)
+        && event.site.0 < names.count(Kind::Site)
+}
+
+/// Writes the lines of the events: whether all are written.
+fn write_events(page: &mut Page, closed: &Closed, names: &Names) -> bool {
+    for index in 0..closed.len() {
+        let Some(event) = closed.log().get(index) else {
+            return false;
+        };
+        if !is_named(names, &event) || write_event(page, &event, names).is_err() {
+            return false;
+        }
+    }
+    true
+}
+
+/// Runs the script and writes its log: whether it is written. None where memory ran out, or a thread could
+/// not be started.
+fn write_run<G: Gate + Sync, R: AllocGlobal + Threads + Wait + Sync>(
+    rt: &R,
+    script: &Script,
+    gate: &G,
+    patience: u32,
+    page: &mut Page,
+) -> Option<bool> {
+    match drive(rt, rt.alloc(), script, &limits(), gate, patience) {
+        Ok(closed) => {
+            let is_written = write_events(page, &closed, script.names());
+            drop(closed);
+            Some(is_written)
+        }
+        Err(DriveFault::OutOfMemory | DriveFault::NoWorker { .. }) => None,
+        Err(_) => Some(false),
+    }
+}
+
+/// Reads the script, runs it, and writes its log.
+fn write_log<G: Gate + Sync, R: AllocGlobal + Threads + Wait + Sync>(
+    rt: &R,
+    case: &Case,
+    gate: &G,
+    page: &mut Page,
+) -> Option<bool> {
+    let mut reader = Device::new(case.script.as_bytes());
+    let script = Script::read(rt.alloc(), &mut reader, limits(), 100).ok()?;
+    let is_written = write_run(rt, &script, gate, case.patience, page);
+    drop(script);
+    is_written
+}
+
+fn is_among(logs: &[&str], log: &[u8]) -> bool {
+    logs.iter().any(|known| known.as_bytes() == log)
+}
+
+/// The lines of the log are known ones, and a replay of them prints the report.
+fn expect_log<G: Gate + Sync, R: Abort + AllocGlobal + Files + Threads + Wait + Sync>(
+    rt: &R,
+    case: &Case,
+    gate: &G,
+) {
+    let mut page = Page::blank(rt.alloc(), Room::AMPLE);
+    let mut is_written = write_log(rt, case, gate, &mut page);
+    if is_written.is_none() {
+        is_written = write_log(rt, case, gate, &mut page);
+    }
+    assert!(rt; is_written == Some(true), "{}", case.script);
+    assert!(rt; is_among(case.logs, &page.bytes), "{:?}", page.bytes);
+    let replay = Run::of(&["replay"], Text::whole(&page.bytes));
+    replay.expect(rt, case.script, &Answer::printed(case.report, 0));
+    drop(page);
+}
+
+/// And so does a run of the script.
+#[test]
+fn a_closed_log_is_replayed_to_the_report_of_its_script(rt: HostRuntime) {
+    for case in CASES {
+        expect_log(&rt, case, &FreeGate);
+        let run = Run::script(Text::whole(case.script.as_bytes()));
+        run.expect(&rt, case.script, &Answer::printed(case.report, 0));
+    }
+}
+
+/// Lets line 2 and line 3 each go ahead only where the other is asked for during the one call.
+#[derive(Drop)]
+struct Meeting {
+    second: AtomicBool,
+    third: AtomicBool,
+}
+
+fn sees(flag: &AtomicBool) -> bool {
+    for _ in 0..10_000_000 {
+        if flag.load(Ordering::SeqCst) {
+            return true;
+        }
+        thread::yield_now();
+    }
+    false
+}
+
+impl Gate for Meeting {
+    fn enter(&self, _thread: ThreadId, line: u64) -> bool {
+        match line {
+            2 => {
+                self.second.store(true, Ordering::SeqCst);
+                sees(&self.third)
+            }
+            3 => {
+                self.third.store(true, Ordering::SeqCst);
+                sees(&self.second)
+            }
+            _ => true,
+        }
+    }
+
+    fn done(&self, _thread: ThreadId, _line: u64) {}
+}
+
+#[test]
+fn two_lines_that_wait_for_each_other_are_reported_whole(rt: HostRuntime) {
+    for _ in 0..100 {
+        let gate = Meeting {
+            second: AtomicBool::new(false),
+            third: AtomicBool::new(false),
+        };
+        expect_log(&rt, &OVERLAP, &gate);
+    }
+}
