@@ -226,6 +226,11 @@ gives start piece names later lines next rest line after event g c r live =
           omega (arith, all, parts);
       all_used = λ none. absurd cc;
       up_to = c.kept;
+      some = let less = goes_down lines next rest line after c in
+          let all = ap (λ (t : List ℕ). length t) (sym l.is ∙ g.is) in
+          let new = length-append l.front after in
+          let old = length-append g.front rest in
+          omega arith;
       lines = l.ended ∙ ap (λ (t : List ℕ). start.unfinished + count 10 t) (sym u.1);
       kept = l.kept ∙ ap (λ (t : List ℕ). after_last 10 (start.kept ++ t)) (sym u.1);
       taken = l.taken;
@@ -257,6 +262,7 @@ keeps start piece names lines next rest g k live =
       used_within = omega arith;
       all_used = λ _. refl;
       up_to = tt;
+      some = tt;
       lines = let same = ap (λ (t : List ℕ). count 10 t) all in
           omega (arith, k.unfinished, g.ended, counts, lf, same);
       kept = k.kept ∙ ap (λ (t : List ℕ). t ++ rest) g.kept

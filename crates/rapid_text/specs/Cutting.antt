@@ -37,8 +37,9 @@ pub record Pushes (old new : Cutting) (piece : List ℕ) (used : ℕ) (event : O
   pub used_within : used ≤ length piece
   -- all bytes are taken where no line with an event ends
   pub all_used : event ≡ None → used ≡ length piece
-  -- and else those up to the end of the line
+  -- and else those up to the end of the line, its LF among them
   pub up_to : IfSome event (λ _. new.kept ≡ [])
+  pub some : IfSome event (λ _. 0 < used)
   -- each LF of them ends a line
   pub lines : new.unfinished ≡ old.unfinished + count 10 (take used piece)
   -- what follows the last LF is kept

@@ -6,5 +6,8 @@ pub mod Playing
 pub mod Values
 pub mod Refused
 pub mod Found
-pub mod Telling
-pub mod Pulls
+pub mod TellingLaws
+pub mod Feeds
+pub mod FedLaws
+pub mod Ending
+pub mod Whole

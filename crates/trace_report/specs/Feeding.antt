@@ -1,5 +1,26 @@
--- What a piece of a text does to the names, the unfinished line and the log.
-use Rattle.std.specs.Prelude.{◌≡◌, ℕ, ◌+◌, ◌<◌, ◌⊎◌, List, ◌++◌, Bool, true, false, Some, Err, length}
+-- A text that is judged in pieces: what a piece and the end of the text do to its names, its unfinished line and
+-- the log that it makes.
+use Rattle.std.specs.Prelude.{
+  ◌≡◌,
+  ◌≢◌,
+  ℕ,
+  ◌+◌,
+  ◌<◌,
+  ◌⊎◌,
+  List,
+  [],
+  ◌++◌,
+  Bool,
+  true,
+  false,
+  Option,
+  Some,
+  None,
+  Ok,
+  Err,
+  length,
+  IfSome,
+}
 use Rattle.event_core.specs.declared.bounds.Limits.{Limits}
 use Rattle.event_core.specs.declared.events.Event.{Event}
 use Rattle.event_core.specs.declared.replies.Refusal.{Refusal}
@@ -8,10 +29,12 @@ use Rattle.event_core.specs.Refusal.{refusal}
 use Rattle.rapid_text.specs.declared.causes.Cause.{Cause}
 use Rattle.rapid_text.specs.declared.causes.Cause.TheVariants.{Read}
 use Rattle.rapid_text.specs.Cutting.{Cutting, judged, most}
+use Rattle.rapid_text.specs.Tables.{Tables}
 use Rattle.trace_report.specs.declared.faults.ReplayFault.{ReplayFault}
-use Rattle.trace_report.specs.declared.faults.ReplayFault.TheVariants.{Text}
-use Rattle.trace_report.specs.Findings.{call_of, finding_after}
+use Rattle.trace_report.specs.declared.faults.ReplayFault.TheVariants.{Text, Write}
+use Rattle.trace_report.specs.Findings.{call_of, finding, finding_after}
 use Rattle.trace_report.specs.Replayed.{gives_up}
+use Rattle.trace_report.specs.Reports.{AreNamed}
 
 -- why an event was not accepted
 abbrev pub Declines : Limits → List Event → Event → Refusal → Type 0
@@ -26,13 +49,66 @@ abbrev pub is_short : ReplayFault → Bool
 is_short (Text f) = is_read f.cause
 is_short _ = false
 
--- the piece was taken: whatever follows it, the text comes to the same as before
-abbrev pub Takes : Limits → Cutting → List Event → List ℕ → Cutting → List Event → Type 0
-Takes m old log piece new longer = (more : List ℕ)
-    → finding_after m log (judged old (piece ++ more)) ≡ finding_after m longer (judged new more)
+-- ---- one piece
 
--- the text comes to this fault, whatever follows the piece
-pub record Fails (m : Limits) (old : Cutting) (log : List Event) (piece : List ℕ) (f : ReplayFault)
+-- the judge is as after a longer log. Whatever follows the bytes, the text comes to the same from this log on as
+-- what is still to be judged does from the longer one.
+pub record GoesOn (m : Limits) (After : List Event → Type 0) (old : Cutting) (log : List Event)
+    (bytes rest : List ℕ) (new : Cutting) : Type 0 where
+  pub longer : List Event
+  pub after : After longer
+  pub named : AreNamed old.names log → AreNamed new.names longer
+  pub same : (more : List ℕ)
+      → finding_after m log (judged old (bytes ++ more)) ≡ finding_after m longer (judged new (rest ++ more))
+
+-- the bytes were taken but for the rest, by a judge that was as after a log and is as after a longer one
+pub record Takes (Before After : Limits → List Event → Type 0) (old : Cutting) (bytes rest : List ℕ)
+    (new : Cutting) : Type 0 where
+  pub live : new.failed ≡ None
+  pub taken : new.taken + length rest ≡ old.taken + length bytes
+  pub goes_on : (m : Limits) (log : List Event) → Before m log → GoesOn m (After m) old log bytes rest new
+
+-- the text comes to this fault, whatever follows the bytes
+pub record Stops (Before : Limits → List Event → Type 0) (old : Cutting) (bytes : List ℕ) (f : ReplayFault)
     : Type 0 where
-  pub stops : gives_up f ≡ false → (more : List ℕ) → finding_after m log (judged old (piece ++ more)) ≡ Err f
-  pub read : is_short f ≡ true → most < old.taken + length piece
+  pub finds : (m : Limits) (log : List Event) → Before m log → gives_up f ≡ false → (more : List ℕ)
+      → finding_after m log (judged old (bytes ++ more)) ≡ Err f
+  pub read : is_short f ≡ true → most < old.taken + length bytes
+  pub unwritten : f ≢ Write
+
+-- ---- the end
+
+-- the text ended, and is legal: the judge is as after its log
+pub record Ends (m : Limits) (After : List Event → Type 0) (old : Cutting) (log : List Event) (names : Tables)
+    : Type 0 where
+  pub longer : List Event
+  pub after : After longer
+  pub named : AreNamed old.names log → AreNamed names longer
+  pub finds : finding_after m log (judged old []) ≡ Ok (record { names = names; log = longer })
+
+-- ---- a whole text
+
+-- the text that was left, where it is known, was fed whole: it comes to what its unfinished line does after the log
+pub record IsFed (m : Limits) (left : Option (List ℕ)) (After : List Event → Type 0) (now : Cutting) : Type 0 where
+  pub text : List ℕ
+  pub is_left : IfSome left (λ whole. text ≡ whole)
+  pub log : List Event
+  pub after : After log
+  pub named : AreNamed now.names log
+  pub same : finding m text ≡ finding_after m log (judged now [])
+
+-- it is a legal trace, and the judge is as after its log
+pub record FindsTrace (m : Limits) (left : Option (List ℕ)) (After : List Event → Type 0) (names : Tables)
+    : Type 0 where
+  pub text : List ℕ
+  pub is_left : IfSome left (λ whole. text ≡ whole)
+  pub log : List Event
+  pub after : After log
+  pub named : AreNamed names log
+  pub finds : finding m text ≡ Ok (record { names = names; log = log })
+
+-- it comes to this fault
+pub record FindsFault (m : Limits) (left : Option (List ℕ)) (f : ReplayFault) : Type 0 where
+  pub text : List ℕ
+  pub is_left : IfSome left (λ whole. text ≡ whole)
+  pub finds : finding m text ≡ Err f

@@ -73,6 +73,6 @@ abbrev pub fault_gives_up : Option ReplayFault → Bool
 fault_gives_up None = false
 fault_gives_up (Some f) = gives_up f
 
-abbrev pub answer_gives_up : Result Summary ReplayFault → Bool
+abbrev pub answer_gives_up : {A : Type 0} → Result A ReplayFault → Bool
 answer_gives_up (Ok s) = false
 answer_gives_up (Err f) = gives_up f

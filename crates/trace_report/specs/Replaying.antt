@@ -1,5 +1,5 @@
 -- A text that is replayed in pieces: what a replayer holds, and what its text would come to.
-use Rattle.std.specs.Prelude.{◌≡◌, ℕ, List, [], Option, Some, None, Result, Err, IfSome}
+use Rattle.std.specs.Prelude.{ℕ, List, [], Option, Some, None, Result, Err}
 use Rattle.event_core.specs.declared.bounds.Limits.{Limits}
 use Rattle.event_core.specs.declared.events.Event.{Event}
 use Rattle.rapid_text.specs.Cutting.{Cutting, begun, judged}
@@ -24,10 +24,3 @@ fault_or (Some f) later = Err f
 -- what the text comes to if these bytes follow, and then no more
 abbrev pub after : Replaying → List ℕ → Result Trace ReplayFault
 after r more = fault_or r.fault (finding_after r.limits r.log (judged r.text more))
-
--- a text was fed: the one that was left, where this is known. It comes to what the new one's does with no
--- byte more.
-pub record IsFed (left : Option (List ℕ)) (old new : Replaying) : Type 0 where
-  pub text : List ℕ
-  pub is_left : IfSome left (λ whole. text ≡ whole)
-  pub same : after new [] ≡ after old text

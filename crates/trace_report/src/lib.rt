@@ -1,8 +1,12 @@
-//! The replay of a trace, whole or in pieces, and its report: its counts, and a line for each race.
+//! The check and the replay of a trace, whole or in pieces, and its report: its counts, and a line for each race.
 #![tactic(auto)]
 
+mod checking;
+mod counts;
 mod fault_lines;
 mod faults;
+mod judge;
+mod judged_text;
 pub mod laws;
 mod lines;
 mod page;
@@ -10,8 +14,12 @@ mod replayer;
 mod replaying;
 mod reporting;
 mod summary;
+mod telling;
+mod whole_text;
 mod words;
 
+pub use checking::check;
+pub use counts::Counts;
 pub use fault_lines::{tell_fault, write_fault_line};
 pub use faults::ReplayFault;
 pub use replayer::Replayer;

@@ -1,45 +1,16 @@
 //! The replay of a trace, from the bytes of a reader to its report.
-ghost use Rattle.std.specs.Prelude.{◌≡◌, ◌≢◌, ◌⊎◌, ℕ, ◌+◌, ◌*◌, ◌≤◌, [], Err, None, Some, true, false};
-ghost use Rattle.std.specs.Prelude.{IfErr, IfSome, OnOk, length};
-ghost use Rattle.rapid_text.specs.Cutting.{most};
-ghost use Rattle.trace_report.specs.Replayed.{fault_gives_up, answer_gives_up, TellsText};
-ghost use Rattle.trace_report.specs.Replaying.{IsFed};
+ghost use Rattle.std.specs.Prelude.{◌≡◌, ◌≢◌, ◌⊎◌, ◌≤◌, Err, true, false, IfErr, IfSome, OnOk, length};
+ghost use Rattle.trace_report.specs.Replayed.{answer_gives_up, TellsText};
 ghost use Rattle.trace_report.specs.Feeding.{is_short};
 
 use crate::faults::ReplayFault;
-use crate::replayer::Replayer;
 use crate::summary::Summary;
-use event_core::Limits;
-use rapid_text::{Cause, Input, Output, TextFault};
+use crate::telling::{tell_failure, tell_trace};
+use crate::whole_text::judge_text;
+use event_core::{Limits, Refusal};
+use rapid_text::{Input, Output};
+use seq_monitor::Monitor;
 use std::alloc::Global;
-
-/// How many bytes are read at once.
-const PIECE: usize = 65536;
-
-/// Feeds the text that the reader has left, piece by piece, with no more than so many reads.
-fn feed_all<I: Input>(replayer: &mut Replayer, reader: &mut I, turns: u64)
-    requires begins { replayer.old.fault ≡ None }
-    requires room { replayer.old.text.taken + 65536 * turns ≤ most }
-    ensures fed { fault_gives_up replayer.new.fault ≡ false
-        → IsFed (I.left reader.old) replayer.old replayer.new }
-    ensures read { IfSome replayer.new.fault (λ f. is_short f ≡ true
-        → (I.failed reader.new ≡ true) ⊎ IfSome (I.left reader.old) (λ text. turns ≤ length text)) }
-    ensures healthy { replayer.new.fault ≡ None → I.failed reader.new ≡ I.failed reader.old }
-{
-    let mut piece = [0; PIECE];
-    'pulls: for _ in 0..turns {
-        let Ok(count) = reader.pull(&mut piece) else {
-            break 'pulls;
-        };
-        if count == 0 {
-            return;
-        }
-        if !replayer.feed(&piece[..count]) {
-            return;
-        }
-    }
-    replayer.read_failed();
-}
 
 /// Replays the trace that the reader has left, with no more than so many reads, and writes what it comes to:
 /// the report of a legal trace, or one line for the first line that is no event or whose event is refused.
@@ -69,12 +40,15 @@ pub fn replay<I: Input, O: Output>(
     ensures write_fault { result ≡ Err ReplayFault.Write → O.failed writer.new ≡ true }
     ensures written { result ≢ Err ReplayFault.Write → O.failed writer.new ≡ false }
 {
-    let Ok(mut replayer) = Replayer::new(alloc, limits) else {
-        return Err(ReplayFault::Text(TextFault {
+    let Ok(monitor) = Monitor::new(alloc, &limits) else {
+        return Err(ReplayFault::Refused {
             line: 1,
-            cause: Cause::OutOfMemory,
-        }));
+            refusal: Refusal::OutOfMemory,
+        });
     };
-    feed_all(&mut replayer, reader, turns);
-    replayer.finish(writer)
+    let text = match judge_text(alloc, reader, monitor, limits, turns) {
+        Ok(text) => text,
+        Err(fault) => return Err(tell_failure(writer, fault)),
+    };
+    tell_trace(writer, &text.judge, text.cutter.names())
 }

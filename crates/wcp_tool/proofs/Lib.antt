@@ -1,5 +1,3 @@
-pub mod Reading
-pub mod Shortage
 pub mod Keeping
 pub mod Given
 pub mod CommandArguments

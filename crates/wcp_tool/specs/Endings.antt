@@ -4,7 +4,7 @@ use Rattle.event_core.specs.declared.replies.Refusal.{Refusal}
 use Rattle.event_core.specs.declared.replies.Refusal.TheVariants as refusals
 use Rattle.rapid_text.specs.declared.causes.Cause.{Cause}
 use Rattle.rapid_text.specs.declared.causes.Cause.TheVariants as causes
-use Rattle.wcp_tool.specs.declared.answers.Counts.{Counts}
+use Rattle.trace_report.specs.declared.counts.Counts.{Counts}
 use Rattle.wcp_tool.specs.declared.endings.Ending.{Ending}
 use Rattle.trace_report.specs.declared.faults.ReplayFault.{ReplayFault}
 use Rattle.trace_report.specs.declared.faults.ReplayFault.TheVariants as faults

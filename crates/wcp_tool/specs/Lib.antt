@@ -1,5 +1,3 @@
-pub mod Printed
-pub mod Checked
 pub mod Endings
 pub mod CommandLine
 pub mod Running

@@ -12,13 +12,13 @@ use Rattle.rapid_text.specs.Tables.{Tables}
 use Rattle.clap.specs.Words.{Text}
 use Rattle.trace_report.specs.declared.faults.ReplayFault.{ReplayFault}
 use Rattle.trace_report.specs.declared.summary.Summary.{Summary}
-use Rattle.trace_report.specs.Replayed.{TellsText}
+use Rattle.trace_report.specs.declared.counts.Counts.{Counts}
+use Rattle.trace_report.specs.Checked.{answer_for, told}
+use Rattle.trace_report.specs.Replayed.{TellsText, answer_gives_up}
 use Rattle.wcp_tool.specs.declared.requests.UsageFault.{UsageFault}
 use Rattle.wcp_tool.specs.declared.requests.UsageFault.TheVariants as faults
 use Rattle.wcp_tool.specs.declared.endings.Ending.{Ending}
 use Rattle.wcp_tool.specs.declared.endings.Ending.TheVariants.{Done, WrongUsage, WriteFault, OutOfMemory}
-use Rattle.wcp_tool.specs.declared.answers.Counts.{Counts}
-use Rattle.wcp_tool.specs.Checked.{answer_for, gives_up, told}
 use Rattle.wcp_tool.specs.CommandLine.{Request, asked, check, faults_of, is_answer, is_mistake, replay, run}
 use Rattle.wcp_tool.specs.Endings.{check_ending, replay_ending, status_of}
 use Rattle.wcp_tool.specs.ScriptRuns.{ReportsLog, RunsText, TellsRefusal}
@@ -40,7 +40,7 @@ limits_with threads roots = record {
 pub record Checks (m : Limits) (left old new : Option (List ℕ)) (status : ℕ) : Type 0 where
   pub answer : Result Counts ReplayFault
   pub is_for : IfSome left (λ text. answer ≡ answer_for m text)
-  pub says : gives_up answer ≡ false
+  pub says : answer_gives_up answer ≡ false
   pub written : Appends old new (told answer)
   pub ends : status ≡ status_of (check_ending answer)
 

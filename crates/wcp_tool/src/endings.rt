@@ -4,10 +4,9 @@ ghost use Rattle.wcp_tool.specs.Endings.{status_of, check_ending, replay_ending,
 ghost use Rattle.wcp_tool.specs.Endings.{refusal_ending as for_refusal, fault_ending as for_fault};
 ghost use Rattle.wcp_tool.specs.Endings.{summary_ending as for_summary};
 
-use crate::answers::Counts;
 use event_core::Refusal;
 use rapid_text::{Cause, Output, write_all};
-use trace_report::{ReplayFault, Summary};
+use trace_report::{Counts, ReplayFault, Summary};
 
 /// How the program ends.
 #[derive(Clone, Copy)]

@@ -9,7 +9,6 @@ ghost use Rattle.wcp_tool.specs.Running.{EndsAs, is_help, limits_with};
 ghost use Rattle.event_core.specs.declared.bounds.Roots.TheVariants.{Free};
 
 use crate::bounds::{TURNS, limits_of};
-use crate::checking::check;
 use crate::command_line::settings;
 use crate::endings::{Ending, ending_of_check, ending_of_replay, finish};
 use crate::requests::{Command, Settings, UsageFault};
@@ -24,7 +23,7 @@ use std::fs::Files;
 use std::io::ErrorKind;
 use std::sync::Wait;
 use std::thread::Threads;
-use trace_report::replay;
+use trace_report::{check, replay};
 
 /// The command `check`.
 fn run_check<I: Input, O: Output>(

@@ -1,8 +1,34 @@
-use Rattle.trace_report.proofs.Telling.{whole_told}
+use Rattle.std.proofs.Common.{◌≡◌, List, sym, subst, ◌∙◌}
+use Rattle.event_core.specs.declared.events.Event.{Event}
+use Rattle.rapid_text.specs.Tables.{Tables}
+use Rattle.trace_report.specs.Reports.{AreNamed}
+use Rattle.trace_report.proofs.TellingLaws.{trace_tells, never_short}
 use Rattle.trace_report.proofs.replaying.replay.Goals as goal
 
+pub tell_trace-requires : goal.tell_trace-requires
+tell_trace-requires g c =
+    let text = c.in-Ok-judge_text.text in
+    let found = c.in-Ok-judge_text.ensures.trace in
+    record {
+      named = subst (λ (t : Tables). AreNamed t text.judge.log) (sym c.names.ensures)
+          (subst (λ (l : List Event). AreNamed text.cutter.names l) (sym found.after.1) found.named);
+    }
+
 pub returns-clause-tells : goal.returns-clause-tells
-returns-clause-tells g c said =
-    whole_told c.args.limits c.in-Ok.replayer c.feed_all.new.replayer (g.I.Input.left c.args.reader.now)
-    (g.O.Output.written c.args.writer.now) (g.O.Output.written c.finish.new.writer) c.finish.result
-    c.in-Ok.ensures c.feed_all.ensures.fed c.finish.ensures.tells said
+returns-clause-tells g c gives =
+    let text = c.in-Ok-judge_text.text in
+    let written = g.O.Output.written in
+    trace_tells c.args.limits (g.I.Input.left c.args.reader.now) (written c.args.writer.now)
+    (written c.tell_trace.new.writer)
+    (λ (log : List Event). (text.judge.limits ≡ c.args.limits) × (text.judge.log ≡ log)) text.cutter.names
+    c.names.result.now text.judge.log c.tell_trace.result c.in-Ok-judge_text.ensures.trace (λ log a. a.1)
+    c.names.ensures (c.tell_trace.ensures.tells gives)
+
+pub returns-clause-quiet : goal.returns-clause-quiet
+returns-clause-quiet g c gives other = absurd (other (c.tell_trace.ensures.only gives))
+
+pub returns-clause-short : goal.returns-clause-short
+returns-clause-short g c = never_short c.tell_trace.result (λ _. _) c.tell_trace.ensures.whole
+
+pub returns-clause-written : goal.returns-clause-written
+returns-clause-written g c other = c.tell_trace.ensures.healthy other ∙ c.requires.writes

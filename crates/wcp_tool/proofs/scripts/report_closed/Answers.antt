@@ -3,7 +3,7 @@ use Rattle.event_core.specs.declared.events.Event.{Event}
 use Rattle.seq_monitor.specs.Monitored.{AreVerdicts}
 use Rattle.trace_report.specs.Reports.{AreWithin}
 use Rattle.trace_report.specs.declared.summary.Summary.{Summary}
-use Rattle.trace_report.proofs.Telling.{verdicts_within}
+use Rattle.trace_report.proofs.TellingLaws.{verdicts_within}
 use Rattle.wcp_tool.specs.Endings.{status_of, summary_ending}
 use Rattle.wcp_tool.specs.ScriptRuns.{ReportsLog}
 use Rattle.wcp_tool.proofs.scripts.report_closed.Goals as goal

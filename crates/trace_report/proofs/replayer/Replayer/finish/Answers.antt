@@ -1,19 +1,96 @@
-use Rattle.std.proofs.Common.{◌≡◌, ◌⊎◌, Option, Some, Err, IfErr, IfSome, true, ap, subst}
+use Rattle.std.proofs.Common.{◌≡◌, ◌⊎◌, List, [], Option, Some, Result, Ok, Err, refl, sym, ap, ap₂, subst, ◌∙◌}
+use Rattle.std.specs.Prelude.{IfSome}
+use Rattle.event_core.specs.declared.events.Event.{Event}
+use Rattle.rapid_text.specs.Cutting.{judged}
+use Rattle.rapid_text.specs.Tables.{Tables}
 use Rattle.trace_report.specs.declared.faults.ReplayFault.{ReplayFault}
 use Rattle.trace_report.specs.declared.faults.ReplayFault.TheVariants.{Write}
+use Rattle.trace_report.specs.declared.summary.Summary.{Summary}
+use Rattle.trace_report.specs.Findings.{Trace, finding_after}
 use Rattle.trace_report.specs.Feeding.{is_short}
-use Rattle.trace_report.specs.Replaying.{Replaying}
+use Rattle.trace_report.specs.Replayed.{Told}
+use Rattle.trace_report.specs.Replaying.{Replaying, after}
+use Rattle.trace_report.specs.Reports.{AreNamed}
+use Rattle.trace_report.proofs.TellingLaws.{is_the_fault, short_is_the_fault, fault_told, ended_fault, ended_trace}
+use Rattle.trace_report.proofs.TellingLaws.{never_short, on_any, answered_or, refused, same_fault}
 use Rattle.trace_report.proofs.replayer.Replayer.finish.Goals as goal
 
--- the parts answer a read fault only where one stands
+pub returns-in-Err-clause-tells : goal.returns-in-Err-clause-tells
+returns-in-Err-clause-tells g c gives =
+    let text = c.self.inside.text in
+    let written = g.W.Output.written in
+    let fault = c.tell_failure.result in
+    subst (λ (r : Replaying). Told (written c.args.writer.now) (written c.tell_failure.new.writer) (after r [])
+    (Err fault)) c.self.view_is
+    (fault_told _ (written c.args.writer.now) (written c.tell_failure.new.writer) fault
+    (ended_fault text.fault (finding_after text.judge.limits text.judge.log (judged text.cutter [])) fault
+    c.in-Err.fault (is_the_fault fault c.in-Err.fault c.tell_failure.ensures.is gives)
+    (λ none. c.in-Err.ensures.fault none text.judge.limits text.judge.log (refl, refl))
+    c.in-Err.ensures.answered gives)
+    (c.tell_failure.ensures.tells gives))
+
+pub returns-in-Err-clause-quiet : goal.returns-in-Err-clause-quiet
+returns-in-Err-clause-quiet g c gives other =
+    c.tell_failure.ensures.quiet gives (λ e. other (ap (λ (f : ReplayFault). Err f) e))
+
+pub returns-in-Err-clause-read : goal.returns-in-Err-clause-read
+returns-in-Err-clause-read g c short =
+    let is = short_is_the_fault c.tell_failure.result c.in-Err.fault c.tell_failure.ensures.is short in
+    ap (λ (r : Replaying). r.fault) (sym c.self.view_is)
+    ∙ c.in-Err.ensures.whole (sym (ap is_short is) ∙ short)
+    ∙ ap (λ (f : ReplayFault). Some f) (sym is)
+
+pub returns-in-Err-clause-answered : goal.returns-in-Err-clause-answered
+returns-in-Err-clause-answered g c =
+    let answer = refused Summary c.tell_failure.result in
+    subst (λ (o : Option ReplayFault). IfSome o (λ f. (answer ≡ refused Summary f)
+    ⊎ (answer ≡ refused Summary Write)))
+    (ap (λ (r : Replaying). r.fault) c.self.view_is)
+    (answered_or Summary c.self.inside.text.fault c.tell_failure.result c.in-Err.fault c.tell_failure.ensures.is
+    c.in-Err.ensures.answered)
+
+pub returns-in-Err-clause-healthy : goal.returns-in-Err-clause-healthy
+returns-in-Err-clause-healthy g c other =
+    c.tell_failure.ensures.healthy (λ e. other (ap (λ (f : ReplayFault). Err f) e))
+
+pub returns-in-Err-clause-failed : goal.returns-in-Err-clause-failed
+returns-in-Err-clause-failed g c e =
+    c.tell_failure.ensures.failed (same_fault c.tell_failure.result Write e)
+
+pub tell_trace-requires : goal.tell_trace-requires
+tell_trace-requires g c =
+    let text = c.self.inside.text in
+    let ends = c.in_default.ensures.ok text.judge.limits text.judge.log (refl, refl) in
+    let log = c.end.new.self.judge.log in
+    record {
+      named = subst (λ (t : Tables). AreNamed t log) (sym c.names.ensures)
+          (subst (λ (l : List Event). AreNamed c.end.new.self.cutter.names l) (sym ends.after.1)
+          (ends.named (c.self.invariant c.in_default.ensures.stands)));
+    }
+
+pub returns-clause-tells : goal.returns-clause-tells
+returns-clause-tells g c gives =
+    let text = c.self.inside.text in
+    let written = g.W.Output.written in
+    let ends = c.in_default.ensures.ok text.judge.limits text.judge.log (refl, refl) in
+    let told = λ (found : Result Trace ReplayFault).
+    Told (written c.args.writer.now) (written c.tell_trace.new.writer) found c.tell_trace.result in
+    subst (λ (r : Replaying). told (after r [])) c.self.view_is
+    (subst told
+    (ap₂ (λ (t : Tables) (l : List Event). Ok (record { names = t; log = l })) c.names.ensures ends.after.1
+    ∙ sym ends.finds
+    ∙ sym (ended_trace text.fault (finding_after text.judge.limits text.judge.log (judged text.cutter []))
+    c.in_default.ensures.stands))
+    (c.tell_trace.ensures.tells gives))
+
+pub returns-clause-quiet : goal.returns-clause-quiet
+returns-clause-quiet g c gives other = absurd (other (c.tell_trace.ensures.only gives))
+
 pub returns-clause-read : goal.returns-clause-read
 returns-clause-read g c =
-    subst (λ (x : Option ReplayFault). IfErr c.finish_parts-answer.result (λ f. is_short f ≡ true → x ≡ Some f))
-    (ap (λ (r : Replaying). r.fault) c.self.view_is) c.finish_parts-answer.ensures.read
+    never_short c.tell_trace.result (λ f. c.args.self.fault ≡ Some f) c.tell_trace.ensures.whole
 
--- and a fault that stands, unless its line could not be written
-pub returns-clause-answered : goal.returns-clause-answered
-returns-clause-answered g c =
-    subst (λ (x : Option ReplayFault). IfSome x (λ f.
-    (c.finish_parts-answer.result ≡ Err f) ⊎ (c.finish_parts-answer.result ≡ Err Write)))
-    (ap (λ (r : Replaying). r.fault) c.self.view_is) c.finish_parts-answer.ensures.answered
+pub returns-clause-ok : goal.returns-clause-ok
+returns-clause-ok g c =
+    on_any c.tell_trace.result
+    (ap (λ (r : Replaying). r.fault) (sym c.self.view_is) ∙ c.in_default.ensures.stands)

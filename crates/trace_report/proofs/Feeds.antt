@@ -1,0 +1,76 @@
+-- One push of a piece: what it takes, and where the text stops.
+use Rattle.std.proofs.Common.{◌≡◌, ℕ, ◌<◌, List, [], Option, Some, None, length}
+use Rattle.std.proofs.Common.{drop, subst, arith}
+use Rattle.std.proofs.lemmas.List.{length-drop}
+use Rattle.std.specs.Prelude.{IfSome}
+use Rattle.event_core.specs.declared.bounds.Limits.{Limits}
+use Rattle.event_core.specs.declared.events.Event.{Event}
+use Rattle.event_core.specs.declared.replies.Refusal.{Refusal}
+use Rattle.event_core.specs.Refusal.{refusal}
+use Rattle.rapid_text.specs.declared.causes.TextFault.{TextFault}
+use Rattle.rapid_text.specs.Tables.{TablesGrow}
+use Rattle.rapid_text.specs.Events.{IsOfNames}
+use Rattle.rapid_text.specs.Cutting.{Cutting, Pushes, FailsAt}
+use Rattle.trace_report.specs.declared.faults.ReplayFault.TheVariants.{Text, Refused}
+use Rattle.trace_report.specs.Findings.{call_of}
+use Rattle.trace_report.specs.Feeding.{Declines, Takes, Stops}
+use Rattle.trace_report.proofs.Naming.{named_kept, named_line}
+use Rattle.trace_report.proofs.Playing.{with_line, pushed_event, pushed_nothing, pushed_refused, push_stops, push_read}
+
+pub takes_event : (A B : Limits → List Event → Type 0) (s t : Cutting) (piece : List ℕ) (used : ℕ)
+    (o : Option Event) (e : Event) → Pushes s t piece used o → o ≡ Some e → TablesGrow s.names t.names
+    → IfSome o (IsOfNames t.names)
+    → ((m : Limits) (log : List Event) → A m log → refusal m log (call_of e) ≡ None)
+    → ((m : Limits) (log : List Event) → A m log → B m (with_line log e))
+    → Takes A B s piece (drop used piece) t
+takes_event A B s t piece used o e p is grows named allowed after = record {
+  live = p.live.1;
+  taken = let taken = p.taken in let within = p.used_within in let left = length-drop used piece in omega arith;
+  goes_on = λ m log a. record {
+    longer = with_line log e;
+    after = after m log a;
+    named = λ h. named_line s.names t.names log e grows h
+        (subst (λ (x : Option Event). IfSome x (IsOfNames t.names)) is named);
+    same = pushed_event m log s t piece used o e p is (allowed m log a);
+  };
+}
+
+pub takes_rest : (A : Limits → List Event → Type 0) (s t : Cutting) (piece : List ℕ) (used : ℕ)
+    (o : Option Event) → Pushes s t piece used o → o ≡ None → TablesGrow s.names t.names → Takes A A s piece [] t
+takes_rest A s t piece used o p is grows = record {
+  live = p.live.1;
+  taken = let taken = p.taken in let all = p.all_used is in omega arith;
+  goes_on = λ m log a. record {
+    longer = log;
+    after = a;
+    named = named_kept s.names t.names log grows;
+    same = pushed_nothing m log s t piece used o p is;
+  };
+}
+
+-- each event takes a byte at least
+pub fewer : (s t : Cutting) (piece : List ℕ) (used : ℕ) (o : Option Event) (e : Event) → Pushes s t piece used o
+    → o ≡ Some e → length (drop used piece) < length piece
+fewer s t piece used o e p is =
+    let some : 0 < used = subst (λ (x : Option Event). IfSome x (λ _. 0 < used)) is p.some in
+    let within = p.used_within in
+    let left = length-drop used piece in
+    omega arith
+
+pub text_stops : (A : Limits → List Event → Type 0) (s : Cutting) (piece : List ℕ) (f : TextFault)
+    → s.failed ≡ None → FailsAt s piece f f.cause → Stops A s piece (Text f)
+text_stops A s piece f live fails = record {
+  finds = λ m log a g more. push_stops m log s piece f f.cause live fails g more;
+  read = λ short. push_read s piece f f.cause fails short;
+  unwritten = λ e. absurd (cc);
+}
+
+pub event_stops : (A : Limits → List Event → Type 0) (s t : Cutting) (piece : List ℕ) (used line : ℕ)
+    (o : Option Event) (e : Event) (r : Refusal) → Pushes s t piece used o → o ≡ Some e
+    → ((m : Limits) (log : List Event) → A m log → Declines m log e r) → line ≡ t.line
+    → Stops A s piece (Refused line r)
+event_stops A s t piece used line o e r p is declines at = record {
+  finds = λ m log a g more. pushed_refused m log s t piece used o e r line p is (declines m log a) at g more;
+  read = λ short. absurd (cc);
+  unwritten = λ e. absurd (cc);
+}

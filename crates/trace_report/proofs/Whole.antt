@@ -1,0 +1,175 @@
+-- A text that was pulled whole, and what it comes to.
+use Rattle.std.proofs.Common.{◌≡◌, ℕ, ◌*◌, ◌≤◌, List, [], ◌++◌, Option, Some, None, Err, true, false}
+use Rattle.std.proofs.Common.{length, length-append, append-nil, refl, sym, ap, subst, ◌∙◌, arith, ◌⊎◌, inl, inr, Bool}
+use Rattle.std.specs.Prelude.{IfSome, IsSomeAnd}
+use Rattle.std.specs.Io.KnownBytes.{Consumes, IsAtEnd}
+use Rattle.event_core.specs.declared.bounds.Limits.{Limits}
+use Rattle.event_core.specs.declared.events.Event.{Event}
+use Rattle.rapid_text.specs.Cutting.{Cutting, begun, judged}
+use Rattle.rapid_text.specs.Feeding.{Pulled, Whole}
+use Rattle.rapid_text.specs.Tables.{Tables}
+use Rattle.rapid_text.specs.declared.feeding.Fed.{Fed}
+use Rattle.rapid_text.specs.declared.feeding.Fed.TheVariants as fed
+use Rattle.trace_report.specs.declared.faults.ReplayFault.{ReplayFault}
+use Rattle.trace_report.specs.Findings.{finding, finding_after}
+use Rattle.trace_report.specs.Replayed.{gives_up}
+use Rattle.trace_report.specs.Feeding.{Takes, Stops, Ends, IsFed, FindsTrace, FindsFault, is_short}
+use Rattle.trace_report.proofs.Naming.{nothing_named}
+
+-- the bytes up to the end are the text that was left
+all_left : (left rest : Option (List ℕ)) (bytes : List ℕ) → Consumes left rest bytes → IsAtEnd rest
+    → IfSome left (λ whole. bytes ≡ whole)
+all_left None rest bytes came ended = tt
+all_left (Some text) None bytes came ended = absurd came
+all_left (Some text) (Some rest) bytes came ended =
+    sym (came ∙ ap (λ (t : List ℕ). bytes ++ t) ended ∙ append-nil bytes)
+
+-- the bytes begin the text that was left, where it is known
+record Begins (left : Option (List ℕ)) (bytes : List ℕ) : Type 0 where
+  more : List ℕ
+  is_left : IfSome left (λ whole. bytes ++ more ≡ whole)
+
+begins : (left rest : Option (List ℕ)) (bytes : List ℕ) → Consumes left rest bytes → Begins left bytes
+begins None rest bytes came = record { more = []; is_left = tt }
+begins (Some text) None bytes came = absurd came
+begins (Some text) (Some rest) bytes came = record { more = rest; is_left = sym came }
+
+-- each turn gave a byte
+pub many_bytes : (left rest : Option (List ℕ)) (bytes : List ℕ) (turns : ℕ) → Consumes left rest bytes
+    → turns ≤ length bytes → IfSome left (λ text. turns ≤ length text)
+many_bytes None rest bytes turns came many = tt
+many_bytes (Some text) None bytes turns came many = absurd came
+many_bytes (Some text) (Some rest) bytes turns came many =
+    let both : length text ≡ length (bytes ++ rest) = ap (λ (t : List ℕ). length t) came in
+    let parts = length-append bytes rest in
+    omega arith
+
+pub short_text : (left rest : Option (List ℕ)) (turns : ℕ) (failed : Bool) (So : List ℕ → Type 0)
+    → Pulled left rest turns (λ bytes. So bytes × ((failed ≡ true) ⊎ (turns ≤ length bytes)))
+    → (failed ≡ true) ⊎ IfSome left (λ text. turns ≤ length text)
+short_text left rest turns failed So p = go p.so.1
+  where
+    go : (failed ≡ true) ⊎ (turns ≤ length p.bytes) → (failed ≡ true) ⊎ IfSome left (λ text. turns ≤ length text)
+    go (inl bad) = inl bad
+    go (inr many) = inr (many_bytes left rest p.bytes turns p.came many)
+
+-- ---- what was fed
+
+module _ (m : Limits) (A : Limits → List Event → Type 0) (left rest : Option (List ℕ)) (turns : ℕ)
+    (s : Cutting) (is : s ≡ begun m) (a : A m []) where
+  fed_whole : (B : Limits → List Event → Type 0) (t : Cutting) (bytes : List ℕ) → Consumes left rest bytes
+      → IsAtEnd rest → Takes A B s bytes [] t → IsFed m left (B m) t
+  unfolding finding
+  fed_whole B t bytes came ended takes =
+      let on = takes.goes_on m [] a in
+      record {
+        text = bytes;
+        is_left = all_left left rest bytes came ended;
+        log = on.longer;
+        after = on.after;
+        named = on.named (nothing_named s.names);
+        same = ap (λ (c : Cutting). finding_after m [] (judged c bytes)) (sym is)
+            ∙ ap (λ (text : List ℕ). finding_after m [] (judged s text)) (sym (append-nil bytes))
+            ∙ on.same [];
+      }
+
+  found_fault : (f : ReplayFault) (bytes : List ℕ) → Consumes left rest bytes → Stops A s bytes f
+      → gives_up f ≡ false → FindsFault m left f
+  unfolding finding
+  found_fault f bytes came stops g =
+      let b = begins left rest bytes came in
+      record {
+        text = bytes ++ b.more;
+        is_left = b.is_left;
+        finds = ap (λ (c : Cutting). finding_after m [] (judged c (bytes ++ b.more))) (sym is)
+            ∙ stops.finds m [] a g b.more;
+      }
+
+  pub is_fed : (B : Limits → List Event → Type 0) (t : Cutting) (r : Fed) (before now : Option ReplayFault)
+      → before ≡ None → (r ≡ fed.Cut → ⊥)
+      → (r ≡ fed.Whole → Whole left rest turns (λ bytes. before ≡ None → (now ≡ None) × Takes A B s bytes [] t))
+      → (r ≡ fed.Stopped → Pulled left rest turns (λ bytes. before ≡ None → IsSomeAnd now (Stops A s bytes)))
+      → now ≡ None → IsFed m left (B m) t
+  is_fed B t fed.Whole before now none other whole stopped live =
+      let w = whole refl in
+      fed_whole B t w.pulled.bytes w.pulled.came w.ended (w.pulled.so none).1
+  is_fed B t fed.Stopped before now none other whole stopped live =
+      let p = stopped refl in
+      absurd (subst (λ (o : Option ReplayFault). IsSomeAnd o (Stops A s p.bytes)) live (p.so none))
+  is_fed B t fed.Cut before now none other whole stopped live = absurd (other refl)
+
+  pub fault_is_found : (B : Limits → List Event → Type 0) (t : Cutting) (r : Fed)
+      (before now : Option ReplayFault) → before ≡ None → (r ≡ fed.Cut → ⊥)
+      → (r ≡ fed.Whole → Whole left rest turns (λ bytes. before ≡ None → (now ≡ None) × Takes A B s bytes [] t))
+      → (r ≡ fed.Stopped → Pulled left rest turns (λ bytes. before ≡ None → IsSomeAnd now (Stops A s bytes)))
+      → IfSome now (λ f. gives_up f ≡ false → FindsFault m left f)
+  fault_is_found B t fed.Whole before now none other whole stopped =
+      let w = whole refl in
+      subst (λ (o : Option ReplayFault). IfSome o (λ f. gives_up f ≡ false → FindsFault m left f))
+      (sym (w.pulled.so none).0) tt
+  fault_is_found B t fed.Stopped before now none other whole stopped =
+      let p = stopped refl in
+      go now p.bytes p.came (p.so none)
+    where
+      go : (o : Option ReplayFault) (bytes : List ℕ) → Consumes left rest bytes → IsSomeAnd o (Stops A s bytes)
+          → IfSome o (λ f. gives_up f ≡ false → FindsFault m left f)
+      go None bytes came stops = absurd stops
+      go (Some f) bytes came stops = found_fault f bytes came stops
+  fault_is_found B t fed.Cut before now none other whole stopped = absurd (other refl)
+
+  pub never_short : (B : Limits → List Event → Type 0) (t : Cutting) (P : Type 0) (r : Fed)
+      (before now : Option ReplayFault) → turns ≤ 17592186044416 → before ≡ None → (r ≡ fed.Cut → ⊥)
+      → (r ≡ fed.Whole → Whole left rest turns (λ bytes. before ≡ None → (now ≡ None) × Takes A B s bytes [] t))
+      → (r ≡ fed.Stopped → Pulled left rest turns (λ bytes. before ≡ None → IsSomeAnd now (Stops A s bytes)))
+      → IfSome now (λ f. is_short f ≡ true → P)
+  never_short B t P fed.Whole before now few none other whole stopped =
+      let w = whole refl in
+      subst (λ (o : Option ReplayFault). IfSome o (λ f. is_short f ≡ true → P)) (sym (w.pulled.so none).0) tt
+  never_short B t P fed.Stopped before now few none other whole stopped =
+      let p = stopped refl in
+      go now p.bytes p.few (p.so none)
+    where
+      go : (o : Option ReplayFault) (bytes : List ℕ) → length bytes ≤ 65536 * turns
+          → IsSomeAnd o (Stops A s bytes) → IfSome o (λ f. is_short f ≡ true → P)
+      go None bytes within stops = absurd stops
+      go (Some f) bytes within stops = λ short.
+          let many = stops.read short in
+          let none : s.taken ≡ 0 = ap (λ (c : Cutting). c.taken) is in
+          absurd (omega arith)
+  never_short B t P fed.Cut before now few none other whole stopped = absurd (other refl)
+
+-- ---- what it comes to
+
+pub trace_is_found : (m : Limits) (left : Option (List ℕ)) (B C : List Event → Type 0) (s : Cutting) (names : Tables)
+    → IsFed m left B s → ((log : List Event) → B log → Ends m C s log names) → FindsTrace m left C names
+trace_is_found m left B C s names f ends =
+    let e = ends f.log f.after in
+    record {
+      text = f.text;
+      is_left = f.is_left;
+      log = e.longer;
+      after = e.after;
+      named = e.named f.named;
+      finds = f.same ∙ e.finds;
+    }
+
+pub stood_short : {P : Type 0} (o : Option ReplayFault) (f : ReplayFault)
+    → IfSome o (λ g. is_short g ≡ true → P) → o ≡ Some f → is_short f ≡ true → P
+stood_short {P} o f h is short = subst (λ (x : Option ReplayFault). IfSome x (λ g. is_short g ≡ true → P)) is h short
+
+-- the fault that stood, or the one at the end
+pub end_is_found : (m : Limits) (left : Option (List ℕ)) (B : List Event → Type 0) (s : Cutting)
+    (o : Option ReplayFault) (f : ReplayFault) → (o ≡ None → IsFed m left B s)
+    → IfSome o (λ g. gives_up g ≡ false → FindsFault m left g)
+    → (o ≡ None → (log : List Event) → B log → gives_up f ≡ false → finding_after m log (judged s []) ≡ Err f)
+    → IfSome o (λ g. f ≡ g) → gives_up f ≡ false → FindsFault m left f
+end_is_found m left B s None f fed stood at_end same g =
+    let is = fed refl in
+    record {
+      text = is.text;
+      is_left = is.is_left;
+      finds = is.same ∙ at_end refl is.log is.after g;
+    }
+end_is_found m left B s (Some h) f fed stood at_end same g =
+    subst (λ (k : ReplayFault). FindsFault m left k) (sym same)
+    (stood (subst (λ (k : ReplayFault). gives_up k ≡ false) same g))

@@ -1,0 +1,51 @@
+use Rattle.std.proofs.Common.{◌<◌, List, ℕ, sym, subst, length}
+use Rattle.trace_report.specs.Feeding.{Takes}
+use Rattle.trace_report.specs.FeedLaws.{takes_none, takes_more, stops_later}
+use Rattle.trace_report.proofs.Feeds.{takes_event, takes_rest, fewer, text_stops, event_stops}
+use Rattle.trace_report.proofs.judged_text.feed_lines.Goals as goal
+
+pub lines-init : goal.lines-init
+lines-init g c = takes_none (g.J.Judge.is_after c.args.judge.now) c.args.cutter.now c.args.piece.now c.requires.live
+
+pub returns-in-Err-clause-fault : goal.returns-in-Err-clause-fault
+returns-in-Err-clause-fault g c =
+    let before = g.J.Judge.is_after c.lines.judge in
+    stops_later (g.J.Judge.is_after c.args.judge.now) before c.args.cutter.now c.lines.cutter c.args.piece.now
+    c.lines.rest.now _ c.lines.invariant
+    (text_stops before c.lines.cutter c.lines.rest.now c.in-Err.fault c.lines.invariant.live
+    c.in-Err.ensures.fault)
+
+pub returns-in_default-clause-ok : goal.returns-in_default-clause-ok
+returns-in_default-clause-ok g c =
+    let before = g.J.Judge.is_after c.lines.judge in
+    takes_more (g.J.Judge.is_after c.args.judge.now) before before c.args.cutter.now c.lines.cutter
+    c.push.new.self c.args.piece.now c.lines.rest.now _ c.lines.invariant
+    (takes_rest before c.lines.cutter c.push.new.self c.lines.rest.now c.in-Ok.pushed.0 c.in-Ok.pushed.1
+    c.in-Ok.ensures.ok c.in_default.is c.push.ensures.grows)
+
+pub returns-in-Err-judge-clause-fault : goal.returns-in-Err-judge-clause-fault
+returns-in-Err-judge-clause-fault g c =
+    let before = g.J.Judge.is_after c.lines.judge in
+    stops_later (g.J.Judge.is_after c.args.judge.now) before c.args.cutter.now c.lines.cutter c.args.piece.now
+    c.lines.rest.now _ c.lines.invariant
+    (event_stops before c.lines.cutter c.push.new.self c.lines.rest.now c.in-Ok.pushed.0 c.line.result
+    c.in-Ok.pushed.1 c.in-Some.event c.in-Err-judge.refusal c.in-Ok.ensures.ok c.in-Some.is
+    c.in-Err-judge.ensures.refused c.line.ensures)
+
+pub lines-preserved : goal.lines-preserved
+lines-preserved g c =
+    let before = g.J.Judge.is_after c.lines.judge in
+    let after = g.J.Judge.is_after c.judge.new.self in
+    takes_more (g.J.Judge.is_after c.args.judge.now) before after c.args.cutter.now c.lines.cutter
+    c.push.new.self c.args.piece.now c.lines.rest.now _ c.lines.invariant
+    (subst (λ (rest : List ℕ). Takes before after c.lines.cutter c.lines.rest.now rest c.push.new.self)
+    (sym c.rest_after-rest.ensures)
+    (takes_event before after c.lines.cutter c.push.new.self c.lines.rest.now c.in-Ok.pushed.0 c.in-Ok.pushed.1
+    c.in-Some.event c.in-Ok.ensures.ok c.in-Some.is c.push.ensures.grows c.in-Ok.ensures.named
+    c.in_default-judge.ensures.allowed c.in_default-judge.ensures.after))
+
+pub lines-smaller : goal.lines-smaller
+lines-smaller g c =
+    subst (λ (rest : List ℕ). length rest < length c.lines.rest.now) (sym c.rest_after-rest.ensures)
+    (fewer c.lines.cutter c.push.new.self c.lines.rest.now c.in-Ok.pushed.0 c.in-Ok.pushed.1 c.in-Some.event
+    c.in-Ok.ensures.ok c.in-Some.is)

@@ -1,0 +1,31 @@
+use Rattle.std.proofs.Common.{◌++◌, List, sym, ap, subst, refl, ◌∙◌}
+use Rattle.event_core.specs.declared.events.Event.{Event}
+use Rattle.seq_monitor.specs.declared.monitor.Monitor.{Monitor}
+use Rattle.trace_report.specs.declared.judged_text.JudgedText.{JudgedText}
+use Rattle.trace_report.specs.Reports.{AreNamed}
+use Rattle.trace_report.specs.Replaying.{Replaying, after}
+use Rattle.trace_report.proofs.FedLaws.{was_taken, fed_law}
+use Rattle.trace_report.proofs.replayer.Replayer.feed.Goals as goal
+
+pub invariant_of-self : goal.invariant_of-self
+invariant_of-self c none =
+    let s = c.self.inside.text in
+    let t = c.take.new.self in
+    let both = was_taken _ c.take.result s.fault t.fault
+    (λ stood. let same = c.take.ensures.again stood in
+    (same.0, ap (λ (x : JudgedText Monitor). x.fault) same.1))
+    c.take.ensures.stops none in
+    let on = (c.take.ensures.takes both.0).1.goes_on s.judge.limits s.judge.log (refl, refl) in
+    subst (λ (log : List Event). AreNamed t.cutter.names log) (sym on.after.1)
+    (on.named (c.self.invariant both.1))
+
+pub returns-clause-law : goal.returns-clause-law
+returns-clause-law c gives more =
+    let s = c.self.inside.text in
+    let t = c.take.new.self in
+    fed_law s.judge.limits t.judge.limits s.judge.log t.judge.log s.cutter t.cutter c.args.piece.now more
+    c.take.result s.fault t.fault
+    (λ stood. let same = c.take.ensures.again stood in
+    (same.0, ap (λ (x : JudgedText Monitor). x.fault) same.1))
+    c.take.ensures.takes c.take.ensures.stops gives
+    ∙ ap (λ (r : Replaying). after r (c.args.piece.now ++ more)) c.self.view_is

@@ -1,0 +1,36 @@
+use Rattle.std.proofs.Common.{[], sym, subst}
+use Rattle.trace_report.proofs.Whole.{is_fed, fault_is_found, never_short}
+use Rattle.trace_report.proofs.whole_text.read_text.Goals as goal
+
+pub returns-in_default-clause-fed : goal.returns-in_default-clause-fed
+returns-in_default-clause-fed g c =
+    let left = g.I.Input.left in
+    let after = g.J.Judge.is_after in
+    is_fed c.args.limits (after c.new-text.result.judge) (left c.args.reader.now) (left c.feed_all.new.input)
+    c.args.turns c.new-text.result.cutter c.new-text.ensures.cutter
+    (subst (λ j. after j c.args.limits []) (sym c.new-text.ensures.judge) c.requires.begins)
+    (after c.feed_all.new.sink.judge) c.feed_all.new.sink.cutter c.feed_all.result c.new-text.result.fault
+    c.feed_all.new.sink.fault c.new-text.ensures.fault c.in_default.not-Cut c.feed_all.ensures.whole
+    c.feed_all.ensures.stopped
+
+pub returns-in_default-clause-fault : goal.returns-in_default-clause-fault
+returns-in_default-clause-fault g c =
+    let left = g.I.Input.left in
+    let after = g.J.Judge.is_after in
+    fault_is_found c.args.limits (after c.new-text.result.judge) (left c.args.reader.now)
+    (left c.feed_all.new.input) c.args.turns c.new-text.result.cutter c.new-text.ensures.cutter
+    (subst (λ j. after j c.args.limits []) (sym c.new-text.ensures.judge) c.requires.begins)
+    (after c.feed_all.new.sink.judge) c.feed_all.new.sink.cutter c.feed_all.result c.new-text.result.fault
+    c.feed_all.new.sink.fault c.new-text.ensures.fault c.in_default.not-Cut c.feed_all.ensures.whole
+    c.feed_all.ensures.stopped
+
+pub returns-in_default-clause-short : goal.returns-in_default-clause-short
+returns-in_default-clause-short g c =
+    let left = g.I.Input.left in
+    let after = g.J.Judge.is_after in
+    never_short c.args.limits (after c.new-text.result.judge) (left c.args.reader.now)
+    (left c.feed_all.new.input) c.args.turns c.new-text.result.cutter c.new-text.ensures.cutter
+    (subst (λ j. after j c.args.limits []) (sym c.new-text.ensures.judge) c.requires.begins)
+    (after c.feed_all.new.sink.judge) c.feed_all.new.sink.cutter _ c.feed_all.result c.new-text.result.fault
+    c.feed_all.new.sink.fault c.requires.turns c.new-text.ensures.fault c.in_default.not-Cut
+    c.feed_all.ensures.whole c.feed_all.ensures.stopped

@@ -1,0 +1,77 @@
+-- Pieces of a text, one after another, are one piece.
+use Rattle.std.proofs.Common.{◌≡◌, ℕ, ◌+◌, ◌<◌, List, [], ◌++◌, Option, Some, None, length, refl, sym, ap, subst, ◌∙◌}
+use Rattle.std.proofs.Common.{append_assoc, length-append, add_assoc, add-zero}
+use Rattle.std.specs.Prelude.{IsSomeAnd}
+use Rattle.event_core.specs.declared.bounds.Limits.{Limits}
+use Rattle.event_core.specs.declared.events.Event.{Event}
+use Rattle.rapid_text.specs.Cutting.{Cutting, judged, most}
+use Rattle.trace_report.specs.declared.faults.ReplayFault.{ReplayFault}
+use Rattle.trace_report.specs.Findings.{finding_after}
+use Rattle.trace_report.specs.Feeding.{Takes, Stops}
+
+pub takes_none : (A : Limits → List Event → Type 0) (s : Cutting) (bytes : List ℕ) → s.failed ≡ None
+    → Takes A A s bytes bytes s
+takes_none A s bytes live = record {
+  live = live;
+  taken = refl;
+  goes_on = λ m log a. record { longer = log; after = a; named = λ h. h; same = λ more. refl };
+}
+
+pub takes_more : (A B C : Limits → List Event → Type 0) (s t u : Cutting) (bytes rest left : List ℕ)
+    → Takes A B s bytes rest t → Takes B C t rest left u → Takes A C s bytes left u
+takes_more A B C s t u bytes rest left p q = record {
+  live = q.live;
+  taken = q.taken ∙ p.taken;
+  goes_on = λ m log a.
+      let front = p.goes_on m log a in
+      let back = q.goes_on m front.longer front.after in
+      record {
+        longer = back.longer;
+        after = back.after;
+        named = λ h. back.named (front.named h);
+        same = λ more. front.same more ∙ back.same more;
+      };
+}
+
+-- what was not fed yet changes nothing
+pub fed_before : (A B : Limits → List Event → Type 0) (s t : Cutting) (front rest : List ℕ)
+    → Takes A B s front [] t → Takes A B s (front ++ rest) rest t
+fed_before A B s t front rest p = record {
+  live = p.live;
+  taken = let same : s.taken + length (front ++ rest) ≡ t.taken + length rest =
+      ap (λ (n : ℕ). s.taken + n) (length-append front rest)
+      ∙ sym (add_assoc s.taken (length front) (length rest))
+      ∙ ap (λ (n : ℕ). n + length rest) (sym p.taken ∙ add-zero t.taken) in
+      sym same;
+  goes_on = λ m log a.
+      let on = p.goes_on m log a in
+      record {
+        longer = on.longer;
+        after = on.after;
+        named = on.named;
+        same = λ more. ap (λ (text : List ℕ). finding_after m log (judged s text)) (append_assoc front rest more)
+            ∙ on.same (rest ++ more);
+      };
+}
+
+pub takes_both : (A B C : Limits → List Event → Type 0) (s t u : Cutting) (front rest : List ℕ)
+    → Takes A B s front [] t → Takes B C t rest [] u → Takes A C s (front ++ rest) [] u
+takes_both A B C s t u front rest p q =
+    takes_more A B C s t u (front ++ rest) rest [] (fed_before A B s t front rest p) q
+
+pub stops_later : (A B : Limits → List Event → Type 0) (s t : Cutting) (bytes rest : List ℕ) (f : ReplayFault)
+    → Takes A B s bytes rest t → Stops B t rest f → Stops A s bytes f
+stops_later A B s t bytes rest f p q = record {
+  finds = λ m log a g more.
+      let on = p.goes_on m log a in
+      on.same more ∙ q.finds m on.longer on.after g more;
+  read = λ short. subst (λ (n : ℕ). most < n) p.taken (q.read short);
+  unwritten = q.unwritten;
+}
+
+pub some_stops_after : (A B : Limits → List Event → Type 0) (s t : Cutting) (front rest : List ℕ)
+    (o : Option ReplayFault) → Takes A B s front [] t → IsSomeAnd o (Stops B t rest)
+    → IsSomeAnd o (Stops A s (front ++ rest))
+some_stops_after A B s t front rest None p q = absurd q
+some_stops_after A B s t front rest (Some f) p q =
+    stops_later A B s t (front ++ rest) rest f (fed_before A B s t front rest p) q

@@ -1,0 +1,64 @@
+//! The check of a trace, from the bytes of a reader to its one line.
+ghost use Rattle.std.specs.Prelude.{◌≡◌, ◌≢◌, ◌≤◌, ◌⊎◌, Err, true, false, length, OnOk, IfErr, IfSome};
+ghost use Rattle.std.specs.Io.KnownBytes.{Appends};
+ghost use Rattle.trace_report.specs.Replayed.{answer_gives_up};
+ghost use Rattle.trace_report.specs.Feeding.{is_short};
+ghost use Rattle.trace_report.specs.Checked.{answer_for, told, checked as line_for};
+
+use crate::counts::Counts;
+use crate::faults::ReplayFault;
+use crate::judge::LegalMemory;
+use crate::telling::tell_failure;
+use crate::whole_text::judge_text;
+use event_core::Limits;
+use rapid_text::{Input, Output, WriteFault};
+use std::alloc::Global;
+
+/// Judges the trace that the reader has left, with no more than so many reads, and writes one line: the
+/// counts of a legal trace, or the first line that is none of its events or whose event is refused. The lines
+/// before are known by the memory alone, and no log is kept.
+///
+/// Nothing is written where the text could not be read to its end, or a growth was refused. The two are
+/// told apart by the cause `Read`, and by the cause or the refusal `OutOfMemory`.
+pub fn check<I: Input, O: Output>(
+    alloc: Global,
+    reader: &mut I,
+    writer: &mut O,
+    limits: Limits,
+    turns: u64,
+) -> Result<Counts, ReplayFault>
+    requires turns { turns ≤ 17592186044416 }
+    requires reads { I.failed reader.old ≡ false }
+    requires writes { O.failed writer.old ≡ false }
+    // The answer is what the whole text comes to, read or left unread.
+    ensures finds { answer_gives_up result ≡ false
+        → IfSome (I.left reader.old) (λ text. result ≡ answer_for limits text) }
+    // What is written is the line for the whole text, and nothing else.
+    ensures checks { answer_gives_up result ≡ false
+        → IfSome (I.left reader.old)
+        (λ text. Appends (O.written writer.old) (O.written writer.new) (line_for limits text)) }
+    // It tells the answer, also where the text is not known.
+    ensures tells { answer_gives_up result ≡ false
+        → Appends (O.written writer.old) (O.written writer.new) (told result) }
+    // Nothing is written where the answer says nothing of the text.
+    ensures quiet { answer_gives_up result ≡ true → result ≢ Err ReplayFault.Write → writer.new ≡ writer.old }
+    // The text was not read to its end only where a read failed, or there were no more reads than bytes.
+    ensures read { IfErr result (λ f. is_short f ≡ true
+        → (I.failed reader.new ≡ true) ⊎ IfSome (I.left reader.old) (λ text. turns ≤ length text)) }
+    // No failure of the reader is passed over where there are counts.
+    ensures read_whole { OnOk result (I.failed reader.new ≡ false) }
+    // It is a fault of the writer exactly where the writer failed or took no byte.
+    ensures write_fault { result ≡ Err ReplayFault.Write → O.failed writer.new ≡ true }
+    ensures written { result ≢ Err ReplayFault.Write → O.failed writer.new ≡ false }
+{
+    let memory = LegalMemory::new(alloc, limits);
+    let text = match judge_text(alloc, reader, memory, limits, turns) {
+        Ok(text) => text,
+        Err(fault) => return Err(tell_failure(writer, fault)),
+    };
+    let counts = Counts::of(text.judge.events(), text.cutter.names());
+    match counts.write(writer) {
+        Ok(()) => Ok(counts),
+        Err(WriteFault) => Err(ReplayFault::Write),
+    }
+}

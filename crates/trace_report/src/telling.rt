@@ -1,0 +1,49 @@
+//! What is written of a text once it has ended: the report of its log, or the line of its fault.
+ghost use Rattle.std.specs.Prelude.{◌≡◌, ◌≢◌, ◌⊎◌, Ok, Err, true, false, IfErr};
+ghost use Rattle.std.specs.Io.KnownBytes.{Appends};
+ghost use Rattle.trace_report.specs.Reports.{AreNamed};
+ghost use Rattle.trace_report.specs.Replayed.{answer_gives_up, fault_text, gives_up, Told};
+ghost use Rattle.trace_report.specs.Feeding.{is_short};
+
+use crate::fault_lines::tell_fault;
+use crate::faults::ReplayFault;
+use crate::reporting::report;
+use crate::summary::Summary;
+use rapid_text::{Names, Output, WriteFault};
+use seq_monitor::Monitor;
+
+/// Writes the report of the monitor's log.
+pub fn tell_trace<W: Output>(
+    writer: &mut W,
+    monitor: &Monitor,
+    names: &Names,
+) -> Result<Summary, ReplayFault>
+    requires named { AreNamed names.now monitor.now.log }
+    ensures tells { answer_gives_up result ≡ false → Told (W.written writer.old) (W.written writer.new)
+        (Ok (record { names = names.now; log = monitor.now.log })) result }
+    ensures only { answer_gives_up result ≡ true → result ≡ Err ReplayFault.Write }
+    ensures whole { IfErr result (λ f. is_short f ≡ false) }
+    ensures healthy { result ≢ Err ReplayFault.Write → W.failed writer.new ≡ W.failed writer.old }
+    ensures failed { result ≡ Err ReplayFault.Write → W.failed writer.new ≡ true }
+{
+    match report(writer, monitor.log(), monitor.verdicts(), names) {
+        Ok(summary) => Ok(summary),
+        Err(WriteFault) => Err(ReplayFault::Write),
+    }
+}
+
+/// Writes the one line that tells the fault. The answer is the fault, or that the line could not be written.
+pub fn tell_failure<W: Output>(writer: &mut W, fault: ReplayFault) -> ReplayFault
+    requires unwritten { fault ≢ ReplayFault.Write }
+    ensures is { (result ≡ fault) ⊎ (result ≡ ReplayFault.Write) }
+    ensures tells { gives_up result ≡ false
+        → Appends (W.written writer.old) (W.written writer.new) (fault_text result) }
+    ensures quiet { gives_up result ≡ true → result ≢ ReplayFault.Write → writer.new ≡ writer.old }
+    ensures healthy { result ≢ ReplayFault.Write → W.failed writer.new ≡ W.failed writer.old }
+    ensures failed { result ≡ ReplayFault.Write → W.failed writer.new ≡ true }
+{
+    match tell_fault(writer, fault) {
+        Ok(()) => fault,
+        Err(WriteFault) => ReplayFault::Write,
+    }
+}

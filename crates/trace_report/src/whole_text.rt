@@ -1,0 +1,66 @@
+//! A text that is judged whole, from an input.
+ghost use Rattle.std.specs.Prelude.{◌≡◌, ◌≢◌, ◌⊎◌, ◌≤◌, [], Err, None, true, false, IfErr, IfOk, IfSome, OnOk, length};
+ghost use Rattle.trace_report.specs.Replayed.{gives_up};
+ghost use Rattle.trace_report.specs.Feeding.{IsFed, FindsTrace, FindsFault, is_short};
+
+use crate::faults::ReplayFault;
+use crate::judge::Judge;
+use crate::judged_text::JudgedText;
+use event_core::Limits;
+use rapid_text::{Fed, Input, feed_all};
+use std::alloc::Global;
+
+/// Judges what the reader has left of its text, but for a last line without an end, with no more than so many
+/// reads.
+fn read_text<I: Input, J: Judge>(
+    alloc: Global,
+    reader: &mut I,
+    judge: J,
+    limits: Limits,
+    turns: u64,
+) -> JudgedText<J>
+    requires begins { J.is_after judge limits [] }
+    requires turns { turns ≤ 17592186044416 }
+    ensures fed { result.fault ≡ None
+        → IsFed limits (I.left reader.old) (J.is_after result.judge limits) result.cutter }
+    ensures fault { IfSome result.fault (λ f. gives_up f ≡ false → FindsFault limits (I.left reader.old) f) }
+    ensures short { IfSome result.fault (λ f. is_short f ≡ true
+        → (I.failed reader.new ≡ true) ⊎ IfSome (I.left reader.old) (λ text. turns ≤ length text)) }
+    ensures healthy { result.fault ≡ None → I.failed reader.new ≡ I.failed reader.old }
+{
+    let mut text = JudgedText::new(alloc, limits, judge);
+    let Fed::Cut = feed_all(reader, &mut text, turns) else {
+        return text;
+    };
+    text.read_failed();
+    text
+}
+
+/// Judges the text that the reader has left, with no more than so many reads. The judge is before any event.
+pub fn judge_text<I: Input, J: Judge + Drop>(
+    alloc: Global,
+    reader: &mut I,
+    judge: J,
+    limits: Limits,
+    turns: u64,
+) -> Result<JudgedText<J>, ReplayFault>
+    requires begins { J.is_after judge limits [] }
+    requires turns { turns ≤ 17592186044416 }
+    // The text is a legal trace, and the judge is as after its log.
+    ensures trace { IfOk result (λ t.
+        FindsTrace limits (I.left reader.old) (J.is_after t.judge limits) t.cutter.names) }
+    // The fault is what the text comes to, unless it could not be read to its end or a growth was refused.
+    ensures fault { IfErr result (λ f. gives_up f ≡ false → FindsFault limits (I.left reader.old) f) }
+    // It is a read fault only where a read failed, or the text has as many bytes as there are turns.
+    ensures short { IfErr result (λ f. is_short f ≡ true
+        → (I.failed reader.new ≡ true) ⊎ IfSome (I.left reader.old) (λ text. turns ≤ length text)) }
+    ensures healthy { OnOk result (I.failed reader.new ≡ I.failed reader.old) }
+    ensures unwritten { result ≢ Err ReplayFault.Write }
+{
+    let mut text = read_text(alloc, reader, judge, limits, turns);
+    if let Err(fault) = text.end() {
+        drop(text);
+        return Err(fault);
+    }
+    Ok(text)
+}
