@@ -27,10 +27,11 @@ returns-clause-same c l =
     let w : ℕ = c.args.width in
     let old = c.args.queues.now.items in
     let new = c.grow_to.new.list.items in
-    let here = c.grow_to.ensures.same (blank w) (λ q given. search rules) l in
-    (alike_at (λ (q : Kept). q.entries) w old new l refl here,
+    let here = c.grow_to.ensures.same (blank w) (λ q given. search rules) l in (
+      alike_at (λ (q : Kept). q.entries) w old new l refl here,
       alike_at (λ (q : Kept). q.rooms) w old new l refl here,
-      alike_at (λ (q : Kept). q.found) w old new l refl here)
+      alike_at (λ (q : Kept). q.found) w old new l refl here,
+    )
 
 -- each queue, or else a blank, has the width
 width_at : (w : ℕ) (qs : List Kept) (l : ℕ) → AreWide w qs → (get_or qs l (blank w)).width ≡ w
