@@ -1,4 +1,4 @@
--- A reader: what its puller holds, and what its input has left.
+-- A reader: what it holds, and what its input has left.
 use Rattle.std.specs.Prelude.{ℕ, List, Option, Bool}
 use Rattle.rapid_text.specs.Pulling.{Pulling}
 

@@ -1,33 +1,108 @@
-//! The events of a text, read from an input of its own.
-ghost use Rattle.std.specs.Prelude.{◌≡◌, ◌≢◌, ℕ, ◌≤◌, IfOk, IfErr, IfSome, OnOk, Ok, None, Some, true, false};
+//! The events of a text, read from an input of its own: a cutter under a loop of pulls.
+//!
+//! What waits in the window is pushed to the cutter. Where no line with an event ended, the next piece is
+//! pulled, for one turn; the end of the text finishes the cutter. So the number of pulls is bounded for an
+//! input of any behaviour, and each line that came whole is judged before a failure is told.
+ghost use Rattle.std.specs.Prelude.{◌≡◌, ◌≢◌, ℕ, ◌+◌, ◌*◌, ◌≤◌, length, IfOk, IfErr, IfSome, OnOk, Ok, None, Some};
+ghost use Rattle.std.specs.Prelude.{true, false};
 ghost use Rattle.std.specs.Result.{IsErrOf};
-ghost use Rattle.rapid_text.specs.Cutting.{failed_at};
+ghost use Rattle.rapid_text.specs.Cutting.{most, failed_at};
 ghost use Rattle.rapid_text.specs.Tables.{TablesGrow};
 ghost use Rattle.rapid_text.specs.Events.{IsOfNames};
 ghost use Rattle.rapid_text.specs.Turns.{TakeBytes};
-ghost use Rattle.rapid_text.specs.Pulling.{unpulled, Answers, NoAnswer, to_judge};
+ghost use Rattle.rapid_text.specs.Pulling.{unpulled, Answers, NoAnswer, pulling_of, to_judge};
 ghost use Rattle.rapid_text.specs.Texts.{BeginsAt};
 ghost use Rattle.rapid_text.specs.Reading.{Reading};
 
 use crate::causes::{Cause, TextFault};
+use crate::cutter::Cutter;
 use crate::input::Input;
 use crate::names::Names;
-use crate::puller::Puller;
+use crate::window::Window;
 use event_core::{Event, Limits, OutOfMemory};
 use std::alloc::Global;
 use std::marker::Model;
+
+/// The next event, with no more than so many pulls. It sets `ended` at the end of the text.
+fn next_event<I: Input>(
+    input: &mut I,
+    cutter: &mut Cutter,
+    window: &mut Window,
+    turns: &mut u64,
+    ended: &mut bool,
+) -> Result<Option<Event>, TextFault>
+    requires room { cutter.old.taken + length window.old + 4096 * turns.old ≤ most }
+    requires live { cutter.old.failed ≡ None }
+    requires begun { ended.old ≡ false }
+    ensures ok { IfOk result (Answers
+        (pulling_of cutter.old window.old turns.old ended.old) (I.left input.old)
+        (pulling_of cutter.new window.new turns.new ended.new) (I.left input.new)) }
+    ensures fault { IfErr result (λ f. NoAnswer
+        (pulling_of cutter.old window.old turns.old ended.old) (I.left input.old)
+        (pulling_of cutter.new window.new turns.new ended.new) (I.left input.new)
+        (I.failed input.new) f f.cause) }
+    ensures before { IfErr result (λ f.
+        IfSome (to_judge (pulling_of cutter.old window.old turns.old ended.old) (I.left input.old))
+        (BeginsAt f.line cutter.new.names)) }
+    ensures failed { IfErr result (λ f. cutter.new.failed ≡ Some f.line) }
+    ensures line { IfErr result (λ f. cutter.new.line ≡ f.line) }
+    ensures live { OnOk result (cutter.new.failed ≡ None) }
+    ensures healthy { OnOk result (I.failed input.new ≡ I.failed input.old) }
+    ensures told { IfErr result (λ f. f.cause ≢ Cause.Read → I.failed input.new ≡ I.failed input.old) }
+    ensures room { OnOk result (cutter.new.taken + length window.new + 4096 * turns.new ≤ most) }
+    ensures turns { turns.new ≤ turns.old }
+    ensures bytes { OnOk result (ended.new ≡ false
+        → TakeBytes turns.old (I.left input.old) turns.new (I.left input.new)) }
+    ensures read { IfErr result (λ f. f.cause ≡ Cause.Read → I.failed input.new ≡ false
+        → TakeBytes turns.old (I.left input.old) turns.new (I.left input.new)) }
+    ensures grows { TablesGrow cutter.old.names cutter.new.names }
+    ensures named { IfOk result (λ e. IfSome e (IsOfNames cutter.new.names)) }
+    ensures empty { ended.new ≡ true → length cutter.new.kept + length window.new ≡ 0 }
+{
+    'pulls: loop {
+        let (used, event) = cutter.push(window.waiting())?;
+        window.skip(used);
+        if event.is_some() {
+            return Ok(event);
+        }
+        if *turns == 0 {
+            return Err(cutter.read_failed());
+        }
+        *turns -= 1;
+        match window.fill(input) {
+            Err(_) => return Err(cutter.read_failed()),
+            Ok(0) => {
+                let event = cutter.finish()?;
+                *ended = true;
+                return Ok(event);
+            }
+            Ok(_) => {}
+        }
+    }
+}
 
 /// Gives the events of a text, which it pulls from its input in pieces of 4,096 bytes.
 #[derive(Drop)]
 pub struct Reader<I: Input> {
     input: I,
-    puller: Puller,
+    cutter: Cutter,
+    window: Window,
+    turns: u64,
+    ended: bool,
 }
 
 impl<I: Input> Model for Reader<I> {
     ghost Value = { Reading };
 
-    ghost view = { λ r. record { text = r.puller; left = I.left r.input; read_failed = I.failed r.input } };
+    ghost view = { λ r. record {
+      text = pulling_of r.cutter r.window r.turns r.ended;
+      left = I.left r.input;
+      read_failed = I.failed r.input;
+    } };
+
+    ghost invariant = { λ r.
+        (r.cutter.failed ≡ None → r.cutter.taken + length r.window + 4096 * r.turns ≤ most)
+        × (r.ended ≡ true → length r.cutter.kept + length r.window ≡ 0) };
 }
 
 impl<I: Input> Reader<I> {
@@ -46,10 +121,14 @@ impl<I: Input> Reader<I> {
         ensures { IfOk result (λ r.
             r ≡ record { text = unpulled limits turns; left = I.left inner; read_failed = false }) }
     {
-        let puller = Puller::new(alloc, limits, turns)?;
+        let window = Window::new(alloc)?;
+        let cutter = Cutter::new(alloc, limits)?;
         Ok(Reader {
             input: inner,
-            puller,
+            cutter,
+            window,
+            turns,
+            ended: false,
         })
     }
 
@@ -87,7 +166,22 @@ impl<I: Input> Reader<I> {
         ensures stays { self.old.text.failed ≡ None → self.old.text.ended ≡ true →
             (result ≡ Ok None) × (self.new ≡ self.old) }
     {
-        self.puller.next(&mut self.input)
+        if let Some(line) = self.cutter.failed() {
+            return Err(TextFault {
+                line,
+                cause: Cause::Failed,
+            });
+        }
+        if self.ended {
+            return Ok(None);
+        }
+        next_event(
+            &mut self.input,
+            &mut self.cutter,
+            &mut self.window,
+            &mut self.turns,
+            &mut self.ended,
+        )
     }
 
     /// The number of the last answer's line: of the last event, or of the first fault once there is one;
@@ -95,13 +189,13 @@ impl<I: Input> Reader<I> {
     pub fn line(&self) -> u64
         ensures { result ≡ self.now.text.line }
     {
-        self.puller.line()
+        self.cutter.line()
     }
 
     /// The names so far.
     pub fn names(&self) -> &Names
         ensures { result.now ≡ self.entry.now.text.names }
     {
-        self.puller.names()
+        self.cutter.names()
     }
 }

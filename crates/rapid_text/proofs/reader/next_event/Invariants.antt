@@ -3,7 +3,7 @@ use Rattle.rapid_text.specs.Pulling.{pulling_of}
 use Rattle.rapid_text.specs.Turns.{TakeBytes}
 use Rattle.rapid_text.specs.Tables.{TablesGrow}
 use Rattle.rapid_text.proofs.Pulls.{Running}
-use Rattle.rapid_text.proofs.puller.next_event.Given as goal
+use Rattle.rapid_text.proofs.reader.next_event.Given as goal
 
 abbrev pub invariant-pulls : goal.invariant-pulls
 invariant-pulls g l = record {
