@@ -9,6 +9,8 @@ mod actors;
 #[cfg(test)]
 mod example;
 #[cfg(test)]
+mod handles;
+#[cfg(test)]
 mod rows;
 #[cfg(test)]
 mod threads;

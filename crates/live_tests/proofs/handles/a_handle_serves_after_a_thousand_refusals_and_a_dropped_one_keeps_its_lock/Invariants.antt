@@ -1,0 +1,5 @@
+use Rattle.live_tests.proofs.handles.a_handle_serves_after_a_thousand_refusals_and_a_dropped_one_keeps_its_lock.Given as goal
+
+-- the monitor that was just made
+abbrev pub ghosts-refuse : goal.ghosts-refuse
+ghosts-refuse g a = record { table = a.unnamed.table; limits = a.unnamed.limits }
