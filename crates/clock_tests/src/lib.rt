@@ -1,6 +1,6 @@
-//! Tests of the clocks that a monitor stands on: the limits, the log and the steps of `event_core`, the clocks
-//! of happens-before and of weak causal precedence, the closed sections that these stand on, and the verdicts
-//! on accesses.
+//! Tests of the clocks that a monitor stands on: the limits, the log and the steps of `event_core`, the
+//! clocks of happens-before and of weak causal precedence, the closed sections that these stand on, and the
+//! verdicts on accesses.
 //!
 //! The crate has tests alone, and they see no more of those crates than any caller does. They stand here
 //! and not in the crates themselves since a crate is proved once more with its tests.

@@ -113,7 +113,8 @@ joined_readable {ns = ns} {es = es} {fs = fs} j are =
     let mine : IsReadable (ns ++ j.kept.added) j.entry.acquire.thread j.entry.place
     = record {
       within = omega arith;
-      own = ap₂ counts_of (joined_numbers ns j.kept.added j.entry.place j.kept.start j.kept.count) j.thread ∙ j.kept.own;
+      own = ap₂ counts_of (joined_numbers ns j.kept.added j.entry.place j.kept.start j.kept.count) j.thread
+          ∙ j.kept.own;
     } in
     subst (λ (xs : List ℕ). AreReadable xs fs) (sym j.kept.numbers)
     (subst (AreReadable (ns ++ j.kept.added)) (sym j.entries)

@@ -161,7 +161,8 @@ impl Queue {
         requires few { (u : ℕ) → before thread.0 (counts_of clock.now) u < 2 ^ 32 }
         requires memory { length releases.old.numbers + self.old.width ≤ releases.old.most }
         ensures joined { HasJoined releases.old.numbers releases.new.numbers self.old.entries
-            self.new.entries thread.0 (opened_in self.old.rooms thread.0) self.old.width (counts_of clock.now) }
+            self.new.entries thread.0 (opened_in self.old.rooms thread.0) self.old.width
+            (counts_of clock.now) }
         ensures opened { opened_in self.new.rooms ≡ with_row thread.0 0 (opened_in self.old.rooms) }
         ensures rooms { has_room_in self.new.rooms ≡ with_row thread.0 false (has_room_in self.old.rooms) }
         ensures many { length self.new.rooms + 1 ≡ length self.old.rooms }

@@ -61,7 +61,8 @@ fields_err bytes f e =
     elim (or_fault_err FewFields (cut 124 bytes) (λ p. or_fault FewFields (cut 124 p.1)
     (λ q. unless ManyFields (has 124 q.1) (let r : List ℕ × List ℕ × List ℕ = (p.0, q.0, q.1) in
     Ok r))) f e) [
-      | inl few ↦ let z = count-Lacks 124 bytes (cut_None 124 bytes few.0) in inl (sym few.1, omega (arith, z))
+      | inl few ↦ let z = count-Lacks 124 bytes (cut_None 124 bytes few.0) in inl
+          (sym few.1, omega (arith, z))
       | inr p ↦
           let c = IsCut-at 124 bytes p.0 p.1 in
           let n = bars_cut bytes p.0.0 p.0.1 c in

@@ -170,8 +170,8 @@ impl LineCutter {
         piece.len() as u64 <= MOST_BYTES - self.taken
     }
 
-    /// The first line that ends in the piece, with what was kept of it, and the rest of the piece; none, where
-    /// no line ends in the piece, and then all of it is kept.
+    /// The first line that ends in the piece, with what was kept of it, and the rest of the piece; none,
+    /// where no line ends in the piece, and then all of it is kept.
     #[inline(always)]
     #[tactic(auto, using(crate::proofs::LineLaws::next_lines))]
     pub fn next_line<'a>(

@@ -388,7 +388,8 @@ pub too_many_exactly : (t u : Tables) (kind : Kind) (name : List ℕ) (r : Resul
     → (IsErrOf r OutOfMemory → length (space t kind).names < (space t kind).limit)
     → OnErr r (place_of (space t kind) name ≡ None)
     → IsErrOf r TooMany ↔ (number_in t kind name ≡ None)
-too_many_exactly t u kind name (Ok n) ok full room new = (full, λ none. let clash = sym ok ∙ none in absurd cc)
+too_many_exactly t u kind name (Ok n) ok full room new =
+    (full, λ none. let clash = sym ok ∙ none in absurd cc)
 too_many_exactly t u kind name (Err TooMany) ok full room new = (full, λ none. refl)
 too_many_exactly t u kind name (Err OutOfMemory) ok full room new =
     (full, λ none. absurd (has_room t kind name new (room refl) none))

@@ -97,7 +97,8 @@ goes_first names lines line piece lf room = record {
   front = [];
   is = refl;
   ended = omega arith;
-  kept = sym (ap (λ (t : List ℕ). after_last 10 t) (append-nil lines.kept) ∙ after_last-Lacks 10 lines.kept lf);
+  kept = sym (ap (λ (t : List ℕ). after_last 10 t) (append-nil lines.kept) ∙ after_last-Lacks 10 lines.kept
+      lf);
   taken = omega arith;
   room = room;
   grows = TablesGrow-refl names;
@@ -238,7 +239,8 @@ gives start piece names later lines next rest line after event g c r live =
       line = λ none. absurd cc;
       live = (live, refl);
     } in
-    subst (λ (n : ℕ). Pushes start (cutting_of later next lines.unfinished) piece n (Some event)) (sym u.0) gave
+    subst (λ (n : ℕ). Pushes start (cutting_of later next lines.unfinished) piece n (Some event)) (sym u.0)
+    gave
 
 -- no line ends: the push ends
 pub keeps : (start : Cutting) (piece : List ℕ) (names : Tables) (lines next : Lines) (rest : List ℕ)

@@ -1,5 +1,6 @@
 -- A set of names as the names with their numbers.
-use Rattle.std.proofs.Common.{◌≡◌, ℕ, ◌<◌, ◌≤◌, ◌++◌, [], ◌∷◌, List, Some, None, Option, length, true, false, cond, sym, ◌∙◌, ap, arith, refl, zero, suc, subst}
+use Rattle.std.proofs.Common.{◌≡◌, ℕ, ◌<◌, ◌≤◌, ◌++◌, [], ◌∷◌, List, Some, None, Option, length, true, false}
+use Rattle.std.proofs.Common.{cond, sym, ◌∙◌, ap, arith, refl, zero, suc, subst}
 use Rattle.std.specs.Prelude.{not, nat_lt, slice_get}
 use Rattle.std.specs.List.{AllByRecursion, IsDistinct}
 use Rattle.std.proofs.lemmas.Option.{slice_get_within}

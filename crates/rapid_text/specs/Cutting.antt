@@ -1,5 +1,6 @@
 -- A text in pieces: what a cutter holds, and what a push and the end of the text do to it.
-use Rattle.std.specs.Prelude.{◌≡◌, ℕ, ◌+◌, ◌≤◌, ◌<◌, List, [], ◌++◌, length, take, drop, Option, Some, None, IfSome}
+use Rattle.std.specs.Prelude.{◌≡◌, ℕ, ◌+◌, ◌≤◌, ◌<◌, List, [], ◌++◌, length, take, drop, Option, Some, None}
+use Rattle.std.specs.Prelude.{IfSome}
 use Rattle.event_core.specs.declared.events.Event.{Event}
 use Rattle.event_core.specs.Bounds.{Bounds}
 use Rattle.rapid_text.specs.declared.causes.Cause.{Cause}

@@ -40,8 +40,8 @@ judge (l ∷ ls) t n = after_line t n (reading t (content l)) (λ u. judge ls u 
 abbrev pub judgement : Tables → List ℕ → Judgement
 judgement names text = judge (lines_of text) names 1
 
--- the text is judged from line n on, and so no line before it has an event or a fault; the names are those of
--- the lines before, and some of line n may be among them, but none of a later line
+-- the text is judged from line n on, so no line before it has an event or a fault; names were only added to
+-- those of the lines before
 pub record BeginsAt (n : ℕ) (names : Tables) (j : Judgement) : Type 0 where
   pub before : Tables
   pub lines : List (List ℕ)

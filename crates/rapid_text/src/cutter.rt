@@ -86,7 +86,7 @@ impl Cutter {
         ensures ok { IfOk result (λ r. Pushes self.old self.new piece.now r.0 r.1) }
         // A fault is the one at which the text stops, whatever follows.
         ensures fault { IfErr result (λ f. FailsAt self.old piece.now f f.cause) }
-        // No line before it has an event or a fault, and no name of a later line was numbered.
+        // No line before it has an event or a fault, and their names are numbered.
         ensures before { IfErr result (λ f. JudgedUpTo self.old piece.now f.line self.new.names) }
         // After a fault it fails from then on, and nothing changes.
         ensures again { (n : ℕ) → self.old.failed ≡ Some n →

@@ -126,8 +126,8 @@ impl Words {
         requires { 0 < places }
         ensures { result < places }
     {
-        // The factor has the bits of the golden ratio. Both halves of the product together depend on all of the
-        // word, also where its bytes are few digits.
+        // The factor has the bits of the golden ratio. Both halves of the product together depend on all of
+        // the word, also where its bytes are few digits.
         let product = self.mixed() as u128 * 0x9e37_79b9_7f4a_7c15;
         let high = (product >> 64) as usize;
         let low = (product & 0xffff_ffff_ffff_ffff) as usize;

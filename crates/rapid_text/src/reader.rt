@@ -3,8 +3,8 @@
 //! What waits in the window is pushed to the cutter. Where no line with an event ended, the next piece is
 //! pulled, for one turn; the end of the text finishes the cutter. So the number of pulls is bounded for an
 //! input of any behaviour, and each line that came whole is judged before a failure is told.
-ghost use Rattle.std.specs.Prelude.{◌≡◌, ◌≢◌, ℕ, ◌+◌, ◌*◌, ◌≤◌, length, IfOk, IfErr, IfSome, OnOk, Ok, None, Some};
-ghost use Rattle.std.specs.Prelude.{true, false};
+ghost use Rattle.std.specs.Prelude.{◌≡◌, ◌≢◌, ℕ, ◌+◌, ◌*◌, ◌≤◌, length, IfOk, IfErr, IfSome, OnOk, Ok, None};
+ghost use Rattle.std.specs.Prelude.{Some, true, false};
 ghost use Rattle.std.specs.Result.{IsErrOf};
 ghost use Rattle.rapid_text.specs.Cutting.{most, failed_at};
 ghost use Rattle.rapid_text.specs.Tables.{TablesGrow};
@@ -140,7 +140,7 @@ impl<I: Input> Reader<I> {
         // was refused.
         ensures fault { IfErr result (λ f.
             NoAnswer self.old.text self.old.left self.new.text self.new.left self.new.read_failed f f.cause) }
-        // No line before it has an event or a fault, and no name of a later line was numbered.
+        // No line before it has an event or a fault, and their names are numbered.
         ensures before { IfErr result (λ f.
             IfSome (to_judge self.old.text self.old.left) (BeginsAt f.line self.new.text.names)) }
         // After a fault it fails from then on, and nothing changes.

@@ -1,6 +1,7 @@
 -- The joins of a log, one event longer.
 use Rattle.std.proofs.Common.{◌≡◌, ℕ, zero, suc, ◌+◌, ◌<◌, ◌≤◌, List, [], ◌∷◌, ◌++◌, length}
-use Rattle.std.proofs.Common.{Bool, true, false, cond, nat_eq, nat_lt, not, ◌||◌, take, append_assoc, append-nil}
+use Rattle.std.proofs.Common.{Bool, true, false, cond, nat_eq, nat_lt, not, ◌||◌, take, append_assoc}
+use Rattle.std.proofs.Common.{append-nil}
 use Rattle.std.proofs.Common.{refl, sym, ap, subst, ◌∙◌, inl, inr, ◌⊎◌, arith}
 use Rattle.std.specs.Set.{is_member}
 use Rattle.std.proofs.lemmas.Cmp.{nat_eq_equiv}
@@ -104,7 +105,8 @@ held_few m log p t w st =
         (lt-ltb 0 (depth log t (lock_at q)) up)
 
 -- the joins of one event
-event_joins : (d : ℕ → ℕ) (o : Op) (held more : ℕ) → held ≤ more → most_joins (effect_of d o) held ≤ joins_at o more
+event_joins : (d : ℕ → ℕ) (o : Op) (held more : ℕ) → held ≤ more → most_joins (effect_of d o) held ≤
+    joins_at o more
 event_joins d (Load x) held more few = omega arith
 event_joins d (Store x) held more few = omega arith
 event_joins d (Acquire l) held more few = go (nat_eq (d l.0) 0)

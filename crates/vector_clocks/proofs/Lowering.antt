@@ -19,7 +19,8 @@ counted_within ns t some = go (cases_lt t (length ns))
     go (inr le) = let none : counts_of ns t ≡ 0 = get_or_past ns t 0 le in absurd (omega arith)
 
 -- the number of a thread is written
-pub counts_set : (ns : List ℕ) (t n : ℕ) → t < length ns → counts_of (set ns t n) ≡ with_row t n (counts_of ns)
+pub counts_set : (ns : List ℕ) (t n : ℕ) → t < length ns → counts_of (set ns t n) ≡ with_row t n
+    (counts_of ns)
 counts_set ns t n lt i u = go (cases_eq u t) i
   where
     go : (u ≡ t) ⊎ (u ≡ t → ⊥) → counts_of (set ns t n) u ≡ with_row t n (counts_of ns) u

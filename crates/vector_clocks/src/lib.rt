@@ -1,5 +1,5 @@
-//! Vector clocks: of each thread, how many of its events are in a set. Rows of them, clocks of releases, marks of
-//! events, and the work that is done on them.
+//! Vector clocks: of each thread, how many of its events are in a set. Rows of them, clocks of releases,
+//! marks of events, and the work that is done on them.
 #![tactic(auto)]
 
 mod before;

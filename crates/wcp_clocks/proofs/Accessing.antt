@@ -26,7 +26,8 @@ use Rattle.wcp_clocks.specs.Stepping.{IsStepBy, strict_clock}
 use Rattle.wcp_clocks.specs.Met.{met_clocks, met_under, joins_under, AreNumbers}
 use Rattle.wcp_clocks.proofs.EffectWords.{same_sources, same_noted, same_clocks, same_numbers}
 
-module _ (e : Event) (x : VarId) (k : AccessKind) (old : Parts) (told : effect e (state_of old) ≡ Accesses x k)
+module _ (e : Event) (x : VarId) (k : AccessKind) (old : Parts)
+    (told : effect e (state_of old) ≡ Accesses x k)
     (fits : Fits e old) where
   abbrev t : ℕ
   t = e.thread.0

@@ -7,7 +7,8 @@ pub returns-then-not-feed-clause-stopped : goal.returns-then-not-feed-clause-sto
 returns-then-not-feed-clause-stopped g c is =
     let left = g.I.Input.left in
     let short = length-take-le c.in-Ok.count c.pull.new.buf c.in-Ok.ensures.within in
-    pulled_more (left c.args.input.now) (left c.pulls.input) (left c.pull.new.self) c.pulls.counter c.args.turns
+    pulled_more (left c.args.input.now) (left c.pulls.input) (left c.pull.new.self) c.pulls.counter
+    c.args.turns
     (take c.in-Ok.count c.pull.new.buf) _ _ c.pulls.invariant.pulled c.in-Ok.ensures.bytes.0
     (omega (arith, short, c.in-Ok.ensures.within, c.pull.auto.buf, c.pulls.invariant.room))
     (omega arith)
@@ -22,7 +23,13 @@ pulls-preserved g c =
     record {
       pulled = pulled_more (left c.args.input.now) (left c.pulls.input) (left c.pull.new.self) c.pulls.counter
           (c.pulls.counter + 1) (take c.in-Ok.count c.pull.new.buf) _ _ c.pulls.invariant.pulled
-          c.in-Ok.ensures.bytes.0 (omega (arith, short, c.in-Ok.ensures.within, c.pull.auto.buf, c.pulls.invariant.room)) (omega arith)
+          c.in-Ok.ensures.bytes.0 (omega (
+            arith,
+            short,
+            c.in-Ok.ensures.within,
+            c.pull.auto.buf,
+            c.pulls.invariant.room,
+          )) (omega arith)
           (λ bytes took.
           let parts = length-append bytes (take c.in-Ok.count c.pull.new.buf) in (
             g.met.S.Sink.takes_both c.args.sink.now c.pulls.sink c.feed.new.self bytes _ took.0

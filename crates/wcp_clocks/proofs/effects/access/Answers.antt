@@ -15,7 +15,8 @@ returns-clause-step c =
     let s = c.meet_sections in
     access_step e c.args.var c.args.kind old c.requires.effect c.requires.fits c.of-held.result.now s.new.rows
     c.advance.new.self s.new.sums s.new.work c.advance.new.work c.of-held.ensures
-    s.ensures.threads s.ensures.locks s.ensures.kept s.ensures.joins s.ensures.joins_exact s.ensures.comparisons
+    s.ensures.threads s.ensures.locks s.ensures.kept s.ensures.joins s.ensures.joins_exact
+    s.ensures.comparisons
     s.ensures.noted s.ensures.others c.requires.parts.numbers
     c.advance.ensures.exact c.advance.ensures.width c.advance.ensures.kept
     c.advance.ensures.work

@@ -116,11 +116,13 @@ returns c =
           (ap (λ (f : ℕ → ℕ → ℕ). f t l) taken.ensures.found.opened) g);
       found = left.found ∙ taken.ensures.found.found;
       joins = (let w = taken.ensures.joins in
-          let j = joins_told e k old taken.new.work c.advance.new.work c.requires.effect c.advance.ensures.work
+          let j = joins_told e k old taken.new.work c.advance.new.work c.requires.effect
+          c.advance.ensures.work
           in
           omega arith);
       joins_exact = (let w = taken.ensures.joins_exact in
-          let j = joins_told e k old taken.new.work c.advance.new.work c.requires.effect c.advance.ensures.work
+          let j = joins_told e k old taken.new.work c.advance.new.work c.requires.effect
+          c.advance.ensures.work
           in
           omega arith);
       comparisons = (let w = taken.ensures.comparisons in

@@ -45,11 +45,13 @@ returns c =
       closed = c.enter.ensures.closed;
       found = c.enter.ensures.found;
       joins = (let w = ap (λ (d : Done). d.joins) taken.ensures.work in
-          let j = joins_told e k old taken.new.work c.advance.new.work c.requires.effect c.advance.ensures.work
+          let j = joins_told e k old taken.new.work c.advance.new.work c.requires.effect
+          c.advance.ensures.work
           in
           omega arith);
       joins_exact = (let w = ap (λ (d : Done). d.joins) taken.ensures.work in
-          let j = joins_told e k old taken.new.work c.advance.new.work c.requires.effect c.advance.ensures.work
+          let j = joins_told e k old taken.new.work c.advance.new.work c.requires.effect
+          c.advance.ensures.work
           in
           omega arith);
       comparisons = ap (λ (d : Done). d.comparisons) c.advance.ensures.work

@@ -8,4 +8,5 @@ use Rattle.wcp_clocks.proofs.sources.take_under.Given as goal
 abbrev pub invariant-loop-number : goal.invariant-loop-number
 invariant-loop-number l = IsTaking l.sums (closed_of l.queues) l.lock.0 l.fn.var.0 l.thread.0
     (met_under (met_clocks l.sums (closed_of l.queues)) l.fn.var.0 l.fn.kind l.thread.0 l.lock.0)
-    (sources_of l.sums l.lock.0 l.fn.var.0 l.fn.kind l.thread.0) l.fn.rows l.rows l.fn.work l.work (left l.number-iterator)
+    (sources_of l.sums l.lock.0 l.fn.var.0 l.fn.kind l.thread.0) l.fn.rows l.rows l.fn.work l.work
+    (left l.number-iterator)

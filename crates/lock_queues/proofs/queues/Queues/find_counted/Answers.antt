@@ -46,7 +46,8 @@ invariant_of-self c =
     let many = ap length c.find_counted.ensures.rooms ∙ ap (λ (q : Kept). length q.rooms) read.is in
     kept_set l c.find_counted.new.self c.self.inside.rooms c.self.invariant read.within
     (c.find_counted.ensures.width ∙ ap (λ (q : Kept). q.width) read.is)
-    (c.find_counted.ensures.entries ∙ ap (λ (q : Kept). q.entries) read.is) (omega arith) c.self.invariant.spare
+    (c.find_counted.ensures.entries ∙ ap (λ (q : Kept). q.entries) read.is) (omega arith)
+    c.self.invariant.spare
 
 pub returns-clause-found : goal.returns-clause-found
 returns-clause-found c =
@@ -59,7 +60,8 @@ returns-clause-found c =
     let read = read_entered qs t l c.index_mut-queue.result.now entered c.index_mut-queue.ensures.value in
     let are = are_of _ _ qs ns l clock _ c.self.view_is c.self.invariant read.is c.requires.earlier in
     let number
-    = number_found _ _ _ _ _ are c.find_counted.ensures.within c.find_counted.ensures.counted c.find_counted.ensures.stopped in
+    = number_found _ _ _ _ _ are c.find_counted.ensures.within c.find_counted.ensures.counted
+    c.find_counted.ensures.stopped in
     let new = c.find_counted.new.self in
     let found = c.find_counted.ensures.found
     ∙ ap (λ (q : Kept). with_row t c.find_counted.result (slice_index q.found)) read.is
@@ -67,7 +69,8 @@ returns-clause-found c =
     let entries = c.find_counted.ensures.entries ∙ ap (λ (q : Kept). q.entries) read.is in
     let closed = ap (λ es. map closed_as (sections_of ns es)) entries in
     let opened = ap opened_in c.find_counted.ensures.rooms ∙ ap (λ (q : Kept). opened_in q.rooms) read.is in
-    let rooms = ap has_room_in c.find_counted.ensures.rooms ∙ ap (λ (q : Kept). has_room_in q.rooms) read.is in
+    let rooms = ap has_room_in c.find_counted.ensures.rooms ∙ ap (λ (q : Kept). has_room_in q.rooms) read.is
+    in
     record {
       found =
           (λ i m. lifted (λ (q : Kept). slice_index q.found) qs l new _ read.within found m i)
@@ -107,7 +110,8 @@ returns-clause-comparisons c =
     let read = read_entered qs t l c.index_mut-queue.result.now entered c.index_mut-queue.ensures.value in
     let are = are_of _ _ qs _ l clock _ c.self.view_is c.self.invariant read.is c.requires.earlier in
     let number
-    = number_found _ _ _ _ _ are c.find_counted.ensures.within c.find_counted.ensures.counted c.find_counted.ensures.stopped in
+    = number_found _ _ _ _ _ are c.find_counted.ensures.within c.find_counted.ensures.counted
+    c.find_counted.ensures.stopped in
     let found = ap (λ (q : Kept). slice_index q.found t) read.is
     ∙ ap (λ (v : Tables). found_of v l t) c.self.view_is in
     let work = c.find_counted.ensures.most in
@@ -123,7 +127,8 @@ returns-clause-no_fewer c =
     let read = read_entered qs t l c.index_mut-queue.result.now entered c.index_mut-queue.ensures.value in
     let are = are_of _ _ qs _ l clock _ c.self.view_is c.self.invariant read.is c.requires.earlier in
     let number
-    = number_found _ _ _ _ _ are c.find_counted.ensures.within c.find_counted.ensures.counted c.find_counted.ensures.stopped in
+    = number_found _ _ _ _ _ are c.find_counted.ensures.within c.find_counted.ensures.counted
+    c.find_counted.ensures.stopped in
     let found = ap (λ (q : Kept). slice_index q.found t) read.is
     ∙ ap (λ (v : Tables). found_of v l t) c.self.view_is in
     let work = c.find_counted.ensures.least in

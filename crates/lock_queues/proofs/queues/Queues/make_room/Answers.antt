@@ -29,7 +29,8 @@ invariant_of-self-in_err-make_room-2 c =
     c.grow.ensures.same wide c.grow.ensures.rooms in
     let same = c.make_room-2.ensures.same in
     let rooms = ap length c.in_err-make_room-2.ensures.err ∙ ap (λ (q : Kept). length q.rooms) is in
-    kept_set l c.make_room-2.new.self c.self.inside.rooms grown lt (same.width ∙ ap (λ (q : Kept). q.width) is)
+    kept_set l c.make_room-2.new.self c.self.inside.rooms grown lt
+    (same.width ∙ ap (λ (q : Kept). q.width) is)
     (same.entries ∙ ap (λ (q : Kept). q.entries) is) (omega arith) grown.spare
 
 pub invariant_of-self-2 : goal.invariant_of-self-2
@@ -91,5 +92,6 @@ returns-clause-ok c =
     let ok = c.in_ok-grow.ensures.ok in
     let lt : l < length qs = omega arith in
     let is = get_or_read qs l c.index_mut-queue.result.now lt c.index_mut-queue.ensures.value no_queue in
-    room_made _ _ _ qs _ c.make_room.new.self.numbers c.args.thread.0 l _ c.make_room-2.new.self c.self.view_is
+    room_made _ _ _ qs _ c.make_room.new.self.numbers c.args.thread.0 l _ c.make_room-2.new.self
+    c.self.view_is
     c.grow.ensures.same lt is c.in_ok-make_room-2.ensures.ok

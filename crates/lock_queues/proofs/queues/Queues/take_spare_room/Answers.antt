@@ -21,7 +21,8 @@ invariant_of-self c =
     let next = c.in-Some.ensures.1 in
     let spare = c.ready-else-len-at.ensures.0 c.if-not-ready.false in
     let times = ap (λ w. c.in-Some.rooms * w) c.threads-width.ensures.is in
-    kept_set l c.take_spare_room-is_made.new.self _ c.self.invariant lt (same.width ∙ ap (λ (q : Kept). q.width) is)
+    kept_set l c.take_spare_room-is_made.new.self _ c.self.invariant lt
+    (same.width ∙ ap (λ (q : Kept). q.width) is)
     (same.entries ∙ ap (λ (q : Kept). q.entries) is) (omega (arith, next, rooms))
     (omega (arith, spare, times))
 

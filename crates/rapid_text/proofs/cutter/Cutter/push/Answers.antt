@@ -10,7 +10,8 @@ pub lines-init : goal.lines-init
 lines-init c =
     let inside = c.self.inside in
     let piece = c.args.piece.now in
-    let start = sym (live inside.names inside.lines inside.line inside.failed c.in_default.is) ∙ c.self.view_is in
+    let start = sym (live inside.names inside.lines inside.line inside.failed c.in_default.is) ∙
+    c.self.view_is in
     record {
       going = subst (λ (s : Cutting). Going s piece inside.names inside.lines piece) start
           (goes_first inside.names inside.lines inside.line piece c.self.invariant.0
@@ -23,7 +24,10 @@ pub returns-in-Ok-None-clause-ok : goal.returns-in-Ok-None-clause-ok
 returns-in-Ok-None-clause-ok c =
     let now = c.lines.self-inside in
     let live_start = ap (λ (s : Cutting). s.failed) (sym c.self.view_is) ∙ c.in_default.is in
-    rw (live now.names c.next_line.new.self now.line now.failed c.lines.invariant.live, c.lines.invariant.line)
+    rw (
+      live now.names c.next_line.new.self now.line now.failed c.lines.invariant.live,
+      c.lines.invariant.line,
+    )
     (keeps c.args.self.now c.args.piece.now now.names now.lines c.next_line.new.self c.lines.rest.now
     c.lines.invariant.going (rw c.in-Ok-None.field-0-is at c.in-Ok-None.ensures.none) live_start)
 
@@ -49,7 +53,8 @@ lines-preserved c =
     record {
       going = goes_on c.args.self.now c.args.piece.now now.names c.line_event.new.names now.lines
           c.next_line.new.self c.lines.rest.now _ c.in-Ok-Some.cut.1.now c.lines.invariant.going cut
-          (rw (c.line.ensures.bytes, c.in-Ok-None-line_event.field-0-is) at c.in-Ok-None-line_event.ensures.ok)
+          (rw (c.line.ensures.bytes, c.in-Ok-None-line_event.field-0-is) at
+          c.in-Ok-None-line_event.ensures.ok)
           c.line_event.ensures.grows;
       line = c.lines.invariant.line;
       live = c.lines.invariant.live;
@@ -57,7 +62,8 @@ lines-preserved c =
 
 pub overflow_sub-result : goal.overflow_sub-result
 overflow_sub-result c =
-    let less = goes_down c.lines.self-inside.lines c.next_line.new.self c.lines.rest.now _ c.in-Ok-Some.cut.1.now
+    let less = goes_down c.lines.self-inside.lines c.next_line.new.self c.lines.rest.now _
+    c.in-Ok-Some.cut.1.now
     (rw c.in-Ok-Some.field-0-is at c.in-Ok-Some.ensures.line) in
     let all = ap (λ (t : List ℕ). length t) c.lines.invariant.going.is in
     let parts = length-append c.lines.invariant.going.front c.lines.rest.now in

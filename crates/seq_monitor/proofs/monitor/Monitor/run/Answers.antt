@@ -9,7 +9,8 @@ use Rattle.seq_monitor.proofs.monitor.Monitor.run.Goals as goal
 pub loop-call-preserved : goal.loop-call-preserved
 loop-call-preserved c =
     record {
-      ran = ran_more IsRun IsOutcome log_after run_more _ _ (take c.loop-call.call-index c.args.calls.now) _ _ _ _ _ _ _ _ _
+      ran = ran_more IsRun IsOutcome log_after run_more _ _ (take c.loop-call.call-index c.args.calls.now) _
+          _ _ _ _ _ _ _ _
           c.loop-call.invariant.ran c.loop-call.invariant.limits c.in_ok-outcome.ensures.outcome
           (take_more c.args.calls.now c.loop-call.call-index _ c.loop-call-test.true)
           c.push_reserved.ensures.items c.in_ok-outcome.ensures.log;
@@ -33,7 +34,8 @@ returns-then-is_err-clause-some c =
 pub returns-in_err-outcome-clause-some : goal.returns-in_err-outcome-clause-some
 returns-in_err-outcome-clause-some c =
     where_err c.from_residual.result
-    (ran_some IsRun refusal _ _ c.args.calls.now _ _ _ _ _ c.loop-call.call-index _ _ c.loop-call.invariant.ran
+    (ran_some IsRun refusal _ _ c.args.calls.now _ _ _ _ _ c.loop-call.call-index _ _
+    c.loop-call.invariant.ran
     c.loop-call.invariant.limits
     (slice_get-get_or c.args.calls.now c.loop-call.call-index _ c.loop-call-test.true)
     c.in_err-outcome.ensures.memory c.in_err-outcome.ensures.same)

@@ -7,7 +7,8 @@ use Rattle.seq_monitor.proofs.monitor.Monitor.run.Given as goal
 
 abbrev pub invariant-loop-call : goal.invariant-loop-call
 invariant-loop-call l = record {
-  ran : Ran (IsRun l.fn.self.limits l.fn.self.log) (take l.call-index l.calls) l.fn.outcomes.items l.outcomes.items l.self.log;
+  ran : Ran (IsRun l.fn.self.limits l.fn.self.log) (take l.call-index l.calls) l.fn.outcomes.items
+      l.outcomes.items l.self.log;
   limits : l.self.limits ≡ l.fn.self.limits;
   work : HasBoundedWork l.self;
   room : length l.calls ≤ l.call-index + (vec_capacity l.outcomes - vec_len l.outcomes);

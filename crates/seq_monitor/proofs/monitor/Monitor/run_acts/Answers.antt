@@ -9,7 +9,8 @@ use Rattle.seq_monitor.proofs.monitor.Monitor.run_acts.Goals as goal
 pub loop-act-preserved : goal.loop-act-preserved
 loop-act-preserved c =
     record {
-      ran = ran_more IsActRun IsDone log_after_act act_run_more _ _ (take c.loop-act.act-index c.args.acts.now) _ _ _ _ _ _ _ _ _
+      ran = ran_more IsActRun IsDone log_after_act act_run_more _ _
+          (take c.loop-act.act-index c.args.acts.now) _ _ _ _ _ _ _ _ _
           c.loop-act.invariant.ran c.loop-act.invariant.limits c.in_ok-done.ensures.done
           (take_more c.args.acts.now c.loop-act.act-index _ c.loop-act-test.true)
           c.push_reserved.ensures.items c.in_ok-done.ensures.log;
@@ -33,7 +34,8 @@ returns-then-is_err-clause-some c =
 pub returns-in_err-done-clause-some : goal.returns-in_err-done-clause-some
 returns-in_err-done-clause-some c =
     where_err c.from_residual.result
-    (ran_some IsActRun act_refusal _ _ c.args.acts.now _ _ _ _ _ c.loop-act.act-index _ _ c.loop-act.invariant.ran
+    (ran_some IsActRun act_refusal _ _ c.args.acts.now _ _ _ _ _ c.loop-act.act-index _ _
+    c.loop-act.invariant.ran
     c.loop-act.invariant.limits
     (slice_get-get_or c.args.acts.now c.loop-act.act-index _ c.loop-act-test.true)
     c.in_err-done.ensures.memory c.in_err-done.ensures.same)

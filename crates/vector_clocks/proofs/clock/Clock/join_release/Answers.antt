@@ -14,7 +14,8 @@ returns-clause-greater c =
     let t : ℕ = c.args.release.now.by.0 in
     let g : ℕ → ℕ = counts_of c.args.release.now.before.now in
     c.count_release.ensures.greater
-    ∙ ap₂ (counting (counts_of c.raise_before.new.self)) (ap (λ (u : ThreadId). u.0) c.by.ensures.thread) c.own.ensures
+    ∙ ap₂ (counting (counts_of c.raise_before.new.self)) (ap (λ (u : ThreadId). u.0) c.by.ensures.thread)
+    c.own.ensures
     ∙ ap (λ (f : ℕ → ℕ). counting f t (g t))
     (c.raise_before.ensures.greater
     ∙ ap (λ (xs : List ℕ). join (counts_of c.args.self.now) (counts_of xs)) c.counts_before.ensures)

@@ -8,5 +8,6 @@ returns-clause-same c =
     ap held_of (with_items_is c.grow_to.new.list c.make_room_at.new.lists
     (c.make_room_at.auto.lists ∙ c.deref_mut.ensures.len))
     ∙ c.make_room_at.ensures.same ∙ ap held_of c.deref_mut.ensures.value
-    ∙ (λ i t. ap (λ (h : HeldList). numbers_of h.locks) (c.in_ok-grow_to.ensures.same nothing_held (λ g given. search rules) t) i)
+    ∙ (λ i t. ap (λ (h : HeldList). numbers_of h.locks)
+    (c.in_ok-grow_to.ensures.same nothing_held (λ g given. search rules) t) i)
     ∙ ap held_of c.self.view_is
