@@ -4,7 +4,7 @@
 //! one allocation is refused.
 mod cases;
 
-use cases::Row::{Called, Held, Holder, Ready, ReadyToSwap, Swapped, Value};
+use cases::Row::{Called, Held, Holder, Swapped, Value};
 use cases::{Answer, CASES, Case, LOAD, Row, STORE};
 use event_core::{Call, Limits, LockId, Op, Refusal, SiteId, ThreadId, VarId};
 use std::alloc::Global;
@@ -57,10 +57,6 @@ fn agrees(memory: &mut Memory, row: &Row) -> bool {
     match *row {
         Called(thread, op, arg, answer) => make(memory, &call(thread, op, arg)) == answer,
         Swapped(thread, arg, answer) => swap(memory, thread, arg) == answer,
-        Ready(thread, op, is_ready) => memory.ready(&call(thread, op, 0)) == is_ready,
-        ReadyToSwap(thread, is_ready) => {
-            memory.ready_swap(ThreadId(thread), VarId(0)) == is_ready
-        }
         Holder(holder, depth) => {
             memory.holder(LockId(0)) == holder && memory.depth(LockId(0)) == depth
         }
@@ -81,7 +77,8 @@ fn agrees_with_all(memory: &mut Memory, rows: &[Row]) -> bool {
 
 /// Whether a new memory gives the answers of the case.
 fn is_answered(alloc: Global, case: &Case) -> bool {
-    let Ok(limits) = Limits::new(case.threads, 6, case.vars, case.events, case.roots) else {
+    let Ok(limits) = Limits::new(case.threads, case.locks, case.vars, case.events, case.roots)
+    else {
         return false;
     };
     let Ok(mut memory) = Memory::new(alloc, limits) else {

@@ -1,5 +1,5 @@
 //! The worked cases.
-use Row::{Called, Held, Holder, Ready, ReadyToSwap, Swapped, Value};
+use Row::{Called, Held, Holder, Swapped, Value};
 use event_core::{LockId, Op, Refusal, Roots, ThreadId, VarId};
 
 pub type Answer = Result<u64, Refusal>;
@@ -10,10 +10,6 @@ pub enum Row {
     Called(u32, Op, u64, Answer),
     /// The answer to a thread's swap of variable 0 for this value.
     Swapped(u32, u64, Answer),
-    /// Whether there is room for a thread's call.
-    Ready(u32, Op, bool),
-    /// Whether there is room for a thread's swap of variable 0.
-    ReadyToSwap(u32, bool),
     /// The holder of lock 0, and its depth.
     Holder(Option<ThreadId>, u64),
     /// The locks that thread 0 holds, in the order of their outer acquires.
@@ -22,10 +18,11 @@ pub enum Row {
     Value(VarId, u64),
 }
 
-/// A memory of six locks.
+/// A memory, and what it is to answer.
 pub struct Case {
     pub name: &'static str,
     pub threads: u32,
+    pub locks: u32,
     pub vars: u32,
     pub events: u64,
     pub roots: Roots,
@@ -44,6 +41,7 @@ pub const CASES: &[Case] = &[
     Case {
         name: "a slot is kept for each release",
         threads: 1,
+        locks: 1,
         vars: 1,
         events: 3,
         roots: Roots::OnlyMain,
@@ -59,15 +57,14 @@ pub const CASES: &[Case] = &[
     Case {
         name: "a slot is kept for each depth",
         threads: 1,
+        locks: 1,
         vars: 1,
         events: 4,
         roots: Roots::OnlyMain,
         rows: &[
-            Ready(0, ACQUIRE, false),
             Called(0, ACQUIRE, 0, Ok(0)),
             Called(0, ACQUIRE, 0, Ok(0)),
             Holder(Some(ThreadId(0)), 2),
-            Ready(0, RELEASE, true),
             Called(0, LOAD, 0, Err(Refusal::LogFull)),
             Called(0, ACQUIRE, 0, Err(Refusal::LogFull)),
             Called(0, RELEASE, 0, Ok(0)),
@@ -81,6 +78,7 @@ pub const CASES: &[Case] = &[
     Case {
         name: "an inner release keeps the lock",
         threads: 2,
+        locks: 1,
         vars: 1,
         events: 16,
         roots: Roots::Free,
@@ -98,6 +96,7 @@ pub const CASES: &[Case] = &[
     Case {
         name: "a load reads the last store",
         threads: 2,
+        locks: 1,
         vars: 2,
         events: 8,
         roots: Roots::OnlyMain,
@@ -116,6 +115,7 @@ pub const CASES: &[Case] = &[
     Case {
         name: "the first reason is answered",
         threads: 2,
+        locks: 1,
         vars: 1,
         events: 1,
         roots: Roots::OnlyMain,
@@ -124,7 +124,7 @@ pub const CASES: &[Case] = &[
             Called(0, Op::Fork(ThreadId(0)), 0, Err(Refusal::SelfTarget)),
             Called(0, Op::Join(ThreadId(1)), 0, Err(Refusal::TargetNotStarted)),
             Called(0, Op::Fork(ThreadId(1)), 0, Err(Refusal::LogFull)),
-            Called(0, Op::Acquire(LockId(6)), 0, Err(Refusal::TargetRange)),
+            Called(0, Op::Acquire(LockId(1)), 0, Err(Refusal::TargetRange)),
             Called(0, ACQUIRE, 0, Err(Refusal::LogFull)),
             Called(1, LOAD, 0, Err(Refusal::NotStarted)),
             Called(2, LOAD, 0, Err(Refusal::ThreadRange)),
@@ -133,6 +133,7 @@ pub const CASES: &[Case] = &[
     Case {
         name: "a thread that acted is not forked",
         threads: 2,
+        locks: 1,
         vars: 1,
         events: 16,
         roots: Roots::Free,
@@ -142,8 +143,25 @@ pub const CASES: &[Case] = &[
         ],
     },
     Case {
+        name: "a thread is forked once, and the main thread never",
+        threads: 3,
+        locks: 1,
+        vars: 1,
+        events: 16,
+        roots: Roots::OnlyMain,
+        rows: &[
+            Called(0, Op::Fork(ThreadId(1)), 0, Ok(0)),
+            Called(0, Op::Fork(ThreadId(1)), 0, Err(Refusal::AlreadyStarted)),
+            Called(1, Op::Fork(ThreadId(0)), 0, Err(Refusal::AlreadyStarted)),
+            Called(0, Op::Join(ThreadId(1)), 0, Ok(0)),
+            Called(0, Op::Fork(ThreadId(1)), 0, Err(Refusal::AlreadyStarted)),
+            Called(0, Op::Fork(ThreadId(2)), 0, Ok(0)),
+        ],
+    },
+    Case {
         name: "a joined thread has ended",
         threads: 3,
+        locks: 1,
         vars: 1,
         events: 16,
         roots: Roots::Free,
@@ -160,6 +178,7 @@ pub const CASES: &[Case] = &[
     Case {
         name: "locks are held in the order of outer acquires",
         threads: 1,
+        locks: 6,
         vars: 1,
         events: 64,
         roots: Roots::OnlyMain,
@@ -180,14 +199,13 @@ pub const CASES: &[Case] = &[
     Case {
         name: "a swap needs two slots",
         threads: 2,
+        locks: 1,
         vars: 1,
         events: 5,
         roots: Roots::OnlyMain,
         rows: &[
-            ReadyToSwap(1, false),
             Called(0, Op::Fork(ThreadId(1)), 0, Ok(0)),
             Swapped(1, 4, Ok(0)),
-            ReadyToSwap(1, true),
             Swapped(0, 5, Ok(4)),
             Swapped(0, 6, Err(Refusal::LogFull)),
             Value(VarId(0), 5),
@@ -196,6 +214,7 @@ pub const CASES: &[Case] = &[
     Case {
         name: "a swap that is refused leaves the slot",
         threads: 2,
+        locks: 1,
         vars: 1,
         events: 4,
         roots: Roots::OnlyMain,
