@@ -3,7 +3,8 @@
 //! The set of names is searched by a hash of all the bytes and a comparison of them, through a table of its
 //! own. A name of up to sixteen bytes is told by its length and two words. So here it has a place by its
 //! words, and at each place stands a note of one name: most names are found by one read of memory. Where two
-//! names have one place, the second goes to a place beside it. Of a longer name there is no note.
+//! names have one place, the second goes to a place beside it; where all those are taken, the note of an
+//! earlier name goes. Of a longer name there is no note.
 ghost use Rattle.std.specs.Prelude.{◌≡◌, ◌↔◌, ◌<◌, ◌≤◌, ◌⊎◌, ◌++◌, ◌-◌, List, [], length, take, drop};
 ghost use Rattle.std.specs.Prelude.{IfSome, IsTrue};
 ghost use Rattle.std.specs.Int.{to_le_bytes, w32, w64};
@@ -15,6 +16,9 @@ use std::marker::Model;
 
 /// How many places there are for the first names.
 const FEWEST_PLACES: usize = 256;
+
+/// The most places: so many as a processor's own caches hold.
+const MOST_PLACES: usize = 65536;
 
 /// How many places a name may have, which lie side by side.
 const STEPS: usize = 4;
@@ -229,6 +233,10 @@ impl Notes {
             if note.is_of(words, name.len()) {
                 return Some(note.number);
             }
+            // A note goes to the first empty place, so there is none further on.
+            if note.length == 0 {
+                return None;
+            }
         }
         None
     }
@@ -250,9 +258,9 @@ impl Notes {
         };
     }
 
-    /// Whether there are two places or more for each of so many names.
+    /// Whether there are two places or more for each of so many names, or as many as there may be.
     pub fn have_room(&self, names: usize) -> bool {
-        self.list.len() / 2 >= names
+        self.list.len() >= MOST_PLACES || self.list.len() / 2 >= names
     }
 
     /// Makes two places or more for each of so many names, and forgets what was noted.

@@ -108,6 +108,7 @@ impl Lock {
     }
 
     /// The thread's open section on the lock has such an access.
+    #[inline(always)]
     pub fn note(
         &mut self,
         cells: &mut Cells,

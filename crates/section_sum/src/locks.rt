@@ -133,6 +133,7 @@ pub fn close_under(
 }
 
 /// The sections that such an access meets under the lock.
+#[inline(always)]
 pub fn sources_under(
     cells: &Cells,
     locks: &[Lock],

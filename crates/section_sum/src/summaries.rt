@@ -116,6 +116,7 @@ impl Summaries {
 
     /// The numbers of the sections that an access of the kind meets under the lock: the newest by
     /// another thread with a store, and for a store then also the newest with a load. Takes no memory.
+    #[inline(always)]
     pub fn sources(&self, thread: ThreadId, lock: LockId, var: VarId, kind: AccessKind) -> Sources
         ensures exact { left result ≡ sources_of self.now lock.0 var.0 kind thread.0 }
         ensures at_most { length (left result) ≤ most_sources kind }

@@ -20,7 +20,7 @@ use vector_clocks::Work;
 
 // The thread's strict clock takes what its access meets under the lock, at most two clocks. A clock that
 // counts a release counts all that is below it, so a release that is counted already brings nothing.
-#[inline(never)]
+#[inline(always)]
 fn take_under(
     rows: &mut StrictRows,
     sums: &Summaries,
