@@ -46,6 +46,12 @@ short_is_the_fault r f (inl same) short = same
 short_is_the_fault r f (inr write) short =
     absurd (let bad : false ≡ true = sym (ap is_short write) ∙ short in cc)
 
+pub short_stays : (P : ReplayFault → Type 0) (r f : ReplayFault) → (r ≡ f) ⊎ (r ≡ Write)
+    → (is_short f ≡ true → P f) → is_short r ≡ true → P r
+short_stays P r f is so short =
+    let same = short_is_the_fault r f is short in
+    subst P (sym same) (so (sym (ap is_short same) ∙ short))
+
 pub never_short : {A : Type 0} (answer : Result A ReplayFault) (P : ReplayFault → Type 0)
     → IfErr answer (λ f. is_short f ≡ false) → IfErr answer (λ f. is_short f ≡ true → P f)
 never_short (Ok a) P whole = tt

@@ -44,15 +44,6 @@ many_bytes (Some text) (Some rest) bytes turns came many =
     let parts = length-append bytes rest in
     omega arith
 
-pub short_text : (left rest : Option (List ℕ)) (turns : ℕ) (failed : Bool) (So : List ℕ → Type 0)
-    → Pulled left rest turns (λ bytes. So bytes × ((failed ≡ true) ⊎ (turns ≤ length bytes)))
-    → (failed ≡ true) ⊎ IfSome left (λ text. turns ≤ length text)
-short_text left rest turns failed So p = go p.so.1
-  where
-    go : (failed ≡ true) ⊎ (turns ≤ length p.bytes) → (failed ≡ true) ⊎ IfSome left (λ text. turns ≤ length text)
-    go (inl bad) = inl bad
-    go (inr many) = inr (many_bytes left rest p.bytes turns p.came many)
-
 -- ---- what was fed
 
 module _ (m : Limits) (A : Limits → List Event → Type 0) (left rest : Option (List ℕ)) (turns : ℕ)
@@ -117,20 +108,20 @@ module _ (m : Limits) (A : Limits → List Event → Type 0) (left rest : Option
       go (Some f) bytes came stops = found_fault f bytes came stops
   fault_is_found B t fed.Cut before now none other whole stopped = absurd (other refl)
 
-  pub never_short : (B : Limits → List Event → Type 0) (t : Cutting) (P : Type 0) (r : Fed)
+  pub never_short : (B : Limits → List Event → Type 0) (t : Cutting) (P : ReplayFault → Type 0) (r : Fed)
       (before now : Option ReplayFault) → turns ≤ 17592186044416 → before ≡ None → (r ≡ fed.Cut → ⊥)
       → (r ≡ fed.Whole → Whole left rest turns (λ bytes. before ≡ None → (now ≡ None) × Takes A B s bytes [] t))
       → (r ≡ fed.Stopped → Pulled left rest turns (λ bytes. before ≡ None → IsSomeAnd now (Stops A s bytes)))
-      → IfSome now (λ f. is_short f ≡ true → P)
+      → IfSome now (λ f. is_short f ≡ true → P f)
   never_short B t P fed.Whole before now few none other whole stopped =
       let w = whole refl in
-      subst (λ (o : Option ReplayFault). IfSome o (λ f. is_short f ≡ true → P)) (sym (w.pulled.so none).0) tt
+      subst (λ (o : Option ReplayFault). IfSome o (λ f. is_short f ≡ true → P f)) (sym (w.pulled.so none).0) tt
   never_short B t P fed.Stopped before now few none other whole stopped =
       let p = stopped refl in
       go now p.bytes p.few (p.so none)
     where
       go : (o : Option ReplayFault) (bytes : List ℕ) → length bytes ≤ 65536 * turns
-          → IsSomeAnd o (Stops A s bytes) → IfSome o (λ f. is_short f ≡ true → P)
+          → IsSomeAnd o (Stops A s bytes) → IfSome o (λ f. is_short f ≡ true → P f)
       go None bytes within stops = absurd stops
       go (Some f) bytes within stops = λ short.
           let many = stops.read short in
@@ -153,9 +144,10 @@ trace_is_found m left B C s names f ends =
       finds = f.same ∙ e.finds;
     }
 
-pub stood_short : {P : Type 0} (o : Option ReplayFault) (f : ReplayFault)
-    → IfSome o (λ g. is_short g ≡ true → P) → o ≡ Some f → is_short f ≡ true → P
-stood_short {P} o f h is short = subst (λ (x : Option ReplayFault). IfSome x (λ g. is_short g ≡ true → P)) is h short
+pub stood_short : (P : ReplayFault → Type 0) (o : Option ReplayFault) (f : ReplayFault)
+    → IfSome o (λ g. is_short g ≡ true → P g) → o ≡ Some f → is_short f ≡ true → P f
+stood_short P o f h is short =
+    subst (λ (x : Option ReplayFault). IfSome x (λ g. is_short g ≡ true → P g)) is h short
 
 -- the fault that stood, or the one at the end
 pub end_is_found : (m : Limits) (left : Option (List ℕ)) (B : List Event → Type 0) (s : Cutting)

@@ -1,9 +1,11 @@
 -- Pieces of a text, one after another, are one piece.
 use Rattle.std.proofs.Common.{◌≡◌, ℕ, ◌+◌, ◌<◌, List, [], ◌++◌, Option, Some, None, length, refl, sym, ap, subst, ◌∙◌}
-use Rattle.std.proofs.Common.{append_assoc, length-append, add_assoc, add-zero}
+use Rattle.std.proofs.Common.{append_assoc, length-append, add_assoc, add-zero, arith}
 use Rattle.std.specs.Prelude.{IsSomeAnd}
 use Rattle.event_core.specs.declared.bounds.Limits.{Limits}
 use Rattle.event_core.specs.declared.events.Event.{Event}
+use Rattle.rapid_line.specs.Cut.{count}
+use Rattle.rapid_line.proofs.Cuts.{count-append}
 use Rattle.rapid_text.specs.Cutting.{Cutting, judged, most}
 use Rattle.trace_report.specs.declared.faults.ReplayFault.{ReplayFault}
 use Rattle.trace_report.specs.Findings.{finding_after}
@@ -14,6 +16,7 @@ pub takes_none : (A : Limits → List Event → Type 0) (s : Cutting) (bytes : L
 takes_none A s bytes live = record {
   live = live;
   taken = refl;
+  lines = refl;
   goes_on = λ m log a. record { longer = log; after = a; named = λ h. h; same = λ more. refl };
 }
 
@@ -22,6 +25,7 @@ pub takes_more : (A B C : Limits → List Event → Type 0) (s t u : Cutting) (b
 takes_more A B C s t u bytes rest left p q = record {
   live = q.live;
   taken = q.taken ∙ p.taken;
+  lines = q.lines ∙ p.lines;
   goes_on = λ m log a.
       let front = p.goes_on m log a in
       let back = q.goes_on m front.longer front.after in
@@ -43,6 +47,9 @@ fed_before A B s t front rest p = record {
       ∙ sym (add_assoc s.taken (length front) (length rest))
       ∙ ap (λ (n : ℕ). n + length rest) (sym p.taken ∙ add-zero t.taken) in
       sym same;
+  lines = let before : t.unfinished + 0 ≡ s.unfinished + count 10 front = p.lines in
+      let both = count-append 10 front rest in
+      omega arith;
   goes_on = λ m log a.
       let on = p.goes_on m log a in
       record {

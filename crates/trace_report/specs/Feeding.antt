@@ -6,6 +6,7 @@ use Rattle.std.specs.Prelude.{
   ℕ,
   ◌+◌,
   ◌<◌,
+  ◌≤◌,
   ◌⊎◌,
   List,
   [],
@@ -19,19 +20,22 @@ use Rattle.std.specs.Prelude.{
   Ok,
   Err,
   length,
+  IfErr,
   IfSome,
 }
+use Rattle.std.specs.Io.KnownBytes.{Consumes}
 use Rattle.event_core.specs.declared.bounds.Limits.{Limits}
 use Rattle.event_core.specs.declared.events.Event.{Event}
 use Rattle.event_core.specs.declared.replies.Refusal.{Refusal}
 use Rattle.event_core.specs.declared.replies.Refusal.TheVariants.{OutOfMemory}
 use Rattle.event_core.specs.Refusal.{refusal}
+use Rattle.rapid_line.specs.Cut.{count}
 use Rattle.rapid_text.specs.declared.causes.Cause.{Cause}
 use Rattle.rapid_text.specs.declared.causes.Cause.TheVariants.{Read}
 use Rattle.rapid_text.specs.Cutting.{Cutting, judged, most}
 use Rattle.rapid_text.specs.Tables.{Tables}
 use Rattle.trace_report.specs.declared.faults.ReplayFault.{ReplayFault}
-use Rattle.trace_report.specs.declared.faults.ReplayFault.TheVariants.{Text, Write}
+use Rattle.trace_report.specs.declared.faults.ReplayFault.TheVariants.{Text, Refused, Write}
 use Rattle.trace_report.specs.Findings.{call_of, finding, finding_after}
 use Rattle.trace_report.specs.Replayed.{gives_up}
 use Rattle.trace_report.specs.Reports.{AreNamed}
@@ -66,6 +70,8 @@ pub record Takes (Before After : Limits → List Event → Type 0) (old : Cuttin
     (new : Cutting) : Type 0 where
   pub live : new.failed ≡ None
   pub taken : new.taken + length rest ≡ old.taken + length bytes
+  -- each LF that was taken ends a line
+  pub lines : new.unfinished + count 10 rest ≡ old.unfinished + count 10 bytes
   pub goes_on : (m : Limits) (log : List Event) → Before m log → GoesOn m (After m) old log bytes rest new
 
 -- the text comes to this fault, whatever follows the bytes
@@ -112,3 +118,19 @@ pub record FindsFault (m : Limits) (left : Option (List ℕ)) (f : ReplayFault) 
   pub text : List ℕ
   pub is_left : IfSome left (λ whole. text ≡ whole)
   pub finds : finding m text ≡ Err f
+
+-- ---- a text that was not read to its end
+
+-- the fault is at line n or at a later one
+abbrev pub IsFrom : ℕ → ReplayFault → Type 0
+IsFrom n (Text f) = n ≤ f.line
+IsFrom n (Refused line r) = n ≤ line
+IsFrom n Write = ⊥
+
+-- the reading stopped after these bytes: the fault is at the line whose end was not seen, and whatever follows,
+-- no line before it has a fault or an event that is refused
+pub record IsCutAt (m : Limits) (left rest : Option (List ℕ)) (f : ReplayFault) : Type 0 where
+  pub came : List ℕ
+  pub bytes : Consumes left rest came
+  pub at : f ≡ Text (record { line = 1 + count 10 came; cause = Read })
+  pub before : (more : List ℕ) → IfErr (finding m (came ++ more)) (IsFrom (1 + count 10 came))

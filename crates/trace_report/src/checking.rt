@@ -2,7 +2,7 @@
 ghost use Rattle.std.specs.Prelude.{◌≡◌, ◌≢◌, ◌≤◌, ◌⊎◌, Err, true, false, length, OnOk, IfErr, IfSome};
 ghost use Rattle.std.specs.Io.KnownBytes.{Appends};
 ghost use Rattle.trace_report.specs.Replayed.{answer_gives_up};
-ghost use Rattle.trace_report.specs.Feeding.{is_short};
+ghost use Rattle.trace_report.specs.Feeding.{IsCutAt, is_short};
 ghost use Rattle.trace_report.specs.Checked.{answer_for, told, checked as line_for};
 
 use crate::counts::Counts;
@@ -45,6 +45,9 @@ pub fn check<I: Input, O: Output>(
     // The text was not read to its end only where a read failed, or there were no more reads than bytes.
     ensures read { IfErr result (λ f. is_short f ≡ true
         → (I.failed reader.new ≡ true) ⊎ IfSome (I.left reader.old) (λ text. turns ≤ length text)) }
+    // A read fault is at the line whose end was not seen, and no line before has a fault or a refused event.
+    ensures cut { IfErr result (λ f. is_short f ≡ true
+        → IsCutAt limits (I.left reader.old) (I.left reader.new) f) }
     // No failure of the reader is passed over where there are counts.
     ensures read_whole { OnOk result (I.failed reader.new ≡ false) }
     // It is a fault of the writer exactly where the writer failed or took no byte.

@@ -97,8 +97,11 @@ impl Replayer {
     {
         let mut text = self.text;
         if let Err(fault) = text.end() {
+            drop(text);
             return Err(tell_failure(writer, fault));
         }
-        tell_trace(writer, &text.judge, text.cutter.names())
+        let answer = tell_trace(writer, &text.judge, text.cutter.names());
+        drop(text);
+        answer
     }
 }

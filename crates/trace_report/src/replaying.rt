@@ -1,7 +1,7 @@
 //! The replay of a trace, from the bytes of a reader to its report.
 ghost use Rattle.std.specs.Prelude.{◌≡◌, ◌≢◌, ◌⊎◌, ◌≤◌, Err, true, false, IfErr, IfSome, OnOk, length};
 ghost use Rattle.trace_report.specs.Replayed.{answer_gives_up, TellsText};
-ghost use Rattle.trace_report.specs.Feeding.{is_short};
+ghost use Rattle.trace_report.specs.Feeding.{IsCutAt, is_short};
 
 use crate::faults::ReplayFault;
 use crate::summary::Summary;
@@ -35,6 +35,9 @@ pub fn replay<I: Input, O: Output>(
     // It is a read fault only where a read failed, or the text has as many bytes as there are turns.
     ensures short { IfErr result (λ f. is_short f ≡ true
         → (I.failed reader.new ≡ true) ⊎ IfSome (I.left reader.old) (λ text. turns ≤ length text)) }
+    // A read fault is at the line whose end was not seen, and no line before has a fault or a refused event.
+    ensures cut { IfErr result (λ f. is_short f ≡ true
+        → IsCutAt limits (I.left reader.old) (I.left reader.new) f) }
     ensures read_whole { OnOk result (I.failed reader.new ≡ false) }
     // It is a fault of the writer exactly where the writer failed or took no byte.
     ensures write_fault { result ≡ Err ReplayFault.Write → O.failed writer.new ≡ true }
@@ -50,5 +53,7 @@ pub fn replay<I: Input, O: Output>(
         Ok(text) => text,
         Err(fault) => return Err(tell_failure(writer, fault)),
     };
-    tell_trace(writer, &text.judge, text.cutter.names())
+    let answer = tell_trace(writer, &text.judge, text.cutter.names());
+    drop(text);
+    answer
 }

@@ -1,7 +1,7 @@
 //! A text that is judged whole, from an input.
 ghost use Rattle.std.specs.Prelude.{◌≡◌, ◌≢◌, ◌⊎◌, ◌≤◌, [], Err, None, true, false, IfErr, IfOk, IfSome, OnOk, length};
 ghost use Rattle.trace_report.specs.Replayed.{gives_up};
-ghost use Rattle.trace_report.specs.Feeding.{IsFed, FindsTrace, FindsFault, is_short};
+ghost use Rattle.trace_report.specs.Feeding.{IsFed, FindsTrace, FindsFault, IsCutAt, is_short};
 
 use crate::faults::ReplayFault;
 use crate::judge::Judge;
@@ -26,6 +26,8 @@ fn read_text<I: Input, J: Judge>(
     ensures fault { IfSome result.fault (λ f. gives_up f ≡ false → FindsFault limits (I.left reader.old) f) }
     ensures short { IfSome result.fault (λ f. is_short f ≡ true
         → (I.failed reader.new ≡ true) ⊎ IfSome (I.left reader.old) (λ text. turns ≤ length text)) }
+    ensures cut { IfSome result.fault (λ f. is_short f ≡ true
+        → IsCutAt limits (I.left reader.old) (I.left reader.new) f) }
     ensures healthy { result.fault ≡ None → I.failed reader.new ≡ I.failed reader.old }
 {
     let mut text = JudgedText::new(alloc, limits, judge);
@@ -54,6 +56,9 @@ pub fn judge_text<I: Input, J: Judge + Drop>(
     // It is a read fault only where a read failed, or the text has as many bytes as there are turns.
     ensures short { IfErr result (λ f. is_short f ≡ true
         → (I.failed reader.new ≡ true) ⊎ IfSome (I.left reader.old) (λ text. turns ≤ length text)) }
+    // A read fault is at the line whose end was not seen, and no line before has a fault or a refused event.
+    ensures cut { IfErr result (λ f. is_short f ≡ true
+        → IsCutAt limits (I.left reader.old) (I.left reader.new) f) }
     ensures healthy { OnOk result (I.failed reader.new ≡ I.failed reader.old) }
     ensures unwritten { result ≢ Err ReplayFault.Write }
 {

@@ -1,7 +1,8 @@
 use Rattle.std.proofs.Common.{Ok, ap, ◌∙◌}
 use Rattle.rapid_text.specs.Tables.{Tables}
 use Rattle.trace_report.specs.Checked.{counts_of}
-use Rattle.trace_report.proofs.TellingLaws.{trace_counts, line_is_for}
+use Rattle.trace_report.specs.Feeding.{IsCutAt}
+use Rattle.trace_report.proofs.TellingLaws.{trace_counts, line_is_for, short_stays}
 use Rattle.trace_report.proofs.checking.check.Goals as goal
 
 pub returns-in-Ok-write-clause-finds : goal.returns-in-Ok-write-clause-finds
@@ -23,3 +24,8 @@ returns-in-Ok-write-clause-checks g c _ =
 
 pub returns-in-Ok-write-clause-tells : goal.returns-in-Ok-write-clause-tells
 returns-in-Ok-write-clause-tells g c _ = c.in-Ok-write.ensures.ok
+
+pub returns-in-Err-clause-cut : goal.returns-in-Err-clause-cut
+returns-in-Err-clause-cut g c =
+    short_stays (IsCutAt c.args.limits (g.I.Input.left c.args.reader.now) (g.I.Input.left c.judge_text.new.reader))
+    c.tell_failure.result c.in-Err.fault c.tell_failure.ensures.is c.in-Err.ensures.cut

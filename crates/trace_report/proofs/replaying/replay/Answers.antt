@@ -1,12 +1,13 @@
 use Rattle.std.proofs.Common.{◌≡◌, List, sym, subst, ◌∙◌}
 use Rattle.event_core.specs.declared.events.Event.{Event}
 use Rattle.rapid_text.specs.Tables.{Tables}
+use Rattle.trace_report.specs.Feeding.{IsCutAt}
 use Rattle.trace_report.specs.Reports.{AreNamed}
-use Rattle.trace_report.proofs.TellingLaws.{trace_tells, never_short}
+use Rattle.trace_report.proofs.TellingLaws.{trace_tells, never_short, short_stays}
 use Rattle.trace_report.proofs.replaying.replay.Goals as goal
 
-pub tell_trace-requires : goal.tell_trace-requires
-tell_trace-requires g c =
+pub tell_trace-answer-requires : goal.tell_trace-answer-requires
+tell_trace-answer-requires g c =
     let text = c.in-Ok-judge_text.text in
     let found = c.in-Ok-judge_text.ensures.trace in
     record {
@@ -19,16 +20,24 @@ returns-clause-tells g c gives =
     let text = c.in-Ok-judge_text.text in
     let written = g.O.Output.written in
     trace_tells c.args.limits (g.I.Input.left c.args.reader.now) (written c.args.writer.now)
-    (written c.tell_trace.new.writer)
+    (written c.tell_trace-answer.new.writer)
     (λ (log : List Event). (text.judge.limits ≡ c.args.limits) × (text.judge.log ≡ log)) text.cutter.names
-    c.names.result.now text.judge.log c.tell_trace.result c.in-Ok-judge_text.ensures.trace (λ log a. a.1)
-    c.names.ensures (c.tell_trace.ensures.tells gives)
+    c.names.result.now text.judge.log c.tell_trace-answer.result c.in-Ok-judge_text.ensures.trace (λ log a. a.1)
+    c.names.ensures (c.tell_trace-answer.ensures.tells gives)
 
 pub returns-clause-quiet : goal.returns-clause-quiet
-returns-clause-quiet g c gives other = absurd (other (c.tell_trace.ensures.only gives))
+returns-clause-quiet g c gives other = absurd (other (c.tell_trace-answer.ensures.only gives))
 
 pub returns-clause-short : goal.returns-clause-short
-returns-clause-short g c = never_short c.tell_trace.result (λ _. _) c.tell_trace.ensures.whole
+returns-clause-short g c = never_short c.tell_trace-answer.result (λ _. _) c.tell_trace-answer.ensures.whole
 
 pub returns-clause-written : goal.returns-clause-written
-returns-clause-written g c other = c.tell_trace.ensures.healthy other ∙ c.requires.writes
+returns-clause-written g c other = c.tell_trace-answer.ensures.healthy other ∙ c.requires.writes
+
+pub returns-in-Err-clause-cut : goal.returns-in-Err-clause-cut
+returns-in-Err-clause-cut g c =
+    short_stays (IsCutAt c.args.limits (g.I.Input.left c.args.reader.now) (g.I.Input.left c.judge_text.new.reader))
+    c.tell_failure.result c.in-Err.fault c.tell_failure.ensures.is c.in-Err.ensures.cut
+
+pub returns-clause-cut : goal.returns-clause-cut
+returns-clause-cut g c = never_short c.tell_trace-answer.result (λ _. _) c.tell_trace-answer.ensures.whole

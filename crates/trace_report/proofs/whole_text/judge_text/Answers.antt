@@ -1,4 +1,5 @@
 use Rattle.trace_report.proofs.Whole.{trace_is_found, end_is_found, stood_short}
+use Rattle.trace_report.specs.Feeding.{IsCutAt}
 use Rattle.trace_report.proofs.whole_text.judge_text.Goals as goal
 
 pub returns-in-Err-clause-fault : goal.returns-in-Err-clause-fault
@@ -11,8 +12,13 @@ returns-in-Err-clause-fault g c gives =
 
 pub returns-in-Err-clause-short : goal.returns-in-Err-clause-short
 returns-in-Err-clause-short g c short =
-    stood_short c.read_text-text.result.fault c.in-Err.fault c.read_text-text.ensures.short
+    stood_short _ c.read_text-text.result.fault c.in-Err.fault c.read_text-text.ensures.short
     (c.in-Err.ensures.whole short) short
+
+pub returns-in-Err-clause-cut : goal.returns-in-Err-clause-cut
+returns-in-Err-clause-cut g c short =
+    stood_short (IsCutAt c.args.limits (g.I.Input.left c.args.reader.now) (g.I.Input.left c.read_text-text.new.reader))
+    c.read_text-text.result.fault c.in-Err.fault c.read_text-text.ensures.cut (c.in-Err.ensures.whole short) short
 
 pub returns-clause-trace : goal.returns-clause-trace
 returns-clause-trace g c =

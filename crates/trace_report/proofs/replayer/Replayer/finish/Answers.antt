@@ -57,8 +57,8 @@ pub returns-in-Err-clause-failed : goal.returns-in-Err-clause-failed
 returns-in-Err-clause-failed g c e =
     c.tell_failure.ensures.failed (same_fault c.tell_failure.result Write e)
 
-pub tell_trace-requires : goal.tell_trace-requires
-tell_trace-requires g c =
+pub tell_trace-answer-requires : goal.tell_trace-answer-requires
+tell_trace-answer-requires g c =
     let text = c.self.inside.text in
     let ends = c.in_default.ensures.ok text.judge.limits text.judge.log (refl, refl) in
     let log = c.end.new.self.judge.log in
@@ -74,23 +74,23 @@ returns-clause-tells g c gives =
     let written = g.W.Output.written in
     let ends = c.in_default.ensures.ok text.judge.limits text.judge.log (refl, refl) in
     let told = λ (found : Result Trace ReplayFault).
-    Told (written c.args.writer.now) (written c.tell_trace.new.writer) found c.tell_trace.result in
+    Told (written c.args.writer.now) (written c.tell_trace-answer.new.writer) found c.tell_trace-answer.result in
     subst (λ (r : Replaying). told (after r [])) c.self.view_is
     (subst told
     (ap₂ (λ (t : Tables) (l : List Event). Ok (record { names = t; log = l })) c.names.ensures ends.after.1
     ∙ sym ends.finds
     ∙ sym (ended_trace text.fault (finding_after text.judge.limits text.judge.log (judged text.cutter []))
     c.in_default.ensures.stands))
-    (c.tell_trace.ensures.tells gives))
+    (c.tell_trace-answer.ensures.tells gives))
 
 pub returns-clause-quiet : goal.returns-clause-quiet
-returns-clause-quiet g c gives other = absurd (other (c.tell_trace.ensures.only gives))
+returns-clause-quiet g c gives other = absurd (other (c.tell_trace-answer.ensures.only gives))
 
 pub returns-clause-read : goal.returns-clause-read
 returns-clause-read g c =
-    never_short c.tell_trace.result (λ f. c.args.self.fault ≡ Some f) c.tell_trace.ensures.whole
+    never_short c.tell_trace-answer.result (λ f. c.args.self.fault ≡ Some f) c.tell_trace-answer.ensures.whole
 
 pub returns-clause-ok : goal.returns-clause-ok
 returns-clause-ok g c =
-    on_any c.tell_trace.result
+    on_any c.tell_trace-answer.result
     (ap (λ (r : Replaying). r.fault) (sym c.self.view_is) ∙ c.in_default.ensures.stands)
