@@ -1,10 +1,21 @@
 //! The words of causes.
 use script_text::ScriptCause;
 
+const WORDS: &[(ScriptCause, &str)] = &[
+    (ScriptCause::LineTooLong, "LineTooLong"),
+    (ScriptCause::BadLine, "BadLine"),
+    (ScriptCause::BadNumber, "BadNumber"),
+    (ScriptCause::TooManyNames, "TooManyNames"),
+    (ScriptCause::BadFork, "BadFork"),
+    (ScriptCause::BadJoin, "BadJoin"),
+    (ScriptCause::NoFork, "NoFork"),
+    (ScriptCause::Read, "Read"),
+    (ScriptCause::OutOfMemory, "OutOfMemory"),
+];
+
 #[test]
 fn causes_have_their_names(rt: HostRuntime) {
-    assert!(rt; ScriptCause::LineTooLong.word() == "LineTooLong");
-    assert!(rt; ScriptCause::NoFork.word() == "NoFork");
-    assert!(rt; ScriptCause::Read.word() == "Read");
-    assert!(rt; ScriptCause::OutOfMemory.word() == "OutOfMemory");
+    for (cause, word) in WORDS {
+        assert!(rt; cause.word() == *word);
+    }
 }

@@ -29,6 +29,8 @@ const FAULTS: &[Faulty] = &[
     ("m r x|y", 1, ScriptCause::BadLine),
     ("m begin x", 1, ScriptCause::BadLine),
     ("m fork a\nm fork b\nm fork c", 3, ScriptCause::TooManyNames),
+    ("m acq a\nm rel b\nm acq c", 3, ScriptCause::TooManyNames),
+    ("m r a\nm w b 1\nm swap c 1", 3, ScriptCause::TooManyNames),
 ];
 
 /// A failed read is told where it failed. Whole lines that came before the failure are judged first. The
