@@ -1,16 +1,19 @@
 -- Why there is no script.
-use Rattle.std.proofs.Common.{◌≡◌, ℕ, ◌++◌, List, [], Option, Some, None, Ok, ap, ◌∙◌, sym, subst, inl, inr}
-use Rattle.std.proofs.Common.{Bool}
-use Rattle.std.specs.Prelude.{IfSome, Result}
+use Rattle.std.proofs.Common.{◌≡◌, ◌≢◌, ℕ, ◌≤◌, ◌++◌, List, [], Option, Some, None, Ok, ap, ◌∙◌, sym, subst}
+use Rattle.std.proofs.Common.{Bool, true, ◌⊎◌, inl, inr, refl, arith, length, append-nil}
+use Rattle.std.specs.Prelude.{IfSome, IsSomeAnd}
 use Rattle.std.specs.Io.KnownBytes.{Consumes, IsAtEnd}
 use Rattle.event_core.specs.Bounds.{Bounds}
-use Rattle.rapid_text.specs.Texts.{lines_of}
+use Rattle.rapid_line.specs.Cut.{Lacks, after_last}
+use Rattle.rapid_line.specs.Lines.{lines_of}
+use Rattle.rapid_line.proofs.Cuts.{after_last-Lacks}
+use Rattle.rapid_text.specs.Feeding.{Pulled, Whole}
 use Rattle.script_text.specs.declared.causes.ScriptCause.{ScriptCause}
 use Rattle.script_text.specs.declared.causes.ScriptCause.TheVariants as causes
 use Rattle.script_text.specs.declared.causes.ScriptFault.{ScriptFault}
 use Rattle.script_text.specs.Scripts.{Parsed, IsDraft, begun, script_of}
-use Rattle.script_text.specs.Readings.{Progress, unread, judged, StopsAs, ReadsAll, StopsReading, EndStops}
-use Rattle.script_text.specs.Readings.{Incomplete, IsFault}
+use Rattle.script_text.specs.Readings.{Progress, unread, judged, Takes, Stops, EndStops, is_of_line}
+use Rattle.script_text.specs.Readings.{HasFault, HasNoneBefore, Incomplete, IsFault}
 use Rattle.script_text.proofs.Steps.{judge_from}
 use Rattle.script_text.proofs.Legal.{draft_judged, draft_begun}
 
@@ -18,97 +21,110 @@ some_map : {A : Type 0} {P Q : A → Type 0} (o : Option A) → ((x : A) → P x
 some_map None f h = tt
 some_map (Some x) f h = f x h
 
-always : {A : Type 0} {P : A → Type 0} (o : Option A) → ((x : A) → P x) → IfSome o P
-always None h = tt
-always (Some x) h = h x
+-- what is so however the text goes on after what came, is so of the text that was left
+known : (P : List ℕ → Type 0) (left rest : Option (List ℕ)) (came : List ℕ) → Consumes left rest came
+    → ((more : List ℕ) → P (came ++ more)) → IfSome left P
+known P None rest came c h = tt
+known P (Some xs) None came c h = absurd c
+known P (Some xs) (Some ys) came c h = subst P (sym c) (h ys)
 
--- the text is one of those that stop
-abbrev IsOneOf : Bounds → (List ℕ → Result Parsed ScriptFault) → List ℕ → Type 0
-IsOneOf limits texts text = (more : List ℕ) × (script_of limits text ≡ texts more)
+-- and where the text ended, what is so of what came
+known_whole : (P : List ℕ → Type 0) (left rest : Option (List ℕ)) (came : List ℕ) → Consumes left rest came
+    → IsAtEnd rest → P (came ++ []) → IfSome left P
+known_whole P None rest came c end h = tt
+known_whole P (Some xs) None came c end h = absurd c
+known_whole P (Some xs) (Some ys) came c end h =
+    subst P (sym (c ∙ ap (λ (t : List ℕ). came ++ t) end)) h
 
-fault_as : (k : ScriptCause) (f : ScriptFault) (limits : Bounds) (left rest : Option (List ℕ)) (turns : ℕ)
-    (failed : Bool) (texts : List ℕ → Result Parsed ScriptFault) → StopsAs k f texts
-    → IfSome left (IsOneOf limits texts) → IsFault limits left rest turns failed f k
-fault_as causes.OutOfMemory f limits left rest turns failed texts h known =
-    some_map left (λ text s g e. h s.0 g (sym s.1 ∙ e)) known
-fault_as causes.NoFork f limits left rest turns failed texts h known = absurd h
-fault_as causes.Read f limits left rest turns failed texts h known = absurd h
-fault_as causes.LineTooLong f limits left rest turns failed texts h known =
-    some_map left (λ text s. s.1 ∙ h s.0) known
-fault_as causes.BadLine f limits left rest turns failed texts h known =
-    some_map left (λ text s. s.1 ∙ h s.0) known
-fault_as causes.BadNumber f limits left rest turns failed texts h known =
-    some_map left (λ text s. s.1 ∙ h s.0) known
-fault_as causes.TooManyNames f limits left rest turns failed texts h known =
-    some_map left (λ text s. s.1 ∙ h s.0) known
-fault_as causes.BadFork f limits left rest turns failed texts h known =
-    some_map left (λ text s. s.1 ∙ h s.0) known
-fault_as causes.BadJoin f limits left rest turns failed texts h known =
-    some_map left (λ text s. s.1 ∙ h s.0) known
+module _ (limits : Bounds) (left rest : Option (List ℕ)) (turns : ℕ) (failed : Bool) where
+  fault_as : (k : ScriptCause) (f : ScriptFault) → (is_of_line k ≡ true → HasFault limits left f)
+      → HasNoneBefore limits left f.line → k ≢ causes.Read → k ≢ causes.NoFork
+      → IsFault limits left rest turns failed f k
+  fault_as causes.OutOfMemory f finds first read judged = first
+  fault_as causes.NoFork f finds first read judged = absurd (judged refl)
+  fault_as causes.Read f finds first read judged = absurd (read refl)
+  fault_as causes.LineTooLong f finds first read judged = finds refl
+  fault_as causes.BadLine f finds first read judged = finds refl
+  fault_as causes.BadNumber f finds first read judged = finds refl
+  fault_as causes.TooManyNames f finds first read judged = finds refl
+  fault_as causes.BadFork f finds first read judged = finds refl
+  fault_as causes.BadJoin f finds first read judged = finds refl
 
--- what is left goes on with what came
-goes_on : (limits : Bounds) (left rest : Option (List ℕ)) (came : List ℕ) → Consumes left rest came
-    → IfSome left (IsOneOf limits (λ more. judged (unread limits) (came ++ more)))
-goes_on limits None rest came h = tt
-goes_on limits (Some xs) None came h = absurd h
-goes_on limits (Some xs) (Some ys) came h = (ys, ap (λ (t : List ℕ). script_of limits t) h)
+  -- memory ran out before the first line
+  pub memory_fault : (f : ScriptFault) → f ≡ record { line = 1; cause = causes.OutOfMemory }
+      → IsFault limits left rest turns failed f f.cause
+  memory_fault f e =
+      let first : ScriptFault = record { line = 1; cause = causes.OutOfMemory } in
+      let here : IsFault limits left rest turns failed first first.cause =
+      always left (λ text g d. judge_from (begun limits) 1 (lines_of text) g d) in
+      subst (λ (g : ScriptFault). IsFault limits left rest turns failed g g.cause) (sym e) here
+    where
+      always : {P : List ℕ → Type 0} (o : Option (List ℕ)) → ((text : List ℕ) → P text) → IfSome o P
+      always None h = tt
+      always (Some x) h = h x
 
--- what came is all
-is_all : (limits : Bounds) (left rest : Option (List ℕ)) (came : List ℕ) (r : Result Parsed ScriptFault)
-    → Consumes left rest came → IsAtEnd rest → judged (unread limits) (came ++ []) ≡ r
-    → IfSome left (λ text. script_of limits text ≡ r)
-is_all limits None rest came r h end e = tt
-is_all limits (Some xs) None came r h end e = absurd h
-is_all limits (Some xs) (Some ys) came r h end e =
-    ap (λ (t : List ℕ). script_of limits t) (h ∙ ap (λ (t : List ℕ). came ++ t) end) ∙ e
+  -- all lines were judged, but there is no script
+  pub incomplete_fault : (s : Parsed) (f : ScriptFault) → IfSome left (λ text. script_of limits text ≡ Ok s)
+      → Incomplete s.lines f → IsFault limits left rest turns failed f f.cause
+  incomplete_fault s f all (inl h) = memory_fault f h
+  incomplete_fault s f all (inr h) =
+      let here : IsFault limits left rest turns failed f causes.NoFork =
+      some_map left (λ text e. record { parsed = s; judged = e; first = h.1 }) all in
+      subst (λ (k : ScriptCause). IsFault limits left rest turns failed f k) (sym h.0) here
 
--- a read failed, or the text stopped before its end
-pub reading_fault : (limits : Bounds) (left rest : Option (List ℕ)) (turns : ℕ) (failed : Bool)
-    (f : ScriptFault)
-    → StopsReading (unread limits) left rest turns failed f → IsFault limits left rest turns failed f f.cause
-reading_fault limits left rest turns failed f (inl h) =
-    subst (λ (k : ScriptCause). IsFault limits left rest turns failed f k) (sym h.0) h.1
-reading_fault limits left rest turns failed f (inr h) =
-    fault_as f.cause f limits left rest turns failed (λ more. judged (unread limits) (h.came ++ more)) h.stops
-    (goes_on limits left rest h.came h.bytes)
+  -- ---- a text that was pulled
 
--- the text stopped at its end
-pub end_fault : (limits : Bounds) (left rest : Option (List ℕ)) (turns : ℕ) (failed : Bool) (now : Progress)
-    (f : ScriptFault) → ReadsAll (unread limits) left now rest → EndStops now f
-    → IsFault limits left rest turns failed f f.cause
-end_fault limits left rest turns failed now f h stops =
-    fault_as f.cause f limits left rest turns failed (λ more. judged now []) stops
-    (some_map left (λ text e. ([], e))
-    (is_all limits left rest h.came (judged now []) h.bytes h.ended (h.taken [])))
+  module _ (start : Progress) (is : start ≡ unread limits) where
+    pub stopped_fault : (o : Option ScriptFault) (f : ScriptFault) → turns ≤ 17592186044416
+        → Pulled left rest turns (λ bytes. IsSomeAnd o (Stops start bytes)) → o ≡ Some f
+        → IsFault limits left rest turns failed f f.cause
+    stopped_fault o f few p some =
+        let stops = subst (λ (q : Progress). Stops q p.bytes f) is
+        (subst (λ (x : Option ScriptFault). IsSomeAnd x (Stops start p.bytes)) some p.so) in
+        fault_as f.cause f (λ own. known _ left rest p.bytes p.came (stops.at.finds own))
+        (known _ left rest p.bytes p.came stops.at.first)
+        (λ e. let many = stops.read e in absurd (omega (arith, many, p.few, few))) stops.at.judged
 
-pub all_read : (limits : Bounds) (left rest : Option (List ℕ)) (now : Progress) (s : Parsed)
-    → ReadsAll (unread limits) left now rest → judged now [] ≡ Ok s
-    → IfSome left (λ text. script_of limits text ≡ Ok s)
-all_read limits left rest now s h e = is_all limits left rest h.came (Ok s) h.bytes h.ended (h.taken [] ∙ e)
+    module _ (now : Progress) where
+      abbrev IsRead : List ℕ → Type 0
+      IsRead bytes = Takes start bytes [] now
 
-pub all_draft : (limits : Bounds) (left rest : Option (List ℕ)) (now : Progress) (s : Parsed)
-    → ReadsAll (unread limits) left now rest → judged now [] ≡ Ok s → IsDraft s
-all_draft limits left rest now s h e =
-    draft_judged (begun limits) 1 (lines_of (h.came ++ [])) s (draft_begun limits) (h.taken [] ∙ e)
+      taken : (bytes : List ℕ) → IsRead bytes → Takes (unread limits) bytes [] now
+      taken bytes h = subst (λ (q : Progress). Takes q bytes [] now) is h
 
--- memory ran out before the first line
-pub memory_fault : (limits : Bounds) (left rest : Option (List ℕ)) (turns : ℕ) (failed : Bool)
-    (f : ScriptFault)
-    → f ≡ record { line = 1; cause = causes.OutOfMemory } → IsFault limits left rest turns failed f f.cause
-memory_fault limits left rest turns failed f e =
-    let first : ScriptFault = record { line = 1; cause = causes.OutOfMemory } in
-    let here : IsFault limits left rest turns failed first first.cause =
-    always left (λ text g d. judge_from (begun limits) 1 (lines_of text) g d) in
-    subst (λ (g : ScriptFault). IsFault limits left rest turns failed g g.cause) (sym e) here
+      pub end_fault : (f : ScriptFault) → Whole left rest turns IsRead → EndStops now f
+          → IsFault limits left rest turns failed f f.cause
+      end_fault f w stops =
+          let p = w.pulled in
+          let law = (taken p.bytes p.so).law [] in
+          fault_as f.cause f
+          (λ own. known_whole _ left rest p.bytes p.came w.ended (law ∙ stops.at.finds own []))
+          (known_whole _ left rest p.bytes p.came w.ended (λ g e. stops.at.first [] g (sym law ∙ e)))
+          stops.read stops.at.judged
 
--- all lines were judged, but there is no script
-pub incomplete_fault : (limits : Bounds) (left rest : Option (List ℕ)) (turns : ℕ) (failed : Bool)
-    (s : Parsed)
-    (f : ScriptFault) → IfSome left (λ text. script_of limits text ≡ Ok s) → Incomplete s.lines f
-    → IsFault limits left rest turns failed f f.cause
-incomplete_fault limits left rest turns failed s f known (inl h) =
-    memory_fault limits left rest turns failed f h
-incomplete_fault limits left rest turns failed s f known (inr h) =
-    let here : IsFault limits left rest turns failed f causes.NoFork =
-    some_map left (λ text e. record { parsed = s; judged = e; first = h.1 }) known in
-    subst (λ (k : ScriptCause). IsFault limits left rest turns failed f k) (sym h.0) here
+      pub all_draft : (s : Parsed) → Whole left rest turns IsRead → judged now [] ≡ Ok s → IsDraft s
+      all_draft s w e =
+          draft_judged (begun limits) 1 (lines_of (w.pulled.bytes ++ [])) s (draft_begun limits)
+          ((taken w.pulled.bytes w.pulled.so).law [] ∙ e)
+
+      pub read_fault : (n : ℕ)
+          → Pulled left rest turns (λ bytes. IsRead bytes × ((failed ≡ true) ⊎ (turns ≤ length bytes)))
+          → n ≡ now.cutter.unfinished
+          → IsFault limits left rest turns failed (record { line = n; cause = causes.Read }) causes.Read
+      read_fault n p at =
+          let t = taken p.bytes p.so.0 in
+          let lf : Lacks 10 now.cutter.kept = t.unended refl in
+          let kept : now.cutter.kept ≡ after_last 10 p.bytes =
+          sym (after_last-Lacks 10 now.cutter.kept lf)
+          ∙ ap (λ (b : List ℕ). after_last 10 b) (sym (append-nil now.cutter.kept)) ∙ t.kept in
+          record {
+            came = p.bytes;
+            bytes = p.came;
+            why = p.so.1;
+            at = let lines = t.lines in omega (arith, lines, at);
+            short = subst (λ (b : List ℕ). length b ≤ 1025) kept (t.short (omega arith));
+            before = λ more g e.
+                let from = judge_from now.parsed now.cutter.unfinished (lines_of (now.cutter.kept ++ more)) g
+                (sym (t.law more) ∙ e) in
+                omega (arith, from, at);
+          }

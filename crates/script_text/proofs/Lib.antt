@@ -1,7 +1,6 @@
 pub mod Digits
 pub mod Locations
 pub mod Steps
-pub mod Loops
 pub mod Marking
 pub mod Legal
 pub mod Faults

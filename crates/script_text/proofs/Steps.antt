@@ -1,48 +1,73 @@
--- A byte is taken, or the text stops at it.
-use Rattle.std.proofs.Common.{◌≡◌, ◌≢◌, ℕ, ◌+◌, ◌<◌, ◌≤◌, ◌++◌, List, [], ◌∷◌, length, Ok, Err, refl, ap, ◌∙◌}
-use Rattle.std.proofs.Common.{sym, arith, append_assoc, append-nil, ne_eqb}
-use Rattle.std.proofs.Common.{lt-ltb, length-append, inl, inr, ◌⊎◌}
-use Rattle.std.specs.Prelude.{Result, OnOk, IfErr}
-use Rattle.rapid_line.specs.Cut.{Lacks, content}
-use Rattle.rapid_line.proofs.Cuts.{Lacks-append}
-use Rattle.rapid_text.specs.Texts.{lines_of}
-use Rattle.rapid_line.proofs.LineLaws.{lines_of_line, lines_of_rest, begins}
+-- A line is taken, or the text stops at it.
+use Rattle.std.proofs.Common.{◌≡◌, ℕ, ◌+◌, ◌<◌, ◌≤◌, ◌++◌, true, List, [], ◌∷◌, length, Ok, Err, refl, ap}
+use Rattle.std.proofs.Common.{◌∙◌, sym, subst, arith, append_assoc, append-nil, ne_eqb, lt-ltb}
+use Rattle.std.specs.Prelude.{Result}
+use Rattle.rapid_line.specs.Cut.{Lacks, count, content, after_last}
+use Rattle.rapid_line.specs.Lines.{Lines, lines_of, to_come, most, Cuts, Keeps, IsTooLong}
+use Rattle.rapid_line.proofs.Cuts.{count-append, count-Lacks, after_last-end}
+use Rattle.rapid_line.proofs.LineLaws.{first_cut, end_within}
 use Rattle.rapid_text.proofs.LongLines.{content_long}
 use Rattle.script_text.specs.declared.causes.ScriptCause.{ScriptCause}
 use Rattle.script_text.specs.declared.causes.ScriptCause.TheVariants as causes
 use Rattle.script_text.specs.declared.causes.ScriptFault.{ScriptFault}
 use Rattle.script_text.specs.Forms.{Fails, line_of}
 use Rattle.script_text.specs.Scripts.{Parsed, judge, next_line, after_content}
-use Rattle.script_text.specs.Readings.{Progress, judged, Takes, StopsAs, Stops, EndStops, EndsLine, KeepsByte}
-use Rattle.script_text.specs.Readings.{TakesByte, ByteFails}
+use Rattle.script_text.specs.ReadingLaws.{after_last-append}
+use Rattle.script_text.specs.Readings.{Progress, judged, Takes, StopsAt, Stops, is_of_line}
 
--- the first line of a text, and those after it
-judged_line : (p : Progress) (more : List ℕ) → Lacks 10 p.kept
-    → judged p (10 ∷ more) ≡ next_line p.line (after_content p.parsed p.line (content p.kept))
-    (λ s. judge s (p.line + 1) (lines_of more))
-judged_line p more lf = ap (λ (ls : List (List ℕ)). judge p.parsed p.line ls) (lines_of_line p.kept more lf)
+-- ---- lines that are taken
 
-ended_line : (old new : Progress) (more : List ℕ) → EndsLine old new
-    → judged old (10 ∷ more) ≡ judged new more
-ended_line old new more h =
-    judged_line old more h.unended
-    ∙ ap (λ (r : Result Parsed ScriptCause). next_line old.line r
-    (λ s. judge s (old.line + 1) (lines_of more))) h.read
-    ∙ ap (λ (n : ℕ). judge new.parsed n (lines_of more)) (sym h.line)
-    ∙ ap (λ (k : List ℕ). judge new.parsed new.line (lines_of (k ++ more))) (sym h.kept)
+-- what the first line comes to, and then the others
+first_judged : (s : Parsed) (n : ℕ) (line : List ℕ) (others : List (List ℕ)) (r : Result Parsed ScriptCause)
+    → after_content s n (content line) ≡ r
+    → judge s n (line ∷ others) ≡ next_line n r (λ t. judge t (n + 1) others)
+first_judged s n line others r is =
+    ap (λ (x : Result Parsed ScriptCause). next_line n x (λ t. judge t (n + 1) others)) is
 
-kept_byte : (old new : Progress) (byte : ℕ) (more : List ℕ) → KeepsByte old byte new
-    → judged old (byte ∷ more) ≡ judged new more
-kept_byte old new byte more h =
-    ap (λ (t : List ℕ). judge old.parsed old.line (lines_of t)) (sym (append_assoc old.kept (byte ∷ []) more))
-    ∙ ap (λ (s : Parsed). judge s old.line (lines_of ((old.kept ++ byte ∷ []) ++ more))) (sym h.parsed)
-    ∙ ap (λ (n : ℕ). judge new.parsed n (lines_of ((old.kept ++ byte ∷ []) ++ more))) (sym h.line)
-    ∙ ap (λ (k : List ℕ). judge new.parsed new.line (lines_of (k ++ more))) (sym h.kept)
+module _ (p : Progress) (piece : List ℕ) where
+  -- a line that ended
+  pub takes_line : (t : Parsed) (line rest : List ℕ) (new : Lines) → Cuts p.cutter piece line rest new
+      → after_content p.parsed p.cutter.unfinished (content line) ≡ Ok t
+      → Takes p piece rest (record { parsed = t; cutter = new })
+  takes_line t line rest new c is =
+      let cut = first_cut piece c.end rest (sym c.first) in
+      let n = p.cutter.unfinished in
+      let front = p.cutter.kept ++ c.end in
+      record {
+        law = λ more.
+            let others = to_come new (rest ++ more) in
+            ap (λ (ls : List (List ℕ)). judge p.parsed n ls) (c.law more)
+            ∙ first_judged p.parsed n line others (Ok t) is
+            ∙ ap (λ (m : ℕ). judge t m others) (sym c.unfinished);
+        lines =
+            let parts = ap (λ (b : List ℕ). count 10 b) cut.is ∙ count-append 10 c.end (10 ∷ rest) in
+            let none = count-Lacks 10 c.end cut.lacks in
+            omega (arith, c.unfinished, parts, none);
+        kept = ap (λ (b : List ℕ). after_last 10 (b ++ rest)) (c.kept ∙ sym (after_last-end 10 front))
+            ∙ sym (after_last-append 10 (front ++ 10 ∷ []) rest)
+            ∙ ap (λ (b : List ℕ). after_last 10 b)
+            (append_assoc front (10 ∷ []) rest ∙ append_assoc p.cutter.kept c.end (10 ∷ rest)
+            ∙ ap (λ (b : List ℕ). p.cutter.kept ++ b) (sym cut.is));
+        unended = λ h. subst (λ (b : List ℕ). Lacks 10 b) (sym c.kept) refl;
+        short = λ h. subst (λ (b : List ℕ). length b ≤ 1025) (sym c.kept) (omega arith);
+        taken = let within = end_within piece c.end rest (sym c.first) in omega (arith, c.taken, within);
+      }
 
-pub takes_byte : (old new : Progress) (byte : ℕ) → TakesByte old byte new → Takes old (byte ∷ []) new
-takes_byte old new byte (inl h) = λ more.
-    ap (λ (b : ℕ). judged old (b ∷ more)) h.0 ∙ ended_line old new more h.1
-takes_byte old new byte (inr h) = λ more. kept_byte old new byte more h
+  -- no line ended
+  pub takes_rest : (new : Lines) → Keeps p.cutter piece new → Lacks 10 new.kept → length new.kept ≤ 1025
+      → Takes p piece [] (record { parsed = p.parsed; cutter = new })
+  takes_rest new k lf few = record {
+    law = λ more.
+        ap (λ (n : ℕ). judge p.parsed n (to_come p.cutter (piece ++ more))) (sym k.unfinished)
+        ∙ ap (λ (b : List ℕ). judge p.parsed new.unfinished (lines_of b))
+        (sym (append_assoc p.cutter.kept piece more))
+        ∙ ap (λ (b : List ℕ). judge p.parsed new.unfinished (lines_of (b ++ more))) (sym k.kept);
+    lines = let none = count-Lacks 10 piece k.unended in omega (arith, k.unfinished, none);
+    kept = ap (λ (b : List ℕ). after_last 10 b) (append-nil new.kept ∙ k.kept);
+    unended = λ h. lf;
+    short = λ h. few;
+    taken = omega (arith, k.taken);
+  }
 
 -- ---- faults
 
@@ -50,8 +75,8 @@ abbrev from_err : ScriptFault → Result Parsed ScriptFault → ScriptFault
 from_err f (Ok x) = f
 from_err f (Err g) = g
 
-next_from : (n : ℕ) (r : Result Parsed ScriptCause)
-    (go : Parsed → Result Parsed ScriptFault) (g : ScriptFault)
+next_from : (n : ℕ) (r : Result Parsed ScriptCause) (go : Parsed → Result Parsed ScriptFault)
+    (g : ScriptFault)
     → ((t : Parsed) → go t ≡ Err g → n ≤ g.line) → next_line n r go ≡ Err g → n ≤ g.line
 next_from n (Err cause) go g more e =
     let same : n ≡ g.line = ap (λ (r : Result Parsed ScriptFault). (from_err g r).line) e in
@@ -65,56 +90,36 @@ judge_from s n [] g e = absurd cc
 judge_from s n (l ∷ ls) g e = next_from n (after_content s n (content l)) (λ t. judge t (n + 1) ls) g
     (λ t d. let h = judge_from t (n + 1) ls g d in omega (arith, h)) e
 
--- a text that goes on as another stops as it does
-pub stops_with : (k : ScriptCause) (f : ScriptFault) (text other : List ℕ → Result Parsed ScriptFault)
-    (on : List ℕ → List ℕ) → ((more : List ℕ) → text more ≡ other (on more)) → StopsAs k f other
-    → StopsAs k f text
-stops_with causes.OutOfMemory f text other on same h = λ more g e. h (on more) g (sym (same more) ∙ e)
-stops_with causes.NoFork f text other on same h = h
-stops_with causes.Read f text other on same h = h
-stops_with causes.LineTooLong f text other on same h = λ more. same more ∙ h (on more)
-stops_with causes.BadLine f text other on same h = λ more. same more ∙ h (on more)
-stops_with causes.BadNumber f text other on same h = λ more. same more ∙ h (on more)
-stops_with causes.TooManyNames f text other on same h = λ more. same more ∙ h (on more)
-stops_with causes.BadFork f text other on same h = λ more. same more ∙ h (on more)
-stops_with causes.BadJoin f text other on same h = λ more. same more ∙ h (on more)
+fails_as : (r : Result Parsed ScriptCause) (k j : ScriptCause) → Fails k r → k ≡ j → Fails j r
+fails_as r k j h e = subst (λ (c : ScriptCause). Fails c r) e h
 
--- the fault of the first line is that of all
-stopped : (f : ScriptFault) (p : Progress) (rest : List (List ℕ)) → f.line ≡ p.line
-    → after_content p.parsed p.line (content p.kept) ≡ Err f.cause
-    → judge p.parsed p.line (p.kept ∷ rest) ≡ Err f
-stopped f p rest at e =
-    let there : next_line p.line (after_content p.parsed p.line (content p.kept))
-    (λ t. judge t (p.line + 1) rest)
-    ≡ Err (record { line = p.line; cause = f.cause }) =
-    ap (λ (r : Result Parsed ScriptCause). next_line p.line r (λ t. judge t (p.line + 1) rest)) e in
-    there ∙ (λ i. Err (record { line = sym at i; cause = f.cause }))
+-- a cause that a line has is its own
+line_has : (k : ScriptCause) (r : Result Parsed ScriptCause) → Fails k r → is_of_line k ≡ true → r ≡ Err k
+line_has causes.OutOfMemory r h line = absurd cc
+line_has causes.NoFork r h line = absurd cc
+line_has causes.Read r h line = absurd cc
+line_has causes.LineTooLong r h line = h
+line_has causes.BadLine r h line = h
+line_has causes.BadNumber r h line = h
+line_has causes.TooManyNames r h line = h
+line_has causes.BadFork r h line = h
+line_has causes.BadJoin r h line = h
 
--- the line that is kept has a cause, or memory ran out while it was judged
-line_stops : (k : ScriptCause) (f : ScriptFault) (p : Progress) (text : List ℕ → Result Parsed ScriptFault)
-    (rest : List ℕ → List (List ℕ))
-    → ((more : List ℕ) → text more ≡ judge p.parsed p.line (p.kept ∷ rest more))
-    → f.line ≡ p.line → f.cause ≡ k → Fails k (after_content p.parsed p.line (content p.kept))
-    → StopsAs k f text
-line_stops causes.OutOfMemory f p text rest is at cause h = λ more g e.
-    let from = judge_from p.parsed p.line (p.kept ∷ rest more) g (sym (is more) ∙ e) in
-    omega (arith, from, at)
-line_stops causes.NoFork f p text rest is at cause h = h
-line_stops causes.Read f p text rest is at cause h = h
-line_stops causes.LineTooLong f p text rest is at cause h = λ more. is more
-    ∙ stopped f p (rest more) at (rw cause h)
-line_stops causes.BadLine f p text rest is at cause h = λ more. is more
-    ∙ stopped f p (rest more) at (rw cause h)
-line_stops causes.BadNumber f p text rest is at cause h = λ more. is more
-    ∙ stopped f p (rest more) at (rw cause h)
-line_stops causes.TooManyNames f p text rest is at cause h = λ more. is more
-    ∙ stopped f p (rest more) at (rw cause h)
-line_stops causes.BadFork f p text rest is at cause h = λ more. is more
-    ∙ stopped f p (rest more) at (rw cause h)
-line_stops causes.BadJoin f p text rest is at cause h = λ more. is more
-    ∙ stopped f p (rest more) at (rw cause h)
-
--- ---- a line that is too long
+-- texts that begin with this line stop at it, where it has the cause, or memory ran out while it was judged
+line_stops : (s : Parsed) (n : ℕ) (f : ScriptFault) (line : List ℕ)
+    (texts : List ℕ → Result Parsed ScriptFault) (others : List ℕ → List (List ℕ))
+    → ((more : List ℕ) → texts more ≡ judge s n (line ∷ others more))
+    → f.line ≡ n → Fails f.cause (after_content s n (content line)) → StopsAt f texts
+line_stops s n f line texts others is at why = record {
+  finds = λ own more. is more
+      ∙ first_judged s n line (others more) (Err f.cause)
+      (line_has f.cause (after_content s n (content line)) why own)
+      ∙ ap (λ (m : ℕ). Err (record { line = m; cause = f.cause })) (sym at);
+  first = λ more g e.
+      let from = judge_from s n (line ∷ others more) g (sym (is more) ∙ e) in
+      omega (arith, from, at);
+  judged = fails_as _ f.cause causes.NoFork why;
+}
 
 line_long : (bytes : List ℕ) → 1024 < length bytes → line_of bytes ≡ Err causes.LineTooLong
 unfolding line_of
@@ -125,96 +130,51 @@ long_content : (s : Parsed) (n : ℕ) (bytes : List ℕ) → 1024 < length bytes
 unfolding after_content
 long_content s n bytes h = rw (ne_eqb (length bytes) 0 (λ z. omega arith), line_long bytes h) refl
 
-too_long : (p : Progress) (byte : ℕ) (more kept : List ℕ) → p.kept ≡ kept → Lacks 10 kept → byte ≢ 10
-    → length kept ≡ 1025
-    → judged p (byte ∷ more) ≡ Err (record { line = p.line; cause = causes.LineTooLong })
-too_long p byte more [] is lf other long = absurd (omega (arith, long))
-too_long p byte more (x ∷ kept) is lf other long =
-    let one : Lacks 10 (byte ∷ []) = rw (ne_eqb byte 10 other) refl in
-    let start = begins x (kept ++ byte ∷ []) more (Lacks-append 10 (x ∷ kept) (byte ∷ []) lf one) in
-    let line : List ℕ = (x ∷ (kept ++ byte ∷ [])) ++ start.first in
-    let front = length-append (x ∷ (kept ++ byte ∷ [])) start.first in
-    let most = length-append kept (byte ∷ []) in
-    let far : 1025 < length line = omega (arith, front, most, long) in
-    let text : lines_of (p.kept ++ byte ∷ more) ≡ line ∷ start.rest =
-    ap (λ (k : List ℕ). lines_of (k ++ byte ∷ more)) is
-    ∙ ap lines_of (sym (append_assoc (x ∷ kept) (byte ∷ []) more)) ∙ start.is in
-    ap (λ (ls : List (List ℕ)). judge p.parsed p.line ls) text
-    ∙ ap (λ (r : Result Parsed ScriptCause). next_line p.line r (λ s. judge s (p.line + 1) start.rest))
-    (long_content p.parsed p.line (content line) (content_long line far))
+module _ (p : Progress) (piece : List ℕ) (f : ScriptFault) (at : f.line ≡ p.cutter.unfinished) where
+  first_here : (more : List ℕ) (g : ScriptFault) → judged p (piece ++ more) ≡ Err g → f.line ≤ g.line
+  first_here more g e =
+      let from = judge_from p.parsed p.cutter.unfinished (to_come p.cutter (piece ++ more)) g e in
+      omega (arith, from, at)
 
-stops_by : (old : Progress) (byte : ℕ) (f : ScriptFault) → f.line ≡ old.line → Lacks 10 old.kept
-    → ((byte ≡ 10) × Fails f.cause (after_content old.parsed old.line (content old.kept)))
-    ⊎ ((byte ≢ 10) × (f.cause ≡ causes.LineTooLong) × (length old.kept ≡ 1025))
-    ⊎ (f.cause ≡ causes.OutOfMemory)
-    → Stops old (byte ∷ []) f
-stops_by old byte f at lf (inl h) = line_stops f.cause f old (λ more. judged old (byte ∷ more))
-    (λ more. lines_of more)
-    (λ more. ap (λ (b : ℕ). judged old (b ∷ more)) h.0
-    ∙ ap (λ (ls : List (List ℕ)). judge old.parsed old.line ls)
-    (lines_of_line old.kept more lf)) at refl h.1
-stops_by old byte f at lf (inr (inl h)) = rw h.1 (λ more. too_long old byte more old.kept refl lf h.0 h.2
-    ∙ (λ i. Err (record { line = sym at i; cause = causes.LineTooLong })))
-stops_by old byte f at lf (inr (inr h)) = rw h (λ more g e.
-    let from = judge_from old.parsed old.line (lines_of (old.kept ++ byte ∷ more)) g e in
-    omega (arith, from, at))
+  -- a line that ended has a cause
+  pub ended_stops : (line rest : List ℕ) (new : Lines) → Cuts p.cutter piece line rest new
+      → Fails f.cause (after_content p.parsed p.cutter.unfinished (content line)) → Stops p piece f
+  ended_stops line rest new c why = record {
+    at = line_stops p.parsed p.cutter.unfinished f line (λ more. judged p (piece ++ more))
+        (λ more. to_come new (rest ++ more))
+        (λ more. ap (λ (ls : List (List ℕ)). judge p.parsed p.cutter.unfinished ls) (c.law more)) at why;
+    read = λ e. absurd (fails_as _ f.cause causes.Read why e);
+  }
 
-pub byte_stops : (old : Progress) (byte : ℕ) (f : ScriptFault) → ByteFails old byte f
-    → Stops old (byte ∷ []) f
-byte_stops old byte f h = stops_by old byte f h.at h.unended h.why
+  -- a line is too long
+  pub long_stops : f.cause ≡ causes.LineTooLong → IsTooLong p.cutter piece → Stops p piece f
+  long_stops is long = record {
+    at = record {
+      finds = λ own more.
+          let next = long.law more in
+          ap (λ (ls : List (List ℕ)). judge p.parsed p.cutter.unfinished ls) next.2
+          ∙ first_judged p.parsed p.cutter.unfinished next.0 next.1 (Err causes.LineTooLong)
+          (long_content p.parsed p.cutter.unfinished (content next.0) (content_long next.0 next.3))
+          ∙ ap (λ (m : ℕ). Err (record { line = m; cause = causes.LineTooLong })) (sym at)
+          ∙ ap (λ (k : ScriptCause). Err (record { line = f.line; cause = k })) (sym is);
+      first = first_here;
+      judged = λ e. absurd (let bad : causes.LineTooLong ≡ causes.NoFork = sym is ∙ e in cc);
+    };
+    read = λ e. absurd (let bad : causes.LineTooLong ≡ causes.Read = sym is ∙ e in cc);
+  }
 
--- ---- more bytes
-
--- bytes were taken, and then more
-pub takes_more : (old mid new : Progress) (bytes more : List ℕ) → Takes old bytes mid → Takes mid more new
-    → Takes old (bytes ++ more) new
-takes_more old mid new bytes more h k = λ rest.
-    ap (λ (t : List ℕ). judged old t) (append_assoc bytes more rest) ∙ h (more ++ rest) ∙ k rest
-
--- bytes were taken, and then the text stops
-pub stops_after : (old mid : Progress) (bytes more : List ℕ) (f : ScriptFault) → Takes old bytes mid
-    → Stops mid more f → Stops old (bytes ++ more) f
-stops_after old mid bytes more f h k =
-    stops_with f.cause f (λ rest. judged old ((bytes ++ more) ++ rest)) (λ rest. judged mid (more ++ rest))
-    (λ rest. rest)
-    (λ rest. ap (λ (t : List ℕ). judged old t) (append_assoc bytes more rest) ∙ h (more ++ rest)) k
-
--- the text stops within the bytes
-pub stops_longer : (old : Progress) (bytes more : List ℕ) (f : ScriptFault) → Stops old bytes f
-    → Stops old (bytes ++ more) f
-stops_longer old bytes more f h =
-    stops_with f.cause f (λ rest. judged old ((bytes ++ more) ++ rest)) (λ rest. judged old (bytes ++ rest))
-    (λ rest. more ++ rest) (λ rest. ap (λ (t : List ℕ). judged old t) (append_assoc bytes more rest)) h
-
--- ---- the last line
-
-judged_last : (p : Progress) (kept : List ℕ) → p.kept ≡ kept → 0 < length kept → Lacks 10 kept
-    → judged p [] ≡ judge p.parsed p.line (p.kept ∷ [])
-judged_last p [] is some lf = absurd (omega (arith, some))
-judged_last p (x ∷ kept) is some lf =
-    ap (λ (t : List ℕ). judge p.parsed p.line (lines_of t)) (append-nil p.kept ∙ is)
-    ∙ ap (λ (ls : List (List ℕ)). judge p.parsed p.line ls) (lines_of_rest x kept lf)
-    ∙ ap (λ (k : List ℕ). judge p.parsed p.line (k ∷ [])) (sym is)
-
--- what is kept is the last line, and has no cause
-pub last_line : (old new : Progress) → 0 < length old.kept → EndsLine old new → judged old [] ≡ Ok new.parsed
-last_line old new some h =
-    judged_last old old.kept refl some h.unended
-    ∙ ap (λ (r : Result Parsed ScriptCause). next_line old.line r (λ t. judge t (old.line + 1) [])) h.read
-
--- or it has one
-pub last_stops : (old : Progress) (f : ScriptFault) → 0 < length old.kept → Lacks 10 old.kept
-    → f.line ≡ old.line
-    → Fails f.cause (after_content old.parsed old.line (content old.kept)) → EndStops old f
-last_stops old f some lf at h =
-    line_stops f.cause f old (λ more. judged old []) (λ more. [])
-    (λ more. judged_last old old.kept refl some lf) at refl h
-
-pub on_ok : {A E : Type 0} {P Q : Type 0} (r : Result A E) → (P → Q) → OnOk r P → OnOk r Q
-on_ok (Ok x) f h = f h
-on_ok (Err e) f h = tt
-
-pub if_err : {A E : Type 0} {P Q : E → Type 0} (r : Result A E) → ((e : E) → P e → Q e) → IfErr r P
-    → IfErr r Q
-if_err (Ok x) f h = tt
-if_err (Err e) f h = f e h
+-- more bytes came than a cutter takes
+pub no_room : (p : Progress) (piece : List ℕ) (f : ScriptFault)
+    → f ≡ record { line = p.cutter.unfinished; cause = causes.Read }
+    → (p.cutter.taken + length piece ≤ most → ⊥) → Stops p piece f
+no_room p piece f is many =
+    let here : Stops p piece (record { line = p.cutter.unfinished; cause = causes.Read }) =
+    record {
+      at = record {
+        finds = λ own. absurd cc;
+        first = λ more g e. judge_from p.parsed p.cutter.unfinished (to_come p.cutter (piece ++ more)) g e;
+        judged = λ e. absurd cc;
+      };
+      read = λ e. omega (arith, many);
+    } in
+    subst (λ (g : ScriptFault). Stops p piece g) (sym is) here

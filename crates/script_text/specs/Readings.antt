@@ -1,117 +1,82 @@
--- A script that is read byte by byte: what is still to be judged, and why the reading stops.
-use Rattle.std.specs.Prelude.{◌≡◌, ◌≢◌, ℕ, ◌+◌, ◌≤◌, ◌⊎◌, Bool, true, List, [], ◌∷◌, ◌++◌, length, Option}
-use Rattle.std.specs.Prelude.{IfSome, Result, Ok, Err}
-use Rattle.std.specs.Io.KnownBytes.{Consumes, IsAtEnd}
+-- A script that is read in pieces: what is still to be judged, and why the reading stops.
+use Rattle.std.specs.Prelude.{◌≡◌, ◌≢◌, ℕ, ◌+◌, ◌<◌, ◌≤◌, ◌⊎◌, Bool, true, false, List, [], ◌++◌, length}
+use Rattle.std.specs.Prelude.{IfSome, Option, Result, Ok, Err}
+use Rattle.std.specs.Io.KnownBytes.{Consumes}
 use Rattle.event_core.specs.Bounds.{Bounds}
-use Rattle.rapid_line.specs.Cut.{Lacks, content}
-use Rattle.rapid_text.specs.Texts.{lines_of}
+use Rattle.rapid_line.specs.Cut.{Lacks, count, after_last}
+use Rattle.rapid_line.specs.Lines.{Lines, no_bytes, most, to_come}
+use Rattle.rapid_text.specs.Tables.{Tables}
 use Rattle.script_text.specs.declared.lines.ScriptLine.{ScriptLine}
-use Rattle.script_text.specs.Forms.{Fails}
 use Rattle.script_text.specs.declared.causes.ScriptCause.{ScriptCause}
 use Rattle.script_text.specs.declared.causes.ScriptCause.TheVariants as causes
 use Rattle.script_text.specs.declared.causes.ScriptFault.{ScriptFault}
-use Rattle.script_text.specs.Scripts.{Parsed, begun, after_content, judge, script_of, IsFirstUnreached}
+use Rattle.script_text.specs.Scripts.{Parsed, begun, judge, script_of, IsFirstUnreached}
 
--- what was judged, the number of the line whose end was not seen, and its bytes
+-- what was judged, and what the cutter holds of the lines
 pub record Progress : Type 0 where
   pub parsed : Parsed
-  pub line : ℕ
-  pub kept : List ℕ
+  pub cutter : Lines
+
+abbrev pub progress : Tables → List ScriptLine → Lines → Progress
+progress names lines cutter = record { parsed = record { names = names; lines = lines }; cutter = cutter }
 
 -- before the first byte
 abbrev pub unread : Bounds → Progress
-unread limits = record { parsed = begun limits; line = 1; kept = [] }
+unread limits = record { parsed = begun limits; cutter = no_bytes }
 
--- what is kept, followed by what is still to come, comes to this
+-- what the lines to come make of what was judged, if these bytes follow
 abbrev pub judged : Progress → List ℕ → Result Parsed ScriptFault
-judged p more = judge p.parsed p.line (lines_of (p.kept ++ more))
+judged p more = judge p.parsed p.cutter.unfinished (to_come p.cutter more)
 
--- the bytes were taken, and what is still to be judged is the same
-abbrev pub Takes : Progress → List ℕ → Progress → Type 0
-Takes old bytes new = (more : List ℕ) → judged old (bytes ++ more) ≡ judged new more
+-- ---- a piece
 
--- why a text stops with the fault, whatever it goes on with: a line has a cause, or memory ran out before a
--- line with a cause was judged
-abbrev pub StopsAs : ScriptCause → ScriptFault → (List ℕ → Result Parsed ScriptFault) → Type 0
-StopsAs causes.OutOfMemory f text = (more : List ℕ) (g : ScriptFault) → text more ≡ Err g → f.line ≤ g.line
-StopsAs causes.NoFork f text = ⊥
-StopsAs causes.Read f text = ⊥
-StopsAs causes.LineTooLong f text = (more : List ℕ) → text more ≡ Err f
-StopsAs causes.BadLine f text = (more : List ℕ) → text more ≡ Err f
-StopsAs causes.BadNumber f text = (more : List ℕ) → text more ≡ Err f
-StopsAs causes.TooManyNames f text = (more : List ℕ) → text more ≡ Err f
-StopsAs causes.BadFork f text = (more : List ℕ) → text more ≡ Err f
-StopsAs causes.BadJoin f text = (more : List ℕ) → text more ≡ Err f
+-- the bytes were taken but for the rest, and what is still to be judged is the same
+pub record Takes (old : Progress) (bytes rest : List ℕ) (new : Progress) : Type 0 where
+  pub law : (more : List ℕ) → judged old (bytes ++ more) ≡ judged new (rest ++ more)
+  -- each LF ends a line, and what follows the last one is kept
+  pub lines : new.cutter.unfinished + count 10 rest ≡ old.cutter.unfinished + count 10 bytes
+  pub kept : after_last 10 (new.cutter.kept ++ rest) ≡ after_last 10 (old.cutter.kept ++ bytes)
+  pub unended : Lacks 10 old.cutter.kept → Lacks 10 new.cutter.kept
+  pub short : length old.cutter.kept ≤ 1025 → length new.cutter.kept ≤ 1025
+  pub taken : new.cutter.taken + length rest ≡ old.cutter.taken + length bytes
 
--- the bytes were not taken
-abbrev pub Stops : Progress → List ℕ → ScriptFault → Type 0
-Stops old bytes f = StopsAs f.cause f (λ more. judged old (bytes ++ more))
+-- the cause is one that a line has
+abbrev pub is_of_line : ScriptCause → Bool
+is_of_line causes.NoFork = false
+is_of_line causes.Read = false
+is_of_line causes.OutOfMemory = false
+is_of_line cause = true
 
--- ---- one byte
+-- each of these texts has the fault, or memory ran out before a line with a cause
+pub record StopsAt (f : ScriptFault) (texts : List ℕ → Result Parsed ScriptFault) : Type 0 where
+  pub finds : is_of_line f.cause ≡ true → (more : List ℕ) → texts more ≡ Err f
+  pub first : (more : List ℕ) (g : ScriptFault) → texts more ≡ Err g → f.line ≤ g.line
+  pub judged : f.cause ≢ causes.NoFork
 
--- the line that is kept ended, without a cause
-pub record EndsLine (old new : Progress) : Type 0 where
-  pub unended : Lacks 10 old.kept
-  pub read : after_content old.parsed old.line (content old.kept) ≡ Ok new.parsed
-  pub line : new.line ≡ old.line + 1
-  pub kept : new.kept ≡ []
+-- so it is with each text that goes on after the bytes; it is a read fault only where more bytes came than a
+-- cutter takes
+pub record Stops (old : Progress) (bytes : List ℕ) (f : ScriptFault) : Type 0 where
+  pub at : StopsAt f (λ more. judged old (bytes ++ more))
+  pub read : f.cause ≡ causes.Read → most < old.cutter.taken + length bytes
 
--- the byte was kept
-pub record KeepsByte (old : Progress) (byte : ℕ) (new : Progress) : Type 0 where
-  pub other : byte ≢ 10
-  pub parsed : new.parsed ≡ old.parsed
-  pub line : new.line ≡ old.line
-  pub kept : new.kept ≡ old.kept ++ byte ∷ []
+-- so it is where nothing follows
+pub record EndStops (old : Progress) (f : ScriptFault) : Type 0 where
+  pub at : StopsAt f (λ more. judged old [])
+  pub read : f.cause ≢ causes.Read
 
-abbrev pub TakesByte : Progress → ℕ → Progress → Type 0
-TakesByte old byte new = ((byte ≡ 10) × EndsLine old new) ⊎ KeepsByte old byte new
+-- ---- why there is no script
 
--- the line that is kept ended and has a cause, or one more byte makes it too long, or memory ran out
-pub record ByteFails (old : Progress) (byte : ℕ) (f : ScriptFault) : Type 0 where
-  pub at : f.line ≡ old.line
-  pub unended : Lacks 10 old.kept
-  pub why : ((byte ≡ 10) × Fails f.cause (after_content old.parsed old.line (content old.kept)))
-      ⊎ ((byte ≢ 10) × (f.cause ≡ causes.LineTooLong) × (length old.kept ≡ 1025))
-      ⊎ (f.cause ≡ causes.OutOfMemory)
-
--- ---- all bytes
-
--- these bytes came and were taken, and the input is at its end
-pub record ReadsAll (old : Progress) (left : Option (List ℕ)) (new : Progress) (rest : Option (List ℕ))
+-- a read failed, or there were as many bytes as turns at least, and line n is the one whose end was not seen
+pub record ReadFails (limits : Bounds) (left rest : Option (List ℕ)) (turns : ℕ) (read_failed : Bool) (n : ℕ)
     : Type 0 where
   pub came : List ℕ
   pub bytes : Consumes left rest came
-  pub taken : Takes old came new
-  pub ended : IsAtEnd rest
-
--- a read failed, or there were as many bytes as turns at least; the lines that came whole have no cause, and
--- what came of the line whose end was not seen is not judged
-pub record ReadFails (old : Progress) (left rest : Option (List ℕ)) (turns : ℕ) (read_failed : Bool)
-    (f : ScriptFault) : Type 0 where
-  pub came : List ℕ
-  pub bytes : Consumes left rest came
   pub why : (read_failed ≡ true) ⊎ (turns ≤ length came)
-  pub now : Progress
-  pub taken : Takes old came now
-  pub at : f.line ≡ now.line
-  pub unjudged : Lacks 10 now.kept
-  pub short : length now.kept ≤ 1025
-
--- a line that came has a cause, or memory ran out
-pub record StopsWithin (old : Progress) (left rest : Option (List ℕ)) (f : ScriptFault) : Type 0 where
-  pub came : List ℕ
-  pub bytes : Consumes left rest came
-  pub stops : Stops old came f
-
-abbrev pub StopsReading : Progress → Option (List ℕ) → Option (List ℕ) → ℕ → Bool → ScriptFault → Type 0
-StopsReading old left rest turns failed f =
-    ((f.cause ≡ causes.Read) × ReadFails old left rest turns failed f) ⊎ StopsWithin old left rest f
-
--- nothing follows, and what is kept has a cause, or memory ran out
-abbrev pub EndStops : Progress → ScriptFault → Type 0
-EndStops old f = StopsAs f.cause f (λ more. judged old [])
-
--- ---- why there is no script
+  pub at : n ≡ 1 + count 10 came
+  -- with one byte more than this it is too long
+  pub short : length (after_last 10 came) ≤ 1025
+  -- whatever follows, no line that came whole has a cause
+  pub before : (more : List ℕ) (g : ScriptFault) → script_of limits (came ++ more) ≡ Err g → n ≤ g.line
 
 -- no line has a cause, and line n is the first that names a thread which is not reached
 pub record IsUnforked (limits : Bounds) (text : List ℕ) (n : ℕ) : Type 0 where
@@ -143,11 +108,6 @@ LacksFork limits left n = IfSome left (λ text. IsUnforked limits text n)
 abbrev pub IsFault : Bounds → Option (List ℕ) → Option (List ℕ) → ℕ → Bool → ScriptFault → ScriptCause
     → Type 0
 IsFault limits left rest turns failed f causes.OutOfMemory = HasNoneBefore limits left f.line
-IsFault limits left rest turns failed f causes.Read = ReadFails (unread limits) left rest turns failed f
+IsFault limits left rest turns failed f causes.Read = ReadFails limits left rest turns failed f.line
 IsFault limits left rest turns failed f causes.NoFork = LacksFork limits left f.line
-IsFault limits left rest turns failed f causes.LineTooLong = HasFault limits left f
-IsFault limits left rest turns failed f causes.BadLine = HasFault limits left f
-IsFault limits left rest turns failed f causes.BadNumber = HasFault limits left f
-IsFault limits left rest turns failed f causes.TooManyNames = HasFault limits left f
-IsFault limits left rest turns failed f causes.BadFork = HasFault limits left f
-IsFault limits left rest turns failed f causes.BadJoin = HasFault limits left f
+IsFault limits left rest turns failed f cause = HasFault limits left f

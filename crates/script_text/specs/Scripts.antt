@@ -37,7 +37,7 @@ use Rattle.rapid_text.specs.declared.causes.Kind.TheVariants as kinds
 use Rattle.rapid_text.specs.Tables.{Tables, no_names, number_in}
 use Rattle.rapid_line.specs.Cut.{content}
 use Rattle.rapid_text.specs.Events.{HasNames}
-use Rattle.rapid_text.specs.Texts.{lines_of}
+use Rattle.rapid_line.specs.Lines.{lines_of}
 use Rattle.script_text.specs.declared.causes.ScriptCause.{ScriptCause}
 use Rattle.script_text.specs.declared.causes.ScriptCause.TheVariants.{TooManyNames, BadFork, BadJoin}
 use Rattle.script_text.specs.declared.causes.ScriptFault.{ScriptFault}

@@ -1,179 +1,200 @@
-//! A script that is read byte by byte.
-//!
-//! Of a line whose end was not seen at most 1,025 bytes are kept, and with one more byte the line is too
-//! long: a content of at most 1,024 bytes and a CR is shorter.
-ghost use Rattle.std.specs.Prelude.{◌≡◌, ◌≢◌, ℕ, ◌+◌, ◌*◌, ◌<◌, ◌≤◌, ◌^◌, List};
-ghost use Rattle.std.specs.Prelude.{[], ◌∷◌, ◌++◌, length, IfOk, IfErr, OnOk, Ok, Err};
-ghost use Rattle.rapid_line.specs.Cut.{Lacks, content};
+//! A script that is read in pieces, however it is cut.
+ghost use Rattle.std.specs.Prelude.{◌≡◌, ◌≢◌, ◌≤◌, [], false, length, Ok, IfErr, IfOk, IfSome, OnOk};
 ghost use Rattle.script_text.specs.Forms.{Fails};
-ghost use Rattle.script_text.specs.Scripts.{after_content};
-ghost use Rattle.script_text.specs.Readings.{Progress, unread, judged, Takes, Stops, TakesByte, ByteFails};
-ghost use Rattle.script_text.specs.Readings.{EndsLine, ReadsAll, StopsReading, EndStops};
+ghost use Rattle.script_text.specs.Scripts.{IsDraft, after_content, script_of};
+ghost use Rattle.script_text.specs.Readings.{progress, unread, judged, Takes, Stops, EndStops, IsFault};
+ghost use Rattle.rapid_line.specs.Cut.{content};
 
 use crate::causes::{ScriptCause, ScriptFault};
 use crate::draft::add_line;
 use crate::lines::ScriptLine;
-use event_core::{Limits, OutOfMemory};
-use rapid_line::without_cr;
-use rapid_text::{Input, Names};
+use event_core::Limits;
+use rapid_line::{LineCutter, LineTooLong, without_cr};
+use rapid_text::{Fed, Input, Names, Sink, feed_all};
 use std::alloc::Global;
-use std::marker::Model;
 
-/// The most bytes of an unfinished line that may still end as a content of 1,024 bytes: those and a CR.
-const MOST_KEPT: usize = 1025;
-
-/// What was read of a script.
+/// What was read of a script: its names and its lines, the line whose end was not seen, and the first fault.
 #[derive(Drop)]
-pub struct Reading {
+struct Reading {
     names: Names,
     lines: Vec<ScriptLine>,
-    /// The number of the line whose end was not seen.
-    line: u64,
-    /// Its bytes.
-    kept: Vec<u8>,
+    cutter: LineCutter,
+    fault: Option<ScriptFault>,
 }
 
-impl Model for Reading {
-    ghost Value = { Progress };
+/// The fault of a read that failed, which is told at the line whose end was not seen.
+fn read_fault(cutter: &LineCutter) -> ScriptFault
+    ensures { result ≡ record { line = cutter.now.unfinished; cause = ScriptCause.Read } }
+{
+    ScriptFault {
+        line: cutter.unfinished(),
+        cause: ScriptCause::Read,
+    }
+}
 
-    ghost view = { λ r. record {
-      parsed = record { names = r.names; lines = r.lines.items };
-      line = r.line;
-      kept = r.kept.items;
-    } };
+/// Judges a line, which stands without its LF.
+fn judge_line(
+    names: &mut Names,
+    lines: &mut Vec<ScriptLine>,
+    line: u64,
+    bytes: &[u8],
+) -> Result<(), ScriptFault>
+    ensures ok { OnOk result
+        (after_content (record { names = names.old; lines = lines.old.items }) line (content bytes.now)
+        ≡ Ok (record { names = names.new; lines = lines.new.items })) }
+    ensures at { IfErr result (λ f. f.line ≡ line) }
+    ensures fault { IfErr result (λ f. Fails f.cause
+        (after_content (record { names = names.old; lines = lines.old.items }) line (content bytes.now))) }
+{
+    match add_line(names, lines, line, without_cr(bytes)) {
+        Ok(()) => Ok(()),
+        Err(cause) => Err(ScriptFault { line, cause }),
+    }
+}
 
-    ghost invariant = { λ r. Lacks 10 r.kept.items × (length r.kept.items ≤ 1025) };
+/// Takes the lines that end in the piece, up to the first that has a cause.
+fn take_lines(
+    names: &mut Names,
+    lines: &mut Vec<ScriptLine>,
+    cutter: &mut LineCutter,
+    piece: &[u8],
+) -> Result<(), ScriptFault>
+    ensures ok { OnOk result (Takes (progress names.old lines.old.items cutter.old) piece.now []
+        (progress names.new lines.new.items cutter.new)) }
+    ensures fault { IfErr result (Stops (progress names.old lines.old.items cutter.old) piece.now) }
+{
+    if !cutter.has_room(piece) {
+        return Err(read_fault(cutter));
+    }
+    let mut rest = piece;
+    'lines: loop {
+        let (line, after) = match cutter.next_line(rest) {
+            Ok(Some(cut)) => cut,
+            Ok(None) => return Ok(()),
+            Err(LineTooLong) => return Err(ScriptFault {
+                line: cutter.unfinished(),
+                cause: ScriptCause::LineTooLong,
+            }),
+        };
+        if let Err(fault) = judge_line(names, lines, line.number, cutter.line(line).bytes) {
+            return Err(fault);
+        }
+        rest = after;
+    }
+}
+
+/// Takes the line whose end was not seen as the last one.
+fn finish(
+    names: &mut Names,
+    lines: &mut Vec<ScriptLine>,
+    cutter: &mut LineCutter,
+) -> Result<(), ScriptFault>
+    ensures ok { OnOk result (judged (progress names.old lines.old.items cutter.old) []
+        ≡ Ok (record { names = names.new; lines = lines.new.items })) }
+    ensures fault { IfErr result (EndStops (progress names.old lines.old.items cutter.old)) }
+{
+    let Some(line) = cutter.last_line() else {
+        return Ok(());
+    };
+    judge_line(names, lines, line.number, cutter.line(line).bytes)
+}
+
+impl Sink for Reading {
+    ghost use Rattle.std.specs.Prelude.{[], IsSomeAnd};
+    ghost use Rattle.script_text.specs.Readings.{progress, Takes, Stops};
+    ghost use Rattle.script_text.specs.ReadingLaws.{takes_none, takes_both, some_stops_after};
+
+    ghost takes = { λ s bytes t. Takes (progress s.names s.lines.items s.cutter) bytes []
+        (progress t.names t.lines.items t.cutter) };
+
+    ghost stops = { λ s bytes t. IsSomeAnd t.fault (Stops (progress s.names s.lines.items s.cutter) bytes) };
+
+    fn feed(&mut self, piece: &[u8]) -> bool {
+        if let Err(fault) = take_lines(&mut self.names, &mut self.lines, &mut self.cutter, piece) {
+            self.fault = Some(fault);
+            return false;
+        }
+        true
+    }
+
+    ghost takes_nothing = { λ s. takes_none (progress s.names s.lines.items s.cutter) [] };
+
+    ghost takes_both = { λ r s t front rest first then. takes_both (progress r.names r.lines.items r.cutter)
+        (progress s.names s.lines.items s.cutter) (progress t.names t.lines.items t.cutter) front rest first
+        then };
+
+    ghost stops_after = { λ r s t front rest first then. some_stops_after
+        (progress r.names r.lines.items r.cutter) (progress s.names s.lines.items s.cutter) front rest t.fault
+        first then };
 }
 
 impl Reading {
     /// Before the first byte.
-    pub fn new(alloc: Global, limits: Limits) -> Reading
-        ensures { result ≡ unread limits }
+    fn new(alloc: Global, limits: Limits) -> Reading
+        ensures { progress result.names result.lines.items result.cutter ≡ unread limits }
     {
         Reading {
             names: Names::new(alloc, limits),
             lines: Vec::new(alloc),
-            line: 1,
-            kept: Vec::new(alloc),
+            cutter: LineCutter::new(),
+            fault: None,
         }
     }
+}
 
-    fn fault(&self, cause: ScriptCause) -> ScriptFault
-        ensures is { result ≡ record { line = self.now.line; cause = cause } }
-        ensures unfinished { Lacks 10 self.now.kept }
-        ensures short { length self.now.kept ≤ 1025 }
-    {
-        ScriptFault {
-            line: self.line,
-            cause,
-        }
+/// Takes the text that the reader has left, to its end.
+fn read_text<I: Input>(
+    reading: &mut Reading,
+    reader: &mut I,
+    limits: Limits,
+    turns: u64,
+) -> Result<(), ScriptFault>
+    requires unread { progress reading.old.names reading.old.lines.items reading.old.cutter ≡ unread limits }
+    requires turns { turns ≤ 17592186044416 }
+    requires works { I.failed reader.old ≡ false }
+    ensures ok { OnOk result (IfSome (I.left reader.old) (λ text. script_of limits text
+        ≡ Ok (record { names = reading.new.names; lines = reading.new.lines.items }))) }
+    ensures draft { OnOk result
+        (IsDraft (record { names = reading.new.names; lines = reading.new.lines.items })) }
+    ensures fault { IfErr result (λ f.
+        IsFault limits (I.left reader.old) (I.left reader.new) turns (I.failed reader.new) f f.cause) }
+    ensures healthy { OnOk result (I.failed reader.new ≡ false) }
+    ensures told { IfErr result (λ f. f.cause ≢ ScriptCause.Read → I.failed reader.new ≡ false) }
+{
+    match feed_all(reader, reading, turns) {
+        Fed::Whole => {}
+        Fed::Stopped => return Err(reading.fault.unwrap()),
+        Fed::Cut => return Err(read_fault(&reading.cutter)),
     }
-
-    /// Judges the line that is kept.
-    fn end_line(&mut self) -> Result<(), ScriptFault>
-        requires { self.old.line < 2 ^ 63 }
-        ensures ok { OnOk result (EndsLine self.old self.new) }
-        ensures unended { Lacks 10 self.old.kept }
-        ensures fault { IfErr result (λ f. (f.line ≡ self.old.line)
-            × Fails f.cause (after_content self.old.parsed self.old.line (content self.old.kept))) }
-    {
-        match add_line(
-            &mut self.names,
-            &mut self.lines,
-            self.line,
-            without_cr(self.kept.as_slice()),
-        ) {
-            Ok(()) => {
-                self.line += 1;
-                self.kept.clear();
-                Ok(())
-            }
-            Err(cause) => Err(ScriptFault {
-                line: self.line,
-                cause,
-            }),
-        }
+    if let Err(fault) = finish(&mut reading.names, &mut reading.lines, &mut reading.cutter) {
+        return Err(fault);
     }
+    Ok(())
+}
 
-    /// Takes the next byte.
-    pub fn take(&mut self, byte: u8) -> Result<(), ScriptFault>
-        requires { self.old.line < 2 ^ 63 }
-        ensures ok { OnOk result (TakesByte self.old byte self.new) }
-        ensures fault { IfErr result (λ f. ByteFails self.old byte f) }
-        ensures line { OnOk result (self.new.line ≤ self.old.line + 1) }
-    {
-        if byte == b'\n' {
-            return self.end_line();
+/// The names and the lines of the text that the reader has left.
+pub fn read_lines<I: Input>(
+    alloc: Global,
+    reader: &mut I,
+    limits: Limits,
+    turns: u64,
+) -> Result<(Names, Vec<ScriptLine>), ScriptFault>
+    requires turns { turns ≤ 17592186044416 }
+    requires works { I.failed reader.old ≡ false }
+    ensures ok { IfOk result (λ r. IfSome (I.left reader.old) (λ text.
+        script_of limits text ≡ Ok (record { names = r.0; lines = r.1.items }))) }
+    ensures draft { IfOk result (λ r. IsDraft (record { names = r.0; lines = r.1.items })) }
+    ensures fault { IfErr result (λ f.
+        IsFault limits (I.left reader.old) (I.left reader.new) turns (I.failed reader.new) f f.cause) }
+    ensures healthy { OnOk result (I.failed reader.new ≡ false) }
+    ensures told { IfErr result (λ f. f.cause ≢ ScriptCause.Read → I.failed reader.new ≡ false) }
+{
+    let mut reading = Reading::new(alloc, limits);
+    match read_text(&mut reading, reader, limits, turns) {
+        Ok(()) => Ok((reading.names, reading.lines)),
+        Err(fault) => {
+            drop(reading);
+            Err(fault)
         }
-        if self.kept.len() == MOST_KEPT {
-            return Err(self.fault(ScriptCause::LineTooLong));
-        }
-        let Ok(()) = self.kept.push(byte) else {
-            return Err(self.fault(ScriptCause::OutOfMemory));
-        };
-        Ok(())
-    }
-
-    /// Takes the bytes, one after another.
-    fn take_all(&mut self, bytes: &[u8]) -> Result<(), ScriptFault>
-        requires { self.old.line + length bytes.now < 2 ^ 63 }
-        ensures ok { OnOk result (Takes self.old bytes.now self.new) }
-        ensures fault { IfErr result (λ f. Stops self.old bytes.now f) }
-        ensures line { OnOk result (self.new.line ≤ self.old.line + length bytes.now) }
-    {
-        'bytes: for byte in bytes {
-            self.take(*byte)?;
-        }
-        Ok(())
-    }
-
-    /// Takes all bytes of the input, with no more than so many pulls.
-    pub fn read_all<I: Input>(
-        &mut self,
-        input: &mut I,
-        piece: &mut [u8],
-        turns: u64,
-    ) -> Result<(), ScriptFault>
-        requires room { self.old.line + 4096 * turns < 2 ^ 63 }
-        requires piece { length piece.old ≡ 4096 }
-        ensures ok { OnOk result (ReadsAll self.old (I.left input.old) self.new (I.left input.new)) }
-        ensures fault { IfErr result (λ f. StopsReading self.old (I.left input.old) (I.left input.new) turns
-            (I.failed input.new) f) }
-        ensures line { OnOk result (self.new.line < 2 ^ 63) }
-        ensures healthy { OnOk result (I.failed input.new ≡ I.failed input.old) }
-        ensures told { IfErr result (λ f.
-            f.cause ≢ ScriptCause.Read → I.failed input.new ≡ I.failed input.old) }
-    {
-        let mut left = turns;
-        'pulls: while left > 0 {
-            left -= 1;
-            let Ok(n) = input.pull(piece) else {
-                return Err(self.fault(ScriptCause::Read));
-            };
-            if n == 0 {
-                return Ok(());
-            }
-            self.take_all(&piece[..n])?;
-        }
-        Err(self.fault(ScriptCause::Read))
-    }
-
-    /// Judges what is kept as the last line, if there is one.
-    pub fn finish(&mut self) -> Result<(), ScriptFault>
-        requires { self.old.line < 2 ^ 63 }
-        ensures ok { OnOk result (judged self.old [] ≡ Ok self.new.parsed) }
-        ensures fault { IfErr result (λ f. EndStops self.old f) }
-    {
-        if self.kept.is_empty() {
-            return Ok(());
-        }
-        self.end_line()
-    }
-
-    /// The names and the lines that were read.
-    pub fn parts(self) -> (Names, Vec<ScriptLine>)
-        ensures { record { names = result.0; lines = result.1.items } ≡ self.parsed }
-    {
-        (self.names, self.lines)
     }
 }

@@ -4,20 +4,17 @@ ghost use Rattle.std.specs.Prelude.{false};
 ghost use Rattle.script_text.specs.Lines.{is_of};
 ghost use Rattle.script_text.specs.Scripts.{Parsed, IsScript, IsFirstUnreached, IsDraft, script_of};
 ghost use Rattle.script_text.specs.Rows.{AreRows};
-ghost use Rattle.script_text.specs.Readings.{IsFault, Incomplete, unread};
+ghost use Rattle.script_text.specs.Readings.{IsFault, Incomplete};
 
 use crate::causes::{ScriptCause, ScriptFault};
 use crate::lines::ScriptLine;
 use crate::reached::{first_unmarked, reached_threads};
-use crate::readings::Reading;
+use crate::readings::read_lines;
 use crate::rows::rows;
 use event_core::{Limits, ThreadId};
 use rapid_text::{Input, Kind, Names};
 use std::alloc::Global;
 use std::marker::Model;
-
-/// How many bytes are read at once.
-const PIECE: usize = 4096;
 
 fn no_memory() -> ScriptFault
     ensures { result ≡ record { line = 1; cause = ScriptCause.OutOfMemory } }
@@ -25,60 +22,6 @@ fn no_memory() -> ScriptFault
     ScriptFault {
         line: 1,
         cause: ScriptCause::OutOfMemory,
-    }
-}
-
-/// Takes the text that the reader has left, to its end.
-fn read_text<I: Input>(
-    alloc: Global,
-    reading: &mut Reading,
-    reader: &mut I,
-    limits: Limits,
-    turns: u64,
-) -> Result<(), ScriptFault>
-    requires unread { reading.old ≡ unread limits }
-    requires turns { turns ≤ 17592186044416 }
-    requires works { I.failed reader.old ≡ false }
-    ensures ok { OnOk result (IfSome (I.left reader.old) (λ text.
-        script_of limits text ≡ Ok reading.new.parsed)) }
-    ensures draft { OnOk result (IsDraft reading.new.parsed) }
-    ensures fault { IfErr result (λ f.
-        IsFault limits (I.left reader.old) (I.left reader.new) turns (I.failed reader.new) f f.cause) }
-    ensures healthy { OnOk result (I.failed reader.new ≡ false) }
-    ensures told { IfErr result (λ f. f.cause ≢ ScriptCause.Read → I.failed reader.new ≡ false) }
-{
-    let Ok(mut piece) = vec![in alloc; 0u8; PIECE] else {
-        return Err(no_memory());
-    };
-    reading.read_all(reader, piece.as_mut_slice(), turns)?;
-    reading.finish()?;
-    Ok(())
-}
-
-/// The names and the lines of the text that the reader has left.
-fn read_lines<I: Input>(
-    alloc: Global,
-    reader: &mut I,
-    limits: Limits,
-    turns: u64,
-) -> Result<(Names, Vec<ScriptLine>), ScriptFault>
-    requires turns { turns ≤ 17592186044416 }
-    requires works { I.failed reader.old ≡ false }
-    ensures ok { IfOk result (λ r. IfSome (I.left reader.old) (λ text.
-        script_of limits text ≡ Ok (record { names = r.0; lines = r.1.items }))) }
-    ensures draft { IfOk result (λ r. IsDraft (record { names = r.0; lines = r.1.items })) }
-    ensures fault { IfErr result (λ f.
-        IsFault limits (I.left reader.old) (I.left reader.new) turns (I.failed reader.new) f f.cause) }
-    ensures healthy { OnOk result (I.failed reader.new ≡ false) }
-    ensures told { IfErr result (λ f. f.cause ≢ ScriptCause.Read → I.failed reader.new ≡ false) }
-{
-    let mut reading = Reading::new(alloc, limits);
-    match read_text(alloc, &mut reading, reader, limits, turns) {
-        Ok(()) => Ok(reading.parts()),
-        Err(fault) => {
-            drop(reading);
-            Err(fault)
-        }
     }
 }
 
@@ -176,8 +119,10 @@ impl Script {
         ensures ok { IfOk result (λ s. IfSome (I.left reader.old) (λ text. script_of limits text ≡ Ok s)) }
         // Forks lead from thread 0 to each thread, and no thread is forked or joined twice.
         ensures script { IfOk result (λ s. IsScript s) }
-        // The fault is the first of the text, or a read failed, the turns are used up or a growth was
-        // refused.
+        // The fault is the first of the text, or a growth was refused at no later line, or a read failed or
+        // the turns are used up. A read fault is told at the line whose end was not seen: each line that came
+        // whole is without a cause, and at most 1,025 bytes came of that line, since with one more it is too
+        // long.
         ensures fault { IfErr result (λ f.
             IsFault limits (I.left reader.old) (I.left reader.new) turns (I.failed reader.new) f f.cause) }
         // A failure of the reader is never passed over: it is told as `Read`.
