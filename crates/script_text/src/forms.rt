@@ -34,22 +34,27 @@ fn word_at(bytes: &[u8]) -> Option<Word>
     ensures { result ≡ word_of bytes.now }
 {
     if bytes == b"r".as_slice() {
-        Some(Word::Load)
-    } else if bytes == b"w".as_slice() {
-        Some(Word::Store)
-    } else if bytes == b"acq".as_slice() {
-        Some(Word::Acquire)
-    } else if bytes == b"rel".as_slice() {
-        Some(Word::Release)
-    } else if bytes == b"fork".as_slice() {
-        Some(Word::Fork)
-    } else if bytes == b"join".as_slice() {
-        Some(Word::Join)
-    } else if bytes == b"swap".as_slice() {
-        Some(Word::Swap)
-    } else {
-        None
+        return Some(Word::Load);
     }
+    if bytes == b"w".as_slice() {
+        return Some(Word::Store);
+    }
+    if bytes == b"acq".as_slice() {
+        return Some(Word::Acquire);
+    }
+    if bytes == b"rel".as_slice() {
+        return Some(Word::Release);
+    }
+    if bytes == b"fork".as_slice() {
+        return Some(Word::Fork);
+    }
+    if bytes == b"join".as_slice() {
+        return Some(Word::Join);
+    }
+    if bytes == b"swap".as_slice() {
+        return Some(Word::Swap);
+    }
+    None
 }
 
 impl Word {
