@@ -11,6 +11,8 @@ mod example;
 #[cfg(test)]
 mod handles;
 #[cfg(test)]
+mod releases;
+#[cfg(test)]
 mod rows;
 #[cfg(test)]
 mod threads;

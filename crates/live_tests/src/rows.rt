@@ -36,8 +36,10 @@ enum Turn {
     DropChild,
 }
 
-/// The room for events, what the two threads do, how many events the log then has, and its races.
+/// How many locks and variables there are, the room for events, what the two threads do, how many events the
+/// log then has, and its races.
 struct Case {
+    names: u32,
     room: u64,
     turns: &'static [Turn],
     events: u64,
@@ -47,6 +49,7 @@ struct Case {
 const CASES: &[Case] = &[
     // Thread 1 may acquire the lock only after thread 0 released it.
     Case {
+        names: 1,
         room: 16,
         turns: &[
             Fork(0),
@@ -64,6 +67,7 @@ const CASES: &[Case] = &[
     },
     // Of a store and a load the later races.
     Case {
+        names: 1,
         room: 16,
         turns: &[
             Main(Accepted(Store(0, 7), 0, 7, Clear)),
@@ -79,6 +83,7 @@ const CASES: &[Case] = &[
     },
     // And so of a load and a store.
     Case {
+        names: 1,
         room: 16,
         turns: &[
             Main(Accepted(Store(0, 7), 0, 7, Clear)),
@@ -93,6 +98,7 @@ const CASES: &[Case] = &[
     },
     // The sections on the inner lock order those on the outer one. A release takes no memory.
     Case {
+        names: 2,
         room: 64,
         turns: &[
             Fork(0),
@@ -114,6 +120,7 @@ const CASES: &[Case] = &[
     },
     // Thread 1 is never joined. Its pass is dropped, and it keeps its lock.
     Case {
+        names: 1,
         room: 16,
         turns: &[
             Fork(0),
@@ -126,6 +133,7 @@ const CASES: &[Case] = &[
     },
     // A swap is seen whole, and has room for both of its events or for none.
     Case {
+        names: 1,
         room: 5,
         turns: &[
             Fork(0),
@@ -153,6 +161,27 @@ const CASES: &[Case] = &[
         ],
         events: 5,
         races: &[Race { event: 3, with: 2 }, Race { event: 4, with: 2 }],
+    },
+    // Of the swap's two events the store alone conflicts with the load.
+    Case {
+        names: 1,
+        room: 9,
+        turns: &[
+            Fork(0),
+            Child(Accepted(Load(0), 1, 0, Clear)),
+            Main(Swapped(
+                5,
+                Ok(SwapReply {
+                    index: 2,
+                    value: 0,
+                    load: Clear,
+                    store: Racy(1),
+                }),
+            )),
+            Main(Found(4)),
+        ],
+        events: 4,
+        races: &[Race { event: 3, with: 1 }],
     },
 ];
 
@@ -191,6 +220,15 @@ fn take<N: Name, R: Wait + Abort>(
     }
 }
 
+/// What a fork and a join are answered.
+fn at(index: u64) -> Reply {
+    Reply {
+        index,
+        value: 0,
+        verdict: Clear,
+    }
+}
+
 /// The pass of thread 0, and that of thread 1 while it runs.
 type Both<N> = (Actor<N>, Option<Actor<N>>);
 
@@ -201,7 +239,7 @@ fn fork<N: Name, R: Wait + Abort>(
     index: u64,
 ) -> Both<N> {
     let (main, child, reply) = main.fork(rt, shared, 1);
-    assert!(rt; reply.index == index);
+    assert!(rt; reply == at(index));
     (main, Some(child))
 }
 
@@ -214,7 +252,7 @@ fn join<N: Name, R: Wait + Abort>(
 ) -> Both<N> {
     let (main, child) = main.meet(shared, child);
     let (main, reply) = main.join(rt, shared, child);
-    assert!(rt; reply.index == index);
+    assert!(rt; reply == at(index));
     (main, None)
 }
 
@@ -265,9 +303,10 @@ fn expect_closed<R: Abort>(rt: &R, closed: &Closed, case: &Case) {
     }
 }
 
-/// Two threads, two locks and two variables.
 fn expect_case<R: Wait + Abort>(rt: &R, alloc: Global, case: &Case) {
-    let limits = Limits::new(2, 2, 2, case.room, Roots::OnlyMain).expect(rt, "limits");
+    let limits = Limits::new(2, case.names, case.names, case.room, Roots::OnlyMain).expect(
+        rt, "limits",
+    );
     let unnamed = Unnamed::new(alloc, limits).or_else(|_| Unnamed::new(alloc, limits));
     let closed = take_turns::<Brand, _>(rt, unnamed.expect(rt, "a monitor"), case.turns);
     expect_closed(rt, &closed, case);

@@ -1,0 +1,110 @@
+//! Calls of two threads after memory was refused.
+ghost use Rattle.std.specs.Prelude.{◌≡◌};
+
+use crate::actors::{Answer, Ask};
+use Ask::{Acquire, Load, Release, Store};
+use By::{Child, Main};
+use event_core::{Limits, LockId, Refusal, Reply, Roots, SiteId, ThreadId, VarId, Verdict};
+use live_monitor::{Unnamed, start};
+use log_pass::Name;
+use std::marker::Brand;
+use std::process::Abort;
+use std::sync::Wait;
+use traced_thread::TracedThread;
+
+const SITE: SiteId = SiteId(0);
+
+/// Who asks.
+#[derive(Clone, Copy)]
+enum By {
+    Main,
+    Child,
+}
+
+/// Nested sections, after the fork of the child.
+const LINES: &[(By, Ask)] = &[
+    (Main, Acquire(0)),
+    (Main, Acquire(1)),
+    (Main, Store(0, 0)),
+    (Main, Release(1)),
+    (Main, Store(1, 0)),
+    (Main, Release(0)),
+    (Child, Acquire(1)),
+    (Child, Load(0)),
+    (Child, Release(1)),
+    (Child, Acquire(0)),
+    (Child, Release(0)),
+    (Child, Load(1)),
+];
+
+fn answer<N: Name, R: Wait>(rt: &R, thread: &mut TracedThread<'_, N>, ask: Ask) -> Answer {
+    match ask {
+        Load(var) => thread.load(rt, VarId(var), SITE),
+        Store(var, value) => thread.store(rt, VarId(var), value, SITE),
+        Acquire(lock) => thread.acquire(rt, LockId(lock), SITE),
+        Release(lock) => thread.release(rt, LockId(lock), SITE),
+    }
+}
+
+/// Whether memory is short after the answer. Until then a call is accepted at its index, and a release is
+/// never refused for memory.
+fn is_short_after(
+    rt: &impl Abort,
+    was_short: bool,
+    index: u64,
+    is_release: bool,
+    answer: Answer,
+) -> bool {
+    let is_short = answer == Err(Refusal::OutOfMemory);
+    assert!(rt; !(is_release && is_short), "{index}: {answer:?}");
+    if was_short || is_short {
+        return true;
+    }
+    let accepted = Reply {
+        index,
+        value: 0,
+        verdict: Verdict::Clear,
+    };
+    assert!(rt; answer == Ok(accepted), "{index}: {answer:?}");
+    false
+}
+
+/// Makes the calls of both threads. Once one is refused for memory, releases alone are made.
+fn make_lines<N: Name, R: Wait + Abort>(
+    rt: &R,
+    main: &mut TracedThread<'_, N>,
+    child: &mut TracedThread<'_, N>,
+) {
+    let mut is_short = false;
+    for (index, (by, ask)) in (1..).zip(LINES) {
+        let is_release = matches!(ask, Release(_));
+        if is_release || !is_short {
+            let answer = match by {
+                Main => answer(rt, main, *ask),
+                Child => answer(rt, child, *ask),
+            };
+            is_short = is_short_after(rt, is_short, index, is_release, answer);
+        }
+    }
+}
+
+/// Where there is memory for the fork, both threads make their calls.
+fn make<N: Name, R: Wait + Abort>(rt: &R, unnamed: Unnamed)
+    requires table { unnamed.table ≡ N.table }
+    requires limits { unnamed.limits ≡ N.limits }
+{
+    let (shared, pass) = start::<N>(unnamed);
+    let mut main = TracedThread::new(&shared, pass);
+    if let Ok((mut child, _)) = main.fork(rt, ThreadId(1), SITE) {
+        make_lines(rt, &mut main, &mut child);
+    }
+}
+
+/// Where every growth is refused from just before a release on, that release is accepted at its index.
+#[test]
+fn no_release_is_refused_for_memory(rt: HostRuntime) {
+    let limits = Limits::new(2, 2, 2, 64, Roots::OnlyMain).expect(&rt, "limits");
+    if let Ok(unnamed) = Unnamed::new(rt.alloc(), limits) {
+        make::<Brand, _>(&rt, unnamed);
+    }
+}
