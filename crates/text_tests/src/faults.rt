@@ -132,7 +132,13 @@ fn a_content_is_read_by_itself(rt: HostRuntime) {
 }
 
 const NAMES_OF_CAUSES: &[(Cause, &str)] = &[
+    (Cause::Line(LineFault::LineTooLong), "LineTooLong"),
     (Cause::Line(LineFault::StrayCr), "StrayCr"),
+    (Cause::Line(LineFault::FewFields), "FewFields"),
+    (Cause::Line(LineFault::ManyFields), "ManyFields"),
+    (Cause::Line(LineFault::BadOp), "BadOp"),
+    (Cause::Line(LineFault::EmptyName), "EmptyName"),
+    (Cause::Line(LineFault::LongName), "LongName"),
     (Cause::TooManyNames(Kind::Site), "TooManyNames"),
     (Cause::OutOfMemory, "OutOfMemory"),
     (Cause::Read, "Read"),

@@ -34,50 +34,60 @@ fn copy<W: Output>(
     is_copied
 }
 
-/// Whether the lines of all events are written, and are the text, in so many puts of three bytes.
-fn is_copied(alloc: Global, limits: Limits, text: &[u8], puts: usize) -> Result<bool, OutOfMemory> {
+/// Whether the lines of all events are written, and are the text, in so many puts of at most so many bytes.
+fn is_copied(
+    alloc: Global,
+    limits: Limits,
+    text: &[u8],
+    puts: usize,
+    most: usize,
+) -> Result<bool, OutOfMemory> {
     let mut page = Page {
         rest: text,
-        most: 3,
+        most,
         puts,
         failed: false,
     };
-    copy(alloc, limits, text, &mut page)?;
-    Ok(page.rest.is_empty())
+    let is_copied = copy(alloc, limits, text, &mut page)?;
+    Ok(is_copied && page.rest.is_empty())
 }
 
-/// What was read is written as it stood, in puts of any size, until the writer fails.
+const TEXT: &[u8] =
+    b"T0|w(a(b))|\nT0|fork(T1)|1\nT1|acq(l)|2\nT1|rel(l)|3\nT1|r(a(b))|\xff\nT0|join(T1)|4\n";
+
+/// A byte a put, the text takes as many puts as it has bytes.
 #[test]
 fn what_is_written_is_the_text_that_was_read(rt: HostRuntime) {
-    let text =
-        b"T0|w(a(b))|\nT0|fork(T1)|1\nT1|acq(l)|2\nT1|rel(l)|3\nT1|r(a(b))|\xff\nT0|join(T1)|4\n";
-    for puts in 0..60 {
-        let is_copied = again!(&rt; is_copied(rt.alloc(), limits(&rt), text, puts));
-        assert!(rt; is_copied == (puts >= 51), "{puts} puts");
+    for most in [3, 4096] {
+        let is_copied = again!(&rt; is_copied(rt.alloc(), limits(&rt), TEXT, 4096, most));
+        assert!(rt; is_copied, "at most {most} bytes");
+    }
+    for puts in 0..TEXT.len() + 1 {
+        let is_copied = again!(&rt; is_copied(rt.alloc(), limits(&rt), TEXT, puts, 1));
+        assert!(rt; is_copied == (puts == TEXT.len()), "{puts} puts");
     }
 }
 
-/// Whether a fault line is written in so many puts of three bytes, and whether the page has then failed.
+const FAULT_LINE: &[u8] = b"line 12: Held\n";
+
+/// Whether a fault line is written in so many puts of a byte, and whether the page has then failed.
 fn put_fault_line(puts: usize) -> (bool, bool) {
     let mut page = Page {
-        rest: b"line 12: Held\n",
-        most: 3,
+        rest: FAULT_LINE,
+        most: 1,
         puts,
         failed: false,
     };
     let is_written = write_fault(&mut page, 12, "Held").is_ok();
-    (is_written, page.failed)
+    (is_written && page.rest.is_empty(), page.failed)
 }
 
-/// This line takes seven puts of three bytes.
 #[test]
 fn a_fault_line_is_written(rt: HostRuntime) {
-    for puts in 0..10 {
-        assert!(rt;
-            put_fault_line(puts) == (puts >= 7, puts < 7),
-            "{puts} puts"
-        );
+    for puts in 0..FAULT_LINE.len() {
+        assert!(rt; put_fault_line(puts) == (false, true), "{puts} puts");
     }
+    assert!(rt; put_fault_line(FAULT_LINE.len()) == (true, false));
 }
 
 /// Whether a fault line is written to so many bytes, after which the writer takes nothing.
