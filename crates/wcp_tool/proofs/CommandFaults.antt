@@ -1,7 +1,7 @@
 -- What clap answers to the words of the program: the kinds of their faults, or the command that was met.
 use Rattle.std.proofs.Common.{◌≡◌, ◌∙◌, List, [], ◌∷◌, Option, Some, None, Bool, true, false, refl, sym, ap}
-use Rattle.std.proofs.Common.{subst, inl, inr, is_some}
-use Rattle.std.specs.Prelude.{option_map, ◌||◌}
+use Rattle.std.proofs.Common.{subst, inl, inr, is_some, Result, Ok, Err}
+use Rattle.std.specs.Prelude.{IfErr, OnOk, option_map, ◌||◌}
 use Rattle.std.specs.List.{list_any}
 use Rattle.clap.specs.Values.{kind_of}
 use Rattle.clap.specs.Kinds.{HasKind, IsAmong, Kinds}
@@ -78,3 +78,15 @@ pub was_met : (words : List Text) (m : ArgMatches) → faults_of words ≡ []
 was_met words m taken met =
     let some : is_some (subcommand_rows_of m) ≡ true = ap is_some met ∙ met_one words taken in
     some_kept (out-ArgMatches m).subcommand _ some
+
+-- ---- what the settings of a parse tell
+
+pub on_any : {A B P : Type 0} (answer : Result A B) → P → OnOk answer P
+on_any (Ok a) p = p
+on_any (Err f) p = tt
+
+-- memory running out is a fault at any words
+pub ran_out : {A : Type 0} (words : List Text) (answer : Result A UsageFault)
+    → IfErr answer (λ f. f ≡ faults.OutOfMemory) → IfErr answer (λ f. IsFaultAt words f)
+ran_out words (Ok s) h = tt
+ran_out words (Err f) h = subst (λ (x : UsageFault). IsFaultAt words x) (sym h) tt

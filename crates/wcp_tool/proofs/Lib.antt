@@ -4,3 +4,4 @@ pub mod CommandArguments
 pub mod CommandWords
 pub mod CommandSettings
 pub mod CommandFaults
+pub mod ScriptReads

@@ -21,7 +21,7 @@ use Rattle.wcp_tool.specs.declared.endings.Ending.{Ending}
 use Rattle.wcp_tool.specs.declared.endings.Ending.TheVariants.{Done, WrongUsage, WriteFault, OutOfMemory}
 use Rattle.wcp_tool.specs.CommandLine.{Request, asked, check, faults_of, is_answer, is_mistake, replay, run}
 use Rattle.wcp_tool.specs.Endings.{check_ending, replay_ending, status_of}
-use Rattle.wcp_tool.specs.ScriptRuns.{ReportsLog, RunsText, TellsRefusal}
+use Rattle.wcp_tool.specs.ScriptRuns.{ReportsLog, RunsText, RefusesText}
 
 -- ---- a run of a command
 
@@ -59,12 +59,13 @@ pub record Reports (m : Limits) (old new : Option (List ℕ)) (status : ℕ) : T
   pub well_formed : WellFormed m log
   pub reports : ReportsLog names log old new status
 
--- what a run of a script's threads writes: a report, or the one line that tells which call is refused and why
+-- what a run of a script's threads writes: a report, or the one line that tells which of its calls is refused
+-- and why
 pub record PerformsRun (m : Limits) (old new : Option (List ℕ)) (status : ℕ) : Type 0 where
   pub reports : (status ≡ 0) ⊎ (status ≡ 1) → Reports m old new status
-  -- the report is that of what the threads of some script did: what the file held is not known
+  -- it is of some script and of what its threads did: what the file held is not known
   pub ran : (status ≡ 0) ⊎ (status ≡ 1) → RunsText m None old new status
-  pub refused : status ≡ 3 → TellsRefusal old new
+  pub refused : status ≡ 3 → RefusesText m None old new
 
 -- what is done for a request with so many threads, where the reader had this text left
 abbrev pub Performs : Request → ℕ → Option (List ℕ) → Option (List ℕ) → Option (List ℕ) → ℕ → Type 0
@@ -72,11 +73,14 @@ Performs check threads left old new status = Checks (limits_with threads Free) l
 Performs replay threads left old new status = Replays (limits_with threads Free) left old new status
 Performs (run path) threads left old new status = PerformsRun (limits_with threads OnlyMain) old new status
 
--- the trace was not read to its end: a read failed, or it has as many bytes as there are turns. What a script
--- gave is not known.
+-- a text was not read to its end: a read failed, or it has as many bytes as there are turns
+abbrev pub IsCutShort : Option (List ℕ) → Bool → Type 0
+IsCutShort left failed = (failed ≡ true) ⊎ IfSome left (λ text. 17592186044416 ≤ length text)
+
+-- the trace was not read to its end; what a script's file gave is not known
 abbrev pub IsCut : Request → Option (List ℕ) → Bool → Type 0
 IsCut (run path) left failed = Unit {0}
-IsCut request left failed = (failed ≡ true) ⊎ IfSome left (λ text. 17592186044416 ≤ length text)
+IsCut request left failed = IsCutShort left failed
 
 -- ---- a run of the program
 

@@ -1,7 +1,7 @@
 -- What a run of a script writes, and the status that it ends with.
 use Rattle.std.specs.Prelude.{◌≡◌, ◌⊎◌, ℕ, List, Option, Ok, true, IfSome}
 use Rattle.std.specs.Io.KnownBytes.{Appends}
-use Rattle.std.specs.List.{list_any}
+use Rattle.std.specs.List.{Contains, list_any}
 use Rattle.event_core.specs.declared.bounds.Limits.{Limits}
 use Rattle.event_core.specs.declared.events.Event.{Event}
 use Rattle.event_core.specs.declared.ids.ThreadId.{ThreadId}
@@ -11,8 +11,12 @@ use Rattle.event_core.specs.Refusal.{WellFormed}
 use Rattle.event_core.specs.Steps.{own_events}
 use Rattle.rapid_text.specs.Faults.{fault_line}
 use Rattle.rapid_text.specs.Tables.{Tables}
+use Rattle.script_drive.specs.Faults.{Refuses, is_told}
 use Rattle.script_drive.specs.Lines.{Follows, lines_by}
+use Rattle.script_drive.specs.declared.faults.DriveFault.{DriveFault}
+use Rattle.script_drive.specs.declared.faults.DriveFault.TheVariants.{Refused}
 use Rattle.script_text.specs.declared.causes.ScriptFault.{ScriptFault}
+use Rattle.script_text.specs.declared.lines.ScriptLine.{ScriptLine}
 use Rattle.script_text.specs.Faults.{cause_word}
 use Rattle.script_text.specs.Lines.{joins}
 use Rattle.script_text.specs.Scripts.{IsScript, Parsed, script_of}
@@ -58,8 +62,28 @@ TellsFault f old new status =
     ((status ≡ 6) × Appends old new (fault_line f.line (cause_word f.cause)))
     ⊎ ((status ≡ 4) ⊎ (status ≡ 5))
 
--- one line was written, which names the call that is refused and why
-pub record TellsRefusal (old new : Option (List ℕ)) : Type 0 where
-  pub line : ℕ
+-- one line was written, which names a line of the script whose call the definition refuses, and why. Another
+-- thread's hold of a lock is no reason, since such an acquire is tried again.
+pub record NamesRefusal (m : Limits) (lines : List ScriptLine) (old new : Option (List ℕ)) : Type 0 where
+  pub line : ScriptLine
+  pub one : Contains lines line
   pub refusal : Refusal
-  pub written : Appends old new (fault_line line (refusal_word refusal))
+  pub told : is_told refusal ≡ true
+  pub refused : Refuses m lines line refusal
+  pub written : Appends old new (fault_line line.line (refusal_word refusal))
+
+-- the same, as a fact without its witness
+abbrev pub TellsRefusal : Limits → List ScriptLine → Option (List ℕ) → Option (List ℕ) → Type 0
+TellsRefusal m lines old new = ∥ NamesRefusal m lines old new ∥₁
+
+-- the text that the reader had left is a script, and one line tells which of its calls is refused and why
+pub record RefusesText (m : Limits) (left old new : Option (List ℕ)) : Type 0 where
+  pub script : Parsed
+  pub is_of : IfSome left (λ text. script_of m text ≡ Ok script)
+  pub is : IsScript script
+  pub tells : TellsRefusal m script.lines old new
+
+-- the fault is a refusal, and one line was written, which tells its line and its word
+abbrev pub TellsRefused : DriveFault → Option (List ℕ) → Option (List ℕ) → Type 0
+TellsRefused (Refused t n why) old new = Appends old new (fault_line n (refusal_word why))
+TellsRefused _ old new = ⊥

@@ -1,7 +1,7 @@
 //! What the words of a command line ask for.
 ghost use Rattle.std.specs.Prelude.{◌≡◌, ◌≤◌, ℕ, List, [], Some, IfOk, IfErr, OnOk, true, false, map, codes};
 ghost use Rattle.clap.specs.Words.{app_of, first_of, found_of, has_subcommand, kind_of, new_app, rows_of};
-ghost use Rattle.clap.specs.Words.{rule_of, shape_of, subcommand_rows_of};
+ghost use Rattle.clap.specs.Words.{Text, rule_of, shape_of, subcommand_of, subcommand_rows_of};
 ghost use Rattle.clap.specs.declared.builder.command.Command.TheViews.{out-Command};
 ghost use Rattle.wcp_tool.specs.CommandLine.{trace_command, run_command as run_shape, bare, wcp};
 ghost use Rattle.wcp_tool.specs.CommandLine.{file_argument as file_rule};
@@ -134,11 +134,43 @@ fn fault_of(alloc: Global, error: &clap::Error) -> UsageFault
     if error.kind() == ErrorKind::OutOfMemory {
         return UsageFault::OutOfMemory;
     }
-    match error.to_string(alloc) {
-        Err(_) => UsageFault::OutOfMemory,
-        Ok(text) if error.use_stderr() => UsageFault::Usage(text),
-        Ok(text) => UsageFault::Help(text),
+    let Ok(text) = error.to_string(alloc) else {
+        return UsageFault::OutOfMemory;
+    };
+    if error.use_stderr() {
+        UsageFault::Usage(text)
+    } else {
+        UsageFault::Help(text)
     }
+}
+
+/// The settings of a parse that met a command.
+fn settings_of<'a>(alloc: Global, matches: &ArgMatches<'a>) -> Result<Settings, UsageFault>
+    requires { has_subcommand matches.now ≡ true }
+    ensures threads { IfOk result (λ s. (1 ≤ s.threads) × (s.threads ≤ 1024)) }
+    ensures patience { IfOk result (λ s. (1 ≤ s.patience) × (s.patience ≤ 4294967295)) }
+    ensures asked { (words : List Text) → faults_of words ≡ []
+        → subcommand_rows_of matches.now ≡ subcommand_of wcp words
+        → IfOk result (λ s. asked words ≡ Some (asked_by s)) }
+    ensures fault { IfErr result (λ f. f ≡ UsageFault.OutOfMemory) }
+{
+    let (name, given) = command_met(matches);
+    let threads = threads_of(given);
+    if name != "run" {
+        return Ok(Settings {
+            command: command_of(name),
+            threads,
+            patience: DEFAULT_PATIENCE,
+        });
+    }
+    let Ok(file) = String::from_str(alloc, file_of(given)) else {
+        return Err(UsageFault::OutOfMemory);
+    };
+    Ok(Settings {
+        command: Command::Run(file),
+        threads,
+        patience: patience_of(given),
+    })
 }
 
 /// What the words after the program's own name ask for: a command, and how many threads may be named, 64
@@ -160,23 +192,13 @@ pub fn settings<'a, S: AsStr>(alloc: Global, words: &'a [S]) -> Result<Settings,
     };
     let matches = match command.try_get_matches_from(words) {
         Ok(matches) => matches,
-        Err(error) => return Err(fault_of(alloc, &error)),
+        Err(error) => {
+            let fault = fault_of(alloc, &error);
+            drop(error);
+            return Err(fault);
+        }
     };
-    let (name, given) = command_met(&matches);
-    let threads = threads_of(given);
-    if name != "run" {
-        return Ok(Settings {
-            command: command_of(name),
-            threads,
-            patience: DEFAULT_PATIENCE,
-        });
-    }
-    let Ok(file) = String::from_str(alloc, file_of(given)) else {
-        return Err(UsageFault::OutOfMemory);
-    };
-    Ok(Settings {
-        command: Command::Run(file),
-        threads,
-        patience: patience_of(given),
-    })
+    let settings = settings_of(alloc, &matches);
+    drop(matches);
+    settings
 }

@@ -164,8 +164,16 @@ pub fn tool<
     ensures written { result ≢ 4 → O.failed writer.new ≡ false }
 {
     match settings(rt.alloc(), words) {
-        Ok(settings) => run(rt, &settings, reader, writer, errors),
-        Err(fault) => finish(explain(&fault, writer, errors), errors),
+        Ok(settings) => {
+            let status = run(rt, &settings, reader, writer, errors);
+            drop(settings);
+            status
+        }
+        Err(fault) => {
+            let ending = explain(&fault, writer, errors);
+            drop(fault);
+            finish(ending, errors)
+        }
     }
 }
 
@@ -213,7 +221,15 @@ pub fn program<
     ensures written { result ≢ 4 → O.failed writer.new ≡ false }
 {
     match words(rt) {
-        Ok(words) => tool(rt, words.as_slice(), reader, writer, errors),
-        Err(fault) => finish(explain(&fault, writer, errors), errors),
+        Ok(words) => {
+            let status = tool(rt, words.as_slice(), reader, writer, errors);
+            drop(words);
+            status
+        }
+        Err(fault) => {
+            let ending = explain(&fault, writer, errors);
+            drop(fault);
+            finish(ending, errors)
+        }
     }
 }

@@ -5,8 +5,9 @@ ghost use Rattle.rapid_text.specs.Faults.{fault_line};
 ghost use Rattle.script_text.specs.declared.causes.ScriptFault.{ScriptFault as Why};
 ghost use Rattle.script_text.specs.Scripts.{script_of};
 ghost use Rattle.wcp_tool.specs.Endings.{status_of};
-ghost use Rattle.wcp_tool.specs.Running.{PerformsRun, Reports, limits_with};
-ghost use Rattle.wcp_tool.specs.ScriptRuns.{Ran, ReportsLog, RunsText, TellsFault, TellsRefusal};
+ghost use Rattle.wcp_tool.specs.Running.{IsCutShort, PerformsRun, Reports, limits_with};
+ghost use Rattle.wcp_tool.specs.ScriptRuns.{Ran, RefusesText, ReportsLog, RunsText, TellsFault};
+ghost use Rattle.wcp_tool.specs.ScriptRuns.{TellsRefusal, TellsRefused};
 ghost use Rattle.event_core.specs.declared.bounds.Roots.TheVariants.{OnlyMain};
 
 use crate::bounds::{TURNS, limits_of};
@@ -46,6 +47,7 @@ fn explain_script<O: Output>(writer: &mut O, fault: &ScriptFault) -> Ending
     ensures tells { TellsFault fault.now (O.written writer.old) (O.written writer.new) (status_of result) }
     ensures hindered { (fault.now.cause ≡ ScriptCause.Read) ⊎ (fault.now.cause ≡ ScriptCause.OutOfMemory)
         → (status_of result ≡ 4) ⊎ (status_of result ≡ 5) }
+    ensures cut { result ≡ Ending.ReadFault → fault.now.cause ≡ ScriptCause.Read }
     ensures refused { result ≢ Ending.Refused }
     ensures ran { (result ≢ Ending.Done) × (result ≢ Ending.Races) }
     ensures usage { result ≢ Ending.WrongUsage }
@@ -63,10 +65,12 @@ fn explain_script<O: Output>(writer: &mut O, fault: &ScriptFault) -> Ending
 /// Tells why a script was not run to its end.
 fn explain_drive<O: Output>(writer: &mut O, fault: &DriveFault) -> Ending
     requires writes { O.failed writer.old ≡ false }
-    ensures refused { result ≡ Ending.Refused → TellsRefusal (O.written writer.old) (O.written writer.new) }
+    ensures refused { result ≡ Ending.Refused
+        → TellsRefused fault.now (O.written writer.old) (O.written writer.new) }
     ensures ran { (result ≢ Ending.Done) × (result ≢ Ending.Races) }
     ensures usage { result ≢ Ending.WrongUsage }
-    ensures quiet { (result ≡ Ending.ReadFault) ⊎ (result ≡ Ending.OutOfMemory) → writer.new ≡ writer.old }
+    ensures whole { result ≢ Ending.ReadFault }
+    ensures quiet { result ≡ Ending.OutOfMemory → writer.new ≡ writer.old }
     ensures write_fault { result ≡ Ending.WriteFault → O.failed writer.new ≡ true }
     ensures written { result ≢ Ending.WriteFault → O.failed writer.new ≡ false }
 {
@@ -114,9 +118,11 @@ fn run_threads<R: AllocGlobal + Threads + Wait + Sync, O: Output>(
     requires writes { O.failed writer.old ≡ false }
     ensures ran { (result ≡ Ending.Done) ⊎ (result ≡ Ending.Races) → Ran limits.now script.now
         (O.written writer.old) (O.written writer.new) (status_of result) }
-    ensures refused { result ≡ Ending.Refused → TellsRefusal (O.written writer.old) (O.written writer.new) }
+    ensures refused { result ≡ Ending.Refused → TellsRefusal limits.now script.now.lines
+        (O.written writer.old) (O.written writer.new) }
     ensures usage { result ≢ Ending.WrongUsage }
-    ensures quiet { (result ≡ Ending.ReadFault) ⊎ (result ≡ Ending.OutOfMemory) → writer.new ≡ writer.old }
+    ensures whole { result ≢ Ending.ReadFault }
+    ensures quiet { result ≡ Ending.OutOfMemory → writer.new ≡ writer.old }
     ensures write_fault { result ≡ Ending.WriteFault → O.failed writer.new ≡ true }
     ensures written { result ≢ Ending.WriteFault → O.failed writer.new ≡ false }
 {
@@ -143,11 +149,15 @@ fn run_lines<R: AllocGlobal + Threads + Wait + Sync, I: Input, O: Output>(
     ensures ran { (result ≡ Ending.Done) ⊎ (result ≡ Ending.Races)
         → RunsText (limits_with settings.now.threads OnlyMain) (I.left script.old) (O.written writer.old)
         (O.written writer.new) (status_of result) }
-    ensures refused { result ≡ Ending.Refused → TellsRefusal (O.written writer.old) (O.written writer.new) }
+    ensures refused { result ≡ Ending.Refused
+        → RefusesText (limits_with settings.now.threads OnlyMain) (I.left script.old) (O.written writer.old)
+        (O.written writer.new) }
     ensures fault { IfSome (I.left script.old) (λ text. (f : Why)
         → script_of (limits_with settings.now.threads OnlyMain) text ≡ Err f
         → TellsFault f (O.written writer.old) (O.written writer.new) (status_of result)) }
     ensures usage { result ≢ Ending.WrongUsage }
+    ensures cut { result ≡ Ending.ReadFault → IsCutShort (I.left script.old) (I.failed script.new) }
+    ensures read { (result ≡ Ending.Done) ⊎ (result ≡ Ending.Races) → I.failed script.new ≡ false }
     ensures quiet { (result ≡ Ending.ReadFault) ⊎ (result ≡ Ending.OutOfMemory) → writer.new ≡ writer.old }
     ensures write_fault { result ≡ Ending.WriteFault → O.failed writer.new ≡ true }
     ensures written { result ≢ Ending.WriteFault → O.failed writer.new ≡ false }
@@ -186,8 +196,10 @@ pub fn run_script<R: AllocGlobal + Threads + Wait + Sync, I: Input, O: Output, E
     // first thread, and of each that this one joins, in order.
     ensures ran { (result ≡ 0) ⊎ (result ≡ 1) → RunsText (limits_with settings.now.threads OnlyMain)
         (I.left script.old) (O.written writer.old) (O.written writer.new) result }
-    // With status 3 it wrote the one line that tells which call is refused and why.
-    ensures refused { result ≡ 3 → TellsRefusal (O.written writer.old) (O.written writer.new) }
+    // With status 3 it wrote the one line that tells which call of that script is refused, and why. The
+    // definition refuses this call so after some log in which its thread has made just the calls before.
+    ensures refused { result ≡ 3 → RefusesText (limits_with settings.now.threads OnlyMain)
+        (I.left script.old) (O.written writer.old) (O.written writer.new) }
     // The first fault of the script's lines is told, unless memory ran out or a device failed.
     ensures fault { IfSome (I.left script.old) (λ text. (f : Why)
         → script_of (limits_with settings.now.threads OnlyMain) text ≡ Err f
@@ -197,9 +209,12 @@ pub fn run_script<R: AllocGlobal + Threads + Wait + Sync, I: Input, O: Output, E
     ensures usage { result ≢ 2 }
     // Nothing is written to standard output where memory ran out.
     ensures quiet { result ≡ 5 → writer.new ≡ writer.old }
-    // Status 4 tells that the writer failed or took no byte, or else that the script was not read to its end,
-    // and then nothing is written.
-    ensures devices { result ≡ 4 → (O.failed writer.new ≡ true) ⊎ (writer.new ≡ writer.old) }
+    // Status 4 tells that the writer failed or took no byte; or else that the script was not read to its end,
+    // since a read failed or it has as many bytes as there are turns, and then nothing is written.
+    ensures devices { result ≡ 4 → (O.failed writer.new ≡ true)
+        ⊎ ((writer.new ≡ writer.old) × IsCutShort (I.left script.old) (I.failed script.new)) }
+    // It ends with 0 or 1 only where no read failed.
+    ensures read { (result ≡ 0) ⊎ (result ≡ 1) → I.failed script.new ≡ false }
     ensures written { result ≢ 4 → O.failed writer.new ≡ false }
 {
     finish(run_lines(rt, script, writer, settings), errors)

@@ -1,7 +1,8 @@
 use Rattle.std.proofs.Common.{subst}
 use Rattle.event_core.specs.declared.bounds.Limits.{Limits}
 use Rattle.wcp_tool.specs.Endings.{status_of}
-use Rattle.wcp_tool.specs.ScriptRuns.{RunsText}
+use Rattle.wcp_tool.specs.ScriptRuns.{RunsText, RefusesText}
+use Rattle.wcp_tool.proofs.ScriptReads.{cut_short}
 use Rattle.wcp_tool.proofs.scripts.run_lines.Goals as goal
 
 pub returns-in-Ok-clause-ran : goal.returns-in-Ok-clause-ran
@@ -16,3 +17,19 @@ returns-in-Ok-clause-ran g c h =
       is = c.in-Ok.ensures.script;
       ran = c.run_threads-ending.ensures.ran h;
     })
+
+pub returns-in-Ok-clause-refused : goal.returns-in-Ok-clause-refused
+returns-in-Ok-clause-refused g c h =
+    subst (λ (m : Limits). RefusesText m (g.I.Input.left c.args.script.now)
+    (g.O.Output.written c.args.writer.now) (g.O.Output.written c.run_threads-ending.new.writer))
+    c.limits_of-limits.ensures
+    (record {
+      script = c.in-Ok.script;
+      is_of = c.in-Ok.ensures.ok;
+      is = c.in-Ok.ensures.script;
+      tells = c.run_threads-ending.ensures.refused h;
+    })
+
+pub returns-in-Err-clause-cut : goal.returns-in-Err-clause-cut
+returns-in-Err-clause-cut g c h =
+    cut_short _ _ _ _ _ _ (c.explain_script.ensures.cut h) c.in-Err.ensures.fault

@@ -1,0 +1,47 @@
+-- What a script that was not read to its end, or a refused call of it, tells of the whole run.
+use Rattle.std.proofs.Common.{◌≡◌, ℕ, List, Option, Bool, true, subst, ap, sym, inl, inr, ◌⊎◌, ◌≤◌, length}
+use Rattle.std.specs.Prelude.{IfSome}
+use Rattle.std.specs.Io.KnownBytes.{Appends, Consumes}
+use Rattle.std.proofs.Math.Logic.{∥∥₁_map}
+use Rattle.event_core.specs.declared.bounds.Limits.{Limits}
+use Rattle.rapid_text.specs.Faults.{fault_line}
+use Rattle.script_drive.specs.Faults.{IsFaultOf}
+use Rattle.script_drive.specs.declared.faults.DriveFault.{DriveFault}
+use Rattle.script_drive.specs.declared.faults.DriveFault.TheVariants as drive
+use Rattle.script_text.specs.declared.causes.ScriptCause.{ScriptCause}
+use Rattle.script_text.specs.declared.causes.ScriptCause.TheVariants.{Read}
+use Rattle.script_text.specs.declared.causes.ScriptFault.{ScriptFault}
+use Rattle.script_text.specs.declared.lines.ScriptLine.{ScriptLine}
+use Rattle.script_text.specs.Readings.{IsFault}
+use Rattle.trace_report.proofs.Whole.{many_bytes}
+use Rattle.trace_report.specs.Words.{refusal_word}
+use Rattle.wcp_tool.specs.ScriptRuns.{TellsRefusal, TellsRefused}
+
+-- a read failed, or there were as many bytes as turns
+why_short : (left rest : Option (List ℕ)) (turns : ℕ) (failed : Bool) (came : List ℕ) → Consumes left rest came
+    → (failed ≡ true) ⊎ (turns ≤ length came) → (failed ≡ true) ⊎ IfSome left (λ text. turns ≤ length text)
+why_short left rest turns failed came bytes (inl bad) = inl bad
+why_short left rest turns failed came bytes (inr many) = inr (many_bytes left rest came turns bytes many)
+
+pub cut_short : (limits : Limits) (left rest : Option (List ℕ)) (turns : ℕ) (failed : Bool) (f : ScriptFault)
+    → f.cause ≡ Read → IsFault limits left rest turns failed f f.cause
+    → (failed ≡ true) ⊎ IfSome left (λ text. turns ≤ length text)
+cut_short limits left rest turns failed f read is =
+    let r = subst (λ (c : ScriptCause). IsFault limits left rest turns failed f c) read is in
+    why_short left rest turns failed r.came r.bytes r.why
+
+-- the refusal that is told is one of the script
+pub refusal_told : (m : Limits) (lines : List ScriptLine) (f : DriveFault) (old new : Option (List ℕ))
+    → IsFaultOf m lines f → TellsRefused f old new → TellsRefusal m lines old new
+refusal_told m lines drive.OutOfMemory old new fits told = absurd told
+refusal_told m lines (drive.Stuck t n) old new fits told = absurd told
+refusal_told m lines (drive.NoWorker n) old new fits told = absurd told
+refusal_told m lines (drive.Refused t n why) old new fits told =
+    ∥∥₁_map fits (λ p. record {
+      line = p.1.0;
+      one = p.1.1;
+      refusal = why;
+      told = p.0;
+      refused = p.1.2.2;
+      written = subst (λ (k : ℕ). Appends old new (fault_line k (refusal_word why))) (sym p.1.2.1) told;
+    })
