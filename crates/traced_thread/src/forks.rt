@@ -9,6 +9,7 @@ ghost use Rattle.live_monitor.specs.Calls.{fork_by, join_by, Accepted, Declined}
 ghost use Rattle.traced_thread.specs.Handles.{HasComeTo};
 
 use crate::handle::{TracedThread, take};
+use crate::refused_joins::NotJoined;
 use event_core::{Refusal, Reply, SiteId, ThreadId};
 use log_pass::Name;
 use std::sync::Wait;
@@ -46,7 +47,7 @@ impl<'m, N: Name> TracedThread<'m, N> {
         rt: &R,
         child: TracedThread<'m, N>,
         site: SiteId,
-    ) -> Result<Reply, (Refusal, TracedThread<'m, N>)>
+    ) -> Result<Reply, NotJoined<'m, N>>
         ensures later { HasComeTo N.limits self.old self.new }
         ensures child_begins { OnOk result (IsPrefix child.entry.seen self.new.seen) }
         ensures accepted { IfOk result (λ reply.
@@ -55,16 +56,19 @@ impl<'m, N: Name> TracedThread<'m, N> {
         ensures child_events { OnOk result
             (log_of child.entry.mine ≡ own_events child.entry.thread (log_of self.new.seen)) }
         ensures joined { OnOk result (list_any (joins child.entry.thread) (log_of self.new.seen) ≡ true) }
-        ensures declined { IfErr result (λ r.
-            Declined N.limits (join_by self.old.thread child.entry.thread site) self.old self.new r.0) }
-        ensures back { IfErr result (λ r. r.1 ≡ child.entry) }
+        ensures declined { IfErr result (λ left. Declined N.limits
+            (join_by self.old.thread child.entry.thread site) self.old self.new left.refusal) }
+        ensures back { IfErr result (λ left. left.child ≡ child.entry) }
     {
         let child = child.into_pass();
         let (pass, joined) = self.monitor.join(rt, take(&mut self.pass), child, site);
         self.pass = Some(pass);
         match joined {
             Ok(reply) => Ok(reply),
-            Err((refusal, back)) => Err((refusal, TracedThread::new(self.monitor, back))),
+            Err((refusal, back)) => Err(NotJoined {
+                refusal,
+                child: TracedThread::new(self.monitor, back),
+            }),
         }
     }
 }

@@ -11,5 +11,7 @@ mod calls;
 mod forks;
 mod handle;
 mod looks;
+mod refused_joins;
 
 pub use handle::TracedThread;
+pub use refused_joins::NotJoined;

@@ -1,4 +1,4 @@
-use Rattle.bank.proofs.open_bank.Given as goal
+use Rattle.bank.proofs.main.Given as goal
 
 -- the monitor that was just made
 abbrev pub ghosts-run : goal.ghosts-run

@@ -1,0 +1,32 @@
+use Rattle.std.proofs.Common.{◌<◌, arith, length, refl, rules}
+use Rattle.rapid_text.specs.Tables.{space}
+use Rattle.closed_report.proofs.Listing.{given_before, name_added, no_more}
+use Rattle.closed_report.proofs.name_lists.add_name.Goals as goal
+
+pub returns-then-not-is_name_of-clause-fault : goal.returns-then-not-is_name_of-clause-fault
+returns-then-not-is_name_of-clause-fault c =
+    let no = c.if-not-is_name_of.true in
+    (refl, c.count-number.ensures.is, λ named. let yes = c.is_name_of.ensures.1 named in absurd cc)
+
+pub returns-then-given-number-clause-fault : goal.returns-then-given-number-clause-fault
+returns-then-given-number-clause-fault c =
+    let earlier = c.if-given-number.true in
+    let count = c.count-number.ensures.is in
+    let within : c.in-Ok.given < length (space c.args.names.now c.args.kind).names = omega arith in
+    let at = given_before c.args.names.now c.number.new.self c.args.kind c.args.name.now c.in-Ok.given
+    c.in-Ok.ensures.grows c.in-Ok.ensures.named within in
+    (refl, count, (c.in-Ok.given, earlier, at))
+
+pub returns-else-given-number-clause-ok : goal.returns-else-given-number-clause-ok
+returns-else-given-number-clause-ok c =
+    let past = c.if-given-number.false in
+    let count = c.count-number.ensures.is in
+    name_added c.args.names.now c.number.new.self c.args.kind c.args.name.now c.in-Ok.given
+    c.in-Ok.ensures.ok c.in-Ok.ensures.named (omega arith)
+
+pub returns-in-Err-TooMany-clause-fault : goal.returns-in-Err-TooMany-clause-fault
+returns-in-Err-TooMany-clause-fault c =
+    (refl, no_more c.args.names.now c.args.kind c.args.name.now (c.in-Err-TooMany.ensures.too_many.0 (search rules)))
+
+pub returns-in-Err-OutOfMemory-clause-fault : goal.returns-in-Err-OutOfMemory-clause-fault
+returns-in-Err-OutOfMemory-clause-fault c = tt

@@ -1,0 +1,11 @@
+//! The report of a closed log, and names for the numbers that its threads chose.
+#![tactic(auto)]
+
+mod name_lists;
+mod naming;
+mod reporting;
+
+pub use name_lists::{NameLists, NamingFault, names_of};
+pub use rapid_text::{Device, Names, Output};
+pub use reporting::{ReportFault, report_closed};
+pub use trace_report::Summary;

@@ -1,0 +1,48 @@
+//! The report of a closed log.
+ghost use Rattle.std.specs.Prelude.{◌≡◌, ◌↔◌, true, IfOk, OnOk};
+ghost use Rattle.std.specs.Result.{IsErrOf};
+ghost use Rattle.trace_report.specs.Reports.{AreNamed};
+ghost use Rattle.closed_report.specs.Closed.{IsReportOf};
+
+use crate::naming::are_named;
+use live_monitor::Closed;
+use rapid_text::{Names, Output};
+use thiserror::Error;
+use trace_report::{Summary, report};
+
+/// Why a closed log was not reported.
+#[derive(Clone, Copy, Debug, PartialEq, Eq, Error)]
+pub enum ReportFault {
+    /// A thread, lock, variable or site of the log has no name.
+    #[error("a number of the log has no name")]
+    Unnamed,
+    /// The report was not written whole. How much of it was written is not known.
+    #[error("the report could not be written")]
+    Write,
+}
+
+/// Writes the report of the closed log, as `wcp replay` writes that of a trace. It takes no memory.
+pub fn report_closed<W: Output>(
+    writer: &mut W,
+    closed: &Closed,
+    names: &Names,
+) -> Result<Summary, ReportFault>
+    // What is written is the report, with the definition's verdict on each event, and nothing else.
+    ensures ok { IfOk result (λ summary.
+        IsReportOf names.now closed.now.log (W.written writer.old) (W.written writer.new) summary) }
+    // A number has no name exactly where it is told so, and then nothing is written.
+    ensures unnamed { IsErrOf result ReportFault.Unnamed ↔ (AreNamed names.now closed.now.log → ⊥) }
+    ensures quiet { IsErrOf result ReportFault.Unnamed → writer.new ≡ writer.old }
+    ensures healthy { OnOk result (W.failed writer.new ≡ W.failed writer.old) }
+    // It fails to write only where the writer did.
+    ensures failed { IsErrOf result ReportFault.Write → W.failed writer.new ≡ true }
+{
+    let log = closed.log();
+    if !are_named(names, log) {
+        return Err(ReportFault::Unnamed);
+    }
+    match report(writer, log, closed.verdicts(), names) {
+        Ok(summary) => Ok(summary),
+        Err(_) => Err(ReportFault::Write),
+    }
+}
