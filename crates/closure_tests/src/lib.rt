@@ -31,8 +31,6 @@ mod room;
 #[cfg(test)]
 mod rules;
 #[cfg(test)]
-mod runs;
-#[cfg(test)]
 mod sections;
 #[cfg(test)]
 mod steps;

@@ -1,37 +1,64 @@
-//! Room for a call.
-//!
-//! What is refused memory once is asked for once more.
-use crate::calls::{T0, X, call};
-use crate::told::{monitor, step_once};
-use event_core::Op::Store;
-use event_core::{Call, Limits, Outcome, Reply, Roots, Verdict};
+//! Calls after memory was refused.
+use crate::calls::{L, M, T0, T1, X, Y, call};
+use crate::told::step_once;
+use event_core::Op::{Acquire, Fork, Load, Release, Store};
+use event_core::{Limits, Op, Outcome, Refusal, Reply, Roots, ThreadId, Verdict};
 use seq_monitor::Monitor;
 use std::process::Abort;
 use std::test::Fail;
 
-// Whether room is made for the call.
-fn prepare(monitor: &mut Monitor, call: &Call) -> bool {
-    monitor.prepare(call).is_ok() || monitor.prepare(call).is_ok()
-}
+// Nested sections: who does what.
+const LINES: &[(ThreadId, Op)] = &[
+    (T0, Fork(T1)),
+    (T0, Acquire(L)),
+    (T0, Acquire(M)),
+    (T0, Store(X)),
+    (T0, Release(M)),
+    (T0, Store(Y)),
+    (T0, Release(L)),
+    (T1, Acquire(M)),
+    (T1, Load(X)),
+    (T1, Release(M)),
+    (T1, Acquire(L)),
+    (T1, Release(L)),
+    (T1, Load(Y)),
+];
 
-// There is no room for the call until it is made, and then the call is accepted at the first try.
-fn expect_room(rt: &impl Abort, monitor: &mut Monitor, call: Call) {
-    assert!(rt; !monitor.ready(&call));
-    assert!(rt; prepare(monitor, &call));
-    assert!(rt; monitor.ready(&call));
-    let first = Reply {
-        index: 0,
-        value: call.arg,
+// What the call at the index is answered where no call before it was refused.
+fn accepted(index: u64) -> Outcome {
+    Outcome::Accepted(Reply {
+        index,
+        value: 0,
         verdict: Verdict::Clear,
-    };
-    assert!(rt; step_once(monitor, call) == Outcome::Accepted(first));
+    })
 }
 
+// Makes room for each call but a release, and then the call at the first try. Once there is no room, releases
+// alone are made. They need none.
+fn make(rt: &impl Abort, monitor: &mut Monitor) {
+    let mut is_short = false;
+    for (index, (thread, op)) in (0..).zip(LINES) {
+        let call = call(*thread, *op, 0);
+        let is_release = matches!(op, Release(_));
+        is_short = is_short || !is_release && monitor.prepare(&call).is_err();
+        if is_release || !is_short {
+            let outcome = step_once(monitor, call);
+            let is_told = outcome == accepted(index) || is_short;
+            assert!(rt; is_told, "{index}: {outcome:?}");
+            assert!(rt;
+                outcome != Outcome::Refused(Refusal::OutOfMemory),
+                "{index}"
+            );
+        }
+    }
+}
+
+/// Where every growth is refused from just before a release on, that release is accepted at its index.
 #[test]
-fn a_call_is_accepted_where_room_was_made(rt: HostRuntime) -> Result<(), Fail> {
+fn no_release_is_refused_for_memory(rt: HostRuntime) -> Result<(), Fail> {
     let limits = Limits::new(2, 2, 2, 64, Roots::OnlyMain)?;
-    let mut monitor = monitor(rt.alloc(), &limits)?;
-    expect_room(&rt, &mut monitor, call(T0, Store(X), 9));
+    let mut monitor = Monitor::new(rt.alloc(), &limits)?;
+    make(&rt, &mut monitor);
     drop(monitor);
     Ok(())
 }

@@ -3,8 +3,10 @@ use crate::calls::Answer::{self, Clear, Racy, Refused};
 use crate::calls::{L, M, T0, T1, T2, X, Y, call};
 use crate::told::{Told, Way, add, tell};
 use event_core::Op::{self, Acquire, Fork, Load, Release, Store};
-use event_core::Refusal::{LogFull, NotHolder, NotStarted, SelfTarget, TargetRange, ThreadRange};
-use event_core::{Call, Limits, Roots, ThreadId};
+use event_core::Refusal::{
+    AlreadyStarted, LogFull, NotHolder, NotStarted, SelfTarget, TargetRange, ThreadRange,
+};
+use event_core::{Call, Limits, LockId, Roots, ThreadId, VarId};
 use std::alloc::{AllocError, Global};
 use std::process::Abort;
 use std::test::Fail;
@@ -134,6 +136,35 @@ const CASES: &[Case] = &[
         ],
         events: 3,
         races: &[(2, 1)],
+    },
+    Case {
+        name: "the greatest numbers are within the limits",
+        threads: 2,
+        names: 1_048_576,
+        most_events: 64,
+        lines: &[
+            (T0, Store(VarId(1_048_575)), 5, Clear(0, 5)),
+            (T0, Load(VarId(1_048_575)), 0, Clear(1, 5)),
+            (T0, Load(VarId(1_048_576)), 0, Refused(TargetRange)),
+            (T0, Acquire(LockId(1_048_575)), 0, Clear(2, 0)),
+            (T0, Release(LockId(1_048_575)), 0, Clear(3, 0)),
+            (T0, Acquire(LockId(1_048_576)), 0, Refused(TargetRange)),
+        ],
+        events: 4,
+        races: &[],
+    },
+    Case {
+        name: "a thread is forked once, and the main thread never",
+        threads: 2,
+        names: 1,
+        most_events: 64,
+        lines: &[
+            (T0, Fork(T1), 0, Clear(0, 0)),
+            (T0, Fork(T1), 0, Refused(AlreadyStarted)),
+            (T1, Fork(T0), 0, Refused(AlreadyStarted)),
+        ],
+        events: 1,
+        races: &[],
     },
     Case {
         name: "no growth that is refused keeps a release from being taken",

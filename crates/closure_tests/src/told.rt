@@ -174,11 +174,4 @@ impl Told {
         }
         Ok(())
     }
-
-    /// Whether the outcomes and the races are the same.
-    pub fn is_same(&self, other: &Told) -> bool {
-        self.outcomes.as_slice() == other.outcomes.as_slice()
-            && self.log.as_slice() == other.log.as_slice()
-            && self.races.as_slice() == other.races.as_slice()
-    }
 }

@@ -1,8 +1,7 @@
 //! Worked logs, each with all its races: the index of an event and that of the event that it races with.
 use crate::calls::{K, L, M, N, T0, T1, T2, X, Y, Z, call};
 use crate::compared::compare;
-use crate::runs::tell_both;
-use crate::told::{Told, add};
+use crate::told::{Told, Way, add, tell};
 use event_core::Op::{self, Acquire, Fork, Join, Load, Release, Store};
 use event_core::{Limits, Outcome, Reply, Roots, ThreadId, Verdict};
 use std::alloc::Global;
@@ -248,9 +247,11 @@ fn expect(rt: &impl Abort, alloc: Global, worked: &Worked, number: usize) -> Res
     for (thread, op) in worked.log {
         add(&mut calls, call(*thread, *op, 0))?;
     }
-    let told = tell_both(rt, alloc, &limits, &calls)?;
-    expect_races(rt, worked, &told);
-    compare(rt, alloc, &told.log, &told.verdicts, number)?;
+    for way in [Way::Steps(u64::MAX), Way::Run] {
+        let told = tell(rt, alloc, &limits, &calls, way)?;
+        expect_races(rt, worked, &told);
+        compare(rt, alloc, &told.log, &told.verdicts, number)?;
+    }
     Ok(())
 }
 
