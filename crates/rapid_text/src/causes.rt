@@ -22,18 +22,18 @@ pub enum NameFault {
     OutOfMemory,
 }
 
-/// Why a text has a fault.
+/// Why a text has a fault. Each cause has a number, which its words begin with.
 #[derive(Clone, Copy, Debug, PartialEq, Eq)]
 pub enum Cause {
-    /// The line is no event.
+    /// 1 to 6, and 10 for a CR in the content: the line is no event.
     Line(LineFault),
-    /// The line has a new name, and its kind has as many names as its limit.
+    /// 7: the line has a new name, and its kind has as many names as its limit.
     TooManyNames(Kind),
-    /// A growth was refused.
+    /// 9: a growth was refused.
     OutOfMemory,
-    /// The reader failed, or the turns are used up.
+    /// 8: the reader failed, or the turns are used up.
     Read,
-    /// A fault was answered before.
+    /// 11: a fault was answered before.
     Failed,
 }
 

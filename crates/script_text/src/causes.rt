@@ -2,27 +2,28 @@
 ghost use Rattle.std.specs.Prelude.{◌≡◌};
 ghost use Rattle.script_text.specs.Faults.{cause_word};
 
-/// Why a script has a fault. Of several at the first line that has one, the first in this order is answered.
+/// Why a script has a fault. Each cause has a number, which its words begin with. Of several at the first line
+/// that has one, the first in this order is answered.
 #[derive(Clone, Copy, Debug, PartialEq, Eq)]
 pub enum ScriptCause {
-    /// The content has more than 1,024 bytes.
+    /// 1: the content has more than 1,024 bytes.
     LineTooLong,
-    /// The line has none of the forms, a CR in its content, or a name that is none.
+    /// 2: the line has none of the forms, a CR in its content, or a name that is none.
     BadLine,
-    /// The number is not 1 to 20 digits, or above the greatest that a u64 holds.
+    /// 3: the number is not 1 to 20 digits, or above the greatest that a u64 holds.
     BadNumber,
-    /// The line has a new name, and its kind has as many names as its limit.
+    /// 4: the line has a new name, and its kind has as many names as its limit.
     TooManyNames,
-    /// The line forks thread 0, or a thread that a line before it forks.
+    /// 5: the line forks thread 0, or a thread that a line before it forks.
     BadFork,
-    /// The line joins thread 0, its own thread, or a thread that a line before it joins.
+    /// 6: the line joins thread 0, its own thread, or a thread that a line before it joins.
     BadJoin,
-    /// The line names a thread to which no forks lead from thread 0. It is answered only where no line has
+    /// 7: the line names a thread to which no forks lead from thread 0. It is answered only where no line has
     /// one of the causes above.
     NoFork,
-    /// The reader failed, or the turns are used up.
+    /// 8: the reader failed, or the turns are used up.
     Read,
-    /// A growth was refused.
+    /// 9: a growth was refused.
     OutOfMemory,
 }
 
