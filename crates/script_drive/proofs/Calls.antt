@@ -1,11 +1,10 @@
 -- What a line's call makes of the pass.
-use Rattle.std.proofs.Common.{◌≡◌, List, [], ◌∷◌, ◌++◌, Bool, true, false, Some, None, refl, sym, ap, ◌∙◌}
+use Rattle.std.proofs.Common.{◌≡◌, List, [], ◌∷◌, ◌++◌, Bool, true, false, Some, refl, sym, ap, ◌∙◌}
 use Rattle.std.proofs.Common.{subst}
 use Rattle.std.proofs.Common.{map, Option, ◌||◌}
 use Rattle.std.specs.List.{cons_option, list_any}
 use Rattle.std.proofs.lemmas.Bool.{eqb-true}
 use Rattle.std.proofs.lemmas.List.{map-append}
-use mathlib.Core.List.{IsPrefix}
 use Rattle.event_core.specs.declared.ids.ThreadId.{ThreadId}
 use Rattle.event_core.specs.declared.ids.SiteId.{SiteId}
 use Rattle.event_core.specs.declared.events.Event.{Event}
@@ -18,10 +17,10 @@ use Rattle.event_core.specs.declared.replies.Reply.{Reply}
 use Rattle.event_core.specs.declared.steps.Step.{Step}
 use Rattle.event_core.specs.declared.steps.Step.TheVariants.{One as OneEvent}
 use Rattle.event_core.specs.Refusal.{event_of, joins}
-use Rattle.event_core.specs.Steps.{log_of, own, own_events, Formed}
+use Rattle.event_core.specs.Steps.{log_of, own, own_events}
 use Rattle.event_core.proofs.Depth.{same_thread_id}
 use Rattle.event_core.proofs.StepLaws.{log_of-snoc, own_logs}
-use Rattle.live_monitor.specs.Calls.{join_by, Accepted}
+use Rattle.live_monitor.specs.Calls.{join_by, Accepted, HasComeTo}
 use Rattle.log_pass.specs.declared.views.PassView.{PassView}
 use Rattle.script_text.specs.declared.lines.ScriptLine.{ScriptLine}
 use Rattle.script_text.specs.Lines.{act_fork, act_join, op_fork, op_join, act_thread, is_thread}
@@ -70,17 +69,16 @@ joined_by line call u v act op test =
 -- a join line was done: the one whom it joins is settled
 pub join_does : (m : Limits) (script : List ScriptLine) (line : ScriptLine) (call : Call)
     (p q child : PassView) (reply : Reply) (u : ThreadId) → line.act ≡ One call → call.op ≡ Join u
-    → thread_of line ≡ p.thread → Done script u child → q.thread ≡ p.thread → q.due ≡ None
-    → IsPrefix p.seen q.seen → Formed m q.seen
+    → thread_of line ≡ p.thread → Done script u child → HasComeTo m p q
     → Accepted m (join_by p.thread child.thread call.site) p q reply
     → child.mine ≡ own child.thread q.seen → list_any (joins child.thread) (log_of q.seen) ≡ true
     → Does m script line p q
-join_does m script line call p q child reply u act op own done thread due begins formed accepted its over =
+join_does m script line call p q child reply u act op own done later accepted its over =
     record {
-      thread = thread;
-      none_due = due;
-      begins = begins;
-      formed = formed;
+      thread = later.same_thread;
+      none_due = later.none_due;
+      begins = later.begins;
+      formed = later.formed;
       mine = event_more m (join_by p.thread child.thread call.site) p q reply accepted
           ∙ ap (λ (l : List Event). map unread (log_of p.mine) ++ l) event;
       settled = λ v test.
@@ -92,7 +90,7 @@ join_does m script line call p q child reply u act op own done thread due begins
         (op ∙ ap Join (sym done.thread))
 
     events : own_events u (log_of q.seen) ≡ log_of child.mine
-    events = sym (ap log_of its ∙ (own_logs child.thread q.seen formed.are_steps
+    events = sym (ap log_of its ∙ (own_logs child.thread q.seen later.formed.are_steps
         ∙ ap (λ (t : ThreadId). own_events t (log_of q.seen)) done.thread))
 
     settled : Settled script (log_of q.seen) u

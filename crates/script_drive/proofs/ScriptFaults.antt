@@ -1,6 +1,6 @@
 -- The faults of workers are those of lines of the script.
 use Rattle.std.proofs.Common.{◌≡◌, ℕ, ◌+◌, ◌<◌, ◌≤◌, ◌⊎◌, List, ◌∷◌, ◌++◌, Some, refl, sym, ap}
-use Rattle.std.specs.Prelude.{IfErr, IsErrAnd, IsSome, Result, Ok, Err}
+use Rattle.std.specs.Prelude.{[], Option, None, IfErr, IfSome, IsErrAnd, IsSome, Result, Ok, Err}
 use Rattle.std.proofs.Common.{◌∙◌, subst, length, get_or, take, drop, take-append-drop, add-one, arith}
 use Rattle.std.specs.List.{filter, All, Contains}
 use Rattle.std.proofs.Math.Seq.{drop-cons}
@@ -23,8 +23,8 @@ use Rattle.event_core.specs.declared.replies.Reply.{Reply}
 use Rattle.event_core.specs.declared.replies.SwapReply.{SwapReply}
 use Rattle.event_core.specs.Acts.{swap_refusal}
 use Rattle.event_core.specs.Refusal.{first_of, reasons, refusal}
-use Rattle.event_core.specs.Steps.{log_of, own_events, Formed}
-use Rattle.live_monitor.specs.Calls.{call_by, Declined}
+use Rattle.event_core.specs.Steps.{log_of, own_events}
+use Rattle.live_monitor.specs.Calls.{call_by, Declined, HasComeTo}
 use Rattle.live_monitor.specs.Swaps.{DeclinedSwap}
 use Rattle.log_pass.specs.declared.views.PassView.{PassView}
 use Rattle.script_text.specs.declared.lines.ScriptLine.{ScriptLine}
@@ -32,8 +32,8 @@ use Rattle.script_text.specs.Lines.{act_thread, fork_of, is_of, thread_of}
 use Rattle.script_drive.specs.declared.faults.DriveFault.{DriveFault}
 use Rattle.script_drive.specs.declared.faults.Halt.{Halt}
 use Rattle.script_drive.specs.declared.faults.Halt.TheVariants.{Fault}
-use Rattle.script_drive.specs.Faults.{act_refusal, rank, refused_at, stuck_at, Fits, IsEarlier, IsFaultOf}
-use Rattle.script_drive.specs.Faults.{IsForkLine, IsHaltOf, IsNext, Refuses}
+use Rattle.script_drive.specs.Faults.{act_refusal, rank, refused_at, stuck_at, Fits, IsAnswer, IsAnswered}
+use Rattle.script_drive.specs.Faults.{IsEarlier, IsFaultOf, IsFirst, IsForkLine, IsHaltOf, IsNext, Refuses}
 use Rattle.script_drive.specs.Lines.{Follows, lines_by}
 use Rattle.script_drive.specs.Workers.{HasDone}
 use Rattle.script_drive.proofs.Progress.{own_line}
@@ -55,6 +55,15 @@ first_more faults i d first next lt one least earlier = (
       (λ g le. omega (arith, le, earlier.1)) (take i faults) least)
       earlier.2,
 )
+
+-- where thread 0's worker ended so
+pub answered_by : (halt : Halt) (faults : List DriveFault) (first : Option DriveFault) (f : DriveFault)
+    → (first ≡ None → faults ≡ []) → IfSome first (IsFirst faults) → IsAnswer halt first f
+    → IsAnswered (Err halt) faults f
+answered_by halt [] None f none is answer = answer
+answered_by halt [] (Some g) f none is answer = absurd (omega (arith, is.one.1))
+answered_by halt (g ∷ gs) None f none is answer = absurd (cc (none refl))
+answered_by halt (g ∷ gs) (Some other) f none is answer = (other, is, answer)
 
 -- ---- the faults of a script
 
@@ -82,11 +91,10 @@ refused_fits m script l OutOfMemory line r = tt
 
 -- the act was refused so to a pass that had done the lines before, or memory ran out
 declined_fits : (m : Limits) (script : List ScriptLine) (l : ScriptLine) (p q : PassView) (why : Refusal)
-    → IsNext script l p → thread_of l ≡ p.thread → q.thread ≡ p.thread → q.mine ≡ p.mine → Formed m q.seen
-    → log_of q.mine ≡ own_events q.thread (log_of q.seen)
+    → IsNext script l p → thread_of l ≡ p.thread → HasComeTo m p q → q.mine ≡ p.mine
     → (act_refusal m (log_of q.seen) l.act ≡ Some why) ⊎ (why ≡ OutOfMemory)
     → IsFaultOf m script (refused_at l why)
-declined_fits m script l p q why next thread same mine formed own reason =
+declined_fits m script l p q why next thread later mine reason =
     elim reason as (λ _. IsFaultOf m script (refused_at l why)) [
       | inl refused ↦
           ∣ refused_fits m script l why next.line (record {
@@ -94,7 +102,7 @@ declined_fits m script l p q why next thread same mine formed own reason =
             later = next.later;
             place = next.place;
             log = log_of q.seen;
-            well_formed = formed.well_formed;
+            well_formed = later.formed.well_formed;
             own = subst (λ (es : List Event). Follows es next.before) events next.done;
             refused = refused;
           }) ∣₁
@@ -103,7 +111,8 @@ declined_fits m script l p q why next thread same mine formed own reason =
   where
     events : log_of p.mine ≡ own_events (thread_of l) (log_of q.seen)
     events = ap log_of (sym mine)
-        ∙ (own ∙ ap (λ (t : ThreadId). own_events t (log_of q.seen)) (same ∙ sym thread))
+        ∙ (later.own_events
+        ∙ ap (λ (t : ThreadId). own_events t (log_of q.seen)) (later.same_thread ∙ sym thread))
 
 -- a call is refused by what it does and whose it is
 same_refusal : (m : Limits) (log : List Event) (c d : Call) → c.thread ≡ d.thread → c.op ≡ d.op
@@ -116,11 +125,10 @@ same_refusal m log c d thread op = λ i.
 -- of a line's call
 pub call_fits : (m : Limits) (script : List ScriptLine) (l : ScriptLine) (call : Call) (op : Op)
     (site : SiteId) (arg : ℕ) (p q : PassView) (why : Refusal) → l.act ≡ One call → call.op ≡ op
-    → IsNext script l p → thread_of l ≡ p.thread → q.thread ≡ p.thread
-    → Declined m (call_by p.thread op site arg) p q why → Formed m q.seen
-    → log_of q.mine ≡ own_events q.thread (log_of q.seen) → IsFaultOf m script (refused_at l why)
-call_fits m script l call op site arg p q why act is next thread same declined formed own =
-    declined_fits m script l p q why next thread same declined.mine formed own
+    → IsNext script l p → thread_of l ≡ p.thread → HasComeTo m p q
+    → Declined m (call_by p.thread op site arg) p q why → IsFaultOf m script (refused_at l why)
+call_fits m script l call op site arg p q why act is next thread later declined =
+    declined_fits m script l p q why next thread later declined.mine
     (elim (declined.why) as (λ _. (act_refusal m (log_of q.seen) l.act ≡ Some why) ⊎ (why ≡ OutOfMemory)) [
       | inl refused ↦ inl (ap (act_refusal m (log_of q.seen)) act
           ∙ (same_refusal m (log_of q.seen) call (call_by p.thread op site arg)
@@ -140,27 +148,25 @@ answered_halts m script l (Err why) (Err halt) refused fits = subst (IsHaltOf m 
 -- after a line's call
 pub call_halts : (m : Limits) (script : List ScriptLine) (l : ScriptLine) (call : Call) (op : Op)
     (site : SiteId) (arg : ℕ) (p q : PassView) (answer : Result Reply Refusal) (result : Result PassView Halt)
-    → l.act ≡ One call → call.op ≡ op → IsNext script l p → thread_of l ≡ p.thread → q.thread ≡ p.thread
-    → IfErr answer (Declined m (call_by p.thread op site arg) p q) → Formed m q.seen
-    → log_of q.mine ≡ own_events q.thread (log_of q.seen)
+    → l.act ≡ One call → call.op ≡ op → IsNext script l p → thread_of l ≡ p.thread → HasComeTo m p q
+    → IfErr answer (Declined m (call_by p.thread op site arg) p q)
     → IfErr result (λ halt. IsErrAnd answer (λ why. halt ≡ Fault (refused_at l why)))
     → IfErr result (IsHaltOf m script)
-call_halts m script l call op site arg p q answer result act is next thread same declined formed own refused =
+call_halts m script l call op site arg p q answer result act is next thread later declined refused =
     answered_halts m script l answer result refused (fits answer declined)
   where
     fits : (a : Result Reply Refusal) → IfErr a (Declined m (call_by p.thread op site arg) p q)
         → IfErr a (λ why. IsFaultOf m script (refused_at l why))
     fits (Ok x) d = tt
-    fits (Err why) d = call_fits m script l call op site arg p q why act is next thread same d formed own
+    fits (Err why) d = call_fits m script l call op site arg p q why act is next thread later d
 
 -- of a line's swap
 swap_fits : (m : Limits) (script : List ScriptLine) (l : ScriptLine) (t : ThreadId) (x : VarId)
     (site : SiteId) (arg : ℕ) (p q : PassView) (why : Refusal) → l.act ≡ Swap t x site arg
-    → IsNext script l p → thread_of l ≡ p.thread → q.thread ≡ p.thread → DeclinedSwap m p.thread x p q why
-    → Formed m q.seen → log_of q.mine ≡ own_events q.thread (log_of q.seen)
+    → IsNext script l p → thread_of l ≡ p.thread → HasComeTo m p q → DeclinedSwap m p.thread x p q why
     → IsFaultOf m script (refused_at l why)
-swap_fits m script l t x site arg p q why act next thread same declined formed own =
-    declined_fits m script l p q why next thread same declined.mine formed own
+swap_fits m script l t x site arg p q why act next thread later declined =
+    declined_fits m script l p q why next thread later declined.mine
     (elim (declined.why) as (λ _. (act_refusal m (log_of q.seen) l.act ≡ Some why) ⊎ (why ≡ OutOfMemory)) [
       | inl refused ↦ inl (ap (act_refusal m (log_of q.seen)) act
           ∙ (ap (λ (u : ThreadId). swap_refusal m (log_of q.seen) u x) (sym (ap act_thread act) ∙ thread)
@@ -171,17 +177,16 @@ swap_fits m script l t x site arg p q why act next thread same declined formed o
 pub swap_halts : (m : Limits) (script : List ScriptLine) (l : ScriptLine) (t : ThreadId) (x : VarId)
     (site : SiteId) (arg : ℕ) (p q : PassView) (answer : Result SwapReply Refusal)
     (result : Result PassView Halt) → l.act ≡ Swap t x site arg → IsNext script l p
-    → thread_of l ≡ p.thread → q.thread ≡ p.thread → IfErr answer (DeclinedSwap m p.thread x p q)
-    → Formed m q.seen → log_of q.mine ≡ own_events q.thread (log_of q.seen)
+    → thread_of l ≡ p.thread → HasComeTo m p q → IfErr answer (DeclinedSwap m p.thread x p q)
     → IfErr result (λ halt. IsErrAnd answer (λ why. halt ≡ Fault (refused_at l why)))
     → IfErr result (IsHaltOf m script)
-swap_halts m script l t x site arg p q answer result act next thread same declined formed own refused =
+swap_halts m script l t x site arg p q answer result act next thread later declined refused =
     answered_halts m script l answer result refused (fits answer declined)
   where
     fits : (a : Result SwapReply Refusal) → IfErr a (DeclinedSwap m p.thread x p q)
         → IfErr a (λ why. IsFaultOf m script (refused_at l why))
     fits (Ok y) d = tt
-    fits (Err why) d = swap_fits m script l t x site arg p q why act next thread same d formed own
+    fits (Err why) d = swap_fits m script l t x site arg p q why act next thread later d
 
 -- ---- the lines of a thread
 

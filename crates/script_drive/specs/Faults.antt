@@ -1,6 +1,6 @@
 -- Why a drive ends before its script does: which faults a script has, and which of several is answered.
 use Rattle.std.specs.Prelude.{◌≡◌, ℕ, ◌+◌, ◌≤◌, ◌⊎◌, Bool, true, false, List, ◌∷◌, ◌++◌, Option, Some}
-use Rattle.std.specs.Prelude.{None, IsSome}
+use Rattle.std.specs.Prelude.{None, IsSome, Result, Ok, Err, []}
 use Rattle.std.specs.List.{All, Contains}
 use Rattle.event_core.specs.declared.events.Act.{Act}
 use Rattle.event_core.specs.declared.events.Act.TheVariants.{One, Swap}
@@ -71,6 +71,13 @@ IsAnswer (Fault own) (Some other) f = IsEarlier own other f
 IsAnswer (Fault own) None f = f ≡ own
 IsAnswer (Abandoned l) (Some other) f = f ≡ other
 IsAnswer (Abandoned l) None f = f ≡ stuck_at l
+
+-- the fault is answered where thread 0's worker ended so, and the others by these faults
+abbrev pub IsAnswered : Result PassView Halt → List DriveFault → DriveFault → Type 0
+IsAnswered (Ok last) faults f = IsFirst faults f
+IsAnswered (Err halt) [] f = IsAnswer halt None f
+IsAnswered (Err halt) (g ∷ gs) f =
+    (other : DriveFault) × IsFirst (g ∷ gs) other × IsAnswer halt (Some other) f
 
 -- ---- the faults of a script
 

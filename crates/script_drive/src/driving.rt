@@ -7,7 +7,7 @@ ghost use Rattle.event_core.specs.Refusal.{WellFormed};
 ghost use Rattle.event_core.specs.Steps.{log_of, own_events};
 ghost use Rattle.log_pass.specs.Views.{main, new_pass};
 ghost use Rattle.script_text.specs.Lines.{joins as line_joins};
-ghost use Rattle.script_drive.specs.Faults.{IsFaultOf, IsHaltOf};
+ghost use Rattle.script_drive.specs.Faults.{IsAnswered, IsFaultOf, IsHaltOf};
 ghost use Rattle.script_drive.specs.Lines.{lines_by, Follows};
 ghost use Rattle.script_drive.specs.Workers.{AreSettled, Done, Serves};
 
@@ -88,6 +88,7 @@ fn own_faults<N: Name, S: Text, R: Threads>(
 }
 
 // Thread 0's last pass, or the fault that is answered, where the other workers have these faults.
+#[tactic(auto, using(crate::proofs::ScriptFaults::answered_by))]
 fn outcome<N: Name, S: Text>(
     main: Result<Pass<N>, Halt>,
     faults: &[DriveFault],
@@ -96,6 +97,7 @@ fn outcome<N: Name, S: Text>(
     requires faults { All (IsFaultOf N.limits S.script.lines) faults.now }
     ensures last { IfOk result (λ last. main ≡ Ok last) }
     ensures none { OnOk result (faults.now ≡ []) }
+    ensures first { IfErr result (IsAnswered main faults.now) }
     ensures fault { IfErr result (IsFaultOf N.limits S.script.lines) }
 {
     match (main, first_fault(faults)) {

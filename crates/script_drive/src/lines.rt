@@ -1,9 +1,7 @@
 //! What a worker does: the calls of its thread's lines, in order.
 ghost use Rattle.std.specs.Prelude.{◌≡◌, ◌∷◌, ◌<◌, [], List, None, length, Contains};
 ghost use Rattle.std.specs.Prelude.{IfErr, IfOk, IsErrAnd, IsOk, IsSome, OnOk};
-ghost use mathlib.Core.List.{IsPrefix};
-ghost use Rattle.event_core.specs.Steps.{log_of, own_events, Formed};
-ghost use Rattle.live_monitor.specs.Calls.{acquire_by, Accepted, Declined};
+ghost use Rattle.event_core.specs.Steps.{log_of};
 ghost use Rattle.script_text.specs.declared.lines.ScriptLine.{ScriptLine as Line};
 ghost use Rattle.script_text.specs.Lines.{join_of, thread_of};
 ghost use Rattle.script_drive.specs.Faults.{refused_at, ended_wait, IsHaltOf, IsNext};
@@ -15,7 +13,7 @@ use crate::gate::Gate;
 use crate::links::Links;
 use crate::text::{Ends, Text};
 use crossbeam_utils::Backoff;
-use event_core::{Act, LockId, Op, Refusal, Reply, SiteId};
+use event_core::{Act, Op, Refusal};
 use live_monitor::Shared;
 use log_pass::{Name, Pass};
 use pass_channel::{PassReceiver, TryRecvError};
@@ -72,38 +70,6 @@ fn await_end<N: Name, S: Text, R: Wait>(
     Err(Halt::Fault(DriveFault::stuck(line)))
 }
 
-// Acquires the lock. While another thread holds it, it is tried again, as often as patience allows.
-fn acquire<N: Name, R: Wait>(
-    rt: &R,
-    shared: &Shared<N>,
-    pass: Pass<N>,
-    lock: LockId,
-    site: SiteId,
-    patience: u32,
-) -> (Pass<N>, Result<Reply, Refusal>)
-    requires none_due { pass.due ≡ None }
-    ensures same_thread { result.0.thread ≡ pass.thread }
-    ensures none_due { result.0.due ≡ None }
-    ensures begins { IsPrefix pass.seen result.0.seen }
-    ensures accepted { IfOk result.1
-        (λ reply. Accepted N.limits (acquire_by pass.thread lock site) pass result.0 reply) }
-    ensures declined { IfErr result.1
-        (λ refusal. Declined N.limits (acquire_by pass.thread lock site) pass result.0 refusal) }
-    ensures own_events { log_of result.0.mine ≡ own_events result.0.thread (log_of result.0.seen) }
-    ensures formed { Formed N.limits result.0.seen }
-{
-    let mut pass = pass;
-    let backoff = Backoff::new();
-    for _ in 1..patience {
-        match shared.acquire(rt, pass, lock, site) {
-            (next, Err(Refusal::Held { .. })) => pass = next,
-            answer => return answer,
-        }
-        backoff.snooze();
-    }
-    shared.acquire(rt, pass, lock, site)
-}
-
 // The pass after a call that was accepted.
 fn answered<N: Name, T: Drop>(
     line: &ScriptLine,
@@ -143,7 +109,10 @@ fn make_call<N: Name, S: Text, R: Wait>(
             Op::Load(var) => answered(line, shared.load(rt, pass, var, call.site)),
             Op::Store(var) => answered(line, shared.store(rt, pass, var, call.arg, call.site)),
             Op::Acquire(lock) => {
-                answered(line, acquire(rt, shared, pass, lock, call.site, patience))
+                answered(
+                    line,
+                    shared.acquire_within(rt, pass, lock, call.site, patience),
+                )
             }
             Op::Release(lock) => answered(line, shared.release(rt, pass, lock, call.site)),
             Op::Fork(_) => {

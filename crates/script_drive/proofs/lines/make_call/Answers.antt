@@ -19,8 +19,7 @@ returns-in_default-Ok-join-clause-does g c =
     = subst (λ t. Done g.S.Text.script.lines t child) is c.in_ok-child-in-Join.ensures.done in
     join_does g.N.Name.limits g.S.Text.script.lines line c.in-One.call c.args.pass c.join.result.0 child
     c.in_default-Ok-join.field-0-1 u c.in-One.is c.in-Join.is c.requires.thread done
-    c.join.ensures.same_thread c.join.ensures.none_due c.join.ensures.begins c.join.ensures.formed
-    (rw c.in_default-Ok-join.is-1 at c.join.ensures.accepted)
+    c.join.ensures.later (rw c.in_default-Ok-join.is-1 at c.join.ensures.accepted)
     (rw c.in_default-Ok-join.is-1 at c.join.ensures.child_own)
     (rw c.in_default-Ok-join.is-1 at c.join.ensures.joined)
 
@@ -29,32 +28,29 @@ pub returns-in-Load-clause-halt : goal.returns-in-Load-clause-halt
 returns-in-Load-clause-halt g c =
     call_halts g.N.Name.limits g.S.Text.script.lines c.args.line.now c.in-One.call (Load c.in-Load.var)
     c.in-One.call.site 0 c.args.pass c.load.result.0 c.load.result.1 c.answered.result c.in-One.is
-    c.in-Load.is c.requires.next c.requires.thread c.load.ensures.same_thread c.load.ensures.declined
-    c.load.ensures.formed c.load.ensures.own_events c.answered.ensures.refused
+    c.in-Load.is c.requires.next c.requires.thread c.load.ensures.later c.load.ensures.declined
+    c.answered.ensures.refused
 
 pub returns-in-Store-clause-halt : goal.returns-in-Store-clause-halt
 returns-in-Store-clause-halt g c =
     call_halts g.N.Name.limits g.S.Text.script.lines c.args.line.now c.in-One.call (Store c.in-Store.var)
-    c.in-One.call.site c.in-One.call.arg c.args.pass c.store.result.0 c.store.result.1
-    c.answered-in-Store.result c.in-One.is c.in-Store.is c.requires.next c.requires.thread
-    c.store.ensures.same_thread c.store.ensures.declined c.store.ensures.formed c.store.ensures.own_events
-    c.answered-in-Store.ensures.refused
+    c.in-One.call.site _ c.args.pass c.store.result.0 c.store.result.1 c.answered-in-Store.result
+    c.in-One.is c.in-Store.is c.requires.next c.requires.thread c.store.ensures.later
+    c.store.ensures.declined c.answered-in-Store.ensures.refused
 
 pub returns-in-Acquire-clause-halt : goal.returns-in-Acquire-clause-halt
 returns-in-Acquire-clause-halt g c =
     call_halts g.N.Name.limits g.S.Text.script.lines c.args.line.now c.in-One.call
-    (Acquire c.in-Acquire.lock) c.in-One.call.site 0 c.args.pass c.acquire.result.0 c.acquire.result.1
-    c.answered-in-Acquire.result c.in-One.is c.in-Acquire.is c.requires.next c.requires.thread
-    c.acquire.ensures.same_thread c.acquire.ensures.declined c.acquire.ensures.formed
-    c.acquire.ensures.own_events c.answered-in-Acquire.ensures.refused
+    (Acquire c.in-Acquire.lock) c.in-One.call.site 0 c.args.pass c.acquire_within.result.0
+    c.acquire_within.result.1 c.answered-in-Acquire.result c.in-One.is c.in-Acquire.is c.requires.next c.requires.thread
+    c.acquire_within.ensures.later c.acquire_within.ensures.declined c.answered-in-Acquire.ensures.refused
 
 pub returns-in-Release-clause-halt : goal.returns-in-Release-clause-halt
 returns-in-Release-clause-halt g c =
     call_halts g.N.Name.limits g.S.Text.script.lines c.args.line.now c.in-One.call
     (Release c.in-Release.lock) c.in-One.call.site 0 c.args.pass c.release.result.0 c.release.result.1
     c.answered-in-Release.result c.in-One.is c.in-Release.is c.requires.next c.requires.thread
-    c.release.ensures.same_thread c.release.ensures.declined c.release.ensures.formed
-    c.release.ensures.own_events c.answered-in-Release.ensures.refused
+    c.release.ensures.later c.release.ensures.declined c.answered-in-Release.ensures.refused
 
 pub returns-in_default-Err-clause-halt : goal.returns-in_default-Err-clause-halt
 returns-in_default-Err-clause-halt g c =
@@ -67,8 +63,8 @@ returns-in_default-Err-clause-halt g c =
     subst (IsFaultOf g.N.Name.limits g.S.Text.script.lines) (sym c.refused.ensures)
     (call_fits g.N.Name.limits g.S.Text.script.lines line c.in-One.call (Fork to) c.in-One.call.site 0
     c.args.pass c.fork.result.0 c.in_default-Err.refusal c.in-One.is (c.in-Fork.is ∙ ap Fork (sym is))
-    c.requires.next c.requires.thread c.fork.ensures.same_thread
-    (rw c.in_default-Err.is-1 at c.fork.ensures.declined) c.fork.ensures.formed c.fork.ensures.own_events)
+    c.requires.next c.requires.thread c.fork.ensures.later
+    (rw c.in_default-Err.is-1 at c.fork.ensures.declined))
 
 pub returns-in_default-Err-join-clause-halt : goal.returns-in_default-Err-join-clause-halt
 returns-in_default-Err-join-clause-halt g c =
@@ -82,13 +78,12 @@ returns-in_default-Err-join-clause-halt g c =
     (call_fits g.N.Name.limits g.S.Text.script.lines line c.in-One.call (Join child.thread)
     c.in-One.call.site 0 c.args.pass c.join.result.0 c.in_default-Err-join.refusal c.in-One.is
     (c.in-Join.is ∙ ap Join (sym (c.in_ok-child-in-Join.ensures.done.thread ∙ is))) c.requires.next
-    c.requires.thread c.join.ensures.same_thread
-    (rw c.in_default-Err-join.is-1 at c.join.ensures.declined) c.join.ensures.formed
-    c.join.ensures.own_events)
+    c.requires.thread c.join.ensures.later
+    (rw c.in_default-Err-join.is-1 at c.join.ensures.declined))
 
 pub returns-in-Swap-clause-halt : goal.returns-in-Swap-clause-halt
 returns-in-Swap-clause-halt g c =
     swap_halts g.N.Name.limits g.S.Text.script.lines c.args.line.now c.in-Swap.thread c.in-Swap.var
     c.in-Swap.site c.in-Swap.arg c.args.pass c.swap.result.0 c.swap.result.1 c.answered-in-Swap.result
-    c.in-Swap.is c.requires.next c.requires.thread c.swap.ensures.same_thread c.swap.ensures.declined
-    c.swap.ensures.formed c.swap.ensures.own_events c.answered-in-Swap.ensures.refused
+    c.in-Swap.is c.requires.next c.requires.thread c.swap.ensures.later c.swap.ensures.declined
+    c.answered-in-Swap.ensures.refused

@@ -1,8 +1,0 @@
-use Rattle.std.proofs.Common.{◌≡◌, None}
-use mathlib.Core.List.{IsPrefix}
-use Rattle.script_drive.proofs.lines.acquire.Given as goal
-
-abbrev pub invariant-loop : goal.invariant-loop
-invariant-loop g l =
-    (l.pass.thread ≡ l.fn.pass.thread) × (l.pass.due ≡ None) × (l.pass.mine ≡ l.fn.pass.mine)
-    × IsPrefix l.fn.pass.seen l.pass.seen
