@@ -5,7 +5,6 @@ mod bounds;
 mod command_line;
 mod endings;
 mod help_texts;
-mod naming;
 mod options;
 mod requests;
 mod running;

@@ -12,8 +12,8 @@ ghost use Rattle.event_core.specs.declared.bounds.Roots.TheVariants.{OnlyMain};
 
 use crate::bounds::{TURNS, limits_of};
 use crate::endings::{Ending, finish, summary_ending};
-use crate::naming::are_named;
 use crate::requests::Settings;
+use closed_report::ReportFault;
 use event_core::{Limits, Roots};
 use live_monitor::Closed;
 use rapid_text::{Device, Input, Names, Output};
@@ -23,7 +23,7 @@ use std::fs;
 use std::fs::Files;
 use std::sync::Wait;
 use std::thread::Threads;
-use trace_report::{refusal_word, report, write_fault_line};
+use trace_report::{refusal_word, write_fault_line};
 
 /// Writes `line N: WORD`, and ends so.
 fn tell<O: Output>(writer: &mut O, line: u64, word: &str, ending: Ending) -> Ending
@@ -95,14 +95,11 @@ fn report_closed<O: Output>(writer: &mut O, closed: &Closed, names: &Names) -> E
     ensures write_fault { result ≡ Ending.WriteFault → O.failed writer.new ≡ true }
     ensures written { result ≢ Ending.WriteFault → O.failed writer.new ≡ false }
 {
-    let log = closed.log();
-    // The threads made the calls of the script's lines, whose numbers all have names. So this does not occur.
-    if !are_named(names, log) {
-        return Ending::BrokenScript;
-    }
-    match report(writer, log, closed.verdicts(), names) {
+    match closed_report::report_closed(writer, closed, names) {
         Ok(summary) => summary_ending(&summary),
-        Err(_) => Ending::WriteFault,
+        // The threads made the calls of the script's lines, whose numbers all have names: it does not occur.
+        Err(ReportFault::Unnamed) => Ending::BrokenScript,
+        Err(ReportFault::Write) => Ending::WriteFault,
     }
 }
 
