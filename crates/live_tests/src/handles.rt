@@ -101,21 +101,40 @@ fn race<N: Name, R: Wait + Abort>(rt: &R, unnamed: Unnamed)
     assert!(rt; main.event_at(rt, 3).is_none());
 }
 
+/// The log has a slot for the fork alone, so the join is refused.
+fn refuse_join<N: Name, R: Wait + Abort>(rt: &R, unnamed: Unnamed)
+    requires table { unnamed.table ≡ N.table }
+    requires limits { unnamed.limits ≡ N.limits }
+{
+    let (shared, pass) = start::<N>(unnamed);
+    let mut main = TracedThread::new(&shared, pass);
+    let child = fork(rt, &mut main);
+    let answer = main.join(rt, child, SITE);
+    let left = answer.err().expect(rt, "a refusal");
+    assert!(rt; left.child.thread() == ThreadId(1));
+    assert!(rt; Refusal::from(left) == Refusal::LogFull);
+}
+
 /// Two threads, one lock and one variable.
-fn unnamed<R: Abort>(rt: &R, alloc: Global) -> Unnamed {
-    let limits = Limits::new(2, 1, 1, 16, Roots::OnlyMain).expect(rt, "limits");
+fn unnamed<R: Abort>(rt: &R, alloc: Global, events: u64) -> Unnamed {
+    let limits = Limits::new(2, 1, 1, events, Roots::OnlyMain).expect(rt, "limits");
     let unnamed = Unnamed::new(alloc, limits).or_else(|_| Unnamed::new(alloc, limits));
     unnamed.expect(rt, "a monitor")
 }
 
 #[test]
 fn a_handle_serves_after_a_thousand_refusals_and_a_dropped_one_keeps_its_lock(rt: HostRuntime) {
-    let closed = refuse::<Brand, _>(&rt, unnamed(&rt, rt.alloc()));
+    let closed = refuse::<Brand, _>(&rt, unnamed(&rt, rt.alloc(), 16));
     assert!(rt; closed.len() == 7);
     drop(closed);
 }
 
 #[test]
 fn the_event_that_a_verdict_names_is_told_at_once(rt: HostRuntime) {
-    race::<Brand, _>(&rt, unnamed(&rt, rt.alloc()));
+    race::<Brand, _>(&rt, unnamed(&rt, rt.alloc(), 16));
+}
+
+#[test]
+fn a_join_that_is_refused_gives_back_the_handle_of_the_child(rt: HostRuntime) {
+    refuse_join::<Brand, _>(&rt, unnamed(&rt, rt.alloc(), 1));
 }
