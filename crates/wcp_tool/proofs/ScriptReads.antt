@@ -18,8 +18,9 @@ use Rattle.trace_report.specs.Words.{refusal_word}
 use Rattle.wcp_tool.specs.ScriptRuns.{TellsRefusal, TellsRefused}
 
 -- a read failed, or there were as many bytes as turns
-why_short : (left rest : Option (List ℕ)) (turns : ℕ) (failed : Bool) (came : List ℕ) → Consumes left rest came
-    → (failed ≡ true) ⊎ (turns ≤ length came) → (failed ≡ true) ⊎ IfSome left (λ text. turns ≤ length text)
+why_short : (left rest : Option (List ℕ)) (turns : ℕ) (failed : Bool) (came : List ℕ)
+    → Consumes left rest came → (failed ≡ true) ⊎ (turns ≤ length came)
+    → (failed ≡ true) ⊎ IfSome left (λ text. turns ≤ length text)
 why_short left rest turns failed came bytes (inl bad) = inl bad
 why_short left rest turns failed came bytes (inr many) = inr (many_bytes left rest came turns bytes many)
 

@@ -1,6 +1,7 @@
 use Rattle.std.proofs.Common.{map}
 use Rattle.clap.specs.Words.{app_of}
-use Rattle.wcp_tool.proofs.CommandFaults.{fault_is, has_command, has_fault, has_no_fault, on_any, ran_out, was_met}
+use Rattle.wcp_tool.proofs.CommandFaults.{fault_is, has_command, has_fault, has_no_fault, on_any, ran_out}
+use Rattle.wcp_tool.proofs.CommandFaults.{was_met}
 use Rattle.wcp_tool.proofs.command_line.settings.Goals as goal
 
 pub settings_of-settings-requires : goal.settings_of-settings-requires
