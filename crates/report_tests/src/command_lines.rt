@@ -147,7 +147,7 @@ fn expect_taken(
 }
 
 #[test]
-fn takes_a_command_with_its_options(rt: HostRuntime) -> Result<(), Fail> {
+fn a_command_is_taken_with_its_options(rt: HostRuntime) -> Result<(), Fail> {
     for (words, command, threads, patience) in TAKEN {
         expect_taken(&rt, rt.alloc(), words, command, (*threads, *patience))?;
     }
@@ -184,7 +184,7 @@ fn expect_said<R: Abort + AllocGlobal + Files + Threads + Wait + Sync>(
 }
 
 #[test]
-fn gives_help_and_the_version_in_lines_of_at_most_80_columns(rt: HostRuntime) {
+fn help_and_the_version_have_lines_of_at_most_80_columns(rt: HostRuntime) {
     for (words, part) in ASKED {
         expect_said(&rt, words, b"", part, 0);
     }
@@ -199,7 +199,7 @@ fn help_tells_what_its_example_prints(rt: HostRuntime) {
 }
 
 #[test]
-fn tells_what_is_wrong_with_a_command_line(rt: HostRuntime) {
+fn what_is_wrong_with_a_command_line_is_told(rt: HostRuntime) {
     for (words, part) in WRONG {
         expect_said(&rt, words, b"T0|w(x)|1", part, 2);
     }

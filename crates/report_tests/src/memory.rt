@@ -30,7 +30,7 @@ fn expect_whole<'a, R: Abort + AllocGlobal + Files + Threads + Wait + Sync>(
 
 /// Whichever allocation is refused, the answer is that of an ample run, or nothing but that memory ran out.
 #[test]
-fn answers_whole_or_not_at_all(rt: HostRuntime) {
+fn a_trace_is_answered_whole_or_not_at_all(rt: HostRuntime) {
     for (_, text, line, report, status) in LEGAL {
         expect_whole(&rt, &["check"], text.as_bytes(), line, 0);
         expect_whole(&rt, &["replay"], text.as_bytes(), report, *status);
@@ -39,7 +39,7 @@ fn answers_whole_or_not_at_all(rt: HostRuntime) {
 
 /// A script is run whole, or nothing is said but that memory ran out, or that a thread could not be started.
 #[test]
-fn runs_a_script_whole_or_not_at_all(rt: HostRuntime) {
+fn a_script_is_run_whole_or_not_at_all(rt: HostRuntime) {
     let text = b"m fork a\na w x 5\nm join a\nm r x\n";
     let report = "events 4 threads 2 locks 0 variables 1 races 0\n";
     let ran = Run::script(Text::whole(text)).ran(&rt);

@@ -71,7 +71,7 @@ fn expect_report(
 }
 
 #[test]
-fn takes_nothing_after_a_fault(rt: HostRuntime) -> Result<(), Fail> {
+fn nothing_is_taken_after_a_fault(rt: HostRuntime) -> Result<(), Fail> {
     let fault = TextFault {
         line: 1,
         cause: Cause::Read,
@@ -81,7 +81,7 @@ fn takes_nothing_after_a_fault(rt: HostRuntime) -> Result<(), Fail> {
 }
 
 #[test]
-fn takes_empty_pieces_between_any_two_bytes(rt: HostRuntime) -> Result<(), Fail> {
+fn empty_pieces_are_taken_between_any_two_bytes(rt: HostRuntime) -> Result<(), Fail> {
     let output = "events 1 threads 1 locks 0 variables 1 races 0\n";
     expect_report(&rt, rt.alloc(), Feeding::ByBytes, None, output)
 }

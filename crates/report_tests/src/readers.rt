@@ -38,7 +38,7 @@ fn expect_both<R: Abort + AllocGlobal + Files + Threads + Wait + Sync>(
 /// Whole lines that came before the failure are judged first, and a line without an end is not judged but for
 /// its length.
 #[test]
-fn judges_what_came_before_the_reader_failed(rt: HostRuntime) {
+fn what_came_before_a_reader_failed_is_judged(rt: HostRuntime) {
     let mut room = [0; 2048];
     for ((count, rest), output, errors, status) in FAILED {
         let answer = Answer {
@@ -52,7 +52,7 @@ fn judges_what_came_before_the_reader_failed(rt: HostRuntime) {
 }
 
 #[test]
-fn tells_no_part_of_a_trace_whose_reader_fails(rt: HostRuntime) {
+fn no_part_of_a_trace_is_told_whose_reader_fails(rt: HostRuntime) {
     let text = b"T0|fork(T1)|1\nT0|acq(l)|2\nT1|r(x)|3\nT0|rel(l)|4\n".as_slice();
     for end in 0..text.len() {
         let begun = Text::cut(&text[..end], 7, 3).and_fails();
@@ -137,7 +137,7 @@ fn expect_read(
 }
 
 #[test]
-fn names_the_line_that_could_not_be_read_to_its_end(rt: HostRuntime) -> Result<(), Fail> {
+fn the_line_that_could_not_be_read_to_its_end_is_named(rt: HostRuntime) -> Result<(), Fail> {
     let mut room = [0; 2048];
     for ((count, rest), fails, turns, stops_at) in READINGS {
         let text = Text {
@@ -150,7 +150,7 @@ fn names_the_line_that_could_not_be_read_to_its_end(rt: HostRuntime) -> Result<(
 }
 
 #[test]
-fn reads_no_more_often_than_the_turns(rt: HostRuntime) -> Result<(), Fail> {
+fn a_reader_is_asked_no_more_often_than_the_turns(rt: HostRuntime) -> Result<(), Fail> {
     let blank = [b'\n'; 2000];
     expect_read(&rt, rt.alloc(), Text::cut(&blank, 1, 1), 1000, Some(1001))
 }

@@ -106,7 +106,7 @@ const SCRIPTS: &[Case] = &[
 ];
 
 #[test]
-fn runs_the_worked_scripts(rt: HostRuntime) {
+fn the_worked_scripts_have_their_answers(rt: HostRuntime) {
     for (name, text, output, status) in SCRIPTS {
         let run = Run::script(Text::cut(text.as_bytes(), 5, 3));
         run.expect(&rt, name, &Answer::printed(output, *status));
@@ -116,7 +116,7 @@ fn runs_the_worked_scripts(rt: HostRuntime) {
 const PATIENCES: &[u32] = &[1, 2, 100];
 
 #[test]
-fn gives_up_on_a_line_as_soon_as_patience_says(rt: HostRuntime) {
+fn a_line_is_given_up_as_soon_as_patience_says(rt: HostRuntime) {
     for patience in PATIENCES {
         let run = Run {
             program: Program::Script(*patience),
@@ -143,7 +143,7 @@ fn expect_race<R: Abort + AllocGlobal + Files + Threads + Wait + Sync>(rt: &R) {
 }
 
 #[test]
-fn reports_a_race_whatever_the_schedule(rt: HostRuntime) {
+fn a_race_is_reported_whatever_the_schedule(rt: HostRuntime) {
     for _ in 0..20 {
         expect_race(&rt);
     }
@@ -158,7 +158,7 @@ const FAILED: &[(&str, &str, &str, u8)] = &[
 
 /// Whole lines that came before the failure are judged first.
 #[test]
-fn judges_the_lines_before_the_reader_failed(rt: HostRuntime) {
+fn the_lines_before_a_reader_failed_are_judged(rt: HostRuntime) {
     for (text, output, errors, status) in FAILED {
         let answer = Answer {
             output: output.as_bytes(),
@@ -190,7 +190,7 @@ fn expect_write_fault<R: Abort + AllocGlobal + Files + Threads + Wait + Sync>(
 
 /// Whichever write fails, of a report or of a fault, the status says so.
 #[test]
-fn ends_with_a_write_fault_where_a_write_fails(rt: HostRuntime) {
+fn a_script_ends_with_status_4_where_a_write_fails(rt: HostRuntime) {
     for text in WRITING {
         for puts in 0..3 {
             expect_write_fault(&rt, text, puts);
@@ -217,7 +217,7 @@ fn a_fault_line_of_a_script_is_written_in_one_piece(rt: HostRuntime) {
 }
 
 #[test]
-fn answers_a_missing_file_with_a_read_fault(rt: HostRuntime) {
+fn a_missing_file_is_answered_with_a_read_fault(rt: HostRuntime) {
     let run = Run::of(&["run", "there/is/no/such/script"], Text::whole(b""));
     run.expect(&rt, "a missing file", &Answer::told("read fault\n", 4));
 }
@@ -250,7 +250,7 @@ fn write_script<R: AllocGlobal + Files>(rt: &R, text: &str) -> Result<(), Fail> 
 }
 
 #[test]
-fn runs_the_script_in_a_file(rt: HostRuntime) -> Result<(), Fail> {
+fn a_script_in_a_file_is_run(rt: HostRuntime) -> Result<(), Fail> {
     for (words, text, output, status) in IN_A_FILE {
         write_script(&rt, text)?;
         let run = Run::of(words, Text::whole(b""));

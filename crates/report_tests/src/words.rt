@@ -17,7 +17,7 @@ const WORDS: &[(Refusal, &str)] = &[
 ];
 
 #[test]
-fn names_each_refusal(rt: HostRuntime) {
+fn each_refusal_has_its_word(rt: HostRuntime) {
     for (refusal, word) in WORDS {
         assert!(rt; refusal_word(*refusal) == *word, "{word}");
     }

@@ -1,13 +1,6 @@
 //! Writers that fail, and writers that take a part or nothing.
 use crate::doubles::{Room, Text};
 use crate::runs::{Answer, Run};
-use event_core::{Limits, Roots};
-use rapid_text::Device;
-use std::alloc::Global;
-use std::process::Abort;
-use std::test::Fail;
-use trace_report::{ReplayFault, replay};
-use wcp_tool::{CheckFault, check};
 
 const TRACE: &str = "T0|fork(T1)|1\nT0|w(y)|2\nT0|acq(l)|3\nT0|w(x)|4\nT0|rel(l)|5\n\
                      T1|acq(l)|6\nT1|rel(l)|7\nT1|r(y)|8\n";
@@ -33,7 +26,7 @@ const SIZES: &[usize] = &[usize::MAX, 7, 1];
 
 /// A writer that takes the bytes in parts is asked again for what is left.
 #[test]
-fn writes_on_where_a_writer_takes_a_part(rt: HostRuntime) {
+fn writing_goes_on_where_a_writer_takes_a_part(rt: HostRuntime) {
     for (words, output, status) in PRINTED {
         for most in SIZES {
             let room = Room {
@@ -43,49 +36,6 @@ fn writes_on_where_a_writer_takes_a_part(rt: HostRuntime) {
             run_in(words, room).expect(&rt, "a part", &Answer::printed(output, *status));
         }
     }
-}
-
-#[test]
-fn tells_a_writer_that_fails_at_any_put(rt: HostRuntime) {
-    for (words, output, _) in PRINTED {
-        let output = output.as_bytes();
-        for puts in 0..output.len() {
-            let answer = Answer {
-                output: &output[..puts],
-                errors: "write fault\n",
-                status: 4,
-            };
-            run_in(words, Room { most: 1, puts }).expect(&rt, "a full page", &answer);
-        }
-    }
-}
-
-/// A slice takes what there is room for, and after that nothing.
-fn expect_full(rt: &impl Abort, alloc: Global, limits: Limits, room: &mut [u8]) {
-    let report = REPORT.as_bytes();
-    let size = room.len().min(report.len());
-    let mut writer = Device::new(&mut room[..size]);
-    let mut reader = Device::new(TRACE.as_bytes());
-    let answer = replay(alloc, &mut reader, &mut writer, limits, 100);
-    assert!(rt;
-        answer == Err(ReplayFault::Write),
-        "{size} bytes: {answer:?}"
-    );
-    assert!(rt; room[..size] == report[..size], "{size} bytes");
-}
-
-#[test]
-fn tells_a_writer_that_takes_nothing(rt: HostRuntime) -> Result<(), Fail> {
-    let limits = Limits::new(2, 1, 2, 64, Roots::Free)?;
-    let mut room = [0; 128];
-    for size in 0..REPORT.len().min(128) {
-        expect_full(&rt, rt.alloc(), limits, &mut room[..size]);
-    }
-    let mut writer = Device::new(&mut room[..0]);
-    let mut reader = Device::new(TRACE.as_bytes());
-    let answer = check(rt.alloc(), &mut reader, &mut writer, limits, 100);
-    assert!(rt; answer == Err(CheckFault::Write), "{answer:?}");
-    Ok(())
 }
 
 const COMMANDS: &[&[&str]] = &[&["check"], &["replay"]];
@@ -129,7 +79,7 @@ fn a_closed_pipe_ends_with_status_4(rt: HostRuntime) {
 }
 
 #[test]
-fn ends_with_the_same_status_where_nothing_can_be_said_of_it(rt: HostRuntime) {
+fn the_status_is_the_same_where_nothing_can_be_said_of_it(rt: HostRuntime) {
     let none = Room { most: 0, puts: 0 };
     for words in COMMANDS {
         let run = Run {
