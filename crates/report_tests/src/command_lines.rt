@@ -168,7 +168,7 @@ fn expect_said<R: Abort + AllocGlobal + Files + Threads + Wait + Sync>(
     part: &str,
     status: u8,
 ) {
-    let ran = Run::of(words, Text::whole(input)).ran(rt);
+    let ran = Run::of(words, Text::whole(input)).ran_again(rt);
     let (said, other) = if status == 2 {
         (ran.errors.as_slice(), ran.output.as_slice())
     } else {

@@ -109,6 +109,7 @@ const BROKEN: &[(&str, &str, &str, u8)] = &[
     ("", "", "read fault\n", 4),
     ("T0|w(x)|1\n", "", "read fault\n", 4),
     ("T0|w(x)|1", "", "read fault\n", 4),
+    ("T0|acq(l)|1\nT0|rel(m)|2", "", "read fault\n", 4),
     ("T0|rel(l)|1\n", "line 1: NotHolder\n", "", 3),
     ("T0|w(x)|1\n|w(x)|2\n", "line 2: EmptyName\n", "", 3),
 ];

@@ -2,7 +2,7 @@
 ghost use Rattle.std.specs.Prelude.{◌≡◌, false, None};
 
 use rapid_text::{Input, Output, ReadFailed, WriteFailed};
-use std::alloc::Global;
+use std::alloc::{AllocError, Global};
 
 /// A text, and how it comes: first a piece of so many bytes, then all others of another size. At the end of
 /// the text the reader says so, or it fails.
@@ -135,6 +135,19 @@ impl Page {
     }
 }
 
+impl Page {
+    /// What is refused once is asked for again.
+    fn keep(&mut self, bytes: &[u8]) -> Result<(), AllocError>
+        ensures failed { self.new.failed ≡ self.old.failed }
+        ensures room { self.new.room ≡ self.old.room }
+    {
+        if self.bytes.extend_from_slice(bytes).is_ok() {
+            return Ok(());
+        }
+        self.bytes.extend_from_slice(bytes)
+    }
+}
+
 impl Output for Page {
     ghost written = { λ _. None };
 
@@ -143,7 +156,7 @@ impl Output for Page {
     fn put(&mut self, bytes: &[u8]) -> Result<usize, WriteFailed> {
         let n = bytes.len().min(self.room.most);
         let is_full = self.room.puts == 0 || (n == 0 && !bytes.is_empty());
-        if is_full || self.bytes.extend_from_slice(&bytes[..n]).is_err() {
+        if is_full || self.keep(&bytes[..n]).is_err() {
             self.failed = true;
             return Err(WriteFailed);
         }

@@ -62,6 +62,11 @@ pub struct Ran {
 }
 
 impl Ran {
+    /// Whether memory ran out, or a thread of a script could not be started.
+    fn is_short(&self) -> bool {
+        self.status == 5 || self.output.ends_with(b": NoWorker\n")
+    }
+
     /// Whether this is the answer.
     pub fn is(&self, answer: &Answer<'_>) -> bool {
         self.output.as_slice() == answer.output
@@ -128,6 +133,16 @@ impl<'a> Run<'a> {
         }
     }
 
+    /// What it comes to, once more where memory ran out or a thread could not be started.
+    pub fn ran_again<R: AllocGlobal + Files + Threads + Wait + Sync>(&self, rt: &R) -> Ran {
+        let ran = self.ran(rt);
+        if !ran.is_short() {
+            return ran;
+        }
+        drop(ran);
+        self.ran(rt)
+    }
+
     /// The run comes to this answer.
     pub fn expect<R: Abort + AllocGlobal + Files + Threads + Wait + Sync>(
         &self,
@@ -135,7 +150,7 @@ impl<'a> Run<'a> {
         what: &str,
         answer: &Answer<'_>,
     ) {
-        let ran = self.ran(rt);
+        let ran = self.ran_again(rt);
         assert!(rt;
             ran.is(answer),
             "{what}: {:?}, {:?}",

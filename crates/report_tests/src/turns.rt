@@ -1,4 +1,4 @@
-//! How many reads a text takes.
+//! How many reads a text takes, and where a read fails.
 use crate::commands::Command;
 use crate::doubles::Text;
 use rapid_text::{Cause, TextFault};
@@ -6,11 +6,12 @@ use std::alloc::Global;
 use std::process::Abort;
 use trace_report::ReplayFault;
 
-/// A text, how many bytes of it a read gives, how many reads there may be, the line that could not be read to
-/// its end, if any, and what `check` and `replay` write.
+/// A text, how many bytes of it a read gives, whether a read at its end fails, how many reads there may be, the
+/// line that could not be read to its end, if any, and what `check` and `replay` write.
 struct Case {
-    text: &'static str,
+    text: &'static [u8],
     most: usize,
+    fails: bool,
     turns: u32,
     stops_at: Option<u64>,
     counts: &'static str,
@@ -18,7 +19,7 @@ struct Case {
 }
 
 /// Stores and loads of two threads, 234 bytes.
-const LONG: &str = "main|fork(worker)|10\nmain|w(queue.first)|main.c:12\n\
+const LONG: &[u8] = b"main|fork(worker)|10\nmain|w(queue.first)|main.c:12\n\
     main|w(queue.last)|main.c:13\nworker|r(queue.first)|31\nworker|r(queue.last)|32\n\
     worker|w(queue.first)|33\nmain|join(worker)|20\n\
     main|r(queue.first)|main.c:21\nmain|r(queue.last)|main.c:22\n";
@@ -28,39 +29,84 @@ const LONG_REPORT: &str = "events 9 threads 2 locks 0 variables 2 races 3\n\
     5|worker|r(queue.last)|32 with 3|main|w(queue.last)|main.c:13\n\
     6|worker|w(queue.first)|33 with 2|main|w(queue.first)|main.c:12\n";
 
-/// The read that finds the end takes a turn too. Nothing is written where a line is not read to its end.
+const STORE: &[u8] = b"T0|w(x)|1\n";
+
+/// Nothing is written where a line is not read to its end.
+const STOPPED: Case = Case {
+    text: b"",
+    most: 1,
+    fails: false,
+    turns: 2000,
+    stops_at: None,
+    counts: "",
+    report: "",
+};
+
 const CASES: &[Case] = &[
+    // The read that finds the end takes a turn too.
     Case {
         text: LONG,
         most: usize::MAX,
         turns: 2,
-        stops_at: None,
         counts: "events 9 threads 2 locks 0 variables 2\n",
         report: LONG_REPORT,
+        ..STOPPED
     },
     Case {
         text: LONG,
         most: usize::MAX,
         turns: 1,
         stops_at: Some(10),
-        counts: "",
-        report: "",
+        ..STOPPED
     },
     Case {
-        text: "T0|w(x)|1\n",
-        most: 1,
+        text: STORE,
         turns: 11,
-        stops_at: None,
         counts: "events 1 threads 1 locks 0 variables 1\n",
         report: "events 1 threads 1 locks 0 variables 1 races 0\n",
+        ..STOPPED
     },
     Case {
-        text: "T0|w(x)|1\n",
-        most: 1,
+        text: STORE,
         turns: 10,
         stops_at: Some(2),
-        counts: "",
-        report: "",
+        ..STOPPED
+    },
+    Case {
+        text: STORE,
+        turns: 0,
+        stops_at: Some(1),
+        ..STOPPED
+    },
+    Case {
+        text: &[b'\n'; 2000],
+        turns: 1000,
+        stops_at: Some(1001),
+        ..STOPPED
+    },
+    // A read that fails has the number of the line whose end was not read.
+    Case {
+        fails: true,
+        stops_at: Some(1),
+        ..STOPPED
+    },
+    Case {
+        text: &[b'a'; 1025],
+        fails: true,
+        stops_at: Some(1),
+        ..STOPPED
+    },
+    Case {
+        text: STORE,
+        fails: true,
+        stops_at: Some(2),
+        ..STOPPED
+    },
+    Case {
+        text: b"T0|w(x)|1\n\r\nT0|rel",
+        fails: true,
+        stops_at: Some(3),
+        ..STOPPED
     },
 ];
 
@@ -75,7 +121,10 @@ impl Case {
 
     /// Both commands come to what the case says.
     fn expect(&self, rt: &impl Abort, alloc: Global) {
-        let text = Text::cut(self.text.as_bytes(), self.most, self.most);
+        let text = Text {
+            fails: self.fails,
+            ..Text::cut(self.text, self.most, self.most)
+        };
         let wanted = Some((self.fault(), true));
         let checked = Command::Check.ends(alloc, text, self.turns, self.counts);
         assert!(rt; checked == wanted, "{:?} turns: {checked:?}", self.turns);
