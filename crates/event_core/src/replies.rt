@@ -31,40 +31,41 @@ pub struct SwapReply {
     pub store: Verdict,
 }
 
-/// Why a call is refused, in the order in which the reasons are looked at.
+/// Why a call is refused. Each reason has a number, which its words begin with; they are looked at in that
+/// order.
 #[derive(Clone, Copy, Debug, PartialEq, Eq, Error)]
 pub enum Refusal {
-    /// The caller's number is not below the limit of threads.
+    /// 1: the caller's number is not below the limit of threads.
     #[error("the thread's number is not below the limit of threads")]
     ThreadRange,
-    /// No fork of the caller is in the log, and it did not run from the beginning.
+    /// 2: no fork of the caller is in the log, and it did not run from the beginning.
     #[error("the thread has not been forked")]
     NotStarted,
-    /// A join of the caller is in the log.
+    /// 3: a join of the caller is in the log.
     #[error("the thread has been joined")]
     Ended,
-    /// The lock, variable or thread that is named is not below its limit.
+    /// 4: the lock, variable or thread that is named is not below its limit.
     #[error("the number of the lock, variable or thread is not below its limit")]
     TargetRange,
-    /// Another thread holds the lock that is to be acquired.
+    /// 5: another thread holds the lock that is to be acquired.
     #[error("thread {} holds the lock", .by.0)]
     Held { by: ThreadId },
-    /// The caller does not hold the lock that it releases.
+    /// 6: the caller does not hold the lock that it releases.
     #[error("the thread does not hold the lock")]
     NotHolder,
-    /// A thread forks or joins itself.
+    /// 7: a thread forks or joins itself.
     #[error("a thread cannot fork or join itself")]
     SelfTarget,
-    /// The thread that is to be forked has started already.
+    /// 8: the thread that is to be forked has started already.
     #[error("the thread to be forked has started already")]
     AlreadyStarted,
-    /// The thread that is to be joined has not started.
+    /// 9: the thread that is to be joined has not started.
     #[error("the thread to be joined has not started")]
     TargetNotStarted,
-    /// The log has no slot for the event beside those that are kept for releases.
+    /// 10: the log has no slot for the event beside those that are kept for releases.
     #[error("the log is full")]
     LogFull,
-    /// A growth was refused.
+    /// 11: a growth was refused.
     #[error("out of memory")]
     OutOfMemory,
 }

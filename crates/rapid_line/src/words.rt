@@ -30,22 +30,23 @@ impl Word {
     }
 }
 
-/// Why a content has no named event. Of several, the first in this order is answered.
+/// Why a content has no named event. Each cause has a number, which its words begin with. Of several, the
+/// first in this order is answered.
 #[derive(Clone, Copy, Debug, PartialEq, Eq)]
 pub enum LineFault {
-    /// The content has more than 1,024 bytes.
+    /// 1: the content has more than 1,024 bytes.
     LineTooLong,
-    /// A CR stands in the content.
+    /// 10: a CR stands in the content.
     StrayCr,
-    /// There are fewer than two bars.
+    /// 2: there are fewer than two bars.
     FewFields,
-    /// There are more than two bars.
+    /// 3: there are more than two bars.
     ManyFields,
-    /// The field between the bars is no operation word with an argument in parentheses.
+    /// 4: the field between the bars is no operation word with an argument in parentheses.
     BadOp,
-    /// The thread or the argument is empty.
+    /// 5: the thread or the argument is empty.
     EmptyName,
-    /// The thread, the argument or the location has more than 255 bytes.
+    /// 6: the thread, the argument or the location has more than 255 bytes.
     LongName,
 }
 

@@ -7,29 +7,30 @@ use event_core::{Refusal, ThreadId};
 use script_text::ScriptLine;
 use thiserror::Error;
 
-/// Why a script was not run to its end. Lines are numbered from 1.
+/// Why a script was not run to its end. Lines are numbered from 1. Each reason has a number, which its words
+/// begin with.
 #[derive(Clone, Copy, Debug, PartialEq, Eq, Error)]
 pub enum DriveFault {
-    /// The line was tried as often as patience allows: its gate did not admit it, another thread held the
+    /// 1: the line was tried as often as patience allows: its gate did not admit it, another thread held the
     /// lock that it acquires, or the thread that it joins did not end.
     #[error("line {line}: it was tried as often as patience allows")]
     Stuck {
         thread: ThreadId,
         line: u64,
     },
-    /// The line's call was refused.
+    /// 2: the line's call was refused.
     #[error("line {line}: {refusal}")]
     Refused {
         thread: ThreadId,
         line: u64,
         refusal: Refusal,
     },
-    /// No worker could be started for the thread that the line forks.
+    /// 3: no worker could be started for the thread that the line forks.
     #[error("line {line}: no worker could be started for the thread that it forks")]
     NoWorker {
         line: u64,
     },
-    /// A growth was refused.
+    /// 4: a growth was refused.
     #[error("out of memory")]
     OutOfMemory,
 }
