@@ -46,7 +46,8 @@ is_event : (log : List Event) (c : Call) (v : ℕ) (e : Event)
     → e ≡ record { thread = c.thread; op = c.op; site = c.site; value = v } → v ≡ value_of log c.op c.arg
     → e ≡ event_of log c
 is_event log c v e is value =
-    is ∙ ap (λ (n : ℕ). let f : Event = record { thread = c.thread; op = c.op; site = c.site; value = n } in f)
+    is ∙ ap (λ (n : ℕ). let f : Event = record { thread = c.thread; op = c.op; site = c.site; value = n } in
+    f)
     value
 
 -- the memory after the next event of the log

@@ -22,7 +22,8 @@ pub struct NameLists<'a> {
 /// Why lists give no names.
 #[derive(Clone, Copy, Debug, PartialEq, Eq, Error)]
 pub enum NamingFault {
-    /// The text is no name: it is empty and no site's, it is longer than 255 bytes, or has a bar, an LF or a CR.
+    /// The text is no name: it is empty and no site's, it is longer than 255 bytes, or has a bar, an LF or a
+    /// CR.
     #[error("{kind:?} {number}: the text is no name")]
     NoName { kind: Kind, number: u32 },
     /// The name is that of an earlier number, too.

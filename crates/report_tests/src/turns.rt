@@ -6,8 +6,8 @@ use std::alloc::Global;
 use std::process::Abort;
 use trace_report::ReplayFault;
 
-/// A text, how many bytes of it a read gives, whether a read at its end fails, how many reads there may be, the
-/// line that could not be read to its end, if any, and what `check` and `replay` write.
+/// A text, how many bytes of it a read gives, whether a read at its end fails, how many reads there may be,
+/// the line that could not be read to its end, if any, and what `check` and `replay` write.
 struct Case {
     text: &'static [u8],
     most: usize,

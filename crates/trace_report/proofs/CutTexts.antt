@@ -1,4 +1,5 @@
--- A text that was not read to its end: its fault is at the line whose end was not seen, and none is before it.
+-- A text that was not read to its end: its fault is at the line whose end was not seen, and none is before
+-- it.
 use Rattle.std.proofs.Common.{◌≡◌, ℕ, ◌+◌, List, [], ◌∷◌, ◌++◌, Option, Some, None, Result, Ok, Err}
 use Rattle.std.proofs.Common.{sym, ap, subst, ◌∙◌, arith}
 use Rattle.std.specs.Prelude.{IfErr}

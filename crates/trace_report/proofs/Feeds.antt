@@ -18,7 +18,8 @@ use Rattle.trace_report.specs.declared.faults.ReplayFault.TheVariants.{Text, Ref
 use Rattle.trace_report.specs.Findings.{call_of}
 use Rattle.trace_report.specs.Feeding.{Declines, Takes, Stops}
 use Rattle.trace_report.proofs.Naming.{named_kept, named_line}
-use Rattle.trace_report.proofs.Playing.{with_line, pushed_event, pushed_nothing, pushed_refused, push_stops, push_read}
+use Rattle.trace_report.proofs.Playing.{with_line, pushed_event, pushed_nothing, pushed_refused, push_stops}
+use Rattle.trace_report.proofs.Playing.{push_read}
 
 taken_lines : (used : ℕ) (piece : List ℕ)
     → count 10 (take used piece) + count 10 (drop used piece) ≡ count 10 piece
@@ -37,7 +38,8 @@ pub takes_event : (A B : Limits → List Event → Type 0) (s t : Cutting) (piec
     → Takes A B s piece (drop used piece) t
 takes_event A B s t piece used o e p is grows named allowed after = record {
   live = p.live.1;
-  taken = let taken = p.taken in let within = p.used_within in let left = length-drop used piece in omega arith;
+  taken = let taken = p.taken in let within = p.used_within in let left = length-drop used piece in omega
+      arith;
   lines = let lines = p.lines in let parts = taken_lines used piece in omega arith;
   goes_on = λ m log a. record {
     longer = with_line log e;
@@ -49,7 +51,8 @@ takes_event A B s t piece used o e p is grows named allowed after = record {
 }
 
 pub takes_rest : (A : Limits → List Event → Type 0) (s t : Cutting) (piece : List ℕ) (used : ℕ)
-    (o : Option Event) → Pushes s t piece used o → o ≡ None → TablesGrow s.names t.names → Takes A A s piece [] t
+    (o : Option Event) → Pushes s t piece used o → o ≡ None → TablesGrow s.names t.names → Takes A A s piece
+    [] t
 takes_rest A s t piece used o p is grows = record {
   live = p.live.1;
   taken = let taken = p.taken in let all = p.all_used is in omega arith;
@@ -63,7 +66,8 @@ takes_rest A s t piece used o p is grows = record {
 }
 
 -- each event takes a byte at least
-pub fewer : (s t : Cutting) (piece : List ℕ) (used : ℕ) (o : Option Event) (e : Event) → Pushes s t piece used o
+pub fewer : (s t : Cutting) (piece : List ℕ) (used : ℕ) (o : Option Event) (e : Event) → Pushes s t piece
+    used o
     → o ≡ Some e → length (drop used piece) < length piece
 fewer s t piece used o e p is =
     let some : 0 < used = subst (λ (x : Option Event). IfSome x (λ _. 0 < used)) is p.some in

@@ -28,7 +28,8 @@ either_refused : (n : ℕ) (o : Option Refusal) (later : Option (ℕ × Refusal)
 either_refused n None later end = refl
 either_refused n (Some r) later end = refl
 
-played_is : (m : Limits) (ps : List (ℕ × Event)) (log : List Event) (end : List Event → Result Trace ReplayFault)
+played_is : (m : Limits) (ps : List (ℕ × Event)) (log : List Event)
+    (end : List Event → Result Trace ReplayFault)
     → StoreNothing log → StoreNothing (log_of ps)
     → played m log ps end ≡ finding_or (refused_after m log ps) (end (log ++ log_of ps))
 played_is m [] log end z zs = ap end (sym (append-nil log))

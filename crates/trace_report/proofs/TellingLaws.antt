@@ -69,7 +69,8 @@ ended_fault None later r f is at_end same g =
     at_end refl (sym (ap gives_up is) ∙ g) ∙ ap (λ (x : ReplayFault). Err x) (sym is)
 ended_fault (Some h) later r f is at_end same g = ap (λ (x : ReplayFault). Err x) (sym (is ∙ same))
 
-pub ended_trace : (o : Option ReplayFault) (later : Result Trace ReplayFault) → o ≡ None → fault_or o later ≡ later
+pub ended_trace : (o : Option ReplayFault) (later : Result Trace ReplayFault) → o ≡ None → fault_or o later
+    ≡ later
 ended_trace None later none = refl
 ended_trace (Some f) later none = absurd (cc)
 
@@ -129,7 +130,8 @@ pub trace_counts : (m : Limits) (left : Option (List ℕ)) (j : LegalSoFar) (nam
     → IfSome left (λ text. Ok c ≡ answer_for m text)
 trace_counts m left j names c f is = go left f.is_left
   where
-    go : (o : Option (List ℕ)) → IfSome o (λ whole. f.text ≡ whole) → IfSome o (λ text. Ok c ≡ answer_for m text)
+    go : (o : Option (List ℕ)) → IfSome o (λ whole. f.text ≡ whole) → IfSome o
+        (λ text. Ok c ≡ answer_for m text)
     go None at = tt
     go (Some text) at =
         ap (λ (x : Counts). Ok x) (is ∙ ap (λ (n : ℕ). counts_of n names) f.after.count)

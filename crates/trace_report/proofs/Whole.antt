@@ -1,6 +1,7 @@
 -- A text that was pulled whole, and what it comes to.
 use Rattle.std.proofs.Common.{◌≡◌, ℕ, ◌*◌, ◌≤◌, List, [], ◌++◌, Option, Some, None, Err, true, false}
-use Rattle.std.proofs.Common.{length, length-append, append-nil, refl, sym, ap, subst, ◌∙◌, arith, ◌⊎◌, inl, inr, Bool}
+use Rattle.std.proofs.Common.{length, length-append, append-nil, refl, sym, ap, subst, ◌∙◌, arith, ◌⊎◌, inl}
+use Rattle.std.proofs.Common.{inr, Bool}
 use Rattle.std.specs.Prelude.{IfSome, IsSomeAnd}
 use Rattle.std.specs.Io.KnownBytes.{Consumes, IsAtEnd}
 use Rattle.event_core.specs.declared.bounds.Limits.{Limits}
@@ -78,7 +79,8 @@ module _ (m : Limits) (A : Limits → List Event → Type 0) (left rest : Option
 
   pub is_fed : (B : Limits → List Event → Type 0) (t : Cutting) (r : Fed) (before now : Option ReplayFault)
       → before ≡ None → (r ≡ fed.Cut → ⊥)
-      → (r ≡ fed.Whole → Whole left rest turns (λ bytes. before ≡ None → (now ≡ None) × Takes A B s bytes [] t))
+      → (r ≡ fed.Whole → Whole left rest turns (λ bytes. before ≡ None → (now ≡ None) × Takes A B s bytes []
+      t))
       → (r ≡ fed.Stopped → Pulled left rest turns (λ bytes. before ≡ None → IsSomeAnd now (Stops A s bytes)))
       → now ≡ None → IsFed m left (B m) t
   is_fed B t fed.Whole before now none other whole stopped live =
@@ -91,7 +93,8 @@ module _ (m : Limits) (A : Limits → List Event → Type 0) (left rest : Option
 
   pub fault_is_found : (B : Limits → List Event → Type 0) (t : Cutting) (r : Fed)
       (before now : Option ReplayFault) → before ≡ None → (r ≡ fed.Cut → ⊥)
-      → (r ≡ fed.Whole → Whole left rest turns (λ bytes. before ≡ None → (now ≡ None) × Takes A B s bytes [] t))
+      → (r ≡ fed.Whole → Whole left rest turns (λ bytes. before ≡ None → (now ≡ None) × Takes A B s bytes []
+      t))
       → (r ≡ fed.Stopped → Pulled left rest turns (λ bytes. before ≡ None → IsSomeAnd now (Stops A s bytes)))
       → IfSome now (λ f. gives_up f ≡ false → FindsFault m left f)
   fault_is_found B t fed.Whole before now none other whole stopped =
@@ -102,7 +105,8 @@ module _ (m : Limits) (A : Limits → List Event → Type 0) (left rest : Option
       let p = stopped refl in
       go now p.bytes p.came (p.so none)
     where
-      go : (o : Option ReplayFault) (bytes : List ℕ) → Consumes left rest bytes → IsSomeAnd o (Stops A s bytes)
+      go : (o : Option ReplayFault) (bytes : List ℕ) → Consumes left rest bytes → IsSomeAnd o
+          (Stops A s bytes)
           → IfSome o (λ f. gives_up f ≡ false → FindsFault m left f)
       go None bytes came stops = absurd stops
       go (Some f) bytes came stops = found_fault f bytes came stops
@@ -110,12 +114,14 @@ module _ (m : Limits) (A : Limits → List Event → Type 0) (left rest : Option
 
   pub never_short : (B : Limits → List Event → Type 0) (t : Cutting) (P : ReplayFault → Type 0) (r : Fed)
       (before now : Option ReplayFault) → turns ≤ 17592186044416 → before ≡ None → (r ≡ fed.Cut → ⊥)
-      → (r ≡ fed.Whole → Whole left rest turns (λ bytes. before ≡ None → (now ≡ None) × Takes A B s bytes [] t))
+      → (r ≡ fed.Whole → Whole left rest turns (λ bytes. before ≡ None → (now ≡ None) × Takes A B s bytes []
+      t))
       → (r ≡ fed.Stopped → Pulled left rest turns (λ bytes. before ≡ None → IsSomeAnd now (Stops A s bytes)))
       → IfSome now (λ f. is_short f ≡ true → P f)
   never_short B t P fed.Whole before now few none other whole stopped =
       let w = whole refl in
-      subst (λ (o : Option ReplayFault). IfSome o (λ f. is_short f ≡ true → P f)) (sym (w.pulled.so none).0) tt
+      subst (λ (o : Option ReplayFault). IfSome o (λ f. is_short f ≡ true → P f)) (sym (w.pulled.so none).0)
+      tt
   never_short B t P fed.Stopped before now few none other whole stopped =
       let p = stopped refl in
       go now p.bytes p.few (p.so none)
@@ -131,7 +137,8 @@ module _ (m : Limits) (A : Limits → List Event → Type 0) (left rest : Option
 
 -- ---- what it comes to
 
-pub trace_is_found : (m : Limits) (left : Option (List ℕ)) (B C : List Event → Type 0) (s : Cutting) (names : Tables)
+pub trace_is_found : (m : Limits) (left : Option (List ℕ)) (B C : List Event → Type 0) (s : Cutting)
+    (names : Tables)
     → IsFed m left B s → ((log : List Event) → B log → Ends m C s log names) → FindsTrace m left C names
 trace_is_found m left B C s names f ends =
     let e = ends f.log f.after in

@@ -1,5 +1,6 @@
 -- Pieces of a text, one after another, are one piece.
-use Rattle.std.proofs.Common.{◌≡◌, ℕ, ◌+◌, ◌<◌, List, [], ◌++◌, Option, Some, None, length, refl, sym, ap, subst, ◌∙◌}
+use Rattle.std.proofs.Common.{◌≡◌, ℕ, ◌+◌, ◌<◌, List, [], ◌++◌, Option, Some, None, length, refl, sym, ap}
+use Rattle.std.proofs.Common.{subst, ◌∙◌}
 use Rattle.std.proofs.Common.{append_assoc, length-append, add_assoc, add-zero, arith}
 use Rattle.std.specs.Prelude.{IsSomeAnd}
 use Rattle.event_core.specs.declared.bounds.Limits.{Limits}
@@ -56,7 +57,8 @@ fed_before A B s t front rest p = record {
         longer = on.longer;
         after = on.after;
         named = on.named;
-        same = λ more. ap (λ (text : List ℕ). finding_after m log (judged s text)) (append_assoc front rest more)
+        same = λ more. ap (λ (text : List ℕ). finding_after m log (judged s text))
+            (append_assoc front rest more)
             ∙ on.same (rest ++ more);
       };
 }

@@ -1,5 +1,5 @@
--- A text that is judged in pieces: what a piece and the end of the text do to its names, its unfinished line and
--- the log that it makes.
+-- A text that is judged in pieces: what a piece and the end of the text do to its names, its unfinished line
+-- and the log that it makes.
 use Rattle.std.specs.Prelude.{
   ◌≡◌,
   ◌≢◌,
@@ -55,8 +55,8 @@ is_short _ = false
 
 -- ---- one piece
 
--- the judge is as after a longer log. Whatever follows the bytes, the text comes to the same from this log on as
--- what is still to be judged does from the longer one.
+-- the judge is as after a longer log. Whatever follows the bytes, the text comes to the same from this log on
+-- as what is still to be judged does from the longer one.
 pub record GoesOn (m : Limits) (After : List Event → Type 0) (old : Cutting) (log : List Event)
     (bytes rest : List ℕ) (new : Cutting) : Type 0 where
   pub longer : List Event
@@ -94,8 +94,10 @@ pub record Ends (m : Limits) (After : List Event → Type 0) (old : Cutting) (lo
 
 -- ---- a whole text
 
--- the text that was left, where it is known, was fed whole: it comes to what its unfinished line does after the log
-pub record IsFed (m : Limits) (left : Option (List ℕ)) (After : List Event → Type 0) (now : Cutting) : Type 0 where
+-- the text that was left, where it is known, was fed whole: it comes to what its unfinished line does after
+-- the log
+pub record IsFed (m : Limits) (left : Option (List ℕ)) (After : List Event → Type 0) (now : Cutting)
+    : Type 0 where
   pub text : List ℕ
   pub is_left : IfSome left (λ whole. text ≡ whole)
   pub log : List Event
@@ -127,8 +129,8 @@ IsFrom n (Text f) = n ≤ f.line
 IsFrom n (Refused line r) = n ≤ line
 IsFrom n Write = ⊥
 
--- the reading stopped after these bytes: the fault is at the line whose end was not seen, and whatever follows,
--- no line before it has a fault or an event that is refused
+-- the reading stopped after these bytes: the fault is at the line whose end was not seen, and whatever
+-- follows, no line before it has a fault or an event that is refused
 pub record IsCutAt (m : Limits) (left rest : Option (List ℕ)) (f : ReplayFault) : Type 0 where
   pub came : List ℕ
   pub bytes : Consumes left rest came

@@ -1,4 +1,5 @@
-//! The check and the replay of a trace, whole or in pieces, and its report: its counts, and a line for each race.
+//! The check and the replay of a trace, whole or in pieces, and its report: its counts, and a line for each
+//! race.
 #![tactic(auto)]
 
 mod checking;

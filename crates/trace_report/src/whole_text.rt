@@ -1,5 +1,6 @@
 //! A text that is judged whole, from an input.
-ghost use Rattle.std.specs.Prelude.{◌≡◌, ◌≢◌, ◌⊎◌, ◌≤◌, [], Err, None, true, false, IfErr, IfOk, IfSome, OnOk, length};
+ghost use Rattle.std.specs.Prelude.{◌≡◌, ◌≢◌, ◌⊎◌, ◌≤◌, [], Err, None, true, false, IfErr, IfOk, IfSome};
+ghost use Rattle.std.specs.Prelude.{OnOk, length};
 ghost use Rattle.trace_report.specs.Replayed.{gives_up};
 ghost use Rattle.trace_report.specs.Feeding.{IsFed, FindsTrace, FindsFault, IsCutAt, is_short};
 

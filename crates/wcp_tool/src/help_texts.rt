@@ -1,8 +1,8 @@
 //! What help says of the program and its commands, beside their options: what each reads and prints, how it
 //! ends, and one example. No line of it has more than 80 columns.
 
-/// What is said of a command over a trace: what a line of a trace is, what is printed of a legal one, the words
-/// that say why a line is refused, and the end.
+/// What is said of a command over a trace: what a line of a trace is, what is printed of a legal one, the
+/// words that say why a line is refused, and the end.
 macro_rules! trace_help {
     ($printed:literal, $end:literal) => {
         concat!(

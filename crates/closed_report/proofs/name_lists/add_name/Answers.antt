@@ -25,8 +25,11 @@ returns-else-given-number-clause-ok c =
     c.in-Ok.ensures.ok c.in-Ok.ensures.named (omega arith)
 
 pub returns-in-Err-TooMany-clause-fault : goal.returns-in-Err-TooMany-clause-fault
-returns-in-Err-TooMany-clause-fault c =
-    (refl, no_more c.args.names.now c.args.kind c.args.name.now (c.in-Err-TooMany.ensures.too_many.0 (search rules)))
+returns-in-Err-TooMany-clause-fault c = (
+  refl,
+  no_more c.args.names.now c.args.kind c.args.name.now
+      (c.in-Err-TooMany.ensures.too_many.0 (search rules)),
+)
 
 pub returns-in-Err-OutOfMemory-clause-fault : goal.returns-in-Err-OutOfMemory-clause-fault
 returns-in-Err-OutOfMemory-clause-fault c = tt

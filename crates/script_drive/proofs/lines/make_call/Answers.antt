@@ -42,7 +42,8 @@ pub returns-in-Acquire-clause-halt : goal.returns-in-Acquire-clause-halt
 returns-in-Acquire-clause-halt g c =
     call_halts g.N.Name.limits g.S.Text.script.lines c.args.line.now c.in-One.call
     (Acquire c.in-Acquire.lock) c.in-One.call.site 0 c.args.pass c.acquire_within.result.0
-    c.acquire_within.result.1 c.answered-in-Acquire.result c.in-One.is c.in-Acquire.is c.requires.next c.requires.thread
+    c.acquire_within.result.1 c.answered-in-Acquire.result c.in-One.is c.in-Acquire.is c.requires.next
+    c.requires.thread
     c.acquire_within.ensures.later c.acquire_within.ensures.declined c.answered-in-Acquire.ensures.refused
 
 pub returns-in-Release-clause-halt : goal.returns-in-Release-clause-halt

@@ -27,5 +27,6 @@ returns-in-Ok-write-clause-tells g c _ = c.in-Ok-write.ensures.ok
 
 pub returns-in-Err-clause-cut : goal.returns-in-Err-clause-cut
 returns-in-Err-clause-cut g c =
-    short_stays (IsCutAt c.args.limits (g.I.Input.left c.args.reader.now) (g.I.Input.left c.judge_text.new.reader))
+    short_stays (IsCutAt c.args.limits (g.I.Input.left c.args.reader.now)
+    (g.I.Input.left c.judge_text.new.reader))
     c.tell_failure.result c.in-Err.fault c.tell_failure.ensures.is c.in-Err.ensures.cut

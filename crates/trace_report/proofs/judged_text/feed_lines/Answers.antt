@@ -5,7 +5,8 @@ use Rattle.trace_report.proofs.Feeds.{takes_event, takes_rest, fewer, text_stops
 use Rattle.trace_report.proofs.judged_text.feed_lines.Goals as goal
 
 pub lines-init : goal.lines-init
-lines-init g c = takes_none (g.J.Judge.is_after c.args.judge.now) c.args.cutter.now c.args.piece.now c.requires.live
+lines-init g c = takes_none (g.J.Judge.is_after c.args.judge.now) c.args.cutter.now c.args.piece.now
+    c.requires.live
 
 pub returns-in-Err-clause-fault : goal.returns-in-Err-clause-fault
 returns-in-Err-clause-fault g c =
@@ -40,7 +41,8 @@ lines-preserved g c =
     c.push.new.self c.args.piece.now c.lines.rest.now _ c.lines.invariant
     (subst (λ (rest : List ℕ). Takes before after c.lines.cutter c.lines.rest.now rest c.push.new.self)
     (sym c.rest_after-rest.ensures)
-    (takes_event before after c.lines.cutter c.push.new.self c.lines.rest.now c.in-Ok.pushed.0 c.in-Ok.pushed.1
+    (takes_event before after c.lines.cutter c.push.new.self c.lines.rest.now c.in-Ok.pushed.0
+    c.in-Ok.pushed.1
     c.in-Some.event c.in-Ok.ensures.ok c.in-Some.is c.push.ensures.grows c.in-Ok.ensures.named
     c.in_default-judge.ensures.allowed c.in_default-judge.ensures.after))
 

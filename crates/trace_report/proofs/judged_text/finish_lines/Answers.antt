@@ -4,7 +4,8 @@ use Rattle.trace_report.proofs.judged_text.finish_lines.Goals as goal
 
 pub returns-in-Err-clause-fault : goal.returns-in-Err-clause-fault
 returns-in-Err-clause-fault g c m log a gives =
-    close_stops m log c.args.cutter.now c.in-Err.fault c.in-Err.fault.cause c.requires.live c.in-Err.ensures.fault
+    close_stops m log c.args.cutter.now c.in-Err.fault c.in-Err.fault.cause c.requires.live
+    c.in-Err.ensures.fault
     gives
 
 pub returns-in-Err-clause-whole : goal.returns-in-Err-clause-whole
@@ -13,7 +14,8 @@ returns-in-Err-clause-whole g c =
 
 pub returns-in_default-clause-ok : goal.returns-in_default-clause-ok
 returns-in_default-clause-ok g c m log a =
-    ends_nothing m (g.J.Judge.is_after c.args.judge.now m) c.args.cutter.now c.finish.new.self log c.in-Ok.event
+    ends_nothing m (g.J.Judge.is_after c.args.judge.now m) c.args.cutter.now c.finish.new.self log
+    c.in-Ok.event
     c.in-Ok.ensures.ok c.in_default.is c.finish.ensures.grows a
 
 pub returns-in-Err-judge-clause-fault : goal.returns-in-Err-judge-clause-fault

@@ -22,7 +22,8 @@ returns-clause-tells g c gives =
     trace_tells c.args.limits (g.I.Input.left c.args.reader.now) (written c.args.writer.now)
     (written c.tell_trace-answer.new.writer)
     (λ (log : List Event). (text.judge.limits ≡ c.args.limits) × (text.judge.log ≡ log)) text.cutter.names
-    c.names.result.now text.judge.log c.tell_trace-answer.result c.in-Ok-judge_text.ensures.trace (λ log a. a.1)
+    c.names.result.now text.judge.log c.tell_trace-answer.result c.in-Ok-judge_text.ensures.trace
+    (λ log a. a.1)
     c.names.ensures (c.tell_trace-answer.ensures.tells gives)
 
 pub returns-clause-quiet : goal.returns-clause-quiet
@@ -36,7 +37,8 @@ returns-clause-written g c other = c.tell_trace-answer.ensures.healthy other ∙
 
 pub returns-in-Err-clause-cut : goal.returns-in-Err-clause-cut
 returns-in-Err-clause-cut g c =
-    short_stays (IsCutAt c.args.limits (g.I.Input.left c.args.reader.now) (g.I.Input.left c.judge_text.new.reader))
+    short_stays (IsCutAt c.args.limits (g.I.Input.left c.args.reader.now)
+    (g.I.Input.left c.judge_text.new.reader))
     c.tell_failure.result c.in-Err.fault c.tell_failure.ensures.is c.in-Err.ensures.cut
 
 pub returns-clause-cut : goal.returns-clause-cut

@@ -17,8 +17,10 @@ returns-in-Err-clause-short g c short =
 
 pub returns-in-Err-clause-cut : goal.returns-in-Err-clause-cut
 returns-in-Err-clause-cut g c short =
-    stood_short (IsCutAt c.args.limits (g.I.Input.left c.args.reader.now) (g.I.Input.left c.read_text-text.new.reader))
-    c.read_text-text.result.fault c.in-Err.fault c.read_text-text.ensures.cut (c.in-Err.ensures.whole short) short
+    stood_short (IsCutAt c.args.limits (g.I.Input.left c.args.reader.now)
+    (g.I.Input.left c.read_text-text.new.reader))
+    c.read_text-text.result.fault c.in-Err.fault c.read_text-text.ensures.cut (c.in-Err.ensures.whole short)
+    short
 
 pub returns-clause-trace : goal.returns-clause-trace
 returns-clause-trace g c =

@@ -59,7 +59,8 @@ returns-clause-cut g c =
     let came = cut_text c.args.limits (after c.new-text.result.judge) (after c.feed_all.new.sink.judge)
     (left c.args.reader.now) (left c.feed_all.new.input) c.new-text.result.cutter c.feed_all.new.sink.cutter
     pulled.bytes c.new-text.ensures.cutter
-    (subst (λ j. after j c.args.limits []) (sym c.new-text.ensures.judge) c.requires.begins) pulled.came takes.1 in
+    (subst (λ j. after j c.args.limits []) (sym c.new-text.ensures.judge) c.requires.begins) pulled.came
+    takes.1 in
     subst (λ (o : Option ReplayFault). IfSome o (λ f. is_short f ≡ true → IsCutAt c.args.limits
     (left c.args.reader.now) (left c.feed_all.new.input) f)) (sym (c.read_failed.ensures.fault takes.0))
     (λ _. came)

@@ -8,9 +8,11 @@ pub returns-clause-app : goal.returns-clause-app
 unfolding wcp
 returns-clause-app c =
     let first = c.in_ok-subcommand.ensures.shape c.in_ok-check_command.ensures.local in
-    let one = first ∙ ap₂ with_subcommand c.in_ok-bare_command.ensures.app c.in_ok-check_command.ensures.shape in
+    let one = first ∙ ap₂ with_subcommand c.in_ok-bare_command.ensures.app
+    c.in_ok-check_command.ensures.shape in
     let second = c.in_ok-subcommand-2.ensures.shape c.in_ok-replay_command.ensures.local in
     let two = second ∙ ap₂ with_subcommand one c.in_ok-replay_command.ensures.shape in
     IfOk-weaker c.subcommand-3.result _ _
-    (λ x h. h.shape c.in_ok-run_command.ensures.local ∙ ap₂ with_subcommand two c.in_ok-run_command.ensures.shape)
+    (λ x h. h.shape c.in_ok-run_command.ensures.local ∙ ap₂ with_subcommand two
+    c.in_ok-run_command.ensures.shape)
     c.subcommand-3.ensures

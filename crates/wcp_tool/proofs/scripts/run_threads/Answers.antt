@@ -12,7 +12,8 @@ returns-in-Ok-clause-ran g c h = record {
   first = c.in-Ok.ensures.main;
   joined = c.in-Ok.ensures.joined;
   reports = subst (λ (t : Tables). ReportsLog t c.in-Ok.closed.log (g.O.Output.written c.args.writer.now)
-      (g.O.Output.written c.report_closed-ending.new.writer) (status_of c.report_closed-ending.result)) c.names.ensures
+      (g.O.Output.written c.report_closed-ending.new.writer) (status_of c.report_closed-ending.result))
+      c.names.ensures
       (c.report_closed-ending.ensures.reports h);
 }
 

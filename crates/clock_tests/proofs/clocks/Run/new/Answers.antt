@@ -8,5 +8,6 @@ use Rattle.clock_tests.proofs.clocks.Run.new.Goals as goal
 pub invariant_of-result-clause-few : goal.invariant_of-result-clause-few
 invariant_of-result-clause-few g c =
     let begun : state_of c.expect-clocks.result.0 ≡ empty
-    = subst (λ r. IfOk r (λ made. state_of made.0 ≡ empty)) c.expect-clocks.ensures c.begin_clocks.ensures.empty in
+    = subst (λ r. IfOk r (λ made. state_of made.0 ≡ empty)) c.expect-clocks.ensures
+    c.begin_clocks.ensures.empty in
     subst (IsAtMost 0) (sym begun) none_at_most

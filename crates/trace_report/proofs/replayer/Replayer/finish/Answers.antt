@@ -1,4 +1,5 @@
-use Rattle.std.proofs.Common.{◌≡◌, ◌⊎◌, List, [], Option, Some, Result, Ok, Err, refl, sym, ap, ap₂, subst, ◌∙◌}
+use Rattle.std.proofs.Common.{◌≡◌, ◌⊎◌, List, [], Option, Some, Result, Ok, Err, refl, sym, ap, ap₂, subst}
+use Rattle.std.proofs.Common.{◌∙◌}
 use Rattle.std.specs.Prelude.{IfSome}
 use Rattle.event_core.specs.declared.events.Event.{Event}
 use Rattle.rapid_text.specs.Cutting.{judged}
@@ -11,7 +12,8 @@ use Rattle.trace_report.specs.Feeding.{is_short}
 use Rattle.trace_report.specs.Replayed.{Told}
 use Rattle.trace_report.specs.Replaying.{Replaying, after}
 use Rattle.trace_report.specs.Reports.{AreNamed}
-use Rattle.trace_report.proofs.TellingLaws.{is_the_fault, short_is_the_fault, fault_told, ended_fault, ended_trace}
+use Rattle.trace_report.proofs.TellingLaws.{is_the_fault, short_is_the_fault, fault_told, ended_fault}
+use Rattle.trace_report.proofs.TellingLaws.{ended_trace}
 use Rattle.trace_report.proofs.TellingLaws.{never_short, on_any, answered_or, refused, same_fault}
 use Rattle.trace_report.proofs.replayer.Replayer.finish.Goals as goal
 
@@ -20,7 +22,8 @@ returns-in-Err-clause-tells g c gives =
     let text = c.self.inside.text in
     let written = g.W.Output.written in
     let fault = c.tell_failure.result in
-    subst (λ (r : Replaying). Told (written c.args.writer.now) (written c.tell_failure.new.writer) (after r [])
+    subst (λ (r : Replaying). Told (written c.args.writer.now) (written c.tell_failure.new.writer)
+    (after r [])
     (Err fault)) c.self.view_is
     (fault_told _ (written c.args.writer.now) (written c.tell_failure.new.writer) fault
     (ended_fault text.fault (finding_after text.judge.limits text.judge.log (judged text.cutter [])) fault
@@ -46,7 +49,8 @@ returns-in-Err-clause-answered g c =
     subst (λ (o : Option ReplayFault). IfSome o (λ f. (answer ≡ refused Summary f)
     ⊎ (answer ≡ refused Summary Write)))
     (ap (λ (r : Replaying). r.fault) c.self.view_is)
-    (answered_or Summary c.self.inside.text.fault c.tell_failure.result c.in-Err.fault c.tell_failure.ensures.is
+    (answered_or Summary c.self.inside.text.fault c.tell_failure.result c.in-Err.fault
+    c.tell_failure.ensures.is
     c.in-Err.ensures.answered)
 
 pub returns-in-Err-clause-healthy : goal.returns-in-Err-clause-healthy
@@ -74,7 +78,8 @@ returns-clause-tells g c gives =
     let written = g.W.Output.written in
     let ends = c.in_default.ensures.ok text.judge.limits text.judge.log (refl, refl) in
     let told = λ (found : Result Trace ReplayFault).
-    Told (written c.args.writer.now) (written c.tell_trace-answer.new.writer) found c.tell_trace-answer.result in
+    Told (written c.args.writer.now) (written c.tell_trace-answer.new.writer) found
+    c.tell_trace-answer.result in
     subst (λ (r : Replaying). told (after r [])) c.self.view_is
     (subst told
     (ap₂ (λ (t : Tables) (l : List Event). Ok (record { names = t; log = l })) c.names.ensures ends.after.1
