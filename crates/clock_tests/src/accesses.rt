@@ -2,7 +2,6 @@
 //!
 //! Where a growth is refused once, the same call is made again and gives the same verdict.
 ghost use Rattle.std.specs.Prelude.{◌≡◌, ℕ, ◌≤◌, ◌↔◌, length, IsTrue};
-ghost use Rattle.event_core.specs.declared.events.Op.{Op as Operation};
 ghost use Rattle.access_check.specs.Tables.{count_at, IsWithin};
 
 use crate::clocks::{Run, event};
@@ -123,17 +122,6 @@ impl Log {
         self.make_room_once(event)
     }
 
-    // Makes room for a load and a store of the variable. Where a growth is refused, the same call is made
-    // again.
-    fn make_room_swap(&mut self, thread: ThreadId, var: VarId) -> Result<(), OutOfMemory>
-        requires { IsWithin self.old.limits thread (Operation.Load var) }
-    {
-        match self.accesses.make_room_swap(thread, var) {
-            Ok(()) => Ok(()),
-            Err(OutOfMemory) => self.accesses.make_room_swap(thread, var),
-        }
-    }
-
     // The verdict on the event, where the clock counts what is ordered before it.
     fn step(&mut self, rt: &impl Abort, event: &Event, clock: &JoinedClocks) -> Verdict
         requires { length clock.now ≡ 3 }
@@ -193,16 +181,4 @@ fn a_store_without_a_race_stands_for_what_was_before_it(rt: HostRuntime) {
 #[test]
 fn accesses_of_one_thread_do_not_conflict(rt: HostRuntime) {
     expect_verdicts(&rt, rt.alloc(), ONE_THREAD);
-}
-
-#[test]
-fn room_for_a_swap_is_room_for_both_its_events(rt: HostRuntime) {
-    let mut log = Log::new(&rt, rt.alloc());
-    let load = event(T2, Op::Load(Y));
-    assert!(rt; log.is_within(&load));
-    assert!(rt; !log.accesses.is_ready(&load));
-    assert!(rt; log.make_room_swap(T2, Y).is_ok());
-    assert!(rt; log.accesses.is_ready(&load));
-    assert!(rt; log.accesses.is_ready(&event(T2, Op::Store(Y))));
-    drop(log);
 }

@@ -10,8 +10,7 @@ ghost use Rattle.hb_clocks.specs.Tables.{state_of, IsReady, IsWithin};
 mod cases;
 
 use cases::{
-    EMPTY_CHILD, GREATER, INNER_RELEASE, MARKED, NESTED_SECTIONS, READ_AS_ONE, ROOM, Row, T0, T1,
-    T2,
+    EMPTY_CHILD, GREATER, INNER_RELEASE, MARKED, NESTED_SECTIONS, READ_AS_ONE, Row, T0, T1, T2,
 };
 use event_core::{Event, Limits, Op, OutOfMemory, Roots, SiteId, ThreadId};
 use hb_clocks::HbClocks;
@@ -121,11 +120,6 @@ impl Run {
         self.calls += 1;
     }
 
-    fn make_room(&mut self, rt: &impl Abort, event: &Event) {
-        assert!(rt; is_within(event));
-        assert!(rt; make_room(&mut self.clocks, event).is_ok(), "memory");
-    }
-
     // The mark of the thread's latest event.
     pub fn latest(&self, rt: &impl Abort, thread: ThreadId) -> Mark
         ensures own { result.thread ≡ thread.0 }
@@ -197,13 +191,6 @@ impl Run {
             Row::Admits(thread, op, wanted) => {
                 assert!(rt; self.clocks.admits(&event(*thread, *op)) == *wanted);
             }
-            Row::MakeRoom(thread, op) => self.make_room(rt, &event(*thread, *op)),
-            Row::Ready(thread, op, wanted) => {
-                assert!(rt;
-                    self.clocks.ready(&event(*thread, *op)) == *wanted,
-                    "{op:?}"
-                );
-            }
             Row::Mark(thread) => self.marked = Some(self.latest(rt, *thread)),
             Row::Counts(thread, wanted) => self.expect_counts(rt, *thread, wanted),
             Row::Copy(thread) => self.copy(*thread),
@@ -250,9 +237,4 @@ fn clocks_take_the_greater_numbers(rt: HostRuntime) {
 #[test]
 fn two_clocks_are_read_as_their_join(rt: HostRuntime) {
     follow_all(&rt, rt.alloc(), READ_AS_ONE);
-}
-
-#[test]
-fn an_event_is_ready_once_its_threads_and_lock_have_room(rt: HostRuntime) {
-    follow_all(&rt, rt.alloc(), ROOM);
 }

@@ -8,7 +8,7 @@ ghost use Rattle.lock_queues.specs.Queues.{closed_of, found_of, has_room, SameMe
 mod cases;
 
 use crate::clocks::{Run, event};
-use cases::{ONE_SECTION, RELEASES, ROOM, Row, SPARE_ROOM, TWO_THREADS};
+use cases::{ONE_SECTION, RELEASES, Row, TWO_THREADS};
 use event_core::{Limits, LockId, Op, Roots, ThreadId, VarId};
 use lock_queues::Queues;
 use std::alloc::Global;
@@ -171,13 +171,6 @@ impl Sections {
     fn follow(&mut self, rt: &impl Abort, row: &Row) {
         match row {
             Row::Take(thread) => self.run.take(rt, &event(*thread, Op::Load(VarId(0)))),
-            Row::MakeRoom(thread, lock) => self.make_room(rt, *thread, *lock),
-            Row::HasRoom(thread, lock, wanted) => {
-                assert!(rt; self.queues.ready(*thread, *lock) == *wanted);
-            }
-            Row::SpareRoom(thread, lock, wanted) => {
-                assert!(rt; self.queues.take_spare_room(*thread, *lock) == *wanted);
-            }
             Row::Close(thread, lock) => self.close(rt, *thread, *lock),
             Row::Count(lock, wanted) => assert!(rt; self.queues.count(*lock) == *wanted),
             Row::Section(lock, number, by, own, before) => {
@@ -204,16 +197,6 @@ fn follow_all(rt: &impl Abort, alloc: Global, rows: &[Row]) {
 #[test]
 fn a_release_is_one_more_than_the_numbers_before_it(rt: HostRuntime) {
     follow_all(&rt, rt.alloc(), RELEASES);
-}
-
-#[test]
-fn room_is_made_for_one_thread_and_lock(rt: HostRuntime) {
-    follow_all(&rt, rt.alloc(), ROOM);
-}
-
-#[test]
-fn a_further_section_may_need_no_memory(rt: HostRuntime) {
-    follow_all(&rt, rt.alloc(), SPARE_ROOM);
 }
 
 #[test]

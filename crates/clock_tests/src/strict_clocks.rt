@@ -1,14 +1,14 @@
-//! Strict clocks of small logs, and room for an event.
+//! Strict clocks of small logs.
 //!
 //! Each line of a log has an event, and how many events of each thread strictly precede it. These numbers are
 //! worked out by hand from the paper's rules. That the event is legal is learned from a memory, which permits
 //! its call. Where a growth is refused once, the same call is made again and gives the same numbers.
-ghost use Rattle.std.specs.Prelude.{◌≡◌, ◌<◌, List, [], IfOk, OnOk};
+ghost use Rattle.std.specs.Prelude.{◌≡◌, List, [], IfOk, OnOk};
 ghost use Rattle.event_core.specs.declared.events.Event.{Event as AnEvent};
 ghost use Rattle.traced_mem.specs.OfLog.{StandsFor as MemoryStandsFor};
 ghost use Rattle.traced_mem.specs.Room.{IsReady as MemoryIsReady};
 ghost use Rattle.traced_mem.specs.Tables.{Allows};
-ghost use Rattle.wcp_clocks.specs.Parts.{IsReady, IsWithin, SameLimits, SameNumbers, event_by};
+ghost use Rattle.wcp_clocks.specs.Parts.{IsReady, IsWithin, SameLimits, SameNumbers};
 ghost use Rattle.wcp_clocks.specs.Parts.{width_of, limits_of, work_of};
 ghost use Rattle.wcp_clocks.specs.StandsFor.{StandsFor};
 ghost use Rattle.clock_tests.specs.OneLog.{small, StandForOneLog};
@@ -16,10 +16,10 @@ ghost use Rattle.clock_tests.specs.OneLog.{small, StandForOneLog};
 mod cases;
 
 use cases::{
-    CHILD, CROSSED_SECTIONS, EARLIER_RELEASE, INNER_RELEASES, K, L, Line, MAIN, OTHER,
-    RELEASES_OF_ONE_THREAD, X,
+    CHILD, CROSSED_SECTIONS, EARLIER_RELEASE, INNER_RELEASES, Line, MAIN, OTHER,
+    RELEASES_OF_ONE_THREAD,
 };
-use event_core::{Call, Event, Limits, Op, OutOfMemory, Roots, SiteId, ThreadId, VarId};
+use event_core::{Call, Event, Limits, Op, OutOfMemory, Roots, SiteId, ThreadId};
 use std::alloc::Global;
 use std::process::Abort;
 use traced_mem::Memory;
@@ -164,65 +164,4 @@ fn a_release_ends_the_section_of_its_own_lock(rt: HostRuntime) {
 #[test]
 fn an_inner_release_ends_no_section(rt: HostRuntime) {
     follow(&rt, rt.alloc(), INNER_RELEASES, CHILD, [6, 5, 0]);
-}
-
-// Where a growth is refused, the same call is made again.
-fn make_room_to_swap(
-    clocks: &mut WcpClocks,
-    thread: ThreadId,
-    var: VarId,
-) -> Result<(), OutOfMemory>
-    requires { thread.0 < width_of clocks.old }
-    ensures { SameLimits clocks.old clocks.new }
-{
-    if clocks.prepare_swap(thread, var).is_ok() {
-        return Ok(());
-    }
-    clocks.prepare_swap(thread, var)
-}
-
-fn event(thread: ThreadId, op: Op) -> Event
-    ensures { result ≡ event_by thread op }
-{
-    Event {
-        thread,
-        op,
-        site: SiteId(0),
-        value: 0,
-    }
-}
-
-fn small_clocks(rt: &impl Abort, alloc: Global) -> WcpClocks
-    ensures width { width_of result ≡ 3 }
-    ensures limits { limits_of result ≡ small }
-{
-    begin_clocks(alloc, &small_limits(rt)).expect(rt, "memory")
-}
-
-#[test]
-fn room_is_made_for_one_event(rt: HostRuntime) {
-    let mut clocks = small_clocks(&rt, rt.alloc());
-    let acquire = event(MAIN, Op::Acquire(L));
-    assert!(rt; !clocks.ready(&acquire));
-    assert!(rt; make_room(&mut clocks, &acquire).is_ok(), "memory");
-    assert!(rt; clocks.ready(&acquire));
-    assert!(rt; clocks.ready(&event(MAIN, Op::Release(L))));
-    assert!(rt; !clocks.ready(&event(CHILD, Op::Acquire(L))));
-    assert!(rt; !clocks.ready(&event(MAIN, Op::Acquire(K))));
-    assert!(rt; !clocks.ready_swap(CHILD, X));
-    assert!(rt; make_room_to_swap(&mut clocks, CHILD, X).is_ok(), "memory");
-    assert!(rt; clocks.ready_swap(CHILD, X));
-    drop(clocks);
-}
-
-#[test]
-fn an_access_grows_where_its_thread_has_clocks(rt: HostRuntime) {
-    let mut clocks = small_clocks(&rt, rt.alloc());
-    let load = event(MAIN, Op::Load(X));
-    assert!(rt; !clocks.ready_or_grow(&load));
-    assert!(rt; make_room(&mut clocks, &load).is_ok(), "memory");
-    assert!(rt; clocks.ready_or_grow(&load));
-    assert!(rt; !clocks.ready_or_grow(&event(CHILD, Op::Load(X))));
-    assert!(rt; !clocks.ready_or_grow(&event(MAIN, Op::Acquire(L))));
-    drop(clocks);
 }

@@ -23,18 +23,14 @@ const STORE: AccessKind = AccessKind::Write;
 /// What is done, or what is found.
 enum Row {
     /// The thread has a section on both locks with such an access, and its releases have this number.
-    Section(u32, [LockId; 2], VarId, AccessKind, u32),
+    Section(u32, &'static [LockId; 2], VarId, AccessKind, u32),
     /// Such an access of the thread under the lock meets the sections of these numbers: the newest with a
     /// store, and the newest with a load where it is a store.
     Meets(u32, LockId, VarId, AccessKind, [Option<u32>; 2]),
-    /// Room is made for the variable in sections on the locks.
-    MakeRoom(&'static [LockId], VarId),
-    /// Whether there is such room.
-    IsReady(&'static [LockId], VarId, bool),
 }
 
 const ONE_STORE: &[Row] = &[
-    Row::Section(1, [A, A], X, STORE, 1),
+    Row::Section(1, &[A, A], X, STORE, 1),
     Row::Meets(2, A, X, LOAD, [Some(1), None]),
     Row::Meets(2, A, X, STORE, [Some(1), None]),
     // its own
@@ -45,10 +41,10 @@ const ONE_STORE: &[Row] = &[
 ];
 
 const LOAD_AND_STORE: &[Row] = &[
-    Row::Section(1, [A, A], X, LOAD, 1),
+    Row::Section(1, &[A, A], X, LOAD, 1),
     Row::Meets(2, A, X, LOAD, [None, None]),
     Row::Meets(2, A, X, STORE, [Some(1), None]),
-    Row::Section(2, [A, A], X, STORE, 2),
+    Row::Section(2, &[A, A], X, STORE, 2),
     Row::Meets(3, A, X, LOAD, [Some(2), None]),
     Row::Meets(3, A, X, STORE, [Some(2), Some(1)]),
     // but for its own load
@@ -56,43 +52,18 @@ const LOAD_AND_STORE: &[Row] = &[
 ];
 
 const TWO_LOCKS: &[Row] = &[
-    Row::Section(1, [A, B], X, STORE, 1),
+    Row::Section(1, &[A, B], X, STORE, 1),
     Row::Meets(2, A, X, LOAD, [Some(1), None]),
     Row::Meets(2, B, X, LOAD, [Some(1), None]),
 ];
 
 const THREE_STORES: &[Row] = &[
-    Row::Section(1, [A, A], X, STORE, 1),
-    Row::Section(2, [A, A], X, STORE, 2),
-    Row::Section(1, [A, A], X, STORE, 3),
+    Row::Section(1, &[A, A], X, STORE, 1),
+    Row::Section(2, &[A, A], X, STORE, 2),
+    Row::Section(1, &[A, A], X, STORE, 3),
     Row::Meets(1, A, X, LOAD, [Some(2), None]),
     Row::Meets(2, A, X, LOAD, [Some(3), None]),
     Row::Meets(0, A, X, LOAD, [Some(3), None]),
-];
-
-const ROOM_FOR_TWO_LOCKS: &[Row] = &[
-    Row::IsReady(&[A, B], X, false),
-    Row::MakeRoom(&[A, B], X),
-    Row::IsReady(&[A, B], X, true),
-    Row::IsReady(&[B], X, true),
-    // no lock
-    Row::IsReady(&[], Y, true),
-    // another lock, and another variable
-    Row::IsReady(&[LockId(1)], X, false),
-    Row::IsReady(&[A], Y, false),
-];
-
-const ROOM_IN_TURN: &[Row] = &[
-    Row::MakeRoom(&[A], X),
-    // the room that is there
-    Row::MakeRoom(&[A], X),
-    // one lock alone
-    Row::IsReady(&[A, B], X, false),
-    Row::MakeRoom(&[A, B], X),
-    Row::IsReady(&[A, B], X, true),
-    // no lock
-    Row::MakeRoom(&[], Y),
-    Row::IsReady(&[A], Y, false),
 ];
 
 /// Summaries in which no section is open.
@@ -151,7 +122,7 @@ fn follow(rt: &impl Abort, sections: &mut Sections, row: &Row) {
                 rt,
                 sections,
                 ThreadId(*thread),
-                *locks,
+                **locks,
                 *var,
                 *kind,
                 *number,
@@ -162,12 +133,6 @@ fn follow(rt: &impl Abort, sections: &mut Sections, row: &Row) {
                 met(sections, ThreadId(*thread), *lock, *var, *kind),
                 *wanted
             );
-        }
-        Row::MakeRoom(held, var) => {
-            assert!(rt; make_room(&mut sections.summaries, held, *var).is_ok());
-        }
-        Row::IsReady(held, var, wanted) => {
-            assert!(rt; sections.summaries.is_ready(held, *var) == *wanted);
         }
     }
 }
@@ -200,14 +165,4 @@ fn an_access_counts_in_each_open_section(rt: HostRuntime) {
 #[test]
 fn a_thread_meets_the_newest_of_another(rt: HostRuntime) {
     follow_all(&rt, rt.alloc(), THREE_STORES);
-}
-
-#[test]
-fn room_is_made_for_a_lock_and_a_variable(rt: HostRuntime) {
-    follow_all(&rt, rt.alloc(), ROOM_FOR_TWO_LOCKS);
-}
-
-#[test]
-fn room_under_one_lock_is_none_under_another(rt: HostRuntime) {
-    follow_all(&rt, rt.alloc(), ROOM_IN_TURN);
 }

@@ -9,6 +9,8 @@ mod beginnings;
 #[cfg(test)]
 mod closed_logs;
 #[cfg(test)]
+mod closed_reports;
+#[cfg(test)]
 mod command_lines;
 #[cfg(test)]
 mod commands;

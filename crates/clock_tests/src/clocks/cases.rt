@@ -27,10 +27,6 @@ pub enum Row {
     Depth(ThreadId, LockId, u64),
     /// Whether the event may come next.
     Admits(ThreadId, Op, bool),
-    /// Room is made for the event.
-    MakeRoom(ThreadId, Op),
-    /// Whether there is room for the event.
-    Ready(ThreadId, Op, bool),
     /// The mark of the thread's latest event is kept.
     Mark(ThreadId),
     /// Whether the thread's clock of program order counts the event of that mark, and that of happens-before.
@@ -90,18 +86,6 @@ pub const INNER_RELEASE: &[Row] = &[
     Row::Take(T1, Op::Acquire(L)),
     Row::Hb(T1, [6, 1, 0]),
     Row::Po(T1, [1, 1, 0]),
-];
-
-pub const ROOM: &[Row] = &[
-    Row::Ready(T0, Op::Acquire(L), false),
-    Row::MakeRoom(T0, Op::Acquire(L)),
-    Row::Ready(T0, Op::Acquire(L), true),
-    Row::Ready(T0, Op::Load(X), true),
-    Row::Ready(T1, Op::Acquire(L), false),
-    Row::Ready(T0, Op::Acquire(M), false),
-    Row::Ready(T0, Op::Fork(T1), false),
-    Row::Take(T0, Op::Acquire(L)),
-    Row::Ready(T0, Op::Release(L), true),
 ];
 
 pub const MARKED: &[Row] = &[

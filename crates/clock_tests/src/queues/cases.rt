@@ -13,12 +13,6 @@ pub const M: LockId = LockId(1);
 pub enum Row {
     /// The thread has one event more.
     Take(ThreadId),
-    /// Room is made for the thread's next section on the lock.
-    MakeRoom(ThreadId, LockId),
-    /// Whether there is such room.
-    HasRoom(ThreadId, LockId, bool),
-    /// Whether there is such room, once it is made where that takes no memory.
-    SpareRoom(ThreadId, LockId, bool),
     /// The thread has the first section on the lock, from its latest event on.
     Close(ThreadId, LockId),
     /// How many closed sections the lock has.
@@ -36,27 +30,6 @@ pub enum Row {
     /// Its numbers.
     Clock([u64; 3]),
 }
-
-pub const ROOM: &[Row] = &[
-    Row::HasRoom(T1, L, false),
-    // the first section needs memory
-    Row::SpareRoom(T1, L, false),
-    Row::MakeRoom(T1, L),
-    Row::HasRoom(T1, L, true),
-    Row::SpareRoom(T1, L, true),
-    Row::HasRoom(T0, L, false),
-    Row::HasRoom(T1, M, false),
-    Row::MakeRoom(T1, L),
-];
-
-pub const SPARE_ROOM: &[Row] = &[
-    Row::Take(T1),
-    Row::Close(T1, L),
-    Row::Close(T1, M),
-    Row::HasRoom(T1, L, false),
-    Row::SpareRoom(T1, L, true),
-    Row::HasRoom(T1, L, true),
-];
 
 pub const TWO_THREADS: &[Row] = &[
     Row::Take(T0),

@@ -7,15 +7,15 @@ pub const CHILD: ThreadId = ThreadId(1);
 
 pub const OTHER: ThreadId = ThreadId(2);
 
-pub const L: LockId = LockId(0);
+const L: LockId = LockId(0);
 
-pub const K: LockId = LockId(1);
+const K: LockId = LockId(1);
 
 pub const M: LockId = LockId(2);
 
 pub const N: LockId = LockId(3);
 
-pub const X: VarId = VarId(0);
+const X: VarId = VarId(0);
 
 pub const Y: VarId = VarId(1);
 

@@ -1,0 +1,195 @@
+//! Reports of closed monitors, with names by lists.
+ghost use Rattle.std.specs.Prelude.{◌≡◌};
+ghost use Rattle.event_core.specs.declared.bounds.Roots.TheVariants.{OnlyMain};
+
+use crate::doubles::{Page, Room};
+use closed_report::{NameLists, NamingFault, ReportFault, Summary, names_of, report_closed};
+use event_core::{Limits, Refusal, Roots, SiteId, ThreadId, VarId};
+use live_monitor::{Closed, Unnamed, start};
+use log_pass::Name;
+use rapid_text::Kind;
+use std::alloc::Global;
+use std::fmt::InlineText;
+use std::marker::Brand;
+use std::process::Abort;
+use std::sync::Wait;
+use traced_thread::TracedThread;
+
+const NAMES: NameLists<'static> = NameLists {
+    threads: &["main", "child"],
+    locks: &["l"],
+    variables: &["x"],
+    sites: &["a", "b", ""],
+};
+
+/// The report of a log without events, and that of two swaps.
+const EMPTY: &str = "events 0 threads 2 locks 1 variables 1 races 0\n";
+
+const SWAPS: &str = "events 6 threads 2 locks 1 variables 1 races 2\n\
+    4|main|r(x)| with 3|child|w(x)|b\n5|main|w(x)| with 3|child|w(x)|b\n";
+
+/// Lists that lack a name of the swaps.
+const LACKING: &[NameLists<'static>] = &[
+    NameLists {
+        threads: &["main"],
+        ..NAMES
+    },
+    NameLists {
+        variables: &[],
+        ..NAMES
+    },
+    NameLists {
+        sites: &["a", "b"],
+        ..NAMES
+    },
+];
+
+/// Lists that are no names, why, and what the fault says.
+const FAULTS: &[(NameLists<'static>, NamingFault, &str)] = &[
+    (
+        NameLists {
+            threads: &["main", "main"],
+            ..NAMES
+        },
+        NamingFault::Twice {
+            kind: Kind::Thread,
+            number: 1,
+        },
+        "Thread 1: the name is given twice",
+    ),
+    (
+        NameLists {
+            variables: &[""],
+            ..NAMES
+        },
+        NamingFault::NoName {
+            kind: Kind::Variable,
+            number: 0,
+        },
+        "Variable 0: the text is no name",
+    ),
+    (
+        NameLists {
+            sites: &["a", "b|c"],
+            ..NAMES
+        },
+        NamingFault::NoName {
+            kind: Kind::Site,
+            number: 1,
+        },
+        "Site 1: the text is no name",
+    ),
+    (
+        NameLists {
+            locks: &["l", "m"],
+            ..NAMES
+        },
+        NamingFault::TooMany { kind: Kind::Lock },
+        "Lock: more names than the limit",
+    ),
+];
+
+fn limits() -> Limits
+    ensures { result.roots ≡ OnlyMain }
+{
+    let Ok(limits) = Limits::new(2, 1, 1, 16, Roots::OnlyMain) else {
+        unreachable!()
+    };
+    limits
+}
+
+/// Two threads swap, and neither waits for the other.
+fn swap_both<N: Name, R: Wait>(rt: &R, main: &mut TracedThread<N>) -> Result<(), Refusal> {
+    let (mut child, _) = main.fork(rt, ThreadId(1), SiteId(0))?;
+    child.swap(rt, VarId(0), 7, SiteId(1))?;
+    main.swap(rt, VarId(0), 5, SiteId(2))?;
+    main.join(rt, child, SiteId(0))?;
+    Ok(())
+}
+
+/// The log of the swaps, or an empty one.
+fn run<N: Name, R: Wait>(rt: &R, unnamed: Unnamed, has_swaps: bool) -> (Closed, Result<(), Refusal>)
+    requires table { unnamed.table ≡ N.table }
+    requires limits { unnamed.limits ≡ N.limits }
+{
+    let (shared, pass) = start::<N>(unnamed);
+    let mut main = TracedThread::new(&shared, pass);
+    let made = if has_swaps {
+        swap_both(rt, &mut main)
+    } else {
+        Ok(())
+    };
+    let pass = main.into_pass();
+    (shared.close(pass), made)
+}
+
+/// What is answered where such a log is reported with these names; none where memory ran out.
+fn reported<R: Wait>(
+    rt: &R,
+    alloc: Global,
+    has_swaps: bool,
+    lists: &NameLists<'static>,
+    page: &mut Page,
+) -> Option<Result<Summary, ReportFault>> {
+    let names = names_of(alloc, limits(), lists).ok()?;
+    let unnamed = Unnamed::new(alloc, limits()).ok()?;
+    let (closed, made) = run::<Brand, _>(rt, unnamed, has_swaps);
+    let answer = report_closed(page, &closed, &names);
+    drop(closed);
+    drop(names);
+    made.ok()?;
+    Some(answer)
+}
+
+/// It is answered so many races or a fault, and this is written.
+fn expect<R: Abort + Wait + AllocGlobal>(
+    rt: &R,
+    has_swaps: bool,
+    lists: &NameLists<'static>,
+    room: Room,
+    races: Result<u64, ReportFault>,
+    written: &str,
+) {
+    let mut page = Page::blank(rt.alloc(), room);
+    let mut answer = reported(rt, rt.alloc(), has_swaps, lists, &mut page);
+    if answer.is_none() {
+        drop(page);
+        page = Page::blank(rt.alloc(), room);
+        answer = reported(rt, rt.alloc(), has_swaps, lists, &mut page);
+    }
+    assert!(rt; answer.map(|told| told.map(|summary| summary.races)) == Some(races));
+    assert!(rt; page.bytes.as_slice() == written.as_bytes());
+    drop(page);
+}
+
+#[test]
+fn a_closed_log_is_reported_with_the_names_of_its_numbers(rt: HostRuntime) {
+    expect(&rt, false, &NAMES, Room::AMPLE, Ok(0), EMPTY);
+    expect(&rt, true, &NAMES, Room::AMPLE, Ok(2), SWAPS);
+}
+
+#[test]
+fn a_number_without_a_name_is_told_and_nothing_is_written(rt: HostRuntime) {
+    for lists in LACKING {
+        expect(&rt, true, lists, Room::AMPLE, Err(ReportFault::Unnamed), "");
+    }
+}
+
+#[test]
+fn a_report_that_is_not_taken_is_told(rt: HostRuntime) {
+    let none = Room::of_puts(0);
+    expect(&rt, true, &NAMES, none, Err(ReportFault::Write), "");
+}
+
+#[test]
+fn lists_that_are_no_names_are_told_with_their_place(rt: HostRuntime) {
+    for (lists, fault, said) in FAULTS {
+        let mut answer = names_of(rt.alloc(), limits(), lists).map(drop);
+        if answer == Err(NamingFault::OutOfMemory) {
+            answer = names_of(rt.alloc(), limits(), lists).map(drop);
+        }
+        assert!(&rt; answer == Err(*fault));
+        let text: InlineText<64> = InlineText::of(*fault);
+        assert!(&rt; text.as_str() == *said);
+    }
+}
