@@ -191,12 +191,19 @@ fn drive_in<N: Name + Send + Sync, S: Text + Send, G: Gate + Sync, R: Threads + 
         return Ok(shared.close(pass));
     }
     let Ok((links, workers)) = all_workers::<N, S>(alloc, script) else {
+        drop(pass);
+        shared.discard();
         return Err(DriveFault::OutOfMemory);
     };
-    let last = run_all(
+    match run_all(
         rt, alloc, &shared, script, gate, patience, pass, links, workers,
-    )?;
-    Ok(shared.close(last))
+    ) {
+        Ok(last) => Ok(shared.close(last)),
+        Err(fault) => {
+            shared.discard();
+            Err(fault)
+        }
+    }
 }
 
 /// Runs the script, each of its threads by a worker of its own. A line is tried up to `patience` times: while

@@ -28,12 +28,12 @@ returns-then-threads-eq0-clause-joined g c =
     closed_joined g.N.Name.limits script.lines (lines_by main script.lines) pass c.close.result.log
     c.close.ensures.begins c.close.ensures.well_formed (none_settled script (log_of pass.seen) empty)
 
-pub returns-clause-joined : goal.returns-clause-joined
-returns-clause-joined g c =
+pub returns-in-Ok-run_all-clause-joined : goal.returns-in-Ok-run_all-clause-joined
+returns-in-Ok-run_all-clause-joined g c =
     let script = c.args.script.now in
-    let last = c.in_ok-last.last in
+    let last = c.in-Ok-run_all.last in
     let settled : AreSettled script.lines (log_of last.seen) (lines_by main script.lines)
     = subst (λ (s : Parsed). AreSettled s.lines (log_of last.seen) (lines_by main s.lines))
-    (sym c.requires.script) c.in_ok-last.ensures.settled in
-    closed_joined g.N.Name.limits script.lines (lines_by main script.lines) last c.close-2.result.log
-    c.close-2.ensures.begins c.close-2.ensures.well_formed settled
+    (sym c.requires.script) c.in-Ok-run_all.ensures.settled in
+    closed_joined g.N.Name.limits script.lines (lines_by main script.lines) last c.close-in-Ok-run_all.result.log
+    c.close-in-Ok-run_all.ensures.begins c.close-in-Ok-run_all.ensures.well_formed settled
