@@ -3,6 +3,7 @@ ghost use Rattle.std.specs.Prelude.{◌≡◌};
 ghost use Rattle.rapid_text.specs.Faults.{cause_word};
 
 use rapid_line::LineFault;
+use thiserror::Error;
 
 /// What a name names.
 #[derive(Clone, Copy, Debug, PartialEq, Eq)]
@@ -14,11 +15,13 @@ pub enum Kind {
 }
 
 /// Why a name has no number.
-#[derive(Clone, Copy, Debug, PartialEq, Eq)]
+#[derive(Clone, Copy, Debug, PartialEq, Eq, Error)]
 pub enum NameFault {
     /// The name is new, and its kind has as many names as its limit.
+    #[error("the name is new, and its kind has as many names as its limit")]
     TooMany,
     /// A growth was refused.
+    #[error("out of memory")]
     OutOfMemory,
 }
 
@@ -53,7 +56,8 @@ impl Cause {
 }
 
 /// A cause, and the number of its line. Lines are numbered from 1.
-#[derive(Clone, Copy, Debug, PartialEq, Eq)]
+#[derive(Clone, Copy, Debug, PartialEq, Eq, Error)]
+#[error("line {line}: {word}", word = .cause.word())]
 pub struct TextFault {
     pub line: u64,
     pub cause: Cause,

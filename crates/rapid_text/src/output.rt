@@ -4,12 +4,15 @@ ghost use Rattle.std.specs.Prelude.{OnErr};
 ghost use Rattle.std.specs.Result.{is_err};
 ghost use Rattle.std.specs.Io.KnownBytes.{WriteAppends, Appends};
 
+use thiserror::Error;
+
 /// A write failed, or took none of some bytes.
 #[derive(Debug, Drop)]
 pub struct WriteFailed;
 
 /// A text was not written whole. How much of it was written is not known.
-#[derive(Clone, Copy, Debug, PartialEq, Eq)]
+#[derive(Clone, Copy, Debug, PartialEq, Eq, Error)]
+#[error("the text could not be written")]
 pub struct WriteFault;
 
 /// One write at a time. Contracts see the bytes that were written, where they are known, and whether a write

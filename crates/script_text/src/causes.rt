@@ -2,6 +2,8 @@
 ghost use Rattle.std.specs.Prelude.{◌≡◌};
 ghost use Rattle.script_text.specs.Faults.{cause_word};
 
+use thiserror::Error;
+
 /// Why a script has a fault. Each cause has a number, which its words begin with. Of several at the first
 /// line that has one, the first in this order is answered.
 #[derive(Clone, Copy, Debug, PartialEq, Eq)]
@@ -47,7 +49,8 @@ impl ScriptCause {
 }
 
 /// A cause, and the number of its line. Lines are numbered from 1.
-#[derive(Clone, Copy, Debug, PartialEq, Eq)]
+#[derive(Clone, Copy, Debug, PartialEq, Eq, Error)]
+#[error("line {line}: {word}", word = .cause.word())]
 pub struct ScriptFault {
     pub line: u64,
     pub cause: ScriptCause,

@@ -2,15 +2,19 @@
 use crate::words::refusal_word;
 use event_core::Refusal;
 use rapid_text::{Cause, TextFault};
+use thiserror::Error;
 
 /// Why a text has no report.
-#[derive(Clone, Copy, Debug, PartialEq, Eq)]
+#[derive(Clone, Copy, Debug, PartialEq, Eq, Error)]
 pub enum ReplayFault {
     /// A line is no event, a read failed, or the turns were used up.
+    #[error(transparent)]
     Text(TextFault),
     /// The event of the line is refused.
+    #[error("line {line}: {refusal}")]
     Refused { line: u64, refusal: Refusal },
     /// A write failed.
+    #[error("the report could not be written")]
     Write,
 }
 

@@ -1,4 +1,4 @@
-use Rattle.std.proofs.Common.{◌≡◌, ◌≤◌, ◌+◌, ◌++◌, List, ℕ, arith, length, length-append, rules, take}
+use Rattle.std.proofs.Common.{◌+◌, arith, length-append, rules, take}
 use Rattle.std.proofs.lemmas.List.{length-take-le}
 use Rattle.rapid_text.proofs.FeedLaws.{pulled_more, given}
 use Rattle.rapid_text.proofs.feeding.feed_all.Goals as goal
