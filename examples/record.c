@@ -12,8 +12,8 @@
 static pthread_mutex_t recorder = PTHREAD_MUTEX_INITIALIZER;
 static _Thread_local const char *self = "main";
 
-/* One step: what is done, and the writing of its line. The recorder's lock is held meanwhile, so the value of a
- * STORE makes no step itself. */
+/* One step: what is done, and the writing of its line. The recorder's lock is held meanwhile: the value of a
+ * STORE has to make no step itself. */
 #define STEP(done, operation, name)                                            \
     do {                                                                       \
         pthread_mutex_lock(&recorder);                                         \
