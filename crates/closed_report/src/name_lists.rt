@@ -98,8 +98,9 @@ fn add_lists(names: &mut Names, lists: &NameLists<'_>) -> Result<(), NamingFault
     add_names(names, Kind::Site, lists.sites)
 }
 
-/// The names that the lists give: the name at place i of a list is that of number i. There may be as many of
-/// each kind as the limits say.
+/// The names that the lists give: the name at place i of a list is that of number i. There may be as many
+/// threads, locks and variables as the limits say, and 4,294,967,295 sites. The fault is one of a list: a
+/// text that is no name, a name given twice, or too many names, and not always the first. Or memory ran out.
 pub fn names_of(alloc: Global, limits: Limits, lists: &NameLists<'_>) -> Result<Names, NamingFault>
     ensures ok { IfOk result (λ names. names ≡ names_in (no_names limits) lists.now) }
     // A fault is one of a list, or memory ran out.

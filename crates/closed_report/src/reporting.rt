@@ -21,7 +21,8 @@ pub enum ReportFault {
     Write,
 }
 
-/// Writes the report of the closed log, as `wcp replay` writes that of a trace. It takes no memory.
+/// Writes the report of the closed log, as `wcp replay` writes that of a trace. It takes no memory. The fault
+/// is `Unnamed`, with nothing written, where a number has no name, and `Write` where the writer failed.
 pub fn report_closed<W: Output>(
     writer: &mut W,
     closed: &Closed,

@@ -45,8 +45,8 @@ impl Model for Unnamed {
 }
 
 impl Unnamed {
-    /// A monitor with an empty log. It is refused where more threads than thread 0 run from the beginning,
-    /// and where a growth is.
+    /// A monitor with an empty log. The fault is `RootsFree` where more threads than thread 0 run from the
+    /// beginning, and `NoRoom` where a growth was refused.
     pub fn new(alloc: Global, limits: Limits) -> Result<Unnamed, StartFault>
         ensures limits { IfOk result (λ unnamed. unnamed.limits ≡ limits) }
         ensures only_main { IfOk result (λ _. limits.roots ≡ OnlyMain) }

@@ -213,10 +213,12 @@ fn drive_in<N: Name + Send + Sync, S: Text + Send, G: Gate + Sync, R: Threads + 
 /// The closed log is well formed, and its events of thread 0, and of each thread that thread 0 joins, are
 /// that thread's lines in order.
 ///
-/// Where a worker cannot be started, no call is made. Where workers end by faults, the answer is want of
-/// memory if one of them had it, and else the fault with the least line. It is a fault of a line of the
-/// script, and a refusal is one that the line's call has after some log in which the line's thread has made
-/// the calls of its lines before.
+/// The fault is one of a line of the script, or want of memory. A refusal is one that the line's call has
+/// after some well-formed log in which the line's thread has made just the calls of its lines before.
+///
+/// No clause tells the rest: how often a line is tried, nor that the run ends. Where a worker cannot be
+/// started, no call is made. Where workers end by faults, want of memory is answered first, and else the
+/// fault with the least line.
 pub fn drive<G: Gate + Sync, R: Threads + Wait + Sync>(
     rt: &R,
     alloc: Global,

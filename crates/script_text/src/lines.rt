@@ -22,7 +22,7 @@ impl ScriptLine {
         }
     }
 
-    /// The thread that it forks.
+    /// The thread that it forks, if it forks one.
     pub fn fork(&self) -> Option<ThreadId>
         ensures { result ≡ fork_of self.now }
     {
@@ -35,7 +35,7 @@ impl ScriptLine {
         }
     }
 
-    /// The thread that it joins.
+    /// The thread that it joins, if it joins one.
     pub fn join(&self) -> Option<ThreadId>
         ensures { result ≡ join_of self.now }
     {

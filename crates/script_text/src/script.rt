@@ -105,8 +105,9 @@ impl Model for Script {
 }
 
 impl Script {
-    /// Reads the script that the reader gives, with no more than so many pulls. It keeps no more of the text
-    /// than one piece and one line.
+    /// Reads the script that the reader gives, with no more than so many pulls of at most 65,536 bytes each,
+    /// of which there may be 2^44. It keeps no more of the text than one piece and one line. The fault is the
+    /// first line that has a cause, `Read` at the line whose end was not seen, or `OutOfMemory`.
     pub fn read<I: Input>(
         alloc: Global,
         reader: &mut I,
@@ -133,7 +134,8 @@ impl Script {
         whole_script(alloc, names, lines)
     }
 
-    /// The names of its threads, locks, variables and locations. A line's location is its number in decimal.
+    /// The names of its threads, locks, variables and locations. A line's location is its number in decimal
+    /// (`numbered_line`).
     pub fn names(&self) -> &Names
         ensures { result.now ≡ self.entry.now.names }
     {
@@ -155,7 +157,7 @@ impl Script {
         self.lines.as_slice()
     }
 
-    /// The lines of one thread in their order.
+    /// The lines of one thread, which is one of those named, in their order.
     pub fn lines_of(&self, thread: ThreadId) -> &[ScriptLine]
         requires { thread.0 < length self.now.names.threads.names }
         ensures { result.now ≡ filter (is_of thread.0) self.entry.now.lines }

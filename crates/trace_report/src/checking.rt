@@ -14,9 +14,9 @@ use event_core::Limits;
 use rapid_text::{Input, Output, WriteFault};
 use std::alloc::Global;
 
-/// Judges the trace that the reader has left, with no more than so many reads, and writes one line: the
-/// counts of a legal trace, or the first line that is none of its events or whose event is refused. The lines
-/// before are known by the memory alone, and no log is kept.
+/// Judges the trace that the reader has left, and writes one line: the counts of a legal trace, or the first
+/// line that is no event or whose event is refused. The lines before are known by the memory alone, and no
+/// log is kept. It makes no more than so many reads of at most 65,536 bytes each, of which there may be 2^44.
 ///
 /// Nothing is written where the text could not be read to its end, or a growth was refused. The two are
 /// told apart by the cause `Read`, and by the cause or the refusal `OutOfMemory`.

@@ -29,7 +29,7 @@ fn put_fault_line<W: Output>(
 }
 
 /// Writes `line N: word`, and an LF. The writer is given the whole line at once, unless the word has more
-/// than 4,000 bytes. It takes no memory.
+/// than 4,000 bytes; no clause tells how it is cut. It takes no memory.
 pub fn write_fault_line<W: Output>(writer: &mut W, line: u64, word: &str) -> Result<(), WriteFault>
     ensures ok { OnOk result
         (Appends (W.written writer.old) (W.written writer.new) (fault_line line word.now)) }

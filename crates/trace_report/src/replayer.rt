@@ -42,7 +42,7 @@ impl Model for Replayer {
 }
 
 impl Replayer {
-    /// A replayer before the first byte.
+    /// A replayer before the first byte; `OutOfMemory` where a growth was refused.
     pub fn new(alloc: Global, limits: Limits) -> Result<Replayer, OutOfMemory>
         ensures { IfOk result (λ r. r ≡ unfed limits) }
     {

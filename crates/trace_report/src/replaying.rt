@@ -12,8 +12,9 @@ use rapid_text::{Input, Output};
 use seq_monitor::Monitor;
 use std::alloc::Global;
 
-/// Replays the trace that the reader has left, with no more than so many reads, and writes what it comes to:
-/// the report of a legal trace, or one line for the first line that is no event or whose event is refused.
+/// Replays the trace that the reader has left, and writes what it comes to: the report of a legal trace, or
+/// one line for the first line that is no event or whose event is refused. It makes no more than so many
+/// reads of at most 65,536 bytes each, of which there may be 2^44.
 ///
 /// Nothing is written before the text has ended or a fault is met, nor where the text could not be read to
 /// its end or a growth was refused.

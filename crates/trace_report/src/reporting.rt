@@ -33,9 +33,10 @@ fn put_races<W: Output>(
 }
 
 /// Writes the report of a log: a line of counts, `events E threads T locks L variables V races R`, and for
-/// each event that races, in the order of the log, a line
+/// each event whose verdict is a race, in the order of the log, a line
 /// `i|thread|operation(variable)|location with j|thread|operation(variable)|location`.
-/// Events are numbered from 1, and j is the latest that races with i. It takes no memory.
+/// Events are numbered from 1, and j is the one that the verdict names. It takes no memory. `WriteFault`
+/// tells that the writer failed.
 pub fn report<W: Output>(
     writer: &mut W,
     log: &Log,

@@ -88,7 +88,7 @@ impl<'m, N: Name> TracedThread<'m, N> {
     }
 
     /// Acquires the lock. While another thread holds it, it is tried again, so many times in all, and once at
-    /// least. `Held` is the answer of the last try.
+    /// least; no clause tells how often. `Held` is the answer of the last try.
     pub fn acquire_within<R: Wait>(
         &mut self,
         rt: &R,

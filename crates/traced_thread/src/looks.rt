@@ -10,8 +10,8 @@ use log_pass::Name;
 use std::sync::Wait;
 
 impl<'m, N: Name> TracedThread<'m, N> {
-    /// How many events the log has so far, all of which the handle has then seen. It takes no lock and no
-    /// memory, and returns.
+    /// How many events the handle has then seen: as many as were published, and never fewer than it had seen.
+    /// It takes no lock and no memory, and returns.
     pub fn look(&mut self) -> u64
         ensures later { HasComeTo N.limits self.old self.new }
         ensures same_mine { self.new.mine ≡ self.old.mine }
@@ -22,7 +22,8 @@ impl<'m, N: Name> TracedThread<'m, N> {
         count
     }
 
-    /// The event at the index, or none past the end of the log, all of which the handle has then seen.
+    /// The event at the index of what the handle has then seen, or none past its end. It waits for the
+    /// monitor's lock.
     pub fn event_at<R: Wait>(&mut self, rt: &R, index: u64) -> Option<Event>
         ensures later { HasComeTo N.limits self.old self.new }
         ensures same_mine { self.new.mine ≡ self.old.mine }

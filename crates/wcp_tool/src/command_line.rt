@@ -175,8 +175,8 @@ fn settings_of<'a>(alloc: Global, matches: &ArgMatches<'a>) -> Result<Settings, 
 
 /// What the words after the program's own name ask for: a command, and how many threads may be named, 64
 /// where the words do not say. For a run they have the path of a script, and how often a line is tried before
-/// its thread is stuck, 1,000,000 times where they do not say. Else they ask for help or for the version, or
-/// they are wrong.
+/// its thread is stuck, 1,000,000 times where they do not say. Else the fault says why there are none: they
+/// ask for help or for the version (`Help`), they are wrong (`Usage`), or memory ran out.
 pub fn settings<'a, S: AsStr>(alloc: Global, words: &'a [S]) -> Result<Settings, UsageFault>
     ensures threads { IfOk result (λ s. (1 ≤ s.threads) × (s.threads ≤ 1024)) }
     ensures patience { IfOk result (λ s. (1 ≤ s.patience) × (s.patience ≤ 4294967295)) }

@@ -50,7 +50,7 @@ A trace has a line for each event: its thread, its operation with an argument,
 and its location, as in T0|acq(l)|17. A race is two accesses of one variable by
 different threads, one of them a store, that weak causal precedence does not
 order. Where a trace has a race, its events could have come in an order in which
-two such accesses meet, or in a deadlock. Look at the first line of a report
+two such accesses meet, or in a deadlock. Look at the first race of a report
 first: those after it may be no more than what follows from it.
 
 Example:

@@ -134,7 +134,9 @@ fn explain<O: Output, E: Output>(fault: &UsageFault, writer: &mut O, errors: &mu
     }
 }
 
-/// The program over the words after its own name. Its answer is the exit status, which the help explains.
+/// The program over the words after its own name. Its answer is the exit status: 0 done, 1 races, 2 the
+/// words are wrong, 3 a line or a call is refused, 4 a read or a write failed, 5 out of memory, 6 the script
+/// is broken or stuck.
 ///
 /// What help, the version and a usage fault say is for a reader, and no contract tells it.
 pub fn tool<

@@ -171,7 +171,8 @@ fn run_lines<R: AllocGlobal + Threads + Wait + Sync, I: Input, O: Output>(
 }
 
 /// The command `run` over a reader of the script: its threads are run, each line is tried as often as the
-/// patience of the settings says, and what the threads did is reported. The answer is the exit status.
+/// patience of the settings says (in no clause), and what the threads did is reported. The answer is the exit
+/// status.
 ///
 /// What the threads did depends on the schedule, and so does the status: of the log it is said only that it
 /// is well formed, and which events the first thread has, and each thread that this one joins.

@@ -35,5 +35,6 @@ returns-in-Ok-run_all-clause-joined g c =
     let settled : AreSettled script.lines (log_of last.seen) (lines_by main script.lines)
     = subst (λ (s : Parsed). AreSettled s.lines (log_of last.seen) (lines_by main s.lines))
     (sym c.requires.script) c.in-Ok-run_all.ensures.settled in
-    closed_joined g.N.Name.limits script.lines (lines_by main script.lines) last c.close-in-Ok-run_all.result.log
+    closed_joined g.N.Name.limits script.lines (lines_by main script.lines) last
+    c.close-in-Ok-run_all.result.log
     c.close-in-Ok-run_all.ensures.begins c.close-in-Ok-run_all.ensures.well_formed settled
