@@ -38,8 +38,8 @@ fn transfer<N: Name, R: Wait>(
     from: u32,
     to: u32,
 ) -> Result<(), Refusal> {
-    teller.acquire_within(rt, LockId(from.min(to)), MOVE, u32::MAX)?;
-    teller.acquire_within(rt, LockId(from.max(to)), MOVE, u32::MAX)?;
+    teller.acquire_within(rt, LockId(from.min(to)), MOVE, 1_000_000)?;
+    teller.acquire_within(rt, LockId(from.max(to)), MOVE, 1_000_000)?;
     let balance = teller.load(rt, VarId(from), MOVE)?.value;
     let amount = balance.min(10);
     teller.store(rt, VarId(from), balance - amount, MOVE)?;
