@@ -34,7 +34,7 @@ const PATIENCE: NumberOption = NumberOption {
     most: 4294967295,
     default: DEFAULT_PATIENCE,
     default_text: "1000000",
-    help: "Most tries of an acquire or a join, 1 to 4294967295",
+    help: "Tries of acq and join, 1 to 4294967295",
 };
 
 /// The option as clap is told of it.
