@@ -27,12 +27,12 @@ use Rattle.event_core.proofs.LogFacts.{of_does, does_op}
 use Rattle.event_core.proofs.MoreLaws.{first_below}
 use Rattle.event_core.proofs.Stable.{longer, back, does, hb_too, below_too}
 use Rattle.event_core.proofs.Effects.{front}
-use Rattle.access_check.specs.declared.lasts.Last.{Last}
-use Rattle.access_check.specs.declared.touches.Touches.{Touches}
-use Rattle.access_check.specs.Lasts.{racing}
-use Rattle.access_check.specs.Touched.{kept, latest_racing}
-use Rattle.access_check.specs.Tables.{Tables, touches_at, verdict_at, verdict_of}
-use Rattle.access_check.specs.Standing.{IsAccess, HasLast, IsCovered, TouchesStand, Stands}
+use Rattle.access_check.specs.declared.last_accesses.LastAccess.{LastAccess}
+use Rattle.access_check.specs.declared.variable_accesses.VariableAccesses.{VariableAccesses}
+use Rattle.access_check.specs.LastAccesses.{racing}
+use Rattle.access_check.specs.VariableAccesses.{kept, latest_racing}
+use Rattle.access_check.specs.Tables.{Tables, accesses_at, verdict_at, verdict_of}
+use Rattle.access_check.specs.Standing.{IsAccess, HasLast, IsCovered, VariableStands, Stands}
 use Rattle.access_check.proofs.Latest.{AtLeast, lower, Clashes, write_read, read_write, write_write}
 use Rattle.access_check.proofs.Latest.{write_clashes, ReadFrom, found_racing, latest_above, latest_from}
 use Rattle.access_check.proofs.Latest.{fold_member}
@@ -67,7 +67,7 @@ conflict_clashes x Write (Join u) c = absurd c
 
 module _ (log : List Event) (e : Event) (x : VarId) (k : AccessKind) (op : e.op ≡ access_of x k) (c : ℕ → ℕ)
     (counted : Counted (log ++ e ∷ []) (λ i. Below (log ++ e ∷ []) i (length log)) c) (order : Orderly log)
-    (ts : Touches) (s : TouchesStand log x ts) where
+    (ts : VariableAccesses) (s : VariableStands log x ts) where
   -- a kept access that the clock does not count races
   pub races : (i : ℕ) → ReadFrom e.thread k c ts i → Races (log ++ e ∷ []) i (length log)
   races i r =
@@ -102,7 +102,7 @@ module _ (log : List Event) (e : Event) (x : VarId) (k : AccessKind) (op : e.op 
       })
 
   -- a kept access that is not ordered before the event is found
-  unordered_found : (m : AccessKind) (p : Last) → Clashes m k → Has p (kept m ts)
+  unordered_found : (m : AccessKind) (p : LastAccess) → Clashes m k → Has p (kept m ts)
       → (Below (log ++ e ∷ []) p.access.index (length log) → ⊥)
       → AtLeast p.access.index (latest_racing e.thread k c ts)
   unordered_found m p clash member none =
@@ -155,7 +155,7 @@ module _ (log : List Event) (e : Event) (x : VarId) (k : AccessKind) (op : e.op 
           (subst (λ o. Does (log ++ e ∷ []) i r.conflict.by o) clash.is r.conflict.does_first)
 
       -- an access of the log, in the log with the event
-      of_longer : (m : AccessKind) (p : Last) → Has p (kept m ts)
+      of_longer : (m : AccessKind) (p : LastAccess) → Has p (kept m ts)
           → (p.access.index < length log) × Of (log ++ e ∷ []) p.access.index p.thread
       of_longer m p member =
           let a : IsAccess log x m p = s.sound m p member in
@@ -241,8 +241,8 @@ verdict_stands log e t c s counted = go e.op refl
     order = orderly t.limits log s.well_formed
 
     go : (o : Op) → e.op ≡ o → IsVerdict (log ++ e ∷ []) (length log) (verdict_of t.vars e.thread o c)
-    go (Load x) op = is_verdict log e x Read op c counted order (touches_at t.vars x.0) (s.touches x)
-    go (Store x) op = is_verdict log e x Write op c counted order (touches_at t.vars x.0) (s.touches x)
+    go (Load x) op = is_verdict log e x Read op c counted order (accesses_at t.vars x.0) (s.accesses x)
+    go (Store x) op = is_verdict log e x Write op c counted order (accesses_at t.vars x.0) (s.accesses x)
     go (Acquire l) op = clear log e (Acquire l) op none
       where
         none : (x : VarId) (k : AccessKind) → Acquire l ≡ access_of x k → ⊥

@@ -25,13 +25,13 @@ use Rattle.event_core.proofs.LogFacts.{of_does}
 use Rattle.event_core.proofs.Members.{none_in}
 use Rattle.event_core.proofs.Stable.{longer, back, does, below_too}
 use Rattle.event_core.proofs.Effects.{front}
-use Rattle.access_check.specs.declared.lasts.Access.{Access}
-use Rattle.access_check.specs.declared.lasts.Last.{Last}
-use Rattle.access_check.specs.declared.touches.Touches.{Touches}
-use Rattle.access_check.specs.Lasts.{put}
-use Rattle.access_check.specs.Touched.{kept}
+use Rattle.access_check.specs.declared.last_accesses.Access.{Access}
+use Rattle.access_check.specs.declared.last_accesses.LastAccess.{LastAccess}
+use Rattle.access_check.specs.declared.variable_accesses.VariableAccesses.{VariableAccesses}
+use Rattle.access_check.specs.LastAccesses.{put}
+use Rattle.access_check.specs.VariableAccesses.{kept}
 use Rattle.access_check.specs.Tables.{last_of as its_last}
-use Rattle.access_check.specs.Standing.{IsAccess, HasLast, IsCovered, TouchesStand}
+use Rattle.access_check.specs.Standing.{IsAccess, HasLast, IsCovered, VariableStands}
 use Rattle.access_check.proofs.Latest.{Clashes, read_write, write_write}
 use Rattle.access_check.proofs.Judging.{clash_conflicts}
 use Rattle.access_check.proofs.Putting.{has_put, put_has, put_new}
@@ -49,7 +49,7 @@ kind_cases Write Write = inl refl
 kind_cases Read Write = inr (λ q. cc)
 kind_cases Write Read = inr (λ q. cc)
 
-has_one : (p q : Last) → Has p (q ∷ []) → p ≡ q
+has_one : (p q : LastAccess) → Has p (q ∷ []) → p ≡ q
 has_one p q (first _ _ same) = same
 has_one p q (later _ _ h) = absurd (none_in h)
 
@@ -65,7 +65,8 @@ below_po (inr q) p = inr (chain_trans q p)
 
 module _ (log : List Event) (e : Event) where
   -- what stands for the log stands for it with the event
-  access_kept : (x : VarId) (k : AccessKind) (p : Last) → IsAccess log x k p → IsAccess (log ++ e ∷ []) x k p
+  access_kept : (x : VarId) (k : AccessKind) (p : LastAccess) → IsAccess log x k p
+      → IsAccess (log ++ e ∷ []) x k p
   access_kept x k p a =
       let within : p.access.index < length log
       = slice_get_within log p.access.index a.does.event a.does.at in
@@ -75,8 +76,8 @@ module _ (log : List Event) (e : Event) where
             ∙ sym (ap (λ es. events_of es p.thread + 1) (front log e p.access.index (omega arith)));
       }
 
-  covered_kept : (x : VarId) (stores : List Last) (j : ℕ)
-      → ((p : Last) → Has p stores → IsAccess log x Write p) → IsCovered log stores j
+  covered_kept : (x : VarId) (stores : List LastAccess) (j : ℕ)
+      → ((p : LastAccess) → Has p stores → IsAccess log x Write p) → IsCovered log stores j
       → IsCovered (log ++ e ∷ []) stores j
   covered_kept x stores j sound h =
       let a : IsAccess log x Write h.store = sound h.store h.member in
@@ -90,9 +91,9 @@ module _ (log : List Event) (e : Event) where
       }
 
   -- an event that does not access the variable
-  pub untouched : (x : VarId) (old ts : Touches) → ((m : AccessKind) → kept m ts ≡ kept m old)
+  pub untouched : (x : VarId) (old ts : VariableAccesses) → ((m : AccessKind) → kept m ts ≡ kept m old)
       → ((k : AccessKind) → e.op ≡ access_of x k → ⊥)
-      → TouchesStand log x old → TouchesStand (log ++ e ∷ []) x ts
+      → VariableStands log x old → VariableStands (log ++ e ∷ []) x ts
   untouched x old ts same other s = record {
     sound = λ k p h. access_kept x k p (s.sound k p (subst (Has p) (same k) h));
     complete = λ j u k d. go j u k d (is_last log e j u (of_does d));
@@ -113,7 +114,7 @@ module _ (log : List Event) (e : Event) where
 
   module _ (x : VarId) (k : AccessKind) (a : Access) (op : e.op ≡ access_of x k) (at : a.index ≡ length log)
       (position : a.position ≡ events_of log e.thread + 1) where
-    abbrev pub new : Last
+    abbrev pub new : LastAccess
     new = its_last e.thread a
 
     -- the event as an access of the log
@@ -133,8 +134,8 @@ module _ (log : List Event) (e : Event) where
         (same, last_thread log e j u is (of_does d), omega arith)
 
     -- what is covered by a store that is taken out is covered by the store that is put in
-    covered_put : (stores : List Last) (j : ℕ) → k ≡ Write
-        → ((p : Last) → Has p stores → IsAccess log x Write p) → IsCovered log stores j
+    covered_put : (stores : List LastAccess) (j : ℕ) → k ≡ Write
+        → ((p : LastAccess) → Has p stores → IsAccess log x Write p) → IsCovered log stores j
         → IsCovered (log ++ e ∷ []) (put new stores) j
     covered_put stores j is sound h = go (put_has h.store new stores h.member)
       where
@@ -170,14 +171,14 @@ module _ (log : List Event) (e : Event) where
                   (po_thread e.thread mine theirs (omega arith))));
             }
 
-    module _ (old ts : Touches) (s : TouchesStand log x old) where
+    module _ (old ts : VariableAccesses) (s : VariableStands log x old) where
       -- the access is put into the list of its kind
       module _ (is : kept k ts ≡ put new (kept k old))
           (others : (m : AccessKind) → (k ≡ m → ⊥) → kept m ts ≡ kept m old) where
         new_member : Has new (kept k ts)
         new_member = subst (Has new) (sym is) (put_new new (kept k old))
 
-        put_sound : (p : Last) → Has p (kept k ts) → IsAccess (log ++ e ∷ []) x k p
+        put_sound : (p : LastAccess) → Has p (kept k ts) → IsAccess (log ++ e ∷ []) x k p
         put_sound p h = go (has_put p new (kept k old) (subst (Has p) is h))
           where
             go : Has p (kept k old) ⊎ (p ≡ new) → IsAccess (log ++ e ∷ []) x k p
@@ -218,13 +219,13 @@ module _ (log : List Event) (e : Event) where
             subst (λ ps. IsCovered (log ++ e ∷ []) ps j) (sym (others Write ne))
             (covered_kept x (kept Write old) j (s.sound Write) h)
 
-        pub put_stands : TouchesStand (log ++ e ∷ []) x ts
+        pub put_stands : VariableStands (log ++ e ∷ []) x ts
         put_stands = record {
           sound = λ m p h. sound m p (kind_cases k m) h;
           complete = λ j u m d. complete j u m d (is_last log e j u (of_does d));
         }
           where
-            sound : (m : AccessKind) (p : Last) → (k ≡ m) ⊎ (k ≡ m → ⊥) → Has p (kept m ts)
+            sound : (m : AccessKind) (p : LastAccess) → (k ≡ m) ⊎ (k ≡ m → ⊥) → Has p (kept m ts)
                 → IsAccess (log ++ e ∷ []) x m p
             sound m p (inl same) h =
                 subst (λ n. Has p (kept n ts) → IsAccess (log ++ e ∷ []) x n p) same (put_sound p) h
@@ -281,13 +282,13 @@ module _ (log : List Event) (e : Event) where
               unordered = λ b. none (subst (Below (log ++ e ∷ []) j) (sym at) b);
             })
 
-        pub alone_stands : TouchesStand (log ++ e ∷ []) x ts
+        pub alone_stands : VariableStands (log ++ e ∷ []) x ts
         alone_stands = record {
           sound = sound;
           complete = λ j u m d. complete j u m d (is_last log e j u (of_does d));
         }
           where
-            sound : (m : AccessKind) (p : Last) → Has p (kept m ts) → IsAccess (log ++ e ∷ []) x m p
+            sound : (m : AccessKind) (p : LastAccess) → Has p (kept m ts) → IsAccess (log ++ e ∷ []) x m p
             sound Read p h = absurd (none_in (subst (Has p) loads h))
             sound Write p h =
                 subst (λ q. IsAccess (log ++ e ∷ []) x Write q) (sym (has_one p new (subst (Has p) stores h)))

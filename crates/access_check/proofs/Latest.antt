@@ -10,10 +10,10 @@ use Rattle.event_core.specs.Closed.{Has, first, later as further}
 use Rattle.event_core.proofs.Counting.{nat_eq_same, nat_eq_other}
 use Rattle.event_core.proofs.Depth.{same_thread_id}
 use Rattle.event_core.proofs.Members.{none_in}
-use Rattle.access_check.specs.declared.lasts.Last.{Last}
-use Rattle.access_check.specs.declared.touches.Touches.{Touches}
-use Rattle.access_check.specs.Lasts.{is_of, later, unless_counted, racing, latest}
-use Rattle.access_check.specs.Touched.{kept, latest_racing}
+use Rattle.access_check.specs.declared.last_accesses.LastAccess.{LastAccess}
+use Rattle.access_check.specs.declared.variable_accesses.VariableAccesses.{VariableAccesses}
+use Rattle.access_check.specs.LastAccesses.{is_of, later, unless_counted, racing, latest}
+use Rattle.access_check.specs.VariableAccesses.{kept, latest_racing}
 
 -- there is an index, at least n
 pub record AtLeast (n : ℕ) (o : Option ℕ) : Type 0 where
@@ -52,12 +52,12 @@ later_either (Some m) (Some k) n is = go (nat_lt m k) is
     go false q = inl q
 
 -- the greatest of a list is one of them, and at or above each
-module _ (f : Last → Option ℕ) where
-  folded : Option ℕ → List Last → Option ℕ
-  folded start ps = fold (λ (n : Option ℕ) (p : Last). later n (f p)) start ps
+module _ (f : LastAccess → Option ℕ) where
+  folded : Option ℕ → List LastAccess → Option ℕ
+  folded start ps = fold (λ (n : Option ℕ) (p : LastAccess). later n (f p)) start ps
 
-  pub fold_above : (start : Option ℕ) (n : ℕ) (ps : List Last) → AtLeast n start
-      → AtLeast n (fold (λ (m : Option ℕ) (p : Last). later m (f p)) start ps)
+  pub fold_above : (start : Option ℕ) (n : ℕ) (ps : List LastAccess) → AtLeast n start
+      → AtLeast n (fold (λ (m : Option ℕ) (p : LastAccess). later m (f p)) start ps)
   fold_above start n [] a = a
   fold_above start n (p ∷ ps) a =
       let h : AtLeast a.index (later (Some a.index) (f p)) = later_left a.index (f p) in
@@ -67,8 +67,9 @@ module _ (f : Last → Option ℕ) where
         above = (let x : n ≤ a.index = a.above in let y : a.index ≤ h.index = h.above in omega arith);
       })
 
-  pub fold_member : (start : Option ℕ) (n : ℕ) (p : Last) (ps : List Last) → Has p ps → f p ≡ Some n
-      → AtLeast n (fold (λ (m : Option ℕ) (q : Last). later m (f q)) start ps)
+  pub fold_member : (start : Option ℕ) (n : ℕ) (p : LastAccess) (ps : List LastAccess) → Has p ps
+      → f p ≡ Some n
+      → AtLeast n (fold (λ (m : Option ℕ) (q : LastAccess). later m (f q)) start ps)
   fold_member start n p [] h is = absurd (none_in h)
   fold_member start n p (q ∷ qs) (first _ _ same) is =
       let h : AtLeast n (later start (Some n)) = later_right start n in
@@ -79,19 +80,19 @@ module _ (f : Last → Option ℕ) where
       })
   fold_member start n p (q ∷ qs) (further _ _ h) is = fold_member (later start (f q)) n p qs h is
 
-  pub fold_from : (start : Option ℕ) (n : ℕ) (ps : List Last)
-      → fold (λ (m : Option ℕ) (p : Last). later m (f p)) start ps ≡ Some n
-      → (start ≡ Some n) ⊎ ((p : Last) × Has p ps × (f p ≡ Some n))
+  pub fold_from : (start : Option ℕ) (n : ℕ) (ps : List LastAccess)
+      → fold (λ (m : Option ℕ) (p : LastAccess). later m (f p)) start ps ≡ Some n
+      → (start ≡ Some n) ⊎ ((p : LastAccess) × Has p ps × (f p ≡ Some n))
   fold_from start n [] is = inl is
   fold_from start n (p ∷ ps) is = go (fold_from (later start (f p)) n ps is)
     where
-      here : (start ≡ Some n) ⊎ (f p ≡ Some n) → (start ≡ Some n) ⊎ ((q : Last) × Has q (p ∷ ps) ×
+      here : (start ≡ Some n) ⊎ (f p ≡ Some n) → (start ≡ Some n) ⊎ ((q : LastAccess) × Has q (p ∷ ps) ×
           (f q ≡ Some n))
       here (inl s) = inl s
       here (inr q) = inr (p, first p ps refl, q)
 
-      go : (later start (f p) ≡ Some n) ⊎ ((q : Last) × Has q ps × (f q ≡ Some n))
-          → (start ≡ Some n) ⊎ ((q : Last) × Has q (p ∷ ps) × (f q ≡ Some n))
+      go : (later start (f p) ≡ Some n) ⊎ ((q : LastAccess) × Has q ps × (f q ≡ Some n))
+          → (start ≡ Some n) ⊎ ((q : LastAccess) × Has q (p ∷ ps) × (f q ≡ Some n))
       go (inl s) = here (later_either start (f p) n s)
       go (inr r) = inr (r.0, further p ps r.1, r.2)
 
@@ -110,12 +111,12 @@ lower i n o le h =
     let above : n ≤ h.index = h.above in record { index = h.index; is = h.is; above = omega arith }
 
 -- what an index that was read was read from
-pub record Found (t : ThreadId) (c : ℕ → ℕ) (p : Last) (i : ℕ) : Type 0 where
+pub record Found (t : ThreadId) (c : ℕ → ℕ) (p : LastAccess) (i : ℕ) : Type 0 where
   pub other : p.thread ≡ t → ⊥
   pub index : p.access.index ≡ i
   pub above : c p.thread.0 < p.access.position
 
-racing_found : (t : ThreadId) (c : ℕ → ℕ) (p : Last) (i : ℕ) → racing t c p ≡ Some i → Found t c p i
+racing_found : (t : ThreadId) (c : ℕ → ℕ) (p : LastAccess) (i : ℕ) → racing t c p ≡ Some i → Found t c p i
 racing_found t c p i is = go (is_of t p) (nat_lt (c p.thread.0) p.access.position) refl refl is
   where
     go : (b d : Bool) → is_of t p ≡ b → nat_lt (c p.thread.0) p.access.position ≡ d
@@ -130,7 +131,7 @@ racing_found t c p i is = go (is_of t p) (nat_lt (c p.thread.0) p.access.positio
       above = ltb-true (c p.thread.0) p.access.position lt;
     }
 
-pub found_racing : (t : ThreadId) (c : ℕ → ℕ) (p : Last) → (p.thread ≡ t → ⊥)
+pub found_racing : (t : ThreadId) (c : ℕ → ℕ) (p : LastAccess) → (p.thread ≡ t → ⊥)
     → c p.thread.0 < p.access.position → racing t c p ≡ Some p.access.index
 found_racing t c p other lt =
     ap (λ (b : Bool). cond b None (unless_counted (c p.thread.0) p))
@@ -138,7 +139,7 @@ found_racing t c p other lt =
     ∙ ap (λ (b : Bool). cond b (Some p.access.index) None) (lt-ltb (c p.thread.0) p.access.position lt)
 
 -- the latest of both lists is at or above that of a list that is read
-pub latest_above : (t : ThreadId) (k m : AccessKind) (c : ℕ → ℕ) (ts : Touches) (n : ℕ) → Clashes m k
+pub latest_above : (t : ThreadId) (k m : AccessKind) (c : ℕ → ℕ) (ts : VariableAccesses) (n : ℕ) → Clashes m k
     → AtLeast n (latest t c (kept m ts)) → AtLeast n (latest_racing t k c ts)
 latest_above t Read Write c ts n clash h = h
 latest_above t Write Read c ts n clash h =
@@ -154,18 +155,19 @@ latest_above t Write Write c ts n clash h =
 latest_above t Read Read c ts n clash h = elim clash [ ]
 
 -- the list that the latest of both was read from
-pub record ReadFrom (t : ThreadId) (k : AccessKind) (c : ℕ → ℕ) (ts : Touches) (n : ℕ) : Type 0 where
+pub record ReadFrom (t : ThreadId) (k : AccessKind) (c : ℕ → ℕ) (ts : VariableAccesses) (n : ℕ) : Type 0 where
   pub kind : AccessKind
   pub clashes : Clashes kind k
-  pub last : Last
+  pub last : LastAccess
   pub member : Has last (kept kind ts)
   pub found : Found t c last n
 
-read_from : (t : ThreadId) (k m : AccessKind) (c : ℕ → ℕ) (ts : Touches) (n : ℕ) → Clashes m k
+read_from : (t : ThreadId) (k m : AccessKind) (c : ℕ → ℕ) (ts : VariableAccesses) (n : ℕ) → Clashes m k
     → latest t c (kept m ts) ≡ Some n → ReadFrom t k c ts n
 read_from t k m c ts n clash is = go (fold_from (racing t c) None n (kept m ts) is)
   where
-    go : (None ≡ Some n) ⊎ ((p : Last) × Has p (kept m ts) × (racing t c p ≡ Some n)) → ReadFrom t k c ts n
+    go : (None ≡ Some n) ⊎ ((p : LastAccess) × Has p (kept m ts) × (racing t c p ≡ Some n))
+        → ReadFrom t k c ts n
     go (inl q) = absurd cc
     go (inr r) = record {
       kind = m;
@@ -175,7 +177,7 @@ read_from t k m c ts n clash is = go (fold_from (racing t c) None n (kept m ts) 
       found = racing_found t c r.0 n r.2;
     }
 
-pub latest_from : (t : ThreadId) (k : AccessKind) (c : ℕ → ℕ) (ts : Touches) (n : ℕ)
+pub latest_from : (t : ThreadId) (k : AccessKind) (c : ℕ → ℕ) (ts : VariableAccesses) (n : ℕ)
     → latest_racing t k c ts ≡ Some n → ReadFrom t k c ts n
 latest_from t Read c ts n is = read_from t Read Write c ts n write_read is
 latest_from t Write c ts n is =

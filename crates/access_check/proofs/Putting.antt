@@ -9,10 +9,10 @@ use Rattle.std.proofs.lemmas.Bool.{eqb-true}
 use Rattle.event_core.specs.Closed.{Has, first, later}
 use Rattle.event_core.proofs.Depth.{same_thread_id}
 use Rattle.event_core.proofs.Members.{none_in, has_front, has_last, has_split}
-use Rattle.access_check.specs.declared.lasts.Last.{Last}
-use Rattle.access_check.specs.Lasts.{is_of, put_at, put}
+use Rattle.access_check.specs.declared.last_accesses.LastAccess.{LastAccess}
+use Rattle.access_check.specs.LastAccesses.{is_of, put_at, put}
 
-has_set : (q p : Last) (ps : List Last) (i : ℕ) → Has q (set ps i p) → Has q ps ⊎ (q ≡ p)
+has_set : (q p : LastAccess) (ps : List LastAccess) (i : ℕ) → Has q (set ps i p) → Has q ps ⊎ (q ≡ p)
 has_set q p [] zero h = absurd (none_in h)
 has_set q p [] (suc i) h = absurd (none_in h)
 has_set q p (x ∷ xs) zero (first _ _ is) = inr is
@@ -24,7 +24,8 @@ has_set q p (x ∷ xs) (suc i) (later _ _ h) = go (has_set q p xs i h)
     go (inl h) = inl (later x xs h)
     go (inr is) = inr is
 
-set_has : (q p d : Last) (ps : List Last) (i : ℕ) → Has q ps → Has q (set ps i p) ⊎ (q ≡ get_or ps i d)
+set_has : (q p d : LastAccess) (ps : List LastAccess) (i : ℕ) → Has q ps
+    → Has q (set ps i p) ⊎ (q ≡ get_or ps i d)
 set_has q p d [] i h = absurd (none_in h)
 set_has q p d (x ∷ xs) zero (first _ _ is) = inr is
 set_has q p d (x ∷ xs) zero (later _ _ h) = inl (later p xs h)
@@ -36,13 +37,13 @@ set_has q p d (x ∷ xs) (suc i) (later _ _ h) = go (set_has q p d xs i h)
     go (inl h) = inl (later x (set xs i p) h)
     go (inr is) = inr is
 
-set_new : (p : Last) (ps : List Last) (i : ℕ) → i < length ps → Has p (set ps i p)
+set_new : (p : LastAccess) (ps : List LastAccess) (i : ℕ) → i < length ps → Has p (set ps i p)
 set_new p [] i lt = absurd (omega arith)
 set_new p (x ∷ xs) zero lt = first p xs refl
 set_new p (x ∷ xs) (suc i) lt = later x (set xs i p) (set_new p xs i (omega arith))
 
 -- a member is a member of before, or the new one
-pub has_put : (q p : Last) (ps : List Last) → Has q (put p ps) → Has q ps ⊎ (q ≡ p)
+pub has_put : (q p : LastAccess) (ps : List LastAccess) → Has q (put p ps) → Has q ps ⊎ (q ≡ p)
 has_put q p ps h = go (position (is_of p.thread) ps) h
   where
     go : (o : Option ℕ) → Has q (put_at o p ps) → Has q ps ⊎ (q ≡ p)
@@ -50,7 +51,7 @@ has_put q p ps h = go (position (is_of p.thread) ps) h
     go (Some i) h = has_set q p ps i h
 
 -- a member of before is still one, or of the new one's thread
-pub put_has : (q p : Last) (ps : List Last) → Has q ps → Has q (put p ps) ⊎ (q.thread ≡ p.thread)
+pub put_has : (q p : LastAccess) (ps : List LastAccess) → Has q ps → Has q (put p ps) ⊎ (q.thread ≡ p.thread)
 put_has q p ps h = go (position (is_of p.thread) ps) refl
   where
     go : (o : Option ℕ) → position (is_of p.thread) ps ≡ o → Has q (put_at o p ps) ⊎ (q.thread ≡ p.thread)
@@ -65,7 +66,7 @@ put_has q p ps h = go (position (is_of p.thread) ps) refl
             (ap (is_of p.thread) same ∙ own)))
 
 -- the new one is one
-pub put_new : (p : Last) (ps : List Last) → Has p (put p ps)
+pub put_new : (p : LastAccess) (ps : List LastAccess) → Has p (put p ps)
 put_new p ps = go (position (is_of p.thread) ps) refl
   where
     go : (o : Option ℕ) → position (is_of p.thread) ps ≡ o → Has p (put_at o p ps)

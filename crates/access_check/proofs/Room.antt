@@ -12,10 +12,10 @@ use Rattle.event_core.specs.declared.events.AccessKind.TheVariants.{Read, Write}
 use Rattle.event_core.specs.Closed.{Has, first, later}
 use Rattle.event_core.proofs.Counting.{nat_eq_same}
 use Rattle.event_core.proofs.Members.{none_in}
-use Rattle.access_check.specs.declared.lasts.Last.{Last}
-use Rattle.access_check.specs.declared.touches.Touches.{Touches}
+use Rattle.access_check.specs.declared.last_accesses.LastAccess.{LastAccess}
+use Rattle.access_check.specs.declared.variable_accesses.VariableAccesses.{VariableAccesses}
 use Rattle.access_check.specs.Tables.{RoomAt, RoomFor}
-use Rattle.access_check.specs.Lasts.{LastList, is_of, has_room, put}
+use Rattle.access_check.specs.LastAccesses.{LastList, is_of, has_room, put}
 use Rattle.access_check.proofs.Putting.{put_new}
 
 or_true : (b c : Bool) → c ≡ true → (b || c) ≡ true
@@ -23,13 +23,15 @@ or_true true c is = refl
 or_true false c is = is
 
 -- a member settles the test
-any_of : (f : Last → Bool) (p : Last) (ps : List Last) → Has p ps → f p ≡ true → list_any f ps ≡ true
+any_of : (f : LastAccess → Bool) (p : LastAccess) (ps : List LastAccess) → Has p ps → f p ≡ true
+    → list_any f ps ≡ true
 any_of f p [] h is = absurd (none_in h)
 any_of f p (q ∷ qs) (first _ _ same) is = ap (λ (b : Bool). b || list_any f qs) (ap f (sym same) ∙ is)
 any_of f p (q ∷ qs) (later _ _ h) is = or_true (f q) (list_any f qs) (any_of f p qs h is)
 
 -- there is room for the thread's next access
-pub room_put : (p : Last) (old new : LastList) → new.items ≡ put p old.items → has_room p.thread new ≡ true
+pub room_put : (p : LastAccess) (old new : LastList) → new.items ≡ put p old.items
+    → has_room p.thread new ≡ true
 room_put p old new is =
     ap (λ (b : Bool). b || nat_lt 0 new.room)
     (ap (list_any (is_of p.thread)) is
@@ -40,7 +42,7 @@ pub room_cleared : (t : ThreadId) (old new : LastList) → old.room + length old
     → has_room t old ≡ true → has_room t new ≡ true
 room_cleared t old new le room = go (list_any (is_of t) new.items)
   where
-    some : (items : List Last) (room : ℕ) → (list_any (is_of t) items || nat_lt 0 room) ≡ true
+    some : (items : List LastAccess) (room : ℕ) → (list_any (is_of t) items || nat_lt 0 room) ≡ true
         → 0 < room + length items
     some [] room is = let lt : 0 < room = ltb-true 0 room is in omega arith
     some (p ∷ ps) room is = omega arith
@@ -50,7 +52,7 @@ room_cleared t old new le room = go (list_any (is_of t) new.items)
     go false = lt-ltb 0 new.room (let lt = some old.items old.room room in omega arith)
 
 -- where no place is found there is none
-none_or : (p : Last → Bool) (ps : List Last)
+none_or : (p : LastAccess → Bool) (ps : List LastAccess)
     → (list_any p ps ≡ false) ⊎ (position_or_len p ps < length ps)
 none_or p [] = inl refl
 none_or p (q ∷ qs) = go (p q) refl (none_or p qs)
@@ -67,7 +69,7 @@ none_or p (q ∷ qs) = go (p q) refl (none_or p qs)
         = ap (λ (b : Bool). cond {A = ℕ} (not b) (1 + position_or_len p qs) 0) is in
         inr (omega arith)
 
-no_place : (p : Last → Bool) (ps : List Last) → position p ps ≡ None → list_any p ps ≡ false
+no_place : (p : LastAccess → Bool) (ps : List LastAccess) → position p ps ≡ None → list_any p ps ≡ false
 no_place p ps is = elim (none_or p ps) [
   | inl none ↦ none
   | inr lt ↦ absurd (
@@ -84,7 +86,7 @@ room_left t ps found room =
     ltb-true 0 ps.room (sym (ap (λ (b : Bool). b || nat_lt 0 ps.room) none) ∙ room)
 
 -- where there is room for the same accesses there is room for the same operations
-pub room_for : (old new : List Touches) (t : ThreadId)
+pub room_for : (old new : List VariableAccesses) (t : ThreadId)
     → ((x : ℕ) (k : AccessKind) → RoomAt old t x k → RoomAt new t x k) → (o : Op) → RoomFor old t o
     → RoomFor new t o
 room_for old new t kept (Load x) h = kept x.0 Read h

@@ -21,18 +21,20 @@ use Rattle.event_core.specs.Verdict.{IsVerdict}
 use Rattle.event_core.proofs.Counting.{nat_eq_same, nat_eq_other}
 use Rattle.event_core.proofs.Counting.{events_own, events_other}
 use Rattle.event_core.proofs.Depth.{thread_cases, same_thread_id}
-use Rattle.access_check.specs.declared.lasts.Access.{Access}
-use Rattle.access_check.specs.declared.touches.Touches.{Touches}
-use Rattle.access_check.specs.Touched.{kept, kept_after}
+use Rattle.access_check.specs.declared.last_accesses.Access.{Access}
+use Rattle.access_check.specs.declared.variable_accesses.VariableAccesses.{VariableAccesses}
+use Rattle.access_check.specs.VariableAccesses.{kept, kept_after}
 use Rattle.access_check.specs.Tables.{Tables, count_at, last_of as its_last, touched_after, Notes}
-use Rattle.access_check.specs.Standing.{TouchesStand, Stands}
+use Rattle.access_check.specs.Standing.{VariableStands, Stands}
 use Rattle.access_check.proofs.Keeping.{one_kind, untouched, put_stands, alone_stands}
 
--- the variable's touches with the access
+-- the variable's accesses with the access
 touched : (log : List Event) (e : Event) (x : VarId) (k : AccessKind) (v : Verdict) (a : Access)
     → e.op ≡ access_of x k → a.index ≡ length log → a.position ≡ events_of log e.thread + 1
-    → (old ts : Touches) → ((m : AccessKind) → kept m ts ≡ kept_after v k (its_last e.thread a) m old)
-    → IsVerdict (log ++ e ∷ []) (length log) v → TouchesStand log x old → TouchesStand (log ++ e ∷ []) x ts
+    → (old ts : VariableAccesses) → ((m : AccessKind)
+    → kept m ts ≡ kept_after v k (its_last e.thread a) m old)
+    → IsVerdict (log ++ e ∷ []) (length log) v → VariableStands log x old
+    → VariableStands (log ++ e ∷ []) x ts
 touched log e x Read v a op at position old ts is verdict s =
     put_stands log e x Read a op at position old ts s (is Read) others
   where
@@ -48,16 +50,17 @@ touched log e x Write (Racy i) a op at position old ts is verdict s =
 touched log e x Write Clear a op at position old ts is verdict s =
     alone_stands log e x Write a op at position old ts s refl (is Read) (is Write) verdict
 
--- each variable's touches after the event
-touches_stand : (log : List Event) (e : Event) (o : Op) (v : Verdict) (a : Access) (x : VarId)
-    (old ts : Touches) → e.op ≡ o → a.index ≡ length log → a.position ≡ events_of log e.thread + 1
+-- each variable's accesses after the event
+accesses_stand : (log : List Event) (e : Event) (o : Op) (v : Verdict) (a : Access) (x : VarId)
+    (old ts : VariableAccesses) → e.op ≡ o → a.index ≡ length log → a.position ≡ events_of log e.thread + 1
     → ((m : AccessKind) → kept m ts ≡ touched_after v e.thread o a x.0 m old)
-    → IsVerdict (log ++ e ∷ []) (length log) v → TouchesStand log x old → TouchesStand (log ++ e ∷ []) x ts
-touches_stand log e o v a x old ts op at position is verdict s = go o op is
+    → IsVerdict (log ++ e ∷ []) (length log) v → VariableStands log x old
+    → VariableStands (log ++ e ∷ []) x ts
+accesses_stand log e o v a x old ts op at position is verdict s = go o op is
   where
     by_var : (k : AccessKind) (y : VarId) → e.op ≡ access_of y k → (b : Bool) → nat_eq x.0 y.0 ≡ b
         → ((m : AccessKind) → kept m ts ≡ cond b (kept_after v k (its_last e.thread a) m old) (kept m old))
-        → TouchesStand (log ++ e ∷ []) x ts
+        → VariableStands (log ++ e ∷ []) x ts
     by_var k y q true same is =
         let x_is_y : x ≡ y = var_id (eqb-true x.0 y.0 same) in
         touched log e x k v a (q ∙ ap (λ z. access_of z k) (sym x_is_y)) at position old ts is verdict s
@@ -74,11 +77,11 @@ touches_stand log e o v a x old ts op at position is verdict s = go o op is
             let clash : true ≡ false = sym there ∙ same in cc
 
     quiet : (o : Op) → e.op ≡ o → ((m : AccessKind) → o ≡ access_of x m → ⊥)
-        → ((m : AccessKind) → kept m ts ≡ kept m old) → TouchesStand (log ++ e ∷ []) x ts
+        → ((m : AccessKind) → kept m ts ≡ kept m old) → VariableStands (log ++ e ∷ []) x ts
     quiet o q none is = untouched log e x old ts is (λ m r. none m (sym q ∙ r)) s
 
     go : (o : Op) → e.op ≡ o → ((m : AccessKind) → kept m ts ≡ touched_after v e.thread o a x.0 m old)
-        → TouchesStand (log ++ e ∷ []) x ts
+        → VariableStands (log ++ e ∷ []) x ts
     go (Load y) q is = by_var Read y q (nat_eq x.0 y.0) refl is
     go (Store y) q is = by_var Write y q (nat_eq x.0 y.0) refl is
     go (Acquire l) q is = quiet (Acquire l) q (acquire_quiet l) is
@@ -125,7 +128,7 @@ pub note_stands : (before after : Tables) (log : List Event) (e : Event) (index 
 note_stands before after log e index v n s at well verdict = record {
   well_formed = subst (λ (m : Limits). WellFormed m (log ++ e ∷ [])) (sym n.limits) well;
   counts = λ u. n.counts u.0 ∙ counts_stand log e u _ _ (s.counts u) (s.counts e.thread);
-  touches = λ x. touches_stand log e e.op v
+  accesses = λ x. accesses_stand log e e.op v
       (record { index = index; position = count_at before.counts e.thread.0 + 1 }) x _ _ refl at
-      (ap (λ k. k + 1) (s.counts e.thread)) (n.touches x.0) verdict (s.touches x);
+      (ap (λ k. k + 1) (s.counts e.thread)) (n.accesses x.0) verdict (s.accesses x);
 }

@@ -1,4 +1,4 @@
-pub mod Lasts
-pub mod Touched
+pub mod LastAccesses
+pub mod VariableAccesses
 pub mod Tables
 pub mod Standing

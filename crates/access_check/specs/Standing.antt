@@ -13,34 +13,34 @@ use Rattle.event_core.specs.Effect.{access_of}
 use Rattle.event_core.specs.Closed.{Has}
 use Rattle.event_core.specs.Refusal.{WellFormed}
 use Rattle.event_core.specs.Wcp.{Below}
-use Rattle.access_check.specs.declared.lasts.Last.{Last}
-use Rattle.access_check.specs.declared.touches.Touches.{Touches}
-use Rattle.access_check.specs.Touched.{kept}
-use Rattle.access_check.specs.Tables.{Tables, count_at, touches_at}
+use Rattle.access_check.specs.declared.last_accesses.LastAccess.{LastAccess}
+use Rattle.access_check.specs.declared.variable_accesses.VariableAccesses.{VariableAccesses}
+use Rattle.access_check.specs.VariableAccesses.{kept}
+use Rattle.access_check.specs.Tables.{Tables, count_at, accesses_at}
 
 -- it is such an access of the log, and its position is that among its thread's events, from 1
-pub record IsAccess (log : List Event) (x : VarId) (k : AccessKind) (p : Last) : Type 0 where
+pub record IsAccess (log : List Event) (x : VarId) (k : AccessKind) (p : LastAccess) : Type 0 where
   pub does : Does log p.access.index p.thread (access_of x k)
   pub position : p.access.position ≡ events_of (take p.access.index log) p.thread + 1
 
 -- an access of the thread at or after j is kept
-pub record HasLast (ps : List Last) (u : ThreadId) (j : ℕ) : Type 0 where
-  pub last : Last
+pub record HasLast (ps : List LastAccess) (u : ThreadId) (j : ℕ) : Type 0 where
+  pub last : LastAccess
   pub member : Has last ps
   pub thread : last.thread ≡ u
   pub from : j ≤ last.access.index
 
 -- a store after j is kept, to which j is not unordered: where j races with a later event, so does the store
-pub record IsCovered (log : List Event) (stores : List Last) (j : ℕ) : Type 0 where
-  pub store : Last
+pub record IsCovered (log : List Event) (stores : List LastAccess) (j : ℕ) : Type 0 where
+  pub store : LastAccess
   pub member : Has store stores
   pub after : j < store.access.index
   pub ordered : (Below log j store.access.index → ⊥) → ⊥
 
 -- what is kept are accesses of the log, and of each access of the log a later one of its thread and kind is
 -- kept, or a store that covers it
-pub record TouchesStand (log : List Event) (x : VarId) (ts : Touches) : Type 0 where
-  pub sound : (k : AccessKind) (p : Last) → Has p (kept k ts) → IsAccess log x k p
+pub record VariableStands (log : List Event) (x : VarId) (ts : VariableAccesses) : Type 0 where
+  pub sound : (k : AccessKind) (p : LastAccess) → Has p (kept k ts) → IsAccess log x k p
   pub complete : (j : ℕ) (u : ThreadId) (k : AccessKind) → Does log j u (access_of x k)
       → HasLast (kept k ts) u j ⊎ IsCovered log (kept Write ts) j
 
@@ -48,4 +48,4 @@ pub record TouchesStand (log : List Event) (x : VarId) (ts : Touches) : Type 0 w
 pub record Stands (log : List Event) (t : Tables) : Type 0 where
   pub well_formed : WellFormed t.limits log
   pub counts : (u : ThreadId) → count_at t.counts u.0 ≡ events_of log u
-  pub touches : (x : VarId) → TouchesStand log x (touches_at t.vars x.0)
+  pub accesses : (x : VarId) → VariableStands log x (accesses_at t.vars x.0)

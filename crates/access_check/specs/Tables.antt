@@ -11,43 +11,43 @@ use Rattle.event_core.specs.declared.events.AccessKind.TheVariants.{Read, Write}
 use Rattle.event_core.specs.declared.bounds.Limits.{Limits}
 use Rattle.event_core.specs.declared.replies.Verdict.{Verdict}
 use Rattle.event_core.specs.declared.replies.Verdict.TheVariants.{Clear, Racy}
-use Rattle.access_check.specs.declared.lasts.Access.{Access}
-use Rattle.access_check.specs.declared.lasts.Last.{Last}
-use Rattle.access_check.specs.declared.touches.Touches.{Touches}
-use Rattle.access_check.specs.Lasts.{has_room, AreNarrow}
-use Rattle.access_check.specs.Touched.{no_touches, of_kind, kept, latest_racing, kept_after}
+use Rattle.access_check.specs.declared.last_accesses.Access.{Access}
+use Rattle.access_check.specs.declared.last_accesses.LastAccess.{LastAccess}
+use Rattle.access_check.specs.declared.variable_accesses.VariableAccesses.{VariableAccesses}
+use Rattle.access_check.specs.LastAccesses.{has_room, AreNarrow}
+use Rattle.access_check.specs.VariableAccesses.{no_accesses, of_kind, kept, latest_racing, kept_after}
 
 pub record Tables : Type 0 where
   pub limits : Limits
   -- of each thread how many events it has
   pub counts : List ℕ
   -- of each variable who touched it last
-  pub vars : List Touches
+  pub vars : List VariableAccesses
 
 -- past the end of a table nothing was noted
 abbrev pub count_at : List ℕ → ℕ → ℕ
 count_at counts u = slice_index counts u
 
-abbrev pub touches_at : List Touches → ℕ → Touches
-touches_at vars x = slice_index_or vars x no_touches
+abbrev pub accesses_at : List VariableAccesses → ℕ → VariableAccesses
+accesses_at vars x = slice_index_or vars x no_accesses
 
 -- the verdict that the latest racing access gives
 abbrev pub verdict_at : Option ℕ → Verdict
 verdict_at None = Clear
 verdict_at (Some i) = Racy i
 
-abbrev pub verdict_of : List Touches → ThreadId → Op → (ℕ → ℕ) → Verdict
-verdict_of vars t (Load x) clock = verdict_at (latest_racing t Read clock (touches_at vars x.0))
-verdict_of vars t (Store x) clock = verdict_at (latest_racing t Write clock (touches_at vars x.0))
+abbrev pub verdict_of : List VariableAccesses → ThreadId → Op → (ℕ → ℕ) → Verdict
+verdict_of vars t (Load x) clock = verdict_at (latest_racing t Read clock (accesses_at vars x.0))
+verdict_of vars t (Store x) clock = verdict_at (latest_racing t Write clock (accesses_at vars x.0))
 verdict_of vars t _ clock = Clear
 
 -- there is room for the thread's access of that kind
-pub record RoomAt (vars : List Touches) (t : ThreadId) (x : ℕ) (k : AccessKind) : Type 0 where
+pub record RoomAt (vars : List VariableAccesses) (t : ThreadId) (x : ℕ) (k : AccessKind) : Type 0 where
   pub within : x < length vars
-  pub room : IsTrue (has_room t (of_kind k (touches_at vars x)))
+  pub room : IsTrue (has_room t (of_kind k (accesses_at vars x)))
 
 -- there is room for the operation's access by the thread
-abbrev pub RoomFor : List Touches → ThreadId → Op → Type 0
+abbrev pub RoomFor : List VariableAccesses → ThreadId → Op → Type 0
 RoomFor vars t (Load x) = RoomAt vars t x.0 Read
 RoomFor vars t (Store x) = RoomAt vars t x.0 Write
 RoomFor vars t _ = Unit {0}
@@ -75,11 +75,12 @@ pub record IsWithin (m : Limits) (t : ThreadId) (o : Op) : Type 0 where
   pub thread : t.0 < m.threads
   pub var : VarWithin m o
 
-abbrev pub last_of : ThreadId → Access → Last
+abbrev pub last_of : ThreadId → Access → LastAccess
 last_of t a = record { thread = t; access = a }
 
 -- what is kept of a variable's accesses of kind m after an event, on which there was that verdict
-abbrev pub touched_after : Verdict → ThreadId → Op → Access → ℕ → AccessKind → Touches → List Last
+abbrev pub touched_after : Verdict → ThreadId → Op → Access → ℕ → AccessKind → VariableAccesses
+    → List LastAccess
 touched_after v t (Load y) a x m ts = cond (nat_eq x y.0) (kept_after v Read (last_of t a) m ts) (kept m ts)
 touched_after v t (Store y) a x m ts = cond (nat_eq x y.0) (kept_after v Write (last_of t a) m ts) (kept m ts)
 touched_after v t _ a x m ts = kept m ts
@@ -89,16 +90,16 @@ pub record Notes (old new : Tables) (e : Event) (index : ℕ) (v : Verdict) : Ty
   pub limits : new.limits ≡ old.limits
   pub counts : (u : ℕ) → count_at new.counts u
       ≡ cond (nat_eq u e.thread.0) (count_at old.counts u + 1) (count_at old.counts u)
-  pub touches : (x : ℕ) (m : AccessKind) → kept m (touches_at new.vars x)
+  pub accesses : (x : ℕ) (m : AccessKind) → kept m (accesses_at new.vars x)
       ≡ touched_after v e.thread e.op
       (record { index = index; position = count_at old.counts e.thread.0 + 1 })
-      x m (touches_at old.vars x)
+      x m (accesses_at old.vars x)
 
 -- the same meaning, and at least the room
 pub record Grown (old new : Tables) : Type 0 where
   pub limits : new.limits ≡ old.limits
   pub counts : (u : ℕ) → count_at new.counts u ≡ count_at old.counts u
-  pub touches : (x : ℕ) (m : AccessKind) → kept m (touches_at new.vars x) ≡ kept m (touches_at old.vars x)
+  pub accesses : (x : ℕ) (m : AccessKind) → kept m (accesses_at new.vars x) ≡ kept m (accesses_at old.vars x)
   pub room : (t : ThreadId) → KeepsRoom old new t
 
 -- before any event
@@ -106,6 +107,6 @@ abbrev pub no_tables : Limits → Tables
 no_tables m = record { limits = m; counts = []; vars = [] }
 
 -- what the fields keep: each thread's number is below the limit
-pub record AreTables (width threads : ℕ) (vars : List Touches) : Type 0 where
+pub record AreTables (width threads : ℕ) (vars : List VariableAccesses) : Type 0 where
   pub few : threads ≤ width
-  pub narrow : (x : ℕ) (m : AccessKind) → AreNarrow width (kept m (touches_at vars x))
+  pub narrow : (x : ℕ) (m : AccessKind) → AreNarrow width (kept m (accesses_at vars x))

@@ -1,7 +1,7 @@
 //! Who touched which variable last.
-use crate::lasts::Access;
+use crate::last_accesses::Access;
 use crate::tables::{count_event, grow_at, grow_counts, note_access, verdict_at_var};
-use crate::touches::Touches;
+use crate::variable_accesses::VariableAccesses;
 use event_core::{AccessKind, Event, Limits, Op, OutOfMemory, ThreadId, VarId, Verdict};
 use std::alloc::Global;
 use std::marker::Model;
@@ -13,7 +13,7 @@ pub struct Accesses {
     alloc: Global,
     limits: Limits,
     counts: Vec<u64>,
-    vars: Vec<Touches>,
+    vars: Vec<VariableAccesses>,
 }
 
 impl Model for Accesses {
@@ -92,24 +92,24 @@ impl Accesses {
 
     /// Whether there is room for the event.
     #[inline(always)]
-    pub fn is_ready(&self, event: &Event) -> bool
+    pub fn ready(&self, event: &Event) -> bool
         ensures { IsTrue result ↔ HasRoom self.now event.now.thread event.now.op }
     {
         let thread = event.thread.0 as usize;
         thread < self.counts.len()
             && match event.op {
-                Op::Load(var) => self.is_ready_at(event.thread, var, AccessKind::Read),
-                Op::Store(var) => self.is_ready_at(event.thread, var, AccessKind::Write),
+                Op::Load(var) => self.ready_at(event.thread, var, AccessKind::Read),
+                Op::Store(var) => self.ready_at(event.thread, var, AccessKind::Write),
                 _ => true,
             }
     }
 
     #[inline(always)]
-    fn is_ready_at(&self, thread: ThreadId, var: VarId, kind: AccessKind) -> bool
+    fn ready_at(&self, thread: ThreadId, var: VarId, kind: AccessKind) -> bool
         ensures { IsTrue result ↔ RoomAt self.now.vars thread var.0 kind }
     {
         let var = var.0 as usize;
-        var < self.vars.len() && self.vars[var].is_ready(thread, kind)
+        var < self.vars.len() && self.vars[var].ready(thread, kind)
     }
 
     #[inline(always)]

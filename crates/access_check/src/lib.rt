@@ -10,9 +10,9 @@
 #![tactic(auto)]
 
 mod accesses;
-mod lasts;
+mod last_accesses;
 mod packed;
 mod tables;
-mod touches;
+mod variable_accesses;
 
 pub use accesses::Accesses;

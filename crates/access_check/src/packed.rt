@@ -1,8 +1,8 @@
 //! A last access in twelve bytes.
 ghost use Rattle.std.specs.Prelude.{◌≡◌, ◌+◌};
-ghost use Rattle.access_check.specs.Lasts.{IsShort};
+ghost use Rattle.access_check.specs.LastAccesses.{IsShort};
 
-use crate::lasts::Last;
+use crate::last_accesses::LastAccess;
 use event_core::ThreadId;
 use std::marker::Model;
 use std::mem::size_of;
@@ -10,20 +10,20 @@ use std::mem::size_of;
 /// A last access as it is kept. A log has at most 2^32 events, so an index takes 32 bits, and so does the
 /// number of its thread's events before it.
 #[derive(Clone, Copy)]
-pub struct PackedLast {
+pub struct PackedAccess {
     thread: ThreadId,
     index: u32,
     before: u32,
 }
 
 // There is one for each thread that loads a variable, and one for each that stores to it.
-const _: () = prove!(size_of::<PackedLast>() == 12);
+const _: () = prove!(size_of::<PackedAccess>() == 12);
 
-impl Model for PackedLast {
+impl Model for PackedAccess {
     ghost use Rattle.std.specs.Prelude.{◌+◌, ◌-◌};
-    ghost use Rattle.access_check.specs.declared.lasts.Last.{Last};
+    ghost use Rattle.access_check.specs.declared.last_accesses.LastAccess.{LastAccess};
 
-    ghost Value = { Last };
+    ghost Value = { LastAccess };
 
     ghost view = { λ p. record {
       thread = p.thread;
@@ -37,12 +37,12 @@ impl Model for PackedLast {
     } };
 }
 
-impl PackedLast {
-    pub(crate) fn new(last: Last) -> PackedLast
+impl PackedAccess {
+    pub(crate) fn new(last: LastAccess) -> PackedAccess
         requires { IsShort last }
         ensures { result ≡ last }
     {
-        PackedLast {
+        PackedAccess {
             thread: last.thread,
             index: last.access.index as u32,
             before: (last.access.position - 1) as u32,

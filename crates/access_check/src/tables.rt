@@ -4,13 +4,14 @@ ghost use Rattle.event_core.specs.declared.ids.ThreadId.{ThreadId as Thread};
 ghost use Rattle.event_core.specs.declared.events.AccessKind.{AccessKind as Kind};
 ghost use Rattle.event_core.specs.declared.events.Op.{Op as Operation};
 ghost use Rattle.vector_clocks.specs.Counts.{counts_of};
-ghost use Rattle.access_check.specs.Lasts.{AreNarrow, IsShort};
-ghost use Rattle.access_check.specs.Touched.{kept, latest_racing, kept_after};
+ghost use Rattle.access_check.specs.LastAccesses.{AreNarrow, IsShort};
+ghost use Rattle.access_check.specs.VariableAccesses.{kept, latest_racing, kept_after};
 ghost use Rattle.access_check.specs.Tables.{last_of};
-ghost use Rattle.access_check.specs.Tables.{count_at, touches_at, touched_after, verdict_at, RoomAt, RoomFor};
+ghost use Rattle.access_check.specs.Tables.{count_at, accesses_at, touched_after, verdict_at};
+ghost use Rattle.access_check.specs.Tables.{RoomAt, RoomFor};
 
-use crate::lasts::{Access, Last};
-use crate::touches::Touches;
+use crate::last_accesses::{Access, LastAccess};
+use crate::variable_accesses::VariableAccesses;
 use event_core::{AccessKind, Event, Op, OutOfMemory, ThreadId, Verdict, grow_to};
 use std::alloc::Global;
 use vector_clocks::JoinedClocks;
@@ -31,34 +32,34 @@ pub(crate) fn grow_counts(counts: &mut Vec<u64>, threads: usize) -> Result<(), O
 // The variable has a table, and so have the next ones: mostly the variables that are met first have the next
 // numbers.
 #[inline(never)]
-fn grow_vars(vars: &mut Vec<Touches>, alloc: Global, var: usize) -> Result<(), OutOfMemory>
+fn grow_vars(vars: &mut Vec<VariableAccesses>, alloc: Global, var: usize) -> Result<(), OutOfMemory>
     requires { var < 2 ^ 32 }
-    ensures same { (x : ℕ) → touches_at vars.new.items x ≡ touches_at vars.old.items x }
+    ensures same { (x : ℕ) → accesses_at vars.new.items x ≡ accesses_at vars.old.items x }
     ensures more { length vars.old.items ≤ length vars.new.items }
     ensures ok { OnOk result (var < length vars.new.items) }
 {
-    grow_to(vars, var + VARS_AT_ONCE, || Touches::new(alloc))
+    grow_to(vars, var + VARS_AT_ONCE, || VariableAccesses::new(alloc))
 }
 
 // The variable's table has room for an access of that kind by the thread.
 fn make_room_at(
-    vars: &mut [Touches],
+    vars: &mut [VariableAccesses],
     var: usize,
     thread: ThreadId,
     kind: AccessKind,
 ) -> Result<(), OutOfMemory>
     requires { var < length vars.old }
-    ensures same { (x : ℕ) (k : Kind) → kept k (touches_at vars.new x) ≡ kept k (touches_at vars.old x) }
+    ensures same { (x : ℕ) (k : Kind) → kept k (accesses_at vars.new x) ≡ kept k (accesses_at vars.old x) }
     ensures more { (t : Thread) (x : ℕ) (k : Kind) → RoomAt vars.old t x k → RoomAt vars.new t x k }
     ensures room { OnOk result (RoomAt vars.new thread var kind) }
 {
-    let touches = &mut vars[var];
-    touches.make_room(thread, kind)
+    let accesses = &mut vars[var];
+    accesses.make_room(thread, kind)
 }
 
 /// The variable has a table, with room for an access of that kind by the thread.
 pub(crate) fn grow_at(
-    vars: &mut Vec<Touches>,
+    vars: &mut Vec<VariableAccesses>,
     alloc: Global,
     var: usize,
     thread: ThreadId,
@@ -66,7 +67,7 @@ pub(crate) fn grow_at(
 ) -> Result<(), OutOfMemory>
     requires { var < 2 ^ 32 }
     ensures same { (x : ℕ) (k : Kind)
-        → kept k (touches_at vars.new.items x) ≡ kept k (touches_at vars.old.items x) }
+        → kept k (accesses_at vars.new.items x) ≡ kept k (accesses_at vars.old.items x) }
     ensures more { (t : Thread) (x : ℕ) (k : Kind) → RoomAt vars.old.items t x k
         → RoomAt vars.new.items t x k }
     ensures room { OnOk result (RoomAt vars.new.items thread var kind) }
@@ -79,36 +80,42 @@ pub(crate) fn grow_at(
 
 // An access, on which there was that verdict, is noted at its variable.
 #[inline(always)]
-fn note_at(vars: &mut [Touches], var: usize, kind: AccessKind, last: Last, verdict: Verdict)
+fn note_at(
+    vars: &mut [VariableAccesses],
+    var: usize,
+    kind: AccessKind,
+    last: LastAccess,
+    verdict: Verdict,
+)
     requires short { IsShort last }
     requires room { RoomAt vars.old last.thread var kind }
     ensures room { (x : ℕ) (k : Kind) → RoomAt vars.old last.thread x k → RoomAt vars.new last.thread x k }
-    ensures touches { (x : ℕ) (k : Kind) → kept k (touches_at vars.new x)
-        ≡ cond (nat_eq x var) (kept_after verdict kind last k (touches_at vars.old x))
-        (kept k (touches_at vars.old x)) }
+    ensures accesses { (x : ℕ) (k : Kind) → kept k (accesses_at vars.new x)
+        ≡ cond (nat_eq x var) (kept_after verdict kind last k (accesses_at vars.old x))
+        (kept k (accesses_at vars.old x)) }
 {
-    let touches = &mut vars[var];
-    touches.note(kind, last, verdict);
+    let accesses = &mut vars[var];
+    accesses.note(kind, last, verdict);
 }
 
 /// The verdict on the thread's access of that kind.
 #[inline(always)]
 pub(crate) fn verdict_at_var(
-    vars: &[Touches],
+    vars: &[VariableAccesses],
     var: usize,
     thread: ThreadId,
     kind: AccessKind,
     clock: &JoinedClocks,
 ) -> Verdict
-    requires { (x : ℕ) (k : Kind) → AreNarrow (length clock.now) (kept k (touches_at vars.now x)) }
+    requires { (x : ℕ) (k : Kind) → AreNarrow (length clock.now) (kept k (accesses_at vars.now x)) }
     ensures { result
-        ≡ verdict_at (latest_racing thread kind (counts_of clock.now) (touches_at vars.now var)) }
+        ≡ verdict_at (latest_racing thread kind (counts_of clock.now) (accesses_at vars.now var)) }
 {
     if vars.len() <= var {
         return Verdict::Clear;
     }
-    let touches = &vars[var];
-    match touches.latest_racing(thread, kind, clock) {
+    let accesses = &vars[var];
+    match accesses.latest_racing(thread, kind, clock) {
         Some(index) => Verdict::Racy(index),
         None => Verdict::Clear,
     }
@@ -131,18 +138,23 @@ pub(crate) fn count_event(counts: &mut [u64], thread: usize) -> u64
 /// The event, on which there was that verdict, is noted where it is an access.
 #[inline(always)]
 #[tactic(auto, using(crate::proofs::Room::room_for))]
-pub(crate) fn note_access(vars: &mut [Touches], event: &Event, access: Access, verdict: Verdict)
+pub(crate) fn note_access(
+    vars: &mut [VariableAccesses],
+    event: &Event,
+    access: Access,
+    verdict: Verdict,
+)
     requires short { IsShort (last_of event.now.thread access) }
     requires room { RoomFor vars.old event.now.thread event.now.op }
-    ensures touches { (x : ℕ) (k : Kind) → kept k (touches_at vars.new x)
-        ≡ touched_after verdict event.now.thread event.now.op access x k (touches_at vars.old x) }
+    ensures accesses { (x : ℕ) (k : Kind) → kept k (accesses_at vars.new x)
+        ≡ touched_after verdict event.now.thread event.now.op access x k (accesses_at vars.old x) }
     ensures narrow { (width : ℕ) → event.now.thread.0 < width
-        → ((x : ℕ) (k : Kind) → AreNarrow width (kept k (touches_at vars.old x)))
-        → (x : ℕ) (k : Kind) → AreNarrow width (kept k (touches_at vars.new x)) }
+        → ((x : ℕ) (k : Kind) → AreNarrow width (kept k (accesses_at vars.old x)))
+        → (x : ℕ) (k : Kind) → AreNarrow width (kept k (accesses_at vars.new x)) }
     ensures kept { (o : Operation) → RoomFor vars.old event.now.thread o
         → RoomFor vars.new event.now.thread o }
 {
-    let last = Last {
+    let last = LastAccess {
         thread: event.thread,
         access,
     };

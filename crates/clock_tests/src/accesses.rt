@@ -128,7 +128,7 @@ impl Log {
     {
         assert!(rt; self.is_within(event));
         assert!(rt; self.make_room(event).is_ok());
-        assert!(rt; self.accesses.is_ready(event));
+        assert!(rt; self.accesses.ready(event));
         assert!(rt; self.length < 64);
         let verdict = self.accesses.verdict(event, clock);
         self.accesses.note(event, self.length, verdict);

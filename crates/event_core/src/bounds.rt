@@ -77,7 +77,8 @@ impl Limits {
     ghost use Rattle.std.specs.Prelude.{◌≡◌, ◌<◌, ◌≤◌};
     ghost use Rattle.event_core.specs.Bounds.{limits_of};
 
-    /// The limits with these numbers, or the first that is out of its bounds.
+    /// The limits with these numbers: 1 to 1,024 threads, 1 to 1,048,576 locks, as many variables, and 1 to
+    /// 4,294,967,296 events. Else the first number, in this order, that is out of its bounds.
     pub fn new(
         threads: u32,
         locks: u32,

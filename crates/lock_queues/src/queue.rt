@@ -99,7 +99,7 @@ impl Queue {
 
     // Makes room for a thread that has none, where that takes no memory, but for the numbers of a release.
     // Tells whether it did.
-    pub(crate) fn take_spare_room(&mut self, thread: ThreadId) -> bool
+    pub(crate) fn make_ready(&mut self, thread: ThreadId) -> bool
         requires none { has_room_in self.old.rooms thread.0 ≡ false }
         ensures same { SameMeaning self.old self.new }
         ensures room { result ≡ has_room_in self.new.rooms thread.0 }

@@ -135,7 +135,7 @@ impl Queues {
 
     /// Makes room for the thread's next section on the lock where that takes no memory. Tells whether there
     /// is room for it now, or for the open one, as `ready` does.
-    pub fn take_spare_room(&mut self, thread: ThreadId, lock: LockId) -> bool
+    pub fn make_ready(&mut self, thread: ThreadId, lock: LockId) -> bool
         ensures room { result ≡ has_room self.new thread.0 lock.0 }
         ensures same { SameMeaning self.old self.new }
         ensures kept { (t l : ℕ) → IsTrue (has_room self.old t l) → IsTrue (has_room self.new t l) }
@@ -152,7 +152,7 @@ impl Queues {
             return false;
         }
         let queue = &mut self.queues[at];
-        let is_made = queue.take_spare_room(thread);
+        let is_made = queue.make_ready(thread);
         if is_made {
             self.rooms = rooms;
         }

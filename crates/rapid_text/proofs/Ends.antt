@@ -3,8 +3,8 @@ use Rattle.std.proofs.Common.{◌≡◌, ℕ, ◌+◌, ◌-◌, ◌<◌, ◌≤�
 use Rattle.std.proofs.Common.{length, get_or, refl, sym, ◌∙◌, ap, arith, zero, suc}
 use Rattle.std.proofs.lemmas.List.{take-append-drop, drop-drop}
 use mathlib.Core.Logic.{inl, inr}
-use Rattle.rapid_text.specs.Notes.{Tell, ends_of, ends_among}
-use Rattle.rapid_text.specs.declared.notes.Words.{Words}
+use Rattle.rapid_text.specs.NumberCache.{Tell, ends_of, ends_among}
+use Rattle.rapid_text.specs.declared.number_cache.Words.{Words}
 
 -- so many numbers of the list from a place on, one by one
 abbrev read : ℕ → ℕ → List ℕ → List ℕ

@@ -8,8 +8,8 @@ use Rattle.std.proofs.lemmas.List.Quantifiers.{position-Some}
 use Rattle.std.proofs.lemmas.Option.{slice_get-get_or}
 use Rattle.std.proofs.lemmas.Slice.Eq.{bytes_eq-Decides}
 use mathlib.Core.Logic.{inl, inr}
-use Rattle.rapid_text.specs.declared.notes.Note.{Note}
-use Rattle.rapid_text.specs.Notes.{HoldsNone, IsOneOf, IsNoteOf, IsFound, IsRight, AreRight}
+use Rattle.rapid_text.specs.declared.number_cache.Note.{Note}
+use Rattle.rapid_text.specs.NumberCache.{HoldsNone, IsOneOf, IsNoteOf, IsFound, IsRight, AreRight}
 use Rattle.rapid_text.proofs.Ends.{same_name}
 use Rattle.event_core.proofs.Places.{get_before}
 

@@ -1,6 +1,6 @@
 pub mod Devices
 pub mod Numbers
-pub mod Notes
+pub mod NumberCache
 pub mod Tables
 pub mod Faults
 pub mod Events

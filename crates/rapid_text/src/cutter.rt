@@ -32,7 +32,7 @@ pub struct Cutter {
     lines: LineCutter,
     /// The line of the last answer.
     line: u64,
-    /// The line of the first fault.
+    /// The line of the first fault, if there was one.
     failed: Option<u64>,
 }
 
@@ -79,7 +79,9 @@ impl Cutter {
     }
 
     /// Takes bytes up to the end of the first line with an event, or all of them where no line with an event
-    /// ends, and says how many. A piece that would pass the most bytes is answered `Read`.
+    /// ends, and says how many. The fault of a line is told with its number. A piece with which the text
+    /// would pass 2^60 bytes is answered `Read`, a refused growth of the names `OutOfMemory`, and each call
+    /// after a fault `Failed`.
     #[inline(always)]
     pub fn push(&mut self, piece: &[u8]) -> Result<(usize, Option<Event>), TextFault>
         // What is still to be judged is the same text, but for the event.
@@ -142,7 +144,7 @@ impl Cutter {
         }
     }
 
-    /// Judges what is left, as the last line.
+    /// Judges what is left, as the last line. It fails as `push` does.
     #[inline(never)]
     pub fn finish(&mut self) -> Result<Option<Event>, TextFault>
         ensures ok { IfOk result (Closes self.old self.new) }
@@ -193,7 +195,7 @@ impl Cutter {
         fail(&mut self.line, &mut self.failed, line, Cause::Read)
     }
 
-    /// The line of the first fault.
+    /// The line of the first fault, if there was one.
     pub fn failed(&self) -> Option<u64>
         ensures is { result ≡ self.now.failed }
         ensures line { IfSome result (λ n. self.now.line ≡ n) }

@@ -40,7 +40,8 @@ pub enum Fed {
     Cut,
 }
 
-/// Feeds what the input has left of its text to the sink, with no more than so many pulls.
+/// Feeds what the input has left of its text to the sink, with no more than so many pulls, each of up to
+/// 65,536 bytes.
 pub fn feed_all<I: Input, S: Sink>(input: &mut I, sink: &mut S, turns: u64) -> Fed
     // All of the text was pulled, and taken.
     ensures whole { result ≡ Fed.Whole → Whole (I.left input.old) (I.left input.new) turns

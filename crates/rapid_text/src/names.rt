@@ -6,7 +6,7 @@ ghost use Rattle.rapid_text.specs.Tables.{Tables, no_names, space, number_in, Is
 ghost use Rattle.rapid_text.specs.Tables.{AreNamed};
 
 use crate::causes::{Kind, NameFault};
-use crate::spaces::Space;
+use crate::interner::Interner;
 use event_core::Limits;
 use std::alloc::Global;
 use std::marker::Model;
@@ -14,10 +14,10 @@ use std::marker::Model;
 /// The names of a text: of threads, locks, variables and locations.
 #[derive(Drop)]
 pub struct Names {
-    threads: Space,
-    locks: Space,
-    variables: Space,
-    sites: Space,
+    threads: Interner,
+    locks: Interner,
+    variables: Interner,
+    sites: Interner,
 }
 
 impl Model for Names {
@@ -37,10 +37,10 @@ impl Names {
         ensures { result ≡ no_names limits }
     {
         Names {
-            threads: Space::new(alloc, limits.threads()),
-            locks: Space::new(alloc, limits.locks()),
-            variables: Space::new(alloc, limits.vars()),
-            sites: Space::new(alloc, u32::MAX),
+            threads: Interner::new(alloc, limits.threads()),
+            locks: Interner::new(alloc, limits.locks()),
+            variables: Interner::new(alloc, limits.vars()),
+            sites: Interner::new(alloc, u32::MAX),
         }
     }
 
@@ -59,7 +59,7 @@ impl Names {
 
     // The names of the kind.
     #[inline(always)]
-    fn space(&self, kind: Kind) -> &Space
+    fn space(&self, kind: Kind) -> &Interner
         ensures { result.now ≡ space self.now kind }
     {
         match kind {
@@ -107,7 +107,8 @@ impl Names {
         self.search(kind, name)
     }
 
-    /// The number of the name, which is the next one where the name is new. An `Err` changes nothing.
+    /// The number of the name, which is the next one where the name is new. `TooMany` where that passes the
+    /// limit of its kind, `OutOfMemory` where memory is refused. An `Err` changes nothing.
     #[inline(always)]
     pub fn number(&mut self, kind: Kind, name: &[u8]) -> Result<u32, NameFault>
         requires { IsNameOf kind name.now }
@@ -123,7 +124,7 @@ impl Names {
         self.number_in_space(kind, name)
     }
 
-    /// The name of a number, in the bytes that it had.
+    /// The name of a number that is below the count of its kind, in the bytes that it had.
     pub fn name(&self, kind: Kind, number: u32) -> &[u8]
         requires { number < length (space self.now kind).names }
         ensures is { slice_get (space self.entry.now kind).names number ≡ Some result.now }

@@ -30,7 +30,7 @@ pub trait Output {
         ensures fails { failed self.new ≡ (failed self.old || is_err result) };
 }
 
-/// Writes all of the bytes.
+/// Writes all of the bytes, or answers `WriteFault` where the writer failed.
 pub fn write_all<W: Output>(w: &mut W, bytes: &[u8]) -> Result<(), WriteFault>
     ensures ok { OnOk result (Appends (W.written w.old) (W.written w.new) bytes.now) }
     ensures healthy { OnOk result (W.failed w.new ≡ W.failed w.old) }

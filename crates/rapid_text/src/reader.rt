@@ -106,8 +106,8 @@ impl<I: Input> Model for Reader<I> {
 }
 
 impl<I: Input> Reader<I> {
-    /// A reader before the first pull, with the memory for an unfinished line and one piece. Each pull takes
-    /// one turn.
+    /// A reader before the first pull, with the memory for a piece of 4,096 bytes; `OutOfMemory` where that
+    /// is refused. Each pull takes one turn, and there are at most 2^44 turns.
     pub fn new(
         alloc: Global,
         inner: I,
@@ -132,7 +132,9 @@ impl<I: Input> Reader<I> {
         })
     }
 
-    /// The next event of the text, or that it ended. Events have the value 0.
+    /// The next event of the text, or that it ended. Events have the value 0. The fault of a line is told
+    /// with its number; a failed read and turns that are used up are `Read`, a refused growth is
+    /// `OutOfMemory`, and each call after a fault is answered `Failed`.
     pub fn next(&mut self) -> Result<Option<Event>, TextFault>
         // The event is the next of the text that is still to be judged, or that text has none left.
         ensures ok { IfOk result (Answers self.old.text self.old.left self.new.text self.new.left) }

@@ -40,7 +40,8 @@ fn write_operation<W: Output>(w: &mut W, word: Word, argument: &[u8]) -> Result<
     write_all(w, b")|")
 }
 
-/// Writes the line of an event, whose numbers have names. It takes no memory.
+/// Writes the line of an event, whose numbers have names, or answers `WriteFault` where the writer failed. It
+/// takes no memory.
 pub fn write_event<W: Output>(w: &mut W, event: &Event, names: &Names) -> Result<(), WriteFault>
     requires { HasNames names.now event.now }
     // What is written is the content of the named event, and an LF.
@@ -63,7 +64,7 @@ pub fn write_event<W: Output>(w: &mut W, event: &Event, names: &Names) -> Result
     write_all(w, b"\n")
 }
 
-/// Writes `line N: word`, and an LF.
+/// Writes `line N: word`, and an LF, or answers `WriteFault` where the writer failed.
 pub fn write_fault<W: Output>(w: &mut W, line: u64, word: &str) -> Result<(), WriteFault>
     ensures ok { OnOk result (Appends (W.written w.old) (W.written w.new) (fault_line line word.now)) }
     ensures healthy { OnOk result (W.failed w.new ≡ W.failed w.old) }

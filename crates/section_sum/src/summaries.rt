@@ -75,7 +75,7 @@ impl Summaries {
     }
 
     /// Whether such accesses need no memory. Takes none.
-    pub fn is_ready(&self, held: &[LockId], var: VarId) -> bool
+    pub fn ready(&self, held: &[LockId], var: VarId) -> bool
         ensures { IsTrue result ↔ HasRoom self.now held.now var.0 }
     {
         has_room_held(&self.cells, &self.locks, held, var)

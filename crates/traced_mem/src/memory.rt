@@ -82,7 +82,8 @@ impl Memory {
         }
     }
 
-    /// Makes room for a call that is allowed. Nothing else changes.
+    /// Makes room for a call that is allowed, or answers `OutOfMemory`. Nothing else changes, and each call
+    /// that was ready stays so.
     pub fn prepare(&mut self, call: &Call) -> Result<(), OutOfMemory>
         requires { Allows self.old call.now.thread call.now.op }
         ensures same { meaning self.new ≡ meaning self.old }
@@ -95,7 +96,8 @@ impl Memory {
         self.make_room(call.thread, call.op)
     }
 
-    /// Makes room for both calls of a swap that is allowed. Nothing else changes.
+    /// Makes room for both calls of a swap that is allowed, or answers `OutOfMemory`. Nothing else changes,
+    /// and each call that was ready stays so.
     pub fn prepare_swap(&mut self, thread: ThreadId, var: VarId) -> Result<(), OutOfMemory>
         requires { AllowsSwap self.old thread var }
         ensures same { meaning self.new ≡ meaning self.old }
@@ -125,7 +127,7 @@ impl Memory {
         )
     }
 
-    /// Performs the call, and answers its event's value. It takes no memory.
+    /// Performs a call that is allowed and ready, and answers its event's value. It takes no memory.
     #[inline(always)]
     pub fn apply(&mut self, call: &Call) -> u64
         requires allowed { Allows self.old call.now.thread call.now.op }

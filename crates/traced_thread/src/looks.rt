@@ -10,8 +10,8 @@ use log_pass::Name;
 use std::sync::Wait;
 
 impl<'m, N: Name> TracedThread<'m, N> {
-    /// How many events the handle has then seen: as many as were published, and never fewer than it had seen.
-    /// It takes no lock and no memory, and returns.
+    /// How many events the handle has then seen, never fewer than before. It takes no lock and no memory, and
+    /// returns. No clause tells how new the length is.
     pub fn look(&mut self) -> u64
         ensures later { HasComeTo N.limits self.old self.new }
         ensures same_mine { self.new.mine ≡ self.old.mine }

@@ -31,9 +31,7 @@ ghost use Rattle.wcp_clocks.specs.StandsFor.{StandsFor};
 use crate::effects::step;
 use crate::numbers::{below_clock, below_number, strict_number};
 use crate::parts::Parts;
-use crate::room::{
-    are_both_ready, are_ready, new_parts, prepare_both, prepare_parts, ready_or_grow,
-};
+use crate::room::{are_both_ready, are_ready, make_ready, new_parts, prepare_both, prepare_parts};
 use event_core::{Event, Limits, OutOfMemory, ThreadId, VarId};
 use std::alloc::Global;
 use std::marker::Model;
@@ -97,14 +95,14 @@ impl WcpClocks {
     /// section where that takes no memory. Where there is, an `advance` that comes next does not search again
     /// for the places of an access.
     #[inline(always)]
-    pub fn ready_or_grow(&mut self, event: &Event) -> bool
+    pub fn make_ready(&mut self, event: &Event) -> bool
         ensures ready { IsTrue result ↔ IsReady self.new event.now }
         ensures releases { IsHeldRelease (hb_of self.old) event.now.thread event.now.op → IsTrue result }
         ensures same { SameNumbers self.old self.new }
         ensures kept { KeepsReady self.old self.new }
         ensures limits { SameLimits self.old self.new }
     {
-        ready_or_grow(&mut self.parts, event)
+        make_ready(&mut self.parts, event)
     }
 
     /// Makes room for both events of a swap, a load and then a store of the variable. No number changes,

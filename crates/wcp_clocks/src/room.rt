@@ -125,54 +125,52 @@ fn has_access(parts: &Parts, thread: ThreadId, var: VarId) -> bool
     ensures { IsTrue result ↔ HasRoom parts.now.sums (list_at parts.now.held thread.0).locks var.0 }
 {
     let held = parts.held.of(thread);
-    parts.sums.is_ready(held, var)
+    parts.sums.ready(held, var)
 }
 
 // The same as `are_ready`, once room for an access is made, and room for a section where that takes no
 // memory. The places of an access are kept for the step that comes next.
 #[inline(always)]
-pub(crate) fn ready_or_grow(parts: &mut Parts, event: &Event) -> bool
+pub(crate) fn make_ready(parts: &mut Parts, event: &Event) -> bool
     requires parts { AreParts parts.old }
     ensures ready { IsTrue result ↔ IsReady parts.new event.now }
     ensures releases { IsHeldRelease (hb_of parts.old) event.now.thread event.now.op → IsTrue result }
     ensures grown { HasGrown parts.old parts.new }
 {
-    parts.rows.has_thread(event.thread) && has_named_or_grow(parts, event.thread, event.op)
+    parts.rows.has_thread(event.thread) && make_named_ready(parts, event.thread, event.op)
 }
 
 // Whether there is room for what the operation names, once that for an access is made, and that for a section
 // as far as it takes no memory.
 #[inline(always)]
-fn has_named_or_grow(parts: &mut Parts, thread: ThreadId, op: Op) -> bool
+fn make_named_ready(parts: &mut Parts, thread: ThreadId, op: Op) -> bool
     ensures named { IsTrue result ↔ HasNamed parts.new thread op }
     ensures hb { parts.new.hb ≡ parts.old.hb }
     ensures rows { parts.new.rows ≡ parts.old.rows }
     ensures grown { HasGrown parts.old parts.new }
 {
     match op {
-        Op::Load(var) | Op::Store(var) => has_access_or_grow(parts, thread, var),
-        Op::Acquire(lock) => has_section_or_grow(parts, thread, lock),
+        Op::Load(var) | Op::Store(var) => make_access_ready(parts, thread, var),
+        Op::Acquire(lock) => make_section_ready(parts, thread, lock),
         _ => has_named(parts, thread, op),
     }
 }
 
 // Whether there is room for a section on the lock. Room that takes no memory is made.
-fn has_section_or_grow(parts: &mut Parts, thread: ThreadId, lock: LockId) -> bool
+fn make_section_ready(parts: &mut Parts, thread: ThreadId, lock: LockId) -> bool
     ensures named { IsTrue result ↔ (HasLock parts.new.rows lock.0
         × IsTrue (has_room parts.new.queues thread.0 lock.0) × (0 < room_at parts.new.held thread.0)) }
     ensures hb { parts.new.hb ≡ parts.old.hb }
     ensures rows { parts.new.rows ≡ parts.old.rows }
     ensures grown { HasGrown parts.old parts.new }
 {
-    parts.rows.has_lock(lock)
-        && parts.held.ready(thread)
-        && parts.queues.take_spare_room(thread, lock)
+    parts.rows.has_lock(lock) && parts.held.ready(thread) && parts.queues.make_ready(thread, lock)
 }
 
 // Makes room for the access in each section that is open at it. Answers whether there is room. Its places are
 // kept.
 #[inline(always)]
-fn has_access_or_grow(parts: &mut Parts, thread: ThreadId, var: VarId) -> bool
+fn make_access_ready(parts: &mut Parts, thread: ThreadId, var: VarId) -> bool
     ensures room { IsTrue result ↔ HasRoom parts.new.sums (list_at parts.new.held thread.0).locks var.0 }
     ensures hb { parts.new.hb ≡ parts.old.hb }
     ensures rows { parts.new.rows ≡ parts.old.rows }

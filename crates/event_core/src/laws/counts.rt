@@ -26,17 +26,18 @@ pub fn join_is_union<P: Set, Q: Set>()
     ensures { JoinIsUnion P.has Q.has }
 {}
 
-/// A new event adds one to its own thread.
+/// A new event adds one to its own thread's count of a set that has all of the thread's events, and nothing
+/// to the others'.
 pub fn new_event_adds_one<P: Set>()
     ensures { NewEventAddsOne P.has }
 {}
 
-/// A longer log changes nothing.
+/// A longer log changes no count of a set of the events before.
 pub fn longer_log_keeps_counts<P: Set>()
     ensures { LongerLogKeepsCounts P.has }
 {}
 
-/// Equal sets have equal counts.
+/// Sets with the same events of a thread have the same counts of it.
 pub fn equal_sets_have_equal_counts<P: Set, Q: Set>()
     ensures { EqualSetsHaveEqualCounts P.has Q.has }
 {}
@@ -46,7 +47,7 @@ pub fn hb_of_new_event()
     ensures { HbOfNewEvent }
 {}
 
-/// What strictly precedes a new event, in the sets of the log before it.
+/// In a well-formed log, what strictly precedes a new event, in the sets of the log before it.
 pub fn strict_of_new_event()
     ensures { StrictOfNewEvent }
 {}

@@ -30,23 +30,26 @@ pub fn hb_is_order()
     ensures { HbIsOrder }
 {}
 
-/// Of two sections on one lock, the one's release is below the other's acquire.
+/// In a well-formed log, of two sections on one lock the release of the one that ends first is below the
+/// other's acquire.
 pub fn sections_are_ordered()
     ensures { SectionsAreOrdered }
 {}
 
-/// Of two sections on one lock, the one's release is below the other's.
+/// In a well-formed log, of two sections on one lock the release of the one that ends first is below the
+/// other's release.
 pub fn releases_are_ordered()
     ensures { ReleasesAreOrdered }
 {}
 
-/// A section whose acquire is below the end of another on its lock ends below it. So rule (b) opens no
-/// further premise of itself at the release where it applies.
+/// In a well-formed log, a section whose acquire is below the end of another on its lock ends below it. So
+/// rule (b) opens no further premise of itself at the release where it applies.
 pub fn ends_below()
     ensures { EndsBelow }
 {}
 
-/// What is below an event, but the event itself, is below one of the events just below it.
+/// In a well-formed log, what is below an event, but the event itself, is below one of the events just below
+/// it.
 pub fn below_near()
     ensures { BelowNear }
 {}

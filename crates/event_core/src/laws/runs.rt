@@ -35,7 +35,7 @@ pub fn run_is_unique()
     ensures { RunIsUnique }
 {}
 
-/// The log at the end of a run is well formed.
+/// The log at the end of a run after a well-formed log is well formed.
 pub fn runs_keep_logs_well_formed()
     ensures { RunsKeepLogsWellFormed }
 {}
@@ -50,7 +50,7 @@ pub fn act_run_is_unique()
     ensures { ActRunIsUnique }
 {}
 
-/// The log at the end of a run of acts is well formed.
+/// The log at the end of a run of acts after a well-formed log is well formed.
 pub fn act_runs_keep_logs_well_formed()
     ensures { ActRunsKeepLogsWellFormed }
 {}
@@ -70,12 +70,12 @@ pub fn swap_meets_full_log()
     ensures { SwapMeetsFullLog }
 {}
 
-/// The two events of an accepted swap are legal, one after the other.
+/// The two events of a swap that is accepted after a well-formed log are legal, one after the other.
 pub fn swaps_are_legal()
     ensures { SwapsAreLegal }
 {}
 
-/// The log after an accepted swap is well formed.
+/// The log after a swap that is accepted after a well-formed log is well formed.
 pub fn swaps_keep_logs_well_formed()
     ensures { SwapsKeepLogsWellFormed }
 {}

@@ -43,17 +43,18 @@ pub fn first_are_below()
     ensures { FirstAreBelow }
 {}
 
-/// Rule (b) applies exactly when the earlier acquire strictly precedes the later release.
+/// In a well-formed log, rule (b) applies exactly when the earlier acquire strictly precedes the later
+/// release.
 pub fn premise_of_b()
     ensures { PremiseOfB }
 {}
 
-/// An acquire that strictly precedes an event brings the earlier ones on its lock.
+/// In a well-formed log, an acquire that strictly precedes an event brings the earlier ones on its lock.
 pub fn earlier_sections_too()
     ensures { EarlierSectionsToo }
 {}
 
-/// The recurrence gives exactly the least relation.
+/// In a well-formed log, the recurrence gives exactly the least relation.
 pub fn recurrence_is_least()
     ensures { RecurrenceIsLeast }
 {}

@@ -1,8 +1,8 @@
 use Rattle.std.proofs.Common.{◌≡◌, ◌<◌, ◌≤◌, List, ◌++◌, ℕ, length, take, drop, sym, ap, subst, ◌∙◌, arith}
 use Rattle.std.proofs.Math.Seq.{take-append_seam}
-use Rattle.access_check.specs.Lasts.{AreNarrow}
-use Rattle.access_check.specs.Touched.{kept}
-use Rattle.access_check.specs.Tables.{Tables, touches_at}
+use Rattle.access_check.specs.LastAccesses.{AreNarrow}
+use Rattle.access_check.specs.VariableAccesses.{kept}
+use Rattle.access_check.specs.Tables.{Tables, accesses_at}
 use Rattle.access_check.proofs.accesses.Accesses.record.Goals as goal
 
 written : {A : Type 0} (n : ℕ) (xs ys : List A) → n ≡ length xs → take n (xs ++ ys) ≡ xs
@@ -24,7 +24,7 @@ invariant_of-self c =
     rw (counts, vars) (record {
       few = omega arith;
       narrow = c.note_access.ensures.narrow c.self.inside.limits.threads (omega arith)
-          (λ y k. subst (λ ls. AreNarrow c.self.inside.limits.threads (kept k (touches_at ls y)))
+          (λ y k. subst (λ ls. AreNarrow c.self.inside.limits.threads (kept k (accesses_at ls y)))
           (sym c.deref_mut-2.ensures.value)
           (c.self.invariant.narrow y k));
     })

@@ -1,0 +1,101 @@
+//! The last accesses of one variable: of each thread the last load and the last store, and after a store that
+//! does not race nothing that was before it.
+use crate::last_accesses::{LastAccess, LastAccesses, greater};
+use event_core::{AccessKind, OutOfMemory, ThreadId, Verdict};
+use std::alloc::Global;
+use std::mem::size_of;
+use vector_clocks::JoinedClocks;
+
+// A variable takes so many bytes, and no other memory while it is accessed by one thread alone.
+const _: () = prove!(size_of::<VariableAccesses>() == 80);
+
+/// The last accesses of one variable, its loads and its stores.
+#[derive(Drop)]
+pub struct VariableAccesses {
+    pub(crate) loads: LastAccesses,
+    pub(crate) stores: LastAccesses,
+}
+
+impl VariableAccesses {
+    ghost use Rattle.std.specs.Prelude.{◌≡◌, length, IsTrue, OnOk};
+    ghost use Rattle.event_core.specs.declared.ids.ThreadId.{ThreadId as Thread};
+    ghost use Rattle.event_core.specs.declared.events.AccessKind.{AccessKind as Kind};
+    ghost use Rattle.vector_clocks.specs.Counts.{counts_of};
+    ghost use Rattle.access_check.specs.LastAccesses.{has_room, AreNarrow, IsShort};
+    ghost use Rattle.access_check.specs.VariableAccesses.{no_accesses, of_kind, kept, latest_racing};
+    ghost use Rattle.access_check.specs.VariableAccesses.{kept_after};
+
+    /// No thread has accessed the variable.
+    pub fn new(alloc: Global) -> VariableAccesses
+        ensures { result ≡ no_accesses }
+    {
+        VariableAccesses {
+            loads: LastAccesses::new(alloc),
+            stores: LastAccesses::new(alloc),
+        }
+    }
+
+    /// Makes room for an access of that kind by the thread.
+    pub fn make_room(&mut self, thread: ThreadId, kind: AccessKind) -> Result<(), OutOfMemory>
+        ensures same { (k : Kind) → kept k self.new ≡ kept k self.old }
+        ensures more { (t : Thread) (k : Kind) → IsTrue (has_room t (of_kind k self.old))
+            → IsTrue (has_room t (of_kind k self.new)) }
+        ensures room { OnOk result (IsTrue (has_room thread (of_kind kind self.new))) }
+    {
+        match kind {
+            AccessKind::Read => self.loads.make_room(thread),
+            AccessKind::Write => self.stores.make_room(thread),
+        }
+    }
+
+    /// Whether there is room for an access of that kind by the thread.
+    #[inline(always)]
+    pub fn ready(&self, thread: ThreadId, kind: AccessKind) -> bool
+        ensures { result ≡ has_room thread (of_kind kind self.now) }
+    {
+        match kind {
+            AccessKind::Read => self.loads.ready(thread),
+            AccessKind::Write => self.stores.ready(thread),
+        }
+    }
+
+    /// The access of that kind is its thread's last one. Where it is a store that does not race, all earlier
+    /// accesses are ordered before it, and are forgotten. No room is taken but that of its kind.
+    #[inline(always)]
+    pub fn note(&mut self, kind: AccessKind, last: LastAccess, verdict: Verdict)
+        requires short { IsShort last }
+        requires room { IsTrue (has_room last.thread (of_kind kind self.old)) }
+        ensures accesses { (k : Kind) → kept k self.new ≡ kept_after verdict kind last k self.old }
+        ensures room { (k : Kind) → IsTrue (has_room last.thread (of_kind k self.old))
+            → IsTrue (has_room last.thread (of_kind k self.new)) }
+    {
+        match (kind, verdict) {
+            (AccessKind::Read, _) => self.loads.note(last),
+            (AccessKind::Write, Verdict::Racy(_)) => self.stores.note(last),
+            (AccessKind::Write, Verdict::Clear) => {
+                self.loads.clear();
+                self.stores.clear();
+                self.stores.note(last);
+            }
+        }
+    }
+
+    /// The greatest index of an access that races with one of that kind by the thread.
+    #[inline(always)]
+    pub fn latest_racing(
+        &self,
+        thread: ThreadId,
+        kind: AccessKind,
+        clock: &JoinedClocks,
+    ) -> Option<u64>
+        requires loads { AreNarrow (length clock.now) (kept AccessKind.Read self.now) }
+        requires stores { AreNarrow (length clock.now) (kept AccessKind.Write self.now) }
+        ensures { result ≡ latest_racing thread kind (counts_of clock.now) self.now }
+    {
+        let stores = self.stores.latest_racing(thread, clock);
+        match kind {
+            AccessKind::Read => stores,
+            AccessKind::Write => greater(self.loads.latest_racing(thread, clock), stores),
+        }
+    }
+}

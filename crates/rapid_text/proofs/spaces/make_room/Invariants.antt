@@ -1,5 +1,0 @@
-use Rattle.rapid_text.specs.Notes.{AreRight}
-use Rattle.rapid_text.proofs.spaces.make_room.Given as goal
-
-abbrev pub invariant-loop-number : goal.invariant-loop-number
-invariant-loop-number l = AreRight l.names l.notes

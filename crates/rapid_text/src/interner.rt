@@ -1,0 +1,116 @@
+//! The names of one kind, numbered from 0 in the order of their first appearance.
+ghost use Rattle.std.specs.Prelude.{◌≡◌, ◌+◌, ◌<◌, ◌≤◌, ◌^◌, [], length, slice_get, Some, None, IfOk, IfSome};
+ghost use Rattle.std.specs.Prelude.{OnErr};
+ghost use Rattle.std.specs.Result.{IsErrOf};
+ghost use Rattle.rapid_text.specs.NumberCache.{AreRight};
+ghost use Rattle.rapid_text.specs.Numbers.{Numbered, number_of, place_of};
+
+use crate::causes::NameFault;
+use crate::number_cache::NumberCache;
+use crate::stored_names::{SoughtName, StoredName};
+use indexmap::IndexSet;
+use std::alloc::{AllocError, Global};
+use std::marker::Model;
+
+/// Makes room for the note of one name more, and cache again what was noted where new places forget it.
+fn make_room(cache: &mut NumberCache, alloc: Global, names: &[StoredName]) -> Result<(), AllocError>
+    requires right { AreRight names.now cache.old }
+    requires few { length names.now + 1 < 2 ^ 32 }
+    ensures { AreRight names.now cache.new }
+{
+    let count = names.len();
+    if cache.have_room(count + 1) {
+        return Ok(());
+    }
+    cache.make_room(alloc, count as u32 + 1)?;
+    for number in 0..count {
+        cache.note(names[number].as_slice(), number as u32);
+    }
+    Ok(())
+}
+
+/// The names of one kind, each with its number.
+#[derive(Drop)]
+pub struct Interner {
+    names: IndexSet<StoredName>,
+    cache: NumberCache,
+    alloc: Global,
+    limit: u32,
+}
+
+impl Model for Interner {
+    ghost Value = { Numbered };
+
+    ghost view = { λ s. record { limit = s.limit; names = s.names.keys } };
+
+    ghost invariant = { λ s. (length s.names.keys ≤ s.limit) × AreRight s.names.keys s.cache };
+}
+
+impl Interner {
+    pub fn new(alloc: Global, limit: u32) -> Interner
+        ensures { result ≡ record { limit = limit; names = [] } }
+    {
+        Interner {
+            names: IndexSet::new(alloc),
+            cache: NumberCache::new(alloc),
+            alloc,
+            limit,
+        }
+    }
+
+    /// How many names there are.
+    pub fn count(&self) -> u32
+        ensures is { result ≡ length self.now.names }
+        ensures within { result ≤ self.now.limit }
+    {
+        let _most = self.limit;
+        self.names.len() as u32
+    }
+
+    /// The number of the name, where the cache holds it.
+    #[inline(always)]
+    pub fn find(&self, name: &[u8]) -> Option<u32>
+        ensures { IfSome result (λ i. number_of self.now name.now ≡ Some (i, self.now)) }
+    {
+        let _unique = self.names.as_slice();
+        self.cache.find(name)
+    }
+
+    /// The number of the name, which is a new one where the name is.
+    pub fn number(&mut self, name: &[u8]) -> Result<u32, NameFault>
+        ensures ok { IfOk result (λ i. number_of self.old name.now ≡ Some (i, self.new)) }
+        ensures too_many { IsErrOf result NameFault.TooMany → number_of self.old name.now ≡ None }
+        ensures err { OnErr result (self.new ≡ self.old) }
+        ensures room { IsErrOf result NameFault.OutOfMemory → length self.old.names < self.old.limit }
+        ensures new_only { OnErr result (place_of self.old name.now ≡ None) }
+    {
+        if let Some(i) = self.names.get_index_of(SoughtName { bytes: name }) {
+            self.cache.note(name, i as u32);
+            return Ok(i as u32);
+        }
+        let count = self.names.len();
+        if count >= self.limit as usize {
+            return Err(NameFault::TooMany);
+        }
+        if make_room(&mut self.cache, self.alloc, self.names.as_slice()).is_err() {
+            return Err(NameFault::OutOfMemory);
+        }
+        let Ok(stored) = StoredName::new(self.alloc, name) else {
+            return Err(NameFault::OutOfMemory);
+        };
+        let Ok(_) = self.names.insert(stored) else {
+            return Err(NameFault::OutOfMemory);
+        };
+        self.cache.note(name, count as u32);
+        Ok(count as u32)
+    }
+
+    /// The name of a number.
+    pub fn name(&self, number: u32) -> &[u8]
+        requires { number < length self.now.names }
+        ensures { slice_get self.entry.now.names number ≡ Some result.now }
+    {
+        let stored: &StoredName = &self.names[number as usize];
+        stored.as_slice()
+    }
+}
