@@ -192,7 +192,7 @@ fn drive_in<N: Name + Send + Sync, S: Text + Send, G: Gate + Sync, R: Threads + 
     }
     let Ok((links, workers)) = all_workers::<N, S>(alloc, script) else {
         drop(pass);
-        shared.discard();
+        drop(shared);
         return Err(DriveFault::OutOfMemory);
     };
     match run_all(
@@ -200,7 +200,7 @@ fn drive_in<N: Name + Send + Sync, S: Text + Send, G: Gate + Sync, R: Threads + 
     ) {
         Ok(last) => Ok(shared.close(last)),
         Err(fault) => {
-            shared.discard();
+            drop(shared);
             Err(fault)
         }
     }

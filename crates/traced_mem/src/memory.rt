@@ -21,7 +21,6 @@ use std::alloc::Global;
 use std::marker::Model;
 
 /// The state of a traced program: its threads, locks and variables, and how full its log is.
-#[derive(Drop)]
 pub struct Memory {
     alloc: Global,
     limits: Limits,
@@ -34,6 +33,21 @@ pub struct Memory {
     threads: Vec<ThreadRow>,
     locks: Vec<LockRow>,
     cells: Vec<u64>,
+}
+
+// By hand, so that a crate that drops one does not prove the drop of each type within again.
+impl Drop for Memory {
+    fn drop(self) {
+        let Memory {
+            alloc: _,
+            limits: _,
+            length: _,
+            holds: _,
+            threads: _,
+            locks: _,
+            cells: _,
+        } = self;
+    }
 }
 
 impl Model for Memory {
