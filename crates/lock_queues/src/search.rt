@@ -4,6 +4,7 @@ ghost use Rattle.lock_queues.specs.Queue.{first_of};
 ghost use Rattle.lock_queues.specs.Sections.{entry_at, Counts};
 
 use crate::sections::Entry;
+use std::mem::replace;
 use vector_clocks::{Clock, Mark, Work};
 
 // How many of the sections the clock counts one after another from the first, of which so many are known
@@ -22,13 +23,16 @@ fn search(entries: &[Entry], known: usize, clock: &Clock, work: &mut Work) -> us
     ensures most { work.new.comparisons + known ≤ work.old.comparisons + result + 1 }
     ensures least { work.old.comparisons + result ≤ work.new.comparisons + known }
 {
+    // The count stands beside the loop, so that no comparison writes to memory.
+    let mut done = replace(work, Work::new());
     let mut more = known;
     'searching: while more < entries.len() {
-        if !entries[more].acquire.counted(clock, work) {
+        if !entries[more].acquire.counted(clock, &mut done) {
             break;
         }
         more += 1;
     }
+    *work = done;
     more
 }
 

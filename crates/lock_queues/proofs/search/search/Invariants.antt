@@ -7,8 +7,8 @@ invariant-searching l = record {
   counted : (k : ℕ) → k < l.more → Counts l.clock (entry_at l.entries k).acquire;
   within : l.more ≤ length l.entries;
   from : l.fn.known ≤ l.more;
-  joins : l.work.joins ≡ l.fn.work.joins;
-  comparisons : l.work.comparisons + l.fn.known ≡ l.fn.work.comparisons + l.more;
+  joins : l.done.joins ≡ l.fn.work.joins;
+  comparisons : l.done.comparisons + l.fn.known ≡ l.fn.work.comparisons + l.more;
 }
 
 abbrev pub decreases-searching : goal.decreases-searching
