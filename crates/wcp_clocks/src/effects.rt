@@ -52,6 +52,10 @@ fn acquire(parts: &mut Parts, event: &Event, lock: LockId)
     requires fits { Fits event.now parts.old }
     ensures { IsStep event.now parts.old parts.new }
 {
+    let event = &Event {
+        op: Op::Acquire(lock),
+        ..*event
+    };
     if parts.hb.depth(event.thread, lock) == 0 {
         open(parts, event, lock);
     } else {
@@ -67,6 +71,10 @@ fn release(parts: &mut Parts, event: &Event, lock: LockId)
     requires fits { Fits event.now parts.old }
     ensures { IsStep event.now parts.old parts.new }
 {
+    let event = &Event {
+        op: Op::Release(lock),
+        ..*event
+    };
     if parts.hb.depth(event.thread, lock) == 1 {
         close(parts, event, lock);
     } else {
