@@ -113,7 +113,7 @@ impl ReleaseClocks {
         let start = self.numbers.len();
         push_before(&mut self.numbers, counts, by);
         ReleasePlace {
-            own: number_before(counts, by, by.0 as usize),
+            own: number_before(counts, by),
             width: counts.len() as u32,
             start,
         }
