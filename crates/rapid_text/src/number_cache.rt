@@ -101,42 +101,36 @@ pub struct Words {
 }
 
 impl Words {
+    // The words of the name, and one word of both. The factor is odd, so that no bit of the last is lost. A
+    // name of up to eight bytes needs no product.
     #[inline(always)]
-    fn of(name: &[u8]) -> Words
+    fn of(name: &[u8]) -> (Words, u64)
         requires { 0 < length name.now }
-        ensures { Tell result name.now }
+        ensures { Tell result.0 name.now }
     {
         if name.len() <= WORD {
-            return Words {
-                first: ends_word(name),
-                last: 0,
-            };
+            let first = ends_word(name);
+            return (Words { first, last: 0 }, first);
         }
-        Words {
-            first: first_word(name),
-            last: last_word(name),
-        }
+        let first = first_word(name);
+        let last = last_word(name);
+        let mixed = first ^ last.wrapping_mul(0xd6e8_feb8_6659_fd93);
+        (Words { first, last }, mixed)
     }
+}
 
-    // One word of both. The factor is odd, so that no bit of the last is lost.
-    #[inline(always)]
-    fn mixed(self) -> u64 {
-        self.first ^ self.last.wrapping_mul(0xd6e8_feb8_6659_fd93)
-    }
-
-    // Their place among so many, which are a power of two.
-    #[inline(always)]
-    fn place(self, places: usize) -> usize
-        requires { 0 < places }
-        ensures { result < places }
-    {
-        // The factor has the bits of the golden ratio. Both halves of the product together depend on all of
-        // the word, also where its bytes are few digits.
-        let product = self.mixed() as u128 * 0x9e37_79b9_7f4a_7c15;
-        let high = (product >> 64) as usize;
-        let low = (product & 0xffff_ffff_ffff_ffff) as usize;
-        (high ^ low) & (places - 1)
-    }
+// The place of the one word of a name among so many, which are a power of two.
+#[inline(always)]
+fn place_of(mixed: u64, places: usize) -> usize
+    requires { 0 < places }
+    ensures { result < places }
+{
+    // The factor has the bits of the golden ratio. Both halves of the product together depend on all of the
+    // word, also where its bytes are few digits.
+    let product = mixed as u128 * 0x9e37_79b9_7f4a_7c15;
+    let high = (product >> 64) as usize;
+    let low = (product & 0xffff_ffff_ffff_ffff) as usize;
+    (high ^ low) & (places - 1)
 }
 
 /// A place beside another, or that itself for step 0, among so many, which are a power of two.
@@ -180,12 +174,12 @@ impl Note {
 }
 
 /// Where a note with the words goes: to the first empty one of their places, or else to the first.
-fn place_to_note(notes: &[Note], words: Words) -> usize
+fn place_to_note(notes: &[Note], mixed: u64) -> usize
     requires { 0 < length notes.now }
     ensures { result < length notes.now }
 {
     let places = notes.len();
-    let place = words.place(places);
+    let place = place_of(mixed, places);
     for step in 0..STEPS {
         let other = beside(place, step, places);
         if notes[other].length == 0 {
@@ -226,8 +220,8 @@ impl NumberCache {
         if places == 0 || !is_short(name) {
             return None;
         }
-        let words = Words::of(name);
-        let place = words.place(places);
+        let (words, mixed) = Words::of(name);
+        let place = place_of(mixed, places);
         for step in 0..STEPS {
             let note = &self.list[beside(place, step, places)];
             if note.is_of(words, name.len()) {
@@ -249,8 +243,8 @@ impl NumberCache {
         if self.list.is_empty() || !is_short(name) {
             return;
         }
-        let words = Words::of(name);
-        let place = place_to_note(&self.list, words);
+        let (words, mixed) = Words::of(name);
+        let place = place_to_note(&self.list, mixed);
         self.list[place] = Note {
             words,
             number,
