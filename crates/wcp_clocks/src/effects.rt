@@ -52,6 +52,7 @@ fn acquire(parts: &mut Parts, event: &Event, lock: LockId)
     requires fits { Fits event.now parts.old }
     ensures { IsStep event.now parts.old parts.new }
 {
+    // The same event; so the compiler knows its operation in what follows.
     let event = &Event {
         op: Op::Acquire(lock),
         ..*event
@@ -71,6 +72,7 @@ fn release(parts: &mut Parts, event: &Event, lock: LockId)
     requires fits { Fits event.now parts.old }
     ensures { IsStep event.now parts.old parts.new }
 {
+    // The same event; so the compiler knows its operation in what follows.
     let event = &Event {
         op: Op::Release(lock),
         ..*event
