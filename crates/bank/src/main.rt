@@ -110,10 +110,8 @@ fn main(rt: HostRuntime) -> anyhow::Result<ExitCode> {
     let names = names_of(rt.alloc(), limits, &NAMES)?;
     let unnamed = Unnamed::new(rt.alloc(), limits)?;
     let (closed, money) = run::<Brand, _>(&rt, unnamed);
-    let reported = report_closed(&mut Device::new(rt.stderr()), &closed, &names);
-    drop(closed);
-    drop(names);
-    let (money, summary) = (money?, reported?);
+    let summary = report_closed(&mut Device::new(rt.stderr()), &closed, &names)?;
+    let money = money?;
     let found = if summary.races > 0 { "yes" } else { "no" };
     println!(rt; "all money: {money}\na race was found: {found}")?;
     Ok(ExitCode::from(u8::from(summary.races > 0)))
