@@ -123,7 +123,7 @@ fn unnamed<R: Abort>(rt: &R, alloc: Global, events: u64) -> Unnamed {
 }
 
 #[test]
-fn a_handle_serves_after_a_thousand_refusals_and_a_dropped_one_keeps_its_lock(rt: HostRuntime) {
+fn a_refused_handle_serves_and_a_dropped_one_keeps_its_lock(rt: HostRuntime) {
     let closed = refuse::<Brand, _>(&rt, unnamed(&rt, rt.alloc(), 16));
     assert!(rt; closed.len() == 7);
     drop(closed);

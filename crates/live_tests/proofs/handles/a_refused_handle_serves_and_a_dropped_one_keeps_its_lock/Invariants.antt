@@ -1,4 +1,4 @@
-use Rattle.live_tests.proofs.handles.a_handle_serves_after_a_thousand_refusals_and_a_dropped_one_keeps_its_lock.Given as goal
+use Rattle.live_tests.proofs.handles.a_refused_handle_serves_and_a_dropped_one_keeps_its_lock.Given as goal
 
 -- the monitor that was just made
 abbrev pub ghosts-refuse : goal.ghosts-refuse
