@@ -1,8 +1,9 @@
 -- What a script that was not read to its end, or a refused call of it, tells of the whole run.
-use Rattle.std.proofs.Common.{◌≡◌, ℕ, List, Option, Bool, true, subst, ap, sym, inl, inr, ◌⊎◌, ◌≤◌, length}
-use Rattle.std.specs.Prelude.{IfSome}
+use Rattle.std.proofs.Common.{◌≡◌, ℕ, List, Option, Bool, true, subst, ap, sym, refl, inl, inr, ◌⊎◌, ◌≤◌}
+use Rattle.std.proofs.Common.{length}
+use Rattle.std.specs.Prelude.{IfSome, codes}
 use Rattle.std.specs.Io.KnownBytes.{Appends, Consumes}
-use Rattle.std.proofs.Math.Logic.{∥∥₁_map}
+use Rattle.std.proofs.Math.Logic.{∥∥₁_elim, ∥∥₁_map, ∥∥₁_prop}
 use Rattle.event_core.specs.declared.bounds.Limits.{Limits}
 use Rattle.rapid_text.specs.Faults.{fault_line}
 use Rattle.script_drive.specs.Faults.{IsFaultOf}
@@ -10,12 +11,14 @@ use Rattle.script_drive.specs.declared.faults.DriveFault.{DriveFault}
 use Rattle.script_drive.specs.declared.faults.DriveFault.TheVariants as drive
 use Rattle.script_text.specs.declared.causes.ScriptCause.{ScriptCause}
 use Rattle.script_text.specs.declared.causes.ScriptCause.TheVariants.{Read}
+use Rattle.script_text.specs.declared.causes.ScriptCause.TheVariants as causes
 use Rattle.script_text.specs.declared.causes.ScriptFault.{ScriptFault}
 use Rattle.script_text.specs.declared.lines.ScriptLine.{ScriptLine}
+use Rattle.script_text.specs.Faults.{cause_word}
 use Rattle.script_text.specs.Readings.{IsFault}
 use Rattle.trace_report.proofs.Whole.{many_bytes}
 use Rattle.trace_report.specs.Words.{refusal_word}
-use Rattle.wcp_tool.specs.ScriptRuns.{TellsRefusal, TellsRefused}
+use Rattle.wcp_tool.specs.ScriptRuns.{FaultsText, IsOfText, NamesStop, TellsRefusal, TellsRefused, TellsStop}
 
 -- a read failed, or there were as many bytes as turns
 why_short : (left rest : Option (List ℕ)) (turns : ℕ) (failed : Bool) (came : List ℕ)
@@ -46,3 +49,47 @@ refusal_told m lines (drive.Refused t n why) old new fits told =
       refused = p.1.2.2;
       written = subst (λ (k : ℕ). Appends old new (fault_line k (refusal_word why))) (sym p.1.2.1) told;
     })
+
+-- a fault that is no read fault and no want of memory is one of the text
+of_text : (m : Limits) (left rest : Option (List ℕ)) (turns : ℕ) (failed : Bool) (f : ScriptFault)
+    (cause : ScriptCause) → ((cause ≡ causes.Read) ⊎ (cause ≡ causes.OutOfMemory) → ⊥)
+    → IsFault m left rest turns failed f cause → IsOfText m left f cause
+of_text m left rest turns failed f causes.LineTooLong other is = is
+of_text m left rest turns failed f causes.BadLine other is = is
+of_text m left rest turns failed f causes.BadNumber other is = is
+of_text m left rest turns failed f causes.TooManyNames other is = is
+of_text m left rest turns failed f causes.BadFork other is = is
+of_text m left rest turns failed f causes.BadJoin other is = is
+of_text m left rest turns failed f causes.NoFork other is = is
+of_text m left rest turns failed f causes.Read other is = other (inl refl)
+of_text m left rest turns failed f causes.OutOfMemory other is = other (inr refl)
+
+-- the fault that is told is one of the text
+pub fault_told : (m : Limits) (left rest : Option (List ℕ)) (turns : ℕ) (failed : Bool) (f : ScriptFault)
+    (old new : Option (List ℕ)) → ((f.cause ≡ causes.Read) ⊎ (f.cause ≡ causes.OutOfMemory) → ⊥)
+    → IsFault m left rest turns failed f f.cause → Appends old new (fault_line f.line (cause_word f.cause))
+    → FaultsText m left old new
+fault_told m left rest turns failed f old new other is told = record {
+  fault = f;
+  is_of = of_text m left rest turns failed f f.cause other is;
+  written = told;
+}
+
+-- the stop that is told is one of the script
+pub stop_told : (m : Limits) (lines : List ScriptLine) (f : DriveFault) (old new : Option (List ℕ))
+    → IsFaultOf m lines f → TellsStop f old new → ∥ NamesStop lines old new ∥₁
+stop_told m lines drive.OutOfMemory old new fits told = absurd told
+stop_told m lines (drive.Refused t n why) old new fits told = absurd told
+stop_told m lines (drive.Stuck t n) old new fits told =
+    ∥∥₁_map fits (λ p. record {
+      line = p.0;
+      one = p.1;
+      written = inl (subst (λ (k : ℕ). Appends old new (fault_line k (codes "Stuck"))) (sym p.2.1) told);
+    })
+stop_told m lines (drive.NoWorker n) old new fits told =
+    ∥∥₁_elim fits ∥∥₁_prop (λ forks. ∥∥₁_map forks (λ p. record {
+      line = p.0;
+      one = p.1;
+      written = inr (p.2.1,
+          subst (λ (k : ℕ). Appends old new (fault_line k (codes "NoWorker"))) (sym p.2.0) told);
+    }))

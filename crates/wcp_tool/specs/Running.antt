@@ -21,7 +21,7 @@ use Rattle.wcp_tool.specs.declared.endings.Ending.{Ending}
 use Rattle.wcp_tool.specs.declared.endings.Ending.TheVariants.{Done, WrongUsage, WriteFault, OutOfMemory}
 use Rattle.wcp_tool.specs.CommandLine.{Request, asked, check, faults_of, is_answer, is_mistake, replay, run}
 use Rattle.wcp_tool.specs.Endings.{check_ending, replay_ending, status_of}
-use Rattle.wcp_tool.specs.ScriptRuns.{ReportsLog, RunsText, RefusesText}
+use Rattle.wcp_tool.specs.ScriptRuns.{BreaksText, ReportsLog, RunsText, RefusesText}
 
 -- ---- a run of a command
 
@@ -60,12 +60,13 @@ pub record Reports (m : Limits) (old new : Option (List ℕ)) (status : ℕ) : T
   pub reports : ReportsLog names log old new status
 
 -- what a run of a script's threads writes: a report, or the one line that tells which of its calls is refused
--- and why
+-- and why, or why it came to no report
 pub record PerformsRun (m : Limits) (old new : Option (List ℕ)) (status : ℕ) : Type 0 where
   pub reports : (status ≡ 0) ⊎ (status ≡ 1) → Reports m old new status
   -- it is of some script and of what its threads did: what the file held is not known
   pub ran : (status ≡ 0) ⊎ (status ≡ 1) → RunsText m None old new status
   pub refused : status ≡ 3 → RefusesText m None old new
+  pub broken : status ≡ 6 → BreaksText m None old new
 
 -- what is done for a request with so many threads, where the reader had this text left
 abbrev pub Performs : Request → ℕ → Option (List ℕ) → Option (List ℕ) → Option (List ℕ) → ℕ → Type 0

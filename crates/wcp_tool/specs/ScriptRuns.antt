@@ -1,5 +1,5 @@
 -- What a run of a script writes, and the status that it ends with.
-use Rattle.std.specs.Prelude.{◌≡◌, ◌⊎◌, ℕ, List, Option, Ok, true, IfSome}
+use Rattle.std.specs.Prelude.{◌≡◌, ◌⊎◌, ℕ, List, Option, Ok, true, IfSome, IsSome, codes}
 use Rattle.std.specs.Io.KnownBytes.{Appends}
 use Rattle.std.specs.List.{Contains, list_any}
 use Rattle.event_core.specs.declared.bounds.Limits.{Limits}
@@ -14,11 +14,14 @@ use Rattle.rapid_text.specs.Tables.{Tables}
 use Rattle.script_drive.specs.Faults.{Refuses, is_told}
 use Rattle.script_drive.specs.Lines.{Follows, lines_by}
 use Rattle.script_drive.specs.declared.faults.DriveFault.{DriveFault}
-use Rattle.script_drive.specs.declared.faults.DriveFault.TheVariants.{Refused}
+use Rattle.script_drive.specs.declared.faults.DriveFault.TheVariants.{NoWorker, Refused, Stuck}
+use Rattle.script_text.specs.declared.causes.ScriptCause.{ScriptCause}
+use Rattle.script_text.specs.declared.causes.ScriptCause.TheVariants as causes
 use Rattle.script_text.specs.declared.causes.ScriptFault.{ScriptFault}
 use Rattle.script_text.specs.declared.lines.ScriptLine.{ScriptLine}
 use Rattle.script_text.specs.Faults.{cause_word}
-use Rattle.script_text.specs.Lines.{joins}
+use Rattle.script_text.specs.Lines.{fork_of, joins}
+use Rattle.script_text.specs.Readings.{HasFault, LacksFork}
 use Rattle.script_text.specs.Scripts.{IsScript, Parsed, script_of}
 use Rattle.seq_monitor.specs.Monitored.{AreVerdicts}
 use Rattle.trace_report.specs.Reports.{AreNamed, report_of, summary_of}
@@ -38,14 +41,18 @@ pub record ReportsLog (names : Tables) (log : List Event) (old new : Option (Lis
 abbrev pub first_thread : ThreadId
 first_thread = record { 0 = 0 }
 
--- the threads of the script were run, and the well-formed log of what they did was reported. Its events of
--- the first thread, and of each thread that this one joins, are those of that thread's lines in order.
-pub record Ran (m : Limits) (script : Parsed) (old new : Option (List ℕ)) (status : ℕ) : Type 0 where
-  pub log : List Event
+-- the threads of the script were run, and this is the well-formed log of what they did. Its events of the
+-- first thread, and of each thread that this one joins, are those of that thread's lines in order.
+pub record IsRun (m : Limits) (script : Parsed) (log : List Event) : Type 0 where
   pub well_formed : WellFormed m log
   pub first : Follows (own_events first_thread log) (lines_by first_thread script.lines)
   pub joined : (u : ThreadId) → list_any (joins u.0) (lines_by first_thread script.lines) ≡ true
       → Follows (own_events u log) (lines_by u script.lines)
+
+-- the threads of the script were run, and the log of what they did was reported
+pub record Ran (m : Limits) (script : Parsed) (old new : Option (List ℕ)) (status : ℕ) : Type 0 where
+  pub log : List Event
+  pub is : IsRun m script log
   pub reports : ReportsLog script.names log old new status
 
 -- the text that the reader had left is a script, and its threads were run
@@ -87,3 +94,53 @@ pub record RefusesText (m : Limits) (left old new : Option (List ℕ)) : Type 0 
 abbrev pub TellsRefused : DriveFault → Option (List ℕ) → Option (List ℕ) → Type 0
 TellsRefused (Refused t n why) old new = Appends old new (fault_line n (refusal_word why))
 TellsRefused _ old new = ⊥
+
+-- ---- a run with status 6
+
+-- the fault is one of the text that the reader had left: the first of its lines, or a thread to which no
+-- forks lead
+abbrev pub IsOfText : Limits → Option (List ℕ) → ScriptFault → ScriptCause → Type 0
+IsOfText m left f causes.Read = ⊥
+IsOfText m left f causes.OutOfMemory = ⊥
+IsOfText m left f causes.NoFork = LacksFork m left f.line
+IsOfText m left f cause = HasFault m left f
+
+-- the text that the reader had left is no script, and one line tells its fault
+pub record FaultsText (m : Limits) (left old new : Option (List ℕ)) : Type 0 where
+  pub fault : ScriptFault
+  pub is_of : IsOfText m left fault fault.cause
+  pub written : Appends old new (fault_line fault.line (cause_word fault.cause))
+
+-- the fault is that a line is stuck, or that no worker could be started, and one line was written, which
+-- tells its line and its word
+abbrev pub TellsStop : DriveFault → Option (List ℕ) → Option (List ℕ) → Type 0
+TellsStop (Stuck t n) old new = Appends old new (fault_line n (codes "Stuck"))
+TellsStop (NoWorker n) old new = Appends old new (fault_line n (codes "NoWorker"))
+TellsStop _ old new = ⊥
+
+-- one line was written, which names a line of the script that is stuck, or that forks a thread for which no
+-- worker could be started
+pub record NamesStop (lines : List ScriptLine) (old new : Option (List ℕ)) : Type 0 where
+  pub line : ScriptLine
+  pub one : Contains lines line
+  pub written : Appends old new (fault_line line.line (codes "Stuck"))
+      ⊎ (IsSome (fork_of line) × Appends old new (fault_line line.line (codes "NoWorker")))
+
+-- the threads of the script were run, but the log has a number to which the script gives no name, and nothing
+-- was written
+pub record LacksNames (m : Limits) (script : Parsed) (old new : Option (List ℕ)) : Type 0 where
+  pub log : List Event
+  pub is : IsRun m script log
+  pub unnamed : AreNamed script.names log → ⊥
+  pub quiet : new ≡ old
+
+-- the text that the reader had left is a script, and its run did not come to a report
+pub record StopsText (m : Limits) (left old new : Option (List ℕ)) : Type 0 where
+  pub script : Parsed
+  pub is_of : IfSome left (λ text. script_of m text ≡ Ok script)
+  pub is : IsScript script
+  pub why : ∥ NamesStop script.lines old new ∥₁ ⊎ LacksNames m script old new
+
+-- why a run ends with status 6
+abbrev pub BreaksText : Limits → Option (List ℕ) → Option (List ℕ) → Option (List ℕ) → Type 0
+BreaksText m left old new = FaultsText m left old new ⊎ StopsText m left old new

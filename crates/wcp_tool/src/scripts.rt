@@ -3,11 +3,13 @@ ghost use Rattle.std.specs.Prelude.{◌≡◌, ◌≢◌, ◌⊎◌, ◌≤◌, 
 ghost use Rattle.std.specs.Io.KnownBytes.{Appends};
 ghost use Rattle.rapid_text.specs.Faults.{fault_line};
 ghost use Rattle.script_text.specs.declared.causes.ScriptFault.{ScriptFault as Why};
+ghost use Rattle.script_text.specs.Faults.{cause_word};
 ghost use Rattle.script_text.specs.Scripts.{script_of};
 ghost use Rattle.wcp_tool.specs.Endings.{status_of};
 ghost use Rattle.wcp_tool.specs.Running.{IsCutShort, PerformsRun, Reports, limits_with};
-ghost use Rattle.wcp_tool.specs.ScriptRuns.{Ran, RefusesText, ReportsLog, RunsText, TellsFault};
-ghost use Rattle.wcp_tool.specs.ScriptRuns.{TellsRefusal, TellsRefused};
+ghost use Rattle.trace_report.specs.Reports.{AreNamed};
+ghost use Rattle.wcp_tool.specs.ScriptRuns.{BreaksText, LacksNames, NamesStop, Ran, RefusesText, ReportsLog};
+ghost use Rattle.wcp_tool.specs.ScriptRuns.{RunsText, TellsFault, TellsRefusal, TellsRefused, TellsStop};
 ghost use Rattle.event_core.specs.declared.bounds.Roots.TheVariants.{OnlyMain};
 
 use crate::bounds::{TURNS, limits_of};
@@ -49,6 +51,10 @@ fn explain_script<O: Output>(writer: &mut O, fault: &ScriptFault) -> Ending
         → (status_of result ≡ 4) ⊎ (status_of result ≡ 5) }
     ensures cut { result ≡ Ending.ReadFault → fault.now.cause ≡ ScriptCause.Read }
     ensures refused { result ≢ Ending.Refused }
+    ensures broken { result ≡ Ending.BrokenScript
+        → ((fault.now.cause ≡ ScriptCause.Read) ⊎ (fault.now.cause ≡ ScriptCause.OutOfMemory) → ⊥)
+        × Appends (O.written writer.old) (O.written writer.new)
+        (fault_line fault.now.line (cause_word fault.now.cause)) }
     ensures ran { (result ≢ Ending.Done) × (result ≢ Ending.Races) }
     ensures usage { result ≢ Ending.WrongUsage }
     ensures quiet { (result ≡ Ending.ReadFault) ⊎ (result ≡ Ending.OutOfMemory) → writer.new ≡ writer.old }
@@ -67,6 +73,8 @@ fn explain_drive<O: Output>(writer: &mut O, fault: &DriveFault) -> Ending
     requires writes { O.failed writer.old ≡ false }
     ensures refused { result ≡ Ending.Refused
         → TellsRefused fault.now (O.written writer.old) (O.written writer.new) }
+    ensures broken { result ≡ Ending.BrokenScript
+        → TellsStop fault.now (O.written writer.old) (O.written writer.new) }
     ensures ran { (result ≢ Ending.Done) × (result ≢ Ending.Races) }
     ensures usage { result ≢ Ending.WrongUsage }
     ensures whole { result ≢ Ending.ReadFault }
@@ -91,6 +99,8 @@ fn report_closed<O: Output>(writer: &mut O, closed: &Closed, names: &Names) -> E
         (O.written writer.old) (O.written writer.new) (status_of result) }
     ensures refused { result ≢ Ending.Refused }
     ensures usage { result ≢ Ending.WrongUsage }
+    ensures broken { result ≡ Ending.BrokenScript
+        → (AreNamed names.now closed.now.log → ⊥) × (writer.new ≡ writer.old) }
     ensures quiet { (result ≢ Ending.ReadFault) × (result ≢ Ending.OutOfMemory) }
     ensures write_fault { result ≡ Ending.WriteFault → O.failed writer.new ≡ true }
     ensures written { result ≢ Ending.WriteFault → O.failed writer.new ≡ false }
@@ -117,6 +127,9 @@ fn run_threads<R: AllocGlobal + Threads + Wait + Sync, O: Output>(
         (O.written writer.old) (O.written writer.new) (status_of result) }
     ensures refused { result ≡ Ending.Refused → TellsRefusal limits.now script.now.lines
         (O.written writer.old) (O.written writer.new) }
+    ensures broken { result ≡ Ending.BrokenScript
+        → ∥ NamesStop script.now.lines (O.written writer.old) (O.written writer.new) ∥₁
+        ⊎ LacksNames limits.now script.now (O.written writer.old) (O.written writer.new) }
     ensures usage { result ≢ Ending.WrongUsage }
     ensures whole { result ≢ Ending.ReadFault }
     ensures quiet { result ≡ Ending.OutOfMemory → writer.new ≡ writer.old }
@@ -148,6 +161,9 @@ fn run_lines<R: AllocGlobal + Threads + Wait + Sync, I: Input, O: Output>(
         (O.written writer.new) (status_of result) }
     ensures refused { result ≡ Ending.Refused
         → RefusesText (limits_with settings.now.threads OnlyMain) (I.left script.old) (O.written writer.old)
+        (O.written writer.new) }
+    ensures broken { result ≡ Ending.BrokenScript
+        → BreaksText (limits_with settings.now.threads OnlyMain) (I.left script.old) (O.written writer.old)
         (O.written writer.new) }
     ensures fault { IfSome (I.left script.old) (λ text. (f : Why)
         → script_of (limits_with settings.now.threads OnlyMain) text ≡ Err f
@@ -197,6 +213,11 @@ pub fn run_script<R: AllocGlobal + Threads + Wait + Sync, I: Input, O: Output, E
     // With status 3 it wrote the one line that tells which call of that script is refused, and why. The
     // definition refuses this call so after some log in which its thread has made just the calls before.
     ensures refused { result ≡ 3 → RefusesText (limits_with settings.now.threads OnlyMain)
+        (I.left script.old) (O.written writer.old) (O.written writer.new) }
+    // With status 6 it wrote the one line that tells why the text is no script, or which of its lines is
+    // stuck or can start no worker. It wrote nothing only where the log has a number to which the script gives
+    // no name, and the numbers of the script's lines all have one.
+    ensures broken { result ≡ 6 → BreaksText (limits_with settings.now.threads OnlyMain)
         (I.left script.old) (O.written writer.old) (O.written writer.new) }
     // The first fault of the script's lines is told, unless memory ran out or a device failed.
     ensures fault { IfSome (I.left script.old) (λ text. (f : Why)
