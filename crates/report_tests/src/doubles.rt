@@ -135,17 +135,12 @@ impl Page {
     }
 }
 
-impl Page {
-    /// What is refused once is asked for again.
-    fn keep(&mut self, bytes: &[u8]) -> Result<(), AllocError>
-        ensures failed { self.new.failed ≡ self.old.failed }
-        ensures room { self.new.room ≡ self.old.room }
-    {
-        if self.bytes.extend_from_slice(bytes).is_ok() {
-            return Ok(());
-        }
-        self.bytes.extend_from_slice(bytes)
+/// Keeps the bytes too. What is refused once is asked for again.
+fn keep(kept: &mut Vec<u8>, bytes: &[u8]) -> Result<(), AllocError> {
+    if kept.extend_from_slice(bytes).is_ok() {
+        return Ok(());
     }
+    kept.extend_from_slice(bytes)
 }
 
 impl Output for Page {
@@ -156,7 +151,7 @@ impl Output for Page {
     fn put(&mut self, bytes: &[u8]) -> Result<usize, WriteFailed> {
         let n = bytes.len().min(self.room.most);
         let is_full = self.room.puts == 0 || (n == 0 && !bytes.is_empty());
-        if is_full || self.keep(&bytes[..n]).is_err() {
+        if is_full || keep(&mut self.bytes, &bytes[..n]).is_err() {
             self.failed = true;
             return Err(WriteFailed);
         }

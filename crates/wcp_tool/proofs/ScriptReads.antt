@@ -1,6 +1,5 @@
 -- What a script that was not read to its end, or a refused call of it, tells of the whole run.
-use Rattle.std.proofs.Common.{◌≡◌, ℕ, List, Option, Bool, true, subst, ap, sym, refl, inl, inr, ◌⊎◌, ◌≤◌}
-use Rattle.std.proofs.Common.{length}
+use Rattle.std.proofs.Common.{◌≡◌, ℕ, List, Option, Bool, true, subst, sym, refl, inl, inr, ◌⊎◌, ◌≤◌, length}
 use Rattle.std.specs.Prelude.{IfSome, codes}
 use Rattle.std.specs.Io.KnownBytes.{Appends, Consumes}
 use Rattle.std.proofs.Math.Logic.{∥∥₁_elim, ∥∥₁_map, ∥∥₁_prop}
