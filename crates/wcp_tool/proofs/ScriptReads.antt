@@ -89,6 +89,8 @@ stop_told m lines (drive.NoWorker n) old new fits told =
     ∥∥₁_elim fits ∥∥₁_prop (λ forks. ∥∥₁_map forks (λ p. record {
       line = p.0;
       one = p.1;
-      written = inr (p.2.1,
-          subst (λ (k : ℕ). Appends old new (fault_line k (codes "NoWorker"))) (sym p.2.0) told);
+      written = inr (
+        p.2.1,
+        subst (λ (k : ℕ). Appends old new (fault_line k (codes "NoWorker"))) (sym p.2.0) told,
+      );
     }))
