@@ -80,7 +80,6 @@ impl Accesses {
         self.grow(thread, var, AccessKind::Write)
     }
 
-    #[tactic(auto, using(crate::proofs::Room::room_for))]
     fn grow(&mut self, thread: ThreadId, var: VarId, kind: AccessKind) -> Result<(), OutOfMemory>
         requires { IsWithin self.old.limits thread (Operation.Load var) }
         ensures same { Grown self.old self.new }

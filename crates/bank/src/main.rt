@@ -7,7 +7,7 @@ ghost use Rattle.std.specs.Prelude.{◌≡◌};
 
 use closed_report::{Device, NameLists, names_of, report_closed};
 use event_core::{Limits, LockId, Refusal, Roots, SiteId, ThreadId, VarId};
-use live_monitor::{Closed, Unnamed, start};
+use live_monitor::{Closed, Tries, Unnamed, start};
 use log_pass::Name;
 use std::marker::Brand;
 use std::process::ExitCode;
@@ -38,8 +38,8 @@ fn transfer<N: Name, R: Wait>(
     from: u32,
     to: u32,
 ) -> Result<(), Refusal> {
-    teller.acquire_within(rt, LockId(from.min(to)), MOVE, 1_000_000)?;
-    teller.acquire_within(rt, LockId(from.max(to)), MOVE, 1_000_000)?;
+    teller.acquire_within(rt, LockId(from.min(to)), MOVE, &mut Tries::of(1_000_000))?;
+    teller.acquire_within(rt, LockId(from.max(to)), MOVE, &mut Tries::of(1_000_000))?;
     let balance = teller.load(rt, VarId(from), MOVE)?.value;
     let amount = balance.min(10);
     teller.store(rt, VarId(from), balance - amount, MOVE)?;

@@ -4,5 +4,6 @@ pub mod HoldLaws
 pub mod LegalSteps
 pub mod PoSteps
 pub mod Room
+pub mod RowsWithin
 pub mod TableLaws
 pub mod TableSteps

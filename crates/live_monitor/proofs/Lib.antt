@@ -1,1 +1,3 @@
+pub mod Beginnings
+mod StepsAdded
 mod SwapsFollow

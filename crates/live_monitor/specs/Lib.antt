@@ -2,3 +2,4 @@ pub mod Calls
 pub mod Swaps
 pub mod Books
 pub mod ClosedLog
+pub mod Tries

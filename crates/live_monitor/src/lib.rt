@@ -64,10 +64,12 @@
 mod book;
 mod closed;
 mod shared;
+mod tries;
 mod unnamed;
 
 pub use book::Book;
 pub use closed::Closed;
 pub use seq_monitor::{Race, Verdicts};
 pub use shared::Shared;
+pub use tries::Tries;
 pub use unnamed::{StartFault, Unnamed, start};

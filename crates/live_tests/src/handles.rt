@@ -6,7 +6,7 @@ ghost use Rattle.std.specs.Prelude.{◌≡◌};
 use event_core::{
     Event, Limits, LockId, Op, Refusal, Reply, Roots, SiteId, ThreadId, VarId, Verdict,
 };
-use live_monitor::{Closed, Unnamed, start};
+use live_monitor::{Closed, Tries, Unnamed, start};
 use log_pass::Name;
 use std::alloc::Global;
 use std::marker::Brand;
@@ -23,17 +23,19 @@ const SITE: SiteId = SiteId(7);
 /// What the main thread is answered while thread 1 holds the lock.
 const HELD: Result<u64, Refusal> = Err(Refusal::Held { by: ThreadId(1) });
 
-/// The index of the acquire.
+/// The index of the acquire, and how many of the tries were made.
 fn acquire<N: Name, R: Wait>(
     rt: &R,
     thread: &mut TracedThread<N>,
-    tries: u32,
-) -> Result<u64, Refusal> {
-    let answer = match thread.acquire_within(rt, LOCK, SITE, tries) {
-        Err(Refusal::OutOfMemory) => thread.acquire_within(rt, LOCK, SITE, tries),
-        answer => answer,
-    };
-    answer.map(|reply| reply.index)
+    most: u32,
+) -> (Result<u64, Refusal>, u32) {
+    let mut tries = Tries::of(most);
+    let mut answer = thread.acquire_within(rt, LOCK, SITE, &mut tries);
+    if answer == Err(Refusal::OutOfMemory) {
+        tries = Tries::of(most);
+        answer = thread.acquire_within(rt, LOCK, SITE, &mut tries);
+    }
+    (answer.map(|reply| reply.index), tries.made())
 }
 
 fn store<N: Name, R: Wait + Abort>(rt: &R, thread: &mut TracedThread<N>, value: u64) -> Reply {
@@ -64,18 +66,18 @@ fn refuse<N: Name, R: Wait + Abort>(rt: &R, unnamed: Unnamed) -> Closed
     let (shared, pass) = start::<N>(unnamed);
     let mut main = TracedThread::new(&shared, pass);
     let mut child = fork(rt, &mut main);
-    assert!(rt; acquire(rt, &mut child, 1) == Ok(1));
+    assert!(rt; acquire(rt, &mut child, 1) == (Ok(1), 1));
     for _ in 0..1000 {
-        assert!(rt; acquire(rt, &mut main, 1) == HELD);
+        assert!(rt; acquire(rt, &mut main, 1) == (HELD, 1));
     }
-    assert!(rt; acquire(rt, &mut main, 1000) == HELD);
+    assert!(rt; acquire(rt, &mut main, 1000) == (HELD, 1000));
     assert!(rt; main.look() == 2);
     assert!(rt; child.release(rt, LOCK, SITE).is_ok());
-    assert!(rt; acquire(rt, &mut main, 1000) == Ok(3));
+    assert!(rt; acquire(rt, &mut main, 1000) == (Ok(3), 1));
     assert!(rt; main.release(rt, LOCK, SITE).is_ok());
-    assert!(rt; acquire(rt, &mut child, 0) == Ok(5));
+    assert!(rt; acquire(rt, &mut child, 0) == (Ok(5), 0));
     drop(child);
-    assert!(rt; acquire(rt, &mut main, 10) == HELD);
+    assert!(rt; acquire(rt, &mut main, 10) == (HELD, 10));
     assert!(rt; store(rt, &mut main, 5).index == 6);
     let pass = main.into_pass();
     shared.close(pass)

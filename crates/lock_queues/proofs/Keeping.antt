@@ -4,8 +4,9 @@ use Rattle.std.proofs.Common.{Option, Some}
 use Rattle.std.proofs.Common.{ap, sym, subst, arith, length-set}
 use Rattle.std.specs.Prelude.{IfSome, slice_index}
 use Rattle.std.specs.List.{remove}
-use Rattle.std.proofs.lemmas.Bool.{cases_lt}
-use Rattle.std.proofs.lemmas.List.{get_or_push, get_or_append_left, length_push}
+use Rattle.std.proofs.lemmas.Bool.{cases_lt, cases_eq}
+use Rattle.std.proofs.lemmas.List.{get_or_push, get_or_append_left, length_push, get_or-set_same}
+use Rattle.std.proofs.lemmas.List.{get_or-set_other}
 use Rattle.std.proofs.lemmas.List.Edits.{length-remove}
 use mathlib.Core.Logic.{inl, inr}
 use Rattle.lock_queues.specs.declared.rooms.Room.{Room}
@@ -47,6 +48,26 @@ kept_entered {rooms = rooms} {found = found} {t = t} {i = i} s kept p own marked
           subst (λ k. AreRooms (length found) (set rooms k s)) (sym p.at)
           (rooms_set (length found) rooms t s own p.has room kept.own);
       spare = omega arith;
+    }
+
+-- the thread has found so many
+pub kept_found : {w : ℕ} {es : List Entry} {b : Option Named} {rooms : List Room} {found : List ℕ} {m : ℕ}
+    (t n : ℕ) → IsKept w es b rooms found m → t < length found → n ≤ length es
+    → IsKept w es b rooms (set found t n) m
+kept_found {es = es} {rooms = rooms} {found = found} t n kept lt le =
+    let same = length-set found t n in
+    record {
+      first = kept.first;
+      threads = omega (arith, same, kept.threads);
+      within = λ u. elim (cases_eq u t) [
+        | inl e ↦ subst (λ v. slice_index (set found t n) v ≤ length es) (sym e)
+            (subst (λ k. k ≤ length es) (sym (get_or-set_same found t n 0 lt)) le)
+        | inr o ↦ subst (λ k. k ≤ length es) (sym (get_or-set_other found t u n 0 o)) (kept.within u)
+      ];
+      wide = kept.wide;
+      marked = kept.marked;
+      own = subst (λ k. AreRooms k rooms) (sym same) kept.own;
+      spare = kept.spare;
     }
 
 -- an entry that joins the others

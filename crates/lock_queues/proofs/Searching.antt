@@ -8,9 +8,10 @@ use Rattle.lock_queues.specs.Sections.{closed_as, closed_at, section_of, section
 use Rattle.lock_queues.specs.Sections.{CountsEntry, AreRising}
 use Rattle.lock_queues.specs.Searched.{CountsEarlier}
 use Rattle.lock_queues.specs.Queue.{Kept, queue_at, no_queue}
-use Rattle.lock_queues.specs.Queues.{Tables, AreKept, kept_of, closed_of}
+use Rattle.lock_queues.specs.Queues.{Tables, AreKept, kept_of, closed_of, opened_of}
 use Rattle.lock_queues.proofs.Counting.{CountsBefore, counts_before, number_is}
-use Rattle.lock_queues.proofs.Lifting.{known_listed}
+use Rattle.lock_queues.proofs.Lifting.{Read, known_listed, read_entered}
+use Rattle.lock_queues.proofs.Tables.{some_made}
 use Rattle.lock_queues.proofs.Storing.{acquire_is, closed_is, count_of, count_closed}
 
 abbrev pub tables : Bounds → List Kept → List ℕ → Tables
@@ -65,3 +66,18 @@ pub section_read : (v : Tables) (b : Bounds) (qs : List Kept) (ns : List ℕ) (l
 section_read v b qs ns l k q is read =
     ap (λ (x : Kept). closed_as (section_of ns (entry_at x.entries k))) read
     ∙ sym (closed_is ns (queue_at qs l).entries k) ∙ ap (λ (u : Tables). closed_at (closed_of u l) k) is
+
+-- the queue of a lock that the thread has entered has the width of all, and a room
+module _ {v : Tables} {b : Bounds} {qs : List Kept} {ns : List ℕ} {made most : ℕ} {q : Kept} (t l : ℕ)
+    (is : tables b qs ns ≡ v) (kept : AreKept b.threads qs ns made most) (entered : 0 < opened_of v t l)
+    (read : q ≡ get_or qs l q) where
+  found : Read qs t l q
+  found = read_entered qs t l q (subst (λ (u : Tables). 0 < opened_of u t l) (sym is) entered) read
+
+  pub entered_width : {n : ℕ} → n ≡ v.limits.threads → n ≡ q.width
+  entered_width wide =
+      wide ∙ sym (ap (λ (k : Kept). k.width) found.is ∙ kept.wide l found.within
+      ∙ ap (λ (u : Tables). u.limits.threads) is)
+
+  pub entered_made : 0 < made
+  entered_made = subst (λ n. 0 < n) (sym kept.rooms) (some_made qs t l found.within found.has)

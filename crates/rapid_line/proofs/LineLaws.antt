@@ -24,7 +24,7 @@ use Rattle.std.proofs.Common.{
   length-append,
   arith,
 }
-use Rattle.std.specs.Prelude.{◌==◌, IfSome}
+use Rattle.std.specs.Prelude.{◌==◌, IfSome, OnErr, Result, Ok, Err}
 use Rattle.std.proofs.lemmas.Bool.{or_parts}
 use Rattle.rapid_line.specs.Cut.{has, Lacks, cut}
 use Rattle.rapid_line.specs.Lines.{Lines, onto_first, lines_of, line_start, Cuts, IsTooLong}
@@ -81,6 +81,11 @@ line_start-line (x ∷ a) b h =
     rw (parts.0, line_start-line a b parts.1) refl
 
 -- ---- the answers of a cutter
+
+-- what holds, holds where there is an error
+pub where_err : {T E P : Type 0} (r : Result T E) → P → OnErr r P
+where_err (Ok x) h = tt
+where_err (Err e) h = h
 
 -- what the first LF cuts the piece into
 pub first_cut : (piece end rest : List ℕ) → Some (end, rest) ≡ cut 10 piece → IsCut 10 piece end rest

@@ -5,7 +5,15 @@ use Rattle.std.proofs.Common.{length-append}
 use Rattle.std.proofs.lemmas.List.{length-take-le}
 use Rattle.std.specs.Io.KnownBytes.{Consumes}
 use Rattle.std.proofs.KnownBytes.{Consumes-trans}
+use Rattle.rapid_text.specs.declared.feeding.Fed.TheVariants.{Whole, Stopped, Cut}
 use Rattle.rapid_text.specs.Feeding.{Pulled}
+
+-- no two ends of a feeding are the same
+pub cut_not_whole : Cut ≡ Whole → ⊥
+cut_not_whole is = cc
+
+pub stopped_not_cut : Stopped ≡ Cut → ⊥
+stopped_not_cut is = cc
 
 -- one more piece
 pub pulled_more : (left mid rest : Option (List ℕ)) (turns more : ℕ) (piece : List ℕ)

@@ -1,11 +1,14 @@
 -- What notes hold stays right as names are added and noted.
 use Rattle.std.proofs.Common.{◌≡◌, ℕ, ◌<◌, ◌++◌, [], ◌∷◌, ◌⊎◌, List, Some}
-use Rattle.std.proofs.Common.{get_or, sym, ◌∙◌, ap, arith}
+use Rattle.std.proofs.Common.{get_or, set, length-set, sym, ◌∙◌, ap, arith}
 use Rattle.std.specs.Prelude.{slice_get}
 use Rattle.std.specs.List.{position}
 use Rattle.std.specs.Str.{bytes_eq}
 use Rattle.std.proofs.lemmas.List.Quantifiers.{position-Some}
-use Rattle.std.proofs.lemmas.Option.{slice_get-get_or}
+use Rattle.std.proofs.lemmas.Bool.{cases_eq}
+use Rattle.std.proofs.lemmas.Grind.{get_or-set_at}
+use Rattle.std.proofs.lemmas.List.{get_or-set_other}
+use Rattle.std.proofs.lemmas.Option.{slice_get-get_or, slice_get_within, get_or_from_slice_get}
 use Rattle.std.proofs.lemmas.Slice.Eq.{bytes_eq-Decides}
 use mathlib.Core.Logic.{inl, inr}
 use Rattle.rapid_text.specs.declared.number_cache.Note.{Note}
@@ -27,6 +30,19 @@ right_noted names old new number name at right made note one = go (made note one
     go : IsOneOf old note ⊎ IsNoteOf number name note → IsRight names note
     go (inl was) = right note was
     go (inr now) = of_name names number name note at now
+
+-- a note in place of another
+pub put_note : (notes : List Note) (at number : ℕ) (name : List ℕ) (put : Note) → IsNoteOf number name put
+    → (note : Note) → IsOneOf (set notes at put) note → IsOneOf notes note ⊎ IsNoteOf number name note
+put_note notes at number name put of note one =
+    let within = slice_get_within (set notes at put) one.0 note one.1 in
+    let is = get_or_from_slice_get (set notes at put) one.0 note note one.1 in
+    let long = length-set notes at put in
+    let was = slice_get-get_or notes one.0 note in
+    elim (cases_eq one.0 at) [
+      | inl same ↦ inr (grind (arith, get_or-set_at notes at one.0 put note same, long, is))
+      | inr other ↦ inl (one.0, grind (arith, get_or-set_other notes at one.0 put note other, long, is, was))
+    ]
 
 -- new places hold nothing
 pub right_empty : (names : List (List ℕ)) (notes : List Note)

@@ -27,7 +27,8 @@ use Rattle.std.proofs.Common.{
   append_assoc,
   append-nil,
 }
-use Rattle.std.specs.Prelude.{option_map, IfSome, ◌⊎◌}
+use Rattle.std.specs.Prelude.{option_map, IfSome, Result, Ok, Err, is_some, ◌⊎◌}
+use Rattle.std.specs.Result.{IsErrAnd}
 use Rattle.rapid_line.specs.Cut.{Lacks}
 use Rattle.std.proofs.lemmas.List.{drop_all, nil_from_length}
 use Rattle.std.specs.Io.KnownBytes.{Consumes, IsAtEnd, Keeps}
@@ -37,7 +38,7 @@ use Rattle.rapid_text.specs.declared.causes.Cause.TheVariants as causes
 use Rattle.rapid_text.specs.declared.causes.TextFault.{TextFault}
 use Rattle.rapid_text.specs.Tables.{Tables, TablesGrow}
 use Rattle.rapid_text.specs.Texts.{Judgement, with_event, ended, judge, lines_of, BeginsAt}
-use Rattle.rapid_text.proofs.NameGrowth.{TablesGrow-refl, TablesGrow-same}
+use Rattle.rapid_text.proofs.NameGrowth.{TablesGrow-refl, TablesGrow-same, TablesGrow-trans}
 use Rattle.rapid_text.proofs.Pieces.{begins_here}
 use Rattle.rapid_text.specs.Cutting.{
   Cutting,
@@ -184,7 +185,22 @@ runs_on start from c d w v u turns used left rest r p is some k short =
       turns_left = omega (arith, r.turns_left);
     }
 
+-- a push that gave no event
+pub no_event : (c d : Cutting) (w v : List ℕ) (used : ℕ) (event : Option Event) → Pushes c d v used event
+    → v ≡ w → false ≡ is_some event → Pushes c d w used None
+no_event c d w v used None p is none = subst (λ (t : List ℕ). Pushes c d t used None) is p
+no_event c d w v used (Some e) p is none = absurd cc
+
+-- names that were added three times
+pub grown : (t u v w : Tables) → TablesGrow t u → TablesGrow u v → TablesGrow v w → TablesGrow t w
+grown t u v w p q r = TablesGrow-trans t v w (TablesGrow-trans t u v p q) r
+
 -- ---- the answers
+
+-- the fault that a `?` hands on
+pub handed_on : {T E : Type 0} (r : Result T E) (f : E) → IsErrAnd r (λ e. e ≡ f) → r ≡ Err f
+handed_on (Ok x) f is = absurd is
+handed_on (Err e) f is = ap Err is
 
 to_left : (c : Cutting) (w : List ℕ) (turns : ℕ) (e : Bool) (left : Option (List ℕ)) (x : Option Judgement)
     (make : Judgement → Judgement)

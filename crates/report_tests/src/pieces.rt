@@ -54,7 +54,7 @@ fn replay_fed(
     Ok((is_taken, replayer.finish(page).err()))
 }
 
-/// The replayer comes to this.
+/// The replayer comes to this. Where it is to have no fault, one is the error of the test.
 fn expect_report(
     rt: &impl Abort,
     alloc: Global,
@@ -64,6 +64,9 @@ fn expect_report(
 ) -> Result<(), Fail> {
     let mut page = Page::blank(alloc, Room::AMPLE);
     let (is_taken, met) = replay_fed(alloc, feeding, &mut page)?;
+    if let (Some(met), None) = (met, fault) {
+        return Err(met.into());
+    }
     let is_written = page.bytes.as_slice() == output.as_bytes();
     assert!(rt; is_taken && is_written && met == fault, "{output}: {met:?}");
     drop(page);

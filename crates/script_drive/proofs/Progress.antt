@@ -1,12 +1,13 @@
 -- How a thread gets on with its lines.
 use Rattle.std.proofs.Common.{◌≡◌, ℕ, ◌+◌, ◌<◌, List, [], ◌∷◌, ◌++◌, true, sym, ap, ◌∙◌, subst, length}
-use Rattle.std.proofs.Common.{map, take, drop, get_or, ◌⊎◌, ◌≤◌, None, add-one}
-use Rattle.std.specs.List.{list_any, All}
+use Rattle.std.proofs.Common.{map, take, drop, take-append-drop, get_or, cond, ◌⊎◌, ◌≤◌, None, add-one}
+use Rattle.std.proofs.Common.{false, refl}
+use Rattle.std.specs.List.{list_any}
 use Rattle.std.proofs.Math.Seq.{drop-cons}
 use Rattle.std.proofs.lemmas.Bool.{or_cases, eqb-true}
-use Rattle.std.proofs.lemmas.List.{append-nil, take_all, take_more}
+use Rattle.std.proofs.lemmas.List.{append-nil, take_all}
 use Rattle.std.proofs.lemmas.List.Concat.{flat_map-append}
-use Rattle.std.proofs.lemmas.List.Elements.{filter_passes, filter_map-append}
+use Rattle.std.proofs.lemmas.List.Elements.{filter-append, filter_more, filter_map-append}
 use Rattle.std.proofs.lemmas.List.Folds.{list_any-append}
 use mathlib.Core.Logic.{inl, inr}
 use Rattle.event_core.specs.declared.ids.ThreadId.{ThreadId}
@@ -20,10 +21,11 @@ use Rattle.event_core.proofs.Depth.{same_thread_id}
 use Rattle.log_pass.specs.declared.views.PassView.{PassView}
 use Rattle.script_text.specs.declared.lines.ScriptLine.{ScriptLine}
 use Rattle.script_text.specs.Lines.{fork_of, is_of, join_of, joins as line_joins, thread_of}
-use Rattle.script_drive.specs.Lines.{Follows, asked, asked_by, lines_by, unread}
+use Rattle.script_drive.specs.Lines.{asked, asked_by, lines_by, unread}
 use Rattle.script_drive.specs.Workers.{AreSettled, Does, Done, HasDone, Reach, Serves, Settled, forked}
 use Rattle.script_drive.specs.Workers.{joined}
-use Rattle.script_drive.proofs.Settling.{log_begins, settled_more}
+use Rattle.live_monitor.proofs.Beginnings.{log_begins}
+use Rattle.script_drive.proofs.Settling.{settled_more}
 
 asked-snoc : (lines : List ScriptLine) (l : ScriptLine)
     → asked (lines ++ l ∷ []) ≡ asked lines ++ asked_by l.act
@@ -50,12 +52,70 @@ done_more m script t p q lines l h does = record {
             (log_begins p.seen q.seen does.begins) does.formed.well_formed (h.settled u before)
         go (inr now) = does.settled u now
 
--- at a place in the list
-pub done_at : (m : Limits) (script : List ScriptLine) (t : ThreadId) (p q : PassView)
-    (lines : List ScriptLine) (i : ℕ) (d : ScriptLine) → i < length lines → HasDone script t p (take i lines)
-    → Does m script (get_or lines i d) p q → HasDone script t q (take (i + 1) lines)
-done_at m script t p q lines i d lt h does = subst (HasDone script t q) (sym (take_more lines i d lt))
-    (done_more m script t p q (take i lines) (get_or lines i d) h does)
+-- ---- a thread's lines among those of the script
+
+module _ (t : ThreadId) (lines : List ScriptLine) (i : ℕ) (d : ScriptLine) (lt : i < length lines) where
+  abbrev pub line : ScriptLine
+  line = get_or lines i d
+
+  rest : drop i lines ≡ line ∷ drop (i + 1) lines
+  rest = drop-cons lines i d lt ∙ ap (λ (n : ℕ). line ∷ drop n lines) (sym (add-one i))
+
+  taken : lines_by t (take (i + 1) lines) ≡ lines_by t (take i lines) ++ cond (is_of t.0 line) (line ∷ []) []
+  taken = filter_more (is_of t.0) lines i d lt
+
+  left : lines_by t (drop i lines) ≡ cond (is_of t.0 line) (line ∷ lines_by t (drop (i + 1) lines))
+      (lines_by t (drop (i + 1) lines))
+  left = ap (lines_by t) rest
+
+  -- a line of its own is the next
+  module _ (own : is_of t.0 line ≡ true) where
+    pub own_taken : lines_by t (take (i + 1) lines) ≡ lines_by t (take i lines) ++ line ∷ []
+    own_taken = taken ∙ rw own refl
+
+    pub own_left : lines_by t (drop i lines) ≡ line ∷ lines_by t (drop (i + 1) lines)
+    own_left = left ∙ rw own refl
+
+    pub own_thread : thread_of line ≡ t
+    own_thread = same_thread_id (eqb-true (thread_of line).0 t.0 own)
+
+    pub own_place : lines_by (thread_of line) lines
+        ≡ lines_by t (take i lines) ++ line ∷ lines_by t (drop (i + 1) lines)
+    own_place = ap (λ (u : ThreadId). lines_by u lines) own_thread
+        ∙ (ap (lines_by t) (sym (take-append-drop i lines))
+        ∙ (filter-append (is_of t.0) (take i lines) (drop i lines)
+        ∙ ap (λ (r : List ScriptLine). lines_by t (take i lines) ++ r) own_left))
+
+    pub done_at : (m : Limits) (script : List ScriptLine) (p q : PassView)
+        → HasDone script t p (lines_by t (take i lines)) → Does m script line p q
+        → HasDone script t q (lines_by t (take (i + 1) lines))
+    done_at m script p q h does = subst (HasDone script t q) (sym own_taken)
+        (done_more m script t p q (lines_by t (take i lines)) line h does)
+
+    pub next_line : (reach : Reach) → Serves reach (lines_by t (drop i lines))
+        → Serves reach (line ∷ lines_by t (drop (i + 1) lines))
+    next_line reach serves = subst (Serves reach) own_left serves
+
+    -- links with the ends for one more line
+    pub served_more : (old new : Reach) → Serves old (lines_by t (take i lines))
+        → new.forks ≡ old.forks ++ forked (line ∷ []) → new.joins ≡ old.joins ++ joined (line ∷ [])
+        → Serves new (lines_by t (take (i + 1) lines))
+    served_more old new h forks joins =
+        let before = lines_by t (take i lines) in
+        record {
+          forks = forks ∙ (ap (λ (l : List ThreadId). l ++ forked (line ∷ [])) h.forks
+              ∙ (sym (filter_map-append fork_of before (line ∷ [])) ∙ ap forked (sym own_taken)));
+          joins = joins ∙ (ap (λ (l : List ThreadId). l ++ joined (line ∷ [])) h.joins
+              ∙ (sym (filter_map-append join_of before (line ∷ [])) ∙ ap joined (sym own_taken)));
+        }
+
+  -- another thread's is passed over
+  module _ (other : is_of t.0 line ≡ false) where
+    pub other_taken : lines_by t (take (i + 1) lines) ≡ lines_by t (take i lines)
+    other_taken = taken ∙ (rw other (append-nil (lines_by t (take i lines))))
+
+    pub other_left : lines_by t (drop i lines) ≡ lines_by t (drop (i + 1) lines)
+    other_left = left ∙ rw other refl
 
 -- before the first line
 pub none_done : (script : List ScriptLine) (t : ThreadId) (p : PassView) → p.thread ≡ t → p.due ≡ None
@@ -68,48 +128,15 @@ none_done script t p thread due mine = record {
 }
 
 -- after the last one
-pub all_done : (script : List ScriptLine) (t : ThreadId) (p : PassView) (lines : List ScriptLine) (i : ℕ)
-    → length lines ≤ i → HasDone script t p (take i lines) → HasDone script t p lines
-all_done script t p lines i le h = subst (HasDone script t p) (take_all i lines le) h
+pub all_done : (script lines : List ScriptLine) (t : ThreadId) (p : PassView) (i : ℕ) → lines ≡ script
+    → length lines ≤ i → HasDone script t p (lines_by t (take i lines))
+    → HasDone script t p (lines_by t script)
+all_done script lines t p i same le h =
+    subst (λ (l : List ScriptLine). HasDone script t p (lines_by t l)) (take_all i lines le ∙ same) h
 
-pub last_done : (script : List ScriptLine) (t : ThreadId) (p : PassView) (lines : List ScriptLine)
-    → lines ≡ lines_by t script → HasDone script t p lines → Done script t p
-last_done script t p lines own h = record {
-  thread = h.thread;
-  none_due = h.none_due;
-  follows = subst (Follows (log_of p.mine)) own h.follows;
-}
-
--- each of a thread's lines is its own
-pub own_line : (t u : ThreadId) (script lines : List ScriptLine) (i : ℕ) (d : ScriptLine)
-    → lines ≡ lines_by t script → u ≡ t → i < length lines → thread_of (get_or lines i d) ≡ u
-own_line t u script lines i d own same lt =
-    let passes : is_of t.0 (get_or lines i d) ≡ true
-    = subst (λ (l : List ScriptLine). All (λ (x : ScriptLine). is_of t.0 x ≡ true) l) (sym own)
-    (filter_passes (is_of t.0) script) i d lt in
-    same_thread_id (eqb-true (thread_of (get_or lines i d)).0 t.0 passes) ∙ sym same
-
--- the next of the lines that are left
-pub next_line : (reach : Reach) (lines : List ScriptLine) (i : ℕ) (d : ScriptLine) → i < length lines
-    → Serves reach (drop i lines) → Serves reach (get_or lines i d ∷ drop (i + 1) lines)
-next_line reach lines i d lt serves =
-    let next : drop i lines ≡ get_or lines i d ∷ drop (i + 1) lines
-    = drop-cons lines i d lt ∙ ap (λ (n : ℕ). get_or lines i d ∷ drop n lines) (sym (add-one i)) in
-    subst (Serves reach) next serves
-
--- a links with the ends for one more line
-pub served_more : (old new : Reach) (lines : List ScriptLine) (i : ℕ) (d : ScriptLine) → i < length lines
-    → Serves old (take i lines) → new.forks ≡ old.forks ++ forked (get_or lines i d ∷ [])
-    → new.joins ≡ old.joins ++ joined (get_or lines i d ∷ []) → Serves new (take (i + 1) lines)
-served_more old new lines i d lt h forks joins =
-    let one = get_or lines i d ∷ [] in
-    let more : take i lines ++ one ≡ take (i + 1) lines = sym (take_more lines i d lt) in
-    record {
-      forks = forks ∙ (ap (λ (l : List ThreadId). l ++ forked one) h.forks
-          ∙ (sym (filter_map-append fork_of (take i lines) one) ∙ ap forked more));
-      joins = joins ∙ (ap (λ (l : List ThreadId). l ++ joined one) h.joins
-          ∙ (sym (filter_map-append join_of (take i lines) one) ∙ ap joined more));
-    }
+pub last_done : (script : List ScriptLine) (t : ThreadId) (p : PassView)
+    → HasDone script t p (lines_by t script) → Done script t p
+last_done script t p h = record { thread = h.thread; none_due = h.none_due; follows = h.follows }
 
 -- what an index past the lines reads
 abbrev pub no_line : ScriptLine

@@ -1,10 +1,9 @@
 -- The faults of workers are those of lines of the script.
-use Rattle.std.proofs.Common.{◌≡◌, ℕ, ◌+◌, ◌<◌, ◌≤◌, ◌⊎◌, List, ◌∷◌, ◌++◌, Some, refl, sym, ap}
-use Rattle.std.specs.Prelude.{[], Option, None, IfErr, IfSome, IsErrAnd, IsSome, Result, Ok, Err}
-use Rattle.std.proofs.Common.{◌∙◌, subst, length, get_or, take, drop, take-append-drop, add-one, arith}
-use Rattle.std.specs.List.{filter, All, Contains}
-use Rattle.std.proofs.Math.Seq.{drop-cons}
-use Rattle.std.proofs.lemmas.List.Elements.{All-contains_itself, All-filter, All-more, All-weaker}
+use Rattle.std.proofs.Common.{◌≡◌, ℕ, ◌+◌, ◌<◌, ◌≤◌, ◌⊎◌, List, ◌∷◌, Some, refl, sym, ap}
+use Rattle.std.specs.Prelude.{[], true, Option, None, IfErr, IfSome, IsErrAnd, IsSome, Result, Ok, Err}
+use Rattle.std.proofs.Common.{◌∙◌, subst, length, get_or, take, drop, arith}
+use Rattle.std.specs.List.{All, Contains}
+use Rattle.std.proofs.lemmas.List.Elements.{All-more, All-weaker}
 use Rattle.std.proofs.lemmas.List.Elements.{Contains-get_or}
 use mathlib.Core.Logic.{inl, inr}
 use Rattle.event_core.specs.declared.ids.ThreadId.{ThreadId}
@@ -36,7 +35,7 @@ use Rattle.script_drive.specs.Faults.{act_refusal, rank, refused_at, stuck_at, F
 use Rattle.script_drive.specs.Faults.{IsEarlier, IsFaultOf, IsFirst, IsForkLine, IsHaltOf, IsNext, Refuses}
 use Rattle.script_drive.specs.Lines.{Follows, lines_by}
 use Rattle.script_drive.specs.Workers.{HasDone}
-use Rattle.script_drive.proofs.Progress.{own_line}
+use Rattle.script_drive.proofs.Progress.{own_place}
 
 -- ---- which is answered
 
@@ -190,27 +189,18 @@ swap_halts m script l t x site arg p q answer result act next thread later decli
 
 -- ---- the lines of a thread
 
--- they are lines of the script
-pub own_lines : (n : ℕ) (script lines : List ScriptLine) → lines ≡ filter (is_of n) script
-    → All (Contains script) lines
-own_lines n script lines own = subst (All (Contains script)) (sym own)
-    (All-filter (is_of n) (Contains script) script (All-contains_itself script))
+pub line_at : (script lines : List ScriptLine) (i : ℕ) (d : ScriptLine) → lines ≡ script → i < length lines
+    → Contains script (get_or lines i d)
+line_at script lines i d same lt =
+    subst (λ (s : List ScriptLine). Contains s (get_or lines i d)) same (Contains-get_or lines i d lt)
 
 pub next_at : (script lines : List ScriptLine) (t : ThreadId) (p : PassView) (i : ℕ) (d : ScriptLine)
-    → lines ≡ lines_by t script → i < length lines → HasDone script t p (take i lines)
-    → IsNext script (get_or lines i d) p
-next_at script lines t p i d own lt h = record {
-  line = own_lines t.0 script lines own i d lt;
-  before = take i lines;
-  later = drop (i + 1) lines;
-  place = place;
+    → lines ≡ script → i < length lines → is_of t.0 (get_or lines i d) ≡ true
+    → HasDone script t p (lines_by t (take i lines)) → IsNext script (get_or lines i d) p
+next_at script lines t p i d same lt own h = record {
+  line = line_at script lines i d same lt;
+  before = lines_by t (take i lines);
+  later = lines_by t (drop (i + 1) lines);
+  place = ap (lines_by (thread_of (get_or lines i d))) (sym same) ∙ own_place t lines i d lt own;
   done = h.follows;
 }
-  where
-    rest : drop i lines ≡ get_or lines i d ∷ drop (i + 1) lines
-    rest = drop-cons lines i d lt ∙ ap (λ (n : ℕ). get_or lines i d ∷ drop n lines) (sym (add-one i))
-
-    place : lines_by (thread_of (get_or lines i d)) script
-        ≡ take i lines ++ get_or lines i d ∷ drop (i + 1) lines
-    place = ap (λ (u : ThreadId). lines_by u script) (own_line t t script lines i d own refl lt)
-        ∙ (sym own ∙ (sym (take-append-drop i lines) ∙ ap (λ (r : List ScriptLine). take i lines ++ r) rest))

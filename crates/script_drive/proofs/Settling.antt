@@ -7,14 +7,13 @@ use Rattle.std.proofs.lemmas.List.Elements.{filter-append}
 use mathlib.Core.List.{IsPrefix}
 use Rattle.event_core.specs.declared.ids.ThreadId.{ThreadId}
 use Rattle.event_core.specs.declared.events.Event.{Event}
-use Rattle.event_core.specs.declared.steps.Step.{Step}
 use Rattle.event_core.specs.declared.bounds.Limits.{Limits}
 use Rattle.event_core.specs.Refusal.{joins, WellFormed}
-use Rattle.event_core.specs.Steps.{log_of, own_events, MayFollow}
+use Rattle.event_core.specs.Steps.{own_events, MayFollow}
 use Rattle.event_core.proofs.Counting.{nat_eq_other}
 use Rattle.event_core.proofs.Depth.{same_thread_id}
 use Rattle.event_core.proofs.EndedLaw.{not_ended}
-use Rattle.event_core.proofs.StepLaws.{any_front, formed_follow, log_of-append, not_both}
+use Rattle.event_core.proofs.StepLaws.{any_front, formed_follow, not_both}
 use Rattle.script_text.specs.declared.lines.ScriptLine.{ScriptLine}
 use Rattle.script_drive.specs.Lines.{Follows, lines_by}
 use Rattle.script_drive.specs.Workers.{Settled}
@@ -46,7 +45,3 @@ settled_more m script xs ys u begins formed h =
           (any_front (joins u) xs begins.0 h.joined);
       follows = subst (λ (l : List Event). Follows l (lines_by u script)) (sym same) h.follows;
     }
-
--- the log of a beginning begins the log
-pub log_begins : (xs ys : List Step) → IsPrefix xs ys → IsPrefix (log_of xs) (log_of ys)
-log_begins xs ys begins = (log_of begins.0, sym (log_of-append xs begins.0) ∙ ap log_of begins.1)

@@ -1,6 +1,5 @@
 -- What the closed log has, from the last pass of thread 0.
-use Rattle.std.proofs.Common.{◌≡◌, List, [], ◌∷◌, true, Some, ◌<◌, refl, sym, ap, ◌∙◌, subst, length, arith}
-use Rattle.std.specs.Prelude.{slice_get}
+use Rattle.std.proofs.Common.{◌≡◌, List, true, ap, ◌∙◌, subst}
 use Rattle.std.specs.List.{list_any}
 use mathlib.Core.List.{IsPrefix}
 use Rattle.event_core.specs.declared.ids.ThreadId.{ThreadId}
@@ -8,11 +7,9 @@ use Rattle.event_core.specs.declared.events.Event.{Event}
 use Rattle.event_core.specs.declared.bounds.Limits.{Limits}
 use Rattle.event_core.specs.Refusal.{WellFormed}
 use Rattle.event_core.specs.Steps.{log_of, own_events}
-use Rattle.log_pass.specs.Views.{main, new_pass}
 use Rattle.log_pass.specs.declared.views.PassView.{PassView}
 use Rattle.script_text.specs.declared.lines.ScriptLine.{ScriptLine}
 use Rattle.script_text.specs.Lines.{joins as line_joins}
-use Rattle.script_text.specs.Scripts.{IsScript, Parsed, act_event}
 use Rattle.script_drive.specs.Lines.{Follows, lines_by}
 use Rattle.script_drive.specs.Workers.{AreSettled, Done, Settled}
 use Rattle.script_drive.proofs.Settling.{settled_more}
@@ -33,30 +30,3 @@ closed_joined m script lines p log begins formed settled u test =
     let h : Settled script log u
     = settled_more m script (log_of p.seen) log u begins formed (settled u test) in
     h.follows
-
--- a script that names no thread has no line
-pub no_lines : (s : Parsed) → IsScript s → length s.names.threads.names ≡ 0 → s.lines ≡ []
-no_lines s is none = go s.lines refl
-  where
-    go : (lines : List ScriptLine) → s.lines ≡ lines → s.lines ≡ []
-    go [] e = e
-    go (l ∷ ls) e =
-        let first : slice_get s.lines 0 ≡ Some l
-        = subst (λ (lines : List ScriptLine). slice_get lines 0 ≡ Some l) (sym e) refl in
-        let named : (act_event l.act).thread.0 < length s.names.threads.names = (is.named 0 l first).thread in
-        absurd (omega (arith, named, none))
-
--- and is done by a pass with no step
-pub empty_done : (s : Parsed) → s.lines ≡ [] → Done s.lines main (new_pass main [])
-empty_done s e = record {
-  thread = refl;
-  none_due = refl;
-  follows = subst (λ (lines : List ScriptLine). Follows [] (lines_by main lines)) (sym e) refl;
-}
-
--- nor does it join anyone
-pub none_settled : (s : Parsed) (log : List Event) → s.lines ≡ []
-    → AreSettled s.lines log (lines_by main s.lines)
-none_settled s log e =
-    subst (λ (lines : List ScriptLine). AreSettled lines log (lines_by main lines)) (sym e)
-    (λ u test. absurd (cc test))

@@ -1,5 +1,5 @@
 -- What is known of a thread that runs its lines.
-use Rattle.std.specs.Prelude.{◌≡◌, ◌<◌, true, List, [], ◌∷◌, ◌++◌, length, map, None}
+use Rattle.std.specs.Prelude.{◌≡◌, true, List, [], ◌∷◌, ◌++◌, map, None}
 use Rattle.std.specs.List.{filter_map, list_any}
 use mathlib.Core.List.{IsPrefix}
 use Rattle.event_core.specs.declared.ids.ThreadId.{ThreadId}
@@ -10,7 +10,6 @@ use Rattle.event_core.specs.Steps.{log_of, own_events, Formed}
 use Rattle.log_pass.specs.declared.views.PassView.{PassView}
 use Rattle.script_text.specs.declared.lines.ScriptLine.{ScriptLine}
 use Rattle.script_text.specs.Lines.{fork_of, join_of, joins as line_joins}
-use Rattle.script_text.specs.Scripts.{Parsed}
 use Rattle.script_drive.specs.Lines.{unread, asked_by, Follows, lines_by}
 
 -- the first pass of a thread
@@ -74,8 +73,3 @@ pub record Serves (reach : Reach) (lines : List ScriptLine) : Type 0 where
 pub record OwnReach : Type 0 where
   pub thread : ThreadId
   pub reach : Reach
-
--- the script names the thread, and the ends reach just those whom its lines fork and join
-pub record IsFull (script : Parsed) (thread : ThreadId) (reach : Reach) : Type 0 where
-  pub named : thread.0 < length script.names.threads.names
-  pub serves : Serves reach (lines_by thread script.lines)

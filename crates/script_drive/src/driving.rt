@@ -1,5 +1,5 @@
 //! One worker for each thread of a script.
-ghost use Rattle.std.specs.Prelude.{◌≡◌, ◌<◌, [], true, length, All, IfErr, IfOk, OnOk};
+ghost use Rattle.std.specs.Prelude.{◌≡◌, [], true, All, IfErr, IfOk, OnOk};
 ghost use Rattle.std.specs.List.{list_any};
 ghost use Rattle.event_core.specs.declared.bounds.Roots.TheVariants.{OnlyMain};
 ghost use Rattle.event_core.specs.declared.ids.ThreadId.{ThreadId as Thread};
@@ -120,7 +120,6 @@ fn run_all<N: Name + Send + Sync, S: Text + Send, G: Gate + Sync, R: Threads + W
     workers: Vec<Worker<N, S>>,
 ) -> Result<Pass<N>, DriveFault>
     requires script { script.now ≡ S.script }
-    requires some { 0 < length S.script.names.threads.names }
     requires pass { pass ≡ new_pass main [] }
     requires serves { Serves links (lines_by main S.script.lines) }
     ensures done { IfOk result (Done S.script.lines main) }
@@ -133,7 +132,6 @@ fn run_all<N: Name + Send + Sync, S: Text + Send, G: Gate + Sync, R: Threads + W
         rt,
         move |scope| -> Result<Pass<N>, DriveFault>
             requires script { script.now ≡ S.script }
-            requires some { 0 < length S.script.names.threads.names }
             requires pass { pass ≡ new_pass main [] }
             requires serves { Serves links (lines_by main S.script.lines) }
             ensures done { IfOk result (Done S.script.lines main) }
@@ -187,9 +185,6 @@ fn drive_in<N: Name + Send + Sync, S: Text + Send, G: Gate + Sync, R: Threads + 
     ensures fault { IfErr result (IsFaultOf unnamed.limits script.now.lines) }
 {
     let (shared, pass) = start::<N>(unnamed);
-    if script.threads() == 0 {
-        return Ok(shared.close(pass));
-    }
     let Ok((links, workers)) = all_workers::<N, S>(alloc, script) else {
         drop(pass);
         drop(shared);

@@ -1,5 +1,5 @@
 //! What a worker does: the calls of its thread's lines, in order.
-ghost use Rattle.std.specs.Prelude.{◌≡◌, ◌∷◌, ◌<◌, [], List, None, length, Contains};
+ghost use Rattle.std.specs.Prelude.{◌≡◌, ◌∷◌, [], List, None, Contains};
 ghost use Rattle.std.specs.Prelude.{IfErr, IfOk, IsErrAnd, IsOk, IsSome, OnOk};
 ghost use Rattle.event_core.specs.Steps.{log_of};
 ghost use Rattle.script_text.specs.declared.lines.ScriptLine.{ScriptLine as Line};
@@ -14,7 +14,7 @@ use crate::links::Links;
 use crate::text::{Ends, Text};
 use crossbeam_utils::Backoff;
 use event_core::{Act, Op, Refusal};
-use live_monitor::Shared;
+use live_monitor::{Shared, Tries};
 use log_pass::{Name, Pass};
 use pass_channel::{PassReceiver, TryRecvError};
 use script_text::{Script, ScriptLine};
@@ -109,9 +109,10 @@ fn make_call<N: Name, S: Text, R: Wait>(
             Op::Load(var) => answered(line, shared.load(rt, pass, var, call.site)),
             Op::Store(var) => answered(line, shared.store(rt, pass, var, call.arg, call.site)),
             Op::Acquire(lock) => {
+                let mut tries = Tries::of(patience);
                 answered(
                     line,
-                    shared.acquire_within(rt, pass, lock, call.site, patience),
+                    shared.acquire_within(rt, pass, lock, call.site, &mut tries),
                 )
             }
             Op::Release(lock) => answered(line, shared.release(rt, pass, lock, call.site)),
@@ -151,7 +152,6 @@ pub(crate) fn run_lines<N: Name, S: Text, G: Gate, R: Wait>(
     mut links: Links<N, S>,
 ) -> Result<Pass<N>, Halt>
     requires script { script.now ≡ S.script }
-    requires thread { pass.thread.0 < length S.script.names.threads.names }
     requires new { (pass.due ≡ None) × (pass.mine ≡ []) }
     requires serves { Serves links (lines_by pass.thread S.script.lines) }
     ensures done { IfOk result (Done S.script.lines pass.thread) }
@@ -159,9 +159,12 @@ pub(crate) fn run_lines<N: Name, S: Text, G: Gate, R: Wait>(
         (λ last. AreSettled S.script.lines (log_of last.seen) (lines_by pass.thread S.script.lines)) }
     ensures halt { IfErr result (IsHaltOf N.limits S.script.lines) }
 {
-    let lines = script.lines_of(pass.thread());
+    let thread = pass.thread();
     let mut pass = pass;
-    for line in lines {
+    for line in script.lines() {
+        if !line.is_of(thread) {
+            continue;
+        }
         if !may_enter(gate, line, patience) {
             return Err(Halt::Fault(DriveFault::stuck(line)));
         }

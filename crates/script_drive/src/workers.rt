@@ -1,5 +1,5 @@
 //! What workers are started with. All channels are made before the first line.
-ghost use Rattle.std.specs.Prelude.{◌≡◌, ◌<◌, ◌∷◌, ◌++◌, [], length, All, Contains, IfOk, IfSome, OnOk};
+ghost use Rattle.std.specs.Prelude.{◌≡◌, ◌∷◌, ◌++◌, [], Contains, IfOk, IfSome, OnOk};
 ghost use Rattle.std.specs.Option.{ForSome};
 ghost use Rattle.log_pass.specs.Views.{main};
 ghost use Rattle.script_drive.specs.Faults.{IsForkLine};
@@ -24,13 +24,14 @@ pub(crate) struct OwnLinks<N: Name, S: Text> {
 }
 
 impl<N: Name, S: Text> Model for OwnLinks<N, S> {
-    ghost use Rattle.script_drive.specs.Workers.{IsFull, OwnReach};
+    ghost use Rattle.script_drive.specs.Lines.{lines_by};
+    ghost use Rattle.script_drive.specs.Workers.{OwnReach, Serves};
 
     ghost Value = { OwnReach };
 
     ghost view = { λ own. record { thread = own.thread; reach = own.links } };
 
-    ghost invariant = { λ own. IsFull S.script own.thread own.links };
+    ghost invariant = { λ own. Serves own.links (lines_by own.thread S.script.lines) };
 }
 
 /// Where a worker's first pass comes from, and the line of the script that forks its thread.
@@ -101,13 +102,21 @@ impl<N: Name, S: Text> LooseEnds<N, S> {
         Ok(())
     }
 
-    // The links for these lines of the script, with a channel for each thread that they fork or join.
-    fn connect(&mut self, alloc: Global, lines: &[ScriptLine]) -> Result<Links<N, S>, AllocError>
-        requires { All (Contains S.script.lines) lines.now }
-        ensures { IfOk result (λ links. Serves links lines.now) }
+    // The links of the thread, with a channel for each thread that its lines fork or join.
+    fn connect(
+        &mut self,
+        alloc: Global,
+        script: &Script,
+        thread: ThreadId,
+    ) -> Result<Links<N, S>, AllocError>
+        requires { script.now ≡ S.script }
+        ensures { IfOk result (λ links. Serves links (lines_by thread S.script.lines)) }
     {
         let mut links = Links::new(alloc);
-        for line in lines {
+        for line in script.lines() {
+            if !line.is_of(thread) {
+                continue;
+            }
             self.add_fork(alloc, line, &mut links)?;
             self.add_join(alloc, line, &mut links)?;
         }
@@ -148,7 +157,7 @@ fn other_links<N: Name, S: Text>(
     let mut others = Vec::new(alloc);
     for number in 1..script.threads() {
         let thread = ThreadId(number);
-        let links = loose.connect(alloc, script.lines_of(thread))?;
+        let links = loose.connect(alloc, script, thread)?;
         others.push(OwnLinks { thread, links })?;
     }
     Ok(others)
@@ -160,14 +169,13 @@ pub(crate) fn all_workers<N: Name, S: Text>(
     script: &Script,
 ) -> Result<(Links<N, S>, Vec<Worker<N, S>>), AllocError>
     requires script { script.now ≡ S.script }
-    requires some { 0 < length S.script.names.threads.names }
     ensures main { IfOk result (λ made. Serves made.0 (lines_by main S.script.lines)) }
 {
     let mut loose = LooseEnds {
         births: Vec::new(alloc),
         ends: Vec::new(alloc),
     };
-    let main_links = loose.connect(alloc, script.lines_of(ThreadId(0)))?;
+    let main_links = loose.connect(alloc, script, ThreadId(0))?;
     let mut workers = Vec::new(alloc);
     for own in other_links(alloc, script, &mut loose)? {
         let end = loose.take_end(own.thread);

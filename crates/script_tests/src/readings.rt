@@ -38,19 +38,33 @@ fn has_names(names: &Names, kind: Kind, wanted: &[&str]) -> bool {
     names.count(kind) as usize == wanted.len()
 }
 
+/// The thread's lines of the script are these.
+fn has_lines_of(script: &Script, thread: ThreadId, wanted: &[ScriptLine]) -> bool {
+    let mut at = 0;
+    for line in script.lines() {
+        if line.is_of(thread) {
+            if wanted.get(at) != Some(line) {
+                return false;
+            }
+            at += 1;
+        }
+    }
+    at == wanted.len()
+}
+
 /// The script has these lines, thread by thread, and no others.
 fn has_lines(script: &Script, wanted: &[&[ScriptLine]]) -> bool {
-    let mut left = script.lines().len();
+    let mut count = 0usize;
     for number in 0..script.threads() {
         let Some(lines) = wanted.get(number as usize) else {
             return false;
         };
-        if script.lines_of(ThreadId(number)) != *lines || lines.len() > left {
+        if !has_lines_of(script, ThreadId(number), lines) {
             return false;
         }
-        left -= lines.len();
+        count = count.saturating_add(lines.len());
     }
-    left == 0 && script.threads() as usize == wanted.len()
+    count == script.lines().len() && script.threads() as usize == wanted.len()
 }
 
 impl Wanted<'_> {

@@ -4,5 +4,4 @@ pub mod Steps
 pub mod Marking
 pub mod Legal
 pub mod Faults
-pub mod RowGrowth
 pub mod Whole

@@ -288,13 +288,20 @@ first_unreached lines marks n sound all h =
 
 -- ---- marks in memory
 
-pub written : (new items : List Bool) (len : ℕ) → length new ≡ length items → length items ≡ len
-    → take len (new ++ drop (length new) items) ≡ new
-written new items len same is =
-    let none : drop (length new) items ≡ [] = drop_all (length new) items (omega (arith, same)) in
+pub written : (new slice items : List Bool) (len : ℕ) → length new ≡ length slice → slice ≡ items
+    → length items ≡ len → take len (new ++ drop (length new) items) ≡ new
+written new slice items len same value is =
+    let lens = same ∙ ap (λ (xs : List Bool). length xs) value in
+    let none : drop (length new) items ≡ [] = drop_all (length new) items (omega (arith, lens)) in
     ap (λ (rest : List Bool). take len (new ++ rest)) none
     ∙ ap (λ (xs : List Bool). take len xs) (append-nil new)
-    ∙ take_all len new (omega (arith, same, is))
+    ∙ take_all len new (omega (arith, lens, is))
+
+pub written_len : (new slice items : List Bool) (len n : ℕ) → length new ≡ length slice → slice ≡ items
+    → length items ≡ len → length items ≡ n → length (take len (new ++ drop (length new) items)) ≡ n
+written_len new slice items len n same value is all =
+    ap (λ (xs : List Bool). length xs) (written new slice items len same value is) ∙ same
+    ∙ ap (λ (xs : List Bool). length xs) value ∙ all
 
 pub set_none : (marks : List Bool) → length marks ≡ 0 → marks ≡ set marks 0 true
 set_none [] h = refl

@@ -6,4 +6,3 @@ pub mod Scripts
 pub mod Readings
 pub mod ReadingLaws
 pub mod Marks
-pub mod Rows

@@ -12,7 +12,6 @@ mod lines;
 mod numbers;
 mod reached;
 mod readings;
-mod rows;
 mod script;
 
 pub use causes::{ScriptCause, ScriptFault};

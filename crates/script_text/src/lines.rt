@@ -22,6 +22,13 @@ impl ScriptLine {
         }
     }
 
+    /// Whether it is the thread's.
+    pub fn is_of(&self, thread: ThreadId) -> bool
+        ensures { result ≡ is_of thread.0 self.now }
+    {
+        self.thread().0 == thread.0
+    }
+
     /// The thread that it forks, if it forks one.
     pub fn fork(&self) -> Option<ThreadId>
         ensures { result ≡ fork_of self.now }

@@ -1,17 +1,13 @@
 //! Scripts that were read.
-ghost use Rattle.std.specs.Prelude.{◌≡◌, ◌≢◌, ℕ, ◌<◌, ◌≤◌, length, filter, IfOk, IfErr, IfSome, OnOk, Ok};
-ghost use Rattle.std.specs.Prelude.{false};
-ghost use Rattle.script_text.specs.Lines.{is_of};
+ghost use Rattle.std.specs.Prelude.{◌≡◌, ◌≢◌, ℕ, ◌≤◌, length, IfOk, IfErr, IfSome, OnOk, Ok, false};
 ghost use Rattle.script_text.specs.Scripts.{Parsed, IsScript, IsFirstUnreached, IsDraft, script_of};
-ghost use Rattle.script_text.specs.Rows.{AreRows};
 ghost use Rattle.script_text.specs.Readings.{IsFault, Incomplete};
 
 use crate::causes::{ScriptCause, ScriptFault};
 use crate::lines::ScriptLine;
 use crate::reached::{first_unmarked, reached_threads};
 use crate::readings::read_lines;
-use crate::rows::rows;
-use event_core::{Limits, ThreadId};
+use event_core::Limits;
 use rapid_text::{Input, Kind, Names};
 use std::alloc::Global;
 use std::marker::Model;
@@ -43,25 +39,6 @@ fn check_forks(alloc: Global, names: &Names, lines: &[ScriptLine]) -> Result<(),
     Ok(())
 }
 
-/// The lines of each thread, of lines that were judged one after another and to whose threads forks lead.
-fn checked_rows(
-    alloc: Global,
-    names: &Names,
-    lines: &[ScriptLine],
-) -> Result<Vec<Vec<ScriptLine>>, ScriptFault>
-    requires { IsDraft (record { names = names.now; lines = lines.now }) }
-    ensures script { OnOk result (IsScript (record { names = names.now; lines = lines.now })) }
-    ensures count { IfOk result (λ by_thread. length by_thread.items ≡ length names.now.threads.names) }
-    ensures rows { IfOk result (λ by_thread. AreRows by_thread.items lines.now) }
-    ensures fault { IfErr result (λ f. Incomplete lines.now f) }
-{
-    check_forks(alloc, names, lines)?;
-    match rows(alloc, lines, names.count(Kind::Thread)) {
-        Ok(by_thread) => Ok(by_thread),
-        Err(_) => Err(no_memory()),
-    }
-}
-
 /// The script of lines that were judged one after another.
 fn whole_script(alloc: Global, names: Names, lines: Vec<ScriptLine>) -> Result<Script, ScriptFault>
     requires { IsDraft (record { names = names; lines = lines.items }) }
@@ -69,12 +46,8 @@ fn whole_script(alloc: Global, names: Names, lines: Vec<ScriptLine>) -> Result<S
     ensures script { IfOk result (λ s. IsScript s) }
     ensures fault { IfErr result (λ f. Incomplete lines.items f) }
 {
-    match checked_rows(alloc, &names, lines.as_slice()) {
-        Ok(by_thread) => Ok(Script {
-            names,
-            lines,
-            by_thread,
-        }),
+    match check_forks(alloc, &names, lines.as_slice()) {
+        Ok(()) => Ok(Script { names, lines }),
         Err(fault) => {
             drop(names);
             drop(lines);
@@ -83,24 +56,19 @@ fn whole_script(alloc: Global, names: Names, lines: Vec<ScriptLine>) -> Result<S
     }
 }
 
-/// A script without fault: its names, and its lines in order, also by thread.
+/// A script without fault: its names, and its lines in order.
 ///
 /// The first line is one of thread 0, forks lead from it to each thread that a line names, and no thread is
 /// forked or joined twice.
 pub struct Script {
     names: Names,
     lines: Vec<ScriptLine>,
-    by_thread: Vec<Vec<ScriptLine>>,
 }
 
 // By hand, so that a crate that drops one does not prove the drop of each type within again.
 impl Drop for Script {
     fn drop(self) {
-        let Script {
-            names: _,
-            lines: _,
-            by_thread: _,
-        } = self;
+        let Script { names: _, lines: _ } = self;
     }
 }
 
@@ -109,9 +77,7 @@ impl Model for Script {
 
     ghost view = { λ s. record { names = s.names; lines = s.lines.items } };
 
-    ghost invariant = { λ s. IsScript (record { names = s.names; lines = s.lines.items })
-        × (length s.by_thread.items ≡ length s.names.threads.names)
-        × AreRows s.by_thread.items s.lines.items };
+    ghost invariant = { λ s. IsScript (record { names = s.names; lines = s.lines.items }) };
 }
 
 impl Script {
@@ -165,14 +131,5 @@ impl Script {
         ensures { result.now ≡ self.entry.now.lines }
     {
         self.lines.as_slice()
-    }
-
-    /// The lines of one thread, which is one of those named, in their order.
-    pub fn lines_of(&self, thread: ThreadId) -> &[ScriptLine]
-        requires { thread.0 < length self.now.names.threads.names }
-        ensures { result.now ≡ filter (is_of thread.0) self.entry.now.lines }
-    {
-        let row: &Vec<ScriptLine> = &self.by_thread[thread.0 as usize];
-        row.as_slice()
     }
 }

@@ -1,10 +1,11 @@
 -- What is said of each lock after a call on one of them.
 use Rattle.std.proofs.Common.{◌≡◌, ℕ, ◌<◌, ◌≤◌, Bool, true, false, ◌⊎◌, inl, inr, List, [], ◌++◌, cond}
-use Rattle.std.proofs.Common.{length}
+use Rattle.std.proofs.Common.{length, get_or}
 use Rattle.std.proofs.Common.{nat_eq, set, refl, sym, ap, subst, ◌∙◌, arith}
 use Rattle.std.specs.Prelude.{nat_lt}
 use Rattle.std.proofs.lemmas.Bool.{cases_lt, eq-eqb, ltb-true, lt-ltb}
-use Rattle.std.proofs.lemmas.List.{get_or-set_same, get_or-set_other, get_or_past, length_push}
+use Rattle.std.proofs.lemmas.List.{get_or-set_same, get_or-set_other, get_or_past, get_or_default}
+use Rattle.std.proofs.lemmas.List.{length_push}
 use Rattle.event_core.specs.declared.events.AccessKind.{AccessKind}
 use Rattle.event_core.specs.declared.events.AccessKind.TheVariants.{Read, Write}
 use Rattle.section_sum.specs.declared.cells.Place.{Place}
@@ -25,6 +26,15 @@ pub kept_set : (l : ℕ) (s : Stored) (locks : List Kept) (k : Kept) → l < len
     → ((m : ℕ) → (m ≡ l → ⊥) → IsKept m s (kept_at locks m)) → AreKept s (set locks l k)
 kept_set l s locks k h own others m =
     at_set no_kept (λ (i : ℕ) (q : Kept). IsKept i s q) locks l k h own m (λ n. others m n)
+
+-- what is kept of a lock that was read, and written back as it was
+pub kept_read : (l : ℕ) (s : Stored) (locks : List Kept) (k : Kept) → l < length locks → AreKept s locks
+    → k ≡ get_or locks l k → IsKept l s k
+kept_read l s locks k h kept e = subst (IsKept l s) (sym (e ∙ get_or_default locks l k no_kept h)) (kept l)
+
+pub kept_back : (l : ℕ) (s : Stored) (locks : List Kept) (k : Kept) → l < length locks → AreKept s locks
+    → k ≡ get_or locks l k → AreKept s (set locks l k)
+kept_back l s locks k h kept e = kept_set l s locks k h (kept_read l s locks k h kept e) (λ m n. kept m)
 
 -- what is said of the other locks
 pub says_other : (l m : ℕ) (old new : Stored) (locks : List Kept) (k : Kept) → (m ≡ l → ⊥)

@@ -1,7 +1,7 @@
 -- A text that was pulled whole, and what it comes to.
 use Rattle.std.proofs.Common.{◌≡◌, ℕ, ◌*◌, ◌≤◌, List, [], ◌++◌, Option, Some, None, Err, true, false}
 use Rattle.std.proofs.Common.{length, length-append, append-nil, refl, sym, ap, subst, ◌∙◌, arith, ◌⊎◌, inl}
-use Rattle.std.proofs.Common.{inr, Bool}
+use Rattle.std.proofs.Common.{inr}
 use Rattle.std.specs.Prelude.{IfSome, IsSomeAnd}
 use Rattle.std.specs.Io.KnownBytes.{Consumes, IsAtEnd}
 use Rattle.event_core.specs.declared.bounds.Limits.{Limits}
@@ -44,6 +44,13 @@ many_bytes (Some text) (Some rest) bytes turns came many =
     let both : length text ≡ length (bytes ++ rest) = ap (λ (t : List ℕ). length t) came in
     let parts = length-append bytes rest in
     omega arith
+
+-- unless the reading failed
+pub failed_or_many : {Failed : Type 0} (left rest : Option (List ℕ)) (bytes : List ℕ) (turns : ℕ)
+    → Consumes left rest bytes → Failed ⊎ (turns ≤ length bytes)
+    → Failed ⊎ IfSome left (λ text. turns ≤ length text)
+failed_or_many left rest bytes turns came (inl failed) = inl failed
+failed_or_many left rest bytes turns came (inr many) = inr (many_bytes left rest bytes turns came many)
 
 -- ---- what was fed
 
@@ -150,6 +157,11 @@ trace_is_found m left B C s names f ends =
       named = e.named f.named;
       finds = f.same ∙ e.finds;
     }
+
+-- what holds of a fault holds where it is the one that stands
+pub if_stands : (P : ReplayFault → Type 0) {o : Option ReplayFault} {f : ReplayFault} → o ≡ Some f → P f
+    → IfSome o P
+if_stands P is h = subst (λ (o : Option ReplayFault). IfSome o P) (sym is) h
 
 pub stood_short : (P : ReplayFault → Type 0) (o : Option ReplayFault) (f : ReplayFault)
     → IfSome o (λ g. is_short g ≡ true → P g) → o ≡ Some f → is_short f ≡ true → P f

@@ -91,7 +91,6 @@ fn put_event<W: Output>(
 }
 
 /// Puts the line of an event that races with an earlier one.
-#[tactic(auto, using(crate::proofs::Races::race_put))]
 pub fn put_race<W: Output>(
     page: &mut Page,
     writer: &mut W,

@@ -33,6 +33,14 @@ padded_push xs ys x d e is j i = (ap (λ zs. get_or zs i d) (e ∙ ap (λ z. xs 
 pub grown_none : (xs : List ThreadRow) → Grown xs xs
 grown_none xs = record { rows = refl; more = omega arith; capacity = λ u. omega arith }
 
+-- growth upon growth
+pub grown_more : {old mid new : List ThreadRow} → Grown old mid → Grown mid new → Grown old new
+grown_more a b = record {
+  rows = b.rows ∙ a.rows;
+  more = omega (arith, a.more, b.more);
+  capacity = λ u. omega (arith, a.capacity u, b.capacity u);
+}
+
 -- rows that read the same, and no fewer
 pub grown_same : (old new : List ThreadRow) → length old ≤ length new
     → ((u : ℕ) → thread_at new u ≡ thread_at old u) → Grown old new

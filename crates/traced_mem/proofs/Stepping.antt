@@ -27,6 +27,12 @@ refilled n xs ys e f =
     ap (λ rest. take n (xs ++ rest)) (drop_of_length-le ys (omega arith)) ∙ ap (take n) (append-nil xs)
     ∙ take_all n xs (omega arith)
 
+-- the same, of a list that was lent whole
+pub given_back : {A : Type 0} {n : ℕ} {lent ys : List A} (xs : List A) → lent ≡ ys → length lent ≡ n
+    → length xs ≡ length lent → take n (xs ++ drop (length xs) ys) ≡ xs
+given_back {n = n} {ys = ys} xs same len e =
+    refilled n xs ys (e ∙ ap length same) (sym len ∙ ap length same)
+
 -- how many locks a thread holds
 count : (ℕ → Thread) → ℕ → ℕ
 count f u = length (f u).held

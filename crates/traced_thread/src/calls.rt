@@ -1,7 +1,9 @@
 //! Accesses and locks.
-ghost use Rattle.std.specs.Prelude.{◌≡◌, Some, IfOk, IfErr};
+ghost use Rattle.std.specs.Prelude.{◌≡◌, ◌≤◌, Some, IfOk, IfErr};
 ghost use Rattle.event_core.specs.Refusal.{refusal};
 ghost use Rattle.event_core.specs.Steps.{log_of};
+ghost use Rattle.event_core.specs.declared.ids.ThreadId.{ThreadId as Thread};
+ghost use Rattle.event_core.specs.declared.replies.Refusal.TheVariants.{Held};
 ghost use Rattle.live_monitor.specs.Calls.{
   load_by,
   store_by,
@@ -11,10 +13,12 @@ ghost use Rattle.live_monitor.specs.Calls.{
   Declined,
 };
 ghost use Rattle.live_monitor.specs.Swaps.{AcceptedSwap, DeclinedSwap};
+ghost use Rattle.live_monitor.specs.Tries.{AreUsedUp};
 ghost use Rattle.traced_thread.specs.Handles.{HasComeTo};
 
 use crate::handle::{TracedThread, take};
 use event_core::{LockId, Refusal, Reply, SiteId, SwapReply, VarId};
+use live_monitor::Tries;
 use log_pass::Name;
 use std::sync::Wait;
 
@@ -87,20 +91,23 @@ impl<'m, N: Name> TracedThread<'m, N> {
         answer
     }
 
-    /// Acquires the lock. While another thread holds it, it is tried again, so many times in all, and once at
-    /// least; no clause tells how often. `Held` is the answer of the last try.
+    /// Acquires the lock. It is tried once at least, and again while another thread holds it and tries are
+    /// left. `Held` is the answer only where all were made.
     pub fn acquire_within<R: Wait>(
         &mut self,
         rt: &R,
         lock: LockId,
         site: SiteId,
-        tries: u32,
+        tries: &mut Tries,
     ) -> Result<Reply, Refusal>
         ensures later { HasComeTo N.limits self.old self.new }
         ensures accepted { IfOk result
             (λ reply. Accepted N.limits (acquire_by self.old.thread lock site) self.old self.new reply) }
         ensures declined { IfErr result
             (λ answer. Declined N.limits (acquire_by self.old.thread lock site) self.old self.new answer) }
+        ensures used_up { (by : Thread) → IfErr result (λ answer. answer ≡ Held by → AreUsedUp tries.new) }
+        ensures same_most { tries.new.most ≡ tries.old.most }
+        ensures counts_up { tries.old.made ≤ tries.new.made }
     {
         let pass = take(&mut self.pass);
         let (pass, answer) = self.monitor.acquire_within(rt, pass, lock, site, tries);

@@ -3,7 +3,7 @@ use Rattle.std.proofs.Common.{◌≡◌, ℕ, ◌<◌, ◌≤◌, List, [], ◌�
 use Rattle.std.proofs.Common.{replicate, refl, sym, ap, subst, ◌∙◌, arith, inl, inr, ◌⊎◌}
 use Rattle.std.proofs.lemmas.Bool.{cases_lt, cases_eq}
 use Rattle.std.proofs.lemmas.List.{get_or_past, get_or_read}
-use Rattle.std.proofs.lemmas.List.{get_or-replicate, length-replicate}
+use Rattle.std.proofs.lemmas.List.{get_or-replicate, get_or-set_same, get_or-set_other, length-replicate}
 use Rattle.event_core.specs.Rows.{no_clock}
 use Rattle.event_core.proofs.Growing.{row_same, row_other}
 use Rattle.vector_clocks.specs.Counts.{counts_of}
@@ -58,7 +58,54 @@ module _ (w at : ℕ) (rows : List (List ℕ)) (row : List ℕ) (within : at < l
           ∙ zeros_for w row rows at is none)
       go t (inr n) = read_set counts_of rows at row t within ∙ row_other at (counts_of row) (rows_of rows) t n
 
+-- a row with numbers lies within the table
+pub row_within : (rows : List (List ℕ)) (t : ℕ) → 0 < widths_of rows t → t < length rows
+row_within rows t some = go (cases_lt t (length rows))
+  where
+    go : (t < length rows) ⊎ (length rows ≤ t) → t < length rows
+    go (inl lt) = lt
+    go (inr le) = absurd (let none : widths_of rows t ≡ 0 = ap length (no_row rows t le) in omega arith)
+
+-- so does a clock that was made
+pub made_within : {w : ℕ} {rows : List (List ℕ)} {t : ℕ} → IsMade w rows t → 0 < w → t < length rows
+made_within {rows = rows} {t = t} made some = row_within rows t (omega (arith, made.wide))
+
 -- a row that was read
 pub read_width : (rows : List (List ℕ)) (t : ℕ) (row : List ℕ) → t < length rows → row ≡ get_or rows t row
     → widths_of rows t ≡ length row
 read_width rows t row lt is = sym (ap length (get_or_read rows t row lt is []))
+
+-- the row at this place was made, and no other
+pub record Remade (w at : ℕ) (old new : List (List ℕ)) : Type 0 where
+  pub same : rows_of new ≡ rows_of old
+  pub others : (t : ℕ) → (t ≡ at → ⊥) → widths_of new t ≡ widths_of old t
+  pub made : widths_of new at ≡ w
+
+-- in a table that had grown by rows that were not made
+pub remade : (w at : ℕ) (old rows : List (List ℕ)) (found row : List ℕ)
+    → ((t : ℕ) → row_at rows t ≡ row_at old t) → at < length rows → found ≡ get_or rows at found
+    → length found ≡ 0 → row ≡ replicate w 0 → Remade w at old (set rows at row)
+remade w at old rows found row same within read none is = record {
+  same = made_rows w at rows row within (read_width rows at found within read ∙ none) is
+      ∙ (λ i t. counts_of (same t i));
+  others = λ t n. ap length (get_or-set_other rows at t row [] n) ∙ ap length (same t);
+  made = ap length (get_or-set_same rows at row [] within) ∙ (ap length is ∙ length-replicate w 0);
+}
+
+module _ (w at : ℕ) (old new : List (List ℕ)) (r : Remade w at old new) where
+  pub remade_made : IsMade w new at
+  remade_made = record { wide = r.made }
+
+  pub remade_kept : (t : ℕ) → IsMade w old t → IsMade w new t
+  remade_kept t m = go (cases_eq t at)
+    where
+      go : (t ≡ at) ⊎ (t ≡ at → ⊥) → IsMade w new t
+      go (inl q) = subst (IsMade w new) (sym q) remade_made
+      go (inr n) = record { wide = r.others t n ∙ m.wide }
+
+  pub remade_wide : AreWide w old → AreWide w new
+  remade_wide a = record { wide = λ t some. go t some (cases_eq t at) }
+    where
+      go : (t : ℕ) → 0 < widths_of new t → (t ≡ at) ⊎ (t ≡ at → ⊥) → widths_of new t ≡ w
+      go t some (inl q) = ap (widths_of new) q ∙ r.made
+      go t some (inr n) = r.others t n ∙ a.wide t (subst (λ k. 0 < k) (r.others t n) some)

@@ -1,7 +1,7 @@
 -- Tables whose clocks keep their widths.
-use Rattle.std.proofs.Common.{◌≡◌, ℕ, List, sym, subst}
+use Rattle.std.proofs.Common.{◌≡◌, ℕ, ◌<◌, List, length, sym, subst}
 use Rattle.vector_clocks.specs.Rows.{widths_of, IsMade}
-use Rattle.vector_clocks.proofs.MadeRows.{made_kept, wide_kept}
+use Rattle.vector_clocks.proofs.MadeRows.{made_kept, made_within, wide_kept}
 use Rattle.wcp_clocks.specs.StrictRows.{StrictTables, HasThread, HasLock, SameRoom, AreTables}
 
 -- the clocks have the widths that they had
@@ -48,3 +48,14 @@ tables_kept old new zeros same a = record {
   thread_wide = wide_kept old.width old.thread new.thread same.thread a.thread_wide;
   lock_wide = wide_kept old.width old.lock new.lock same.lock a.lock_wide;
 }
+
+-- the rows that are named are among those that are read
+module _ {found now : StrictTables} {zeros : List ℕ} {t : ℕ} {read : List (List ℕ)} (is : found ≡ now)
+    (a : AreTables found.width zeros found.thread found.lock) where
+  pub thread_within : read ≡ found.thread → HasThread now t → t < length read
+  thread_within e has = subst (λ (rows : List (List ℕ)). t < length rows) (sym e)
+      (made_within (subst (λ (v : StrictTables). HasThread v t) (sym is) has).made a.some)
+
+  pub lock_within : read ≡ found.lock → HasLock now t → t < length read
+  lock_within e has = subst (λ (rows : List (List ℕ)). t < length rows) (sym e)
+      (made_within (subst (λ (v : StrictTables). HasLock v t) (sym is) has).made a.some)

@@ -247,15 +247,21 @@ pub record HasTaken (s : Sums) (closed : ℕ → List Closed) (x : ℕ) (k : Acc
   pub made : after.joins ≡ before.joins + joins_under s closed x k t (rows_of old.thread t) locks
   pub comparisons : after.comparisons ≡ before.comparisons
 
+join_again : (a b c : ℕ → ℕ) → join (join a b) c ≡ join a (join b c)
+join_again a b c i u = at (a u) (b u) (c u) i
+  where
+    at : (p q r : ℕ) → max (max p q) r ≡ max p (max q r)
+    at p q r = omega arith
+
 -- the clock of one lock more
 join_all_more : (source : ℕ → ℕ → ℕ) (f : ℕ → ℕ) (locks : List ℕ) (l : ℕ)
     → join f (join_all source (locks ++ l ∷ [])) ≡ join (join f (join_all source locks)) (source l)
-join_all_more source f locks l i u = go f locks u i
-  where
-    go : (f : ℕ → ℕ) (ls : List ℕ) (u : ℕ)
-        → max (f u) (join_all source (ls ++ l ∷ []) u) ≡ max (max (f u) (join_all source ls u)) (source l u)
-    go f [] u = omega arith
-    go f (m ∷ ms) u = let e = go f ms u in omega arith
+join_all_more source f [] l =
+    ap (join f) (join_nothing (source l)) ∙ ap (λ g. join g (source l)) (sym (join_nothing f))
+join_all_more source f (m ∷ ms) l =
+    sym (join_again f (source m) (join_all source (ms ++ l ∷ [])))
+    ∙ join_all_more source (join f (source m)) ms l
+    ∙ ap (λ g. join g (source l)) (join_again f (source m) (join_all source ms))
 
 -- and its joins
 joins_more : (s : Sums) (closed : ℕ → List Closed) (x : ℕ) (k : AccessKind) (t : ℕ) (f : ℕ → ℕ)
@@ -273,12 +279,6 @@ joins_more s closed x k t f (m ∷ ms) l =
     let same = ap (λ (g : ℕ → ℕ). joins_for (closed l) g (sources_of s l x k t))
     (join_again f (source m) (join_all source ms)) in
     omega arith
-  where
-    join_again : (a b c : ℕ → ℕ) → join (join a b) c ≡ join a (join b c)
-    join_again a b c i u = at (a u) (b u) (c u) i
-      where
-        at : (p q r : ℕ) → max (max p q) r ≡ max p (max q r)
-        at p q r = omega arith
 
 pub taken_begins : (s : Sums) (closed : ℕ → List Closed) (x : ℕ) (k : AccessKind) (t : ℕ)
     (old : StrictTables) (before : Done) → IsWhole closed (rows_of old.thread t)

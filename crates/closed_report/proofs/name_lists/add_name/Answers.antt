@@ -1,12 +1,15 @@
 use Rattle.std.proofs.Common.{◌<◌, arith, length, refl, rules}
+use Rattle.event_core.proofs.Tests.{not_both}
 use Rattle.rapid_text.specs.Tables.{space}
 use Rattle.closed_report.proofs.Listing.{given_before, name_added, no_more}
 use Rattle.closed_report.proofs.name_lists.add_name.Goals as goal
 
 pub returns-then-not-is_name_of-clause-fault : goal.returns-then-not-is_name_of-clause-fault
-returns-then-not-is_name_of-clause-fault c =
-    let no = c.if-not-is_name_of.true in
-    (refl, c.count-number.ensures.is, λ named. let yes = c.is_name_of.ensures.1 named in absurd cc)
+returns-then-not-is_name_of-clause-fault c = (
+  refl,
+  c.count-number.ensures.is,
+  λ named. not_both (c.is_name_of.ensures.1 named) c.if-not-is_name_of.true,
+)
 
 pub returns-then-given-number-clause-fault : goal.returns-then-given-number-clause-fault
 returns-then-given-number-clause-fault c =

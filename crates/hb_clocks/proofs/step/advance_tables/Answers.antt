@@ -10,6 +10,7 @@ use Rattle.hb_clocks.specs.Tables.{hb_rows, HasThread, HasClocks}
 use Rattle.vector_clocks.specs.Rows.{rows_of, widths_of}
 use Rattle.hb_clocks.proofs.TableSteps.{child_step, lock_step, own_few, brought_few, depth_few, exact_step}
 use Rattle.hb_clocks.proofs.TableSteps.{effect_told, thread_kept, clocks_kept}
+use Rattle.vector_clocks.proofs.MadeRows.{row_within}
 use Rattle.hb_clocks.proofs.step.advance_tables.Goals as goal
 
 pub count_depth-outer-requires-clause-few : goal.count_depth-outer-requires-clause-few
@@ -22,6 +23,10 @@ bump_row-requires-clause-within c =
     let e : widths_of c.take.new.po t ≡ widths_of c.args.po.now t =
     ap (λ (f : ℕ → ℕ). f t) c.take.ensures.po_widths in
     subst (λ n. t < n) (sym e) c.requires.thread.within
+
+pub bump_row-requires-clause-room : goal.bump_row-requires-clause-room
+bump_row-requires-clause-room c =
+    row_within c.take.new.po c.args.event.now.thread.0 (omega (arith, bump_row-requires-clause-within c))
 
 pub bump_row-requires-clause-few : goal.bump_row-requires-clause-few
 bump_row-requires-clause-few c =
@@ -40,6 +45,10 @@ bump_row-requires-2-clause-within c =
     let e : widths_of c.take.new.hb t ≡ widths_of c.args.hb.now t =
     ap (λ (f : ℕ → ℕ). f t) c.take.ensures.hb_widths in
     subst (λ n. t < n) (sym (e ∙ c.requires.thread.hb_made.wide)) c.requires.thread.within
+
+pub bump_row-requires-2-clause-room : goal.bump_row-requires-2-clause-room
+bump_row-requires-2-clause-room c =
+    row_within c.take.new.hb c.args.event.now.thread.0 (omega (arith, bump_row-requires-2-clause-within c))
 
 pub bump_row-requires-2-clause-few : goal.bump_row-requires-2-clause-few
 bump_row-requires-2-clause-few c =

@@ -1,7 +1,27 @@
-use Rattle.std.proofs.Common.{◌+◌, arith, length-append, rules, take}
-use Rattle.std.proofs.lemmas.List.{length-take-le}
-use Rattle.rapid_text.proofs.FeedLaws.{pulled_more, given}
+use Rattle.std.proofs.Common.{ℕ, [], ◌+◌, arith, length-append, refl, rules, take}
+use Rattle.std.proofs.KnownBytes.{Consumes-nil}
+use Rattle.std.proofs.lemmas.List.{length-replicate, length-take-le}
+use Rattle.rapid_text.proofs.FeedLaws.{cut_not_whole, stopped_not_cut, pulled_more, given}
 use Rattle.rapid_text.proofs.feeding.feed_all.Goals as goal
+
+pub pulls-init : goal.pulls-init
+pulls-init g c =
+    record {
+      pulled = record {
+        bytes = [];
+        came = Consumes-nil (g.I.Input.left c.args.input.now);
+        few = omega arith;
+        so = (g.met.S.Sink.takes_nothing c.args.sink.now, omega arith);
+      };
+      room = length-replicate {A = ℕ} 65536 0;
+      healthy = refl;
+    }
+
+pub returns-clause-whole : goal.returns-clause-whole
+returns-clause-whole g c is = absurd (cut_not_whole is)
+
+pub returns-then-not-feed-clause-cut : goal.returns-then-not-feed-clause-cut
+returns-then-not-feed-clause-cut g c is = absurd (stopped_not_cut is)
 
 pub returns-then-not-feed-clause-stopped : goal.returns-then-not-feed-clause-stopped
 returns-then-not-feed-clause-stopped g c is =

@@ -1,8 +1,10 @@
 use Rattle.std.proofs.Common.{take, drop}
+use Rattle.script_drive.specs.Lines.{lines_by}
 use Rattle.script_drive.specs.Workers.{HasDone, Serves}
 use Rattle.script_drive.proofs.lines.run_lines.Given as goal
 
 abbrev pub invariant-loop-line : goal.invariant-loop-line
 invariant-loop-line g l =
-    HasDone g.S.Text.script.lines l.fn.pass.thread l.pass (take l.line-index l.lines)
-    × Serves l.links (drop l.line-index l.lines)
+    let t = l.fn.pass.thread in
+    HasDone g.S.Text.script.lines t l.pass (lines_by t (take l.line-index l.line-items))
+    × Serves l.links (lines_by t (drop l.line-index l.line-items))

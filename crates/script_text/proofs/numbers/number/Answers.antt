@@ -3,6 +3,7 @@ use Rattle.std.proofs.Common.{Some, subst, true}
 use Rattle.std.specs.Char.{is_ascii_digit}
 use Rattle.std.specs.List.{list_all}
 use Rattle.std.proofs.lemmas.List.{take_all}
+use Rattle.std.proofs.lemmas.List.Folds.{list_all_more}
 use Rattle.script_text.specs.Numbers.{decimal_value}
 use Rattle.script_text.proofs.Digits.{too_large, one_more, no_digit, all_digits, no_length, too_many}
 use Rattle.script_text.proofs.Digits.{no_is_zero, some_length, not_below}
@@ -45,3 +46,10 @@ returns c =
     let some = some_length (length c.args.digits.now) (sym c.is_empty.ensures ∙ c.if-is_empty.false) in
     ap Some value ∙ sym (all_digits c.args.digits.now some (omega (arith, c.if-digits-gt20.false)) digits
     (omega (arith, value, c.digits.invariant.fits)))
+
+pub digits-preserved : goal.digits-preserved
+digits-preserved c =
+    let at = c.digits.digit-index in
+    let more = list_all_more is_ascii_digit c.args.digits.now at 0 c.digits-test.true in
+    let value = one_more c.args.digits.now at c.digits-test.true in
+    grind (arith, more, value)

@@ -1,4 +1,4 @@
-use Rattle.std.proofs.Common.{◌≡◌, Bool, true, ap, sym, ◌∙◌}
+use Rattle.std.proofs.Common.{◌≡◌, ◌<◌, ℕ, Bool, true, ap, sym, ◌∙◌, subst}
 use Rattle.std.specs.Prelude.{if◌then◌else◌}
 use Rattle.std.proofs.lemmas.Option.{slice_get-get_or}
 use Rattle.script_text.proofs.Marking.{marks_reached, keeps_line, pass_line, pass_ends}
@@ -31,3 +31,8 @@ returns-clause-closed c = λ isnt.
     pass_ends c.args.lines.now c.args.marks.now c.lines.marks c.lines.line-index c.lines.changed
     c.lines-test.false
     c.lines.invariant.passed isnt
+
+pub mark-requires : goal.mark-requires
+mark-requires c = λ u named.
+    let at = slice_get-get_or c.args.lines.now c.lines.line-index _ c.lines-test.true in
+    subst (λ (n : ℕ). u < n) (sym c.lines.auto.marks) (c.requires.below c.lines.line-index _ u at named)

@@ -1,4 +1,5 @@
-use Rattle.std.proofs.Common.{[], ap, ◌∙◌, refl}
+use Rattle.std.proofs.Common.{[], ap, ◌∙◌, refl, sym}
+use Rattle.std.proofs.lemmas.Bool.{false≢true}
 use Rattle.rapid_line.specs.Lines.{Lines}
 use Rattle.rapid_text.proofs.Pieces.{goes_down}
 use Rattle.script_text.specs.Readings.{progress}
@@ -9,10 +10,8 @@ use Rattle.script_text.proofs.readings.take_lines.Goals as goal
 pub returns-then-not-has_room-clause-fault : goal.returns-then-not-has_room-clause-fault
 returns-then-not-has_room-clause-fault c =
     no_room (progress c.args.names.now c.args.lines.now.items c.args.cutter.now) c.args.piece.now
-    c.read_fault.result c.read_fault.ensures (λ le.
-    let has = c.has_room.ensures.1 le in
-    let lacks = c.if-not-has_room.true in
-    absurd cc)
+    c.read_fault.result c.read_fault.ensures
+    (λ le. false≢true (sym c.if-not-has_room.true ∙ c.has_room.ensures.1 le))
 
 pub lines-init : goal.lines-init
 lines-init c =

@@ -1,4 +1,4 @@
-use Rattle.std.proofs.Common.{rules, ◌≡◌, ◌<◌, length, sym, ap, ◌∙◌}
+use Rattle.std.proofs.Common.{rules, ◌≡◌, ◌<◌, length, sym, ap, ◌∙◌, arith}
 use Rattle.std.proofs.lemmas.List.{get_or_default}
 use Rattle.std.specs.Prelude.{nat_eq}
 use Rattle.section_sum.specs.Cell.{cell_at, closed_as}
@@ -6,8 +6,20 @@ use Rattle.section_sum.specs.Cells.{lock_at}
 use Rattle.section_sum.specs.Kept.{Kept, no_kept, kept_at}
 use Rattle.section_sum.proofs.Keeping.{kept_other}
 use Rattle.section_sum.proofs.Passing.{closed_one}
-use Rattle.section_sum.proofs.Sayings.{kept_set, says_other, says_ended, ended_changed, ended_none}
+use Rattle.section_sum.proofs.Sayings.{kept_set, kept_read, kept_back, says_other, says_ended}
+use Rattle.section_sum.proofs.Sayings.{ended_changed, ended_none}
 use Rattle.section_sum.proofs.locks.close_under.Goals as goal
+
+pub close-requires : goal.close-requires
+close-requires c = record {
+  kept = kept_read c.args.lock.0 c.args.cells.now c.args.locks.now.items c.index_mut-kept.result.now
+      (omega (arith, c.if-at-len.true, c.len.ensures)) c.requires.kept c.index_mut-kept.ensures.value;
+}
+
+pub returns-else-eq-clause-kept : goal.returns-else-eq-clause-kept
+returns-else-eq-clause-kept c =
+    kept_back c.args.lock.0 c.args.cells.now c.args.locks.now.items c.index_mut-kept.result.now
+    (omega (arith, c.if-at-len.true, c.len.ensures)) c.requires.kept c.index_mut-kept.ensures.value
 
 pub returns-then-eq-clause-kept : goal.returns-then-eq-clause-kept
 returns-then-eq-clause-kept c =

@@ -1,4 +1,5 @@
-use Rattle.std.proofs.Common.{◌≡◌, true, get_or, sym, ◌∙◌}
+use Rattle.std.proofs.Common.{◌≡◌, true, get_or, sym, ap, ◌∙◌, List}
+use Rattle.std.proofs.lemmas.List.{take_all}
 use Rattle.event_core.specs.declared.ids.LockId.{LockId}
 use Rattle.section_sum.specs.Entries.{entries_of}
 use Rattle.section_sum.specs.Sums.{is_held}
@@ -29,3 +30,9 @@ returns-in_err-make_room_under-clause-refused c =
     ≡ true = is_held_at c.args.held.now c.loop-lock.lock-index _ c.loop-lock-test.true in
     refused c.from_residual.result _
     (λ all. false_true (c.in_err-make_room_under.ensures.room ∙ all l.0 on))
+
+pub returns-clause-room : goal.returns-clause-room
+returns-clause-room c l on =
+    c.loop-lock.invariant.room l
+    (ap (λ (held : List LockId). is_held held l) (take_all c.loop-lock.lock-index c.args.held.now
+    c.loop-lock-test.false) ∙ on)

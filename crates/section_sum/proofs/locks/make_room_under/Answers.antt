@@ -2,7 +2,7 @@ use Rattle.std.proofs.Common.{rules, sym, ap, subst, ◌∙◌}
 use Rattle.std.proofs.lemmas.List.{get_or_default}
 use Rattle.section_sum.specs.Kept.{Kept, IsKept, no_kept}
 use Rattle.section_sum.proofs.Keeping.{no_room}
-use Rattle.section_sum.proofs.Sayings.{grown_kept, grown_says}
+use Rattle.section_sum.proofs.Sayings.{kept_read, grown_kept, grown_says}
 use Rattle.section_sum.proofs.locks.make_room_under.Goals as goal
 
 pub returns-in_err-make_lock-clause-room : goal.returns-in_err-make_lock-clause-room
@@ -11,6 +11,14 @@ returns-in_err-make_lock-clause-room c =
     (λ m. subst (IsKept m c.args.cells.now) (sym (c.make_lock.ensures.same m)) (c.requires.kept m))
     c.in_err-make_lock.ensures.refused in
     search (rules, none)
+
+pub make_room-requires : goal.make_room-requires
+make_room-requires c = record {
+  kept = kept_read c.args.lock.0 c.args.cells.now c.make_lock.new.locks.items c.index_mut-kept.result.now
+      c.in_ok-make_lock.ensures.there
+      (λ m. subst (IsKept m c.args.cells.now) (sym (c.make_lock.ensures.same m)) (c.requires.kept m))
+      c.index_mut-kept.ensures.value;
+}
 
 pub returns-clause-kept : goal.returns-clause-kept
 returns-clause-kept c =

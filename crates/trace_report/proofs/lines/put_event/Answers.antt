@@ -1,10 +1,10 @@
-use Rattle.std.proofs.Common.{◌≡◌, ◌∙◌, ◌+◌, ap, sym, ℕ, List, [], Option, Some}
+use Rattle.std.proofs.Common.{◌≡◌, ◌∙◌, ◌+◌, ◌<◌, ap, sym, subst₂, ℕ, List, [], length, Option, Some}
 use Rattle.std.specs.Prelude.{unwrap_or, decimal, slice_get}
 use Rattle.event_core.specs.declared.events.Event.{Event}
 use Rattle.std.proofs.lemmas.Result.{on_ok_weaker}
 use Rattle.rapid_line.specs.Grammar.{Named, spelling}
 use Rattle.rapid_text.specs.declared.causes.Kind.{Kind}
-use Rattle.rapid_text.specs.Tables.{name_at}
+use Rattle.rapid_text.specs.Tables.{name_at, space}
 use Rattle.rapid_text.specs.Events.{named_by, kind_of, word_of_op}
 use Rattle.trace_report.specs.Reports.{numbered}
 use Rattle.trace_report.proofs.Putting.{put_both, put_same}
@@ -38,3 +38,13 @@ returns-clause-ok g c =
     (put_both c.in_ok-put-4.ensures.ok (put_both c.in_ok-put-5.ensures.ok
     (put_both c.in_ok-put-6.ensures.ok (put_both c.in_ok-put-7.ensures.ok h)))))))))
     c.put-8.ensures.ok
+
+pub name-requires-2 : goal.name-requires-2
+name-requires-2 g c =
+    let named = c.requires.named c.args.index c.in-Some.event (sym c.get.ensures ∙ c.in-Some.is) in
+    subst₂ (λ (k : Kind) (n : ℕ). n < length (space c.args.names.now k).names)
+    (sym c.parts_of-word.ensures.kind) (sym c.parts_of-word.ensures.number) named.target
+
+pub name-requires-3 : goal.name-requires-3
+name-requires-3 g c =
+    (c.requires.named c.args.index c.in-Some.event (sym c.get.ensures ∙ c.in-Some.is)).site

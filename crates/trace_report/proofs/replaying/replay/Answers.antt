@@ -3,7 +3,7 @@ use Rattle.event_core.specs.declared.events.Event.{Event}
 use Rattle.rapid_text.specs.Tables.{Tables}
 use Rattle.trace_report.specs.Feeding.{IsCutAt}
 use Rattle.trace_report.specs.Reports.{AreNamed}
-use Rattle.trace_report.proofs.TellingLaws.{trace_tells, never_short, short_stays}
+use Rattle.trace_report.proofs.TellingLaws.{trace_tells, fault_tells, is_the_fault, never_short, short_stays}
 use Rattle.trace_report.proofs.replaying.replay.Goals as goal
 
 pub tell_trace-answer-requires : goal.tell_trace-answer-requires
@@ -43,3 +43,11 @@ returns-in-Err-clause-cut g c =
 
 pub returns-clause-cut : goal.returns-clause-cut
 returns-clause-cut g c = never_short c.tell_trace-answer.result (λ _. _) c.tell_trace-answer.ensures.whole
+
+pub returns-in-Err-clause-tells : goal.returns-in-Err-clause-tells
+returns-in-Err-clause-tells g c gives =
+    let answer = c.tell_failure.result in
+    fault_tells c.args.limits (g.I.Input.left c.args.reader.now) (g.O.Output.written c.args.writer.now)
+    (g.O.Output.written c.tell_failure.new.writer) answer c.in-Err.fault
+    (is_the_fault answer c.in-Err.fault c.tell_failure.ensures.is gives) c.in-Err.ensures.fault
+    (c.tell_failure.ensures.tells gives) gives

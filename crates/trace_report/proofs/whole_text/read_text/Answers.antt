@@ -1,9 +1,6 @@
-use Rattle.std.proofs.Common.{◌≡◌, [], Option, rules, sym, subst, true}
-use Rattle.std.specs.Prelude.{IfSome}
-use Rattle.trace_report.proofs.Whole.{is_fed, fault_is_found, never_short}
+use Rattle.std.proofs.Common.{[], sym, subst}
+use Rattle.trace_report.proofs.Whole.{is_fed, fault_is_found, failed_or_many, if_stands, never_short}
 use Rattle.trace_report.proofs.CutTexts.{cut_text}
-use Rattle.trace_report.specs.declared.faults.ReplayFault.{ReplayFault}
-use Rattle.trace_report.specs.Feeding.{IsCutAt, is_short}
 use Rattle.trace_report.proofs.whole_text.read_text.Goals as goal
 
 pub returns-in_default-clause-fed : goal.returns-in_default-clause-fed
@@ -54,13 +51,19 @@ pub returns-clause-cut : goal.returns-clause-cut
 returns-clause-cut g c =
     let left = g.I.Input.left in
     let after = g.J.Judge.is_after in
-    let pulled = c.feed_all.ensures.cut (search rules) in
+    let pulled = c.feed_all.ensures.cut c.in-Cut.is in
     let takes = pulled.so.0 c.new-text.ensures.fault in
     let came = cut_text c.args.limits (after c.new-text.result.judge) (after c.feed_all.new.sink.judge)
     (left c.args.reader.now) (left c.feed_all.new.input) c.new-text.result.cutter c.feed_all.new.sink.cutter
     pulled.bytes c.new-text.ensures.cutter
     (subst (λ j. after j c.args.limits []) (sym c.new-text.ensures.judge) c.requires.begins) pulled.came
     takes.1 in
-    subst (λ (o : Option ReplayFault). IfSome o (λ f. is_short f ≡ true → IsCutAt c.args.limits
-    (left c.args.reader.now) (left c.feed_all.new.input) f)) (sym (c.read_failed.ensures.fault takes.0))
-    (λ _. came)
+    if_stands _ (c.read_failed.ensures.fault takes.0) (λ _. came)
+
+pub returns-clause-short : goal.returns-clause-short
+returns-clause-short g c =
+    let left = g.I.Input.left in
+    let pulled = c.feed_all.ensures.cut c.in-Cut.is in
+    if_stands _ (c.read_failed.ensures.fault (pulled.so.0 c.new-text.ensures.fault).0)
+    (λ _. failed_or_many (left c.args.reader.now) (left c.feed_all.new.input) pulled.bytes c.args.turns
+    pulled.came pulled.so.1)

@@ -1,9 +1,9 @@
-use Rattle.std.proofs.Common.{ℕ, ◌-◌, ap, sym, ◌∙◌}
+use Rattle.std.proofs.Common.{ℕ, ◌-◌, ap, sym, subst, ◌∙◌}
 use Rattle.event_core.specs.declared.events.Op.{Op}
 use Rattle.traced_mem.specs.Meaning.{Thread}
 use Rattle.traced_mem.specs.After.{updated, mentioned_again, gains, loses, now_forked, now_joined}
 use Rattle.traced_mem.specs.After.{threads_after}
-use Rattle.traced_mem.specs.Tables.{lock_at, threads_of, locks_of}
+use Rattle.traced_mem.specs.Tables.{lock_at, threads_of, locks_of, HeldBelow}
 use Rattle.traced_mem.proofs.step.apply_rows.Goals as goal
 
 pub returns-in-Acquire-clause-threads : goal.returns-in-Acquire-clause-threads
@@ -45,3 +45,22 @@ returns-in-Join-clause-threads c =
     c.join.ensures.rows ∙ ap (λ (f : ℕ
     → Thread). updated c.in-Join.child.0 (now_joined (f c.in-Join.child.0)) f) c.mention.ensures.rows
     ∙ ap (λ (o : Op). threads_after c.args.call.now.thread o (locks_of c.args.locks.now) f) (sym c.in-Join.is)
+
+-- no thread's row was added or taken away
+pub returns-in-Acquire-clause-below : goal.returns-in-Acquire-clause-below
+returns-in-Acquire-clause-below c below =
+    subst (λ n. HeldBelow n c.deepen.new.locks) (sym (c.gain.ensures.same ∙ c.mention.ensures.same))
+    (c.deepen.ensures.below _ below c.requires.caller)
+
+pub returns-in-Release-clause-below : goal.returns-in-Release-clause-below
+returns-in-Release-clause-below c below =
+    subst (λ n. HeldBelow n c.lessen.new.locks) (sym (c.lose.ensures.same ∙ c.mention.ensures.same))
+    (c.lessen.ensures.below _ below)
+
+pub returns-in-Fork-clause-below : goal.returns-in-Fork-clause-below
+returns-in-Fork-clause-below c =
+    subst (λ n. HeldBelow n c.args.locks.now) (sym (c.fork.ensures.same ∙ c.mention.ensures.same))
+
+pub returns-in-Join-clause-below : goal.returns-in-Join-clause-below
+returns-in-Join-clause-below c =
+    subst (λ n. HeldBelow n c.args.locks.now) (sym (c.join.ensures.same ∙ c.mention.ensures.same))

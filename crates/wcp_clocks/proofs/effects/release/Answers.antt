@@ -2,6 +2,7 @@ use Rattle.std.proofs.Common.{sym, ap, subst, ◌∙◌}
 use Rattle.event_core.specs.declared.events.Event.{Event}
 use Rattle.event_core.specs.declared.events.Op.{Op}
 use Rattle.event_core.specs.Effect.{Closes, Inner}
+use Rattle.wcp_clocks.specs.Parts.{Fits}
 use Rattle.wcp_clocks.specs.Stepping.{IsStepBy}
 use Rattle.wcp_clocks.proofs.Stepped.{closed, released_again}
 use Rattle.wcp_clocks.proofs.effects.release.Goals as goal
@@ -22,3 +23,13 @@ returns-else-depth-eq1 c =
     (λ one. c.if-depth-eq1.false (c.depth.ensures ∙ one))
     (subst (λ (e : Event). IsStepBy e Inner c.args.parts.now c.count_inner.new.parts) rebuilt
     c.count_inner.ensures) c.requires.parts c.requires.ready c.requires.fits
+
+pub close-requires-clause-fits : goal.close-requires-clause-fits
+close-requires-clause-fits c =
+    subst (λ (o : Op). Fits (record c.args.event.now { op = o }) c.args.parts.now) c.requires.op
+    c.requires.fits
+
+pub count_inner-requires-clause-fits : goal.count_inner-requires-clause-fits
+count_inner-requires-clause-fits c =
+    subst (λ (o : Op). Fits (record c.args.event.now { op = o }) c.args.parts.now) c.requires.op
+    c.requires.fits

@@ -8,6 +8,10 @@ make_named-requires c =
     let t = c.args.event.now.thread in
     (t, c.in_ok-make_thread.ensures.grown.order_room t c.args.event.now.op c.in_ok-make_order.ensures.made)
 
+pub returns-in_err-make_thread-clause-grown : goal.returns-in_err-make_thread-clause-grown
+returns-in_err-make_thread-clause-grown c =
+    grown_then _ _ _ c.make_order.ensures.grown c.make_thread.ensures.grown
+
 pub returns-clause-grown : goal.returns-clause-grown
 returns-clause-grown c =
     grown_then _ _ _ c.make_order.ensures.grown

@@ -1,4 +1,4 @@
-use Rattle.std.proofs.Common.{◌∙◌, ap₂}
+use Rattle.std.proofs.Common.{◌∙◌, ◌||◌, ap₂}
 use Rattle.std.proofs.lemmas.Result.{IfOk-weaker}
 use Rattle.clap.specs.Words.{with_subcommand}
 use Rattle.wcp_tool.specs.CommandLine.{wcp}
@@ -16,3 +16,12 @@ returns-clause-app c =
     (λ x h. h.shape c.in_ok-run_command.ensures.local ∙ ap₂ with_subcommand two
     c.in_ok-run_command.ensures.shape)
     c.subcommand-3.ensures
+
+pub returns-clause-local : goal.returns-clause-local
+returns-clause-local c =
+    let one = c.in_ok-subcommand.ensures.globals ∙ ap₂ (λ a b. a || b) c.in_ok-bare_command.ensures.local
+    c.in_ok-check_command.ensures.local in
+    let two = c.in_ok-subcommand-2.ensures.globals ∙ ap₂ (λ a b. a || b) one
+    c.in_ok-replay_command.ensures.local in
+    IfOk-weaker c.subcommand-3.result _ _
+    (λ x h. h.globals ∙ ap₂ (λ a b. a || b) two c.in_ok-run_command.ensures.local) c.subcommand-3.ensures

@@ -1,22 +1,21 @@
-use Rattle.std.proofs.Common.{◌≡◌, ◌<◌, ◌≤◌, List, ◌++◌, ℕ, length, take, drop, sym, ap, subst, ◌∙◌, arith}
+use Rattle.std.proofs.Common.{◌≡◌, ◌<◌, ◌≤◌, List, ◌++◌, ℕ, length, take, drop, refl, sym, ap, subst, ◌∙◌}
+use Rattle.std.proofs.Common.{arith}
 use Rattle.std.proofs.Math.Seq.{take-append_seam}
 use Rattle.access_check.specs.LastAccesses.{AreNarrow}
 use Rattle.access_check.specs.VariableAccesses.{kept}
 use Rattle.access_check.specs.Tables.{Tables, accesses_at}
 use Rattle.access_check.proofs.accesses.Accesses.record.Goals as goal
 
-written : {A : Type 0} (n : ℕ) (xs ys : List A) → n ≡ length xs → take n (xs ++ ys) ≡ xs
-written n xs ys is = ap (λ k. take k (xs ++ ys)) is ∙ take-append_seam xs ys
+-- a list that was lent whole is written back
+written : {A : Type 0} (n : ℕ) (xs ys : List A) → n ≡ length xs → take n (xs ++ drop (length xs) ys) ≡ xs
+written n xs ys is =
+    ap (λ k. take k (xs ++ drop (length xs) ys)) is ∙ take-append_seam xs (drop (length xs) ys)
 
 pub invariant_of-self : goal.invariant_of-self
 invariant_of-self c =
-    let counts : take c.self.inside.counts.len (c.count_event-position.new.counts
-    ++ drop (length c.count_event-position.new.counts) c.self.inside.counts.items)
-    ≡ c.count_event-position.new.counts
-    = written _ _ _ (omega arith) in
-    let vars : take c.self.inside.vars.len (c.note_access.new.vars
-    ++ drop (length c.note_access.new.vars) c.self.inside.vars.items) ≡ c.note_access.new.vars
-    = written _ _ _ (omega arith) in
+    let counts = written c.self.inside.counts.len c.count_event-position.new.counts c.self.inside.counts.items
+    (omega arith) in
+    let vars = written c.self.inside.vars.len c.note_access.new.vars c.self.inside.vars.items (omega arith) in
     let few : length c.self.inside.counts.items ≤ c.self.inside.limits.threads = c.self.invariant.few in
     let same : length c.self.inside.counts.items ≡ length c.args.self.now.counts
     = ap (λ (t : Tables). length t.counts) c.self.view_is in
@@ -27,4 +26,26 @@ invariant_of-self c =
           (λ y k. subst (λ ls. AreNarrow c.self.inside.limits.threads (kept k (accesses_at ls y)))
           (sym c.deref_mut-2.ensures.value)
           (c.self.invariant.narrow y k));
+    })
+
+pub returns-clause-notes : goal.returns-clause-notes
+returns-clause-notes c =
+    let counts = written c.self.inside.counts.len c.count_event-position.new.counts c.self.inside.counts.items
+    (omega arith) in
+    let vars = written c.self.inside.vars.len c.note_access.new.vars c.self.inside.vars.items (omega arith) in
+    rw (counts, vars, ← c.self.view_is, ← c.deref_mut.ensures.value, ← c.deref_mut-2.ensures.value) (record {
+      limits = refl;
+      counts = c.count_event-position.ensures.counts;
+      accesses = λ x m. rw (← c.count_event-position.ensures.position) (c.note_access.ensures.accesses x m);
+    })
+
+pub returns-clause-kept : goal.returns-clause-kept
+returns-clause-kept c =
+    let counts = written c.self.inside.counts.len c.count_event-position.new.counts c.self.inside.counts.items
+    (omega arith) in
+    let vars = written c.self.inside.vars.len c.note_access.new.vars c.self.inside.vars.items (omega arith) in
+    rw (counts, vars, ← c.self.view_is, ← c.deref_mut.ensures.value, ← c.deref_mut-2.ensures.value)
+    (λ o room. record {
+      thread = omega (arith, room.thread);
+      access = c.note_access.ensures.kept o room.access;
     })

@@ -4,7 +4,13 @@ use Rattle.event_core.specs.Rows.{Counted}
 use Rattle.hb_clocks.specs.Tables.{Tables}
 use Rattle.vector_clocks.specs.Rows.{rows_of}
 use Rattle.hb_clocks.proofs.Conditions.{hb_latest}
+use Rattle.hb_clocks.proofs.RowsWithin.{wide_by}
 use Rattle.hb_clocks.proofs.hb.HbClocks.hb.Goals as goal
+
+pub row_or-requires-clause-wide : goal.row_or-requires-clause-wide
+row_or-requires-clause-wide c =
+    wide_by c.self.inside.width c.self.inside.zeros c.self.inside.hb.items c.deref.result.now
+    c.self.invariant.only_zeros c.self.invariant.hb_wide c.deref.ensures.value
 
 pub returns-clause-exact : goal.returns-clause-exact
 returns-clause-exact c =

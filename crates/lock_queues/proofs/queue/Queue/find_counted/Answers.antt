@@ -6,7 +6,7 @@ use Rattle.lock_queues.specs.declared.sections.Entry.{Entry}
 use Rattle.lock_queues.specs.Rooms.{has_room_in}
 use Rattle.lock_queues.specs.Sections.{CountsEntry}
 use Rattle.lock_queues.specs.Queue.{Kept}
-use Rattle.lock_queues.proofs.Keeping.{thread_within}
+use Rattle.lock_queues.proofs.Keeping.{thread_within, kept_found}
 use Rattle.vector_clocks.proofs.Lowering.{counts_set}
 use Rattle.lock_queues.proofs.queue.Queue.find_counted.Goals as goal
 
@@ -68,3 +68,11 @@ returns-clause-least c =
     let is = ap (λ (k : Kept). slice_index k.found c.args.thread.0) c.self.view_is in
     let work = c.search_from-more.ensures.least in
     omega arith
+
+pub invariant_of-self : goal.invariant_of-self
+invariant_of-self c =
+    let same = ap (λ (k : Kept). has_room_in k.rooms c.args.thread.0) c.self.view_is in
+    let lt = thread_within c.args.thread.0 c.self.invariant (same ∙ c.requires.room) in
+    let seen = ap length c.deref.ensures.value in
+    kept_found c.args.thread.0 c.search_from-more.result c.self.invariant lt
+    (omega (arith, seen, c.search_from-more.ensures.within))

@@ -8,7 +8,7 @@ use Rattle.lock_queues.specs.Queues.{Tables, kept_of, closed_of, opened_of, foun
 use Rattle.lock_queues.proofs.Counting.{counted_below}
 use Rattle.lock_queues.proofs.Latest.{latest_before}
 use Rattle.lock_queues.proofs.Lifting.{read_entered, lifted, lifted_same}
-use Rattle.lock_queues.proofs.Searching.{are_of, number_found}
+use Rattle.lock_queues.proofs.Searching.{are_of, number_found, entered_width}
 use Rattle.lock_queues.proofs.Tables.{kept_set}
 use Rattle.lock_queues.proofs.queues.Queues.find_counted.Goals as goal
 
@@ -20,6 +20,11 @@ find_counted-requires-clause-room c =
     let qs = c.self.inside.queues.items in
     let read = read_entered qs t l c.index_mut-queue.result.now entered c.index_mut-queue.ensures.value in
     ap (λ (q : Kept). has_room_in q.rooms t) read.is ∙ read.has
+
+pub find_counted-requires-clause-width : goal.find_counted-requires-clause-width
+find_counted-requires-clause-width c =
+    entered_width c.args.thread.0 c.args.lock.0 c.self.view_is c.self.invariant c.requires.entered
+    c.index_mut-queue.ensures.value c.requires.width
 
 pub find_counted-requires-clause-before : goal.find_counted-requires-clause-before
 find_counted-requires-clause-before c k lt =

@@ -13,6 +13,7 @@ use Rattle.lock_queues.proofs.LogSteps.{leave_stands}
 use Rattle.lock_queues.proofs.Lifting.{read_entered, lifted, lifted_same, lifted_cell}
 use Rattle.lock_queues.proofs.Storing.{sections_grown, joined_closed}
 use Rattle.lock_queues.proofs.Tables.{kept_joined, joined_at, some_made, one_fits}
+use Rattle.lock_queues.proofs.Searching.{entered_width, entered_made}
 use Rattle.lock_queues.proofs.queues.Queues.leave.Goals as goal
 
 pub leave-requires-clause-memory : goal.leave-requires-clause-memory
@@ -28,6 +29,16 @@ leave-requires-clause-memory c =
     let fits = one_fits c.self.inside.rooms c.self.inside.limits.threads (omega arith) in
     let spare = c.self.invariant.spare in
     omega (arith, width, fits, spare)
+
+pub leave-requires-clause-width : goal.leave-requires-clause-width
+leave-requires-clause-width c =
+    entered_width c.args.thread.0 c.args.lock.0 c.self.view_is c.self.invariant c.requires.entered
+    c.index_mut-queue.ensures.value c.requires.width
+
+pub overflow_sub-self : goal.overflow_sub-self
+overflow_sub-self c =
+    entered_made c.args.thread.0 c.args.lock.0 c.self.view_is c.self.invariant c.requires.entered
+    c.index_mut-queue.ensures.value
 
 pub invariant_of-self : goal.invariant_of-self
 invariant_of-self c =

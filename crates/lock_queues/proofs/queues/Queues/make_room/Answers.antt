@@ -1,4 +1,4 @@
-use Rattle.std.proofs.Common.{◌*◌, ◌<◌, length, ap, ◌∙◌, arith, List}
+use Rattle.std.proofs.Common.{◌*◌, ◌<◌, length, sym, ap, ◌∙◌, arith, List}
 use Rattle.std.proofs.lemmas.List.{get_or_read}
 use Rattle.lock_queues.specs.Queue.{Kept, no_queue}
 use Rattle.lock_queues.specs.Queues.{AreWide}
@@ -6,6 +6,14 @@ use Rattle.lock_queues.proofs.Answering.{where_err}
 use Rattle.lock_queues.proofs.Sameness.{same_tables, room_made, rooms_same}
 use Rattle.lock_queues.proofs.Tables.{kept_larger, kept_alike, kept_set}
 use Rattle.lock_queues.proofs.queues.Queues.make_room.Goals as goal
+
+pub grow-requires : goal.grow-requires
+grow-requires c = record {
+  wide = λ m within. c.self.invariant.wide m within ∙ sym c.threads-width.ensures.is;
+}
+
+pub invariant_of-self : goal.invariant_of-self
+invariant_of-self c = kept_larger c.self.invariant c.make_room.ensures.same c.make_room.ensures.larger
 
 pub invariant_of-self-in_err-grow : goal.invariant_of-self-in_err-grow
 invariant_of-self-in_err-grow c =

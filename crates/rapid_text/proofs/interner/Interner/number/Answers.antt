@@ -63,3 +63,7 @@ returns-clause-ok c =
     rw (← c.self.view_is, c.len-count.ensures.len)
     (numbered_new c.self.inside.limit names c.insert.new.self.keys name
     (sym c.get_index_of.ensures.index ∙ c.in_default.is) (omega arith) one_more)
+
+pub returns-in_default-insert-clause-room : goal.returns-in_default-insert-clause-room
+returns-in_default-insert-clause-room c = λ _. rw (← c.self.view_is)
+    (omega (arith, c.len-count.ensures.len, c.if-count-self.false))

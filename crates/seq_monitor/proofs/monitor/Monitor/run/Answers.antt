@@ -3,7 +3,7 @@ use Rattle.std.proofs.lemmas.List.{take_more}
 use Rattle.std.proofs.lemmas.Option.{slice_get-get_or}
 use Rattle.event_core.specs.Verdict.{IsOutcome, IsRun, log_after}
 use Rattle.event_core.specs.Refusal.{refusal}
-use Rattle.seq_monitor.proofs.RunMore.{run_more, ran_more, where_err, no_room, ran_none, ran_some}
+use Rattle.seq_monitor.proofs.RunMore.{run_more, ran_more, where_err, no_room, ran_none, ran_some, ran_all}
 use Rattle.seq_monitor.proofs.monitor.Monitor.run.Goals as goal
 
 pub loop-call-preserved : goal.loop-call-preserved
@@ -39,3 +39,6 @@ returns-in_err-outcome-clause-some c =
     c.loop-call.invariant.limits
     (slice_get-get_or c.args.calls.now c.loop-call.call-index _ c.loop-call-test.true)
     c.in_err-outcome.ensures.memory c.in_err-outcome.ensures.same)
+
+pub returns-clause-all : goal.returns-clause-all
+returns-clause-all c = ran_all IsRun _ _ _ _ _ _ _ c.loop-call.invariant.ran c.loop-call-test.false

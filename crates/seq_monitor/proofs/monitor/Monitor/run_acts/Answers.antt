@@ -3,7 +3,8 @@ use Rattle.std.proofs.lemmas.List.{take_more}
 use Rattle.std.proofs.lemmas.Option.{slice_get-get_or}
 use Rattle.event_core.specs.Acts.{IsActRun, IsDone, log_after_act}
 use Rattle.seq_monitor.specs.RunAnswers.{act_refusal}
-use Rattle.seq_monitor.proofs.RunMore.{act_run_more, ran_more, where_err, no_room, ran_none, ran_some}
+use Rattle.seq_monitor.proofs.RunMore.{act_run_more, ran_more, where_err, no_room}
+use Rattle.seq_monitor.proofs.RunMore.{ran_none, ran_some, ran_all}
 use Rattle.seq_monitor.proofs.monitor.Monitor.run_acts.Goals as goal
 
 pub loop-act-preserved : goal.loop-act-preserved
@@ -39,3 +40,6 @@ returns-in_err-done-clause-some c =
     c.loop-act.invariant.limits
     (slice_get-get_or c.args.acts.now c.loop-act.act-index _ c.loop-act-test.true)
     c.in_err-done.ensures.memory c.in_err-done.ensures.same)
+
+pub returns-clause-all : goal.returns-clause-all
+returns-clause-all c = ran_all IsActRun _ _ _ _ _ _ _ c.loop-act.invariant.ran c.loop-act-test.false

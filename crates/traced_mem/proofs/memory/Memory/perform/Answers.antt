@@ -2,12 +2,14 @@ use Rattle.std.proofs.Common.{◌≡◌, ◌+◌, ◌≤◌, List, ◌++◌, tak
 use Rattle.std.proofs.Common.{vec_capacity}
 use Rattle.traced_mem.specs.declared.rows.ThreadRow.{ThreadRow}
 use Rattle.traced_mem.specs.declared.rows.LockRow.{LockRow}
-use Rattle.traced_mem.specs.After.{holds_after}
-use Rattle.traced_mem.specs.Tables.{Tables, AreTables, HeldBelow, total, locks_of}
+use Rattle.traced_mem.specs.After.{holds_after, after, threads_after, locks_after, updated}
+use Rattle.traced_mem.specs.After.{mentioned_again}
+use Rattle.traced_mem.specs.Tables.{Tables, AreTables, HeldBelow, total, locks_of, threads_of, meaning}
 use Rattle.traced_mem.specs.Room.{DepthFits, HoldsFit, IsReady}
 use Rattle.traced_mem.proofs.Allowed.{fits_inside}
-use Rattle.traced_mem.proofs.Stepping.{refilled, still_ready, ready_of_parts}
+use Rattle.traced_mem.proofs.Stepping.{given_back, still_ready, ready_of_parts}
 use Rattle.traced_mem.proofs.memory.Memory.perform.Goals as goal
+use Rattle.traced_mem.proofs.memory.Memory.perform.Goals.{in-Load, in-Store, in_default}
 
 pub count_holds-holds-requires : goal.count_holds-holds-requires
 count_holds-holds-requires c =
@@ -25,12 +27,10 @@ pub invariant_of-self : goal.invariant_of-self
 invariant_of-self c =
     let small : c.self.inside.limits.events ≤ 4294967296 = omega arith in
     let kept = (fits_inside _ _ _ _ c.self.view_is c.self.invariant small c.requires.allowed).kept in
-    let all_threads = refilled c.self.inside.threads.len c.apply_rows.new.threads c.self.inside.threads.items
-    (c.apply_rows.ensures.same_threads ∙ ap length c.deref_mut.ensures.value)
-    (sym c.deref_mut.ensures.len ∙ ap length c.deref_mut.ensures.value) in
-    let all_locks = refilled c.self.inside.locks.len c.apply_rows.new.locks c.self.inside.locks.items
-    (c.apply_rows.ensures.same_locks ∙ ap length c.deref_mut-2.ensures.value)
-    (sym c.deref_mut-2.ensures.len ∙ ap length c.deref_mut-2.ensures.value) in
+    let all_threads = given_back c.apply_rows.new.threads c.deref_mut.ensures.value c.deref_mut.ensures.len
+    c.apply_rows.ensures.same_threads in
+    let all_locks = given_back c.apply_rows.new.locks c.deref_mut-2.ensures.value c.deref_mut-2.ensures.len
+    c.apply_rows.ensures.same_locks in
     let holds : c.count_holds-holds.result ≡ holds_after c.args.call.now.op c.self.inside.holds
     = c.count_holds-holds.ensures
     ∙ ap (λ (s : Tables). holds_after c.args.call.now.op s.holds) (sym c.self.view_is) in
@@ -87,10 +87,39 @@ returns-clause-kept c u o free r =
     c.apply_rows.ensures.same_threads c.apply_rows.ensures.same_locks c.apply_rows.ensures.same_cells
     c.apply_rows.ensures.same_room c.apply_rows.ensures.threads before in
     ready_of_parts next _ _
-    (refilled c.self.inside.threads.len c.apply_rows.new.threads c.self.inside.threads.items
-    (c.apply_rows.ensures.same_threads ∙ ap length c.deref_mut.ensures.value)
-    (sym c.deref_mut.ensures.len ∙ ap length c.deref_mut.ensures.value))
-    (refilled c.self.inside.locks.len c.apply_rows.new.locks c.self.inside.locks.items
-    (c.apply_rows.ensures.same_locks ∙ ap length c.deref_mut-2.ensures.value)
-    (sym c.deref_mut-2.ensures.len ∙ ap length c.deref_mut-2.ensures.value))
+    (given_back c.apply_rows.new.threads c.deref_mut.ensures.value c.deref_mut.ensures.len
+    c.apply_rows.ensures.same_threads)
+    (given_back c.apply_rows.new.locks c.deref_mut-2.ensures.value c.deref_mut-2.ensures.len
+    c.apply_rows.ensures.same_locks)
     u o after
+
+pub returns-clause-value : goal.returns-clause-value
+returns-clause-value c =
+    elim c.match-call.branch [
+      | in-Load w ↦ grind arith
+      | in-Store w ↦ grind arith
+      | in_default w ↦ grind arith
+    ]
+
+pub returns-clause-means : goal.returns-clause-means
+returns-clause-means c =
+    let u = c.args.call.now.thread in
+    let o = c.args.call.now.op in
+    let t = c.self.inside in
+    let threads = given_back c.apply_rows.new.threads c.deref_mut.ensures.value c.deref_mut.ensures.len
+    c.apply_rows.ensures.same_threads in
+    let locks = given_back c.apply_rows.new.locks c.deref_mut-2.ensures.value c.deref_mut-2.ensures.len
+    c.apply_rows.ensures.same_locks in
+    (λ i. record {
+      length = t.length + 1;
+      holds = (c.count_holds-holds.ensures
+          ∙ ap (λ (s : Tables). holds_after o s.holds) (sym c.self.view_is)) i;
+      thread = (ap threads_of threads ∙ c.apply_rows.ensures.threads
+          ∙ (λ j. threads_after u o (locks_of (c.deref_mut-2.ensures.value j))
+          (updated u.0 (mentioned_again (threads_of (c.deref_mut.ensures.value j) u.0))
+          (threads_of (c.deref_mut.ensures.value j))))) i;
+      lock = (ap locks_of locks ∙ c.apply_rows.ensures.locks
+          ∙ ap (λ (ls : List LockRow). locks_after u o (locks_of ls)) c.deref_mut-2.ensures.value) i;
+      cell = c.apply_rows.ensures.cells i;
+    })
+    ∙ ap (λ (s : Tables). after u o c.args.call.now.arg (meaning s)) c.self.view_is

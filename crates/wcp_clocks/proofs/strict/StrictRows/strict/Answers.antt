@@ -1,6 +1,6 @@
-use Rattle.std.proofs.Common.{ℕ, List, length, ap, ◌∙◌}
+use Rattle.std.proofs.Common.{ℕ, List, length, sym, ap, subst, ◌∙◌}
 use Rattle.std.proofs.lemmas.List.{length-replicate}
-use Rattle.vector_clocks.specs.Rows.{rows_of}
+use Rattle.vector_clocks.specs.Rows.{rows_of, AreWide}
 use Rattle.wcp_clocks.specs.StrictRows.{StrictTables, strict_of}
 use Rattle.wcp_clocks.proofs.Rows.{row_is}
 use Rattle.wcp_clocks.proofs.strict.StrictRows.strict.Goals as goal
@@ -20,3 +20,9 @@ returns-clause-row c has =
     (c.row_or.ensures.width ∙ ap (λ (xs : List ℕ). length xs) c.self.invariant.only_zeros
     ∙ length-replicate c.self.inside.width 0 ∙ ap (λ (s : StrictTables). s.width) c.self.view_is)
     (returns-clause-counts c) has.made
+
+pub row_or-requires-clause-wide : goal.row_or-requires-clause-wide
+row_or-requires-clause-wide c =
+    let width = ap length c.self.invariant.only_zeros ∙ length-replicate c.self.inside.width 0 in
+    subst (λ (w : ℕ). AreWide w c.deref.result.now) (sym width)
+    (subst (AreWide c.self.inside.width) (sym c.deref.ensures.value) c.self.invariant.thread_wide)

@@ -3,7 +3,7 @@ use Rattle.std.proofs.lemmas.List.{with_items_is}
 use Rattle.std.specs.Vec.{with_items}
 use Rattle.vector_clocks.specs.Rows.{widths_of}
 use Rattle.wcp_clocks.specs.StrictRows.{StrictTables, SameRoom}
-use Rattle.wcp_clocks.proofs.Kept.{SameWidths, room_kept, tables_kept}
+use Rattle.wcp_clocks.proofs.Kept.{SameWidths, room_kept, tables_kept, thread_within}
 use Rattle.wcp_clocks.proofs.strict.StrictRows.take_thread.Goals as goal
 
 -- the tables as the step finds and as it leaves them
@@ -32,3 +32,11 @@ invariant_of-self c = tables_kept (found c) (left c) c.self.inside.zeros (same c
 pub returns-clause-kept : goal.returns-clause-kept
 returns-clause-kept c = subst (λ (v : StrictTables). SameRoom v (left c)) c.self.view_is
     (room_kept (found c) (left c) (same c))
+
+pub join_rows-requires-clause-to : goal.join_rows-requires-clause-to
+join_rows-requires-clause-to c =
+    thread_within c.self.view_is c.self.invariant c.deref_mut.ensures.value c.requires.room
+
+pub join_rows-requires-clause-from : goal.join_rows-requires-clause-from
+join_rows-requires-clause-from c =
+    thread_within c.self.view_is c.self.invariant c.deref_mut.ensures.value c.requires.other_room

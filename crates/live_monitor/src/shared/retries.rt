@@ -1,23 +1,27 @@
 //! An acquire that is tried again.
-ghost use Rattle.std.specs.Prelude.{◌≡◌, None, IfOk, IfErr};
+ghost use Rattle.std.specs.Prelude.{◌≡◌, ◌≤◌, None, IfOk, IfErr};
+ghost use Rattle.event_core.specs.declared.ids.ThreadId.{ThreadId as Thread};
+ghost use Rattle.event_core.specs.declared.replies.Refusal.TheVariants.{Held};
 ghost use Rattle.live_monitor.specs.Calls.{acquire_by, Accepted, Declined, HasComeTo};
+ghost use Rattle.live_monitor.specs.Tries.{AreUsedUp};
 
 use crate::shared::Shared;
+use crate::tries::Tries;
 use crossbeam_utils::Backoff;
 use event_core::{LockId, Refusal, Reply, SiteId};
 use log_pass::{Name, Pass};
 use std::sync::Wait;
 
 impl<N: Name> Shared<N> {
-    /// Acquires the lock. While another thread holds it, it is tried again, so many times in all, and once at
-    /// least; no clause tells how often. `Held` is the answer of the last try.
+    /// Acquires the lock. It is tried once at least, and again while another thread holds it and tries are
+    /// left. `Held` is the answer only where all were made.
     pub fn acquire_within<R: Wait>(
         &self,
         rt: &R,
         pass: Pass<N>,
         lock: LockId,
         site: SiteId,
-        tries: u32,
+        tries: &mut Tries,
     ) -> (Pass<N>, Result<Reply, Refusal>)
         requires none_due { pass.due ≡ None }
         ensures later { HasComeTo N.limits pass result.0 }
@@ -25,16 +29,19 @@ impl<N: Name> Shared<N> {
             (λ reply. Accepted N.limits (acquire_by pass.thread lock site) pass result.0 reply) }
         ensures declined { IfErr result.1
             (λ answer. Declined N.limits (acquire_by pass.thread lock site) pass result.0 answer) }
+        ensures used_up { (by : Thread) → IfErr result.1 (λ answer. answer ≡ Held by → AreUsedUp tries.new) }
+        ensures same_most { tries.new.most ≡ tries.old.most }
+        ensures counts_up { tries.old.made ≤ tries.new.made }
     {
         let mut pass = pass;
         let backoff = Backoff::new();
-        for _ in 1..tries {
-            match self.acquire(rt, pass, lock, site) {
+        'tries: while !tries.are_at_the_last() {
+            match tries.acquire(self, rt, pass, lock, site) {
                 (next, Err(Refusal::Held { .. })) => pass = next,
                 answer => return answer,
             }
             backoff.snooze();
         }
-        self.acquire(rt, pass, lock, site)
+        tries.acquire(self, rt, pass, lock, site)
     }
 }
