@@ -4,6 +4,7 @@ use Answer::{Faults, Logs};
 use DriveFault::{Refused, Stuck};
 use event_core::{Op, Refusal, ThreadId, VarId};
 use script_drive::{DriveFault, FreeGate};
+use std::alloc::Global;
 use std::test::*;
 
 const CASES: &[Case<'static>] = &[
@@ -198,15 +199,21 @@ fn scripts_are_run_to_their_end_or_a_fault(rt: HostRuntime) {
     }
 }
 
+/// A script whose main thread forks 199 threads before it joins the first.
+fn two_hundred(alloc: Global) -> Result<String, Fail> {
+    let mut text = String::new(alloc);
+    for child in 1..200 {
+        writeln!(text, "m fork t{child}")?;
+    }
+    for child in 1..200 {
+        writeln!(text, "t{child} r x\nm join t{child}")?;
+    }
+    Ok(text)
+}
+
 #[test]
 fn two_hundred_workers_run_at_once(rt: HostRuntime) -> Result<(), Fail> {
-    let mut text = String::new(rt.alloc());
-    for child in 1..200 {
-        text.push_str(&format!(in rt.alloc(); "m fork t{child}\n")?)?;
-    }
-    for child in 1..200 {
-        text.push_str(&format!(in rt.alloc(); "t{child} r x\nm join t{child}\n")?)?;
-    }
+    let text = two_hundred(rt.alloc())?;
     let case = Case {
         text: text.as_str(),
         events: EVENTS,

@@ -73,6 +73,30 @@ fn run<G: Gate + Sync, R: Threads + Wait + Abort + Sync>(
     }
 }
 
+/// The script of the text. Where memory is refused, it is read once more.
+fn script_of(alloc: Global, text: &str, limits: Limits) -> Result<Script, ScriptFault> {
+    match read(alloc, text, limits) {
+        Ok(script) => Ok(script),
+        Err(_) => read(alloc, text, limits),
+    }
+}
+
+/// Whether the log begins with these events.
+fn begins_with(closed: &Closed, first: &[Row]) -> bool {
+    for (index, (thread, op, site, value)) in (0..).zip(first) {
+        let event = Event {
+            thread: ThreadId(*thread),
+            op: *op,
+            site: SiteId(*site),
+            value: *value,
+        };
+        if closed.log().get(index) != Some(event) {
+            return false;
+        }
+    }
+    true
+}
+
 fn expect_log<R: Abort>(rt: &R, closed: &Closed, answer: &Answer) {
     let Answer::Logs {
         events,
@@ -84,18 +108,22 @@ fn expect_log<R: Abort>(rt: &R, closed: &Closed, answer: &Answer) {
     };
     assert!(rt; closed.len() == *events);
     assert!(rt; closed.verdicts().races().len() == *races);
-    for (index, (thread, op, site, value)) in (0..).zip(*first) {
-        let event = Event {
-            thread: ThreadId(*thread),
-            op: *op,
-            site: SiteId(*site),
-            value: *value,
-        };
-        assert!(rt; closed.log().get(index) == Some(event));
+    assert!(rt; begins_with(closed, first));
+}
+
+fn expect_ran<R: Abort>(rt: &R, ran: Result<Closed, DriveFault>, answer: &Answer) {
+    match ran {
+        Ok(closed) => {
+            expect_log(rt, &closed, answer);
+            drop(closed);
+        }
+        Err(fault) => {
+            assert!(rt; matches!(answer, Answer::Faults(wanted) if *wanted == fault));
+        }
     }
 }
 
-/// Runs the script of the case, which is to answer so. Where memory is refused, it is read once more.
+/// Runs the script of the case, which is to answer so.
 pub fn expect_answer<G: Gate + Sync, R: Threads + Wait + Abort + Sync>(
     rt: &R,
     alloc: Global,
@@ -103,17 +131,8 @@ pub fn expect_answer<G: Gate + Sync, R: Threads + Wait + Abort + Sync>(
     case: &Case,
 ) {
     let limits = limits(rt, case.events);
-    let script = read(alloc, case.text, limits)
-        .or_else(|_| read(alloc, case.text, limits))
-        .expect(rt, "a script");
-    match run(rt, alloc, &script, &limits, gate, case.patience) {
-        Ok(closed) => {
-            expect_log(rt, &closed, &case.answer);
-            drop(closed);
-        }
-        Err(fault) => {
-            assert!(rt; matches!(&case.answer, Answer::Faults(wanted) if *wanted == fault));
-        }
-    }
+    let script = script_of(alloc, case.text, limits).expect(rt, "a script");
+    let ran = run(rt, alloc, &script, &limits, gate, case.patience);
+    expect_ran(rt, ran, &case.answer);
     drop(script);
 }

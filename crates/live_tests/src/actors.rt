@@ -4,11 +4,21 @@
 //! allocation is refused. A release is not: it takes no memory.
 ghost use Rattle.std.specs.Prelude.{◌≡◌, None};
 
-use event_core::{LockId, Refusal, Reply, SiteId, SwapReply, ThreadId, VarId};
-use live_monitor::{Closed, Shared};
+use event_core::{Limits, LockId, Refusal, Reply, SiteId, SwapReply, ThreadId, VarId};
+use live_monitor::{Closed, Shared, Unnamed};
 use log_pass::{Name, Pass};
+use std::alloc::Global;
 use std::process::Abort;
 use std::sync::Wait;
+
+/// A monitor with these limits.
+pub fn begin<R: Abort>(rt: &R, alloc: Global, limits: Limits) -> Unnamed {
+    let made = match Unnamed::new(alloc, limits) {
+        Err(_) => Unnamed::new(alloc, limits),
+        made => made,
+    };
+    made.expect(rt, "a monitor")
+}
 
 /// What a thread asks for, but for forks, joins and swaps.
 #[derive(Clone, Copy)]

@@ -3,6 +3,7 @@
 //! A call that is refused memory is made once more.
 ghost use Rattle.std.specs.Prelude.{◌≡◌};
 
+use crate::actors::begin;
 use event_core::{
     Event, Limits, LockId, Op, Refusal, Reply, Roots, SiteId, ThreadId, VarId, Verdict,
 };
@@ -12,7 +13,7 @@ use std::alloc::Global;
 use std::marker::Brand;
 use std::process::Abort;
 use std::sync::Wait;
-use traced_thread::TracedThread;
+use traced_thread::{NotJoined, TracedThread};
 
 const LOCK: LockId = LockId(0);
 
@@ -38,12 +39,39 @@ fn acquire<N: Name, R: Wait>(
     (answer.map(|reply| reply.index), tries.made())
 }
 
+/// So the acquire is answered, after so many tries.
+fn expect_acquire<N: Name, R: Wait + Abort>(
+    rt: &R,
+    thread: &mut TracedThread<N>,
+    most: u32,
+    answer: Result<u64, Refusal>,
+    made: u32,
+) {
+    assert!(rt; acquire(rt, thread, most) == (answer, made));
+}
+
+fn release<N: Name, R: Wait + Abort>(rt: &R, thread: &mut TracedThread<N>) {
+    assert!(rt; thread.release(rt, LOCK, SITE).is_ok());
+}
+
 fn store<N: Name, R: Wait + Abort>(rt: &R, thread: &mut TracedThread<N>, value: u64) -> Reply {
     let answer = match thread.store(rt, VAR, value, SITE) {
         Err(Refusal::OutOfMemory) => thread.store(rt, VAR, value, SITE),
         answer => answer,
     };
     answer.expect(rt, "a store")
+}
+
+/// The store is at the index, and has the verdict.
+fn expect_store<N: Name, R: Wait + Abort>(
+    rt: &R,
+    thread: &mut TracedThread<N>,
+    value: u64,
+    index: u64,
+    verdict: Verdict,
+) {
+    let reply = store(rt, thread, value);
+    assert!(rt; reply.index == index && reply.verdict == verdict);
 }
 
 fn fork<'m, N: Name, R: Wait + Abort>(
@@ -57,6 +85,27 @@ fn fork<'m, N: Name, R: Wait + Abort>(
     forked.expect(rt, "a fork").0
 }
 
+/// The main thread is refused the lock a thousand times, and no event is added.
+fn expect_held<N: Name, R: Wait + Abort>(rt: &R, main: &mut TracedThread<N>) {
+    for _ in 0..1000 {
+        expect_acquire(rt, main, 1, HELD, 1);
+    }
+    expect_acquire(rt, main, 1000, HELD, 1000);
+    assert!(rt; main.look() == 2);
+}
+
+/// The main thread has the lock once thread 1 released it, and thread 1 after that.
+fn pass_on<N: Name, R: Wait + Abort>(
+    rt: &R,
+    main: &mut TracedThread<N>,
+    child: &mut TracedThread<N>,
+) {
+    release(rt, child);
+    expect_acquire(rt, main, 1000, Ok(3), 1);
+    release(rt, main);
+    expect_acquire(rt, child, 0, Ok(5), 0);
+}
+
 /// Thread 1 acquires the lock, which the main thread is then refused a thousand times. Once it is released,
 /// the main thread has it. In the end thread 1 acquires it again, and its handle is dropped.
 fn refuse<N: Name, R: Wait + Abort>(rt: &R, unnamed: Unnamed) -> Closed
@@ -66,21 +115,26 @@ fn refuse<N: Name, R: Wait + Abort>(rt: &R, unnamed: Unnamed) -> Closed
     let (shared, pass) = start::<N>(unnamed);
     let mut main = TracedThread::new(&shared, pass);
     let mut child = fork(rt, &mut main);
-    assert!(rt; acquire(rt, &mut child, 1) == (Ok(1), 1));
-    for _ in 0..1000 {
-        assert!(rt; acquire(rt, &mut main, 1) == (HELD, 1));
-    }
-    assert!(rt; acquire(rt, &mut main, 1000) == (HELD, 1000));
-    assert!(rt; main.look() == 2);
-    assert!(rt; child.release(rt, LOCK, SITE).is_ok());
-    assert!(rt; acquire(rt, &mut main, 1000) == (Ok(3), 1));
-    assert!(rt; main.release(rt, LOCK, SITE).is_ok());
-    assert!(rt; acquire(rt, &mut child, 0) == (Ok(5), 0));
+    expect_acquire(rt, &mut child, 1, Ok(1), 1);
+    expect_held(rt, &mut main);
+    pass_on(rt, &mut main, &mut child);
     drop(child);
-    assert!(rt; acquire(rt, &mut main, 10) == (HELD, 10));
-    assert!(rt; store(rt, &mut main, 5).index == 6);
+    expect_acquire(rt, &mut main, 10, HELD, 10);
+    expect_store(rt, &mut main, 5, 6, Verdict::Clear);
     let pass = main.into_pass();
     shared.close(pass)
+}
+
+/// Event 1 is the store by thread 1, and there is no event 3.
+fn expect_events<N: Name, R: Wait + Abort>(rt: &R, main: &mut TracedThread<N>) {
+    let by_child = Event {
+        thread: ThreadId(1),
+        op: Op::Store(VAR),
+        site: SITE,
+        value: 9,
+    };
+    assert!(rt; main.event_at(rt, 1) == Some(by_child));
+    assert!(rt; main.event_at(rt, 3).is_none());
 }
 
 /// Both threads store, and the second that does is told of a race.
@@ -91,16 +145,15 @@ fn race<N: Name, R: Wait + Abort>(rt: &R, unnamed: Unnamed)
     let (shared, pass) = start::<N>(unnamed);
     let mut main = TracedThread::new(&shared, pass);
     let mut child = fork(rt, &mut main);
-    assert!(rt; store(rt, &mut child, 9).verdict == Verdict::Clear);
-    assert!(rt; store(rt, &mut main, 5).verdict == Verdict::Racy(1));
-    let by_child = Event {
-        thread: ThreadId(1),
-        op: Op::Store(VAR),
-        site: SITE,
-        value: 9,
-    };
-    assert!(rt; main.event_at(rt, 1) == Some(by_child));
-    assert!(rt; main.event_at(rt, 3).is_none());
+    expect_store(rt, &mut child, 9, 1, Verdict::Clear);
+    expect_store(rt, &mut main, 5, 2, Verdict::Racy(1));
+    expect_events(rt, &mut main);
+}
+
+/// The handle of the child is given back, for want of a slot.
+fn expect_log_full<N: Name>(rt: &impl Abort, left: NotJoined<N>) {
+    assert!(rt; left.child.thread() == ThreadId(1));
+    assert!(rt; Refusal::from(left) == Refusal::LogFull);
 }
 
 /// The log has a slot for the fork alone, so the join is refused.
@@ -112,16 +165,13 @@ fn refuse_join<N: Name, R: Wait + Abort>(rt: &R, unnamed: Unnamed)
     let mut main = TracedThread::new(&shared, pass);
     let child = fork(rt, &mut main);
     let answer = main.join(rt, child, SITE);
-    let left = answer.err().expect(rt, "a refusal");
-    assert!(rt; left.child.thread() == ThreadId(1));
-    assert!(rt; Refusal::from(left) == Refusal::LogFull);
+    expect_log_full(rt, answer.err().expect(rt, "a refusal"));
 }
 
 /// Two threads, one lock and one variable.
 fn unnamed<R: Abort>(rt: &R, alloc: Global, events: u64) -> Unnamed {
     let limits = Limits::new(2, 1, 1, events, Roots::OnlyMain).expect(rt, "limits");
-    let unnamed = Unnamed::new(alloc, limits).or_else(|_| Unnamed::new(alloc, limits));
-    unnamed.expect(rt, "a monitor")
+    begin(rt, alloc, limits)
 }
 
 #[test]

@@ -56,17 +56,32 @@ fn is_short_after(
     answer: Answer,
 ) -> bool {
     let is_short = answer == Err(Refusal::OutOfMemory);
-    assert!(rt; !(is_release && is_short), "{index}: {answer:?}");
-    if was_short || is_short {
-        return true;
-    }
     let accepted = Reply {
         index,
         value: 0,
         verdict: Verdict::Clear,
     };
-    assert!(rt; answer == Ok(accepted), "{index}: {answer:?}");
-    false
+    let is_told = if is_short {
+        !is_release
+    } else {
+        was_short || answer == Ok(accepted)
+    };
+    assert!(rt; is_told, "{index}: {answer:?}");
+    was_short || is_short
+}
+
+/// The one or the other asks.
+fn answer_to<N: Name, R: Wait>(
+    rt: &R,
+    main: &mut TracedThread<'_, N>,
+    child: &mut TracedThread<'_, N>,
+    by: By,
+    ask: Ask,
+) -> Answer {
+    match by {
+        Main => answer(rt, main, ask),
+        Child => answer(rt, child, ask),
+    }
 }
 
 /// Makes the calls of both threads. Once one is refused for memory, releases alone are made.
@@ -79,10 +94,7 @@ fn make_lines<N: Name, R: Wait + Abort>(
     for (index, (by, ask)) in (1..).zip(LINES) {
         let is_release = matches!(ask, Release(_));
         if is_release || !is_short {
-            let answer = match by {
-                Main => answer(rt, main, *ask),
-                Child => answer(rt, child, *ask),
-            };
+            let answer = answer_to(rt, main, child, *by, *ask);
             is_short = is_short_after(rt, is_short, index, is_release, answer);
         }
     }

@@ -1,7 +1,7 @@
 //! Worked cases of two threads, whose passes are in one hand.
 ghost use Rattle.std.specs.Prelude.{◌≡◌};
 
-use crate::actors::{Actor, Ask};
+use crate::actors::{Actor, Answer, Ask, begin};
 use Ask::{Acquire, Load, Release, Store};
 use Deed::{Accepted, Found, Refused, Swapped};
 use Turn::{Child, DropChild, Fork, Join, Main};
@@ -185,6 +185,18 @@ const CASES: &[Case] = &[
     },
 ];
 
+fn expect_answer<N: Name, R: Wait + Abort>(
+    rt: &R,
+    shared: &Shared<N>,
+    actor: Actor<N>,
+    ask: Ask,
+    wanted: Answer,
+) -> Actor<N> {
+    let (actor, answer) = actor.make(rt, shared, ask, 0);
+    assert!(rt; answer == wanted);
+    actor
+}
+
 fn take<N: Name, R: Wait + Abort>(
     rt: &R,
     shared: &Shared<N>,
@@ -193,20 +205,14 @@ fn take<N: Name, R: Wait + Abort>(
 ) -> Actor<N> {
     match deed {
         Accepted(ask, index, value, verdict) => {
-            let (actor, answer) = actor.make(rt, shared, ask, 0);
             let reply = Reply {
                 index,
                 value,
                 verdict,
             };
-            assert!(rt; answer == Ok(reply));
-            actor
+            expect_answer(rt, shared, actor, ask, Ok(reply))
         }
-        Refused(ask, refusal) => {
-            let (actor, answer) = actor.make(rt, shared, ask, 0);
-            assert!(rt; answer == Err(refusal));
-            actor
-        }
+        Refused(ask, refusal) => expect_answer(rt, shared, actor, ask, Err(refusal)),
         Swapped(value, wanted) => {
             let (actor, answer) = actor.swap(rt, shared, 0, value, 0);
             assert!(rt; answer == wanted);
@@ -293,13 +299,18 @@ fn take_turns<N: Name, R: Wait + Abort>(rt: &R, unnamed: Unnamed, turns: &[Turn]
     main.close(shared)
 }
 
+/// The verdict on the event is that it races with the earlier one.
+fn expect_race<R: Abort>(rt: &R, closed: &Closed, race: Race) {
+    assert!(rt; race.event < closed.len());
+    assert!(rt; closed.verdict_at(race.event) == Racy(race.with));
+}
+
 /// The log has the events and the races of the case.
 fn expect_closed<R: Abort>(rt: &R, closed: &Closed, case: &Case) {
     assert!(rt; closed.len() == case.events && closed.log().len() == case.events);
     assert!(rt; closed.verdicts().races() == case.races);
     for race in case.races {
-        assert!(rt; race.event < closed.len());
-        assert!(rt; closed.verdict_at(race.event) == Racy(race.with));
+        expect_race(rt, closed, *race);
     }
 }
 
@@ -307,8 +318,7 @@ fn expect_case<R: Wait + Abort>(rt: &R, alloc: Global, case: &Case) {
     let limits = Limits::new(2, case.names, case.names, case.room, Roots::OnlyMain).expect(
         rt, "limits",
     );
-    let unnamed = Unnamed::new(alloc, limits).or_else(|_| Unnamed::new(alloc, limits));
-    let closed = take_turns::<Brand, _>(rt, unnamed.expect(rt, "a monitor"), case.turns);
+    let closed = take_turns::<Brand, _>(rt, begin(rt, alloc, limits), case.turns);
     expect_closed(rt, &closed, case);
     drop(closed);
 }

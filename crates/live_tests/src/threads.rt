@@ -3,7 +3,7 @@
 //! What is refused memory is made once more.
 ghost use Rattle.std.specs.Prelude.{◌≡◌};
 
-use crate::actors::{Actor, Ask};
+use crate::actors::{Actor, Ask, begin};
 use event_core::{Call, Limits, LockId, Log, Op, Outcome, Roots, ThreadId, VarId};
 use live_monitor::{Closed, Shared, Unnamed, start};
 use log_pass::Name;
@@ -111,6 +111,46 @@ fn join_made<N: Name, R: Wait + Abort>(
     (main, values)
 }
 
+/// Forks two threads.
+fn fork_two<N: Name, R: Wait + Abort>(
+    rt: &R,
+    shared: &Shared<N>,
+    main: Actor<N>,
+    first: u32,
+    second: u32,
+) -> (Actor<N>, Actor<N>, Actor<N>) {
+    let (main, first, _) = main.fork(rt, shared, first);
+    let (main, second, _) = main.fork(rt, shared, second);
+    (main, first, second)
+}
+
+/// Two threads make all rounds at once.
+fn make_both<N: Name + Send + Sync, R: Threads + Wait + Abort + Sync>(
+    rt: &R,
+    shared: &Shared<N>,
+    first: Actor<N>,
+    second: Actor<N>,
+) -> (Made<N>, Made<N>) {
+    join(
+        rt,
+        || make_rounds(rt, shared, first),
+        || make_rounds(rt, shared, second),
+    )
+}
+
+/// Joins two threads, and gives the values that the swaps of each read.
+fn join_both<N: Name, R: Wait + Abort>(
+    rt: &R,
+    shared: &Shared<N>,
+    main: Actor<N>,
+    made: (Made<N>, Made<N>),
+) -> (Actor<N>, Values, Values) {
+    let (first, second) = made;
+    let (main, first) = join_made(rt, shared, main, first);
+    let (main, second) = join_made(rt, shared, main, second);
+    (main, first, second)
+}
+
 /// The closed log of threads 1 to 4, the values that their swaps read, and the last value.
 fn four_threads<N: Name + Send + Sync, R: Threads + Wait + Abort + Sync>(
     rt: &R,
@@ -120,27 +160,15 @@ fn four_threads<N: Name + Send + Sync, R: Threads + Wait + Abort + Sync>(
     requires limits { unnamed.limits ≡ N.limits }
 {
     let (shared, pass) = start::<N>(unnamed);
-    let (main, first, _) = Actor::new(pass).fork(rt, &shared, 1);
-    let (main, second, _) = main.fork(rt, &shared, 2);
-    let (main, third, _) = main.fork(rt, &shared, 3);
-    let (main, fourth, _) = main.fork(rt, &shared, 4);
-    let ((first, second), (third, fourth)) = join(
+    let (main, first, second) = fork_two(rt, &shared, Actor::new(pass), 1, 2);
+    let (main, third, fourth) = fork_two(rt, &shared, main, 3, 4);
+    let (two, others) = join(
         rt,
-        || join(
-            rt,
-            || make_rounds(rt, &shared, first),
-            || make_rounds(rt, &shared, second),
-        ),
-        || join(
-            rt,
-            || make_rounds(rt, &shared, third),
-            || make_rounds(rt, &shared, fourth),
-        ),
+        || make_both(rt, &shared, first, second),
+        || make_both(rt, &shared, third, fourth),
     );
-    let (main, first) = join_made(rt, &shared, main, first);
-    let (main, second) = join_made(rt, &shared, main, second);
-    let (main, third) = join_made(rt, &shared, main, third);
-    let (main, fourth) = join_made(rt, &shared, main, fourth);
+    let (main, first, second) = join_both(rt, &shared, main, two);
+    let (main, third, fourth) = join_both(rt, &shared, main, others);
     let (main, last) = main.make(rt, &shared, Ask::Load(1), 0);
     let last = last.expect(rt, "a load").value;
     (main.close(shared), [first, second, third, fourth], last)
@@ -152,9 +180,7 @@ fn limits<R: Abort>(rt: &R) -> Limits {
 }
 
 fn run<R: Threads + Wait + Abort + Sync>(rt: &R, alloc: Global) -> (Closed, [Values; 4], u64) {
-    let limits = limits(rt);
-    let unnamed = Unnamed::new(alloc, limits).or_else(|_| Unnamed::new(alloc, limits));
-    four_threads::<Brand, _>(rt, unnamed.expect(rt, "a monitor"))
+    four_threads::<Brand, _>(rt, begin(rt, alloc, limits(rt)))
 }
 
 /// The calls whose events the log has, in order.
@@ -173,16 +199,21 @@ fn calls_of(alloc: Global, log: &Log) -> Result<Vec<Call>, AllocError> {
     Ok(calls)
 }
 
+/// The call is the one of the rounds that has so many before it.
+fn expect_call<R: Abort>(rt: &R, call: &Call, before: usize) {
+    assert!(rt; call.op == ROUND[before % 6] && call.site.0 as usize == before / 6);
+}
+
 /// The calls of the thread are its rounds, each once and in order.
 fn expect_rounds<R: Abort>(rt: &R, calls: &[Call], thread: ThreadId) {
-    let mut own = calls.iter().filter(|call| call.thread == thread);
-    for round in 0..ROUNDS {
-        for op in ROUND {
-            let call = own.next().expect(rt, "a call");
-            assert!(rt; call.op == op && call.site.0 == round);
+    let mut count: usize = 0;
+    for call in calls {
+        if call.thread == thread {
+            expect_call(rt, call, count);
+            count = count.saturating_add(1);
         }
     }
-    assert!(rt; own.next().is_none());
+    assert!(rt; count == 6 * ROUNDS as usize);
 }
 
 /// The value is among 201, and was not read before.
@@ -230,7 +261,10 @@ fn replays<R: Abort>(rt: &R, alloc: Global, closed: &Closed, calls: &[Call]) -> 
 }
 
 fn expect_log<R: Abort>(rt: &R, alloc: Global, closed: &Closed) {
-    let calls = calls_of(alloc, closed.log()).or_else(|_| calls_of(alloc, closed.log()));
+    let calls = match calls_of(alloc, closed.log()) {
+        Err(_) => calls_of(alloc, closed.log()),
+        calls => calls,
+    };
     let calls = calls.expect(rt, "the calls");
     assert!(rt; calls.len() == 4 * 300 + 9);
     for thread in 1..5 {

@@ -1,6 +1,5 @@
 //! Each beginning of a legal trace, and what it comes to.
-use crate::doubles::Text;
-use crate::runs::{Answer, Run};
+use crate::runs::{CHECK, REPLAY, expect_printed};
 use std::fs::Files;
 use std::process::Abort;
 use std::sync::Wait;
@@ -112,22 +111,27 @@ const LINES: &[Line] = &[
     ),
 ];
 
-/// Adds the part to the text byte by byte. After each byte the commands come to these answers.
+/// What is refused once is asked for again.
+fn add(text: &mut Vec<u8>, byte: u8) -> Result<(), Fail> {
+    if text.push(byte).is_err() {
+        text.push(byte)?;
+    }
+    Ok(())
+}
+
+/// Adds the part to the text byte by byte. After each byte `check` and `replay` print this.
 fn judge_each_end<R: Abort + AllocGlobal + Files + Threads + Wait + Sync>(
     rt: &R,
     text: &mut Vec<u8>,
     part: &str,
-    checked: &Answer<'_>,
-    replayed: &Answer<'_>,
+    counts: &str,
+    report: &str,
+    status: u8,
 ) -> Result<(), Fail> {
     for byte in part.as_bytes() {
-        // What is refused once is asked for again.
-        if text.push(*byte).is_err() {
-            text.push(*byte)?;
-        }
-        let whole = Text::whole(text.as_slice());
-        Run::of(&["check"], whole).expect(rt, part, checked);
-        Run::of(&["replay"], whole).expect(rt, part, replayed);
+        add(text, *byte)?;
+        expect_printed(rt, CHECK, part, text.as_slice(), counts, status);
+        expect_printed(rt, REPLAY, part, text.as_slice(), report, status);
     }
     Ok(())
 }
@@ -139,15 +143,8 @@ fn judge_line<R: Abort + AllocGlobal + Files + Threads + Wait + Sync>(
     line: &Line,
 ) -> Result<(), Fail> {
     let (head, rest, fault, counts, report) = *line;
-    let fault = Answer::printed(fault, 3);
-    judge_each_end(rt, text, head, &fault, &fault)?;
-    judge_each_end(
-        rt,
-        text,
-        rest,
-        &Answer::printed(counts, 0),
-        &Answer::printed(report, 0),
-    )
+    judge_each_end(rt, text, head, fault, fault, 3)?;
+    judge_each_end(rt, text, rest, counts, report, 0)
 }
 
 #[test]

@@ -4,7 +4,7 @@ ghost use Rattle.rapid_text.specs.Events.{HasNames};
 ghost use Rattle.event_core.specs.declared.bounds.Roots.TheVariants.{OnlyMain};
 
 use crate::doubles::{Page, Room, Text};
-use crate::runs::{Answer, Run};
+use crate::runs::{Answer, REPLAY, Run, expect_printed};
 use event_core::{Event, Limits, Roots, ThreadId};
 use live_monitor::Closed;
 use rapid_text::{Device, Kind, Names, parts_of, write_event};
@@ -22,7 +22,7 @@ use std::thread::Threads;
 struct Case {
     script: &'static str,
     patience: u32,
-    logs: &'static [&'static str],
+    logs: &'static [&'static [u8]],
     report: &'static str,
 }
 
@@ -30,20 +30,20 @@ const CASES: &[Case] = &[
     Case {
         script: "m fork a\na w x 5\nm join a\nm r x\n",
         patience: 1000000,
-        logs: &["m|fork(a)|1\na|w(x)|2\nm|join(a)|3\nm|r(x)|4\n"],
+        logs: &[b"m|fork(a)|1\na|w(x)|2\nm|join(a)|3\nm|r(x)|4\n"],
         report: "events 4 threads 2 locks 0 variables 1 races 0\n",
     },
     // The events of a swap stand at one place.
     Case {
         script: "m fork a\na swap x 4\nm join a\nm swap x 5\n",
         patience: 1000000,
-        logs: &["m|fork(a)|1\na|r(x)|2\na|w(x)|2\nm|join(a)|3\nm|r(x)|4\nm|w(x)|4\n"],
+        logs: &[b"m|fork(a)|1\na|r(x)|2\na|w(x)|2\nm|join(a)|3\nm|r(x)|4\nm|w(x)|4\n"],
         report: "events 6 threads 2 locks 0 variables 1 races 0\n",
     },
     Case {
         script: "\nm acq l\r\nm acq l\nm rel l",
         patience: 1000000,
-        logs: &["m|acq(l)|2\nm|acq(l)|3\nm|rel(l)|4\n"],
+        logs: &[b"m|acq(l)|2\nm|acq(l)|3\nm|rel(l)|4\n"],
         report: "events 3 threads 1 locks 1 variables 0 races 0\n",
     },
 ];
@@ -53,8 +53,8 @@ const OVERLAP: Case = Case {
     script: "m fork a\nm r x\na r y\n",
     patience: 1,
     logs: &[
-        "m|fork(a)|1\nm|r(x)|2\na|r(y)|3\n",
-        "m|fork(a)|1\na|r(y)|3\nm|r(x)|2\n",
+        b"m|fork(a)|1\nm|r(x)|2\na|r(y)|3\n",
+        b"m|fork(a)|1\na|r(y)|3\nm|r(x)|2\n",
     ],
     report: "events 3 threads 2 locks 0 variables 2 races 0\n",
 };
@@ -125,8 +125,24 @@ fn write_log<G: Gate + Sync, R: AllocGlobal + Threads + Wait + Sync>(
     is_written
 }
 
-fn is_among(logs: &[&str], log: &[u8]) -> bool {
-    logs.iter().any(|known| known.as_bytes() == log)
+/// And once more where memory ran out, or a thread could not be started.
+fn write_again<G: Gate + Sync, R: AllocGlobal + Threads + Wait + Sync>(
+    rt: &R,
+    case: &Case,
+    gate: &G,
+    page: &mut Page,
+) -> Option<bool> {
+    let is_written = write_log(rt, case, gate, page);
+    if is_written.is_some() {
+        return is_written;
+    }
+    write_log(rt, case, gate, page)
+}
+
+/// The log is written, and its lines are known ones.
+fn expect_known(rt: &impl Abort, case: &Case, is_written: Option<bool>, log: &[u8]) {
+    let is_known = is_written == Some(true) && case.logs.contains(&log);
+    assert!(rt; is_known, "{}: {log:?}", case.script);
 }
 
 /// The lines of the log are known ones, and a replay of them prints the report.
@@ -136,14 +152,9 @@ fn expect_log<G: Gate + Sync, R: Abort + AllocGlobal + Files + Threads + Wait + 
     gate: &G,
 ) {
     let mut page = Page::blank(rt.alloc(), Room::AMPLE);
-    let mut is_written = write_log(rt, case, gate, &mut page);
-    if is_written.is_none() {
-        is_written = write_log(rt, case, gate, &mut page);
-    }
-    assert!(rt; is_written == Some(true), "{}", case.script);
-    assert!(rt; is_among(case.logs, &page.bytes), "{:?}", page.bytes);
-    let replay = Run::of(&["replay"], Text::whole(&page.bytes));
-    replay.expect(rt, case.script, &Answer::printed(case.report, 0));
+    let is_written = write_again(rt, case, gate, &mut page);
+    expect_known(rt, case, is_written, &page.bytes);
+    expect_printed(rt, REPLAY, case.script, &page.bytes, case.report, 0);
     drop(page);
 }
 

@@ -3,7 +3,7 @@ ghost use Rattle.std.specs.Prelude.{◌≡◌};
 ghost use Rattle.event_core.specs.declared.bounds.Roots.TheVariants.{OnlyMain};
 
 use crate::doubles::{Page, Room};
-use closed_report::{NameLists, NamingFault, ReportFault, Summary, names_of, report_closed};
+use closed_report::{NameLists, NamingFault, ReportFault, names_of, report_closed};
 use event_core::{Limits, Refusal, Roots, SiteId, ThreadId, VarId};
 use live_monitor::{Closed, Unnamed, start};
 use log_pass::Name;
@@ -130,7 +130,7 @@ fn reported<R: Wait>(
     has_swaps: bool,
     lists: &NameLists<'static>,
     page: &mut Page,
-) -> Option<Result<Summary, ReportFault>> {
+) -> Option<Result<u64, ReportFault>> {
     let names = names_of(alloc, limits(), lists).ok()?;
     let unnamed = Unnamed::new(alloc, limits()).ok()?;
     let (closed, made) = run::<Brand, _>(rt, unnamed, has_swaps);
@@ -138,7 +138,22 @@ fn reported<R: Wait>(
     drop(closed);
     drop(names);
     made.ok()?;
-    Some(answer)
+    Some(answer.map(|summary| summary.races))
+}
+
+/// What is answered, and whether this is written.
+fn met<R: Wait + AllocGlobal>(
+    rt: &R,
+    has_swaps: bool,
+    lists: &NameLists<'static>,
+    room: Room,
+    written: &str,
+) -> (Option<Result<u64, ReportFault>>, bool) {
+    let mut page = Page::blank(rt.alloc(), room);
+    let answer = reported(rt, rt.alloc(), has_swaps, lists, &mut page);
+    let is_written = page.bytes.as_slice() == written.as_bytes();
+    drop(page);
+    (answer, is_written)
 }
 
 /// It is answered so many races or a fault, and this is written.
@@ -150,16 +165,12 @@ fn expect<R: Abort + Wait + AllocGlobal>(
     races: Result<u64, ReportFault>,
     written: &str,
 ) {
-    let mut page = Page::blank(rt.alloc(), room);
-    let mut answer = reported(rt, rt.alloc(), has_swaps, lists, &mut page);
-    if answer.is_none() {
-        drop(page);
-        page = Page::blank(rt.alloc(), room);
-        answer = reported(rt, rt.alloc(), has_swaps, lists, &mut page);
+    let mut told = met(rt, has_swaps, lists, room, written);
+    if told.0.is_none() {
+        told = met(rt, has_swaps, lists, room, written);
     }
-    assert!(rt; answer.map(|told| told.map(|summary| summary.races)) == Some(races));
-    assert!(rt; page.bytes.as_slice() == written.as_bytes());
-    drop(page);
+    assert!(rt; told.0 == Some(races));
+    assert!(rt; told.1);
 }
 
 #[test]
@@ -181,15 +192,24 @@ fn a_report_that_is_not_taken_is_told(rt: HostRuntime) {
     expect(&rt, true, &NAMES, none, Err(ReportFault::Write), "");
 }
 
+/// What is wrong with the lists.
+fn naming(alloc: Global, lists: &NameLists<'static>) -> Result<(), NamingFault> {
+    let answer = names_of(alloc, limits(), lists).map(drop);
+    if answer == Err(NamingFault::OutOfMemory) {
+        return names_of(alloc, limits(), lists).map(drop);
+    }
+    answer
+}
+
+fn says(fault: NamingFault, said: &str) -> bool {
+    let text: InlineText<64> = InlineText::of(fault);
+    text.as_str() == said
+}
+
 #[test]
 fn lists_that_are_no_names_are_told_with_their_place(rt: HostRuntime) {
     for (lists, fault, said) in FAULTS {
-        let mut answer = names_of(rt.alloc(), limits(), lists).map(drop);
-        if answer == Err(NamingFault::OutOfMemory) {
-            answer = names_of(rt.alloc(), limits(), lists).map(drop);
-        }
-        assert!(&rt; answer == Err(*fault));
-        let text: InlineText<64> = InlineText::of(*fault);
-        assert!(&rt; text.as_str() == *said);
+        assert!(&rt; naming(rt.alloc(), lists) == Err(*fault));
+        assert!(&rt; says(*fault, said));
     }
 }

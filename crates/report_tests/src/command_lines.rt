@@ -1,6 +1,6 @@
 //! Command lines, and what is said of them.
 use crate::doubles::Text;
-use crate::runs::Run;
+use crate::runs::{Ran, Run};
 use std::alloc::Global;
 use std::fs::Files;
 use std::process::Abort;
@@ -127,6 +127,15 @@ const WRONG: &[(&[&str], &str)] = &[
     (&["replay", "--patience", "1"], "'--patience'"),
 ];
 
+/// The command that the words ask for, and its options.
+fn taken(alloc: Global, words: &[&str]) -> Result<(String, (u32, u32)), Fail> {
+    let got = settings(alloc, words)?;
+    let options = (got.threads, got.patience);
+    let command = format!(in alloc; "{:?}", got.command);
+    drop(got);
+    Ok((command?, options))
+}
+
 /// The words ask for this command, with these options.
 fn expect_taken(
     rt: &impl Abort,
@@ -135,14 +144,10 @@ fn expect_taken(
     command: &str,
     options: (u32, u32),
 ) -> Result<(), Fail> {
-    let got = settings(alloc, words)?;
-    let met = format!(in alloc; "{:?}", got.command)?;
-    assert!(rt;
-        met.as_str() == command && (got.threads, got.patience) == options,
-        "{words:?}: {got:?}"
-    );
+    let (met, met_options) = taken(alloc, words)?;
+    let is_taken = met.as_str() == command && met_options == options;
+    assert!(rt; is_taken, "{words:?}: {met}, {met_options:?}");
     drop(met);
-    drop(got);
     Ok(())
 }
 
@@ -156,11 +161,28 @@ fn a_command_is_taken_with_its_options(rt: HostRuntime) -> Result<(), Fail> {
 
 /// Whether no line has more than 80 columns.
 fn is_narrow(text: &str) -> bool {
-    text.lines().all(|line| line.len() <= 80)
+    for line in text.lines() {
+        if line.len() > 80 {
+            return false;
+        }
+    }
+    true
 }
 
-/// One device has this part, the other nothing, and the status is this. What is wrong stands on standard
-/// error, with status 2; all else on standard output, in lines of at most 80 columns.
+/// Whether the one device has this part, the other nothing, and the status is this.
+fn is_said(ran: &Ran, part: &str, status: u8) -> bool {
+    let (said, other) = if status == 2 {
+        (ran.errors.as_slice(), ran.output.as_slice())
+    } else {
+        (ran.output.as_slice(), ran.errors.as_slice())
+    };
+    let text = str::from_utf8(said).unwrap_or("");
+    let is_told = text.contains(part) && (status == 2 || is_narrow(text));
+    is_told && other.is_empty() && ran.status == status
+}
+
+/// What is wrong is told on standard error, with status 2; all else on standard output, in lines of at most
+/// 80 columns.
 fn expect_said<R: Abort + AllocGlobal + Files + Threads + Wait + Sync>(
     rt: &R,
     words: &[&str],
@@ -169,18 +191,8 @@ fn expect_said<R: Abort + AllocGlobal + Files + Threads + Wait + Sync>(
     status: u8,
 ) {
     let ran = Run::of(words, Text::whole(input)).ran_again(rt);
-    let (said, other) = if status == 2 {
-        (ran.errors.as_slice(), ran.output.as_slice())
-    } else {
-        (ran.output.as_slice(), ran.errors.as_slice())
-    };
-    let text = str::from_utf8(said).unwrap_or("");
-    let is_said = text.contains(part) && (status == 2 || is_narrow(text));
-    assert!(rt;
-        is_said && other.is_empty() && ran.status == status,
-        "{words:?}: {text}"
-    );
-    drop(ran);
+    let is_said = is_said(&ran, part, status);
+    ran.held(rt, is_said, part);
 }
 
 #[test]

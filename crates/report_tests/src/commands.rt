@@ -62,6 +62,9 @@ impl Command {
         output: &str,
     ) -> Option<(Option<ReplayFault>, bool)> {
         let ended = self.ends_once(alloc, text, turns, output);
-        ended.or_else(|| self.ends_once(alloc, text, turns, output))
+        if ended.is_some() {
+            return ended;
+        }
+        self.ends_once(alloc, text, turns, output)
     }
 }

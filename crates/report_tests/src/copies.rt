@@ -1,7 +1,7 @@
 //! The events of a trace, written again as its lines.
-use crate::doubles::{Page, Room, Text};
-use crate::runs::{Answer, Run};
-use crate::traces::LEGAL;
+use crate::doubles::{Page, Room};
+use crate::runs::{REPLAY, expect_printed};
+use crate::traces::legal;
 use event_core::{Limits, Roots};
 use rapid_text::{Device, Reader, write_event};
 use std::alloc::Global;
@@ -45,10 +45,9 @@ fn copy_of(alloc: Global, text: &[u8]) -> Result<Vec<u8>, Fail> {
 
 #[test]
 fn a_copy_of_a_trace_has_the_same_report(rt: HostRuntime) -> Result<(), Fail> {
-    for (name, text, _, report, status) in LEGAL {
+    for (name, text, _, report, status) in legal() {
         let copied = copy_of(rt.alloc(), text.as_bytes())?;
-        let run = Run::of(&["replay"], Text::whole(&copied));
-        run.expect(&rt, name, &Answer::printed(report, *status));
+        expect_printed(&rt, REPLAY, name, &copied, report, *status);
     }
     Ok(())
 }

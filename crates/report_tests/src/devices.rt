@@ -1,5 +1,6 @@
 //! Readers and writers of std under a device: they fail, or take no byte.
 use crate::doubles::{Page, Room};
+use crate::runs::COMMANDS;
 use rapid_text::Device;
 use std::fs::Files;
 use std::io;
@@ -42,6 +43,17 @@ struct Narrow<'a> {
     writes: usize,
     full: Full,
     is_wanted: bool,
+}
+
+impl<'a> Narrow<'a> {
+    fn of(wanted: &'a str, writes: usize, full: Full) -> Narrow<'a> {
+        Narrow {
+            wanted: wanted.as_bytes(),
+            writes,
+            full,
+            is_wanted: true,
+        }
+    }
 }
 
 impl Write for Narrow<'_> {
@@ -102,8 +114,6 @@ fn expect_end<R: Abort + AllocGlobal + Files + Threads + Wait + Sync>(
     assert!(rt; met == (status, true), "{words:?}: {met:?}");
 }
 
-const COMMANDS: &[&[&str]] = &[&["check"], &["replay"]];
-
 /// A text whose reader fails, what is written to standard output and to standard error, and the status.
 const BROKEN: &[(&str, &str, &str, u8)] = &[
     ("", "", "read fault\n", 4),
@@ -122,12 +132,7 @@ fn a_device_tells_of_a_reader_that_fails(rt: HostRuntime) {
                 text: text.as_bytes(),
                 fails: true,
             };
-            let writer = Narrow {
-                wanted: output.as_bytes(),
-                writes: output.len(),
-                full: Full::Fails,
-                is_wanted: true,
-            };
+            let writer = Narrow::of(output, output.len(), Full::Fails);
             expect_end(&rt, words, reader, writer, errors, *status);
         }
     }
@@ -158,28 +163,31 @@ const PRINTED: &[(&[&str], &str, &str, u8)] = &[
 ];
 
 /// Whichever write fails or takes no byte, the status says so, until none does.
+fn expect_each_write<R: Abort + AllocGlobal + Files + Threads + Wait + Sync>(
+    rt: &R,
+    words: &[&str],
+    text: &str,
+    output: &str,
+    status: u8,
+    full: Full,
+) {
+    let reader = Broken {
+        text: text.as_bytes(),
+        fails: false,
+    };
+    for writes in 0..output.len() {
+        let writer = Narrow::of(output, writes, full);
+        expect_end(rt, words, reader, writer, "write fault\n", 4);
+    }
+    let writer = Narrow::of(output, output.len(), full);
+    expect_end(rt, words, reader, writer, "", status);
+}
+
 #[test]
 fn a_device_tells_of_a_writer_that_takes_no_more(rt: HostRuntime) {
     for full in [Full::Fails, Full::TakesNothing] {
         for (words, text, output, status) in PRINTED {
-            let reader = Broken {
-                text: text.as_bytes(),
-                fails: false,
-            };
-            for writes in 0..=output.len() {
-                let writer = Narrow {
-                    wanted: output.as_bytes(),
-                    writes,
-                    full,
-                    is_wanted: true,
-                };
-                let (errors, status) = if writes < output.len() {
-                    ("write fault\n", 4)
-                } else {
-                    ("", *status)
-                };
-                expect_end(&rt, words, reader, writer, errors, status);
-            }
+            expect_each_write(&rt, words, text, output, *status, full);
         }
     }
 }

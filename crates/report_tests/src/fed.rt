@@ -1,6 +1,6 @@
 //! Texts that a replayer is fed, whole, byte by byte, and cut in two at each place.
 use crate::doubles::{Page, Room};
-use crate::traces::{LEGAL, REFUSED};
+use crate::traces::{legal, refused};
 use event_core::{Limits, Refusal, Roots};
 use rapid_text::{Cause, TextFault};
 use std::alloc::Global;
@@ -47,6 +47,21 @@ fn feed_pieces(replayer: &mut Replayer, meal: Meal<'_>, first: usize, others: us
     }
 }
 
+/// The fault of a new replayer that is fed so; none where there was no memory for one. The page has what it
+/// wrote.
+fn fault_of(
+    alloc: Global,
+    meal: Meal<'_>,
+    first: usize,
+    others: usize,
+    page: &mut Page,
+) -> Option<Option<ReplayFault>> {
+    let limits = Limits::new(8, 8, 8, 64, Roots::Free).ok()?;
+    let mut replayer = Replayer::new(alloc, limits).ok()?;
+    feed_pieces(&mut replayer, meal, first, others);
+    Some(replayer.finish(page).err())
+}
+
 /// Whether a new replayer comes to what is wanted. None where memory ran out.
 fn is_told(
     alloc: Global,
@@ -55,14 +70,11 @@ fn is_told(
     others: usize,
     wanted: Wanted<'_>,
 ) -> Option<bool> {
-    let limits = Limits::new(8, 8, 8, 64, Roots::Free).ok()?;
     let mut page = Page::blank(alloc, Room::AMPLE);
-    let mut replayer = Replayer::new(alloc, limits).ok()?;
-    feed_pieces(&mut replayer, meal, first, others);
-    let fault = replayer.finish(&mut page).err();
+    let fault = fault_of(alloc, meal, first, others, &mut page);
     let is_written = page.bytes.as_slice() == wanted.output.as_bytes();
     drop(page);
-    match fault {
+    match fault? {
         Some(fault) if is_short(&fault) => None,
         fault => Some(is_written && fault.is_none() == wanted.is_report),
     }
@@ -77,8 +89,10 @@ fn expect_told(
     others: usize,
     wanted: Wanted<'_>,
 ) {
-    let told = is_told(alloc, meal, first, others, wanted);
-    let told = told.or_else(|| is_told(alloc, meal, first, others, wanted));
+    let mut told = is_told(alloc, meal, first, others, wanted);
+    if told.is_none() {
+        told = is_told(alloc, meal, first, others, wanted);
+    }
     assert!(rt; told == Some(true), "{:?}, cut at {first}", wanted.output);
 }
 
@@ -94,7 +108,7 @@ pub fn expect_however_fed(rt: &impl Abort, alloc: Global, meal: Meal<'_>, wanted
 
 #[test]
 fn legal_traces_have_their_report_however_they_are_fed(rt: HostRuntime) {
-    for (_, text, _, report, _) in LEGAL {
+    for (_, text, _, report, _) in legal() {
         let meal = Meal {
             text: text.as_bytes(),
             fails: false,
@@ -109,7 +123,7 @@ fn legal_traces_have_their_report_however_they_are_fed(rt: HostRuntime) {
 
 #[test]
 fn refused_traces_have_their_line_however_they_are_fed(rt: HostRuntime) {
-    for (_, text, line) in REFUSED {
+    for (_, text, line) in refused() {
         let meal = Meal {
             text: text.as_bytes(),
             fails: false,

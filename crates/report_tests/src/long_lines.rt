@@ -2,7 +2,7 @@
 use crate::commands::Command;
 use crate::doubles::{Text, letters};
 use crate::fed::{Meal, Wanted, expect_however_fed};
-use crate::runs::{Answer, Run};
+use crate::runs::{Answer, CHECK, REPLAY, Run};
 use std::alloc::{AllocError, Global};
 use std::fs::Files;
 use std::process::Abort;
@@ -130,6 +130,10 @@ const CASES: &[Case] = &[
     },
 ];
 
+fn cases() -> &'static [Case] {
+    CASES
+}
+
 fn add_parts(text: &mut Vec<u8>, parts: &[Part]) -> Result<(), AllocError> {
     for (count, rest) in parts {
         text.extend_from_slice(letters(*count))?;
@@ -146,7 +150,10 @@ fn text_once(alloc: Global, parts: &[Part]) -> Result<Vec<u8>, AllocError> {
 
 /// The text of the parts. What is refused once is asked for again.
 fn text_of(alloc: Global, parts: &[Part]) -> Result<Vec<u8>, AllocError> {
-    text_once(alloc, parts).or_else(|_| text_once(alloc, parts))
+    match text_once(alloc, parts) {
+        Ok(text) => Ok(text),
+        Err(_) => text_once(alloc, parts),
+    }
 }
 
 impl Case {
@@ -157,13 +164,20 @@ impl Case {
         }
     }
 
-    /// What a command comes to that writes this to standard output.
-    fn answer(&self, output: &'static str) -> Answer<'static> {
-        Answer {
+    /// The command writes this to standard output.
+    fn judge_by<R: Abort + AllocGlobal + Files + Threads + Wait + Sync>(
+        &self,
+        rt: &R,
+        words: &[&str],
+        text: Text<'_>,
+        output: &str,
+    ) {
+        let answer = Answer {
             output: output.as_bytes(),
             errors: self.errors,
             status: self.status,
-        }
+        };
+        Run::of(words, text).expect(rt, output, &answer);
     }
 
     /// Both commands have their answer of the text in pieces of this size.
@@ -174,8 +188,8 @@ impl Case {
         most: usize,
     ) {
         let text = self.text(bytes, most, most);
-        Run::of(&["check"], text).expect(rt, self.counts, &self.answer(self.counts));
-        Run::of(&["replay"], text).expect(rt, self.report, &self.answer(self.report));
+        self.judge_by(rt, CHECK, text, self.counts);
+        self.judge_by(rt, REPLAY, text, self.report);
     }
 
     /// A check comes to the same wherever the text is cut in two.
@@ -193,7 +207,7 @@ impl Case {
 
 #[test]
 fn long_lines_are_judged_whole_and_byte_by_byte(rt: HostRuntime) -> Result<(), Fail> {
-    for case in CASES {
+    for case in cases() {
         let text = text_of(rt.alloc(), case.parts)?;
         case.judge(&rt, &text, usize::MAX);
         case.judge(&rt, &text, 1);
@@ -203,7 +217,7 @@ fn long_lines_are_judged_whole_and_byte_by_byte(rt: HostRuntime) -> Result<(), F
 
 #[test]
 fn long_lines_are_checked_wherever_they_are_cut(rt: HostRuntime) -> Result<(), Fail> {
-    for case in CASES {
+    for case in cases() {
         let text = text_of(rt.alloc(), case.parts)?;
         case.check_cut(&rt, rt.alloc(), &text);
     }
@@ -212,7 +226,7 @@ fn long_lines_are_checked_wherever_they_are_cut(rt: HostRuntime) -> Result<(), F
 
 #[test]
 fn long_lines_are_replayed_however_they_are_fed(rt: HostRuntime) -> Result<(), Fail> {
-    for case in CASES {
+    for case in cases() {
         let text = text_of(rt.alloc(), case.parts)?;
         let meal = Meal {
             text: &text,

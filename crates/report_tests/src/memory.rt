@@ -1,7 +1,7 @@
 //! Runs of the program where memory is refused.
 use crate::doubles::Text;
-use crate::runs::{Answer, Ran, Run};
-use crate::traces::LEGAL;
+use crate::runs::{Answer, CHECK, REPLAY, Ran, Run};
+use crate::traces::legal;
 use std::fs::Files;
 use std::process::Abort;
 use std::sync::Wait;
@@ -16,24 +16,24 @@ fn is_whole(ran: &Ran, output: &str, status: u8) -> bool {
 }
 
 /// The program prints this of the text, or nothing but that memory ran out.
-fn expect_whole<'a, R: Abort + AllocGlobal + Files + Threads + Wait + Sync>(
+fn expect_whole<R: Abort + AllocGlobal + Files + Threads + Wait + Sync>(
     rt: &R,
-    words: &'a [&'a str],
-    text: &'a [u8],
+    words: &[&str],
+    text: &[u8],
     output: &str,
     status: u8,
 ) {
     let ran = Run::of(words, Text::whole(text)).ran(rt);
-    assert!(rt; is_whole(&ran, output, status), "{words:?}");
-    drop(ran);
+    let is_whole = is_whole(&ran, output, status);
+    ran.held(rt, is_whole, output);
 }
 
 /// Whichever allocation is refused, the answer is that of an ample run, or nothing but that memory ran out.
 #[test]
 fn a_trace_is_answered_whole_or_not_at_all(rt: HostRuntime) {
-    for (_, text, line, report, status) in LEGAL {
-        expect_whole(&rt, &["check"], text.as_bytes(), line, 0);
-        expect_whole(&rt, &["replay"], text.as_bytes(), report, *status);
+    for (_, text, line, report, status) in legal() {
+        expect_whole(&rt, CHECK, text.as_bytes(), line, 0);
+        expect_whole(&rt, REPLAY, text.as_bytes(), report, *status);
     }
 }
 
@@ -44,6 +44,6 @@ fn a_script_is_run_whole_or_not_at_all(rt: HostRuntime) {
     let report = "events 4 threads 2 locks 0 variables 1 races 0\n";
     let ran = Run::script(Text::whole(text)).ran(&rt);
     let has_no_worker = ran.is(&Answer::printed("line 1: NoWorker\n", 6));
-    assert!(rt; has_no_worker || is_whole(&ran, report, 0));
-    drop(ran);
+    let is_whole = is_whole(&ran, report, 0);
+    ran.held(&rt, has_no_worker || is_whole, report);
 }

@@ -54,6 +54,19 @@ fn replay_fed(
     Ok((is_taken, replayer.finish(page).err()))
 }
 
+/// Whether it takes what it is to take and writes this, and its fault.
+fn met_fed(
+    alloc: Global,
+    feeding: Feeding,
+    output: &str,
+) -> Result<(bool, Option<ReplayFault>), Fail> {
+    let mut page = Page::blank(alloc, Room::AMPLE);
+    let (is_taken, met) = replay_fed(alloc, feeding, &mut page)?;
+    let is_written = page.bytes.as_slice() == output.as_bytes();
+    drop(page);
+    Ok((is_taken && is_written, met))
+}
+
 /// The replayer comes to this. Where it is to have no fault, one is the error of the test.
 fn expect_report(
     rt: &impl Abort,
@@ -62,14 +75,11 @@ fn expect_report(
     fault: Option<ReplayFault>,
     output: &str,
 ) -> Result<(), Fail> {
-    let mut page = Page::blank(alloc, Room::AMPLE);
-    let (is_taken, met) = replay_fed(alloc, feeding, &mut page)?;
+    let (is_whole, met) = met_fed(alloc, feeding, output)?;
     if let (Some(met), None) = (met, fault) {
         return Err(met.into());
     }
-    let is_written = page.bytes.as_slice() == output.as_bytes();
-    assert!(rt; is_taken && is_written && met == fault, "{output}: {met:?}");
-    drop(page);
+    assert!(rt; is_whole && met == fault, "{output}: {met:?}");
     Ok(())
 }
 

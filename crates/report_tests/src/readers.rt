@@ -1,12 +1,12 @@
 //! A reader that fails at any byte of a trace.
 use crate::doubles::Text;
-use crate::runs::{Answer, Run};
+use crate::runs::{Answer, COMMANDS, Run};
 
 #[test]
 fn no_part_of_a_trace_is_told_whose_reader_fails(rt: HostRuntime) {
     let text = b"T0|fork(T1)|1\nT0|acq(l)|2\nT1|r(x)|3\nT0|rel(l)|4\n".as_slice();
     for end in 0..text.len() {
-        for words in [&["check"], &["replay"]] {
+        for words in COMMANDS {
             let run = Run::of(words, Text::cut(&text[..end], 7, 3).and_fails());
             run.expect(&rt, "a reader that fails", &Answer::told("read fault\n", 4));
         }

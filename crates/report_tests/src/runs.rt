@@ -8,6 +8,12 @@ use std::sync::Wait;
 use std::thread::Threads;
 use wcp_tool::{Command, Settings, run_script, tool};
 
+pub const CHECK: &[&str] = &["check"];
+
+pub const REPLAY: &[&str] = &["replay"];
+
+pub const COMMANDS: &[&[&str]] = &[CHECK, REPLAY];
+
 /// What is run: the program over its words, or a script, a line of which is tried so often, and at least
 /// once.
 #[derive(Clone, Copy)]
@@ -72,6 +78,18 @@ impl Ran {
         self.output.as_slice() == answer.output
             && self.errors.as_slice() == answer.errors.as_bytes()
             && self.status == answer.status
+    }
+
+    /// This holds of what was run.
+    pub fn held(self, rt: &impl Abort, holds: bool, what: &str) {
+        let Ran {
+            status,
+            output,
+            errors,
+        } = self;
+        assert!(rt; holds, "{what}: {status}, {output:?}, {errors:?}");
+        drop(output);
+        drop(errors);
     }
 }
 
@@ -151,12 +169,19 @@ impl<'a> Run<'a> {
         answer: &Answer<'_>,
     ) {
         let ran = self.ran_again(rt);
-        assert!(rt;
-            ran.is(answer),
-            "{what}: {:?}, {:?}",
-            ran.status,
-            ran.output
-        );
-        drop(ran);
+        let is_answer = ran.is(answer);
+        ran.held(rt, is_answer, what);
     }
+}
+
+/// The program prints this of the text.
+pub fn expect_printed<R: Abort + AllocGlobal + Files + Threads + Wait + Sync>(
+    rt: &R,
+    words: &[&str],
+    what: &str,
+    text: &[u8],
+    output: &str,
+    status: u8,
+) {
+    Run::of(words, Text::whole(text)).expect(rt, what, &Answer::printed(output, status));
 }

@@ -1,6 +1,6 @@
 //! Scripts, and what a run of their threads prints.
 use crate::doubles::{Room, Text};
-use crate::runs::{Answer, Program, Run};
+use crate::runs::{Answer, Program, Ran, Run, expect_printed};
 use std::fs;
 use std::fs::Files;
 use std::process::Abort;
@@ -153,19 +153,18 @@ const RACE_LINES: &[&[u8]] = &[
     b"5|m|w(y)|2 with 4|a|r(y)|8\n",
 ];
 
-/// Whether the report is the counts and one of the lines.
-fn is_race(report: &[u8]) -> bool {
-    match report.strip_prefix(RACE_COUNTS) {
-        Some(line) => RACE_LINES.contains(&line),
+/// Whether the report is the counts and one of the lines, and nothing else is said.
+fn is_race(ran: &Ran) -> bool {
+    match ran.output.strip_prefix(RACE_COUNTS) {
+        Some(line) => RACE_LINES.contains(&line) && ran.errors.is_empty() && ran.status == 1,
         None => false,
     }
 }
 
 fn expect_race<R: Abort + AllocGlobal + Files + Threads + Wait + Sync>(rt: &R) {
     let ran = Run::script(Text::whole(RACE)).ran_again(rt);
-    let is_told = is_race(&ran.output) && ran.errors.is_empty() && ran.status == 1;
-    assert!(rt; is_told, "{:?}", ran.output);
-    drop(ran);
+    let is_race = is_race(&ran);
+    ran.held(rt, is_race, "a race");
 }
 
 #[test]
@@ -196,22 +195,29 @@ fn the_lines_before_a_reader_failed_are_judged(rt: HostRuntime) {
     }
 }
 
+/// A run of the script with so much room for what it prints.
+fn script_in(text: &[u8], output: Room) -> Run<'_> {
+    Run {
+        output,
+        ..Run::script(Text::whole(text))
+    }
+}
+
 /// Texts for which there is a report or a fault to write.
 const WRITING: &[&[u8]] = &[RACE, b"m rel l\n", b"m  r x\n"];
+
+fn is_write_fault(ran: &Ran) -> bool {
+    ran.status == 4 && ran.errors.as_slice() == b"write fault\n".as_slice()
+}
 
 fn expect_write_fault<R: Abort + AllocGlobal + Files + Threads + Wait + Sync>(
     rt: &R,
     text: &[u8],
     puts: usize,
 ) {
-    let run = Run {
-        output: Room { most: 7, puts },
-        ..Run::script(Text::whole(text))
-    };
-    let ran = run.ran_again(rt);
-    let is_told = ran.errors.as_slice() == b"write fault\n".as_slice();
-    assert!(rt; is_told && ran.status == 4, "{:?}", ran.errors);
-    drop(ran);
+    let ran = script_in(text, Room { most: 7, puts }).ran_again(rt);
+    let is_told = is_write_fault(&ran);
+    ran.held(rt, is_told, "a write that fails");
 }
 
 /// Whichever write fails, of a report or of a fault, the status says so.
@@ -234,10 +240,7 @@ const FAULTY: &[(&str, &str, u8)] = &[
 #[test]
 fn a_fault_line_of_a_script_is_written_in_one_piece(rt: HostRuntime) {
     for (text, output, status) in FAULTY {
-        let run = Run {
-            output: Room::of_puts(1),
-            ..Run::script(Text::whole(text.as_bytes()))
-        };
+        let run = script_in(text.as_bytes(), Room::of_puts(1));
         run.expect(&rt, "a fault line", &Answer::printed(output, *status));
     }
 }
@@ -270,17 +273,23 @@ const IN_A_FILE: &[(&[&str], &str, &str, u8)] = &[
     ),
 ];
 
-fn write_script<R: AllocGlobal + Files>(rt: &R, text: &str) -> Result<(), Fail> {
+/// The words print this where the file has the text.
+fn expect_in_a_file<R: Abort + AllocGlobal + Files + Threads + Wait + Sync>(
+    rt: &R,
+    words: &[&str],
+    text: &str,
+    output: &str,
+    status: u8,
+) -> Result<(), Fail> {
     fs::write(rt, "worked.script", text)?;
+    expect_printed(rt, words, text, b"", output, status);
     Ok(())
 }
 
 #[test]
 fn a_script_in_a_file_is_run(rt: HostRuntime) -> Result<(), Fail> {
     for (words, text, output, status) in IN_A_FILE {
-        write_script(&rt, text)?;
-        let run = Run::of(words, Text::whole(b""));
-        run.expect(&rt, text, &Answer::printed(output, *status));
+        expect_in_a_file(&rt, words, text, output, *status)?;
     }
     fs::remove_file(&rt, "worked.script")?;
     Ok(())

@@ -6,7 +6,16 @@ pub type Legal = (&'static str, &'static str, &'static str, &'static str, u8);
 /// What the trace is, its text, and the line of its fault.
 pub type Refused = (&'static str, &'static str, &'static str);
 
-pub const LEGAL: &[Legal] = &[
+/// A test that names the table itself is proved over each of its bytes.
+pub fn legal() -> &'static [Legal] {
+    LEGAL
+}
+
+pub fn refused() -> &'static [Refused] {
+    REFUSED
+}
+
+const LEGAL: &[Legal] = &[
     (
         "an empty text",
         "",
@@ -176,7 +185,7 @@ pub const LEGAL: &[Legal] = &[
     ),
 ];
 
-pub const REFUSED: &[Refused] = &[
+const REFUSED: &[Refused] = &[
     (
         "an unknown operation",
         "T0|w(x)|1\nT0|begin(x)|2\n",

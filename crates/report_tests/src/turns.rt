@@ -119,17 +119,20 @@ impl Case {
         }))
     }
 
-    /// Both commands come to what the case says.
-    fn expect(&self, rt: &impl Abort, alloc: Global) {
+    /// The command comes to what the case says, and writes this.
+    fn expect_of(&self, rt: &impl Abort, alloc: Global, command: Command, output: &str) {
         let text = Text {
             fails: self.fails,
             ..Text::cut(self.text, self.most, self.most)
         };
         let wanted = Some((self.fault(), true));
-        let checked = Command::Check.ends(alloc, text, self.turns, self.counts);
-        assert!(rt; checked == wanted, "{:?} turns: {checked:?}", self.turns);
-        let replayed = Command::Replay.ends(alloc, text, self.turns, self.report);
-        assert!(rt; replayed == wanted, "{:?} turns: {replayed:?}", self.turns);
+        let ended = command.ends(alloc, text, self.turns, output);
+        assert!(rt; ended == wanted, "{:?} turns: {ended:?}", self.turns);
+    }
+
+    fn expect(&self, rt: &impl Abort, alloc: Global) {
+        self.expect_of(rt, alloc, Command::Check, self.counts);
+        self.expect_of(rt, alloc, Command::Replay, self.report);
     }
 }
 

@@ -1,7 +1,7 @@
 //! The program on traces, each whole and in pieces.
 use crate::doubles::{Text, joined};
-use crate::runs::{Answer, Run};
-use crate::traces::{LEGAL, REFUSED};
+use crate::runs::{Answer, CHECK, COMMANDS, REPLAY, Run, expect_printed};
+use crate::traces::{Refused, legal, refused};
 use std::alloc::Global;
 use std::fs::Files;
 use std::process::Abort;
@@ -17,54 +17,42 @@ fn judge_however_cut<R: Abort + AllocGlobal + Files + Threads + Wait + Sync>(
     text: &[u8],
     answer: &Answer<'_>,
 ) {
-    let whole = Run::of(words, Text::whole(text));
-    whole.expect(rt, name, answer);
-    let by_bytes = Run {
-        text: Text::cut(text, 1, 1),
-        ..whole
-    };
-    by_bytes.expect(rt, name, answer);
+    Run::of(words, Text::whole(text)).expect(rt, name, answer);
+    Run::of(words, Text::cut(text, 1, 1)).expect(rt, name, answer);
     for first in 1..text.len() {
-        let in_two = Run {
-            text: Text::cut(text, first, usize::MAX),
-            ..whole
-        };
-        in_two.expect(rt, name, answer);
+        let in_two = Text::cut(text, first, usize::MAX);
+        Run::of(words, in_two).expect(rt, name, answer);
     }
 }
 
 #[test]
 fn legal_traces_have_their_answers_however_they_are_cut(rt: HostRuntime) {
-    for (name, text, line, report, status) in LEGAL {
-        judge_however_cut(
-            &rt,
-            &["check"],
-            name,
-            text.as_bytes(),
-            &Answer::printed(line, 0),
-        );
-        judge_however_cut(
-            &rt,
-            &["replay"],
-            name,
-            text.as_bytes(),
-            &Answer::printed(report, *status),
-        );
+    for (name, text, line, report, status) in legal() {
+        let checked = Answer::printed(line, 0);
+        judge_however_cut(&rt, CHECK, name, text.as_bytes(), &checked);
+        let replayed = Answer::printed(report, *status);
+        judge_however_cut(&rt, REPLAY, name, text.as_bytes(), &replayed);
     }
 }
 
-const COMMANDS: &[&[&str]] = &[&["check"], &["replay"]];
+/// The line of the refusal is printed. An LF after the text changes nothing.
+fn expect_refused<R: Abort + AllocGlobal + Files + Threads + Wait + Sync>(
+    rt: &R,
+    words: &[&str],
+    case: &Refused,
+) {
+    let (name, text, line) = *case;
+    judge_however_cut(rt, words, name, text.as_bytes(), &Answer::printed(line, 3));
+    let mut room = [0; 2048];
+    let ended = joined(&mut room, text.as_bytes(), b"\n");
+    expect_printed(rt, words, name, ended, line, 3);
+}
 
-/// An LF after the text changes nothing.
 #[test]
 fn the_first_refused_line_is_named_however_a_text_is_cut(rt: HostRuntime) {
-    let mut room = [0; 2048];
-    for (name, text, line) in REFUSED {
-        let answer = Answer::printed(line, 3);
-        let ended = Text::whole(joined(&mut room, text.as_bytes(), b"\n"));
+    for case in refused() {
         for words in COMMANDS {
-            judge_however_cut(&rt, words, name, text.as_bytes(), &answer);
-            Run::of(words, ended).expect(&rt, name, &answer);
+            expect_refused(&rt, words, case);
         }
     }
 }
@@ -88,8 +76,8 @@ const THREADS: &[(&[&str], &str, u8)] = &[
 #[test]
 fn as_many_threads_are_admitted_as_the_option_says(rt: HostRuntime) {
     for (words, output, status) in THREADS {
-        let run = Run::of(words, Text::whole(b"T0|fork(T1)|1"));
-        run.expect(&rt, "two threads", &Answer::printed(output, *status));
+        let text = b"T0|fork(T1)|1".as_slice();
+        expect_printed(&rt, words, "two threads", text, output, *status);
     }
 }
 
@@ -113,14 +101,19 @@ fn races(alloc: Global, place: &str) -> Result<String, Fail> {
     Ok(report)
 }
 
+/// The twenty loads, and their report.
+fn loads_and_races(alloc: Global) -> Result<(String, String), Fail> {
+    let place = "p".repeat(alloc, 255)?;
+    let text = loads(alloc, place.as_str())?;
+    let report = races(alloc, place.as_str())?;
+    Ok((text, report))
+}
+
 /// The lines of the report fill more than a page.
 #[test]
 fn a_long_report_is_written_whole(rt: HostRuntime) -> Result<(), Fail> {
-    let place = "p".repeat(rt.alloc(), 255)?;
-    let text = loads(rt.alloc(), place.as_str())?;
-    let report = races(rt.alloc(), place.as_str())?;
-    let run = Run::of(&["replay"], Text::whole(text.as_bytes()));
-    run.expect(&rt, "twenty loads", &Answer::printed(report.as_str(), 1));
+    let (text, report) = loads_and_races(rt.alloc())?;
+    expect_printed(&rt, REPLAY, "twenty loads", text.as_bytes(), &report, 1);
     Ok(())
 }
 

@@ -1,6 +1,6 @@
 //! Writers that fail, and writers that take a part or nothing.
 use crate::doubles::{Room, Text};
-use crate::runs::{Answer, Run};
+use crate::runs::{Answer, COMMANDS, Run};
 
 const TRACE: &str = "T0|fork(T1)|1\nT0|w(y)|2\nT0|acq(l)|3\nT0|w(x)|4\nT0|rel(l)|5\n\
                      T1|acq(l)|6\nT1|rel(l)|7\nT1|r(y)|8\n";
@@ -14,11 +14,11 @@ const PRINTED: &[(&[&str], &str, u8)] = &[
     (&["replay"], REPORT, 1),
 ];
 
-/// A run on the trace with so much room for what it prints.
-fn run_in<'a>(words: &'a [&'a str], output: Room) -> Run<'a> {
+/// A run on the text with so much room for what it prints.
+fn run_in<'a>(words: &'a [&'a str], text: &'a [u8], output: Room) -> Run<'a> {
     Run {
         output,
-        ..Run::of(words, Text::whole(TRACE.as_bytes()))
+        ..Run::of(words, Text::whole(text))
     }
 }
 
@@ -33,21 +33,17 @@ fn writing_goes_on_where_a_writer_takes_a_part(rt: HostRuntime) {
                 most: *most,
                 ..Room::AMPLE
             };
-            run_in(words, room).expect(&rt, "a part", &Answer::printed(output, *status));
+            let run = run_in(words, TRACE.as_bytes(), room);
+            run.expect(&rt, "a part", &Answer::printed(output, *status));
         }
     }
 }
-
-const COMMANDS: &[&[&str]] = &[&["check"], &["replay"]];
 
 /// A writer that takes one put and no more has the whole line.
 #[test]
 fn a_fault_line_is_written_in_one_piece(rt: HostRuntime) {
     for words in COMMANDS {
-        let run = Run {
-            text: Text::whole(b"T0|w(x)|1\nT0|rel(l)|2\n"),
-            ..run_in(words, Room::of_puts(1))
-        };
+        let run = run_in(words, b"T0|w(x)|1\nT0|rel(l)|2\n", Room::of_puts(1));
         run.expect(
             &rt,
             "a fault line",
@@ -70,10 +66,7 @@ const PRINTING: &[(&[&str], &[u8])] = &[
 #[test]
 fn a_closed_pipe_ends_with_status_4(rt: HostRuntime) {
     for (words, text) in PRINTING {
-        let run = Run {
-            text: Text::whole(text),
-            ..run_in(words, Room::of_puts(0))
-        };
+        let run = run_in(words, text, Room::of_puts(0));
         run.expect(&rt, "a closed pipe", &Answer::told("write fault\n", 4));
     }
 }
@@ -84,7 +77,7 @@ fn the_status_is_the_same_where_nothing_can_be_said_of_it(rt: HostRuntime) {
     for words in COMMANDS {
         let run = Run {
             errors: none,
-            ..run_in(words, none)
+            ..run_in(words, TRACE.as_bytes(), none)
         };
         run.expect(&rt, "no writer", &Answer::told("", 4));
     }
