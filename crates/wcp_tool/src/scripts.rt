@@ -215,8 +215,8 @@ pub fn run_script<R: AllocGlobal + Threads + Wait + Sync, I: Input, O: Output, E
     ensures refused { result ≡ 3 → RefusesText (limits_with settings.now.threads OnlyMain)
         (I.left script.old) (O.written writer.old) (O.written writer.new) }
     // With status 6 it wrote the one line that tells why the text is no script, or which of its lines is
-    // stuck or can start no worker. It wrote nothing only where the log has a number to which the script gives
-    // no name, and the numbers of the script's lines all have one.
+    // stuck or can start no worker. It wrote nothing only where the log has a number to which the script
+    // gives no name, and the numbers of the script's lines all have one.
     ensures broken { result ≡ 6 → BreaksText (limits_with settings.now.threads OnlyMain)
         (I.left script.old) (O.written writer.old) (O.written writer.new) }
     // The first fault of the script's lines is told, unless memory ran out or a device failed.
