@@ -1,5 +1,5 @@
 -- Noting an access leaves room for its thread's other accesses.
-use Rattle.std.proofs.Common.{◌≡◌, ℕ, ◌+◌, ◌<◌, ◌≤◌, List, [], ◌∷◌, length, Some, None, Bool}
+use Rattle.std.proofs.Common.{◌≡◌, ℕ, ◌+◌, ◌<◌, List, [], ◌∷◌, length, Some, None, Bool}
 use Rattle.std.proofs.Common.{true, false, ◌||◌, cond, not, nat_lt, refl, sym, ap, ◌∙◌, ◌⊎◌, arith}
 use mathlib.Core.Logic.{inl, inr}
 use Rattle.std.specs.List.{list_any, position, position_or_len}
@@ -36,20 +36,6 @@ room_put p old new is =
     ap (λ (b : Bool). b || nat_lt 0 new.room)
     (ap (list_any (is_of p.thread)) is
     ∙ any_of (is_of p.thread) p (put p old.items) (put_new p old.items) (nat_eq_same p.thread.0))
-
--- with no accesses there is room where there was some, or an access
-pub room_cleared : (t : ThreadId) (old new : LastList) → old.room + length old.items ≤ new.room
-    → has_room t old ≡ true → has_room t new ≡ true
-room_cleared t old new le room = go (list_any (is_of t) new.items)
-  where
-    some : (items : List LastAccess) (room : ℕ) → (list_any (is_of t) items || nat_lt 0 room) ≡ true
-        → 0 < room + length items
-    some [] room is = let lt : 0 < room = ltb-true 0 room is in omega arith
-    some (p ∷ ps) room is = omega arith
-
-    go : (b : Bool) → (b || nat_lt 0 new.room) ≡ true
-    go true = refl
-    go false = lt-ltb 0 new.room (let lt = some old.items old.room room in omega arith)
 
 -- where no place is found there is none
 none_or : (p : LastAccess → Bool) (ps : List LastAccess)

@@ -1,22 +1,11 @@
 -- Members of lists.
-use Rattle.std.proofs.Common.{◌≡◌, List, [], ◌∷◌, ◌++◌, Bool, true, false, ◌||◌, map, refl, ap, ◌∙◌, ◌⊎◌}
+use Rattle.std.proofs.Common.{◌≡◌, List, [], ◌∷◌, ◌++◌, Bool, true, false, ◌||◌, refl, ◌⊎◌}
 use Rattle.std.specs.List.{list_any}
 use mathlib.Core.Logic.{inl, inr}
 use Rattle.event_core.specs.Closed.{Has, first, later}
 
 pub none_in : {A : Type 0} {a : A} → Has a [] → ⊥
 none_in h = elim h [ ]
-
--- members of a list that is changed element by element, and of one with an element more
-pub has_map : {A B : Type 0} (f : A → B) (a : A) (as' : List A) → Has a as' → Has (f a) (map f as')
-has_map f a _ (first b bs is) = first (f b) (map f bs) (ap f is)
-has_map f a _ (later b bs h) = later (f b) (map f bs) (has_map f a bs h)
-
-pub map_has : {A B : Type 0} (f : A → B) (b : B) (as' : List A) → Has b (map f as')
-    → (a : A) × Has a as' × (b ≡ f a)
-map_has f b [] h = absurd (none_in h)
-map_has f b (a ∷ as') (first _ _ is) = (a, first a as' refl, is)
-map_has f b (a ∷ as') (later _ _ h) = let r = map_has f b as' h in (r.0, later a as' r.1, r.2)
 
 pub has_front : {A : Type 0} (a : A) (xs ys : List A) → Has a xs → Has a (xs ++ ys)
 has_front a _ ys (first b bs is) = first b (bs ++ ys) is
@@ -58,15 +47,3 @@ pub any_has : {A : Type 0} (p : A → Bool) (xs : List A) → list_any p xs ≡ 
     → (a : A) × Has a xs × (p a ≡ true)
 any_has p [] is = absurd cc
 any_has p (x ∷ xs) is = any_or p x xs (p x) refl is (any_has p xs)
-
-none_or : {A : Type 0} (p : A → Bool) (a x : A) (xs : List A) (b : Bool) → p x ≡ b
-    → (b || list_any p xs) ≡ false
-    → Has a (x ∷ xs) → (list_any p xs ≡ false → Has a xs → p a ≡ false) → p a ≡ false
-none_or p a x xs true px is h rest = absurd cc
-none_or p a x xs false px is (first _ _ e) rest = ap p e ∙ px
-none_or p a x xs false px is (later _ _ h) rest = rest is h
-
-pub none_has : {A : Type 0} (p : A → Bool) (a : A) (xs : List A) → list_any p xs ≡ false → Has a xs
-    → p a ≡ false
-none_has p a [] is h = absurd (none_in h)
-none_has p a (x ∷ xs) is h = none_or p a x xs (p x) refl is h (none_has p a xs)

@@ -52,14 +52,6 @@ parts m xs e legal =
     = record { unheld = r.1.1.1.1.0; holds = r.1.1.1.1.1.0 } in
     subst (λ (x : Event). PlainParts m xs x) (sym legal.is) at_call
 
-no_one_else : (P : ThreadId → LockId → Event → Bool) (u : ThreadId) (e : Event) → (u ≡ e.thread → ⊥)
-    → nat_eq e.thread.0 u.0 ≡ false
-no_one_else P u e other = go (cases_Bool (nat_eq e.thread.0 u.0))
-  where
-    go : (nat_eq e.thread.0 u.0 ≡ true) ⊎ (nat_eq e.thread.0 u.0 ≡ false) → nat_eq e.thread.0 u.0 ≡ false
-    go (inl t) = absurd (other (sym (same_thread_id (eqb-true e.thread.0 u.0 t))))
-    go (inr f) = f
-
 -- what one event does to the counts of a lock
 count_a : (u : ThreadId) (l : LockId) (xs : List Event) (e : Event) (b : Bool) → acquires u l e ≡ b
     → count_by (acquires u l) (xs ++ e ∷ []) ≡ count_by (acquires u l) xs + cond b 1 0

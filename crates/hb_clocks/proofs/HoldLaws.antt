@@ -232,14 +232,6 @@ module _ (holds : List Hold) where
   held_after t (Fork u) l room h = inl (record { held = h; holder = refl })
   held_after t (Join u) l room h = inl (record { held = h; holder = refl })
 
--- nobody holds a lock that has no hold, or whose depth is 0
-pub alone_none : (holds : List Hold) (t l : ℕ) → (hold_at holds l).depth ≡ 0 → Alone holds t l
-alone_none holds t l none u n = go (nat_eq u (hold_at holds l).holder)
-  where
-    go : (b : Bool) → cond b (hold_at holds l).depth 0 ≡ 0
-    go true = none
-    go false = refl
-
 pub alone_holder : (holds : List Hold) (t l : ℕ) → (hold_at holds l).holder ≡ t → Alone holds t l
 alone_holder holds t l is u n = not_holder holds u l (λ e. n (e ∙ is))
 

@@ -1,10 +1,10 @@
 -- What is kept of all locks stays so over each change of one.
-use Rattle.std.proofs.Common.{◌≡◌, ℕ, ◌+◌, ◌*◌, ◌<◌, ◌≤◌, zero, suc, true, List, [], ◌∷◌, ◌++◌, length, map}
+use Rattle.std.proofs.Common.{◌≡◌, ℕ, ◌+◌, ◌*◌, ◌<◌, ◌≤◌, zero, suc, true, List, length, map}
 use Rattle.std.proofs.Common.{set}
 use Rattle.std.proofs.Common.{sym, ap, subst, ◌∙◌, arith, length-set, length-append}
 use Rattle.std.proofs.Math.Nat.{suc-mul}
 use Rattle.std.proofs.lemmas.Bool.{cases_eq}
-use Rattle.std.proofs.lemmas.List.Sums.{sum_by-set, sum_by_push}
+use Rattle.std.proofs.lemmas.List.Sums.{sum_by-set}
 use mathlib.Core.Logic.{inl, inr}
 use Rattle.lock_queues.specs.declared.sections.Entry.{Entry}
 use Rattle.lock_queues.specs.Sections.{closed_as, entry_at, sections_of, AreReadable, AreRising, HasJoined}
@@ -39,10 +39,6 @@ wide_set w qs l q lt wide same m within = go (cases_eq m l)
 pub rooms_set : (qs : List Kept) (l : ℕ) (q : Kept) → l < length qs
     → count_rooms (set qs l q) + length (queue_at qs l).rooms ≡ count_rooms qs + length q.rooms
 rooms_set qs l q lt = sum_by-set (λ (k : Kept). length k.rooms) qs l q no_queue lt
-
-pub rooms_push : (qs : List Kept) (q : Kept) → length q.rooms ≡ 0
-    → count_rooms (qs ++ q ∷ []) ≡ count_rooms qs
-rooms_push qs q none = let more = sum_by_push (λ (k : Kept). length k.rooms) qs q in omega arith
 
 -- a lock with a room is among those whose rooms are counted
 pub some_made : (qs : List Kept) (t l : ℕ) → l < length qs → has_room_in (queue_at qs l).rooms t ≡ true

@@ -99,10 +99,6 @@ pub content_no_cr : (e : Named) → IsWellFormed e → Lacks 13 (content_of e)
 content_no_cr e h = Lacks-content 13 e
     (spelling_plain e.word).1 refl refl refl h.thread.field.cr h.argument.field.cr h.location.cr
 
-pub content_no_lf : (e : Named) → IsWellFormed e → Lacks 10 (content_of e)
-content_no_lf e h = Lacks-content 10 e
-    (spelling_plain e.word).2 refl refl refl h.thread.field.lf h.argument.field.lf h.location.lf
-
 pub content_short : (e : Named) → IsWellFormed e → length (content_of e) ≤ 773
 content_short e h =
     let sp : length (spelling e.word) ≤ 4 = (spelling_plain e.word).3 in

@@ -46,15 +46,7 @@ use Rattle.std.proofs.lemmas.Bool.{
   cases_Bool,
   false_from_ne_true,
 }
-use Rattle.std.proofs.lemmas.List.{
-  take_more,
-  take_all,
-  take_rest,
-  take-append-drop,
-  get_or_push,
-  take_at,
-  length_push,
-}
+use Rattle.std.proofs.lemmas.List.{take_more, take_all, take_rest, get_or_push, take_at, length_push}
 use Rattle.rapid_line.specs.Cut.{has, count, Lacks, cut, before_end, after_last}
 
 pub has-append : (b : ℕ) (xs ys : List ℕ) → has b (xs ++ ys) ≡ (has b xs || has b ys)
@@ -174,12 +166,6 @@ pub before_end_lacks : (b k : ℕ) (xs r : List ℕ) → Some r ≡ before_end k
 before_end_lacks b k xs r e h =
     let is : xs ≡ r ++ k ∷ [] = before_end-Some k xs r (sym e) in
     Lacks-left b r (k ∷ []) (subst (λ (t : List ℕ). Lacks b t) is h)
-
-pub Lacks-take : (b n : ℕ) (xs : List ℕ) → Lacks b xs → Lacks b (take n xs)
-Lacks-take b n xs h = Lacks-left b (take n xs) (drop n xs) (rw (take-append-drop n xs) h)
-
-pub lacks_both : (b : ℕ) (xs ys : List ℕ) → Lacks b xs → Lacks b ys → Lacks b (xs ++ ys)
-lacks_both b xs ys p q = Lacks-append b xs ys p q
 
 pub lacks_below : (b : ℕ) (xs : List ℕ) (n : ℕ) → ((k : ℕ) → k < n → (get_or xs k 0 == b) ≡ true → ⊥)
     → has b (take n xs) ≡ false

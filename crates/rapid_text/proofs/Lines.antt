@@ -1,14 +1,11 @@
 -- Lines without their endings.
-use Rattle.std.proofs.Common.{◌≡◌, ℕ, List, [], ◌∷◌, Option, Some, None, ◌++◌, refl, subst}
+use Rattle.std.proofs.Common.{◌≡◌, ℕ, List, [], ◌∷◌, Option, Some, None, refl, subst}
 use Rattle.std.specs.Prelude.{unwrap_or, IfSome}
 use Rattle.rapid_line.specs.declared.marks.Line.{Line}
 use Rattle.rapid_line.specs.Marks.{IsBarred, IsKnown}
 use Rattle.rapid_line.specs.Cut.{Lacks, before_end}
 use Rattle.rapid_text.specs.Events.{content}
 use Rattle.rapid_line.proofs.Cuts as cuts
-
-pub lacks_both : (b : ℕ) (xs ys : List ℕ) → Lacks b xs → Lacks b ys → Lacks b (xs ++ ys)
-lacks_both b xs ys p q = cuts.Lacks-append b xs ys p q
 
 content_by : (xs : List ℕ) (o : Option (List ℕ)) → before_end 13 xs ≡ o → Lacks 13 xs → unwrap_or o xs ≡ xs
 content_by xs None e h = refl

@@ -2,7 +2,7 @@
 use Rattle.std.proofs.Common.{◌≡◌, ℕ, suc, ◌+◌, ◌<◌, ◌≤◌, List, [], ◌∷◌, ◌++◌, length, Option, Some, None}
 use Rattle.std.proofs.Common.{Result, Ok, Err, Bool, true, false, cond, refl, sym, ap, subst, ◌∙◌, append-nil}
 use Rattle.std.proofs.Common.{append_assoc, arith, inl, inr}
-use Rattle.std.specs.Prelude.{IfOk, OnErr, ◌↔◌, unwrap_or, slice_get, nat_lt, ◌==◌, not}
+use Rattle.std.specs.Prelude.{IfOk, OnErr, ◌↔◌, unwrap_or, slice_get, nat_lt, not}
 use Rattle.std.specs.Result.{IsErrOf}
 use Rattle.std.specs.List.{position, prefix_len}
 use Rattle.std.specs.Str.{bytes_eq}
@@ -13,9 +13,7 @@ use Rattle.std.proofs.lemmas.Option.{slice_get_within}
 use Rattle.event_core.specs.declared.events.Event.{Event}
 use Rattle.rapid_line.specs.declared.words.Word.{Word}
 use Rattle.rapid_line.specs.declared.words.Word.TheVariants as words
-use Rattle.rapid_line.specs.declared.words.LineFault.{LineFault}
 use Rattle.rapid_line.specs.Grammar.{Named}
-use Rattle.rapid_line.specs.Reading.{line_of}
 use Rattle.rapid_text.specs.declared.causes.Kind.{Kind}
 use Rattle.rapid_text.specs.declared.causes.Kind.TheVariants as kinds
 use Rattle.rapid_text.specs.declared.causes.Cause.{Cause}
@@ -23,21 +21,7 @@ use Rattle.rapid_text.specs.declared.causes.NameFault.{NameFault}
 use Rattle.rapid_text.specs.declared.causes.NameFault.TheVariants.{TooMany, OutOfMemory}
 use Rattle.rapid_text.specs.Numbers.{Numbered, with_name, found_or, place_of, number_of, Grows}
 use Rattle.rapid_text.specs.Tables.{Tables, space, with_space, put_back, number_in, name_at, TablesGrow}
-use Rattle.rapid_text.specs.Events.{
-  kind_of,
-  op_of,
-  event_of,
-  number_or_fault,
-  next,
-  named_event,
-  some_event,
-  event_or,
-  reading,
-  word_of_op,
-  target_of,
-  named_by,
-  HasNames,
-}
+use Rattle.rapid_text.specs.Events.{kind_of, op_of, event_of, number_or_fault, next, named_event, word_of_op, target_of, named_by, HasNames}
 use Rattle.rapid_text.proofs.NameLaws.{numbers, grows}
 use Rattle.event_core.proofs.Places.{get_before, get_last}
 
@@ -315,41 +299,6 @@ named_event_is t d e u eq =
     let tables : r.0.1 ≡ u = ap (λ (x : Result (Event × Tables) Cause). (from_ok (e, u) x).1) r.2 in
     subst (λ (v : Tables). Named_event t d e v) tables
     (subst (λ (x : Event). Named_event t d x r.0.1) event here)
-
--- ---- a content's event
-
-some_event_ok : (r : Result (Event × Tables) Cause) (e : Event) (u : Tables)
-    → some_event r ≡ Ok (Some e, u) → r ≡ Ok (e, u)
-some_event_ok (Err f) e u eq = absurd cc
-some_event_ok (Ok p) e u eq =
-    let o : Option Event = Some p.0 in
-    let event : p.0 ≡ e = ap (λ (x : Result (Option Event × Tables) Cause). unwrap_or
-    (from_ok (o, u) x).0 e) eq in
-    let tables : p.1 ≡ u = ap (λ (x : Result (Option Event × Tables) Cause). (from_ok (o, u) x).1) eq in
-    λ i. Ok (event i, tables i)
-
-event_or_ok : (t : Tables) (r : Result Named LineFault) (e : Event) (u : Tables)
-    → event_or t r ≡ Ok (Some e, u)
-    → (d : Named) × (r ≡ Ok d) × Named_event t d e u
-event_or_ok t (Err f) e u eq = absurd cc
-event_or_ok t (Ok d) e u eq = (d, refl, named_event_is t d e u (some_event_ok (named_event t d) e u eq))
-
--- what a content's event says
-pub reading_names : (t : Tables) (bytes : List ℕ) (e : Event) (u : Tables)
-    → reading t bytes ≡ Ok (Some e, u)
-    → (d : Named) × (line_of bytes ≡ Ok d) × Named_event t d e u
-unfolding reading
-reading_names t bytes e u eq =
-    elim (cases_Bool (length bytes == 0)) [
-      | inl empty ↦
-          let none = rw empty at eq in
-          let start : Option Event × Tables = (None, t) in
-          let nothing : Option Event = None in
-          let clash : nothing ≡ Some e = ap (λ (x : Result (Option Event × Tables) Cause).
-          (from_ok start x).0) none in
-          absurd cc
-      | inr some ↦ event_or_ok t (line_of bytes) e u (rw some at eq)
-    ]
 
 -- ---- what the code answers
 

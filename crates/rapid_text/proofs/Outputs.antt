@@ -1,25 +1,5 @@
 -- Bytes that are written in several puts.
-use Rattle.std.proofs.Common.{
-  ◌≡◌,
-  ℕ,
-  List,
-  [],
-  ◌++◌,
-  take,
-  drop,
-  Option,
-  refl,
-  sym,
-  ap,
-  subst,
-  ◌∙◌,
-  append_assoc,
-  append-nil,
-  take-append-drop,
-  Bool,
-  true,
-  false,
-}
+use Rattle.std.proofs.Common.{◌≡◌, ℕ, List, [], ◌++◌, take, drop, Option, refl, sym, ap, ◌∙◌, append_assoc, take-append-drop, Bool, true, false}
 use Rattle.std.specs.Prelude.{◌||◌}
 use Rattle.std.specs.Io.KnownBytes.{Appends}
 use Rattle.std.proofs.KnownBytes.{Appends-nil, Appends-trans}
@@ -41,12 +21,6 @@ wrote_more old now new bytes rest n w h = record {
       (append_assoc w.front (take n rest) (drop n rest));
   appended = Appends-trans old now new w.front (take n rest) w.appended h;
 }
-
-pub wrote_all : (old now : Option (List ℕ)) (bytes rest : List ℕ) → Written old now bytes rest → rest ≡ []
-    → Appends old now bytes
-wrote_all old now bytes rest w e =
-    subst (λ (t : List ℕ). Appends old now t) (sym
-    (w.is ∙ ap (λ (t : List ℕ). w.front ++ t) e ∙ append-nil w.front)) w.appended
 
 -- a call that did not fail
 pub or_false : (b : Bool) → (b || false) ≡ b

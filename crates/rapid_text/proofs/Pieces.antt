@@ -40,7 +40,7 @@ use Rattle.rapid_text.specs.declared.causes.Cause.{Cause}
 use Rattle.rapid_text.specs.declared.causes.Cause.TheVariants as causes
 use Rattle.rapid_text.specs.Tables.{Tables, TablesGrow}
 use Rattle.rapid_text.specs.Events.{content, reading}
-use Rattle.rapid_text.specs.Texts.{Judgement, stopped, with_event, after_line, judge, BeginsAt}
+use Rattle.rapid_text.specs.Texts.{Judgement, stopped, with_event, after_line, judge}
 use Rattle.rapid_text.specs.Cutting.{Cutting, judged, Stops, Pushes}
 use Rattle.rapid_text.proofs.LongLines.{reading_long}
 use Rattle.rapid_text.proofs.NameGrowth.{TablesGrow-refl, TablesGrow-trans}
@@ -278,16 +278,6 @@ keeps start piece names lines next rest g k live =
     }
 
 -- ---- faults
-
--- what is still to be judged begins at the line whose end was not seen
-pub begins_here : (s : Cutting) (more : List ℕ) (n : ℕ) (names : Tables) → n ≡ s.unfinished
-    → TablesGrow s.names names → BeginsAt n names (judged s more)
-begins_here s more n names is h = record {
-  before = s.names;
-  lines = lines_of (s.kept ++ more);
-  same = ap (λ (m : ℕ). judge (lines_of (s.kept ++ more)) s.names m) (sym is);
-  grows = h;
-}
 
 -- where the next line has the cause, the text stops there
 stops : (start : Cutting) (piece : List ℕ) (names : Tables) (lines : Lines) (rest line : List ℕ)

@@ -1,56 +1,17 @@
 -- The steps of a loop of pulls.
-use Rattle.std.proofs.Common.{
-  ◌≡◌,
-  ℕ,
-  ◌+◌,
-  ◌*◌,
-  ◌-◌,
-  ◌<◌,
-  ◌≤◌,
-  List,
-  [],
-  ◌++◌,
-  length,
-  drop,
-  Option,
-  Some,
-  None,
-  Bool,
-  true,
-  false,
-  refl,
-  sym,
-  ap,
-  subst,
-  ◌∙◌,
-  arith,
-  append_assoc,
-  append-nil,
-}
-use Rattle.std.specs.Prelude.{option_map, IfSome, Result, Ok, Err, is_some, ◌⊎◌}
+use Rattle.std.proofs.Common.{◌≡◌, ℕ, ◌+◌, ◌*◌, ◌-◌, ◌<◌, ◌≤◌, List, [], ◌++◌, length, drop, Option, Some, None, Bool, true, false, refl, sym, ap, subst, ◌∙◌, arith, append_assoc}
+use Rattle.std.specs.Prelude.{option_map, IfSome, Result, Ok, Err, is_some}
 use Rattle.std.specs.Result.{IsErrAnd}
-use Rattle.rapid_line.specs.Cut.{Lacks}
 use Rattle.std.proofs.lemmas.List.{drop_all, nil_from_length}
-use Rattle.std.specs.Io.KnownBytes.{Consumes, IsAtEnd, Keeps}
+use Rattle.std.specs.Io.KnownBytes.{Consumes, IsAtEnd}
 use Rattle.event_core.specs.declared.events.Event.{Event}
 use Rattle.rapid_text.specs.declared.causes.Cause.{Cause}
 use Rattle.rapid_text.specs.declared.causes.Cause.TheVariants as causes
 use Rattle.rapid_text.specs.declared.causes.TextFault.{TextFault}
 use Rattle.rapid_text.specs.Tables.{Tables, TablesGrow}
 use Rattle.rapid_text.specs.Texts.{Judgement, with_event, ended, judge, lines_of, BeginsAt}
-use Rattle.rapid_text.proofs.NameGrowth.{TablesGrow-refl, TablesGrow-same, TablesGrow-trans}
-use Rattle.rapid_text.proofs.Pieces.{begins_here}
-use Rattle.rapid_text.specs.Cutting.{
-  Cutting,
-  judged,
-  most,
-  Pushes,
-  FailsAt,
-  Stops,
-  Closes,
-  ClosesAt,
-  Closed,
-}
+use Rattle.rapid_text.proofs.NameGrowth.{TablesGrow-trans}
+use Rattle.rapid_text.specs.Cutting.{Cutting, judged, most, Pushes, Closes, ClosesAt, Closed}
 use Rattle.rapid_text.specs.Pulling.{
   Pulling,
   pulling_of,
@@ -79,9 +40,6 @@ to_judge-pulling_of c w turns e left = to_judge-known c w (rest_of e left)
 
 -- ---- one step, for any text that it follows
 
-same_as : Judgement → Judgement
-same_as j = j
-
 follows_push : (x : Option Judgement) (c d : Cutting) (w : List ℕ) (used : ℕ) (left : Option (List ℕ))
     (event : Option Event)
     → Follows x (λ j. j) (text_of c w left) → Pushes c d w used event
@@ -96,13 +54,6 @@ follows_fill None c w left rest h k = tt
 follows_fill (Some j) c w None rest h k = absurd h
 follows_fill (Some j) c w (Some l) None h k = absurd k
 follows_fill (Some j) c w (Some l) (Some m) h k = h ∙ ap (λ (t : List ℕ). judged c t) k
-
-follows_keep : (x : Option Judgement) (c : Cutting) (w : List ℕ) (left rest : Option (List ℕ))
-    → Follows x (λ j. j) (text_of c w left) → Keeps left rest → Follows x (λ j. j) (text_of c w rest)
-follows_keep None c w left rest h k = tt
-follows_keep (Some j) c w None rest h k = absurd h
-follows_keep (Some j) c w (Some l) None h k = absurd k
-follows_keep (Some j) c w (Some l) (Some m) h k = h ∙ ap (λ (t : List ℕ). judged c (w ++ t)) (sym k)
 
 follows_event : (x : Option Judgement) (c d : Cutting) (left : Option (List ℕ)) (e : Event)
     → Follows x (λ j. j) (text_of c [] left) → IsAtEnd left → Closes c d (Some e)
@@ -121,14 +72,6 @@ follows_end : (x : Option Judgement) (c d : Cutting) (left : Option (List ℕ))
 follows_end None c d left h a k = tt
 follows_end (Some j) c d None h a k = absurd h
 follows_end (Some j) c d (Some l) h a k = h ∙ ap (λ (t : List ℕ). judged c t) a ∙ k.sound
-
-follows_stop : (x : Option Judgement) (c : Cutting) (w : List ℕ) (left : Option (List ℕ)) (f : TextFault)
-    → Follows x (λ j. j) (text_of c w left) → Stops c w f → IfSome x
-    (λ j. (j.events ≡ []) × (j.fault ≡ Some (f.line, f.cause)))
-follows_stop None c w left f h s = tt
-follows_stop (Some j) c w None f h s = absurd h
-follows_stop (Some j) c w (Some l) f h s =
-    (ap (λ (y : Judgement). y.events) h ∙ (s l).0, ap (λ (y : Judgement). y.fault) h ∙ (s l).1)
 
 follows_closed : (x : Option Judgement) (c : Cutting) (left : Option (List ℕ)) (f : TextFault)
     → Follows x (λ j. j) (text_of c [] left) → IsAtEnd left → Closed c f
@@ -149,22 +92,6 @@ pub record Running (start : Pulling) (from : Option (List ℕ)) (c : Cutting) (w
   pub live : c.failed ≡ None
   pub room : c.taken + length w + 4096 * turns ≤ most
   pub turns_left : turns ≤ start.turns
-
-follows_self : (x : Option Judgement) → Follows x (λ j. j) x
-follows_self None = tt
-follows_self (Some j) = refl
-
-pub runs : (c : Cutting) (w : List ℕ) (turns : ℕ) (left : Option (List ℕ)) → c.failed ≡ None
-    → c.taken + length w + 4096 * turns ≤ most
-    → Running (pulling_of c w turns false) left c w turns left
-runs c w turns left live room = record {
-  same = subst (λ (x : Option Judgement). Follows (to_judge (pulling_of c w turns false) left) (λ j. j) x)
-      (to_judge-pulling_of c w turns false left) (follows_self (to_judge (pulling_of c w turns false) left));
-  line = refl;
-  live = live;
-  room = room;
-  turns_left = omega arith;
-}
 
 -- no event, and the next piece came
 pub runs_on : (start : Pulling) (from : Option (List ℕ)) (c d : Cutting) (w v u : List ℕ) (turns used : ℕ)
@@ -209,25 +136,6 @@ to_left : (c : Cutting) (w : List ℕ) (turns : ℕ) (e : Bool) (left : Option (
 to_left c w turns e left x make h = subst (λ (y : Option Judgement). Follows x make y)
     (sym (to_judge-pulling_of c w turns e left)) h
 
-going : (c : Cutting) (w : List ℕ) (e : Bool) (left : Option (List ℕ)) (x : Option Judgement)
-    (make : Judgement → Judgement)
-    → e ≡ false → Follows x make (text_of c w left) → Follows x make (text_of c w (rest_of e left))
-going c w e left x make is h = subst (λ (b : Bool). Follows x make (text_of c w (rest_of b left)))
-    (sym is) h
-
-pub tells : (start : Pulling) (from : Option (List ℕ)) (c d : Cutting) (w u : List ℕ) (turns used : ℕ)
-    (left : Option (List ℕ)) (e : Bool) (event : Event)
-    → Running start from c w turns left → Pushes c d w used (Some event) → u ≡ drop used w → e ≡ false
-    → Answers start from (pulling_of d u turns e) left (Some event)
-tells start from c d w u turns used left e event r p is not =
-    let pushed = follows_push (to_judge start from) c d w used left (Some event) r.same p in
-    let here = subst (λ (t : List ℕ). Follows (to_judge start from) (with_event d.line (Some event))
-    (text_of d t left)) (sym is) pushed in
-    record {
-      text = to_left d u turns e left (to_judge start from) (with_event d.line (Some event))
-          (going d u e left (to_judge start from) (with_event d.line (Some event)) not here);
-    }
-
 -- after a push that took all, nothing waits
 pub after_push : (start : Pulling) (from : Option (List ℕ)) (c d : Cutting) (w : List ℕ) (turns used : ℕ)
     (left : Option (List ℕ))
@@ -270,25 +178,6 @@ closes_text start from c d f w v turns after used left rest event r p k none a z
     subst (λ (t : List ℕ). Answers start from (pulling_of f t after true) rest event) (sym none)
     (answers_end start from d f after rest event same (p.line refl ∙ r.line) a z)
 
--- a fault of a push
-push_fault : (start new : Pulling) (from rest : Option (List ℕ)) (c : Cutting) (w : List ℕ) (turns : ℕ)
-    (left : Option (List ℕ)) (b : Bool) (f : TextFault) (k : Cause)
-    → Running start from c w turns left → FailsAt c w f k → f.cause ≡ k → NoAnswer start from new rest b f k
-push_fault start new from rest c w turns left b f causes.OutOfMemory r s is = tt
-push_fault start new from rest c w turns left b f causes.Read r s is = absurd (omega (arith, s.1, r.room))
-push_fault start new from rest c w turns left b f causes.Failed r s is = let clash : None ≡ Some f.line =
-    sym r.live ∙ s in absurd cc
-push_fault start new from rest c w turns left b f (causes.Line y) r s is = follows_stop
-    (to_judge start from) c w left f r.same s
-push_fault start new from rest c w turns left b f (causes.TooManyNames y) r s is = follows_stop
-    (to_judge start from) c w left f r.same s
-
-pub push_fails : (start new : Pulling) (from rest : Option (List ℕ)) (c : Cutting) (w : List ℕ) (turns : ℕ)
-    (left : Option (List ℕ)) (b : Bool) (f : TextFault)
-    → Running start from c w turns left → FailsAt c w f f.cause → NoAnswer start from new rest b f f.cause
-push_fails start new from rest c w turns left b f r s =
-    push_fault start new from rest c w turns left b f f.cause r s refl
-
 end_fault : (start new : Pulling) (from rest : Option (List ℕ)) (d : Cutting) (b : Bool) (f : TextFault)
     (k : Cause)
     → Follows (to_judge start from) (λ j. j) (text_of d [] rest) → d.failed
@@ -314,68 +203,7 @@ end_fails start new from c d w v turns used left rest b f r p k none a s =
     (text_of d t rest)) none came in
     end_fault start new from rest d b f f.cause same p.live.1 a s
 
--- a read failed, or the turns are used up
-pub read_fails : (start : Pulling) (from : Option (List ℕ)) (c d e : Cutting) (w u : List ℕ)
-    (turns after used : ℕ) (left rest : Option (List ℕ)) (b x : Bool) (f : TextFault)
-    → Running start from c w turns left → Pushes c d w used None → u ≡ [] → Keeps left rest
-    → x ≡ false → (b ≡ true) ⊎ (after ≡ 0) → f ≡ record { line = d.unfinished; cause = causes.Read }
-    → e ≡ record d {
-      line = d.unfinished;
-      failed =
-          Some d.unfinished;
-    } → Lacks 10 d.kept → length d.kept ≤ 1025
-    → NoAnswer start from (pulling_of e u after x) rest b f f.cause
-read_fails start from c d e w u turns after used left rest b x f r p none k not why is now lf short =
-    let pushed = (after_push start from c d w turns used left r p).1 in
-    let kept = follows_keep (to_judge start from) d [] left rest pushed k in
-    let g : TextFault = record { line = d.unfinished; cause = causes.Read } in
-    let n : Cutting = record d { line = d.unfinished; failed = Some d.unfinished } in
-    let nil = append-nil d.kept in
-    let here : NoAnswer start from (pulling_of n [] after x) rest b g g.cause = record {
-      why = why;
-      at = refl;
-      text = to_left n [] after x rest (to_judge start from) (λ j. j)
-          (going n [] x rest (to_judge start from) (λ j. j) not kept);
-      unjudged = subst (λ (t : List ℕ). Lacks 10 t) (sym nil) lf;
-      short = subst (λ (t : List ℕ). length t ≤ 1025) (sym nil) short;
-    } in
-    let there = subst (λ (t : List ℕ). NoAnswer start from (pulling_of n t after x) rest b g g.cause)
-    (sym none) here in
-    let state = subst (λ (s : Cutting). NoAnswer start from (pulling_of s u after x) rest b g g.cause)
-    (sym now) there in
-    subst (λ (y : TextFault). NoAnswer start from (pulling_of e u after x) rest b y y.cause) (sym is) state
-
 -- ---- where what is left begins
-
-follows_begins : (x : Option Judgement) (c : Cutting) (w : List ℕ) (left : Option (List ℕ)) (n : ℕ)
-    (names : Tables) → Follows x (λ j. j) (text_of c w left)
-    → ((more : List ℕ) → BeginsAt n names (judged c (w ++ more))) → IfSome x (BeginsAt n names)
-follows_begins None c w left n names h b = tt
-follows_begins (Some j) c w None n names h b = absurd h
-follows_begins (Some j) c w (Some l) n names h b =
-    subst (λ (k : Judgement). BeginsAt n names k) (sym h) (b l)
-
--- a fault of a push
-pub push_begins : (start : Pulling) (from : Option (List ℕ)) (c : Cutting) (w : List ℕ) (turns : ℕ)
-    (left : Option (List ℕ)) (n : ℕ) (names : Tables) → Running start from c w turns left
-    → ((more : List ℕ) → BeginsAt n names (judged c (w ++ more)))
-    → IfSome (to_judge start from) (BeginsAt n names)
-push_begins start from c w turns left n names r b =
-    follows_begins (to_judge start from) c w left n names r.same b
-
--- a read failed, or the turns are used up
-pub read_begins : (start : Pulling) (from : Option (List ℕ)) (c d e : Cutting) (w : List ℕ) (turns used : ℕ)
-    (left : Option (List ℕ)) (f : TextFault) → Running start from c w turns left → Pushes c d w used None
-    → f ≡ record { line = d.unfinished; cause = causes.Read }
-    → e ≡ record d { line = d.unfinished; failed = Some d.unfinished }
-    → IfSome (to_judge start from) (BeginsAt f.line e.names)
-read_begins start from c d e w turns used left f r p is now =
-    let line : f.line ≡ d.unfinished = ap (λ (g : TextFault). g.line) is in
-    let names : TablesGrow d.names e.names =
-    TablesGrow-same d.names e.names (ap (λ (s : Cutting). s.names) now) in
-    follows_begins (to_judge start from) d [] left f.line e.names
-    (after_push start from c d w turns used left r p).1 (λ more. begins_here d ([] ++ more) f.line e.names
-    line names)
 
 closed_begins : (x : Option Judgement) (d : Cutting) (rest : Option (List ℕ)) (n : ℕ) (names : Tables)
     → Follows x (λ j. j) (text_of d [] rest) → IsAtEnd rest → BeginsAt n names (judged d [])
@@ -397,21 +225,6 @@ end_begins start from c d w v turns used left rest n names r p k none a b =
     let same = subst (λ (t : List ℕ). Follows (to_judge start from) (λ j. j)
     (text_of d t rest)) none came in
     closed_begins (to_judge start from) d rest n names same a b
-
-known_begins : (p : Pulling) (o : Option (List ℕ)) (n : ℕ) → n ≡ p.unfinished
-    → IfSome (option_map (λ l. judge (lines_of (p.came ++ l)) p.names p.unfinished) o) (BeginsAt n p.names)
-known_begins p None n is = tt
-known_begins p (Some l) n is = record {
-  before = p.names;
-  lines = lines_of (p.came ++ l);
-  same = ap (λ (m : ℕ). judge (lines_of (p.came ++ l)) p.names m) (sym is);
-  grows = TablesGrow-refl p.names;
-}
-
--- after a fault it is the line whose end was not seen
-pub failed_begins : (p : Pulling) (left : Option (List ℕ)) (n : ℕ) → n ≡ p.unfinished
-    → IfSome (to_judge p left) (BeginsAt n p.names)
-failed_begins p left n is = known_begins p (rest_of p.ended left) n is
 
 -- after the end nothing is left
 pub ended_text : (p : Pulling) (left : Option (List ℕ)) → p.ended ≡ true → length p.came ≡ 0 → Ends p left p

@@ -3,10 +3,6 @@ use Rattle.std.proofs.Common.{ℕ, ◌-◌, ◌<◌, List, length, Option, Some,
 use Rattle.std.specs.Io.KnownBytes.{Consumes}
 use Rattle.rapid_text.specs.Turns.{TakeBytes}
 
-pub takes_none : (turns : ℕ) (left : Option (List ℕ)) → TakeBytes turns left turns left
-takes_none turns None = tt
-takes_none turns (Some l) = omega arith
-
 -- one more turn, which took bytes
 pub takes_more : (old new : ℕ) (left rest more : Option (List ℕ)) (v : List ℕ) → TakeBytes old left new rest
     → Consumes rest more v → 0 < length v → 0 < new → TakeBytes old left (new - 1) more

@@ -27,10 +27,6 @@ names_fork false b c h = rw h refl
 pub own_named : (l : ScriptLine) → names_thread (thread_of l).0 l ≡ true
 own_named l = names_of l (thread_of l).0 (eq-eqb (thread_of l).0 (thread_of l).0 refl)
 
-forks_is : (l : ScriptLine) (child : ThreadId) (u : ℕ) → fork_of l ≡ Some child → forks u l ≡ true
-    → child.0 ≡ u
-forks_is l child u is h = eqb-true child.0 u (subst (λ (o : Option ThreadId). is_thread u o ≡ true) is h)
-
 pub fork_forks : (l : ScriptLine) (child : ThreadId) → fork_of l ≡ Some child → forks child.0 l ≡ true
 fork_forks l child is = ap (λ (o : Option ThreadId). is_thread child.0 o) is ∙ eq-eqb child.0 child.0 refl
 
@@ -50,24 +46,6 @@ target_named l target is =
     (ap (λ (o : Option ThreadId). is_thread target.0 o) is ∙ eq-eqb target.0 target.0 refl)
 
 -- ---- one line
-
--- it forks none
-pub spread_none : (l : ScriptLine) (marks : List Bool) → fork_of l ≡ None → IsSpread l marks
-spread_none l marks is = λ t u of fork marked.
-    let clash : false ≡ true = subst (λ (o : Option ThreadId). is_thread u o ≡ true) is fork in absurd cc
-
--- its own thread is not marked
-pub spread_unmarked : (l : ScriptLine) (marks : List Bool) → is_marked marks (thread_of l).0 ≡ false
-    → IsSpread l marks
-spread_unmarked l marks not = λ t u of fork marked.
-    let same : (thread_of l).0 ≡ t = eqb-true (thread_of l).0 t of in
-    let clash : false ≡ true = sym not ∙ ap (λ (v : ℕ). is_marked marks v) same ∙ marked in absurd cc
-
--- what it forks is marked already
-pub spread_marked : (l : ScriptLine) (child : ThreadId) (marks : List Bool) → fork_of l ≡ Some child
-    → is_marked marks child.0 ≡ true → IsSpread l marks
-spread_marked l child marks is here = λ t u of fork marked.
-    ap (λ (v : ℕ). is_marked marks v) (sym (forks_is l child u is fork)) ∙ here
 
 set_of : (child : ℕ) (old new : List Bool) → new ≡ set old child true → (u : ℕ) → is_marked new u ≡ true
     → (u ≡ child) ⊎ (is_marked old u ≡ true)
@@ -145,14 +123,6 @@ pub record Passed (lines : List ScriptLine) (start now : List Bool) (i : ℕ) (c
       → IsSpread l now
   pub fewer : changed ≡ true → unmarked now < unmarked start
   pub most : unmarked now ≤ unmarked start
-
-pub pass_begins : (lines : List ScriptLine) (start : List Bool) → Passed lines start start 0 false
-pass_begins lines start = record {
-  same = λ isnt. refl;
-  spread = λ isnt k l lt at. absurd (omega arith);
-  fewer = λ yes. absurd cc;
-  most = omega arith;
-}
 
 spread_more : (lines : List ScriptLine) (i : ℕ) (m : ScriptLine) (marks : List Bool)
     → slice_get lines i ≡ Some m

@@ -107,14 +107,6 @@ pub and_right : (a b : Bool) → (a && b) ≡ true → b ≡ true
 and_right true b e = e
 and_right false b e = false_true e
 
-pub or_off_left : (a b : Bool) → (a || b) ≡ false → a ≡ false
-or_off_left true b e = e
-or_off_left false b e = refl
-
-pub or_off_right : (a b : Bool) → (a || b) ≡ false → b ≡ false
-or_off_right true b e = false_true (sym e)
-or_off_right false b e = e
-
 pub not_false : (b : Bool) → not b ≡ false → b ≡ true
 not_false true e = refl
 not_false false e = sym e

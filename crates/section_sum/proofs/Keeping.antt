@@ -190,18 +190,6 @@ kept_new s l v at k most e q room kept = record {
       (q ∙ sym (place_new s.places l v e), omega (arith, q, long));
 }
 
--- what was sought
-pub kept_sought : (s : Stored) (l v at : ℕ) (k : Kept) → at ≡ place_of s.places l v → at < length s.places
-    → IsKept l s k → IsKept l s (record k { sought = Some (record { var = v; at = at }) })
-kept_sought s l v at k e h kept = record {
-  same = kept.same;
-  listed = kept.listed;
-  few = kept.few;
-  count = kept.count;
-  capacity = kept.capacity;
-  sought = (e, h);
-}
-
 -- the list in another place, with no less room
 pub kept_as : (s : Stored) (l : ℕ) (k : Kept) (xs : List ℕ) (most : ℕ) → xs ≡ k.listed → k.most ≤ most
     → IsKept l s k → IsKept l s (record k { listed = xs; most = most })

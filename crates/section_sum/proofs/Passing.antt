@@ -83,17 +83,6 @@ alone_still thread var kind held before mid l a alone t v k n =
     || (x && (is_held held l && (nat_eq v var && is_kind k kind)))) (ne_eqb t thread n)
     ∙ or_false (noted_at (before l) t v k) ∙ alone t v k n
 
--- none is noted yet
-pub noted_none : (thread var : ℕ) (kind : AccessKind) (before : ℕ → Entries)
-    → HaveNoted thread [] var kind before before
-noted_none thread var kind before = record {
-  noted = λ t l v k.
-      sym (ap (λ x. noted_at (before l) t v k || x) (and_false (nat_eq t thread))
-      ∙ or_false (noted_at (before l) t v k));
-  others = λ l v k t. refl;
-  room = λ l v h. h;
-}
-
 -- a section's end under one lock
 pub closed_one : (thread lock number : ℕ) (before after : ℕ → Entries)
     → HasClosed thread number (before lock) (after lock)

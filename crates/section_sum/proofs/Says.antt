@@ -27,7 +27,7 @@ use Rattle.section_sum.specs.declared.newest.Newest.{Newest}
 use Rattle.section_sum.specs.Newest.{others_at, closed_two}
 use Rattle.section_sum.specs.Cell.{no_cell, side, is_kind, closed, closed_side, marked_as}
 use Rattle.section_sum.specs.Entries.{Entries, noted_at, others_on, IsAlone, SaysSame, HasNoted, HasClosed}
-use Rattle.section_sum.proofs.Basics.{or_true, or_false, and_true, and_false}
+use Rattle.section_sum.proofs.Basics.{or_true, or_false, and_false}
 
 -- the same cells of the same thread say the same
 pub says_same : (before after : Entries) → ((v : ℕ) → after.cell v ≡ before.cell v) → after.by ≡ before.by
@@ -153,31 +153,6 @@ says_closed thread number before after cells by room own = record {
     never : (a b : Bool) → ((a && b) && not a) ≡ false
     never true b = and_false b
     never false b = refl
-
--- the open section, if there is one, is another thread's
-pub says_other : (thread number : ℕ) (before : Entries) → (before.by ≡ thread → ⊥)
-    → HasClosed thread number before before
-says_other thread number before other = record {
-  noted = λ t v k. kept t v k (cases_eq t thread);
-  others = λ v k t.
-      sym (ap (λ b. cond (not (nat_eq t thread) && (b && (side k (before.cell v)).noted))
-      number (others_on before v k t)) off
-      ∙ ap (λ b. cond b number (others_on before v k t)) (and_false (not (nat_eq t thread))));
-  room = λ v h. h;
-}
-  where
-    off : nat_eq thread before.by ≡ false
-    off = ne_eqb thread before.by (λ e. other (sym e))
-
-    kept : (t v : ℕ) (k : AccessKind) → (t ≡ thread) ⊎ (t ≡ thread → ⊥)
-        → noted_at before t v k ≡ (noted_at before t v k && not (nat_eq t thread))
-    kept t v k (inl e) =
-        let none : noted_at before t v k ≡ false
-        = ap (λ b. b && (side k (before.cell v)).noted) (ap (λ s. nat_eq s before.by) e ∙ off) in
-        none ∙ sym (ap (λ b. b && not (nat_eq t thread)) none)
-    kept t v k (inr n) =
-        sym (and_true (noted_at before t v k))
-        ∙ ap (λ b. noted_at before t v k && not b) (sym (ne_eqb t thread n))
 
 side_off : (k : AccessKind) → (side k no_cell).noted ≡ false
 side_off Read = refl

@@ -328,14 +328,6 @@ release_held_by_clocks m log c l p vs holds r allowed is =
     let here : 0 < (hb_of p.clocks).depth c.thread.0 l.0 = omega arith in
     subst (IsHeldRelease (hb_of p.clocks) c.thread) (sym is) here
 
--- and its slots are kept
-pub release_slots : (m : Limits) (log : List Event) (o : Op) (l : LockId) (p : Parts) (vs : List Verdict)
-    (holds : ℕ) → IsReplay m log p vs holds → o ≡ Release l
-    → (slots_for holds o ≤ p.events) × (slots_for holds o ≤ p.verdicts)
-release_slots m log o l p vs holds r is =
-    subst (λ (x : Op). (slots_for holds x ≤ p.events) × (slots_for holds x ≤ p.verdicts)) (sym is)
-    (r.event_slots, r.verdict_slots)
-
 -- there is room for it in the accesses
 pub release_in_accesses : (m : Limits) (log : List Event) (c : Call) (l : LockId) (p : Parts)
     (vs : List Verdict) (holds : ℕ) → IsReplay m log p vs holds → refusal m log c ≡ None → c.op ≡ Release l

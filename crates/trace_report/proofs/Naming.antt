@@ -22,11 +22,6 @@ named_push t [] e h k (suc j) x at = absurd (cc)
 named_push t (y ∷ ys) e h k zero x at = h zero x at
 named_push t (y ∷ ys) e h k (suc j) x at = named_push t ys e (λ i z is. h (suc i) z is) k j x at
 
-pub named_more : (t u : Tables) (log : List Event) (e : Event) → TablesGrow t u → AreNamed t log
-    → IsOfNames u e
-    → AreNamed u (log ++ e ∷ [])
-named_more t u log e g h k = named_push u log e (named_kept t u log g h) k.names
-
 -- the event of a line is the one that its call makes
 pub named_line : (t u : Tables) (log : List Event) (e : Event) → TablesGrow t u → AreNamed t log
     → IsOfNames u e

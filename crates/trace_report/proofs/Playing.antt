@@ -8,7 +8,6 @@ use Rattle.event_core.specs.declared.events.Call.{Call}
 use Rattle.event_core.specs.declared.events.Event.{Event}
 use Rattle.event_core.specs.declared.replies.Refusal.{Refusal}
 use Rattle.event_core.specs.Refusal.{refusal, event_of, WellFormed, open_acquires}
-use Rattle.event_core.proofs.Growth.{well_formed_grown}
 use Rattle.event_core.proofs.Slots.{slots}
 use Rattle.rapid_text.specs.declared.causes.Cause.{Cause}
 use Rattle.rapid_text.specs.declared.causes.Cause.TheVariants as causes
@@ -141,11 +140,6 @@ close_whole s f causes.Read h = absurd h
 close_whole s f causes.Failed h = refl
 
 -- ---- the log
-
-pub line_is_legal : (m : Limits) (log : List Event) (e : Event) → WellFormed m log
-    → refusal m log (call_of e) ≡ None → WellFormed m (with_line log e)
-line_is_legal m log e w a =
-    well_formed_grown m log (event_of log (call_of e)) w (record { call = call_of e; allowed = a; is = refl })
 
 pub within_limits : (m : Limits) (log : List Event) → WellFormed m log → length log ≤ m.events
 within_limits m log w =

@@ -3,12 +3,8 @@ use Rattle.std.proofs.Common.{◌≡◌, ℕ, List, [], ◌++◌, Option, sym, a
 use Rattle.std.proofs.Common.{Result, Ok, Err}
 use Rattle.std.specs.Prelude.{OnOk}
 use Rattle.std.specs.Io.KnownBytes.{Appends}
-use Rattle.std.proofs.KnownBytes.{Appends-nil, Appends-trans}
+use Rattle.std.proofs.KnownBytes.{Appends-trans}
 use Rattle.trace_report.specs.Pages.{Puts}
-
--- nothing was put yet
-pub put_nothing : (old : Option (List ℕ)) (waited : List ℕ) → Puts old waited old waited []
-put_nothing old waited = record { front = []; written = Appends-nil old; is = append-nil waited }
 
 pub put_both : {a b c : Option (List ℕ)} {p q r xs ys : List ℕ} → Puts a p b q xs → Puts b q c r ys
     → Puts a p c r (xs ++ ys)

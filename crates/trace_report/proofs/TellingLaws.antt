@@ -15,7 +15,7 @@ use Rattle.trace_report.specs.declared.faults.ReplayFault.TheVariants.{Write}
 use Rattle.trace_report.specs.declared.counts.Counts.{Counts}
 use Rattle.trace_report.specs.declared.summary.Summary.{Summary}
 use Rattle.trace_report.specs.Reports.{AreWithin}
-use Rattle.trace_report.specs.Findings.{Trace, finding}
+use Rattle.trace_report.specs.Findings.{Trace}
 use Rattle.trace_report.specs.Replayed.{gives_up, fault_text, Told, TellsText}
 use Rattle.trace_report.specs.Replaying.{fault_or}
 use Rattle.trace_report.specs.Legal.{LegalSoFar, IsAfter}
@@ -136,19 +136,6 @@ trace_counts m left j names c f is = go left f.is_left
     go (Some text) at =
         ap (λ (x : Counts). Ok x) (is ∙ ap (λ (n : ℕ). counts_of n names) f.after.count)
         ∙ sym (ap counted f.finds) ∙ ap (answer_for m) at
-
-pub fault_counts : (m : Limits) (left : Option (List ℕ)) (r f : ReplayFault) → r ≡ f
-    → (gives_up f ≡ false → FindsFault m left f) → gives_up r ≡ false
-    → IfSome left (λ text. Err r ≡ answer_for m text)
-fault_counts m left r f is finds g =
-    let found = finds (sym (ap gives_up is) ∙ g) in
-    go left found.text found.is_left found.finds
-  where
-    go : (o : Option (List ℕ)) (text : List ℕ) → IfSome o (λ whole. text ≡ whole) → finding m text ≡ Err f
-        → IfSome o (λ text. Err r ≡ answer_for m text)
-    go None text at same = tt
-    go (Some whole) text at same =
-        ap (λ (x : ReplayFault). Err x) is ∙ sym (ap counted same) ∙ ap (answer_for m) at
 
 -- the line for the answer is the line for the text
 pub line_is_for : (m : Limits) (left old new : Option (List ℕ)) (a : Result Counts ReplayFault)

@@ -33,10 +33,6 @@ pub given_back : {A : Type 0} {n : ℕ} {lent ys : List A} (xs : List A) → len
 given_back {n = n} {ys = ys} xs same len e =
     refilled n xs ys (e ∙ ap length same) (sym len ∙ ap length same)
 
--- how many locks a thread holds
-count : (ℕ → Thread) → ℕ → ℕ
-count f u = length (f u).held
-
 without_shorter : (l : LockId) (held : List LockId) → length (without l held) ≤ length held
 without_shorter l held = by_place (position (λ (h : LockId). nat_eq h.0 l.0) held)
   where

@@ -1,5 +1,5 @@
 -- A list without a lock, and what it has.
-use Rattle.std.proofs.Common.{◌≡◌, ℕ, suc, ◌+◌, ◌<◌, Bool, true, false, cond, Some, None, List, [], ◌∷◌, ◌++◌}
+use Rattle.std.proofs.Common.{◌≡◌, ℕ, suc, ◌+◌, ◌<◌, true, false, cond, Some, None, List, [], ◌∷◌, ◌++◌}
 use Rattle.std.proofs.Common.{length, not, nat_eq, nat_lt, ap, sym, refl, ◌∙◌, subst, ◌⊎◌, arith}
 use Rattle.std.proofs.lemmas.Bool.{cases_Bool, lt-ltb, ltb-true, eqb-true}
 use Rattle.std.specs.List.{prefix_len}
@@ -8,10 +8,6 @@ use Rattle.event_core.specs.declared.ids.LockId.{LockId}
 use Rattle.event_core.proofs.Depth.{same_lock_id}
 use Rattle.traced_mem.specs.After.{without, without_at}
 use Rattle.traced_mem.specs.Held.{Has}
-
--- a list without its first such lock
-is_lock : LockId → LockId → Bool
-is_lock l h = nat_eq h.0 l.0
 
 pub without_here : (l x : LockId) (xs : List LockId) → nat_eq x.0 l.0 ≡ true → without l (x ∷ xs) ≡ xs
 without_here l x xs t =

@@ -10,7 +10,6 @@ pub mod Named
 mod Ordered
 mod Passing
 pub mod Releasing
-pub mod Replaying
 mod Rows
 mod SourcesCount
 pub mod Standing

@@ -94,14 +94,6 @@ named_of p t (Release l) clock places = clock
 named_of p t (Fork u) clock places = clock
 named_of p t (Join u) clock places = clock
 
-pub clock_named : (p : Parts) (t : ThreadId) (op : Op) → HasNamed p t op → HasNamedClock p.rows op
-clock_named p t (Load x) has = tt
-clock_named p t (Store x) has = tt
-clock_named p t (Acquire l) has = has.0
-clock_named p t (Release l) has = has
-clock_named p t (Fork u) has = has
-clock_named p t (Join u) has = has
-
 -- so the event is ready where the parts have its clocks and its places
 pub ready_of : (p : Parts) (e : Event) → AreOrdered p.rows p.hb → HasClocks p.rows e.thread e.op
     → HasPlaces p e.thread e.op → IsReady p e

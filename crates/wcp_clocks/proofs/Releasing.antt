@@ -1,12 +1,11 @@
 -- A closing release whose thread counts the latest section already.
 use Rattle.std.proofs.Common.{◌≡◌, ℕ, ◌≤◌, max, Bool, true, false, cond, List, [], ◌∷◌, Option, Some, None}
-use Rattle.std.proofs.Common.{refl, ap, ap₂, ◌∙◌, arith}
+use Rattle.std.proofs.Common.{refl, ap, arith}
 use Rattle.std.specs.Option.{option_or}
-use Rattle.std.specs.Prelude.{IfSome, IsSomeAnd, nat_le}
+use Rattle.std.specs.Prelude.{IfSome, IsSomeAnd}
 use Rattle.event_core.specs.Closed.{Closed, Has, first, later, is_counted, below_closed}
 use Rattle.event_core.specs.Rows.{join}
 use Rattle.lock_queues.specs.Sections.{latest_counted}
-use Rattle.wcp_clocks.specs.Met.{joins_latest}
 use Rattle.wcp_clocks.specs.Whole.{IsWhole}
 
 latest_has : (c : ℕ → ℕ) (qs : List Closed) → IfSome (latest_counted c qs) (λ q. Has q qs)
@@ -44,12 +43,3 @@ counted_latest closed l by f g whole latest below le i u = at i
         let most = above (latest_counted f (closed l)) latest (latest_has f (closed l)) in
         let same = ap (λ (c : ℕ → ℕ). c u) below in
         omega arith
-
--- the join that the latest section's release takes, where it was asked whether the clock counts it
-pub joins_asked : (o : Option Closed) (f g : ℕ → ℕ) (by : ℕ) (b : Bool)
-    → IsSomeAnd o (λ q. (q.thread ≡ by) × (q.release ≡ g)) → nat_le (g by) (f by) ≡ b
-    → joins_latest o f ≡ cond b 0 1
-joins_asked None f g by b none asked = absurd none
-joins_asked (Some q) f g by b is asked =
-    ap (λ b. cond b 0 1)
-    (ap₂ (λ (r : ℕ → ℕ) (u : ℕ). nat_le (r u) (f u)) is.1 is.0 ∙ asked)
