@@ -11,3 +11,5 @@ mod patience;
 mod runs;
 #[cfg(test)]
 mod scripts;
+#[cfg(test)]
+mod shortage;

@@ -200,7 +200,7 @@ fn scripts_are_run_to_their_end_or_a_fault(rt: HostRuntime) {
 }
 
 /// A script whose main thread forks 199 threads before it joins the first.
-fn two_hundred(alloc: Global) -> Result<String, Fail> {
+pub fn two_hundred(alloc: Global) -> Result<String, Fail> {
     let mut text = String::new(alloc);
     for child in 1..200 {
         writeln!(text, "m fork t{child}")?;
@@ -212,7 +212,7 @@ fn two_hundred(alloc: Global) -> Result<String, Fail> {
 }
 
 #[test]
-fn two_hundred_workers_run_at_once(rt: HostRuntime) -> Result<(), Fail> {
+pub fn two_hundred_workers_run_at_once(rt: HostRuntime) -> Result<(), Fail> {
     let text = two_hundred(rt.alloc())?;
     let case = Case {
         text: text.as_str(),

@@ -41,7 +41,7 @@ pub const EVENTS: u64 = 1024;
 pub const PATIENCE: u32 = 100_000_000;
 
 /// 256 threads, 4 locks, 4 variables.
-fn limits<R: Abort>(rt: &R, events: u64) -> Limits
+pub fn limits<R: Abort>(rt: &R, events: u64) -> Limits
     ensures { result.roots ≡ OnlyMain }
 {
     match Limits::new(256, 4, 4, events, Roots::OnlyMain) {
@@ -50,7 +50,7 @@ fn limits<R: Abort>(rt: &R, events: u64) -> Limits
     }
 }
 
-fn read(alloc: Global, text: &str, limits: Limits) -> Result<Script, ScriptFault> {
+pub fn read(alloc: Global, text: &str, limits: Limits) -> Result<Script, ScriptFault> {
     Script::read(alloc, &mut Device::new(text.as_bytes()), limits, 100)
 }
 
