@@ -28,8 +28,10 @@ fn take_blocks(alloc: Global, blocks: &mut Vec<Vec<u8>>, size: usize) -> Result<
 
 /// Takes all addresses, in blocks of 64 GB to 1 MB. No stack of a thread fits into what is left.
 fn take_all(alloc: Global, blocks: &mut Vec<Vec<u8>>) {
-    for bits in 0..17 {
-        let _refused = take_blocks(alloc, blocks, 1 << (36 - bits));
+    let mut size = 1 << 36;
+    for _ in 0..17 {
+        let _refused = take_blocks(alloc, blocks, size);
+        size /= 2;
     }
 }
 
