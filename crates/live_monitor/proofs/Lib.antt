@@ -1,3 +1,5 @@
 pub mod Beginnings
+mod LaterBySteps
+mod Retries
 mod StepsAdded
 mod SwapsFollow

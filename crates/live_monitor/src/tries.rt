@@ -1,7 +1,9 @@
 //! How often an acquire is tried.
-ghost use Rattle.std.specs.Prelude.{◌≡◌, ◌+◌, ◌≤◌, ◌↔◌, None, IsTrue, IfOk, IfErr};
+ghost use Rattle.std.specs.Prelude.{◌≡◌, ◌<◌, ◌≤◌, None, IsTrue, IsFalse, IsErr, IfOk, IfErr};
+ghost use Rattle.event_core.specs.declared.ids.ThreadId.{ThreadId as Thread};
+ghost use Rattle.event_core.specs.declared.replies.Refusal.TheVariants.{Held};
 ghost use Rattle.live_monitor.specs.Calls.{acquire_by, Accepted, Declined, HasComeTo};
-ghost use Rattle.live_monitor.specs.Tries.{one_more};
+ghost use Rattle.live_monitor.specs.Tries.{one_more, AreUsedUp};
 
 use crate::shared::Shared;
 use event_core::{LockId, Refusal, Reply, SiteId};
@@ -43,11 +45,17 @@ impl Tries {
         self.made
     }
 
-    // Whether no more than one is left.
-    pub(crate) fn are_at_the_last(&self) -> bool
-        ensures { IsTrue result ↔ self.now.most ≤ self.now.made + 1 }
+    // Whether the acquire that was answered so is tried again: another thread holds the lock, and a try is
+    // left.
+    pub(crate) fn go_on_after(&self, answer: &Result<Reply, Refusal>) -> bool
+        ensures goes_on { IsTrue result → IsErr answer.now × (self.now.made < self.now.most) }
+        ensures used_up { IsFalse result → (by : Thread)
+            → IfErr answer.now (λ refusal. refusal ≡ Held by → AreUsedUp self.now) }
     {
-        self.most - self.made <= 1
+        match answer {
+            Err(Refusal::Held { .. }) => self.made < self.most,
+            _ => false,
+        }
     }
 
     // Acquires the lock, which is one try. Where none is left it is not counted.

@@ -10,6 +10,7 @@ use log_pass::{Blank, Name, Pass};
 use seq_monitor::Monitor;
 use std::alloc::Global;
 use std::marker::Model;
+use std::sync::Mutex;
 use thiserror::Error;
 
 /// Why there is no monitor to start.
@@ -73,5 +74,6 @@ pub fn start<N: Name>(unnamed: Unnamed) -> (Shared<N>, Pass<N>)
 {
     let Unnamed { blank, monitor } = unnamed;
     let (published, keeper, pass) = blank.open::<N>();
-    (Shared::over(Book::new(monitor, keeper), published), pass)
+    let book = Mutex::new(Book { monitor, keeper });
+    (Shared { book, published }, pass)
 }

@@ -35,13 +35,13 @@ impl<N: Name> Shared<N> {
     {
         let mut pass = pass;
         let backoff = Backoff::new();
-        'tries: while !tries.are_at_the_last() {
-            match tries.acquire(self, rt, pass, lock, site) {
-                (next, Err(Refusal::Held { .. })) => pass = next,
-                answer => return answer,
+        'tries: loop {
+            let (next, answer) = tries.acquire(self, rt, pass, lock, site);
+            if !tries.go_on_after(&answer) {
+                return (next, answer);
             }
+            pass = next;
             backoff.snooze();
         }
-        tries.acquire(self, rt, pass, lock, site)
     }
 }

@@ -1,0 +1,74 @@
+-- A pass whose thread tries a call again.
+use Rattle.std.proofs.Common.{◌≡◌, [], ◌∷◌, ◌++◌, None, Result, Ok, Err, IfOk, IfErr, IsErr, ap, subst, ◌∙◌}
+use mathlib.Core.List.{IsPrefix}
+use Rattle.event_core.specs.declared.bounds.Limits.{Limits}
+use Rattle.event_core.specs.declared.events.Call.{Call}
+use Rattle.event_core.specs.declared.ids.LockId.{LockId}
+use Rattle.event_core.specs.declared.ids.SiteId.{SiteId}
+use Rattle.event_core.specs.declared.replies.Refusal.{Refusal}
+use Rattle.event_core.specs.declared.replies.Reply.{Reply}
+use Rattle.event_core.specs.declared.steps.Step.TheVariants.{One}
+use Rattle.event_core.specs.Refusal.{event_of}
+use Rattle.event_core.specs.Steps.{log_of}
+use Rattle.log_pass.specs.declared.views.PassView.{PassView}
+use Rattle.log_pass.proofs.Prefixes.{prefix_trans}
+use Rattle.live_monitor.specs.Calls.{acquire_by, Accepted, Declined, HasComeTo}
+
+-- after tries that were not accepted the pass is the same thread's, has seen what it had, and made no step
+pub record HasTried (before now : PassView) : Type 0 where
+  pub same_thread : now.thread ≡ before.thread
+  pub none_due : now.due ≡ None
+  pub begins : IsPrefix before.seen now.seen
+  pub mine : now.mine ≡ before.mine
+
+pub tried_more : {m : Limits} {p q r : PassView} (c : Call) (answer : Result Reply Refusal) → HasTried p q
+    → HasComeTo m q r → IsErr answer → IfErr answer (λ why. Declined m c q r why) → HasTried p r
+tried_more c (Ok reply) tried later err declined = absurd (cc err)
+tried_more c (Err why) tried later err declined = record {
+  same_thread = later.same_thread ∙ tried.same_thread;
+  none_due = later.none_due;
+  begins = prefix_trans _ _ _ tried.begins later.begins;
+  mine = declined.mine ∙ tried.mine;
+}
+
+-- what the last try brings holds of all
+pub later_of_all : {m : Limits} {p q r : PassView} → HasTried p q → HasComeTo m q r → HasComeTo m p r
+later_of_all tried later = record {
+  same_thread = later.same_thread ∙ tried.same_thread;
+  none_due = later.none_due;
+  begins = prefix_trans _ _ _ tried.begins later.begins;
+  formed = later.formed;
+  own = later.own;
+  own_events = later.own_events;
+}
+
+pub accepted_of_all : (m : Limits) {p q : PassView} (r : PassView) (l : LockId) (site : SiteId)
+    (answer : Result Reply Refusal) → HasTried p q
+    → IfOk answer (λ reply. Accepted m (acquire_by q.thread l site) q r reply)
+    → IfOk answer (λ reply. Accepted m (acquire_by p.thread l site) p r reply)
+accepted_of_all m {p} {q} r l site (Ok reply) tried accepted =
+    let at : Accepted m (acquire_by p.thread l site) q r reply =
+    subst (λ t. Accepted m (acquire_by t l site) q r reply) tried.same_thread accepted in
+    record {
+      steps = at.steps;
+      begins = prefix_trans _ _ _ tried.begins at.begins;
+      outcome = at.outcome;
+      seen = at.seen;
+      mine = at.mine
+          ∙ ap (λ xs. xs ++ One (event_of (log_of at.steps) (acquire_by p.thread l site)) ∷ []) tried.mine;
+    }
+accepted_of_all m r l site (Err why) tried accepted = accepted
+
+pub declined_of_all : (m : Limits) {p q : PassView} (r : PassView) (l : LockId) (site : SiteId)
+    (answer : Result Reply Refusal) → HasTried p q
+    → IfErr answer (λ why. Declined m (acquire_by q.thread l site) q r why)
+    → IfErr answer (λ why. Declined m (acquire_by p.thread l site) p r why)
+declined_of_all m r l site (Ok reply) tried declined = declined
+declined_of_all m {p} {q} r l site (Err why) tried declined =
+    let at : Declined m (acquire_by p.thread l site) q r why =
+    subst (λ t. Declined m (acquire_by t l site) q r why) tried.same_thread declined in
+    record {
+      begins = prefix_trans _ _ _ tried.begins at.begins;
+      mine = at.mine ∙ tried.mine;
+      why = at.why;
+    }
