@@ -6,7 +6,7 @@ use Rattle.std.specs.List.{list_any}
 use Rattle.std.specs.Str.{bytes_eq}
 use Rattle.clap.specs.Lexer.{long_of, short_of}
 use Rattle.clap.specs.Facts.{explicit_source}
-use Rattle.clap.specs.Kinds.{or_else}
+use Rattle.clap.specs.Kinds.{Kinds, or_else}
 use Rattle.clap.specs.Walk.{Held, Names, Outcome, Row, Rule, Step, Text, Waiting, Walk, done, waits, plain}
 use Rattle.clap.specs.Walk.{refused, idle, option, positional, next, trailing, subcommand, value}
 use Rattle.clap.specs.Walk.{after_flag, after_step, arg_by_long, bundle_met, finished, long_met}
@@ -15,6 +15,7 @@ use Rattle.clap.specs.Walk.{subcommand_or_other, walk, walk_from, walked, walked
 use Rattle.clap.specs.Simple.{Shape, built, filled_from, help_rule, version_rule, entered, subcommand_of}
 use Rattle.clap.specs.Faults.{check_fault, defaults_fault, entered_fault, step_fault, other_fault}
 use Rattle.clap.specs.Faults.{settle_fault, turn_fault, walk_fault, word_fault}
+use Rattle.clap.specs.declared.error.kind.ErrorKind.{ErrorKind}
 use Rattle.clap.specs.declared.error.kind.ErrorKind.TheVariants as kind
 use Rattle.wcp_tool.specs.CommandLine.{faults_of, wcp}
 use Rattle.wcp_tool.proofs.Keeping.{both_none}
@@ -84,6 +85,9 @@ first_of_four a b c d =
     if a then Some (codes "check", []) else (if b then Some (codes "replay", [])
     else (if c then Some (codes "run", []) else (if d then Some (codes "help", []) else None)))
 
+not_none : (k : ErrorKind) (ks : Kinds) → (k ∷ ks) ≡ [] → ⊥
+not_none k ks e = cc
+
 command_step : (a b c d : Bool) (position : ℕ) (word : Text) (h : Held)
     → other_fault wcp_shape (option_map (λ (s : Text × List Text). s.0) (first_of_four a b c d)) word h ≡ []
     → KnownStep (subcommand_or_other top_rules (option_map (λ (s : Text × List Text). s.0)
@@ -92,7 +96,7 @@ command_step : (a b c d : Bool) (position : ℕ) (word : Text) (h : Held)
 command_step true b c d position word h e = inl refl
 command_step false true c d position word h e = inr (inl refl)
 command_step false false true d position word h e = inr (inr refl)
-command_step false false false true position word h e = absurd (cc)
+command_step false false false true position word h e = absurd (not_none _ _ e)
 command_step false false false false position word h e = other_step idle position word h
 
 met_step : (is_trailing : Bool) (w : Waiting) (position : ℕ) (word : Text) (h : Held)

@@ -60,10 +60,6 @@ have_more : (rules : List Rule) (rows : List Row) (r : Row) → HaveOne rules ro
 have_more rules [] r have has = (has, tt)
 have_more rules (x ∷ rows) r have has = (have.0, have_more rules rows r have.1 has)
 
-false_or : (a b : Bool) → (a || b) ≡ false → (a ≡ false) × (b ≡ false)
-false_or true b e = absurd (cc)
-false_or false b e = (refl, e)
-
 -- where no row has the id, one is added
 new_row : (id : Text) (change : Row → List Row) (missing rows : List Row) → has_row id rows ≡ false
     → at_row id change missing rows ≡ rows ++ missing

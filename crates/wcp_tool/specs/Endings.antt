@@ -1,5 +1,5 @@
 -- How the program ends.
-use Rattle.std.specs.Prelude.{ℕ, Result, Ok, Err, cond, nat_eq}
+use Rattle.std.specs.Prelude.{ℕ, Bool, Result, Ok, Err, true, false, cond, nat_eq}
 use Rattle.event_core.specs.declared.replies.Refusal.{Refusal}
 use Rattle.event_core.specs.declared.replies.Refusal.TheVariants as refusals
 use Rattle.rapid_text.specs.declared.causes.Cause.{Cause}
@@ -22,6 +22,11 @@ status_of ReadFault = 4
 status_of WriteFault = 4
 status_of OutOfMemory = 5
 status_of BrokenScript = 6
+
+-- the writer failed
+abbrev pub is_write_fault : Ending → Bool
+is_write_fault WriteFault = true
+is_write_fault _ = false
 
 abbrev pub cause_ending : Cause → Ending
 cause_ending causes.Read = ReadFault

@@ -114,8 +114,3 @@ abbrev pub EndsAs : UsageFault → Ending → Type 0
 EndsAs (faults.Help text) e = (e ≡ Done) ⊎ (e ≡ WriteFault)
 EndsAs (faults.Usage text) e = e ≡ WrongUsage
 EndsAs faults.OutOfMemory e = e ≡ OutOfMemory
-
--- the fault is no text that was asked for
-abbrev pub is_help : UsageFault → Bool
-is_help (faults.Help text) = true
-is_help _ = false

@@ -2,41 +2,35 @@
 ghost use Rattle.std.specs.Prelude.{◌≡◌, ◌≤◌, ℕ, List, [], Some, IfOk, IfErr, OnOk, true, false, map, codes};
 ghost use Rattle.clap.specs.Words.{app_of, first_of, found_of, has_subcommand, kind_of, new_app, rows_of};
 ghost use Rattle.clap.specs.Words.{Text, rule_of, shape_of, subcommand_of, subcommand_rows_of};
+ghost use Rattle.clap.specs.Words.{with_subcommand};
 ghost use Rattle.clap.specs.declared.builder.command.Command.TheViews.{out-Command};
-ghost use Rattle.wcp_tool.specs.CommandLine.{trace_command, run_command as run_shape, bare, wcp};
+ghost use Rattle.wcp_tool.specs.CommandLine.{bare, run_command as run_shape, trace_command, wcp};
 ghost use Rattle.wcp_tool.specs.CommandLine.{file_argument as file_rule};
 ghost use Rattle.wcp_tool.specs.CommandLine.{TellsKind, faults_of, asked, asked_by, IsFaultAt};
 
 use crate::help_texts::{CHECK_TEXTS, PROGRAM_TEXTS, REPLAY_TEXTS, RUN_TEXTS};
-use crate::options::{DEFAULT_PATIENCE, patience_of, patience_option, threads_of, threads_option};
+use crate::options::{DEFAULT_PATIENCE, number_of, patience_option, threads_option};
 use crate::requests::{Command, Settings, UsageFault};
 use clap::error::ErrorKind;
 use clap::{Arg, ArgAction, ArgMatches};
 use std::alloc::{AllocError, Global};
 use std::convert::AsStr;
 
-/// The command that checks a trace.
-fn check_command<'a>(alloc: Global) -> Result<clap::Command<'a>, AllocError>
-    ensures local { IfOk result (λ c. (out-Command c).has_globals ≡ false) }
-    ensures shape { IfOk result (λ c. shape_of c ≡ trace_command (codes "check")) }
+/// A command before its arguments are added, with what help says of it.
+fn bare_command<'a>(
+    alloc: Global,
+    name: &'a str,
+    about: &'a str,
+    usage: &'a str,
+    texts: &'a str,
+) -> clap::Command<'a>
+    ensures local { (out-Command result).has_globals ≡ false }
+    ensures app { app_of result ≡ new_app name.entry.now }
 {
-    clap::Command::new(alloc, "check")
-        .about("Says whether a trace is legal, or which line is refused and why")
-        .override_usage("wcp check [OPTIONS] < TRACE")
-        .after_help(CHECK_TEXTS)
-        .arg(threads_option(alloc))
-}
-
-/// The command that reports the races of a trace.
-fn replay_command<'a>(alloc: Global) -> Result<clap::Command<'a>, AllocError>
-    ensures local { IfOk result (λ c. (out-Command c).has_globals ≡ false) }
-    ensures shape { IfOk result (λ c. shape_of c ≡ trace_command (codes "replay")) }
-{
-    clap::Command::new(alloc, "replay")
-        .about("Reports the races of a trace")
-        .override_usage("wcp replay [OPTIONS] < TRACE")
-        .after_help(REPLAY_TEXTS)
-        .arg(threads_option(alloc))
+    clap::Command::new(alloc, name)
+        .about(about)
+        .override_usage(usage)
+        .after_help(texts)
 }
 
 /// The path of a script.
@@ -50,30 +44,25 @@ fn file_argument<'a>(alloc: Global) -> Arg<'a>
         .help("The script")
 }
 
-/// The command that runs a script, before its arguments are added.
-fn bare_run<'a>(alloc: Global) -> clap::Command<'a>
-    ensures local { (out-Command result).has_globals ≡ false }
-    ensures app { app_of result ≡ new_app (codes "run") }
-{
-    clap::Command::new(alloc, "run")
-        .about("Runs the threads of a script, and reports their races")
-        .override_usage("wcp run [OPTIONS] FILE")
-        .after_help(RUN_TEXTS)
-}
-
 /// The command that runs a script.
 fn run_command<'a>(alloc: Global) -> Result<clap::Command<'a>, AllocError>
     ensures local { IfOk result (λ c. (out-Command c).has_globals ≡ false) }
     ensures shape { IfOk result (λ c. shape_of c ≡ run_shape) }
 {
-    bare_run(alloc)
-        .arg(file_argument(alloc))?
-        .arg(threads_option(alloc))?
-        .arg(patience_option(alloc))
+    bare_command(
+        alloc,
+        "run",
+        "Runs the threads of a script, and reports their races",
+        "wcp run [OPTIONS] FILE",
+        RUN_TEXTS,
+    )
+    .arg(file_argument(alloc))?
+    .arg(threads_option(alloc))?
+    .arg(patience_option(alloc))
 }
 
 /// The program, before its commands are added.
-fn bare_command<'a>(alloc: Global) -> Result<clap::Command<'a>, AllocError>
+fn bare_program<'a>(alloc: Global) -> Result<clap::Command<'a>, AllocError>
     ensures local { IfOk result (λ c. (out-Command c).has_globals ≡ false) }
     ensures app { IfOk result (λ c. app_of c ≡ bare) }
 {
@@ -89,15 +78,47 @@ fn bare_command<'a>(alloc: Global) -> Result<clap::Command<'a>, AllocError>
     )
 }
 
+/// The program with one more command over a trace.
+fn with_trace_command<'a>(
+    program: clap::Command<'a>,
+    alloc: Global,
+    name: &'a str,
+    about: &'a str,
+    usage: &'a str,
+    texts: &'a str,
+) -> Result<clap::Command<'a>, AllocError>
+    requires { (out-Command program).has_globals ≡ false }
+    ensures local { IfOk result (λ c. (out-Command c).has_globals ≡ false) }
+    ensures app { IfOk result (λ c. app_of c
+        ≡ with_subcommand (app_of program.entry) (trace_command name.entry.now)) }
+{
+    let command = bare_command(alloc, name, about, usage, texts);
+    program.subcommand(command.arg(threads_option(alloc))?)
+}
+
 /// The command lines that the program takes.
 fn command_line<'a>(alloc: Global) -> Result<clap::Command<'a>, AllocError>
     ensures local { IfOk result (λ c. (out-Command c).has_globals ≡ false) }
     ensures app { IfOk result (λ c. app_of c ≡ wcp) }
 {
-    bare_command(alloc)?
-        .subcommand(check_command(alloc)?)?
-        .subcommand(replay_command(alloc)?)?
-        .subcommand(run_command(alloc)?)
+    let none = bare_program(alloc)?;
+    let one = with_trace_command(
+        none,
+        alloc,
+        "check",
+        "Says whether a trace is legal, or which line is refused and why",
+        "wcp check [OPTIONS] < TRACE",
+        CHECK_TEXTS,
+    )?;
+    let two = with_trace_command(
+        one,
+        alloc,
+        "replay",
+        "Reports the races of a trace",
+        "wcp replay [OPTIONS] < TRACE",
+        REPLAY_TEXTS,
+    )?;
+    two.subcommand(run_command(alloc)?)
 }
 
 /// The name of the command that the words have, and what its options were given.
@@ -155,7 +176,7 @@ fn settings_of<'a>(alloc: Global, matches: &ArgMatches<'a>) -> Result<Settings, 
     ensures fault { IfErr result (λ f. f ≡ UsageFault.OutOfMemory) }
 {
     let (name, given) = command_met(matches);
-    let threads = threads_of(given);
+    let threads = number_of(given, "threads", 1024, 64);
     if name != "run" {
         return Ok(Settings {
             command: command_of(name),
@@ -169,7 +190,7 @@ fn settings_of<'a>(alloc: Global, matches: &ArgMatches<'a>) -> Result<Settings, 
     Ok(Settings {
         command: Command::Run(file),
         threads,
-        patience: patience_of(given),
+        patience: number_of(given, "patience", 4294967295, DEFAULT_PATIENCE),
     })
 }
 

@@ -1,7 +1,6 @@
 //! How the program ends: its exit status, and what standard error says of it.
 ghost use Rattle.std.specs.Prelude.{◌≡◌};
-ghost use Rattle.wcp_tool.specs.Endings.{status_of, check_ending, replay_ending, cause_ending as for_cause};
-ghost use Rattle.wcp_tool.specs.Endings.{refusal_ending as for_refusal, fault_ending as for_fault};
+ghost use Rattle.wcp_tool.specs.Endings.{check_ending, fault_ending as for_fault, replay_ending, status_of};
 ghost use Rattle.wcp_tool.specs.Endings.{summary_ending as for_summary};
 
 use event_core::Refusal;
@@ -69,33 +68,20 @@ pub(crate) fn finish<E: Output>(ending: Ending, errors: &mut E) -> u8
     ending.status()
 }
 
-fn cause_ending(cause: Cause) -> Ending
-    ensures { result ≡ for_cause cause }
-{
-    match cause {
-        Cause::Read => Ending::ReadFault,
-        Cause::OutOfMemory => Ending::OutOfMemory,
-        Cause::Line(_) | Cause::TooManyNames(_) | Cause::Failed => Ending::Refused,
-    }
-}
-
-fn refusal_ending(refusal: Refusal) -> Ending
-    ensures { result ≡ for_refusal refusal }
-{
-    if refusal == Refusal::OutOfMemory {
-        Ending::OutOfMemory
-    } else {
-        Ending::Refused
-    }
-}
-
 /// How a check or a replay with this fault ends.
 fn fault_ending(fault: ReplayFault) -> Ending
     ensures { result ≡ for_fault fault }
 {
     match fault {
-        ReplayFault::Text(fault) => cause_ending(fault.cause),
-        ReplayFault::Refused { refusal, .. } => refusal_ending(refusal),
+        ReplayFault::Text(fault) => match fault.cause {
+            Cause::Read => Ending::ReadFault,
+            Cause::OutOfMemory => Ending::OutOfMemory,
+            Cause::Line(_) | Cause::TooManyNames(_) | Cause::Failed => Ending::Refused,
+        },
+        ReplayFault::Refused { refusal, .. } if refusal == Refusal::OutOfMemory => {
+            Ending::OutOfMemory
+        }
+        ReplayFault::Refused { .. } => Ending::Refused,
         ReplayFault::Write => Ending::WriteFault,
     }
 }

@@ -2,10 +2,10 @@
 ghost use Rattle.std.specs.Prelude.{◌≡◌, ◌≢◌, ◌⊎◌, ℕ, List, ◌≤◌, Option, IfErr, IfSome, true, false, length};
 ghost use Rattle.std.specs.Prelude.{map};
 ghost use Rattle.clap.specs.Words.{Text};
-ghost use Rattle.wcp_tool.specs.Endings.{status_of};
+ghost use Rattle.wcp_tool.specs.Endings.{is_write_fault, status_of};
 ghost use Rattle.wcp_tool.specs.CommandLine.{request_of};
-ghost use Rattle.wcp_tool.specs.Running.{Checks, Replays, Performs, IsCut, IsHindered, IsUnhindered, Runs};
-ghost use Rattle.wcp_tool.specs.Running.{EndsAs, is_help, limits_with};
+ghost use Rattle.wcp_tool.specs.Running.{Checks, Replays, Performs, IsCut, IsHindered, Runs};
+ghost use Rattle.wcp_tool.specs.Running.{EndsAs, limits_with};
 ghost use Rattle.event_core.specs.declared.bounds.Roots.TheVariants.{Free};
 
 use crate::bounds::{TURNS, limits_of};
@@ -43,8 +43,7 @@ fn run_check<I: Input, O: Output>(
     ensures short { result ≡ Ending.ReadFault → (I.failed reader.new ≡ true)
         ⊎ IfSome (I.left reader.old) (λ text. 17592186044416 ≤ length text) }
     ensures read { result ≡ Ending.Done → I.failed reader.new ≡ false }
-    ensures write_fault { result ≡ Ending.WriteFault → O.failed writer.new ≡ true }
-    ensures written { result ≢ Ending.WriteFault → O.failed writer.new ≡ false }
+    ensures fails { O.failed writer.new ≡ is_write_fault result }
 {
     let limits = limits_of(threads, Roots::Free);
     let answer = check(alloc, reader, writer, limits, TURNS);
@@ -69,65 +68,68 @@ fn run_replay<I: Input, O: Output>(
     ensures short { result ≡ Ending.ReadFault → (I.failed reader.new ≡ true)
         ⊎ IfSome (I.left reader.old) (λ text. 17592186044416 ≤ length text) }
     ensures read { (result ≡ Ending.Done) ⊎ (result ≡ Ending.Races) → I.failed reader.new ≡ false }
-    ensures write_fault { result ≡ Ending.WriteFault → O.failed writer.new ≡ true }
-    ensures written { result ≢ Ending.WriteFault → O.failed writer.new ≡ false }
+    ensures fails { O.failed writer.new ≡ is_write_fault result }
 {
     let limits = limits_of(threads, Roots::Free);
     let answer = replay(alloc, reader, writer, limits, TURNS);
     ending_of_replay(&answer)
 }
 
-/// Does what the settings ask for. The answer is the exit status.
-fn run<R: AllocGlobal + Files + Threads + Wait + Sync, I: Input, O: Output, E: Output>(
+/// Does what the settings ask for.
+fn run<R: AllocGlobal + Files + Threads + Wait + Sync, I: Input, O: Output>(
     rt: &R,
-    settings: &Settings,
+    settings: Settings,
     reader: &mut I,
     writer: &mut O,
-    errors: &mut E,
-) -> u8
-    requires threads { (1 ≤ settings.now.threads) × (settings.now.threads ≤ 1024) }
-    requires patience { (1 ≤ settings.now.patience) × (settings.now.patience ≤ 4294967295) }
+) -> Ending
+    requires threads { (1 ≤ settings.threads) × (settings.threads ≤ 1024) }
     requires reads { I.failed reader.old ≡ false }
     requires writes { O.failed writer.old ≡ false }
-    ensures performs { IsUnhindered result → Performs (request_of settings.now.command) settings.now.threads
-        (I.left reader.old) (O.written writer.old) (O.written writer.new) result }
-    ensures hindered { result ≡ 4 → (O.failed writer.new ≡ true)
-        ⊎ IsCut (request_of settings.now.command) (I.left reader.old) (I.failed reader.new) }
-    ensures range { result ≤ 6 }
-    ensures usage { result ≢ 2 }
-    ensures quiet { result ≡ 5 → writer.new ≡ writer.old }
-    ensures devices { result ≡ 4 → (O.failed writer.new ≡ true) ⊎ (writer.new ≡ writer.old) }
-    ensures read { (result ≡ 0) ⊎ (result ≡ 1) → I.failed reader.new ≡ false }
-    ensures written { result ≢ 4 → O.failed writer.new ≡ false }
+    ensures performs { result ≢ Ending.ReadFault → result ≢ Ending.WriteFault → result ≢ Ending.OutOfMemory
+        → Performs (request_of settings.command) settings.threads (I.left reader.old)
+        (O.written writer.old) (O.written writer.new) (status_of result) }
+    ensures usage { result ≢ Ending.WrongUsage }
+    ensures quiet { (result ≡ Ending.ReadFault) ⊎ (result ≡ Ending.OutOfMemory) → writer.new ≡ writer.old }
+    ensures short { result ≡ Ending.ReadFault
+        → IsCut (request_of settings.command) (I.left reader.old) (I.failed reader.new) }
+    ensures read { (result ≡ Ending.Done) ⊎ (result ≡ Ending.Races) → I.failed reader.new ≡ false }
+    ensures fails { O.failed writer.new ≡ is_write_fault result }
 {
-    match &settings.command {
-        Command::Check => {
-            let ending = run_check(rt.alloc(), settings.threads, reader, writer);
-            finish(ending, errors)
+    let Settings {
+        command,
+        threads,
+        patience,
+    } = settings;
+    match command {
+        Command::Check => run_check(rt.alloc(), threads, reader, writer),
+        Command::Replay => run_replay(rt.alloc(), threads, reader, writer),
+        Command::Run(path) => {
+            let ending = run_file(rt, path.as_str(), writer, threads, patience);
+            drop(path);
+            ending
         }
-        Command::Replay => {
-            let ending = run_replay(rt.alloc(), settings.threads, reader, writer);
-            finish(ending, errors)
-        }
-        Command::Run(path) => run_file(rt, path.as_str(), writer, errors, settings),
     }
 }
 
 /// Answers words that ask for no run: with help on standard output, or with what is wrong on standard error.
-fn explain<O: Output, E: Output>(fault: &UsageFault, writer: &mut O, errors: &mut E) -> Ending
+fn explain<O: Output, E: Output>(fault: UsageFault, writer: &mut O, errors: &mut E) -> Ending
     requires { O.failed writer.old ≡ false }
-    ensures ends { EndsAs fault.now result }
+    ensures ends { EndsAs fault result }
     ensures quiet { (result ≡ Ending.WrongUsage) ⊎ (result ≡ Ending.OutOfMemory) → writer.new ≡ writer.old }
-    ensures write_fault { result ≡ Ending.WriteFault → O.failed writer.new ≡ true }
-    ensures written { result ≢ Ending.WriteFault → O.failed writer.new ≡ false }
+    ensures fails { O.failed writer.new ≡ is_write_fault result }
 {
     match fault {
-        UsageFault::Help(text) => match write_all(writer, text.as_str().as_bytes()) {
-            Ok(()) => Ending::Done,
-            Err(_) => Ending::WriteFault,
-        },
+        UsageFault::Help(text) => {
+            let written = write_all(writer, text.as_str().as_bytes());
+            drop(text);
+            match written {
+                Ok(()) => Ending::Done,
+                Err(_) => Ending::WriteFault,
+            }
+        }
         UsageFault::Usage(text) => {
             let _ = write_all(errors, text.as_str().as_bytes());
+            drop(text);
             Ending::WrongUsage
         }
         UsageFault::OutOfMemory => Ending::OutOfMemory,
@@ -167,33 +169,34 @@ pub fn tool<
 {
     match settings(rt.alloc(), words) {
         Ok(settings) => {
-            let status = run(rt, &settings, reader, writer, errors);
-            drop(settings);
-            status
+            let ending = run(rt, settings, reader, writer);
+            finish(ending, errors)
         }
         Err(fault) => {
-            let ending = explain(&fault, writer, errors);
-            drop(fault);
+            let ending = explain(fault, writer, errors);
             finish(ending, errors)
         }
     }
 }
 
-/// The words that the process was started with, but for the program's own name.
-fn words<R: Env + AllocGlobal>(rt: &R) -> Result<Vec<String>, UsageFault>
-    ensures { IfErr result (λ f. is_help f ≡ false) }
+/// The words that the process was started with, but for the program's own name. Where they cannot be had, one
+/// is no text, which is told, or memory ran out.
+fn words<R: Env + AllocGlobal, E: Output>(rt: &R, errors: &mut E) -> Result<Vec<String>, Ending>
+    ensures { IfErr result (λ e. (e ≡ Ending.WrongUsage) ⊎ (e ≡ Ending.OutOfMemory)) }
 {
-    let all = match env::args(rt) {
+    let mut all = match env::args(rt) {
         Ok(all) => all,
         Err(error) if error.kind() == ErrorKind::InvalidData => {
-            let text = String::from_str(rt.alloc(), "error: an argument is not UTF-8 text\n");
-            return Err(text.map_or(UsageFault::OutOfMemory, UsageFault::Usage));
+            let _ = write_all(errors, b"error: an argument is not UTF-8 text\n");
+            return Err(Ending::WrongUsage);
         }
-        Err(_) => return Err(UsageFault::OutOfMemory),
+        Err(_) => return Err(Ending::OutOfMemory),
     };
-    all.skip(1)
-        .collect(rt.alloc())
-        .map_err(|_| UsageFault::OutOfMemory)
+    drop(all.next());
+    match all.collect(rt.alloc()) {
+        Ok(words) => Ok(words),
+        Err(_) => Err(Ending::OutOfMemory),
+    }
 }
 
 /// The program over the words that the process was started with. No contract tells those words, so that of
@@ -222,16 +225,12 @@ pub fn program<
     // With any status but 4 all was written that there was to write.
     ensures written { result ≢ 4 → O.failed writer.new ≡ false }
 {
-    match words(rt) {
+    match words(rt, errors) {
         Ok(words) => {
             let status = tool(rt, words.as_slice(), reader, writer, errors);
             drop(words);
             status
         }
-        Err(fault) => {
-            let ending = explain(&fault, writer, errors);
-            drop(fault);
-            finish(ending, errors)
-        }
+        Err(ending) => finish(ending, errors),
     }
 }

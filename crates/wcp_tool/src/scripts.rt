@@ -5,7 +5,7 @@ ghost use Rattle.rapid_text.specs.Faults.{fault_line};
 ghost use Rattle.script_text.specs.declared.causes.ScriptFault.{ScriptFault as Why};
 ghost use Rattle.script_text.specs.Faults.{cause_word};
 ghost use Rattle.script_text.specs.Scripts.{script_of};
-ghost use Rattle.wcp_tool.specs.Endings.{status_of};
+ghost use Rattle.wcp_tool.specs.Endings.{is_write_fault, status_of};
 ghost use Rattle.wcp_tool.specs.Running.{IsCutShort, PerformsRun, Reports, limits_with};
 ghost use Rattle.trace_report.specs.Reports.{AreNamed};
 ghost use Rattle.wcp_tool.specs.ScriptRuns.{BreaksText, LacksNames, NamesStop, Ran, RefusesText, ReportsLog};
@@ -34,8 +34,7 @@ fn tell<O: Output>(writer: &mut O, line: u64, word: &str, ending: Ending) -> End
     ensures ends { (result ≡ ending) ⊎ (result ≡ Ending.WriteFault) }
     ensures told { result ≢ Ending.WriteFault
         → Appends (O.written writer.old) (O.written writer.new) (fault_line line word.now) }
-    ensures write_fault { result ≡ Ending.WriteFault → O.failed writer.new ≡ true }
-    ensures written { result ≢ Ending.WriteFault → O.failed writer.new ≡ false }
+    ensures fails { O.failed writer.new ≡ is_write_fault result }
 {
     match write_fault_line(writer, line, word) {
         Ok(()) => ending,
@@ -58,8 +57,7 @@ fn explain_script<O: Output>(writer: &mut O, fault: &ScriptFault) -> Ending
     ensures ran { (result ≢ Ending.Done) × (result ≢ Ending.Races) }
     ensures usage { result ≢ Ending.WrongUsage }
     ensures quiet { (result ≡ Ending.ReadFault) ⊎ (result ≡ Ending.OutOfMemory) → writer.new ≡ writer.old }
-    ensures write_fault { result ≡ Ending.WriteFault → O.failed writer.new ≡ true }
-    ensures written { result ≢ Ending.WriteFault → O.failed writer.new ≡ false }
+    ensures fails { O.failed writer.new ≡ is_write_fault result }
 {
     match fault.cause {
         ScriptCause::Read => Ending::ReadFault,
@@ -79,8 +77,7 @@ fn explain_drive<O: Output>(writer: &mut O, fault: &DriveFault) -> Ending
     ensures usage { result ≢ Ending.WrongUsage }
     ensures whole { result ≢ Ending.ReadFault }
     ensures quiet { result ≡ Ending.OutOfMemory → writer.new ≡ writer.old }
-    ensures write_fault { result ≡ Ending.WriteFault → O.failed writer.new ≡ true }
-    ensures written { result ≢ Ending.WriteFault → O.failed writer.new ≡ false }
+    ensures fails { O.failed writer.new ≡ is_write_fault result }
 {
     match fault {
         DriveFault::Stuck { line, .. } => tell(writer, *line, "Stuck", Ending::BrokenScript),
@@ -102,8 +99,7 @@ fn report_closed<O: Output>(writer: &mut O, closed: &Closed, names: &Names) -> E
     ensures broken { result ≡ Ending.BrokenScript
         → (AreNamed names.now closed.now.log → ⊥) × (writer.new ≡ writer.old) }
     ensures quiet { (result ≢ Ending.ReadFault) × (result ≢ Ending.OutOfMemory) }
-    ensures write_fault { result ≡ Ending.WriteFault → O.failed writer.new ≡ true }
-    ensures written { result ≢ Ending.WriteFault → O.failed writer.new ≡ false }
+    ensures fails { O.failed writer.new ≡ is_write_fault result }
 {
     match closed_report::report_closed(writer, closed, names) {
         Ok(summary) => summary_ending(&summary),
@@ -133,8 +129,7 @@ fn run_threads<R: AllocGlobal + Threads + Wait + Sync, O: Output>(
     ensures usage { result ≢ Ending.WrongUsage }
     ensures whole { result ≢ Ending.ReadFault }
     ensures quiet { result ≡ Ending.OutOfMemory → writer.new ≡ writer.old }
-    ensures write_fault { result ≡ Ending.WriteFault → O.failed writer.new ≡ true }
-    ensures written { result ≢ Ending.WriteFault → O.failed writer.new ≡ false }
+    ensures fails { O.failed writer.new ≡ is_write_fault result }
 {
     match drive(rt, rt.alloc(), script, limits, &FreeGate, patience) {
         Ok(closed) => {
@@ -151,34 +146,34 @@ fn run_lines<R: AllocGlobal + Threads + Wait + Sync, I: Input, O: Output>(
     rt: &R,
     script: &mut I,
     writer: &mut O,
-    settings: &Settings,
+    threads: u32,
+    patience: u32,
 ) -> Ending
-    requires threads { (1 ≤ settings.now.threads) × (settings.now.threads ≤ 1024) }
+    requires threads { (1 ≤ threads) × (threads ≤ 1024) }
     requires reads { I.failed script.old ≡ false }
     requires writes { O.failed writer.old ≡ false }
     ensures ran { (result ≡ Ending.Done) ⊎ (result ≡ Ending.Races)
-        → RunsText (limits_with settings.now.threads OnlyMain) (I.left script.old) (O.written writer.old)
+        → RunsText (limits_with threads OnlyMain) (I.left script.old) (O.written writer.old)
         (O.written writer.new) (status_of result) }
     ensures refused { result ≡ Ending.Refused
-        → RefusesText (limits_with settings.now.threads OnlyMain) (I.left script.old) (O.written writer.old)
+        → RefusesText (limits_with threads OnlyMain) (I.left script.old) (O.written writer.old)
         (O.written writer.new) }
     ensures broken { result ≡ Ending.BrokenScript
-        → BreaksText (limits_with settings.now.threads OnlyMain) (I.left script.old) (O.written writer.old)
+        → BreaksText (limits_with threads OnlyMain) (I.left script.old) (O.written writer.old)
         (O.written writer.new) }
     ensures fault { IfSome (I.left script.old) (λ text. (f : Why)
-        → script_of (limits_with settings.now.threads OnlyMain) text ≡ Err f
+        → script_of (limits_with threads OnlyMain) text ≡ Err f
         → TellsFault f (O.written writer.old) (O.written writer.new) (status_of result)) }
     ensures usage { result ≢ Ending.WrongUsage }
     ensures cut { result ≡ Ending.ReadFault → IsCutShort (I.left script.old) (I.failed script.new) }
     ensures read { (result ≡ Ending.Done) ⊎ (result ≡ Ending.Races) → I.failed script.new ≡ false }
     ensures quiet { (result ≡ Ending.ReadFault) ⊎ (result ≡ Ending.OutOfMemory) → writer.new ≡ writer.old }
-    ensures write_fault { result ≡ Ending.WriteFault → O.failed writer.new ≡ true }
-    ensures written { result ≢ Ending.WriteFault → O.failed writer.new ≡ false }
+    ensures fails { O.failed writer.new ≡ is_write_fault result }
 {
-    let limits = limits_of(settings.threads, Roots::OnlyMain);
+    let limits = limits_of(threads, Roots::OnlyMain);
     match Script::read(rt.alloc(), script, limits, TURNS) {
         Ok(script) => {
-            let ending = run_threads(rt, &script, &limits, settings.patience, writer);
+            let ending = run_threads(rt, &script, &limits, patience, writer);
             drop(script);
             ending
         }
@@ -236,30 +231,28 @@ pub fn run_script<R: AllocGlobal + Threads + Wait + Sync, I: Input, O: Output, E
     ensures read { (result ≡ 0) ⊎ (result ≡ 1) → I.failed script.new ≡ false }
     ensures written { result ≢ 4 → O.failed writer.new ≡ false }
 {
-    finish(run_lines(rt, script, writer, settings), errors)
+    let ending = run_lines(rt, script, writer, settings.threads, settings.patience);
+    finish(ending, errors)
 }
 
 /// The command `run` over the path of the script. What the file held is not known to a contract.
-pub(crate) fn run_file<R: AllocGlobal + Files + Threads + Wait + Sync, O: Output, E: Output>(
+pub(crate) fn run_file<R: AllocGlobal + Files + Threads + Wait + Sync, O: Output>(
     rt: &R,
     path: &str,
     writer: &mut O,
-    errors: &mut E,
-    settings: &Settings,
-) -> u8
-    requires threads { (1 ≤ settings.now.threads) × (settings.now.threads ≤ 1024) }
-    requires patience { (1 ≤ settings.now.patience) × (settings.now.patience ≤ 4294967295) }
+    threads: u32,
+    patience: u32,
+) -> Ending
+    requires threads { (1 ≤ threads) × (threads ≤ 1024) }
     requires writes { O.failed writer.old ≡ false }
-    ensures performs { PerformsRun (limits_with settings.now.threads OnlyMain) (O.written writer.old)
-        (O.written writer.new) result }
-    ensures range { result ≤ 6 }
-    ensures usage { result ≢ 2 }
-    ensures quiet { result ≡ 5 → writer.new ≡ writer.old }
-    ensures devices { result ≡ 4 → (O.failed writer.new ≡ true) ⊎ (writer.new ≡ writer.old) }
-    ensures written { result ≢ 4 → O.failed writer.new ≡ false }
+    ensures performs { PerformsRun (limits_with threads OnlyMain) (O.written writer.old)
+        (O.written writer.new) (status_of result) }
+    ensures usage { result ≢ Ending.WrongUsage }
+    ensures quiet { (result ≡ Ending.ReadFault) ⊎ (result ≡ Ending.OutOfMemory) → writer.new ≡ writer.old }
+    ensures fails { O.failed writer.new ≡ is_write_fault result }
 {
     let Ok(file) = fs::open(rt, path) else {
-        return finish(Ending::ReadFault, errors);
+        return Ending::ReadFault;
     };
-    run_script(rt, &mut Device::new(file), writer, errors, settings)
+    run_lines(rt, &mut Device::new(file), writer, threads, patience)
 }

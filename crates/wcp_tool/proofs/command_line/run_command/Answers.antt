@@ -9,7 +9,7 @@ both_false a b c is none neither = is ∙ ap₂ (λ (x y : Bool). x || y) none n
 
 pub returns-clause-local : goal.returns-clause-local
 returns-clause-local c =
-    let first = both_false _ _ _ c.in_ok-arg.ensures.globals c.bare_run.ensures.local
+    let first = both_false _ _ _ c.in_ok-arg.ensures.globals c.bare_command.ensures.local
     c.file_argument.ensures.local
     in
     let second = both_false _ _ _ c.in_ok-arg-2.ensures.globals first c.threads_option.ensures.local in
@@ -20,7 +20,7 @@ returns-clause-local c =
 pub returns-clause-shape : goal.returns-clause-shape
 returns-clause-shape c =
     let file = c.in_ok-arg.ensures.shape c.file_argument.ensures.local
-    ∙ ap₂ with_rule c.bare_run.ensures.app c.file_argument.ensures.rule in
+    ∙ ap₂ with_rule c.bare_command.ensures.app c.file_argument.ensures.rule in
     let threads = c.in_ok-arg-2.ensures.shape c.threads_option.ensures.local
     ∙ ap₂ with_rule file c.threads_option.ensures.rule in
     IfOk-weaker c.arg-3.result _ _

@@ -10,9 +10,9 @@ returns-then-ne-clause-asked c words taken met =
     let found = found_of c.command_met.result.1.now in
     let not_run : c.command_met.result.0.now ≡ codes "run" → ⊥ = search rules in
     trace_settings words c.command_met.result.0.now (rows_of found) c.command_of.result
-    c.threads_of-threads.result taken (sym c.command_met.ensures ∙ met) not_run
+    c.number_of-threads.result taken (sym c.command_met.ensures ∙ met) not_run
     (c.command_of.ensures.check, c.command_of.ensures.replay)
-    (λ t inside given. c.threads_of-threads.ensures.given t inside
+    (λ t inside given. c.number_of-threads.ensures.given t inside
     (one_text-rows found (codes "threads") ∙ given))
 
 pub returns-clause-asked : goal.returns-clause-asked
@@ -20,8 +20,8 @@ returns-clause-asked c words taken met =
     let found = found_of c.command_met.result.1.now in
     let is_run : c.command_met.result.0.now ≡ codes "run" = search rules in
     run_settings words c.command_met.result.0.now (rows_of found) (string_bytes c.in-Ok.file)
-    c.threads_of-threads.result c.patience_of.result taken (sym c.command_met.ensures ∙ met) is_run
+    c.number_of-threads.result c.number_of.result taken (sym c.command_met.ensures ∙ met) is_run
     (λ t given. c.in-Ok.ensures.ok ∙ c.file_of.ensures t given)
-    (λ t inside given. c.threads_of-threads.ensures.given t inside
+    (λ t inside given. c.number_of-threads.ensures.given t inside
     (one_text-rows found (codes "threads") ∙ given))
-    (λ t inside given. c.patience_of.ensures.given t inside (one_text-rows found (codes "patience") ∙ given))
+    (λ t inside given. c.number_of.ensures.given t inside (one_text-rows found (codes "patience") ∙ given))

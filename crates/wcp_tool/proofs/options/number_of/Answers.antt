@@ -11,11 +11,11 @@ returns-clause-given c t inside found =
     let one = c.get_one-given.ensures.value (without_minus t) found in
     let got = signed_reads _
     (λ bs r. ParsesUnsigned 32 10 bs r × ExplainsUnsignedError 10 bs r × HasUnsignedDigitsIfOk bs r)
-    32 1 c.args.option.now.most t c.get_one-given.result one (λ u x g. g.0) (omega arith) inside in
+    32 1 c.args.most t c.get_one-given.result one (λ u x g. g.0) (omega arith) inside in
     let read = rw got.1 at one in
     let is : got.0 ≡ number_of (without_minus t) = read.0.1 in
     let given : c.unwrap_or.result ≡ got.0 =
-    c.unwrap_or.ensures ∙ ap (λ (o : Option ℕ). unwrap_or o c.args.option.now.default) got.1 in
+    c.unwrap_or.ensures ∙ ap (λ (o : Option ℕ). unwrap_or o c.args.default) got.1 in
     let low = got.2 in
     let high = got.3 in
     let same : c.clamp.result ≡ got.0 = omega (arith, c.clamp.ensures, given, low, high) in
