@@ -1,10 +1,9 @@
 //! The log that a script's threads leave: its events, written line by line with the names of the script.
 ghost use Rattle.std.specs.Prelude.{◌≡◌, true};
 ghost use Rattle.rapid_text.specs.Events.{HasNames};
-ghost use Rattle.event_core.specs.declared.bounds.Roots.TheVariants.{OnlyMain};
 
 use crate::doubles::{Page, Room, Text};
-use crate::runs::{Answer, REPLAY, Run, expect_printed};
+use crate::runs::{REPLAY, Run};
 use event_core::{Event, Limits, Roots, ThreadId};
 use live_monitor::Closed;
 use rapid_text::{Device, Kind, Names, parts_of, write_event};
@@ -59,15 +58,6 @@ const OVERLAP: Case = Case {
     report: "events 3 threads 2 locks 0 variables 2 races 0\n",
 };
 
-fn limits() -> Limits
-    ensures { result.roots ≡ OnlyMain }
-{
-    let Ok(limits) = Limits::new(2, 1, 2, 64, Roots::OnlyMain) else {
-        unreachable!()
-    };
-    limits
-}
-
 /// Whether the numbers of the event have names.
 fn is_named(names: &Names, event: &Event) -> bool
     ensures { result ≡ true → HasNames names.now event.now }
@@ -91,71 +81,39 @@ fn write_events(page: &mut Page, closed: &Closed, names: &Names) -> bool {
     true
 }
 
-/// Runs the script and writes its log: whether it is written. None where memory ran out, or a thread could
-/// not be started.
-fn write_run<G: Gate + Sync, R: AllocGlobal + Threads + Wait + Sync>(
-    rt: &R,
-    script: &Script,
-    gate: &G,
-    patience: u32,
-    page: &mut Page,
-) -> Option<bool> {
-    match drive(rt, rt.alloc(), script, &limits(), gate, patience) {
-        Ok(closed) => {
-            let is_written = write_events(page, &closed, script.names());
-            drop(closed);
-            Some(is_written)
-        }
-        Err(DriveFault::OutOfMemory | DriveFault::NoWorker { .. }) => None,
-        Err(_) => Some(false),
-    }
-}
-
-/// Reads the script, runs it, and writes its log.
+/// Reads the script, runs it, and writes its log: whether it is written. None where memory ran out, or a
+/// thread could not be started.
 fn write_log<G: Gate + Sync, R: AllocGlobal + Threads + Wait + Sync>(
     rt: &R,
     case: &Case,
     gate: &G,
     page: &mut Page,
 ) -> Option<bool> {
+    let limits = Limits::new(2, 1, 2, 64, Roots::OnlyMain).ok()?;
     let mut reader = Device::new(case.script.as_bytes());
-    let script = Script::read(rt.alloc(), &mut reader, limits(), 100).ok()?;
-    let is_written = write_run(rt, &script, gate, case.patience, page);
-    drop(script);
-    is_written
-}
-
-/// And once more where memory ran out, or a thread could not be started.
-fn write_again<G: Gate + Sync, R: AllocGlobal + Threads + Wait + Sync>(
-    rt: &R,
-    case: &Case,
-    gate: &G,
-    page: &mut Page,
-) -> Option<bool> {
-    let is_written = write_log(rt, case, gate, page);
-    if is_written.is_some() {
-        return is_written;
+    let script = Script::read(rt.alloc(), &mut reader, limits, 100).ok()?;
+    match drive(rt, rt.alloc(), &script, &limits, gate, case.patience) {
+        Ok(closed) => Some(write_events(page, &closed, script.names())),
+        Err(DriveFault::OutOfMemory | DriveFault::NoWorker { .. }) => None,
+        Err(_) => Some(false),
     }
-    write_log(rt, case, gate, page)
 }
 
-/// The log is written, and its lines are known ones.
-fn expect_known(rt: &impl Abort, case: &Case, is_written: Option<bool>, log: &[u8]) {
-    let is_known = is_written == Some(true) && case.logs.contains(&log);
-    assert!(rt; is_known, "{}: {log:?}", case.script);
-}
-
-/// The lines of the log are known ones, and a replay of them prints the report.
+/// The log is written, its lines are known ones, and a replay of them prints the report.
 fn expect_log<G: Gate + Sync, R: Abort + AllocGlobal + Files + Threads + Wait + Sync>(
     rt: &R,
     case: &Case,
     gate: &G,
 ) {
     let mut page = Page::blank(rt.alloc(), Room::AMPLE);
-    let is_written = write_again(rt, case, gate, &mut page);
-    expect_known(rt, case, is_written, &page.bytes);
-    expect_printed(rt, REPLAY, case.script, &page.bytes, case.report, 0);
-    drop(page);
+    let mut is_written = write_log(rt, case, gate, &mut page);
+    if is_written.is_none() {
+        is_written = write_log(rt, case, gate, &mut page);
+    }
+    let log = page.bytes.as_slice();
+    let is_known = is_written == Some(true) && case.logs.contains(&log);
+    assert!(rt; is_known, "{}: {log:?}", case.script);
+    Run::of(REPLAY, Text::whole(log)).prints(rt, case.report, 0);
 }
 
 /// And so does a run of the script.
@@ -164,7 +122,7 @@ fn a_closed_log_is_replayed_to_the_report_of_its_script(rt: HostRuntime) {
     for case in CASES {
         expect_log(&rt, case, &FreeGate);
         let run = Run::script(Text::whole(case.script.as_bytes()));
-        run.expect(&rt, case.script, &Answer::printed(case.report, 0));
+        run.prints(&rt, case.report, 0);
     }
 }
 

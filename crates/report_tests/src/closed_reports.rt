@@ -1,6 +1,5 @@
 //! Reports of closed monitors, with names by lists.
 ghost use Rattle.std.specs.Prelude.{◌≡◌};
-ghost use Rattle.event_core.specs.declared.bounds.Roots.TheVariants.{OnlyMain};
 
 use crate::doubles::{Page, Room};
 use closed_report::{NameLists, NamingFault, ReportFault, names_of, report_closed};
@@ -89,15 +88,6 @@ const FAULTS: &[(NameLists<'static>, NamingFault, &str)] = &[
     ),
 ];
 
-fn limits() -> Limits
-    ensures { result.roots ≡ OnlyMain }
-{
-    let Ok(limits) = Limits::new(2, 1, 1, 16, Roots::OnlyMain) else {
-        unreachable!()
-    };
-    limits
-}
-
 /// Two threads swap, and neither waits for the other.
 fn swap_both<N: Name, R: Wait>(rt: &R, main: &mut TracedThread<N>) -> Result<(), Refusal> {
     let (mut child, _) = main.fork(rt, ThreadId(1), SiteId(0))?;
@@ -131,8 +121,9 @@ fn reported<R: Wait>(
     lists: &NameLists<'static>,
     page: &mut Page,
 ) -> Option<Result<u64, ReportFault>> {
-    let names = names_of(alloc, limits(), lists).ok()?;
-    let unnamed = Unnamed::new(alloc, limits()).ok()?;
+    let limits = Limits::new(2, 1, 1, 16, Roots::OnlyMain).ok()?;
+    let names = names_of(alloc, limits, lists).ok()?;
+    let unnamed = Unnamed::new(alloc, limits).ok()?;
     let (closed, made) = run::<Brand, _>(rt, unnamed, has_swaps);
     let answer = report_closed(page, &closed, &names);
     drop(closed);
@@ -193,12 +184,13 @@ fn a_report_that_is_not_taken_is_told(rt: HostRuntime) {
 }
 
 /// What is wrong with the lists.
-fn naming(alloc: Global, lists: &NameLists<'static>) -> Result<(), NamingFault> {
-    let answer = names_of(alloc, limits(), lists).map(drop);
-    if answer == Err(NamingFault::OutOfMemory) {
-        return names_of(alloc, limits(), lists).map(drop);
+fn naming(alloc: Global, lists: &NameLists<'static>) -> Option<NamingFault> {
+    let limits = Limits::new(2, 1, 1, 16, Roots::OnlyMain).ok()?;
+    let fault = names_of(alloc, limits, lists).err();
+    if fault == Some(NamingFault::OutOfMemory) {
+        return names_of(alloc, limits, lists).err();
     }
-    answer
+    fault
 }
 
 fn says(fault: NamingFault, said: &str) -> bool {
@@ -209,7 +201,7 @@ fn says(fault: NamingFault, said: &str) -> bool {
 #[test]
 fn lists_that_are_no_names_are_told_with_their_place(rt: HostRuntime) {
     for (lists, fault, said) in FAULTS {
-        assert!(&rt; naming(rt.alloc(), lists) == Err(*fault));
+        assert!(&rt; naming(rt.alloc(), lists) == Some(*fault));
         assert!(&rt; says(*fault, said));
     }
 }

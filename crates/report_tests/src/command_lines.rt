@@ -127,15 +127,6 @@ const WRONG: &[(&[&str], &str)] = &[
     (&["replay", "--patience", "1"], "'--patience'"),
 ];
 
-/// The command that the words ask for, and its options.
-fn taken(alloc: Global, words: &[&str]) -> Result<(String, (u32, u32)), Fail> {
-    let got = settings(alloc, words)?;
-    let options = (got.threads, got.patience);
-    let command = format!(in alloc; "{:?}", got.command);
-    drop(got);
-    Ok((command?, options))
-}
-
 /// The words ask for this command, with these options.
 fn expect_taken(
     rt: &impl Abort,
@@ -144,7 +135,11 @@ fn expect_taken(
     command: &str,
     options: (u32, u32),
 ) -> Result<(), Fail> {
-    let (met, met_options) = taken(alloc, words)?;
+    let got = settings(alloc, words)?;
+    let met_options = (got.threads, got.patience);
+    let met = format!(in alloc; "{:?}", got.command);
+    drop(got);
+    let met = met?;
     let is_taken = met.as_str() == command && met_options == options;
     assert!(rt; is_taken, "{words:?}: {met}, {met_options:?}");
     drop(met);

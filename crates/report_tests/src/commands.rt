@@ -1,6 +1,4 @@
 //! What a check and a replay answer, and what they write, of a text that comes in so many reads.
-ghost use Rattle.std.specs.Prelude.{◌≡◌, false};
-
 use crate::doubles::{Page, Pieces, Room, Text};
 use crate::fed::is_short;
 use event_core::{Limits, Roots};
@@ -15,25 +13,6 @@ pub enum Command {
 }
 
 impl Command {
-    /// The fault of the text. The page has what was written.
-    fn fault(
-        self,
-        alloc: Global,
-        limits: Limits,
-        text: Text<'_>,
-        turns: u32,
-        page: &mut Page,
-    ) -> Option<ReplayFault>
-        requires { page.old.failed ≡ false }
-    {
-        let mut reader = Pieces::of(text);
-        let turns = u64::from(turns);
-        match self {
-            Command::Check => check(alloc, &mut reader, page, limits, turns).err(),
-            Command::Replay => replay(alloc, &mut reader, page, limits, turns).err(),
-        }
-    }
-
     fn ends_once(
         self,
         alloc: Global,
@@ -43,7 +22,12 @@ impl Command {
     ) -> Option<(Option<ReplayFault>, bool)> {
         let limits = Limits::new(2, 1, 2, 64, Roots::Free).ok()?;
         let mut page = Page::blank(alloc, Room::AMPLE);
-        let fault = self.fault(alloc, limits, text, turns, &mut page);
+        let mut reader = Pieces::of(text);
+        let turns = u64::from(turns);
+        let fault = match self {
+            Command::Check => check(alloc, &mut reader, &mut page, limits, turns).err(),
+            Command::Replay => replay(alloc, &mut reader, &mut page, limits, turns).err(),
+        };
         let is_written = page.bytes.as_slice() == output.as_bytes();
         drop(page);
         match fault {

@@ -1,6 +1,6 @@
 //! The events of a trace, written again as its lines.
-use crate::doubles::{Page, Room};
-use crate::runs::{REPLAY, expect_printed};
+use crate::doubles::{Page, Room, Text};
+use crate::runs::{REPLAY, Run};
 use crate::traces::legal;
 use event_core::{Limits, Roots};
 use rapid_text::{Device, Reader, write_event};
@@ -18,36 +18,24 @@ fn copy_next(reader: &mut Reader<Device<&[u8]>>, page: &mut Page) -> Result<bool
     }
 }
 
-fn copy_all(reader: &mut Reader<Device<&[u8]>>, page: &mut Page) -> Result<(), Fail> {
+/// Writes the lines of the text's events.
+fn copy(alloc: Global, text: &[u8], page: &mut Page) -> Result<(), Fail> {
+    let limits = Limits::new(8, 8, 8, 64, Roots::Free)?;
+    let mut reader = Reader::new(alloc, Device::new(text), limits, 100)?;
     for _ in 0..100 {
-        if !copy_next(reader, page)? {
+        if !copy_next(&mut reader, page)? {
             break;
         }
     }
     Ok(())
 }
 
-/// Writes the lines of the text's events.
-fn copy(alloc: Global, text: &[u8], page: &mut Page) -> Result<(), Fail> {
-    let limits = Limits::new(8, 8, 8, 64, Roots::Free)?;
-    let mut reader = Reader::new(alloc, Device::new(text), limits, 100)?;
-    let copied = copy_all(&mut reader, page);
-    drop(reader);
-    copied
-}
-
-/// The lines of the text's events.
-fn copy_of(alloc: Global, text: &[u8]) -> Result<Vec<u8>, Fail> {
-    let mut page = Page::blank(alloc, Room::AMPLE);
-    copy(alloc, text, &mut page)?;
-    Ok(page.bytes)
-}
-
 #[test]
 fn a_copy_of_a_trace_has_the_same_report(rt: HostRuntime) -> Result<(), Fail> {
-    for (name, text, _, report, status) in legal() {
-        let copied = copy_of(rt.alloc(), text.as_bytes())?;
-        expect_printed(&rt, REPLAY, name, &copied, report, *status);
+    for (_, text, _, report, status) in legal() {
+        let mut page = Page::blank(rt.alloc(), Room::AMPLE);
+        copy(rt.alloc(), text.as_bytes(), &mut page)?;
+        Run::of(REPLAY, Text::whole(&page.bytes)).prints(&rt, report, *status);
     }
     Ok(())
 }

@@ -29,28 +29,22 @@ impl Read for Broken<'_> {
     }
 }
 
-/// What a writer does that takes no more.
-#[derive(Clone, Copy)]
-enum Full {
-    Fails,
-    TakesNothing,
-}
-
-/// Takes a byte a write, for so many writes. It looks whether the bytes are those that are wanted.
+/// Takes a byte a write, for so many writes, and then it fails or takes nothing. It looks whether the bytes
+/// are those that are wanted.
 #[derive(Clone, Copy)]
 struct Narrow<'a> {
     wanted: &'a [u8],
     writes: usize,
-    full: Full,
+    fails: bool,
     is_wanted: bool,
 }
 
 impl<'a> Narrow<'a> {
-    fn of(wanted: &'a str, writes: usize, full: Full) -> Narrow<'a> {
+    fn of(wanted: &'a str, writes: usize, fails: bool) -> Narrow<'a> {
         Narrow {
             wanted: wanted.as_bytes(),
             writes,
-            full,
+            fails,
             is_wanted: true,
         }
     }
@@ -59,7 +53,7 @@ impl<'a> Narrow<'a> {
 impl Write for Narrow<'_> {
     fn write(&mut self, bytes: &[u8]) -> io::Result<usize> {
         let n = bytes.len().min(self.writes).min(1);
-        if n == 0 && matches!(self.full, Full::Fails) {
+        if n == 0 && self.fails {
             return Err(ErrorKind::Other.into());
         }
         let (next, rest) = self.wanted.split_at(n.min(self.wanted.len()));
@@ -132,7 +126,7 @@ fn a_device_tells_of_a_reader_that_fails(rt: HostRuntime) {
                 text: text.as_bytes(),
                 fails: true,
             };
-            let writer = Narrow::of(output, output.len(), Full::Fails);
+            let writer = Narrow::of(output, output.len(), true);
             expect_end(&rt, words, reader, writer, errors, *status);
         }
     }
@@ -163,31 +157,20 @@ const PRINTED: &[(&[&str], &str, &str, u8)] = &[
 ];
 
 /// Whichever write fails or takes no byte, the status says so, until none does.
-fn expect_each_write<R: Abort + AllocGlobal + Files + Threads + Wait + Sync>(
-    rt: &R,
-    words: &[&str],
-    text: &str,
-    output: &str,
-    status: u8,
-    full: Full,
-) {
-    let reader = Broken {
-        text: text.as_bytes(),
-        fails: false,
-    };
-    for writes in 0..output.len() {
-        let writer = Narrow::of(output, writes, full);
-        expect_end(rt, words, reader, writer, "write fault\n", 4);
-    }
-    let writer = Narrow::of(output, output.len(), full);
-    expect_end(rt, words, reader, writer, "", status);
-}
-
 #[test]
 fn a_device_tells_of_a_writer_that_takes_no_more(rt: HostRuntime) {
-    for full in [Full::Fails, Full::TakesNothing] {
+    for fails in [true, false] {
         for (words, text, output, status) in PRINTED {
-            expect_each_write(&rt, words, text, output, *status, full);
+            let reader = Broken {
+                text: text.as_bytes(),
+                fails: false,
+            };
+            for writes in 0..output.len() {
+                let writer = Narrow::of(output, writes, fails);
+                expect_end(&rt, words, reader, writer, "write fault\n", 4);
+            }
+            let writer = Narrow::of(output, output.len(), fails);
+            expect_end(&rt, words, reader, writer, "", *status);
         }
     }
 }

@@ -28,10 +28,12 @@ impl<'a> Text<'a> {
         Text::cut(bytes, usize::MAX, usize::MAX)
     }
 
-    pub fn and_fails(self) -> Text<'a> {
-        Text {
-            fails: true,
-            ..self
+    /// The bytes one by one, cut in two after so many, or whole where there are no more.
+    pub fn however_cut(bytes: &'a [u8], cut: usize) -> Text<'a> {
+        if cut == 0 {
+            Text::cut(bytes, 1, 1)
+        } else {
+            Text::cut(bytes, cut, usize::MAX)
         }
     }
 }
@@ -136,7 +138,7 @@ impl Page {
 }
 
 /// Keeps the bytes too. What is refused once is asked for again.
-fn keep(kept: &mut Vec<u8>, bytes: &[u8]) -> Result<(), AllocError> {
+pub fn keep(kept: &mut Vec<u8>, bytes: &[u8]) -> Result<(), AllocError> {
     if kept.extend_from_slice(bytes).is_ok() {
         return Ok(());
     }

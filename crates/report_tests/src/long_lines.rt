@@ -1,14 +1,10 @@
 //! Names and lines of the greatest length, and longer ones, cut in two at each place.
 use crate::commands::Command;
-use crate::doubles::{Text, letters};
-use crate::fed::{Meal, Wanted, expect_however_fed};
-use crate::runs::{Answer, CHECK, REPLAY, Run};
+use crate::doubles::{Text, keep, letters};
+use crate::fed::expect_however_fed;
+use crate::runs::{CHECK, REPLAY, Run};
 use std::alloc::{AllocError, Global};
-use std::fs::Files;
-use std::process::Abort;
-use std::sync::Wait;
 use std::test::Fail;
-use std::thread::Threads;
 
 /// So many letters, and what follows them.
 type Part = (usize, &'static str);
@@ -134,92 +130,47 @@ fn cases() -> &'static [Case] {
     CASES
 }
 
-fn add_parts(text: &mut Vec<u8>, parts: &[Part]) -> Result<(), AllocError> {
-    for (count, rest) in parts {
-        text.extend_from_slice(letters(*count))?;
-        text.extend_from_slice(rest.as_bytes())?;
-    }
-    Ok(())
-}
-
-fn text_once(alloc: Global, parts: &[Part]) -> Result<Vec<u8>, AllocError> {
-    let mut text = Vec::new(alloc);
-    add_parts(&mut text, parts)?;
-    Ok(text)
-}
-
-/// The text of the parts. What is refused once is asked for again.
 fn text_of(alloc: Global, parts: &[Part]) -> Result<Vec<u8>, AllocError> {
-    match text_once(alloc, parts) {
-        Ok(text) => Ok(text),
-        Err(_) => text_once(alloc, parts),
+    let mut text = Vec::new(alloc);
+    for (count, rest) in parts {
+        keep(&mut text, letters(*count))?;
+        keep(&mut text, rest.as_bytes())?;
     }
-}
-
-impl Case {
-    fn text<'a>(&self, bytes: &'a [u8], first: usize, others: usize) -> Text<'a> {
-        Text {
-            fails: self.fails,
-            ..Text::cut(bytes, first, others)
-        }
-    }
-
-    /// The command writes this to standard output.
-    fn judge_by<R: Abort + AllocGlobal + Files + Threads + Wait + Sync>(
-        &self,
-        rt: &R,
-        words: &[&str],
-        text: Text<'_>,
-        output: &str,
-    ) {
-        let answer = Answer {
-            output: output.as_bytes(),
-            errors: self.errors,
-            status: self.status,
-        };
-        Run::of(words, text).expect(rt, output, &answer);
-    }
-
-    /// Both commands have their answer of the text in pieces of this size.
-    fn judge<R: Abort + AllocGlobal + Files + Threads + Wait + Sync>(
-        &self,
-        rt: &R,
-        bytes: &[u8],
-        most: usize,
-    ) {
-        let text = self.text(bytes, most, most);
-        self.judge_by(rt, CHECK, text, self.counts);
-        self.judge_by(rt, REPLAY, text, self.report);
-    }
-
-    /// A check comes to the same wherever the text is cut in two.
-    fn check_cut(&self, rt: &impl Abort, alloc: Global, bytes: &[u8]) {
-        for first in 1..bytes.len() {
-            let text = self.text(bytes, first, usize::MAX);
-            let is_checked = match Command::Check.ends(alloc, text, 100, self.counts) {
-                Some((fault, is_written)) => is_written && fault.is_none() == (self.status == 0),
-                None => false,
-            };
-            assert!(rt; is_checked, "{:?}, cut at {first}", self.counts);
-        }
-    }
+    Ok(text)
 }
 
 #[test]
 fn long_lines_are_judged_whole_and_byte_by_byte(rt: HostRuntime) -> Result<(), Fail> {
     for case in cases() {
-        let text = text_of(rt.alloc(), case.parts)?;
-        case.judge(&rt, &text, usize::MAX);
-        case.judge(&rt, &text, 1);
+        let bytes = text_of(rt.alloc(), case.parts)?;
+        for most in [usize::MAX, 1] {
+            let text = Text {
+                fails: case.fails,
+                ..Text::cut(&bytes, most, most)
+            };
+            Run::of(CHECK, text).expect(&rt, case.counts, case.errors, case.status);
+            Run::of(REPLAY, text).expect(&rt, case.report, case.errors, case.status);
+        }
     }
     Ok(())
 }
 
+/// A check comes to the same wherever the text is cut in two.
 #[test]
 fn long_lines_are_checked_wherever_they_are_cut(rt: HostRuntime) -> Result<(), Fail> {
     for case in cases() {
-        let text = text_of(rt.alloc(), case.parts)?;
-        case.check_cut(&rt, rt.alloc(), &text);
+        let bytes = text_of(rt.alloc(), case.parts)?;
+        for first in 1..bytes.len() {
+            let text = Text {
+                fails: case.fails,
+                ..Text::cut(&bytes, first, usize::MAX)
+            };
+            let is_checked = match Command::Check.ends(rt.alloc(), text, 100, case.counts) {
+                Some((fault, is_written)) => is_written && fault.is_none() == (case.status == 0),
+                None => false,
+            };
+            assert!(rt; is_checked, "{:?}, cut at {first}", case.counts);
+        }
     }
     Ok(())
 }
@@ -227,16 +178,15 @@ fn long_lines_are_checked_wherever_they_are_cut(rt: HostRuntime) -> Result<(), F
 #[test]
 fn long_lines_are_replayed_however_they_are_fed(rt: HostRuntime) -> Result<(), Fail> {
     for case in cases() {
-        let text = text_of(rt.alloc(), case.parts)?;
-        let meal = Meal {
-            text: &text,
-            fails: case.fails,
-        };
-        let wanted = Wanted {
-            output: case.report,
-            is_report: case.status == 0,
-        };
-        expect_however_fed(&rt, rt.alloc(), meal, wanted);
+        let bytes = text_of(rt.alloc(), case.parts)?;
+        expect_however_fed(
+            &rt,
+            rt.alloc(),
+            &bytes,
+            case.fails,
+            case.report,
+            case.status == 0,
+        );
     }
     Ok(())
 }

@@ -16,29 +16,22 @@ enum Feeding {
     ByBytes,
 }
 
-const LINE: &str = "T0|w(x)|1\r\n";
-
-/// Whether it takes what comes before the failed read, and nothing after it.
-fn takes_until_failed(replayer: &mut Replayer) -> bool {
-    let is_taken = replayer.feed(b"T0|w(x)|1") && replayer.feed(b"");
-    replayer.read_failed();
-    is_taken && !replayer.feed(b"\n")
-}
-
-/// Whether it takes all bytes.
-fn takes_bytes(replayer: &mut Replayer, bytes: &[u8]) -> bool {
-    for at in 0..bytes.len() {
-        if !replayer.feed(b"") || !replayer.feed(&bytes[at..at + 1]) {
-            return false;
-        }
-    }
-    true
-}
-
+/// Whether it takes what it is to take, and nothing after a failed read.
 fn takes(replayer: &mut Replayer, feeding: Feeding) -> bool {
     match feeding {
-        Feeding::Failing => takes_until_failed(replayer),
-        Feeding::ByBytes => takes_bytes(replayer, LINE.as_bytes()),
+        Feeding::Failing => {
+            let is_taken = replayer.feed(b"T0|w(x)|1") && replayer.feed(b"");
+            replayer.read_failed();
+            is_taken && !replayer.feed(b"\n")
+        }
+        Feeding::ByBytes => {
+            for byte in b"T0|w(x)|1\r\n" {
+                if !replayer.feed(b"") || !replayer.feed(&[*byte]) {
+                    return false;
+                }
+            }
+            true
+        }
     }
 }
 
@@ -54,20 +47,8 @@ fn replay_fed(
     Ok((is_taken, replayer.finish(page).err()))
 }
 
-/// Whether it takes what it is to take and writes this, and its fault.
-fn met_fed(
-    alloc: Global,
-    feeding: Feeding,
-    output: &str,
-) -> Result<(bool, Option<ReplayFault>), Fail> {
-    let mut page = Page::blank(alloc, Room::AMPLE);
-    let (is_taken, met) = replay_fed(alloc, feeding, &mut page)?;
-    let is_written = page.bytes.as_slice() == output.as_bytes();
-    drop(page);
-    Ok((is_taken && is_written, met))
-}
-
-/// The replayer comes to this. Where it is to have no fault, one is the error of the test.
+/// The replayer writes this and comes to the fault. Where it is to have no fault, one is the error of the
+/// test.
 fn expect_report(
     rt: &impl Abort,
     alloc: Global,
@@ -75,11 +56,14 @@ fn expect_report(
     fault: Option<ReplayFault>,
     output: &str,
 ) -> Result<(), Fail> {
-    let (is_whole, met) = met_fed(alloc, feeding, output)?;
+    let mut page = Page::blank(alloc, Room::AMPLE);
+    let (is_taken, met) = replay_fed(alloc, feeding, &mut page)?;
+    let is_written = page.bytes.as_slice() == output.as_bytes();
+    drop(page);
     if let (Some(met), None) = (met, fault) {
         return Err(met.into());
     }
-    assert!(rt; is_whole && met == fault, "{output}: {met:?}");
+    assert!(rt; is_taken && is_written && met == fault, "{output}: {met:?}");
     Ok(())
 }
 

@@ -31,35 +31,7 @@ pub struct Run<'a> {
     pub errors: Room,
 }
 
-/// What is written to standard output and to standard error, and the status.
-#[derive(Clone, Copy)]
-pub struct Answer<'a> {
-    pub output: &'a [u8],
-    pub errors: &'a str,
-    pub status: u8,
-}
-
-impl<'a> Answer<'a> {
-    /// Nothing is written to standard error.
-    pub fn printed(output: &'a str, status: u8) -> Answer<'a> {
-        Answer {
-            output: output.as_bytes(),
-            errors: "",
-            status,
-        }
-    }
-
-    /// Nothing is written to standard output.
-    pub fn told(errors: &'a str, status: u8) -> Answer<'a> {
-        Answer {
-            output: b"",
-            errors,
-            status,
-        }
-    }
-}
-
-/// What a run ended with and wrote.
+/// What a run ended with, and what it wrote to standard output and to standard error.
 #[derive(Drop)]
 pub struct Ran {
     pub status: u8,
@@ -73,11 +45,11 @@ impl Ran {
         self.status == 5 || self.output.ends_with(b": NoWorker\n")
     }
 
-    /// Whether this is the answer.
-    pub fn is(&self, answer: &Answer<'_>) -> bool {
-        self.output.as_slice() == answer.output
-            && self.errors.as_slice() == answer.errors.as_bytes()
-            && self.status == answer.status
+    /// Whether it wrote this and ended so.
+    pub fn is(&self, output: &str, errors: &str, status: u8) -> bool {
+        self.output.as_slice() == output.as_bytes()
+            && self.errors.as_slice() == errors.as_bytes()
+            && self.status == status
     }
 
     /// This holds of what was run.
@@ -115,23 +87,27 @@ fn script_status<R: AllocGlobal + Threads + Wait + Sync>(
 }
 
 impl<'a> Run<'a> {
-    fn with_room(program: Program<'a>, text: Text<'a>) -> Run<'a> {
+    /// A run of the program with room for all that is written.
+    pub fn of(words: &'a [&'a str], text: Text<'a>) -> Run<'a> {
         Run {
-            program,
+            program: Program::Words(words),
             text,
             output: Room::AMPLE,
             errors: Room::AMPLE,
         }
     }
 
-    /// A run of the program with room for all that is written.
-    pub fn of(words: &'a [&'a str], text: Text<'a>) -> Run<'a> {
-        Run::with_room(Program::Words(words), text)
-    }
-
     /// A run of a script with patience and room for all that is written.
     pub fn script(text: Text<'a>) -> Run<'a> {
-        Run::with_room(Program::Script(1000000), text)
+        Run {
+            program: Program::Script(1000000),
+            ..Run::of(&[], text)
+        }
+    }
+
+    /// The run with so much room for what it prints.
+    pub fn in_room(self, output: Room) -> Run<'a> {
+        Run { output, ..self }
     }
 
     pub fn ran<R: AllocGlobal + Files + Threads + Wait + Sync>(&self, rt: &R) -> Ran {
@@ -161,27 +137,26 @@ impl<'a> Run<'a> {
         self.ran(rt)
     }
 
-    /// The run comes to this answer.
+    /// The run writes this to standard output and to standard error, and ends with this status.
     pub fn expect<R: Abort + AllocGlobal + Files + Threads + Wait + Sync>(
         &self,
         rt: &R,
-        what: &str,
-        answer: &Answer<'_>,
+        output: &str,
+        errors: &str,
+        status: u8,
     ) {
         let ran = self.ran_again(rt);
-        let is_answer = ran.is(answer);
-        ran.held(rt, is_answer, what);
+        let is_so = ran.is(output, errors, status);
+        ran.held(rt, is_so, str::from_utf8(self.text.bytes).unwrap_or(output));
     }
-}
 
-/// The program prints this of the text.
-pub fn expect_printed<R: Abort + AllocGlobal + Files + Threads + Wait + Sync>(
-    rt: &R,
-    words: &[&str],
-    what: &str,
-    text: &[u8],
-    output: &str,
-    status: u8,
-) {
-    Run::of(words, Text::whole(text)).expect(rt, what, &Answer::printed(output, status));
+    /// The run prints this and tells of no error.
+    pub fn prints<R: Abort + AllocGlobal + Files + Threads + Wait + Sync>(
+        &self,
+        rt: &R,
+        output: &str,
+        status: u8,
+    ) {
+        self.expect(rt, output, "", status);
+    }
 }

@@ -1,12 +1,8 @@
 //! Scripts, and what a run of their threads prints.
 use crate::doubles::{Room, Text};
-use crate::runs::{Answer, Program, Ran, Run, expect_printed};
+use crate::runs::{Program, Ran, Run};
 use std::fs;
-use std::fs::Files;
-use std::process::Abort;
-use std::sync::Wait;
 use std::test::Fail;
-use std::thread::Threads;
 
 /// What the script is, its text, what a run of it prints, and the status with which it ends.
 type Case = (&'static str, &'static str, &'static str, u8);
@@ -107,9 +103,9 @@ const SCRIPTS: &[Case] = &[
 
 #[test]
 fn the_worked_scripts_have_their_answers(rt: HostRuntime) {
-    for (name, text, output, status) in SCRIPTS {
+    for (_, text, output, status) in SCRIPTS {
         let run = Run::script(Text::cut(text.as_bytes(), 5, 3));
-        run.expect(&rt, name, &Answer::printed(output, *status));
+        run.prints(&rt, output, *status);
     }
 }
 
@@ -122,11 +118,7 @@ fn a_line_is_given_up_as_soon_as_patience_says(rt: HostRuntime) {
             program: Program::Script(*patience),
             ..Run::script(Text::whole(b"m acq l\nm fork a\na acq l\n"))
         };
-        run.expect(
-            &rt,
-            "a stuck thread",
-            &Answer::printed("line 3: Stuck\n", 6),
-        );
+        run.prints(&rt, "line 3: Stuck\n", 6);
     }
 }
 
@@ -161,16 +153,12 @@ fn is_race(ran: &Ran) -> bool {
     }
 }
 
-fn expect_race<R: Abort + AllocGlobal + Files + Threads + Wait + Sync>(rt: &R) {
-    let ran = Run::script(Text::whole(RACE)).ran_again(rt);
-    let is_race = is_race(&ran);
-    ran.held(rt, is_race, "a race");
-}
-
 #[test]
 fn a_race_is_reported_whole_whatever_the_schedule(rt: HostRuntime) {
     for _ in 0..20 {
-        expect_race(&rt);
+        let ran = Run::script(Text::whole(RACE)).ran_again(&rt);
+        let is_race = is_race(&ran);
+        ran.held(&rt, is_race, "a race");
     }
 }
 
@@ -185,47 +173,26 @@ const FAILED: &[(&str, &str, &str, u8)] = &[
 #[test]
 fn the_lines_before_a_reader_failed_are_judged(rt: HostRuntime) {
     for (text, output, errors, status) in FAILED {
-        let answer = Answer {
-            output: output.as_bytes(),
-            errors,
-            status: *status,
+        let text = Text {
+            fails: true,
+            ..Text::whole(text.as_bytes())
         };
-        let run = Run::script(Text::whole(text.as_bytes()).and_fails());
-        run.expect(&rt, "a reader that fails", &answer);
-    }
-}
-
-/// A run of the script with so much room for what it prints.
-fn script_in(text: &[u8], output: Room) -> Run<'_> {
-    Run {
-        output,
-        ..Run::script(Text::whole(text))
+        Run::script(text).expect(&rt, output, errors, *status);
     }
 }
 
 /// Texts for which there is a report or a fault to write.
 const WRITING: &[&[u8]] = &[RACE, b"m rel l\n", b"m  r x\n"];
 
-fn is_write_fault(ran: &Ran) -> bool {
-    ran.status == 4 && ran.errors.as_slice() == b"write fault\n".as_slice()
-}
-
-fn expect_write_fault<R: Abort + AllocGlobal + Files + Threads + Wait + Sync>(
-    rt: &R,
-    text: &[u8],
-    puts: usize,
-) {
-    let ran = script_in(text, Room { most: 7, puts }).ran_again(rt);
-    let is_told = is_write_fault(&ran);
-    ran.held(rt, is_told, "a write that fails");
-}
-
 /// Whichever write fails, of a report or of a fault, the status says so.
 #[test]
 fn a_script_ends_with_status_4_where_a_write_fails(rt: HostRuntime) {
     for text in WRITING {
         for puts in 0..3 {
-            expect_write_fault(&rt, text, puts);
+            let run = Run::script(Text::whole(text)).in_room(Room { most: 7, puts });
+            let ran = run.ran_again(&rt);
+            let is_told = ran.status == 4 && ran.errors.as_slice() == b"write fault\n".as_slice();
+            ran.held(&rt, is_told, "a write that fails");
         }
     }
 }
@@ -240,15 +207,15 @@ const FAULTY: &[(&str, &str, u8)] = &[
 #[test]
 fn a_fault_line_of_a_script_is_written_in_one_piece(rt: HostRuntime) {
     for (text, output, status) in FAULTY {
-        let run = script_in(text.as_bytes(), Room::of_puts(1));
-        run.expect(&rt, "a fault line", &Answer::printed(output, *status));
+        let run = Run::script(Text::whole(text.as_bytes())).in_room(Room::of_puts(1));
+        run.prints(&rt, output, *status);
     }
 }
 
 #[test]
 fn a_missing_file_is_answered_with_a_read_fault(rt: HostRuntime) {
     let run = Run::of(&["run", "there/is/no/such/script"], Text::whole(b""));
-    run.expect(&rt, "a missing file", &Answer::told("read fault\n", 4));
+    run.expect(&rt, "", "read fault\n", 4);
 }
 
 /// Words that run the script in the file, its text, what is printed, and the status.
@@ -273,23 +240,11 @@ const IN_A_FILE: &[(&[&str], &str, &str, u8)] = &[
     ),
 ];
 
-/// The words print this where the file has the text.
-fn expect_in_a_file<R: Abort + AllocGlobal + Files + Threads + Wait + Sync>(
-    rt: &R,
-    words: &[&str],
-    text: &str,
-    output: &str,
-    status: u8,
-) -> Result<(), Fail> {
-    fs::write(rt, "worked.script", text)?;
-    expect_printed(rt, words, text, b"", output, status);
-    Ok(())
-}
-
 #[test]
 fn a_script_in_a_file_is_run(rt: HostRuntime) -> Result<(), Fail> {
     for (words, text, output, status) in IN_A_FILE {
-        expect_in_a_file(&rt, words, text, output, *status)?;
+        fs::write(&rt, "worked.script", *text)?;
+        Run::of(words, Text::whole(b"")).prints(&rt, output, *status);
     }
     fs::remove_file(&rt, "worked.script")?;
     Ok(())

@@ -2,8 +2,6 @@
 use crate::commands::Command;
 use crate::doubles::Text;
 use rapid_text::{Cause, TextFault};
-use std::alloc::Global;
-use std::process::Abort;
 use trace_report::ReplayFault;
 
 /// A text, how many bytes of it a read gives, whether a read at its end fails, how many reads there may be,
@@ -118,27 +116,27 @@ impl Case {
             cause: Cause::Read,
         }))
     }
-
-    /// The command comes to what the case says, and writes this.
-    fn expect_of(&self, rt: &impl Abort, alloc: Global, command: Command, output: &str) {
-        let text = Text {
-            fails: self.fails,
-            ..Text::cut(self.text, self.most, self.most)
-        };
-        let wanted = Some((self.fault(), true));
-        let ended = command.ends(alloc, text, self.turns, output);
-        assert!(rt; ended == wanted, "{:?} turns: {ended:?}", self.turns);
-    }
-
-    fn expect(&self, rt: &impl Abort, alloc: Global) {
-        self.expect_of(rt, alloc, Command::Check, self.counts);
-        self.expect_of(rt, alloc, Command::Replay, self.report);
-    }
 }
 
 #[test]
 fn a_text_is_read_to_its_end_in_as_many_turns_as_it_takes(rt: HostRuntime) {
     for case in CASES {
-        case.expect(&rt, rt.alloc());
+        let text = Text {
+            fails: case.fails,
+            ..Text::cut(case.text, case.most, case.most)
+        };
+        let wanted = case.fault();
+        let checked = Command::Check.ends(rt.alloc(), text, case.turns, case.counts);
+        assert!(rt;
+            checked == Some((wanted, true)),
+            "{} turns: {checked:?}",
+            case.turns
+        );
+        let replayed = Command::Replay.ends(rt.alloc(), text, case.turns, case.report);
+        assert!(rt;
+            replayed == Some((wanted, true)),
+            "{} turns: {replayed:?}",
+            case.turns
+        );
     }
 }

@@ -1,59 +1,35 @@
 //! The program on traces, each whole and in pieces.
 use crate::doubles::{Text, joined};
-use crate::runs::{Answer, CHECK, COMMANDS, REPLAY, Run, expect_printed};
-use crate::traces::{Refused, legal, refused};
+use crate::runs::{CHECK, REPLAY, Run};
+use crate::traces::{legal, refused};
 use std::alloc::Global;
-use std::fs::Files;
-use std::process::Abort;
-use std::sync::Wait;
 use std::test::Fail;
-use std::thread::Threads;
 
-/// The command comes to this answer on the text, whole, byte by byte, and cut in two at each place.
-fn judge_however_cut<R: Abort + AllocGlobal + Files + Threads + Wait + Sync>(
-    rt: &R,
-    words: &[&str],
-    name: &str,
-    text: &[u8],
-    answer: &Answer<'_>,
-) {
-    Run::of(words, Text::whole(text)).expect(rt, name, answer);
-    Run::of(words, Text::cut(text, 1, 1)).expect(rt, name, answer);
-    for first in 1..text.len() {
-        let in_two = Text::cut(text, first, usize::MAX);
-        Run::of(words, in_two).expect(rt, name, answer);
-    }
-}
-
+/// Whole, byte by byte, and cut in two at each place.
 #[test]
 fn legal_traces_have_their_answers_however_they_are_cut(rt: HostRuntime) {
-    for (name, text, line, report, status) in legal() {
-        let checked = Answer::printed(line, 0);
-        judge_however_cut(&rt, CHECK, name, text.as_bytes(), &checked);
-        let replayed = Answer::printed(report, *status);
-        judge_however_cut(&rt, REPLAY, name, text.as_bytes(), &replayed);
+    for (_, text, line, report, status) in legal() {
+        for cut in 0..=text.len().max(1) {
+            let text = Text::however_cut(text.as_bytes(), cut);
+            Run::of(CHECK, text).prints(&rt, line, 0);
+            Run::of(REPLAY, text).prints(&rt, report, *status);
+        }
     }
 }
 
 /// The line of the refusal is printed. An LF after the text changes nothing.
-fn expect_refused<R: Abort + AllocGlobal + Files + Threads + Wait + Sync>(
-    rt: &R,
-    words: &[&str],
-    case: &Refused,
-) {
-    let (name, text, line) = *case;
-    judge_however_cut(rt, words, name, text.as_bytes(), &Answer::printed(line, 3));
-    let mut room = [0; 2048];
-    let ended = joined(&mut room, text.as_bytes(), b"\n");
-    expect_printed(rt, words, name, ended, line, 3);
-}
-
 #[test]
 fn the_first_refused_line_is_named_however_a_text_is_cut(rt: HostRuntime) {
-    for case in refused() {
-        for words in COMMANDS {
-            expect_refused(&rt, words, case);
+    for (_, text, line) in refused() {
+        for cut in 0..=text.len() {
+            let text = Text::however_cut(text.as_bytes(), cut);
+            Run::of(CHECK, text).prints(&rt, line, 3);
+            Run::of(REPLAY, text).prints(&rt, line, 3);
         }
+        let mut room = [0; 2048];
+        let ended = Text::whole(joined(&mut room, text.as_bytes(), b"\n"));
+        Run::of(CHECK, ended).prints(&rt, line, 3);
+        Run::of(REPLAY, ended).prints(&rt, line, 3);
     }
 }
 
@@ -76,36 +52,22 @@ const THREADS: &[(&[&str], &str, u8)] = &[
 #[test]
 fn as_many_threads_are_admitted_as_the_option_says(rt: HostRuntime) {
     for (words, output, status) in THREADS {
-        let text = b"T0|fork(T1)|1".as_slice();
-        expect_printed(&rt, words, "two threads", text, output, *status);
+        let text = Text::whole(b"T0|fork(T1)|1");
+        Run::of(words, text).prints(&rt, output, *status);
     }
 }
 
-/// A store, and twenty loads by another thread.
-fn loads(alloc: Global, place: &str) -> Result<String, Fail> {
-    let mut text = String::new(alloc);
-    text.push_str("T0|w(x)|1\n")?;
-    for _ in 0..20 {
-        writeln!(text, "T1|r(x)|{place}")?;
-    }
-    Ok(text)
-}
-
-/// The report of the twenty loads.
-fn races(alloc: Global, place: &str) -> Result<String, Fail> {
-    let mut report = String::new(alloc);
-    report.push_str("events 21 threads 2 locks 0 variables 1 races 20\n")?;
-    for number in 2..22 {
-        writeln!(report, "{number}|T1|r(x)|{place} with 1|T0|w(x)|1")?;
-    }
-    Ok(report)
-}
-
-/// The twenty loads, and their report.
+/// A store, and twenty loads by another thread; and their report.
 fn loads_and_races(alloc: Global) -> Result<(String, String), Fail> {
     let place = "p".repeat(alloc, 255)?;
-    let text = loads(alloc, place.as_str())?;
-    let report = races(alloc, place.as_str())?;
+    let mut text = String::new(alloc);
+    let mut report = String::new(alloc);
+    writeln!(text, "T0|w(x)|1")?;
+    writeln!(report, "events 21 threads 2 locks 0 variables 1 races 20")?;
+    for number in 2..22 {
+        writeln!(text, "T1|r(x)|{place}")?;
+        writeln!(report, "{number}|T1|r(x)|{place} with 1|T0|w(x)|1")?;
+    }
     Ok((text, report))
 }
 
@@ -113,26 +75,21 @@ fn loads_and_races(alloc: Global) -> Result<(String, String), Fail> {
 #[test]
 fn a_long_report_is_written_whole(rt: HostRuntime) -> Result<(), Fail> {
     let (text, report) = loads_and_races(rt.alloc())?;
-    expect_printed(&rt, REPLAY, "twenty loads", text.as_bytes(), &report, 1);
+    let run = Run::of(REPLAY, Text::whole(text.as_bytes()));
+    run.prints(&rt, &report, 1);
     Ok(())
 }
-
-/// A command, and what it prints of the thousand lines.
-const THOUSAND: &[(&[&str], &str)] = &[
-    (&["check"], "events 1000 threads 1 locks 1 variables 2\n"),
-    (
-        &["replay"],
-        "events 1000 threads 1 locks 1 variables 2 races 0\n",
-    ),
-];
 
 /// A thousand lines in pieces that end within them.
 #[test]
 fn a_thousand_lines_are_judged(rt: HostRuntime) -> Result<(), Fail> {
     let text = "T0|acq(l)|1\nT0|w(x)|2\nT0|r(y)|3\nT0|rel(l)|4\n".repeat(rt.alloc(), 250)?;
-    for (words, output) in THOUSAND {
-        let run = Run::of(words, Text::cut(text.as_bytes(), 1001, 4001));
-        run.expect(&rt, "a thousand lines", &Answer::printed(output, 0));
-    }
+    let cut = Text::cut(text.as_bytes(), 1001, 4001);
+    Run::of(CHECK, cut).prints(&rt, "events 1000 threads 1 locks 1 variables 2\n", 0);
+    Run::of(REPLAY, cut).prints(
+        &rt,
+        "events 1000 threads 1 locks 1 variables 2 races 0\n",
+        0,
+    );
     Ok(())
 }

@@ -1,6 +1,6 @@
 //! Writers that fail, and writers that take a part or nothing.
 use crate::doubles::{Room, Text};
-use crate::runs::{Answer, COMMANDS, Run};
+use crate::runs::{COMMANDS, Run};
 
 const TRACE: &str = "T0|fork(T1)|1\nT0|w(y)|2\nT0|acq(l)|3\nT0|w(x)|4\nT0|rel(l)|5\n\
                      T1|acq(l)|6\nT1|rel(l)|7\nT1|r(y)|8\n";
@@ -14,14 +14,6 @@ const PRINTED: &[(&[&str], &str, u8)] = &[
     (&["replay"], REPORT, 1),
 ];
 
-/// A run on the text with so much room for what it prints.
-fn run_in<'a>(words: &'a [&'a str], text: &'a [u8], output: Room) -> Run<'a> {
-    Run {
-        output,
-        ..Run::of(words, Text::whole(text))
-    }
-}
-
 const SIZES: &[usize] = &[usize::MAX, 7, 1];
 
 /// A writer that takes the bytes in parts is asked again for what is left.
@@ -33,8 +25,8 @@ fn writing_goes_on_where_a_writer_takes_a_part(rt: HostRuntime) {
                 most: *most,
                 ..Room::AMPLE
             };
-            let run = run_in(words, TRACE.as_bytes(), room);
-            run.expect(&rt, "a part", &Answer::printed(output, *status));
+            let run = Run::of(words, Text::whole(TRACE.as_bytes())).in_room(room);
+            run.prints(&rt, output, *status);
         }
     }
 }
@@ -42,13 +34,10 @@ fn writing_goes_on_where_a_writer_takes_a_part(rt: HostRuntime) {
 /// A writer that takes one put and no more has the whole line.
 #[test]
 fn a_fault_line_is_written_in_one_piece(rt: HostRuntime) {
+    let text = Text::whole(b"T0|w(x)|1\nT0|rel(l)|2\n");
     for words in COMMANDS {
-        let run = run_in(words, b"T0|w(x)|1\nT0|rel(l)|2\n", Room::of_puts(1));
-        run.expect(
-            &rt,
-            "a fault line",
-            &Answer::printed("line 2: NotHolder\n", 3),
-        );
+        let run = Run::of(words, text).in_room(Room::of_puts(1));
+        run.prints(&rt, "line 2: NotHolder\n", 3);
     }
 }
 
@@ -66,8 +55,8 @@ const PRINTING: &[(&[&str], &[u8])] = &[
 #[test]
 fn a_closed_pipe_ends_with_status_4(rt: HostRuntime) {
     for (words, text) in PRINTING {
-        let run = run_in(words, text, Room::of_puts(0));
-        run.expect(&rt, "a closed pipe", &Answer::told("write fault\n", 4));
+        let run = Run::of(words, Text::whole(text)).in_room(Room::of_puts(0));
+        run.expect(&rt, "", "write fault\n", 4);
     }
 }
 
@@ -77,8 +66,8 @@ fn the_status_is_the_same_where_nothing_can_be_said_of_it(rt: HostRuntime) {
     for words in COMMANDS {
         let run = Run {
             errors: none,
-            ..run_in(words, TRACE.as_bytes(), none)
+            ..Run::of(words, Text::whole(TRACE.as_bytes())).in_room(none)
         };
-        run.expect(&rt, "no writer", &Answer::told("", 4));
+        run.prints(&rt, "", 4);
     }
 }
