@@ -1,5 +1,4 @@
 pub mod Beginnings
-mod LaterBySteps
 mod Retries
 mod StepsAdded
 mod SwapsFollow
