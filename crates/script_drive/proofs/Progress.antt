@@ -1,6 +1,6 @@
 -- How a thread gets on with its lines.
 use Rattle.std.proofs.Common.{◌≡◌, ℕ, ◌+◌, ◌<◌, List, [], ◌∷◌, ◌++◌, true, sym, ap, ◌∙◌, subst, length}
-use Rattle.std.proofs.Common.{map, take, drop, take-append-drop, get_or, cond, ◌⊎◌, ◌≤◌, None, add-one}
+use Rattle.std.proofs.Common.{take, drop, take-append-drop, get_or, cond, ◌⊎◌, ◌≤◌, add-one}
 use Rattle.std.proofs.Common.{false, refl}
 use Rattle.std.specs.List.{list_any}
 use Rattle.std.proofs.Math.Seq.{drop-cons}
@@ -15,13 +15,12 @@ use Rattle.event_core.specs.declared.bounds.Limits.{Limits}
 use Rattle.event_core.specs.declared.events.Event.{Event}
 use Rattle.event_core.specs.declared.events.Op.TheVariants.{Load}
 use Rattle.event_core.specs.declared.events.Act.TheVariants.{One}
-use Rattle.event_core.specs.declared.steps.Step.{Step}
 use Rattle.event_core.specs.Steps.{log_of}
 use Rattle.event_core.proofs.Depth.{same_thread_id}
 use Rattle.log_pass.specs.declared.views.PassView.{PassView}
 use Rattle.script_text.specs.declared.lines.ScriptLine.{ScriptLine}
 use Rattle.script_text.specs.Lines.{fork_of, is_of, join_of, joins as line_joins, thread_of}
-use Rattle.script_drive.specs.Lines.{asked, asked_by, lines_by, unread}
+use Rattle.script_drive.specs.Lines.{asked, asked_by, lines_by}
 use Rattle.script_drive.specs.Workers.{AreSettled, Does, Done, HasDone, Reach, Serves, Settled, forked}
 use Rattle.script_drive.specs.Workers.{joined}
 use Rattle.live_monitor.proofs.Beginnings.{log_begins}
@@ -116,16 +115,6 @@ module _ (t : ThreadId) (lines : List ScriptLine) (i : ℕ) (d : ScriptLine) (lt
 
     pub other_left : lines_by t (drop i lines) ≡ lines_by t (drop (i + 1) lines)
     other_left = left ∙ rw other refl
-
--- before the first line
-pub none_done : (script : List ScriptLine) (t : ThreadId) (p : PassView) → p.thread ≡ t → p.due ≡ None
-    → p.mine ≡ [] → HasDone script t p []
-none_done script t p thread due mine = record {
-  thread = thread;
-  none_due = due;
-  follows = ap (λ (steps : List Step). map unread (log_of steps)) mine;
-  settled = λ u test. absurd (cc test);
-}
 
 -- after the last one
 pub all_done : (script lines : List ScriptLine) (t : ThreadId) (p : PassView) (i : ℕ) → lines ≡ script

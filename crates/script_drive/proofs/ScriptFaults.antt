@@ -1,6 +1,6 @@
 -- The faults of workers are those of lines of the script.
 use Rattle.std.proofs.Common.{◌≡◌, ℕ, ◌+◌, ◌<◌, ◌≤◌, ◌⊎◌, List, ◌∷◌, Some, refl, sym, ap}
-use Rattle.std.specs.Prelude.{[], true, Option, None, IfErr, IfSome, IsErrAnd, IsSome, Result, Ok, Err}
+use Rattle.std.specs.Prelude.{[], true, Option, None, IfErr, IfSome, IsErrAnd, Result, Ok, Err}
 use Rattle.std.proofs.Common.{◌∙◌, subst, length, get_or, take, drop, arith}
 use Rattle.std.specs.List.{All, Contains}
 use Rattle.std.proofs.lemmas.List.Elements.{All-more, All-weaker}
@@ -27,12 +27,12 @@ use Rattle.live_monitor.specs.Calls.{call_by, Declined, HasComeTo}
 use Rattle.live_monitor.specs.Swaps.{DeclinedSwap}
 use Rattle.log_pass.specs.declared.views.PassView.{PassView}
 use Rattle.script_text.specs.declared.lines.ScriptLine.{ScriptLine}
-use Rattle.script_text.specs.Lines.{act_thread, fork_of, is_of, thread_of}
+use Rattle.script_text.specs.Lines.{act_thread, is_of, thread_of}
 use Rattle.script_drive.specs.declared.faults.DriveFault.{DriveFault}
 use Rattle.script_drive.specs.declared.faults.Halt.{Halt}
 use Rattle.script_drive.specs.declared.faults.Halt.TheVariants.{Fault}
 use Rattle.script_drive.specs.Faults.{act_refusal, rank, refused_at, stuck_at, Fits, IsAnswer, IsAnswered}
-use Rattle.script_drive.specs.Faults.{IsEarlier, IsFaultOf, IsFirst, IsForkLine, IsHaltOf, IsNext, Refuses}
+use Rattle.script_drive.specs.Faults.{IsEarlier, IsFaultOf, IsFirst, IsHaltOf, IsNext, Refuses}
 use Rattle.script_drive.specs.Lines.{Follows, lines_by}
 use Rattle.script_drive.specs.Workers.{HasDone}
 use Rattle.script_drive.proofs.Progress.{own_place}
@@ -69,10 +69,6 @@ answered_by halt (g ∷ gs) (Some other) f none is answer = (other, is, answer)
 pub stuck_fits : (m : Limits) (script : List ScriptLine) (l : ScriptLine) → Contains script l
     → IsFaultOf m script (stuck_at l)
 stuck_fits m script l line = ∣ (l, line, (refl, refl)) ∣₁
-
-pub fork_fits : (script : List ScriptLine) (l : ScriptLine) → Contains script l → IsSome (fork_of l)
-    → IsForkLine script l.line
-fork_fits script l line forks = ∣ (l, line, (refl, forks)) ∣₁
 
 refused_fits : (m : Limits) (script : List ScriptLine) (l : ScriptLine) (why : Refusal) → Contains script l
     → Refuses m script l why → Fits m script (refused_at l why)

@@ -1,5 +1,5 @@
 -- What the closed log has, from the last pass of thread 0.
-use Rattle.std.proofs.Common.{◌≡◌, List, true, ap, ◌∙◌, subst}
+use Rattle.std.proofs.Common.{◌≡◌, List, true}
 use Rattle.std.specs.List.{list_any}
 use mathlib.Core.List.{IsPrefix}
 use Rattle.event_core.specs.declared.ids.ThreadId.{ThreadId}
@@ -11,18 +11,10 @@ use Rattle.log_pass.specs.declared.views.PassView.{PassView}
 use Rattle.script_text.specs.declared.lines.ScriptLine.{ScriptLine}
 use Rattle.script_text.specs.Lines.{joins as line_joins}
 use Rattle.script_drive.specs.Lines.{Follows, lines_by}
-use Rattle.script_drive.specs.Workers.{AreSettled, Done, Settled}
+use Rattle.script_drive.specs.Workers.{AreSettled, Settled}
 use Rattle.script_drive.proofs.Settling.{settled_more}
 
--- it has of a thread just the lines that the thread's last pass has done
-pub closed_own : (script : List ScriptLine) (t : ThreadId) (p : PassView) (log : List Event)
-    → Done script t p → log_of p.mine ≡ own_events p.thread log
-    → Follows (own_events t log) (lines_by t script)
-closed_own script t p log done own =
-    subst (λ (l : List Event). Follows l (lines_by t script))
-    (own ∙ ap (λ (u : ThreadId). own_events u log) done.thread) done.follows
-
--- and of a thread that was joined just its lines
+-- it has of a thread that was joined just its lines
 pub closed_joined : (m : Limits) (script lines : List ScriptLine) (p : PassView) (log : List Event)
     → IsPrefix (log_of p.seen) log → WellFormed m log → AreSettled script (log_of p.seen) lines
     → (u : ThreadId) → list_any (line_joins u.0) lines ≡ true → Follows (own_events u log) (lines_by u script)

@@ -13,54 +13,52 @@ ghost use Rattle.script_drive.specs.Workers.{AreSettled, Done, Serves};
 
 use crate::faults::{DriveFault, Halt, first_fault};
 use crate::gate::Gate;
-use crate::lines::run_lines;
+use crate::lines::{Drive, run_lines};
 use crate::links::Links;
 use crate::text::Text;
 use crate::workers::{OwnLinks, Worker, all_workers};
 use event_core::Limits;
 use live_monitor::{Closed, Shared, Unnamed, start};
-use log_pass::{Name, Pass};
+use log_pass::Pass;
 use script_text::Script;
 use std::alloc::{AllocError, Global};
 use std::marker::{Brand, PhantomData};
 use std::sync::Wait;
 use std::thread;
-use std::thread::{JoinHandle, Threads};
+use std::thread::{JoinHandle, Scope, Threads};
 
 // A worker's own fault.
 #[derive(Drop)]
-struct OwnFault<N: Name, S: Text> {
+struct OwnFault<S: Text> {
     fault: DriveFault,
-    script: PhantomData<(N, S)>,
-    ghost fits: { IsFaultOf N.limits S.script.lines fault },
+    script: PhantomData<S>,
+    ghost fits: { IsFaultOf S.limits S.script.lines fault },
 }
 
 // Waits for the thread's pass, makes the calls of its lines, and sends the pass to who joins the thread. A
 // worker that ends before its lines do lets its ends go, which tells those that wait for it.
-fn work<N: Name, S: Text, G: Gate, R: Wait>(
-    rt: &R,
-    shared: &Shared<N>,
-    script: &Script,
-    gate: &G,
-    patience: u32,
-    worker: Worker<N, S>,
-) -> Option<OwnFault<N, S>>
-    requires script { script.now ≡ S.script }
-{
+fn work<S: Text, G: Gate, R: Wait>(
+    drive: &Drive<'_, S, G, R>,
+    worker: Worker<S>,
+) -> Option<OwnFault<S>> {
     let Worker {
-        own: OwnLinks { thread: _, links },
+        own: OwnLinks {
+            thread: _,
+            mut links,
+        },
         birth,
         end,
     } = worker;
-    let pass = birth.receiver.receive(rt)?;
-    match run_lines(rt, shared, script, gate, patience, pass, links) {
-        Ok(last) => {
-            if let Some(end) = end {
-                end.send(rt, last);
-            }
+    let pass = birth.receiver.receive(drive.rt)?;
+    let ended = run_lines(drive, pass, &mut links);
+    drop(links);
+    match (ended, end) {
+        (Ok(last), Some(end)) => {
+            end.send(drive.rt, last);
             None
         }
-        Err(halt) => {
+        (Ok(_), None) => None,
+        (Err(halt), _) => {
             let fault = halt.fault()?;
             Some(OwnFault {
                 fault,
@@ -70,13 +68,35 @@ fn work<N: Name, S: Text, G: Gate, R: Wait>(
     }
 }
 
+// Starts the workers, if all can be started.
+fn start_workers<'s, 'e, S: Text + Send + Sync, G: Gate + Sync, R: Threads + Wait + Sync>(
+    scope: &'s Scope<'s, &'e ()>,
+    drive: &'s Drive<'s, S, G, R>,
+    alloc: Global,
+    workers: Vec<Worker<S>>,
+) -> Result<Vec<JoinHandle<Option<OwnFault<S>>>>, DriveFault>
+    ensures { IfErr result (IsFaultOf S.limits S.script.lines) }
+{
+    let mut started = Vec::new(alloc);
+    for worker in workers {
+        let line = worker.birth.line;
+        let Ok(handle) = scope.spawn(move || work(drive, worker)) else {
+            return Err(DriveFault::NoWorker { line });
+        };
+        if started.push(handle).is_err() {
+            return Err(DriveFault::OutOfMemory);
+        }
+    }
+    Ok(started)
+}
+
 // The faults of the workers, once all have ended.
-fn own_faults<N: Name, S: Text, R: Threads>(
+fn own_faults<S: Text, R: Threads>(
     rt: &R,
     alloc: Global,
-    workers: Vec<JoinHandle<Option<OwnFault<N, S>>>>,
+    workers: Vec<JoinHandle<Option<OwnFault<S>>>>,
 ) -> Result<Vec<DriveFault>, AllocError>
-    ensures { IfOk result (λ faults. All (IsFaultOf N.limits S.script.lines) faults.items) }
+    ensures { IfOk result (λ faults. All (IsFaultOf S.limits S.script.lines) faults.items) }
 {
     let mut faults = Vec::new(alloc);
     for worker in workers {
@@ -89,16 +109,16 @@ fn own_faults<N: Name, S: Text, R: Threads>(
 
 // Thread 0's last pass, or the fault that is answered, where the other workers have these faults.
 #[tactic(auto, using(crate::proofs::ScriptFaults::answered_by))]
-fn outcome<N: Name, S: Text>(
-    main: Result<Pass<N>, Halt>,
+fn outcome<S: Text>(
+    main: Result<Pass<S>, Halt>,
     faults: &[DriveFault],
-) -> Result<Pass<N>, DriveFault>
-    requires halt { IfErr main (IsHaltOf N.limits S.script.lines) }
-    requires faults { All (IsFaultOf N.limits S.script.lines) faults.now }
+) -> Result<Pass<S>, DriveFault>
+    requires halt { IfErr main (IsHaltOf S.limits S.script.lines) }
+    requires faults { All (IsFaultOf S.limits S.script.lines) faults.now }
     ensures last { IfOk result (λ last. main ≡ Ok last) }
     ensures none { OnOk result (faults.now ≡ []) }
     ensures first { IfErr result (IsAnswered main faults.now) }
-    ensures fault { IfErr result (IsFaultOf N.limits S.script.lines) }
+    ensures fault { IfErr result (IsFaultOf S.limits S.script.lines) }
 {
     match (main, first_fault(faults)) {
         (Ok(last), None) => Ok(last),
@@ -107,64 +127,46 @@ fn outcome<N: Name, S: Text>(
     }
 }
 
-// Each thread makes the calls of its lines, in a worker of its own. The pass is thread 0's.
-fn run_all<N: Name + Send + Sync, S: Text + Send, G: Gate + Sync, R: Threads + Wait + Sync>(
-    rt: &R,
+// Each thread makes the calls of its lines, in a worker of its own. The pass and the links are thread 0's.
+fn run_all<S: Text + Send + Sync, G: Gate + Sync, R: Threads + Wait + Sync>(
+    drive: &Drive<'_, S, G, R>,
     alloc: Global,
-    shared: &Shared<N>,
-    script: &Script,
-    gate: &G,
-    patience: u32,
-    pass: Pass<N>,
-    links: Links<N, S>,
-    workers: Vec<Worker<N, S>>,
-) -> Result<Pass<N>, DriveFault>
-    requires script { script.now ≡ S.script }
+    pass: Pass<S>,
+    links: Links<S>,
+    workers: Vec<Worker<S>>,
+) -> Result<Pass<S>, DriveFault>
     requires pass { pass ≡ new_pass main [] }
     requires serves { Serves links (lines_by main S.script.lines) }
     ensures done { IfOk result (Done S.script.lines main) }
     ensures settled { IfOk result
         (λ last. AreSettled S.script.lines (log_of last.seen) (lines_by main S.script.lines)) }
-    ensures fault { IfErr result (IsFaultOf N.limits S.script.lines) }
+    ensures fault { IfErr result (IsFaultOf S.limits S.script.lines) }
 {
     thread::scope(
         thread::scope_env(),
-        rt,
-        move |scope| -> Result<Pass<N>, DriveFault>
-            requires script { script.now ≡ S.script }
+        drive.rt,
+        move |scope| -> Result<Pass<S>, DriveFault>
             requires pass { pass ≡ new_pass main [] }
             requires serves { Serves links (lines_by main S.script.lines) }
             ensures done { IfOk result (Done S.script.lines main) }
             ensures settled { IfOk result
                 (λ last. AreSettled S.script.lines (log_of last.seen) (lines_by main S.script.lines)) }
-            ensures fault { IfErr result (IsFaultOf N.limits S.script.lines) }
+            ensures fault { IfErr result (IsFaultOf S.limits S.script.lines) }
         {
-            let mut started: Vec<JoinHandle<Option<OwnFault<N, S>>>> = Vec::new(alloc);
-            for worker in workers {
-                let line = worker.birth.line;
-                let handle = scope.spawn(
-                    move ||
-                        requires { script.now ≡ S.script }
-                    { work(rt, shared, script, gate, patience, worker) },
-                );
-                let Ok(handle) = handle else {
-                    return Err(DriveFault::NoWorker { line });
-                };
-                if started.push(handle).is_err() {
-                    return Err(DriveFault::OutOfMemory);
-                }
-            }
-            let main = run_lines(rt, shared, script, gate, patience, pass, links);
-            let Ok(faults) = own_faults(rt, alloc, started) else {
+            let started = start_workers(scope, drive, alloc, workers)?;
+            let mut links = links;
+            let main = run_lines(drive, pass, &mut links);
+            drop(links);
+            let Ok(faults) = own_faults(drive.rt, alloc, started) else {
                 return Err(DriveFault::OutOfMemory);
             };
-            outcome::<N, S>(main, faults.as_slice())
+            outcome::<S>(main, faults.as_slice())
         },
     )
 }
 
 // Runs the script over a monitor that has a name.
-fn drive_in<N: Name + Send + Sync, S: Text + Send, G: Gate + Sync, R: Threads + Wait + Sync>(
+fn drive_in<S: Text + Send + Sync, G: Gate + Sync, R: Threads + Wait + Sync>(
     rt: &R,
     alloc: Global,
     script: &Script,
@@ -172,8 +174,8 @@ fn drive_in<N: Name + Send + Sync, S: Text + Send, G: Gate + Sync, R: Threads + 
     gate: &G,
     patience: u32,
 ) -> Result<Closed, DriveFault>
-    requires table { unnamed.table ≡ N.table }
-    requires limits { unnamed.limits ≡ N.limits }
+    requires table { unnamed.table ≡ S.table }
+    requires limits { unnamed.limits ≡ S.limits }
     requires script { script.now ≡ S.script }
     ensures limits { IfOk result (λ closed. closed.limits ≡ unnamed.limits) }
     ensures well_formed { IfOk result (λ closed. WellFormed unnamed.limits closed.log) }
@@ -184,15 +186,20 @@ fn drive_in<N: Name + Send + Sync, S: Text + Send, G: Gate + Sync, R: Threads + 
         → Follows (own_events u closed.log) (lines_by u script.now.lines)) }
     ensures fault { IfErr result (IsFaultOf unnamed.limits script.now.lines) }
 {
-    let (shared, pass) = start::<N>(unnamed);
-    let Ok((links, workers)) = all_workers::<N, S>(alloc, script) else {
+    let (shared, pass) = start::<S>(unnamed);
+    let Ok((links, workers)) = all_workers::<S>(alloc, script) else {
         drop(pass);
         drop(shared);
         return Err(DriveFault::OutOfMemory);
     };
-    match run_all(
-        rt, alloc, &shared, script, gate, patience, pass, links, workers,
-    ) {
+    let drive = Drive {
+        rt,
+        shared: &shared,
+        script,
+        gate,
+        patience,
+    };
+    match run_all(&drive, alloc, pass, links, workers) {
         Ok(last) => Ok(shared.close(last)),
         Err(fault) => {
             drop(shared);
@@ -235,5 +242,5 @@ pub fn drive<G: Gate + Sync, R: Threads + Wait + Sync>(
     let Ok(unnamed) = Unnamed::new(alloc, *limits) else {
         return Err(DriveFault::OutOfMemory);
     };
-    drive_in::<Brand, Brand, G, R>(rt, alloc, script, unnamed, gate, patience)
+    drive_in::<Brand, G, R>(rt, alloc, script, unnamed, gate, patience)
 }

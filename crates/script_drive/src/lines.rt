@@ -43,16 +43,16 @@ fn ended_wait(error: TryRecvError, line: &ScriptLine) -> Option<Halt>
 }
 
 // Waits for the pass of the thread that the line joins, as long as patience allows.
-fn await_end<N: Name, S: Text, R: Wait>(
+fn await_end<S: Text, R: Wait>(
     rt: &R,
-    receiver: PassReceiver<N, Ends<S>>,
+    receiver: PassReceiver<S, Ends<S>>,
     line: &ScriptLine,
     patience: u32,
-) -> Result<Pass<N>, Halt>
+) -> Result<Pass<S>, Halt>
     requires line { Contains S.script.lines line.now }
     requires joins { IsSome (join_of line.now) }
     ensures done { IfOk result (Done S.script.lines receiver.to) }
-    ensures halt { IfErr result (IsHaltOf N.limits S.script.lines) }
+    ensures halt { IfErr result (IsHaltOf S.limits S.script.lines) }
 {
     let mut receiver = receiver;
     let backoff = Backoff::new();
@@ -87,22 +87,22 @@ fn answered<N: Name, T: Drop>(
 }
 
 // The call of one line.
-fn make_call<N: Name, S: Text, R: Wait>(
+fn make_call<S: Text, R: Wait>(
     rt: &R,
-    shared: &Shared<N>,
-    pass: Pass<N>,
+    shared: &Shared<S>,
+    pass: Pass<S>,
     line: &ScriptLine,
-    links: &mut Links<N, S>,
+    links: &mut Links<S>,
     patience: u32,
-) -> Result<Pass<N>, Halt>
+) -> Result<Pass<S>, Halt>
     requires none_due { pass.due ≡ None }
     requires thread { thread_of line.now ≡ pass.thread }
     requires next { IsNext S.script.lines line.now pass }
     requires serves { (later : List Line) × Serves links.old (line.now ∷ later) }
-    ensures does { IfOk result (Does N.limits S.script.lines line.now pass) }
+    ensures does { IfOk result (Does S.limits S.script.lines line.now pass) }
     ensures serves { (later : List Line) → Serves links.old (line.now ∷ later)
         → OnOk result (Serves links.new later) }
-    ensures halt { IfErr result (IsHaltOf N.limits S.script.lines) }
+    ensures halt { IfErr result (IsHaltOf S.limits S.script.lines) }
 {
     match line.act {
         Act::One(call) => match call.op {
@@ -141,35 +141,41 @@ fn make_call<N: Name, S: Text, R: Wait>(
     }
 }
 
+/// What the workers of a drive share.
+#[derive(Drop)]
+pub(crate) struct Drive<'a, S: Text, G: Gate, R> {
+    pub rt: &'a R,
+    pub shared: &'a Shared<S>,
+    pub script: &'a Script,
+    pub gate: &'a G,
+    pub patience: u32,
+    ghost of: { script.now ≡ S.script },
+}
+
 /// Makes the calls of the pass's thread, in the order of its lines.
-pub(crate) fn run_lines<N: Name, S: Text, G: Gate, R: Wait>(
-    rt: &R,
-    shared: &Shared<N>,
-    script: &Script,
-    gate: &G,
-    patience: u32,
-    pass: Pass<N>,
-    mut links: Links<N, S>,
-) -> Result<Pass<N>, Halt>
-    requires script { script.now ≡ S.script }
+pub(crate) fn run_lines<S: Text, G: Gate, R: Wait>(
+    drive: &Drive<'_, S, G, R>,
+    pass: Pass<S>,
+    links: &mut Links<S>,
+) -> Result<Pass<S>, Halt>
     requires new { (pass.due ≡ None) × (pass.mine ≡ []) }
-    requires serves { Serves links (lines_by pass.thread S.script.lines) }
+    requires serves { Serves links.old (lines_by pass.thread S.script.lines) }
     ensures done { IfOk result (Done S.script.lines pass.thread) }
     ensures settled { IfOk result
         (λ last. AreSettled S.script.lines (log_of last.seen) (lines_by pass.thread S.script.lines)) }
-    ensures halt { IfErr result (IsHaltOf N.limits S.script.lines) }
+    ensures halt { IfErr result (IsHaltOf S.limits S.script.lines) }
 {
     let thread = pass.thread();
     let mut pass = pass;
-    for line in script.lines() {
+    for line in drive.script.lines() {
         if !line.is_of(thread) {
             continue;
         }
-        if !may_enter(gate, line, patience) {
+        if !may_enter(drive.gate, line, drive.patience) {
             return Err(Halt::Fault(DriveFault::stuck(line)));
         }
-        pass = make_call(rt, shared, pass, line, &mut links, patience)?;
-        gate.done(line.thread(), line.line);
+        pass = make_call(drive.rt, drive.shared, pass, line, links, drive.patience)?;
+        drive.gate.done(line.thread(), line.line);
     }
     Ok(pass)
 }

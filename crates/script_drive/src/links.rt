@@ -10,13 +10,19 @@ use std::collections::VecDeque;
 use std::marker::Model;
 
 /// A worker's ends, in the order of its lines. Contracts see whom it is still to fork, and whom to join.
-#[derive(Drop)]
-pub(crate) struct Links<N: Name, S: Text> {
-    births: VecDeque<PassSender<N, Births>>,
-    ends: VecDeque<PassReceiver<N, Ends<S>>>,
+pub(crate) struct Links<S: Text> {
+    births: VecDeque<PassSender<S, Births>>,
+    ends: VecDeque<PassReceiver<S, Ends<S>>>,
 }
 
-impl<N: Name, S: Text> Model for Links<N, S> {
+// By hand, so that each function that drops one does not drop both queues.
+impl<S: Text> Drop for Links<S> {
+    fn drop(self) {
+        let Links { births: _, ends: _ } = self;
+    }
+}
+
+impl<S: Text> Model for Links<S> {
     ghost use Rattle.std.specs.Prelude.{map};
     ghost use Rattle.script_drive.specs.Workers.{Reach};
 
@@ -28,8 +34,8 @@ impl<N: Name, S: Text> Model for Links<N, S> {
     } };
 }
 
-impl<N: Name, S: Text> Links<N, S> {
-    pub(crate) fn new(alloc: Global) -> Links<N, S>
+impl<S: Text> Links<S> {
+    pub(crate) fn new(alloc: Global) -> Links<S>
         ensures forks { result.forks ≡ [] }
         ensures joins { result.joins ≡ [] }
     {
@@ -40,7 +46,7 @@ impl<N: Name, S: Text> Links<N, S> {
     }
 
     /// Adds the end for one more thread that is forked.
-    pub(crate) fn add_birth(&mut self, birth: PassSender<N, Births>) -> Result<(), AllocError>
+    pub(crate) fn add_birth(&mut self, birth: PassSender<S, Births>) -> Result<(), AllocError>
         ensures forks { OnOk result (self.new.forks ≡ self.old.forks ++ birth.to ∷ []) }
         ensures joins { self.new.joins ≡ self.old.joins }
     {
@@ -49,7 +55,7 @@ impl<N: Name, S: Text> Links<N, S> {
     }
 
     /// Adds the end for one more thread that is joined.
-    pub(crate) fn add_end(&mut self, end: PassReceiver<N, Ends<S>>) -> Result<(), AllocError>
+    pub(crate) fn add_end(&mut self, end: PassReceiver<S, Ends<S>>) -> Result<(), AllocError>
         ensures forks { self.new.forks ≡ self.old.forks }
         ensures joins { OnOk result (self.new.joins ≡ self.old.joins ++ end.to ∷ []) }
     {
@@ -58,7 +64,7 @@ impl<N: Name, S: Text> Links<N, S> {
     }
 
     /// Takes out the end for the thread that is forked next.
-    pub(crate) fn next_birth(&mut self) -> PassSender<N, Births>
+    pub(crate) fn next_birth(&mut self) -> PassSender<S, Births>
         requires { 0 < length self.old.forks }
         ensures forks { self.old.forks ≡ result.to ∷ self.new.forks }
         ensures joins { self.new.joins ≡ self.old.joins }
@@ -70,7 +76,7 @@ impl<N: Name, S: Text> Links<N, S> {
     }
 
     /// Takes out the end for the thread that is joined next.
-    pub(crate) fn next_end(&mut self) -> PassReceiver<N, Ends<S>>
+    pub(crate) fn next_end(&mut self) -> PassReceiver<S, Ends<S>>
         requires { 0 < length self.old.joins }
         ensures forks { self.new.forks ≡ self.old.forks }
         ensures joins { self.old.joins ≡ result.to ∷ self.new.joins }

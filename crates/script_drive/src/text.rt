@@ -1,9 +1,10 @@
 //! The script that is run, for contracts, and what the passes between its workers are.
+use log_pass::Name;
 use pass_channel::Terms;
 use std::marker::{Brand, PhantomData};
 
-/// One script. Each drive picks it.
-pub(crate) trait Text {
+/// One script, with the table of the monitor over which it runs. Each drive picks them.
+pub(crate) trait Text: Name {
     ghost use Rattle.script_text.specs.Scripts.{Parsed};
 
     ghost script: { Parsed };

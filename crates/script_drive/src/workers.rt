@@ -13,17 +13,17 @@ use log_pass::Name;
 use pass_channel::{PassReceiver, PassSender, pass_channel};
 use script_text::{Script, ScriptLine};
 use std::alloc::{AllocError, Global};
-use std::marker::{Model, PhantomData};
+use std::marker::Model;
 
 /// A thread and its links before its first line. Contracts see the thread, and whom the links reach: just
 /// those whom the thread's lines fork and join.
 #[derive(Drop)]
-pub(crate) struct OwnLinks<N: Name, S: Text> {
+pub(crate) struct OwnLinks<S: Text> {
     pub thread: ThreadId,
-    pub links: Links<N, S>,
+    pub links: Links<S>,
 }
 
-impl<N: Name, S: Text> Model for OwnLinks<N, S> {
+impl<S: Text> Model for OwnLinks<S> {
     ghost use Rattle.script_drive.specs.Lines.{lines_by};
     ghost use Rattle.script_drive.specs.Workers.{OwnReach, Serves};
 
@@ -36,49 +36,47 @@ impl<N: Name, S: Text> Model for OwnLinks<N, S> {
 
 /// Where a worker's first pass comes from, and the line of the script that forks its thread.
 #[derive(Drop)]
-pub(crate) struct Birth<N: Name, S: Text> {
-    pub receiver: PassReceiver<N, Births>,
+pub(crate) struct Birth<S: Text> {
+    pub receiver: PassReceiver<S, Births>,
     pub line: u64,
-    script: PhantomData<S>,
     ghost forks: { IsForkLine S.script.lines line },
 }
 
 /// A worker that is not started yet. Its last pass goes to the worker that joins it, if one does.
 #[derive(Drop)]
-pub(crate) struct Worker<N: Name, S: Text> {
-    pub own: OwnLinks<N, S>,
-    pub birth: Birth<N, S>,
-    pub end: Option<PassSender<N, Ends<S>>>,
+pub(crate) struct Worker<S: Text> {
+    pub own: OwnLinks<S>,
+    pub birth: Birth<S>,
+    pub end: Option<PassSender<S, Ends<S>>>,
     ghost begins: { birth.receiver.to ≡ own.thread },
     ghost ends: { ForSome end (λ sender. sender.to ≡ own.thread) },
 }
 
 // The ends of channels that no worker has yet.
 #[derive(Drop)]
-struct LooseEnds<N: Name, S: Text> {
-    births: Vec<Birth<N, S>>,
-    ends: Vec<PassSender<N, Ends<S>>>,
+struct LooseEnds<S: Text> {
+    births: Vec<Birth<S>>,
+    ends: Vec<PassSender<S, Ends<S>>>,
 }
 
-impl<N: Name, S: Text> LooseEnds<N, S> {
+impl<S: Text> LooseEnds<S> {
     // Makes the channel for the thread that the line forks, if it forks one.
     fn add_fork(
         &mut self,
         alloc: Global,
         line: &ScriptLine,
-        links: &mut Links<N, S>,
+        links: &mut Links<S>,
     ) -> Result<(), AllocError>
         requires { Contains S.script.lines line.now }
         ensures forks { OnOk result (links.new.forks ≡ links.old.forks ++ forked (line.now ∷ [])) }
         ensures joins { links.new.joins ≡ links.old.joins }
     {
         if let Some(child) = line.fork() {
-            let (sender, receiver) = pass_channel::<N, Births>(alloc, child)?;
+            let (sender, receiver) = pass_channel::<S, Births>(alloc, child)?;
             links.add_birth(sender)?;
             self.births.push(Birth {
                 receiver,
                 line: line.line,
-                script: PhantomData,
             })?;
         }
         Ok(())
@@ -89,13 +87,13 @@ impl<N: Name, S: Text> LooseEnds<N, S> {
         &mut self,
         alloc: Global,
         line: &ScriptLine,
-        links: &mut Links<N, S>,
+        links: &mut Links<S>,
     ) -> Result<(), AllocError>
         ensures forks { links.new.forks ≡ links.old.forks }
         ensures joins { OnOk result (links.new.joins ≡ links.old.joins ++ joined (line.now ∷ [])) }
     {
         if let Some(child) = line.join() {
-            let (sender, receiver) = pass_channel::<N, Ends<S>>(alloc, child)?;
+            let (sender, receiver) = pass_channel::<S, Ends<S>>(alloc, child)?;
             links.add_end(receiver)?;
             self.ends.push(sender)?;
         }
@@ -108,7 +106,7 @@ impl<N: Name, S: Text> LooseEnds<N, S> {
         alloc: Global,
         script: &Script,
         thread: ThreadId,
-    ) -> Result<Links<N, S>, AllocError>
+    ) -> Result<Links<S>, AllocError>
         requires { script.now ≡ S.script }
         ensures { IfOk result (λ links. Serves links (lines_by thread S.script.lines)) }
     {
@@ -123,7 +121,7 @@ impl<N: Name, S: Text> LooseEnds<N, S> {
         Ok(links)
     }
 
-    fn take_birth(&mut self, thread: ThreadId) -> Option<Birth<N, S>>
+    fn take_birth(&mut self, thread: ThreadId) -> Option<Birth<S>>
         ensures { IfSome result (λ birth. birth.receiver.to ≡ thread) }
     {
         for at in 0..self.births.len() {
@@ -134,7 +132,7 @@ impl<N: Name, S: Text> LooseEnds<N, S> {
         None
     }
 
-    fn take_end(&mut self, thread: ThreadId) -> Option<PassSender<N, Ends<S>>>
+    fn take_end(&mut self, thread: ThreadId) -> Option<PassSender<S, Ends<S>>>
         ensures { IfSome result (λ sender. sender.to ≡ thread) }
     {
         for at in 0..self.ends.len() {
@@ -144,14 +142,30 @@ impl<N: Name, S: Text> LooseEnds<N, S> {
         }
         None
     }
+
+    // A worker for each thread that has these links and that a line forks.
+    fn hand_out(
+        mut self,
+        alloc: Global,
+        others: Vec<OwnLinks<S>>,
+    ) -> Result<Vec<Worker<S>>, AllocError> {
+        let mut workers = Vec::new(alloc);
+        for own in others {
+            let end = self.take_end(own.thread);
+            if let Some(birth) = self.take_birth(own.thread) {
+                workers.push(Worker { own, birth, end })?;
+            }
+        }
+        Ok(workers)
+    }
 }
 
 // The links of all threads but thread 0.
-fn other_links<N: Name, S: Text>(
+fn other_links<S: Text>(
     alloc: Global,
     script: &Script,
-    loose: &mut LooseEnds<N, S>,
-) -> Result<Vec<OwnLinks<N, S>>, AllocError>
+    loose: &mut LooseEnds<S>,
+) -> Result<Vec<OwnLinks<S>>, AllocError>
     requires script { script.now ≡ S.script }
 {
     let mut others = Vec::new(alloc);
@@ -164,10 +178,10 @@ fn other_links<N: Name, S: Text>(
 }
 
 /// Thread 0's links, and a worker for each other thread.
-pub(crate) fn all_workers<N: Name, S: Text>(
+pub(crate) fn all_workers<S: Text>(
     alloc: Global,
     script: &Script,
-) -> Result<(Links<N, S>, Vec<Worker<N, S>>), AllocError>
+) -> Result<(Links<S>, Vec<Worker<S>>), AllocError>
     requires script { script.now ≡ S.script }
     ensures main { IfOk result (λ made. Serves made.0 (lines_by main S.script.lines)) }
 {
@@ -176,12 +190,7 @@ pub(crate) fn all_workers<N: Name, S: Text>(
         ends: Vec::new(alloc),
     };
     let main_links = loose.connect(alloc, script, ThreadId(0))?;
-    let mut workers = Vec::new(alloc);
-    for own in other_links(alloc, script, &mut loose)? {
-        let end = loose.take_end(own.thread);
-        if let Some(birth) = loose.take_birth(own.thread) {
-            workers.push(Worker { own, birth, end })?;
-        }
-    }
+    let others = other_links(alloc, script, &mut loose)?;
+    let workers = loose.hand_out(alloc, others)?;
     Ok((main_links, workers))
 }

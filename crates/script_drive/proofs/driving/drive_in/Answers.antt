@@ -14,7 +14,7 @@ returns-in-Ok-run_all-clause-joined g c =
     let settled : AreSettled script.lines (log_of last.seen) (lines_by main script.lines)
     = subst (λ (s : Parsed). AreSettled s.lines (log_of last.seen) (lines_by main s.lines))
     (sym c.requires.script) c.in-Ok-run_all.ensures.settled in
-    closed_joined g.N.Name.limits script.lines (lines_by main script.lines) last
+    closed_joined g.S.Name.limits script.lines (lines_by main script.lines) last
     c.close.result.log
     c.close.ensures.begins c.close.ensures.well_formed settled
 

@@ -17,7 +17,7 @@ returns-in_default-Ok-join-clause-does g c =
     c.in-One.is c.in-Join.is c.requires.serves.0 c.requires.serves.1 c.next_end-end.ensures.joins in
     let done : Done g.S.Text.script.lines u child
     = subst (λ t. Done g.S.Text.script.lines t child) is c.in_ok-child-in-Join.ensures.done in
-    join_does g.N.Name.limits g.S.Text.script.lines line c.in-One.call c.args.pass c.join.result.0 child
+    join_does g.S.Name.limits g.S.Text.script.lines line c.in-One.call c.args.pass c.join.result.0 child
     c.in_default-Ok-join.field-0-1 u c.in-One.is c.in-Join.is c.requires.thread done
     c.join.ensures.later (rw c.in_default-Ok-join.is-1 at c.join.ensures.accepted)
     (rw c.in_default-Ok-join.is-1 at c.join.ensures.child_own)
@@ -26,21 +26,21 @@ returns-in_default-Ok-join-clause-does g c =
 -- a call that is declined is so by the definition
 pub returns-in-Load-clause-halt : goal.returns-in-Load-clause-halt
 returns-in-Load-clause-halt g c =
-    call_halts g.N.Name.limits g.S.Text.script.lines c.args.line.now c.in-One.call (Load c.in-Load.var)
+    call_halts g.S.Name.limits g.S.Text.script.lines c.args.line.now c.in-One.call (Load c.in-Load.var)
     c.in-One.call.site 0 c.args.pass c.load.result.0 c.load.result.1 c.answered.result c.in-One.is
     c.in-Load.is c.requires.next c.requires.thread c.load.ensures.later c.load.ensures.declined
     c.answered.ensures.refused
 
 pub returns-in-Store-clause-halt : goal.returns-in-Store-clause-halt
 returns-in-Store-clause-halt g c =
-    call_halts g.N.Name.limits g.S.Text.script.lines c.args.line.now c.in-One.call (Store c.in-Store.var)
+    call_halts g.S.Name.limits g.S.Text.script.lines c.args.line.now c.in-One.call (Store c.in-Store.var)
     c.in-One.call.site _ c.args.pass c.store.result.0 c.store.result.1 c.answered-in-Store.result
     c.in-One.is c.in-Store.is c.requires.next c.requires.thread c.store.ensures.later
     c.store.ensures.declined c.answered-in-Store.ensures.refused
 
 pub returns-in-Acquire-clause-halt : goal.returns-in-Acquire-clause-halt
 returns-in-Acquire-clause-halt g c =
-    call_halts g.N.Name.limits g.S.Text.script.lines c.args.line.now c.in-One.call
+    call_halts g.S.Name.limits g.S.Text.script.lines c.args.line.now c.in-One.call
     (Acquire c.in-Acquire.lock) c.in-One.call.site 0 c.args.pass c.acquire_within.result.0
     c.acquire_within.result.1 c.answered-in-Acquire.result c.in-One.is c.in-Acquire.is c.requires.next
     c.requires.thread
@@ -48,7 +48,7 @@ returns-in-Acquire-clause-halt g c =
 
 pub returns-in-Release-clause-halt : goal.returns-in-Release-clause-halt
 returns-in-Release-clause-halt g c =
-    call_halts g.N.Name.limits g.S.Text.script.lines c.args.line.now c.in-One.call
+    call_halts g.S.Name.limits g.S.Text.script.lines c.args.line.now c.in-One.call
     (Release c.in-Release.lock) c.in-One.call.site 0 c.args.pass c.release.result.0 c.release.result.1
     c.answered-in-Release.result c.in-One.is c.in-Release.is c.requires.next c.requires.thread
     c.release.ensures.later c.release.ensures.declined c.answered-in-Release.ensures.refused
@@ -61,8 +61,8 @@ returns-in_default-Err-clause-halt g c =
     let is : to ≡ u
     = next_forked line c.in-One.call u to c.args.links.now c.next_birth-birth.new.self c.in-One.is
     c.in-Fork.is c.requires.serves.0 c.requires.serves.1 c.next_birth-birth.ensures.forks in
-    subst (IsFaultOf g.N.Name.limits g.S.Text.script.lines) (sym c.refused.ensures)
-    (call_fits g.N.Name.limits g.S.Text.script.lines line c.in-One.call (Fork to) c.in-One.call.site 0
+    subst (IsFaultOf g.S.Name.limits g.S.Text.script.lines) (sym c.refused.ensures)
+    (call_fits g.S.Name.limits g.S.Text.script.lines line c.in-One.call (Fork to) c.in-One.call.site 0
     c.args.pass c.fork.result.0 c.in_default-Err.refusal c.in-One.is (c.in-Fork.is ∙ ap Fork (sym is))
     c.requires.next c.requires.thread c.fork.ensures.later
     (rw c.in_default-Err.is-1 at c.fork.ensures.declined))
@@ -75,8 +75,8 @@ returns-in_default-Err-join-clause-halt g c =
     let is : c.next_end-end.result.to ≡ u
     = next_joined line c.in-One.call u c.next_end-end.result.to c.args.links.now c.next_end-end.new.self
     c.in-One.is c.in-Join.is c.requires.serves.0 c.requires.serves.1 c.next_end-end.ensures.joins in
-    subst (IsFaultOf g.N.Name.limits g.S.Text.script.lines) (sym c.refused-in_default-Err-join.ensures)
-    (call_fits g.N.Name.limits g.S.Text.script.lines line c.in-One.call (Join child.thread)
+    subst (IsFaultOf g.S.Name.limits g.S.Text.script.lines) (sym c.refused-in_default-Err-join.ensures)
+    (call_fits g.S.Name.limits g.S.Text.script.lines line c.in-One.call (Join child.thread)
     c.in-One.call.site 0 c.args.pass c.join.result.0 c.in_default-Err-join.refusal c.in-One.is
     (c.in-Join.is ∙ ap Join (sym (c.in_ok-child-in-Join.ensures.done.thread ∙ is))) c.requires.next
     c.requires.thread c.join.ensures.later
@@ -84,7 +84,7 @@ returns-in_default-Err-join-clause-halt g c =
 
 pub returns-in-Swap-clause-halt : goal.returns-in-Swap-clause-halt
 returns-in-Swap-clause-halt g c =
-    swap_halts g.N.Name.limits g.S.Text.script.lines c.args.line.now c.in-Swap.thread c.in-Swap.var
+    swap_halts g.S.Name.limits g.S.Text.script.lines c.args.line.now c.in-Swap.thread c.in-Swap.var
     c.in-Swap.site c.in-Swap.arg c.args.pass c.swap.result.0 c.swap.result.1 c.answered-in-Swap.result
     c.in-Swap.is c.requires.next c.requires.thread c.swap.ensures.later c.swap.ensures.declined
     c.answered-in-Swap.ensures.refused

@@ -34,15 +34,15 @@ returns-then-not-may_enter-clause-halt g c =
     let lines = c.lines-line-items.result.now in
     let i = c.loop-line.line-index in
     let same : lines ≡ script = cc in
-    subst (IsFaultOf g.N.Name.limits script) (sym c.stuck.ensures)
-    (stuck_fits g.N.Name.limits script (get_or lines i _) (line_at script lines i _ same (search rules)))
+    subst (IsFaultOf g.S.Name.limits script) (sym c.stuck.ensures)
+    (stuck_fits g.S.Name.limits script (get_or lines i _) (line_at script lines i _ same (search rules)))
 
 pub loop-line-preserved : goal.loop-line-preserved
 loop-line-preserved g c =
     let lines = c.lines-line-items.result.now in
     let t = c.args.pass.thread in
     let i = c.loop-line.line-index in (
-      done_at t lines i _ (search rules) (search rules) g.N.Name.limits g.S.Text.script.lines c.loop-line.pass
+      done_at t lines i _ (search rules) (search rules) g.S.Name.limits g.S.Text.script.lines c.loop-line.pass
           c.in_ok-pass.pass c.loop-line.invariant.0 c.in_ok-pass.ensures.does,
       c.in_ok-pass.ensures.serves (lines_by t (drop (i + 1) lines))
           (next_line t lines i _ (search rules) (search rules) c.loop-line.links c.loop-line.invariant.1),
