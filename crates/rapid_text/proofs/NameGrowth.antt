@@ -21,7 +21,8 @@ use Rattle.rapid_text.specs.declared.causes.NameFault.{NameFault}
 use Rattle.rapid_text.specs.declared.causes.NameFault.TheVariants.{TooMany, OutOfMemory}
 use Rattle.rapid_text.specs.Numbers.{Numbered, with_name, found_or, place_of, number_of, Grows}
 use Rattle.rapid_text.specs.Tables.{Tables, space, with_space, put_back, number_in, name_at, TablesGrow}
-use Rattle.rapid_text.specs.Events.{kind_of, op_of, event_of, number_or_fault, next, named_event, word_of_op, target_of, named_by, HasNames}
+use Rattle.rapid_text.specs.Events.{kind_of, op_of, event_of, number_or_fault, next, named_event}
+use Rattle.rapid_text.specs.Events.{word_of_op, target_of, named_by, HasNames}
 use Rattle.rapid_text.proofs.NameLaws.{numbers, grows}
 use Rattle.event_core.proofs.Places.{get_before, get_last}
 
