@@ -45,6 +45,22 @@ const CASES: &[Case<'static>] = &[
             ],
         },
     },
+    // Each join gets the pass of the thread that its line names.
+    Case {
+        text: "m fork a\nm fork b\nm join a\nm join b\n",
+        events: EVENTS,
+        patience: PATIENCE,
+        answer: Logs {
+            events: 4,
+            races: 0,
+            first: &[
+                (0, Op::Fork(ThreadId(1)), 0, 0),
+                (0, Op::Fork(ThreadId(2)), 1, 0),
+                (0, Op::Join(ThreadId(1)), 2, 0),
+                (0, Op::Join(ThreadId(2)), 3, 0),
+            ],
+        },
+    },
     // Whichever store comes second races.
     Case {
         text: "m fork a\nm w x 1\na w x 2\n",
