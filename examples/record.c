@@ -4,8 +4,9 @@
  *     ./record > trace.txt
  *     wcp replay < trace.txt
  *
- * The macros are the recorder. The rest is a program that makes its accesses and its calls by them. It has a
- * race on `config`, whatever the schedule. */
+ * The macros are the recorder. A name is the text in the source: where one text stands for several things,
+ * as threads[i] does, a number or the address has to be written into the name. The rest is a program that
+ * makes its accesses and its calls by them. It has a race on `config`, whatever the schedule. */
 #include <pthread.h>
 #include <stdio.h>
 

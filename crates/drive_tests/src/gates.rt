@@ -2,66 +2,8 @@
 use crate::scripts::{Answer, Case, EVENTS, PATIENCE, expect_answer};
 use event_core::{LockId, Op, Refusal, ThreadId, VarId};
 use script_drive::{DriveFault, Gate};
-use std::sync::atomic::{AtomicBool, AtomicU64, AtomicUsize, Ordering};
+use std::sync::atomic::{AtomicU64, AtomicUsize, Ordering};
 use std::test::*;
-use std::thread;
-
-/// Lets line 2 and line 3 each go ahead only where the other is asked for during the one call.
-#[derive(Drop)]
-struct Meeting {
-    second: AtomicBool,
-    third: AtomicBool,
-}
-
-fn sees(flag: &AtomicBool) -> bool {
-    for _ in 0..10_000_000 {
-        if flag.load(Ordering::SeqCst) {
-            return true;
-        }
-        thread::yield_now();
-    }
-    false
-}
-
-impl Gate for Meeting {
-    fn enter(&self, _thread: ThreadId, line: u64) -> bool {
-        match line {
-            2 => {
-                self.second.store(true, Ordering::SeqCst);
-                sees(&self.third)
-            }
-            3 => {
-                self.third.store(true, Ordering::SeqCst);
-                sees(&self.second)
-            }
-            _ => true,
-        }
-    }
-
-    fn done(&self, _thread: ThreadId, _line: u64) {}
-}
-
-const OVERLAP: Case<'static> = Case {
-    text: "m fork a\nm r x\na r y\n",
-    events: EVENTS,
-    patience: 1,
-    answer: Answer::Logs {
-        events: 3,
-        races: 0,
-        first: &[(0, Op::Fork(ThreadId(1)), 0, 0)],
-    },
-};
-
-#[test]
-fn workers_overlap(rt: HostRuntime) {
-    for _ in 0..100 {
-        let gate = Meeting {
-            second: AtomicBool::new(false),
-            third: AtomicBool::new(false),
-        };
-        expect_answer(&rt, rt.alloc(), &gate, &OVERLAP);
-    }
-}
 
 /// Never lets a line go ahead. It counts how often it is asked.
 #[derive(Drop)]

@@ -21,18 +21,20 @@ pub fn is_short(fault: &ReplayFault) -> bool {
     )
 }
 
-/// The fault of a new replayer that is fed the text in its pieces; none where there was no memory for one.
-/// The page has what it wrote.
+/// The fault of a new replayer that is fed the text in its pieces, an empty one before each, and an LF after
+/// a read has failed; none where there was no memory for one. The page has what it wrote.
 fn fault_of(alloc: Global, text: Text<'_>, page: &mut Page) -> Option<Option<ReplayFault>> {
     let limits = Limits::new(8, 8, 8, 64, Roots::Free).ok()?;
     let mut replayer = Replayer::new(alloc, limits).ok()?;
     let (head, rest) = text.bytes.split_at(text.first.min(text.bytes.len()));
     replayer.feed(head);
     for piece in rest.chunks(text.others.max(1)) {
+        replayer.feed(b"");
         replayer.feed(piece);
     }
     if text.fails {
         replayer.read_failed();
+        replayer.feed(b"\n");
     }
     Some(replayer.finish(page).err())
 }
@@ -58,7 +60,7 @@ fn expect_told(rt: &impl Abort, alloc: Global, text: Text<'_>, output: &str, is_
     assert!(rt; told == Some(true), "{output:?}, cut at {}", text.first);
 }
 
-/// However the bytes are fed, they come to this. An empty piece comes first where nothing is cut.
+/// However the bytes are fed, they come to this.
 pub fn expect_however_fed(
     rt: &impl Abort,
     alloc: Global,

@@ -15,8 +15,6 @@ mod command_lines;
 #[cfg(test)]
 mod commands;
 #[cfg(test)]
-mod copies;
-#[cfg(test)]
 mod devices;
 #[cfg(test)]
 mod doubles;
@@ -26,8 +24,6 @@ mod fed;
 mod long_lines;
 #[cfg(test)]
 mod memory;
-#[cfg(test)]
-mod pieces;
 #[cfg(test)]
 mod readers;
 #[cfg(test)]

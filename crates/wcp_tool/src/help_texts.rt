@@ -48,10 +48,10 @@ names the first line that is refused, counted from 1, and says why:
 pub(crate) const PROGRAM_TEXTS: &str = "\
 A trace has a line for each event: its thread, its operation with an argument,
 and its location, as in T0|acq(l)|17. A race is two accesses of one variable by
-different threads, one of them a store, that weak causal precedence does not
-order. Where a trace has a race, its events could have come in an order in which
-two such accesses meet, or in a deadlock. Look at the first race of a report
-first: those after it may be no more than what follows from it.
+different threads, at least one of them a store, that weak causal precedence
+does not order. Where a trace has a race, its events could have come in an order
+in which two such accesses meet, or in a deadlock. Look at the first race of a
+report first: those after it may be no more than what follows from it.
 
 Example:
   printf 'T0|fork(T1)|1\\nT0|w(y)|2\\nT1|r(y)|3\\n' | wcp replay
@@ -98,8 +98,8 @@ for each event that races with an earlier one:
   events E threads T locks L variables V races R
   I|THREAD|OP(VARIABLE)|LOCATION with J|THREAD|OP(VARIABLE)|LOCATION
 I and J number the events from 1, and J is the latest that I races with. Two
-events race where they access one variable, one of them stores, their threads
-differ, and weak causal precedence does not order them.",
+events race where they access one variable, at least one of them stores, their
+threads differ, and weak causal precedence does not order them.",
     "\
 Example:
   printf 'T0|fork(T1)|1\\nT0|w(y)|2\\nT1|r(y)|3\\n' | wcp replay
