@@ -6,13 +6,12 @@ use event_core::ThreadId;
 use log_pass::Name;
 use pass_channel::{PassReceiver, PassSender};
 use std::alloc::{AllocError, Global};
-use std::collections::VecDeque;
 use std::marker::Model;
 
 /// A worker's ends, in the order of its lines. Contracts see whom it is still to fork, and whom to join.
 pub(crate) struct Links<S: Text> {
-    births: VecDeque<PassSender<S, Births>>,
-    ends: VecDeque<PassReceiver<S, Ends<S>>>,
+    births: Vec<PassSender<S, Births>>,
+    ends: Vec<PassReceiver<S, Ends<S>>>,
 }
 
 // By hand, so that each function that drops one does not drop both queues.
@@ -40,8 +39,8 @@ impl<S: Text> Links<S> {
         ensures joins { result.joins ≡ [] }
     {
         Links {
-            births: VecDeque::new(alloc),
-            ends: VecDeque::new(alloc),
+            births: Vec::new(alloc),
+            ends: Vec::new(alloc),
         }
     }
 
@@ -50,7 +49,7 @@ impl<S: Text> Links<S> {
         ensures forks { OnOk result (self.new.forks ≡ self.old.forks ++ birth.to ∷ []) }
         ensures joins { self.new.joins ≡ self.old.joins }
     {
-        self.births.push_back(birth)?;
+        self.births.push(birth)?;
         Ok(())
     }
 
@@ -59,7 +58,7 @@ impl<S: Text> Links<S> {
         ensures forks { self.new.forks ≡ self.old.forks }
         ensures joins { OnOk result (self.new.joins ≡ self.old.joins ++ end.to ∷ []) }
     {
-        self.ends.push_back(end)?;
+        self.ends.push(end)?;
         Ok(())
     }
 
@@ -69,10 +68,7 @@ impl<S: Text> Links<S> {
         ensures forks { self.old.forks ≡ result.to ∷ self.new.forks }
         ensures joins { self.new.joins ≡ self.old.joins }
     {
-        let Some(birth) = self.births.pop_front() else {
-            unreachable!()
-        };
-        birth
+        self.births.remove(0)
     }
 
     /// Takes out the end for the thread that is joined next.
@@ -81,9 +77,6 @@ impl<S: Text> Links<S> {
         ensures forks { self.new.forks ≡ self.old.forks }
         ensures joins { self.old.joins ≡ result.to ∷ self.new.joins }
     {
-        let Some(end) = self.ends.pop_front() else {
-            unreachable!()
-        };
-        end
+        self.ends.remove(0)
     }
 }
