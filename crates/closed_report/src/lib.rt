@@ -6,6 +6,7 @@ mod naming;
 mod reporting;
 
 pub use name_lists::{NameLists, NamingFault, names_of};
+pub use naming::is_named;
 pub use rapid_text::{Device, Names, Output};
 pub use reporting::{ReportFault, report_closed};
 pub use trace_report::Summary;

@@ -1,29 +1,18 @@
 //! Whether each number in a log has a name.
-ghost use Rattle.std.specs.Prelude.{◌≡◌, ◌↔◌, ◌<◌, length, true};
-ghost use Rattle.rapid_text.specs.Events.{HasNames, kind_of, target_of, word_of_op};
-ghost use Rattle.rapid_text.specs.Tables.{space};
+ghost use Rattle.std.specs.Prelude.{◌≡◌, ◌↔◌, true};
+ghost use Rattle.rapid_text.specs.Events.{HasNames};
 ghost use Rattle.trace_report.specs.Reports.{AreNamed};
 
-use event_core::{Event, Log, Op};
-use rapid_text::{Kind, Names};
+use event_core::{Event, Log};
+use rapid_text::{Kind, Names, parts_of};
 
-/// Whether the operation's argument has a name.
-fn has_target(names: &Names, op: Op) -> bool
-    ensures { result ≡ true ↔ target_of op < length (space names.now (kind_of (word_of_op op))).names }
-{
-    match op {
-        Op::Load(var) | Op::Store(var) => var.0 < names.count(Kind::Variable),
-        Op::Acquire(lock) | Op::Release(lock) => lock.0 < names.count(Kind::Lock),
-        Op::Fork(thread) | Op::Join(thread) => thread.0 < names.count(Kind::Thread),
-    }
-}
-
-/// Whether each number of the event has a name.
-fn is_named(names: &Names, event: &Event) -> bool
+/// Whether each number of the event has a name. So `write_event` may be asked for its line.
+pub fn is_named(names: &Names, event: &Event) -> bool
     ensures { result ≡ true ↔ HasNames names.now event.now }
 {
+    let (_, kind, number) = parts_of(event.op);
     event.thread.0 < names.count(Kind::Thread)
-        && has_target(names, event.op)
+        && number < names.count(kind)
         && event.site.0 < names.count(Kind::Site)
 }
 

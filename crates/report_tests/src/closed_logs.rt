@@ -1,12 +1,10 @@
 //! The log that a script's threads leave: its events, written line by line with the names of the script.
-ghost use Rattle.std.specs.Prelude.{◌≡◌, true};
-ghost use Rattle.rapid_text.specs.Events.{HasNames};
-
 use crate::doubles::{Page, Room, Text};
 use crate::runs::{REPLAY, Run};
-use event_core::{Event, Limits, Roots, ThreadId};
+use closed_report::is_named;
+use event_core::{Limits, Roots, ThreadId};
 use live_monitor::Closed;
-use rapid_text::{Device, Kind, Names, parts_of, write_event};
+use rapid_text::{Device, Names, write_event};
 use script_drive::{DriveFault, FreeGate, Gate, drive};
 use script_text::Script;
 use std::fs::Files;
@@ -57,16 +55,6 @@ const OVERLAP: Case = Case {
     ],
     report: "events 3 threads 2 locks 0 variables 2 races 0\n",
 };
-
-/// Whether the numbers of the event have names.
-fn is_named(names: &Names, event: &Event) -> bool
-    ensures { result ≡ true → HasNames names.now event.now }
-{
-    let (_, kind, number) = parts_of(event.op);
-    event.thread.0 < names.count(Kind::Thread)
-        && number < names.count(kind)
-        && event.site.0 < names.count(Kind::Site)
-}
 
 /// Writes the lines of the events: whether all are written.
 fn write_events(page: &mut Page, closed: &Closed, names: &Names) -> bool {
