@@ -29,7 +29,7 @@ pub fn cut_at(bytes: &[u8], byte: u8) -> Option<(&[u8], &[u8])>
 }
 
 /// What stands before the byte at the end.
-pub fn strip_last(bytes: &[u8], byte: u8) -> Option<&[u8]>
+pub(crate) fn strip_last(bytes: &[u8], byte: u8) -> Option<&[u8]>
     ensures { option_map (λ p. p.now) result ≡ before_end byte bytes.now }
 {
     let len = bytes.len();

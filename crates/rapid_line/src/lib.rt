@@ -10,8 +10,8 @@ mod lines;
 mod marks;
 mod words;
 
-pub use bytes::{contains, cut_at, strip_last, without_cr};
+pub use bytes::{contains, cut_at, without_cr};
 pub use line_cutter::{CutLine, LineCutter, LineTooLong};
 pub use lines::{NamedLine, one_content, one_reading, read_barred, read_line};
-pub use marks::{Line, first_line, longer_first_line};
+pub use marks::{Line, first_line};
 pub use words::{LineFault, Word};

@@ -115,7 +115,7 @@ pub fn first_line(text: &[u8]) -> Option<(Line<'_>, &[u8])>
 /// The same by a look at 64 bytes, for a line that 32 do not show.
 ///
 /// None, unless the text has 64 bytes at least, and the line ends within these, has two bars and no CR.
-pub fn longer_first_line(text: &[u8]) -> Option<(Line<'_>, &[u8])>
+pub(crate) fn longer_first_line(text: &[u8]) -> Option<(Line<'_>, &[u8])>
     ensures cut { IfSome result (λ p. cut 10 text.now ≡ Some (p.0.bytes.now, p.1.now)) }
     ensures known { IfSome result (λ p. IsKnown p.0) }
     ensures none { result ≡ None → ShowsLine 64 text.now → ⊥ }
