@@ -7,7 +7,7 @@ use Rattle.rapid_line.specs.Cut.{content}
 use Rattle.rapid_text.specs.declared.causes.Cause.{Cause}
 use Rattle.rapid_text.specs.Tables.{Tables}
 use Rattle.rapid_text.specs.Events.{reading}
-use Rattle.rapid_text.specs.Texts.{Judgement, with_event, after_line, judge, BeginsAt}
+use Rattle.rapid_text.specs.Texts.{Judgement, with_event, after_line, judge, BeginsAt, FirstAt}
 
 first_of : (A : Type 0) (n m : ℕ) (a b : A) → (let o : Option (ℕ × A) = Some (n, a) in o) ≡ Some (m, b)
     → n ≡ m
@@ -65,3 +65,25 @@ pub begins_fault : (n : ℕ) (names : Tables) (j : Judgement) (m : ℕ) (c : Cau
     → j.fault ≡ Some (m, c) → n ≤ m
 begins_fault n names j m c b is =
     judge_fault b.lines b.before n m c (ap (λ (k : Judgement). k.fault) (sym b.same) ∙ is)
+
+-- ---- the first of both
+
+some_is : (n m : ℕ) → (let o : Option ℕ = Some n in o) ≡ Some m → n ≡ m
+some_is n m e = ap (λ (o : Option ℕ). unwrap_or o n) e
+
+first_with : (o : Option Event) (n m : ℕ) (j : Judgement) → (FirstAt m j → n ≤ m)
+    → FirstAt m (with_event n o j) → n ≤ m
+first_with None n m j later is = later is
+first_with (Some e) n m j later is = let same = some_is n m is in omega (arith, same)
+
+first_after : (r : Result (Option Event × Tables) Cause) (t : Tables) (n m : ℕ) (go : Tables → Judgement)
+    → ((u : Tables) → FirstAt m (go u) → n ≤ m) → FirstAt m (after_line t n r go) → n ≤ m
+first_after (Err f) t n m go later is = let same = some_is n m is in omega (arith, same)
+first_after (Ok p) t n m go later is = first_with p.0 n m (go p.1) (later p.1) is
+
+-- the first line with an event or a fault is none before the first
+pub first_from : (ls : List (List ℕ)) (t : Tables) (n m : ℕ) → FirstAt m (judge ls t n) → n ≤ m
+first_from [] t n m is = absurd cc
+first_from (l ∷ ls) t n m is =
+    first_after (reading t (content l)) t n m (λ u. judge ls u (n + 1))
+    (λ u first. let later = first_from ls u (n + 1) m first in omega (arith, later)) is

@@ -27,21 +27,21 @@ use Rattle.std.proofs.Common.{
   append_assoc,
   arith,
 }
-use Rattle.std.specs.Prelude.{unwrap_or}
+use Rattle.std.specs.Prelude.{◌≢◌, unwrap_or}
 use Rattle.std.proofs.lemmas.List.{length-append, append-nil, take-append-le, drop_at, drop_all, take_all}
 use Rattle.event_core.specs.declared.events.Event.{Event}
 use Rattle.rapid_line.specs.declared.words.LineFault.TheVariants.{LineTooLong}
 use Rattle.rapid_line.specs.Cut.{count, Lacks, after_last}
-use Rattle.rapid_line.specs.Lines.{Lines, lines_of, to_come, most, Cuts, Keeps, IsTooLong}
+use Rattle.rapid_line.specs.Lines.{Lines, lines_of, to_come, most, Cuts, Keeps, Ends, IsTooLong}
 use Rattle.rapid_line.proofs.Cuts.{count-append, count-Lacks}
 use Rattle.rapid_line.proofs.Cuts.{after_last-Lacks, after_last-more, after_last-end}
 use Rattle.rapid_line.proofs.LineLaws.{first_cut}
 use Rattle.rapid_text.specs.declared.causes.Cause.{Cause}
 use Rattle.rapid_text.specs.declared.causes.Cause.TheVariants as causes
 use Rattle.rapid_text.specs.Tables.{Tables, TablesGrow}
-use Rattle.rapid_text.specs.Events.{content, reading}
-use Rattle.rapid_text.specs.Texts.{Judgement, stopped, with_event, after_line, judge}
-use Rattle.rapid_text.specs.Cutting.{Cutting, judged, Stops, Pushes}
+use Rattle.rapid_text.specs.Events.{content, reading, Fails}
+use Rattle.rapid_text.specs.Texts.{Judgement, stopped, with_event, after_line, judge, ended, FirstAt}
+use Rattle.rapid_text.specs.Cutting.{Cutting, judged, Stops, Pushes, FailsAt, ClosesAt}
 use Rattle.rapid_text.proofs.LongLines.{reading_long}
 use Rattle.rapid_text.proofs.NameGrowth.{TablesGrow-refl, TablesGrow-trans}
 
@@ -300,3 +300,83 @@ long_at start piece names lines rest n at g long more =
     (reading_long names next.0 next.3) in
     let told : ℕ → Option (ℕ × Cause) = λ m. Some (m, causes.Line LineTooLong) in
     (both.0, both.1 ∙ ap told (sym at))
+
+event_first : (o : Option Event) (n : ℕ) (j : Judgement) → o ≢ None → FirstAt n (with_event n o j)
+event_first None n j some = absurd (some refl)
+event_first (Some e) n j some = refl
+
+-- a line that is not without an event is the first
+read_first : (read : Result (Option Event × Tables) Cause) (names : Tables) (n : ℕ)
+    (go : Tables → Judgement) → ((t : Tables) → read ≢ Ok (None, t)) → FirstAt n (after_line names n read go)
+read_first (Err f) names n go told = refl
+read_first (Ok p) names n go told =
+    let read : Option Event → Result (Option Event × Tables) Cause = λ o. Ok (o, p.1) in
+    event_first p.0 n (go p.1) (λ none. told p.1 (ap read none))
+
+-- the text begins with this line
+first_there : (j : Judgement) (names : Tables) (line : List ℕ) (n m : ℕ) (go : Tables → Judgement)
+    → n ≡ m → j ≡ after_line names m (reading names (content line)) go
+    → ((t : Tables) → reading names (content line) ≢ Ok (None, t)) → FirstAt n j
+first_there j names line n m go at is told =
+    subst (λ (k : ℕ). FirstAt k j) (sym at) (subst (λ (i : Judgement). FirstAt m i) (sym is)
+    (read_first (reading names (content line)) names m go told))
+
+stopped_there : (j : Judgement) (names : Tables) (line : List ℕ) (n m : ℕ) (go : Tables → Judgement)
+    (k : Cause) → n ≡ m → j ≡ after_line names m (reading names (content line)) go
+    → reading names (content line) ≡ Err k → (j.events ≡ []) × (j.fault ≡ Some (n, k))
+stopped_there j names line n m go k at is r =
+    let stop : j ≡ stopped names m k =
+    is ∙ ap (λ (o : Result (Option Event × Tables) Cause). after_line names m o go) r in
+    let told : ℕ → Option (ℕ × Cause) = λ i. Some (i, k) in
+    (ap (λ (i : Judgement). i.events) stop, ap (λ (i : Judgement). i.fault) stop ∙ ap told (sym at))
+
+-- the next line is judged so, whatever follows
+next_judged : (start : Cutting) (piece : List ℕ) (names : Tables) (lines next : Lines)
+    (rest line after more : List ℕ) → Going start piece names lines rest → Cuts lines rest line after next
+    → judged start (piece ++ more) ≡ after_line names lines.unfinished (reading names (content line))
+    (λ t. judge (to_come next (after ++ more)) t (lines.unfinished + 1))
+next_judged start piece names lines next rest line after more g c =
+    g.sound more
+    ∙ line_judged names lines rest line (to_come next (after ++ more)) more (reading names (content line))
+    (c.law more) refl
+
+-- the fault of a line that ended
+pub fails_at : (start : Cutting) (piece : List ℕ) (names : Tables) (lines next : Lines)
+    (rest line after : List ℕ) (n : ℕ) (k : Cause) → n ≡ lines.unfinished
+    → Going start piece names lines rest → Cuts lines rest line after next
+    → Fails k (reading names (content line)) → ((t : Tables) → reading names (content line) ≢ Ok (None, t))
+    → FailsAt start piece (record { line = n; cause = k }) k
+fails_at start piece names lines next rest line after n causes.OutOfMemory at g c fails told =
+    λ more. first_there _ names line n lines.unfinished _ at
+    (next_judged start piece names lines next rest line after more g c) told
+fails_at start piece names lines next rest line after n causes.Read at g c fails told = absurd fails
+fails_at start piece names lines next rest line after n causes.Failed at g c fails told = absurd fails
+fails_at start piece names lines next rest line after n (causes.Line x) at g c fails told =
+    λ more. stopped_there _ names line n lines.unfinished _ (causes.Line x) at
+    (next_judged start piece names lines next rest line after more g c) fails
+fails_at start piece names lines next rest line after n (causes.TooManyNames x) at g c fails told =
+    λ more. stopped_there _ names line n lines.unfinished _ (causes.TooManyNames x) at
+    (next_judged start piece names lines next rest line after more g c) fails
+
+last_judged : (names : Tables) (lines next : Lines) (told : ℕ) (line : List ℕ) → Ends lines line next
+    → judged (cutting_of names lines told) []
+    ≡ after_line names lines.unfinished (reading names (content line)) (λ t. ended t)
+last_judged names lines next told line e =
+    ap (λ (ls : List (List ℕ)). judge ls names lines.unfinished) e.law
+
+-- the fault of the last line
+pub closes_at : (names : Tables) (lines next : Lines) (last : ℕ) (line : List ℕ) (n : ℕ) (k : Cause)
+    → n ≡ lines.unfinished → Ends lines line next → Fails k (reading names (content line))
+    → ((t : Tables) → reading names (content line) ≢ Ok (None, t))
+    → ClosesAt (cutting_of names lines last) (record { line = n; cause = k }) k
+closes_at names lines next last line n causes.OutOfMemory at e fails told =
+    first_there _ names line n lines.unfinished (λ t. ended t) at (last_judged names lines next last line e)
+    told
+closes_at names lines next last line n causes.Read at e fails told = absurd fails
+closes_at names lines next last line n causes.Failed at e fails told = absurd fails
+closes_at names lines next last line n (causes.Line x) at e fails told =
+    stopped_there _ names line n lines.unfinished (λ t. ended t) (causes.Line x) at
+    (last_judged names lines next last line e) fails
+closes_at names lines next last line n (causes.TooManyNames x) at e fails told =
+    stopped_there _ names line n lines.unfinished (λ t. ended t) (causes.TooManyNames x) at
+    (last_judged names lines next last line e) fails

@@ -10,9 +10,10 @@ use Rattle.rapid_text.specs.declared.causes.Cause.{Cause}
 use Rattle.rapid_text.specs.declared.causes.Cause.TheVariants as causes
 use Rattle.rapid_text.specs.declared.causes.TextFault.{TextFault}
 use Rattle.rapid_text.specs.Tables.{Tables, TablesGrow}
-use Rattle.rapid_text.specs.Texts.{Judgement, with_event, ended, judge, lines_of, BeginsAt}
+use Rattle.rapid_text.specs.Texts.{Judgement, with_event, ended, judge, lines_of, BeginsAt, FirstAt}
+use Rattle.rapid_text.proofs.Begins.{first_from}
 use Rattle.rapid_text.proofs.NameGrowth.{TablesGrow-trans}
-use Rattle.rapid_text.specs.Cutting.{Cutting, judged, most, Pushes, Closes, ClosesAt, Closed}
+use Rattle.rapid_text.specs.Cutting.{Cutting, judged, most, Pushes, FailsAt, Closes, ClosesAt}
 use Rattle.rapid_text.specs.Pulling.{
   Pulling,
   pulling_of,
@@ -74,14 +75,24 @@ follows_end None c d left h a k = tt
 follows_end (Some j) c d None h a k = absurd h
 follows_end (Some j) c d (Some l) h a k = h ∙ ap (λ (t : List ℕ). judged c t) a ∙ k.sound
 
-follows_closed : (x : Option Judgement) (c : Cutting) (left : Option (List ℕ)) (f : TextFault)
-    → Follows x (λ j. j) (text_of c [] left) → IsAtEnd left → Closed c f
-    → IfSome x (λ j. (j.events ≡ []) × (j.fault ≡ Some (f.line, f.cause)))
-follows_closed None c left f h a s = tt
-follows_closed (Some j) c None f h a s = absurd h
-follows_closed (Some j) c (Some l) f h a s =
-    let e = h ∙ ap (λ (t : List ℕ). judged c t) a in
-    (ap (λ (y : Judgement). y.events) e ∙ s.0, ap (λ (y : Judgement). y.fault) e ∙ s.1)
+-- what is so whatever follows
+follows_all : (P : Judgement → Type 0) (x : Option Judgement) (c : Cutting) (w : List ℕ)
+    (left : Option (List ℕ))
+    → Follows x (λ j. j) (text_of c w left) → ((more : List ℕ) → P (judged c (w ++ more))) → IfSome x P
+follows_all P None c w left h all = tt
+follows_all P (Some j) c w None h all = absurd h
+follows_all P (Some j) c w (Some l) h all = subst P (sym h) (all l)
+
+-- what is so at the end of the text
+follows_last : (P : Judgement → Type 0) (x : Option Judgement) (c : Cutting) (left : Option (List ℕ))
+    → Follows x (λ j. j) (text_of c [] left) → IsAtEnd left → P (judged c []) → IfSome x P
+follows_last P None c left h a last = tt
+follows_last P (Some j) c None h a last = absurd h
+follows_last P (Some j) c (Some l) h a last = subst P (sym (h ∙ ap (λ (t : List ℕ). judged c t) a)) last
+
+-- the text stops with the fault
+abbrev Stopped : TextFault → Judgement → Type 0
+Stopped f j = (j.events ≡ []) × (j.fault ≡ Some (f.line, f.cause))
 
 -- ---- the loop
 
@@ -90,6 +101,7 @@ pub record Running (start : Pulling) (from : Option (List ℕ)) (c : Cutting) (w
     (left : Option (List ℕ)) : Type 0 where
   pub same : Follows (to_judge start from) (λ j. j) (text_of c w left)
   pub line : c.line ≡ start.line
+  pub later : start.unfinished ≤ c.unfinished
   pub live : c.failed ≡ None
   pub room : c.taken + length w + 4096 * turns ≤ most
   pub turns_left : turns ≤ start.turns
@@ -108,6 +120,7 @@ runs_on start from c d w v u turns used left rest r p is some k short =
     record {
       same = follows_fill (to_judge start from) d v left rest empty k;
       line = p.line refl ∙ r.line;
+      later = omega (arith, r.later, p.lines);
       live = p.live.1;
       room = omega (arith, p.taken, all, r.room, short, some);
       turns_left = omega (arith, r.turns_left);
@@ -182,15 +195,40 @@ closes_text start from c d f w v turns after used left rest event r p k none a z
 end_fault : (start new : Pulling) (from rest : Option (List ℕ)) (d : Cutting) (b : Bool) (f : TextFault)
     (k : Cause)
     → Follows (to_judge start from) (λ j. j) (text_of d [] rest) → d.failed
-    ≡ None → IsAtEnd rest → ClosesAt d f k → NoAnswer start from new rest b f k
-end_fault start new from rest d b f causes.OutOfMemory h live a s = tt
-end_fault start new from rest d b f causes.Read h live a s = absurd s
-end_fault start new from rest d b f causes.Failed h live a s = let clash : None ≡ Some f.line = sym live
-    ∙ s in absurd cc
-end_fault start new from rest d b f (causes.Line y) h live a s = follows_closed
-    (to_judge start from) d rest f h a s
-end_fault start new from rest d b f (causes.TooManyNames y) h live a s = follows_closed
-    (to_judge start from) d rest f h a s
+    ≡ None → start.unfinished ≤ d.unfinished → IsAtEnd rest → ClosesAt d f k
+    → NoAnswer start from new rest b f k
+end_fault start new from rest d b f causes.OutOfMemory h live later a s =
+    let first = first_from (lines_of (d.kept ++ [])) d.names d.unfinished f.line s in
+    record {
+      at = follows_last (FirstAt f.line) (to_judge start from) d rest h a s;
+      unjudged = omega (arith, later, first);
+    }
+end_fault start new from rest d b f causes.Read h live later a s = absurd s
+end_fault start new from rest d b f causes.Failed h live later a s =
+    let clash : None ≡ Some f.line = sym live ∙ s in absurd cc
+end_fault start new from rest d b f (causes.Line y) h live later a s =
+    follows_last (Stopped f) (to_judge start from) d rest h a s
+end_fault start new from rest d b f (causes.TooManyNames y) h live later a s =
+    follows_last (Stopped f) (to_judge start from) d rest h a s
+
+-- a push that failed
+pub push_fails : (start new : Pulling) (from : Option (List ℕ)) (c : Cutting) (w : List ℕ) (turns : ℕ)
+    (left rest : Option (List ℕ)) (b : Bool) (f : TextFault) (k : Cause)
+    → Running start from c w turns left → FailsAt c w f k → NoAnswer start from new rest b f k
+push_fails start new from c w turns left rest b f causes.OutOfMemory r s =
+    let first = first_from (lines_of (c.kept ++ (w ++ []))) c.names c.unfinished f.line (s []) in
+    record {
+      at = follows_all (FirstAt f.line) (to_judge start from) c w left r.same s;
+      unjudged = omega (arith, r.later, first);
+    }
+push_fails start new from c w turns left rest b f causes.Read r s =
+    absurd (let over = s.1 in omega (arith, r.room, over))
+push_fails start new from c w turns left rest b f causes.Failed r s =
+    let clash : None ≡ Some f.line = sym r.live ∙ s in absurd cc
+push_fails start new from c w turns left rest b f (causes.Line y) r s =
+    follows_all (Stopped f) (to_judge start from) c w left r.same s
+push_fails start new from c w turns left rest b f (causes.TooManyNames y) r s =
+    follows_all (Stopped f) (to_judge start from) c w left r.same s
 
 pub end_fails : (start new : Pulling) (from : Option (List ℕ)) (c d : Cutting) (w v : List ℕ)
     (turns used : ℕ) (left rest : Option (List ℕ)) (b : Bool) (f : TextFault)
@@ -202,17 +240,9 @@ end_fails start new from c d w v turns used left rest b f r p k none a s =
     let came = follows_fill (to_judge start from) d v left rest pushed k in
     let same = subst (λ (t : List ℕ). Follows (to_judge start from) (λ j. j)
     (text_of d t rest)) none came in
-    end_fault start new from rest d b f f.cause same p.live.1 a s
+    end_fault start new from rest d b f f.cause same p.live.1 (omega (arith, r.later, p.lines)) a s
 
 -- ---- where what is left begins
-
-closed_begins : (x : Option Judgement) (d : Cutting) (rest : Option (List ℕ)) (n : ℕ) (names : Tables)
-    → Follows x (λ j. j) (text_of d [] rest) → IsAtEnd rest → BeginsAt n names (judged d [])
-    → IfSome x (BeginsAt n names)
-closed_begins None d rest n names h a b = tt
-closed_begins (Some j) d None n names h a b = absurd h
-closed_begins (Some j) d (Some l) n names h a b =
-    subst (λ (k : Judgement). BeginsAt n names k) (sym (h ∙ ap (λ (t : List ℕ). judged d t) a)) b
 
 -- a fault at the end of the text
 pub end_begins : (start : Pulling) (from : Option (List ℕ)) (c d : Cutting) (w v : List ℕ)
@@ -225,7 +255,7 @@ end_begins start from c d w v turns used left rest n names r p k none a b =
     let came = follows_fill (to_judge start from) d v left rest pushed k in
     let same = subst (λ (t : List ℕ). Follows (to_judge start from) (λ j. j)
     (text_of d t rest)) none came in
-    closed_begins (to_judge start from) d rest n names same a b
+    follows_last (BeginsAt n names) (to_judge start from) d rest same a b
 
 -- after the end nothing is left
 pub ended_text : (p : Pulling) (left : Option (List ℕ)) → p.ended ≡ true → length p.came ≡ 0 → Ends p left p

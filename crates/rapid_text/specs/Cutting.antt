@@ -10,7 +10,7 @@ use Rattle.rapid_line.specs.Cut.{count, after_last}
 -- the most bytes that a cutter takes, 2 ^ 60
 pub use Rattle.rapid_line.specs.Lines.{most}
 use Rattle.rapid_text.specs.Tables.{Tables, no_names}
-use Rattle.rapid_text.specs.Texts.{Judgement, judge, lines_of, with_event, ended, BeginsAt}
+use Rattle.rapid_text.specs.Texts.{Judgement, judge, lines_of, with_event, ended, BeginsAt, FirstAt}
 
 -- what a cutter holds: the names, the last answer's line, the number and the bytes of the line whose end was
 -- not seen, how many bytes came, and the line of the first fault
@@ -60,9 +60,9 @@ Stops s piece f = (more : List ℕ) →
 abbrev pub JudgedUpTo : Cutting → List ℕ → ℕ → Tables → Type 0
 JudgedUpTo s piece n names = (more : List ℕ) → BeginsAt n names (judged s (piece ++ more))
 
--- why a push failed
+-- why a push failed; a growth is refused at the first line with an event or a fault, whatever follows
 abbrev pub FailsAt : Cutting → List ℕ → TextFault → Cause → Type 0
-FailsAt s piece f causes.OutOfMemory = Unit {0}
+FailsAt s piece f causes.OutOfMemory = (more : List ℕ) → FirstAt f.line (judged s (piece ++ more))
 FailsAt s piece f causes.Read = (f.line ≡ s.unfinished) × (most < s.taken + length piece)
 FailsAt s piece f causes.Failed = s.failed ≡ Some f.line
 FailsAt s piece f (causes.Line c) = Stops s piece f
@@ -82,7 +82,7 @@ Closed s f = ((judged s []).events ≡ []) × ((judged s []).fault ≡ Some (f.l
 
 -- why the end of the text failed
 abbrev pub ClosesAt : Cutting → TextFault → Cause → Type 0
-ClosesAt s f causes.OutOfMemory = Unit {0}
+ClosesAt s f causes.OutOfMemory = FirstAt f.line (judged s [])
 ClosesAt s f causes.Read = ⊥
 ClosesAt s f causes.Failed = s.failed ≡ Some f.line
 ClosesAt s f (causes.Line c) = Closed s f

@@ -25,7 +25,7 @@ use Rattle.rapid_text.specs.declared.causes.TextFault.{TextFault}
 use Rattle.rapid_line.specs.Cut.{Lacks}
 use Rattle.rapid_text.specs.Tables.{Tables, no_names}
 use Rattle.rapid_text.specs.Cutting.{Cutting}
-use Rattle.rapid_text.specs.Texts.{Judgement, judge, lines_of, with_event, ended}
+use Rattle.rapid_text.specs.Texts.{Judgement, judge, lines_of, with_event, ended, FirstAt}
 
 -- what a reader holds but for its input: the names, the last answer's line, the number of the line whose end
 -- was not seen,
@@ -110,11 +110,16 @@ pub record ReadFails (old : Pulling) (left : Option (List ℕ)) (new : Pulling) 
   pub unjudged : Lacks 10 new.came
   pub short : length new.came ≤ 1025
 
+-- a growth was refused at the first line with an event or a fault, and at none that was judged before
+pub record GrowthFails (old : Pulling) (left : Option (List ℕ)) (f : TextFault) : Type 0 where
+  pub at : IfSome (to_judge old left) (FirstAt f.line)
+  pub unjudged : old.unfinished ≤ f.line
+
 -- why there is no next answer
 abbrev pub NoAnswer : Pulling → Option (List ℕ) → Pulling → Option (List ℕ) → Bool → TextFault → Cause
     → Type 0
 NoAnswer old left new rest read_failed f (causes.Line c) = StopsAt old left f
 NoAnswer old left new rest read_failed f (causes.TooManyNames k) = StopsAt old left f
-NoAnswer old left new rest read_failed f causes.OutOfMemory = Unit {0}
+NoAnswer old left new rest read_failed f causes.OutOfMemory = GrowthFails old left f
 NoAnswer old left new rest read_failed f causes.Read = ReadFails old left new rest read_failed f
 NoAnswer old left new rest read_failed f causes.Failed = old.failed ≡ Some f.line

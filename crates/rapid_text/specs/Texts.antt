@@ -1,5 +1,5 @@
 -- The meaning of a whole text: its events with their lines, up to the first fault, and its names.
-use Rattle.std.specs.Prelude.{◌≡◌, ℕ, ◌+◌, List, [], ◌∷◌, Option, Some, None, Result, Ok, Err}
+use Rattle.std.specs.Prelude.{◌≡◌, ℕ, ◌+◌, List, [], ◌∷◌, Option, Some, None, Result, Ok, Err, option_map}
 use Rattle.event_core.specs.declared.events.Event.{Event}
 use Rattle.rapid_text.specs.declared.causes.Cause.{Cause}
 -- the lines of a text, each without its LF; an empty rest after the last LF is no line
@@ -47,3 +47,12 @@ pub record BeginsAt (n : ℕ) (names : Tables) (j : Judgement) : Type 0 where
   pub lines : List (List ℕ)
   pub same : j ≡ judge lines before n
   pub grows : TablesGrow before names
+
+-- the line of the first event, or else of the fault
+abbrev pub first_line : List (ℕ × Event) → Option (ℕ × Cause) → Option ℕ
+first_line [] fault = option_map (λ p. p.0) fault
+first_line (e ∷ es) fault = Some e.0
+
+-- the first line with an event or a fault has this number
+abbrev pub FirstAt : ℕ → Judgement → Type 0
+FirstAt n j = first_line j.events j.fault ≡ Some n

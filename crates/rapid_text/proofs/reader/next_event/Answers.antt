@@ -1,10 +1,10 @@
-use Rattle.std.proofs.Common.{◌∙◌, ◌-◌, arith, ap, length, length-drop}
+use Rattle.std.proofs.Common.{◌∙◌, ◌-◌, arith, ap, subst, length, length-drop, List, ℕ}
 use Rattle.std.proofs.Math.Bool.{or-false}
-use Rattle.rapid_text.specs.Cutting.{Cutting}
+use Rattle.rapid_text.specs.Cutting.{Cutting, FailsAt}
 use Rattle.rapid_text.specs.Pulling.{pulling_of}
 use Rattle.rapid_text.proofs.NameGrowth.{TablesGrow-trans, TablesGrow-same}
 use Rattle.rapid_text.proofs.Pulls.{runs_on, no_event, grown, handed_on, after_push, closes_text}
-use Rattle.rapid_text.proofs.Pulls.{end_fails, end_begins}
+use Rattle.rapid_text.proofs.Pulls.{push_fails, end_fails, end_begins}
 use Rattle.rapid_text.proofs.Turns.{takes_more}
 use Rattle.rapid_text.proofs.reader.next_event.Goals as goal
 
@@ -85,6 +85,15 @@ pub returns-then-is_some-clause-grows : goal.returns-then-is_some-clause-grows
 returns-then-is_some-clause-grows g c =
     TablesGrow-trans c.args.cutter.now.names c.pulls.cutter.names c.push.new.self.names
     c.pulls.invariant.grows c.push.ensures.grows
+
+pub returns-in_err-used-clause-fault : goal.returns-in_err-used-clause-fault
+returns-in_err-used-clause-fault g c =
+    let fault = c.in_err-used.field-0.0 in
+    rw (handed_on c.from_residual.result fault c.from_residual.ensures.1, c.requires.begun)
+    (push_fails _ (pulling_of c.push.new.self c.pulls.window c.pulls.turns c.pulls.ended) _ _ _ _ _ _ _ _
+    fault.cause c.pulls.invariant.running
+    (subst (λ (w : List ℕ). FailsAt c.pulls.cutter w fault fault.cause) c.waiting.ensures
+    c.in_err-used.ensures.fault))
 
 pub returns-in_err-used-clause-grows : goal.returns-in_err-used-clause-grows
 returns-in_err-used-clause-grows g c =

@@ -3,7 +3,8 @@ use Rattle.rapid_line.specs.Lines.{Lines}
 use Rattle.rapid_text.specs.declared.causes.TextFault.{TextFault}
 use Rattle.rapid_text.specs.Cutting.{Cutting, FailsAt}
 use Rattle.rapid_text.proofs.NameGrowth.{TablesGrow-trans}
-use Rattle.rapid_text.proofs.Pieces.{Going, live, goes_first, goes_on, goes_down, gives, keeps, long_at}
+use Rattle.rapid_text.proofs.Pieces.{Going, live, goes_first, goes_on, goes_down, gives, keeps}
+use Rattle.rapid_text.proofs.Pieces.{long_at, fails_at}
 use Rattle.rapid_text.proofs.cutter.Cutter.push.Goals as goal
 
 pub lines-init : goal.lines-init
@@ -40,6 +41,18 @@ returns-in-Err-clause-fault c =
     (sym c.fail-in-Err.ensures.fault)
     (long_at c.args.self.now c.args.piece.now c.lines.self-inside.names lines c.lines.rest.now
     c.unfinished-line-in-Err.result at c.lines.invariant.going c.in-Err.ensures.too_long)
+
+pub returns-in-Err-line_event-clause-fault : goal.returns-in-Err-line_event-clause-fault
+returns-in-Err-line_event-clause-fault c =
+    let now = c.lines.self-inside in
+    let cut = rw c.in-Ok-Some.field-0-is at c.in-Ok-Some.ensures.line in
+    subst (λ (f : TextFault). FailsAt c.args.self.now c.args.piece.now f f.cause)
+    (sym c.fail-in-Err-line_event.ensures.fault)
+    (fails_at c.args.self.now c.args.piece.now now.names now.lines c.next_line.new.self c.lines.rest.now _
+    c.in-Ok-Some.cut.1.now c.in-Ok-Some.cut.0.number c.in-Err-line_event.cause
+    (rw c.in-Ok-Some.field-0-is at c.in-Ok-Some.ensures.number) c.lines.invariant.going cut
+    (rw c.line.ensures.bytes at c.in-Err-line_event.ensures.fault)
+    (rw c.line.ensures.bytes at c.in-Err-line_event.ensures.told))
 
 pub lines-smaller : goal.lines-smaller
 lines-smaller c =
