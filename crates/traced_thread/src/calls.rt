@@ -13,7 +13,7 @@ ghost use Rattle.live_monitor.specs.Calls.{
   Declined,
 };
 ghost use Rattle.live_monitor.specs.Swaps.{AcceptedSwap, DeclinedSwap};
-ghost use Rattle.live_monitor.specs.Tries.{AreUsedUp};
+ghost use Rattle.live_monitor.specs.Tries.{one_more, AreUsedUp};
 ghost use Rattle.traced_thread.specs.Handles.{HasComeTo};
 
 use crate::handle::{TracedThread, take};
@@ -92,7 +92,8 @@ impl<'m, N: Name> TracedThread<'m, N> {
     }
 
     /// Acquires the lock. It is tried once at least, and again while another thread holds it and tries are
-    /// left. `Held` is the answer only where all were made.
+    /// left. `Held` is the answer only where all were made. At least one is counted where one was left; no
+    /// clause tells that no more are made than are counted.
     pub fn acquire_within<R: Wait>(
         &mut self,
         rt: &R,
@@ -107,7 +108,7 @@ impl<'m, N: Name> TracedThread<'m, N> {
             (λ answer. Declined N.limits (acquire_by self.old.thread lock site) self.old self.new answer) }
         ensures used_up { (by : Thread) → IfErr result (λ answer. answer ≡ Held by → AreUsedUp tries.new) }
         ensures same_most { tries.new.most ≡ tries.old.most }
-        ensures counts_up { tries.old.made ≤ tries.new.made }
+        ensures counts_up { (one_more tries.old).made ≤ tries.new.made }
     {
         let pass = take(&mut self.pass);
         let (pass, answer) = self.monitor.acquire_within(rt, pass, lock, site, tries);

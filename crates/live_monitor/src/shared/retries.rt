@@ -3,7 +3,7 @@ ghost use Rattle.std.specs.Prelude.{◌≡◌, ◌≤◌, None, IfOk, IfErr};
 ghost use Rattle.event_core.specs.declared.ids.ThreadId.{ThreadId as Thread};
 ghost use Rattle.event_core.specs.declared.replies.Refusal.TheVariants.{Held};
 ghost use Rattle.live_monitor.specs.Calls.{acquire_by, Accepted, Declined, HasComeTo};
-ghost use Rattle.live_monitor.specs.Tries.{AreUsedUp};
+ghost use Rattle.live_monitor.specs.Tries.{one_more, AreUsedUp};
 
 use crate::shared::Shared;
 use crate::tries::Tries;
@@ -14,7 +14,8 @@ use std::sync::Wait;
 
 impl<N: Name> Shared<N> {
     /// Acquires the lock. It is tried once at least, and again while another thread holds it and tries are
-    /// left. `Held` is the answer only where all were made.
+    /// left. `Held` is the answer only where all were made. At least one is counted where one was left; no
+    /// clause tells that no more are made than are counted.
     pub fn acquire_within<R: Wait>(
         &self,
         rt: &R,
@@ -31,7 +32,7 @@ impl<N: Name> Shared<N> {
             (λ answer. Declined N.limits (acquire_by pass.thread lock site) pass result.0 answer) }
         ensures used_up { (by : Thread) → IfErr result.1 (λ answer. answer ≡ Held by → AreUsedUp tries.new) }
         ensures same_most { tries.new.most ≡ tries.old.most }
-        ensures counts_up { tries.old.made ≤ tries.new.made }
+        ensures counts_up { (one_more tries.old).made ≤ tries.new.made }
     {
         let mut pass = pass;
         let backoff = Backoff::new();

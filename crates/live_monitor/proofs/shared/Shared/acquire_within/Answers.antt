@@ -1,4 +1,5 @@
-use Rattle.std.proofs.Common.{rules, arith}
+use Rattle.std.proofs.Common.{ap, arith, rules}
+use Rattle.live_monitor.specs.Tries.{Tried}
 use Rattle.live_monitor.proofs.Retries.{tried_more, later_of_all, accepted_of_all, declined_of_all}
 use Rattle.live_monitor.proofs.shared.Shared.acquire_within.Goals as goal
 
@@ -27,3 +28,8 @@ returns-then-not-go_on_after-clause-declined g c =
 pub returns-then-not-go_on_after-clause-used_up : goal.returns-then-not-go_on_after-clause-used_up
 returns-then-not-go_on_after-clause-used_up g c =
     c.go_on_after.ensures.used_up c.if-not-go_on_after.true
+
+pub returns-then-not-go_on_after-clause-counts_up : goal.returns-then-not-go_on_after-clause-counts_up
+returns-then-not-go_on_after-clause-counts_up g c =
+    let made = ap (λ (t : Tried). t.made) c.acquire-next.ensures.counted in
+    omega (arith, c.tries.invariant.1, c.tries.invariant.2, made)
