@@ -11,10 +11,10 @@ ghost use Rattle.live_monitor.specs.Calls.{
   release_by,
   Accepted,
   Declined,
+  HasComeTo,
 };
 ghost use Rattle.live_monitor.specs.Swaps.{AcceptedSwap, DeclinedSwap};
 ghost use Rattle.live_monitor.specs.Tries.{one_more, AreUsedUp};
-ghost use Rattle.traced_thread.specs.Handles.{HasComeTo};
 
 use crate::handle::{TracedThread, take};
 use event_core::{LockId, Refusal, Reply, SiteId, SwapReply, VarId};

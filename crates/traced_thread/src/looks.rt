@@ -2,7 +2,7 @@
 ghost use Rattle.std.specs.Prelude.{◌≡◌, ◌⊎◌, length, slice_get};
 ghost use mathlib.Core.List.{IsPrefix};
 ghost use Rattle.event_core.specs.Steps.{log_of};
-ghost use Rattle.traced_thread.specs.Handles.{HasComeTo};
+ghost use Rattle.live_monitor.specs.Calls.{HasComeTo};
 
 use crate::handle::{TracedThread, take};
 use event_core::Event;
