@@ -67,8 +67,4 @@ declined_of_all m r l site (Ok reply) tried declined = declined
 declined_of_all m {p} {q} r l site (Err why) tried declined =
     let at : Declined m (acquire_by p.thread l site) q r why =
     subst (λ t. Declined m (acquire_by t l site) q r why) tried.same_thread declined in
-    record {
-      begins = prefix_trans _ _ _ tried.begins at.begins;
-      mine = at.mine ∙ tried.mine;
-      why = at.why;
-    }
+    record { mine = at.mine ∙ tried.mine; why = at.why }
