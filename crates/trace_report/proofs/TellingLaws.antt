@@ -20,7 +20,7 @@ use Rattle.trace_report.specs.Replayed.{gives_up, fault_text, Told, TellsText}
 use Rattle.trace_report.specs.Replaying.{fault_or}
 use Rattle.trace_report.specs.Legal.{LegalSoFar, IsAfter}
 use Rattle.trace_report.specs.Feeding.{FindsTrace, FindsFault, is_short}
-use Rattle.trace_report.specs.Checked.{answer_for, counted, counts_of, told}
+use Rattle.trace_report.specs.Checked.{AnswersText, ChecksText, counted, counts_of, told}
 
 -- the verdicts on a log name earlier events of it
 pub verdicts_within : (log : List Event) (verdicts : List Verdict) → AreVerdicts log verdicts
@@ -101,7 +101,7 @@ pub trace_tells : (m : Limits) (left old new : Option (List ℕ)) (After : List 
 trace_tells m left old new After names told_names log answer f is named tells = record {
   text = f.text;
   is_left = f.is_left;
-  told = subst (λ (found : Result Trace ReplayFault). Told old new found answer)
+  holds = subst (λ (found : Result Trace ReplayFault). Told old new found answer)
       (ap₂ (λ (t : Tables) (l : List Event). Ok (record { names = t; log = l })) named (is f.log f.after)
       ∙ sym f.finds)
       tells;
@@ -120,27 +120,25 @@ fault_tells m left old new r f is finds written g =
     record {
       text = found.text;
       is_left = found.is_left;
-      told = fault_told _ old new r (found.finds ∙ ap (λ (x : ReplayFault). Err x) (sym is)) written;
+      holds = fault_told _ old new r (found.finds ∙ ap (λ (x : ReplayFault). Err x) (sym is)) written;
     }
 
 -- ---- a check
 
 pub trace_counts : (m : Limits) (left : Option (List ℕ)) (j : LegalSoFar) (names : Tables) (c : Counts)
-    → FindsTrace m left (IsAfter j m) names → c ≡ counts_of j.events names
-    → IfSome left (λ text. Ok c ≡ answer_for m text)
-trace_counts m left j names c f is = go left f.is_left
-  where
-    go : (o : Option (List ℕ)) → IfSome o (λ whole. f.text ≡ whole) → IfSome o
-        (λ text. Ok c ≡ answer_for m text)
-    go None at = tt
-    go (Some text) at =
-        ap (λ (x : Counts). Ok x) (is ∙ ap (λ (n : ℕ). counts_of n names) f.after.count)
-        ∙ sym (ap counted f.finds) ∙ ap (answer_for m) at
+    → FindsTrace m left (IsAfter j m) names → c ≡ counts_of j.events names → AnswersText m left (Ok c)
+trace_counts m left j names c f is = record {
+  text = f.text;
+  is_left = f.is_left;
+  holds = ap (λ (x : Counts). Ok x) (is ∙ ap (λ (n : ℕ). counts_of n names) f.after.count)
+      ∙ sym (ap counted f.finds);
+}
 
 -- the line for the answer is the line for the text
 pub line_is_for : (m : Limits) (left old new : Option (List ℕ)) (a : Result Counts ReplayFault)
-    → IfSome left (λ text. a ≡ answer_for m text) → Appends old new (told a)
-    → IfSome left (λ text. Appends old new (told (answer_for m text)))
-line_is_for m None old new a is written = tt
-line_is_for m (Some text) old new a is written =
-    subst (λ (x : Result Counts ReplayFault). Appends old new (told x)) is written
+    → AnswersText m left a → Appends old new (told a) → ChecksText m left old new
+line_is_for m left old new a is written = record {
+  text = is.text;
+  is_left = is.is_left;
+  holds = subst (λ (x : Result Counts ReplayFault). Appends old new (told x)) is.holds written;
+}

@@ -1,11 +1,12 @@
 -- What a check answers and prints, in terms of what the text comes to.
-use Rattle.std.specs.Prelude.{ℕ, List, [], ◌∷◌, ◌++◌, Result, Ok, Err, codes, length}
+use Rattle.std.specs.Prelude.{◌≡◌, ℕ, List, [], ◌∷◌, ◌++◌, Option, Result, Ok, Err, codes, length}
+use Rattle.std.specs.Io.KnownBytes.{Appends}
 use Rattle.event_core.specs.declared.bounds.Limits.{Limits}
 use Rattle.rapid_text.specs.Tables.{Tables}
 use Rattle.trace_report.specs.declared.faults.ReplayFault.{ReplayFault}
 use Rattle.trace_report.specs.declared.counts.Counts.{Counts}
 use Rattle.trace_report.specs.Findings.{Trace, finding}
-use Rattle.trace_report.specs.Replayed.{fault_text}
+use Rattle.trace_report.specs.Replayed.{OfText, fault_text}
 use Rattle.trace_report.specs.Reports.{labelled}
 
 -- ---- what a check answers
@@ -28,6 +29,10 @@ counted (Err f) = Err f
 abbrev pub answer_for : Limits → List ℕ → Result Counts ReplayFault
 answer_for m text = counted (finding m text)
 
+-- the answer is the one for the text that the reader had left
+abbrev pub AnswersText : Limits → Option (List ℕ) → Result Counts ReplayFault → Type 0
+AnswersText m left answer = OfText left (λ text. answer ≡ answer_for m text)
+
 -- ---- what a check prints
 
 -- events E threads T locks L variables V, and an LF
@@ -47,3 +52,7 @@ told (Err f) = fault_text f
 -- the one line for a whole text
 abbrev pub checked : Limits → List ℕ → List ℕ
 checked m text = told (answer_for m text)
+
+-- what was written is the line for the text that the reader had left, and nothing else
+abbrev pub ChecksText : Limits → Option (List ℕ) → Option (List ℕ) → Option (List ℕ) → Type 0
+ChecksText m left old new = OfText left (λ text. Appends old new (checked m text))

@@ -45,13 +45,16 @@ pub record Told (old new : Option (List ℕ)) (found : Result Trace ReplayFault)
   pub tells : Tells found answer text
   pub written : Appends old new text
 
--- what was written tells, together with the answer, what a whole text comes to: the one that the reader had
--- left, where it tells this
-pub record TellsText (m : Limits) (left old new : Option (List ℕ)) (answer : Result Summary ReplayFault)
-    : Type 0 where
+-- it holds of some whole text: the one that the reader had left, where it tells this
+pub record OfText (left : Option (List ℕ)) (Holds : List ℕ → Type 0) : Type 0 where
   pub text : List ℕ
   pub is_left : IfSome left (λ whole. text ≡ whole)
-  pub told : Told old new (finding m text) answer
+  pub holds : Holds text
+
+-- what was written tells, together with the answer, what the text that the reader had left comes to
+abbrev pub TellsText : Limits → Option (List ℕ) → Option (List ℕ) → Option (List ℕ)
+    → Result Summary ReplayFault → Type 0
+TellsText m left old new answer = OfText left (λ text. Told old new (finding m text) answer)
 
 -- ---- faults that say nothing of the text
 

@@ -3,7 +3,7 @@ ghost use Rattle.std.specs.Prelude.{◌≡◌, ◌≢◌, ◌≤◌, ◌⊎◌, 
 ghost use Rattle.std.specs.Io.KnownBytes.{Appends};
 ghost use Rattle.trace_report.specs.Replayed.{answer_gives_up};
 ghost use Rattle.trace_report.specs.Feeding.{IsCutAt, is_short};
-ghost use Rattle.trace_report.specs.Checked.{answer_for, told, checked as line_for};
+ghost use Rattle.trace_report.specs.Checked.{told, AnswersText, ChecksText};
 
 use crate::counts::Counts;
 use crate::faults::ReplayFault;
@@ -30,14 +30,13 @@ pub fn check<I: Input, O: Output>(
     requires turns { turns ≤ 17592186044416 }
     requires reads { I.failed reader.old ≡ false }
     requires writes { O.failed writer.old ≡ false }
-    // The answer is what the whole text comes to, read or left unread.
-    ensures finds { answer_gives_up result ≡ false
-        → IfSome (I.left reader.old) (λ text. result ≡ answer_for limits text) }
+    // The answer is what the whole text comes to, read or left unread. A reader that does not tell its text
+    // had some text left of which this holds.
+    ensures finds { answer_gives_up result ≡ false → AnswersText limits (I.left reader.old) result }
     // What is written is the line for the whole text, and nothing else.
     ensures checks { answer_gives_up result ≡ false
-        → IfSome (I.left reader.old)
-        (λ text. Appends (O.written writer.old) (O.written writer.new) (line_for limits text)) }
-    // It tells the answer, also where the text is not known.
+        → ChecksText limits (I.left reader.old) (O.written writer.old) (O.written writer.new) }
+    // It tells the answer.
     ensures tells { answer_gives_up result ≡ false
         → Appends (O.written writer.old) (O.written writer.new) (told result) }
     // Nothing is written where the answer says nothing of the text.

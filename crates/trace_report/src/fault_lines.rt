@@ -43,7 +43,7 @@ pub fn write_fault_line<W: Output>(writer: &mut W, line: u64, word: &str) -> Res
 }
 
 /// Writes the one line that tells the fault; nothing, where the fault says nothing of the text.
-pub fn tell_fault<W: Output>(writer: &mut W, fault: ReplayFault) -> Result<(), WriteFault>
+pub(crate) fn tell_fault<W: Output>(writer: &mut W, fault: ReplayFault) -> Result<(), WriteFault>
     ensures ok { OnOk result (gives_up fault ≡ false
         → Appends (W.written writer.old) (W.written writer.new) (fault_text fault)) }
     ensures quiet { gives_up fault ≡ true → (result ≡ Ok tt) × (writer.new ≡ writer.old) }

@@ -21,7 +21,7 @@ mod words;
 
 pub use checking::check;
 pub use counts::Counts;
-pub use fault_lines::{tell_fault, write_fault_line};
+pub use fault_lines::write_fault_line;
 pub use faults::ReplayFault;
 pub use replayer::Replayer;
 pub use replaying::replay;

@@ -13,7 +13,7 @@ use Rattle.clap.specs.Words.{Text}
 use Rattle.trace_report.specs.declared.faults.ReplayFault.{ReplayFault}
 use Rattle.trace_report.specs.declared.summary.Summary.{Summary}
 use Rattle.trace_report.specs.declared.counts.Counts.{Counts}
-use Rattle.trace_report.specs.Checked.{answer_for, told}
+use Rattle.trace_report.specs.Checked.{AnswersText, told}
 use Rattle.trace_report.specs.Replayed.{TellsText, answer_gives_up}
 use Rattle.wcp_tool.specs.declared.requests.UsageFault.{UsageFault}
 use Rattle.wcp_tool.specs.declared.requests.UsageFault.TheVariants as faults
@@ -35,11 +35,11 @@ limits_with threads roots = record {
   roots = roots;
 }
 
--- a text was checked: the one line that tells the answer was written, and so ends the program. Where the
--- reader tells the text that it had left, the answer is the one for that whole text.
+-- a text was checked: the answer is the one for it, the one line that tells the answer was written, and so
+-- ends the program. Where the reader tells the text that it had left, it is that whole text.
 pub record Checks (m : Limits) (left old new : Option (List ℕ)) (status : ℕ) : Type 0 where
   pub answer : Result Counts ReplayFault
-  pub is_for : IfSome left (λ text. answer ≡ answer_for m text)
+  pub is_for : AnswersText m left answer
   pub says : answer_gives_up answer ≡ false
   pub written : Appends old new (told answer)
   pub ends : status ≡ status_of (check_ending answer)
