@@ -11,7 +11,7 @@ use Rattle.std.proofs.Math.Seq.{take-length}
 use Rattle.event_core.specs.declared.bounds.Limits.{Limits}
 use Rattle.event_core.specs.declared.events.Event.{Event}
 use Rattle.event_core.specs.declared.events.Op.{Op}
-use Rattle.event_core.specs.declared.events.Op.TheVariants.{Load, Store, Acquire, Release, Fork, Join}
+use Rattle.event_core.specs.declared.events.Op.TheVariants.{Acquire, Release}
 use Rattle.event_core.specs.declared.ids.LockId.{LockId}
 use Rattle.event_core.specs.declared.ids.ThreadId.{ThreadId}
 use Rattle.event_core.specs.declared.replies.Refusal.TheVariants.{TargetRange}
@@ -107,8 +107,6 @@ held_few m log p t w st =
 -- the joins of one event
 event_joins : (d : ℕ → ℕ) (o : Op) (held more : ℕ) → held ≤ more → most_joins (effect_of d o) held ≤
     joins_at o more
-event_joins d (Load x) held more few = omega arith
-event_joins d (Store x) held more few = omega arith
 event_joins d (Acquire l) held more few = go (nat_eq (d l.0) 0)
   where
     go : (b : Bool) → most_joins (cond b (Opens l) Inner) held ≤ 3
@@ -119,8 +117,7 @@ event_joins d (Release l) held more few = go (nat_eq (d l.0) 1)
     go : (b : Bool) → most_joins (cond b (Closes l) Inner) held ≤ 3
     go true = omega arith
     go false = omega arith
-event_joins d (Fork u) held more few = omega arith
-event_joins d (Join u) held more few = omega arith
+event_joins d _ held more few = omega arith
 
 -- the last event's joins are added
 joins_more : (m : Limits) (past es : List Event) (e : Event)

@@ -100,10 +100,7 @@ pub accesses_within : (m : Limits) (t : ThreadId) (o : Op) → t.0 < m.threads �
     → AccessIsWithin m t o
 accesses_within m t (Load x) lt is = record { thread = lt; var = ltb-true x.0 m.vars is }
 accesses_within m t (Store x) lt is = record { thread = lt; var = ltb-true x.0 m.vars is }
-accesses_within m t (Acquire l) lt is = record { thread = lt; var = tt }
-accesses_within m t (Release l) lt is = record { thread = lt; var = tt }
-accesses_within m t (Fork u) lt is = record { thread = lt; var = tt }
-accesses_within m t (Join u) lt is = record { thread = lt; var = tt }
+accesses_within m t _ lt is = record { thread = lt; var = tt }
 
 pub clocks_within : (m : Limits) (t : ThreadId) (o : Op) (p : Clocks) → width_of p ≡ m.threads
     → limits_of p ≡ m → t.0 < m.threads → in_range m o ≡ true → ClocksAreWithin p (event_by t o)
@@ -116,12 +113,11 @@ clocks_within m t o p width limits lt is = (subst (λ (n : ℕ). t.0 < n) (sym w
     other u is = subst (λ (n : ℕ). u.0 < n) (sym width) (ltb-true u.0 m.threads is)
 
     go : (o : Op) → in_range m o ≡ true → NamesWithin p o
-    go (Load x) is = tt
-    go (Store x) is = tt
     go (Acquire l) is = lock l is
     go (Release l) is = lock l is
     go (Fork u) is = other u is
     go (Join u) is = other u is
+    go _ is = tt
 
 -- the number of holds stays one
 pub holds_fit : (m : Limits) (log : List Event) (c : Call) (holds : ℕ) → WellFormed m log
@@ -129,15 +125,12 @@ pub holds_fit : (m : Limits) (log : List Event) (c : Call) (holds : ℕ) → Wel
 holds_fit m log c holds well allowed is few = go c.op refl
   where
     go : (o : Op) → c.op ≡ o → HoldsFit holds o
-    go (Load x) q = tt
-    go (Store x) q = tt
     go (Acquire l) q = let le : holds ≤ 4294967296 = few in omega arith
     go (Release l) q =
         let some : 0 < open_acquires log = release_open m log c l well allowed q in
         let same : holds ≡ open_acquires log = is in
         omega arith
-    go (Fork u) q = tt
-    go (Join u) q = tt
+    go _ q = tt
 
 -- a slot is taken, and the others are kept
 pub record SlotTaken (open' : ℕ) (o : Op) : Type 0 where
@@ -149,14 +142,10 @@ pub slot_taken : (m : Limits) (log : List Event) (c : Call) → WellFormed m log
 slot_taken m log c well allowed = go c.op refl
   where
     go : (o : Op) → c.op ≡ o → SlotTaken (open_acquires log) o
-    go (Load x) q = record { some = omega arith; kept = omega arith }
-    go (Store x) q = record { some = omega arith; kept = omega arith }
-    go (Acquire l) q = record { some = omega arith; kept = omega arith }
     go (Release l) q =
         let open' : 0 < open_acquires log = release_open m log c l well allowed q in
         record { some = omega arith; kept = omega arith }
-    go (Fork u) q = record { some = omega arith; kept = omega arith }
-    go (Join u) q = record { some = omega arith; kept = omega arith }
+    go _ q = record { some = omega arith; kept = omega arith }
 
 -- the event of the call, by its value
 pub is_event : (log : List Event) (c : Call) (e : Event) (v : ℕ)
@@ -220,6 +209,14 @@ position_fits m log c p vs holds t r legal =
     let few : length log < 4294967296 = index_fits m log c p vs holds r legal in
     omega arith
 
+-- how many acquires are to be released after the call
+pub opened_after : (log : List Event) (c : Call) (old new : MemoryTables) → StandsFor old log
+    → StandsFor new (log ++ event_of log c ∷ []) → meaning new ≡ after c.thread c.op c.arg (meaning old)
+    → open_acquires (log ++ event_of log c ∷ []) ≡ holds_after c.op (open_acquires log)
+opened_after log c old new before longer means =
+    sym (ap (λ (x : Meaning). x.holds) longer.means)
+    ∙ (ap (λ (x : Meaning). x.holds) means ∙ ap (λ (x : Meaning). holds_after c.op x.holds) before.means)
+
 -- one event more
 pub replay_more : (m : Limits) (log log2 : List Event) (c : Call) (e : Event) (old new : Parts)
     (vs vs2 : List Verdict) (v : Verdict) (holds holds2 : ℕ)
@@ -239,10 +236,8 @@ replay_more m log log2 c e old new vs vs2 v holds holds2 r allowed is means limi
     let taken : SlotTaken (open_acquires log) c.op = slot_taken m log c (well m log old vs holds r) allowed in
     let before : holds ≡ open_acquires log = r.open_holds in
     let after_it : holds2 ≡ holds_after c.op (open_acquires log) = counted ∙ ap (holds_after c.op) before in
-    let memory_holds : old.memory.holds ≡ open_acquires log = ap (λ (x : Meaning). x.holds) r.memory.means in
     let opened : open_acquires (log ++ event_of log c ∷ []) ≡ holds_after c.op (open_acquires log)
-    = sym (ap (λ (x : Meaning). x.holds) memory.means)
-    ∙ (ap (λ (x : Meaning). x.holds) means ∙ ap (holds_after c.op) memory_holds) in
+    = opened_after log c old.memory new.memory r.memory memory means in
     let kept : holds_after c.op (open_acquires log) + 1 ≤ slots_for (open_acquires log) c.op = taken.kept in
     let here : IsReplay m (log ++ e ∷ []) new (vs ++ v ∷ []) holds2 = record {
       bounds = r.bounds;
@@ -337,11 +332,3 @@ release_in_accesses m log c l p vs holds r allowed is =
     = release_counted m log c l p.accesses allowed is r.accesses in
     let here : AccessHasRoom p.accesses c.thread (Release l) = record { thread = thread; access = tt } in
     subst (AccessHasRoom p.accesses c.thread) (sym is) here
-
--- how many acquires are to be released after the call
-pub opened_after : (log : List Event) (c : Call) (old new : MemoryTables) → StandsFor old log
-    → StandsFor new (log ++ event_of log c ∷ []) → meaning new ≡ after c.thread c.op c.arg (meaning old)
-    → open_acquires (log ++ event_of log c ∷ []) ≡ holds_after c.op (open_acquires log)
-opened_after log c old new before longer means =
-    sym (ap (λ (x : Meaning). x.holds) longer.means)
-    ∙ (ap (λ (x : Meaning). x.holds) means ∙ ap (λ (x : Meaning). holds_after c.op x.holds) before.means)

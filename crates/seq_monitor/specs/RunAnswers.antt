@@ -18,8 +18,8 @@ pub record Ran {Q A : Type 0} (runs : List Q → List A → List Event → Type 
   pub answers : after ≡ before ++ added
   pub is_run : runs asked added end
 
--- so many were run, and then there was a next one, which may want memory after the log at the end; or none was
--- run, where there was no room for all answers
+-- so many were run, and then there was a next one, which may want memory after the log at the end; or none
+-- was run, where there was no room for all answers
 pub record RanSome {Q A : Type 0} (runs : List Q → List A → List Event → Type 0)
     (may_want : List Event → Q → Type 0) (asked : List Q) (room : ℕ) (before after : List A)
     (end : List Event) : Type 0 where
