@@ -6,10 +6,7 @@ use Rattle.std.specs.Io.KnownBytes.{Appends}
 use Rattle.event_core.specs.declared.bounds.Limits.{Limits}
 use Rattle.event_core.specs.declared.bounds.Roots.{Roots}
 use Rattle.event_core.specs.declared.bounds.Roots.TheVariants.{Free, OnlyMain}
-use Rattle.event_core.specs.declared.events.Event.{Event}
-use Rattle.event_core.specs.Refusal.{WellFormed}
-use Rattle.rapid_text.specs.Tables.{Tables}
-use Rattle.clap.specs.Words.{Text}
+use Rattle.clap.specs.Words.{Kinds, Text}
 use Rattle.trace_report.specs.declared.faults.ReplayFault.{ReplayFault}
 use Rattle.trace_report.specs.declared.summary.Summary.{Summary}
 use Rattle.trace_report.specs.declared.counts.Counts.{Counts}
@@ -21,7 +18,7 @@ use Rattle.wcp_tool.specs.declared.endings.Ending.{Ending}
 use Rattle.wcp_tool.specs.declared.endings.Ending.TheVariants.{Done, WrongUsage, WriteFault, OutOfMemory}
 use Rattle.wcp_tool.specs.CommandLine.{Request, asked, check, faults_of, is_answer, is_mistake, replay, run}
 use Rattle.wcp_tool.specs.Endings.{check_ending, replay_ending, status_of}
-use Rattle.wcp_tool.specs.ScriptRuns.{BreaksText, ReportsLog, RunsText, RefusesText}
+use Rattle.wcp_tool.specs.ScriptRuns.{BreaksText, RunsText, RefusesText}
 
 -- ---- a run of a command
 
@@ -51,18 +48,9 @@ pub record Replays (m : Limits) (left old new : Option (List ℕ)) (status : ℕ
   pub tells : TellsText m left old new answer
   pub ends : status ≡ status_of (replay_ending answer)
 
--- threads were run: the report of a well-formed log was written, with the definition's verdict on each event,
--- and so ends the program. Which log it is depends on the script and on the schedule.
-pub record Reports (m : Limits) (old new : Option (List ℕ)) (status : ℕ) : Type 0 where
-  pub names : Tables
-  pub log : List Event
-  pub well_formed : WellFormed m log
-  pub reports : ReportsLog names log old new status
-
 -- what a run of a script's threads writes: a report, or the one line that tells which of its calls is refused
 -- and why, or why it came to no report
 pub record PerformsRun (m : Limits) (old new : Option (List ℕ)) (status : ℕ) : Type 0 where
-  pub reports : (status ≡ 0) ⊎ (status ≡ 1) → Reports m old new status
   -- it is of some script and of what its threads did: what the file held is not known
   pub ran : (status ≡ 0) ⊎ (status ≡ 1) → RunsText m None old new status
   pub refused : status ≡ 3 → RefusesText m None old new
@@ -94,6 +82,23 @@ abbrev pub IsHindered : List Text → Option (List ℕ) → Bool → Bool → Ty
 IsHindered words left read_failed write_failed =
     (write_failed ≡ true) ⊎ IsSomeAnd (asked words) (λ a. IsCut a.request left read_failed)
 
+-- a trace is read from standard input for this
+abbrev pub reads_trace : Request → Bool
+reads_trace (run path) = false
+reads_trace request = true
+
+-- standard input is not read for these words: they have a fault, or ask for a run of a script
+abbrev pub LeavesInput : List Text → Type 0
+LeavesInput words =
+    (faults_of words ≢ []) ⊎ IsSomeAnd (asked words) (λ a. reads_trace a.request ≡ false)
+
+-- how words with these faults end: with status 0 only where one is help or the version, or with 4 if its text
+-- could not be written; with status 2 only where one is a mistake; or memory ran out
+abbrev pub Explains : Kinds → ℕ → Type 0
+Explains kinds status =
+    ((list_any is_answer kinds ≡ true) × ((status ≡ 0) ⊎ (status ≡ 4)))
+    ⊎ (((list_any is_mistake kinds ≡ true) × (status ≡ 2)) ⊎ (status ≡ 5))
+
 -- what the program does for these words, where the reader had this text left, and the writer this one before
 -- and after
 pub record Runs (words : List Text) (left old new : Option (List ℕ)) (status : ℕ) : Type 0 where
@@ -102,12 +107,8 @@ pub record Runs (words : List Text) (left old new : Option (List ℕ)) (status :
       → IsSomeAnd (asked words) (λ a. Performs a.request a.threads left old new status)
   -- it is a usage fault only where the words have one
   pub takes : faults_of words ≡ [] → status ≢ 2
-  -- words that can only be wrong are a usage fault
-  pub refuses : faults_of words ≢ [] → list_any is_answer (faults_of words) ≡ false
-      → (status ≡ 2) ⊎ (status ≡ 5)
-  -- help or the version is answered with status 0
-  pub answers : faults_of words ≢ [] → list_any is_mistake (faults_of words) ≡ false
-      → (status ≡ 0) ⊎ ((status ≡ 4) ⊎ (status ≡ 5))
+  -- words with a fault end the program as one of their faults does
+  pub explains : faults_of words ≢ [] → Explains (faults_of words) status
 
 -- how words end that ask for no run
 abbrev pub EndsAs : UsageFault → Ending → Type 0

@@ -5,7 +5,7 @@ ghost use Rattle.clap.specs.Words.{Text};
 ghost use Rattle.wcp_tool.specs.Endings.{is_write_fault, status_of};
 ghost use Rattle.wcp_tool.specs.CommandLine.{request_of};
 ghost use Rattle.wcp_tool.specs.Running.{Checks, Replays, Performs, IsCut, IsHindered, Runs};
-ghost use Rattle.wcp_tool.specs.Running.{EndsAs, limits_with};
+ghost use Rattle.wcp_tool.specs.Running.{EndsAs, LeavesInput, limits_with, reads_trace};
 ghost use Rattle.event_core.specs.declared.bounds.Roots.TheVariants.{Free};
 
 use crate::bounds::{TURNS, limits_of};
@@ -92,6 +92,7 @@ fn run<R: AllocGlobal + Files + Threads + Wait + Sync, I: Input, O: Output>(
     ensures quiet { (result ≡ Ending.ReadFault) ⊎ (result ≡ Ending.OutOfMemory) → writer.new ≡ writer.old }
     ensures short { result ≡ Ending.ReadFault
         → IsCut (request_of settings.command) (I.left reader.old) (I.failed reader.new) }
+    ensures untouched { reads_trace (request_of settings.command) ≡ false → reader.new ≡ reader.old }
     ensures read { (result ≡ Ending.Done) ⊎ (result ≡ Ending.Races) → I.failed reader.new ≡ false }
     ensures fails { O.failed writer.new ≡ is_write_fault result }
 {
@@ -154,6 +155,8 @@ pub fn tool<
     ensures runs { Runs (map S.text words.now) (I.left reader.old) (O.written writer.old)
         (O.written writer.new) result }
     ensures range { result ≤ 6 }
+    // The reader is left alone where the words have a fault, or ask for a run of a script.
+    ensures untouched { LeavesInput (map S.text words.now) → reader.new ≡ reader.old }
     // Nothing is written to standard output where the words are wrong or memory ran out.
     ensures quiet { (result ≡ 2) ⊎ (result ≡ 5) → writer.new ≡ writer.old }
     // It ends with 4 only where the writer failed or took no byte, or what the words ask for was not read to
@@ -200,7 +203,8 @@ fn words<R: Env + AllocGlobal, E: Output>(rt: &R, errors: &mut E) -> Result<Vec<
 }
 
 /// The program over the words that the process was started with. No contract tells those words, so that of
-/// `tool` holds for some.
+/// `tool` holds for some. Which they are stays open, and so which command they ask for. Words that ask for
+/// help allow any text with status 0, where nothing is read. Status 2 or 5 without a text is always allowed.
 pub fn program<
     R: Env + AllocGlobal + Files + Threads + Wait + Sync,
     I: Input,
@@ -212,6 +216,7 @@ pub fn program<
     // It is a run for some words, or the words could not be had: they are no text, or memory ran out.
     ensures runs { ((words : List Text)
         × Runs words (I.left reader.old) (O.written writer.old) (O.written writer.new) result
+        × (LeavesInput words → reader.new ≡ reader.old)
         × (result ≡ 4
         → IsHindered words (I.left reader.old) (I.failed reader.new) (O.failed writer.new)))
         ⊎ ((result ≡ 2) ⊎ (result ≡ 5)) }

@@ -6,7 +6,7 @@ ghost use Rattle.script_text.specs.declared.causes.ScriptFault.{ScriptFault as W
 ghost use Rattle.script_text.specs.Faults.{cause_word};
 ghost use Rattle.script_text.specs.Scripts.{script_of};
 ghost use Rattle.wcp_tool.specs.Endings.{is_write_fault, status_of};
-ghost use Rattle.wcp_tool.specs.Running.{IsCutShort, PerformsRun, Reports, limits_with};
+ghost use Rattle.wcp_tool.specs.Running.{IsCutShort, PerformsRun, limits_with};
 ghost use Rattle.trace_report.specs.Reports.{AreNamed};
 ghost use Rattle.wcp_tool.specs.ScriptRuns.{BreaksText, LacksNames, NamesStop, Ran, RefusesText, ReportsLog};
 ghost use Rattle.wcp_tool.specs.ScriptRuns.{RunsText, TellsFault, TellsRefusal, TellsRefused, TellsStop};
@@ -198,11 +198,9 @@ pub fn run_script<R: AllocGlobal + Threads + Wait + Sync, I: Input, O: Output, E
     requires patience { (1 ≤ settings.now.patience) × (settings.now.patience ≤ 4294967295) }
     requires reads { I.failed script.old ≡ false }
     requires writes { O.failed writer.old ≡ false }
-    // With status 0 or 1 it wrote the report of a well-formed log, and nothing else.
-    ensures reports { (result ≡ 0) ⊎ (result ≡ 1) → Reports (limits_with settings.now.threads OnlyMain)
-        (O.written writer.old) (O.written writer.new) result }
-    // The report is of the script that the reader had left: it has the script's names, and the lines of the
-    // first thread, and of each that this one joins, in order.
+    // With status 0 or 1 it wrote the report of a well-formed log, and nothing else. The log is of the script
+    // that the reader had left: the report has the script's names, and the log the lines of the first thread,
+    // and of each that this one joins, in order.
     ensures ran { (result ≡ 0) ⊎ (result ≡ 1) → RunsText (limits_with settings.now.threads OnlyMain)
         (I.left script.old) (O.written writer.old) (O.written writer.new) result }
     // With status 3 it wrote the one line that tells which call of that script is refused, and why. The
@@ -210,8 +208,9 @@ pub fn run_script<R: AllocGlobal + Threads + Wait + Sync, I: Input, O: Output, E
     ensures refused { result ≡ 3 → RefusesText (limits_with settings.now.threads OnlyMain)
         (I.left script.old) (O.written writer.old) (O.written writer.new) }
     // With status 6 it wrote the one line that tells why the text is no script, or which of its lines is
-    // stuck or can start no worker. It wrote nothing only where the log has a number to which the script
-    // gives no name, and the numbers of the script's lines all have one.
+    // stuck or can start no worker. That a stuck line acquires or joins, no clause tells. It wrote nothing
+    // only where the log has a number to which the script gives no name, and the numbers of the script's
+    // lines all have one.
     ensures broken { result ≡ 6 → BreaksText (limits_with settings.now.threads OnlyMain)
         (I.left script.old) (O.written writer.old) (O.written writer.new) }
     // The first fault of the script's lines is told, unless memory ran out or a device failed.
