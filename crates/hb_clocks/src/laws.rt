@@ -1,5 +1,5 @@
 //! Laws of the clocks, each a contract of a function without a body.
-ghost use Rattle.hb_clocks.specs.Stands.{StepStands, AdmitsLegal, FewInLog, GrowsByOne};
+ghost use Rattle.hb_clocks.specs.Stands.{StepStands, AdmitsLegal, FewInLog};
 
 /// The step of a legal event keeps the meaning.
 pub fn step_stands()
@@ -14,9 +14,4 @@ pub fn admits_legal()
 /// In a log within the greatest number of events the numbers are few.
 pub fn few_in_log()
     ensures { FewInLog }
-{}
-
-/// An event makes no number greater by more than one.
-pub fn grows_by_one()
-    ensures { GrowsByOne }
 {}

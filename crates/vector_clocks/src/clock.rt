@@ -58,7 +58,7 @@ impl Clock {
         ensures work { work.new ≡ record work.old { joins = work.old.joins + 1 } }
     {
         work.add_join();
-        self.raise(other);
+        self.raise(other.counts());
     }
 
     /// The numbers of the threads in use, from thread 0 on. Beyond them each number is 0.
@@ -87,12 +87,7 @@ impl Clock {
         requires widths { length self.old ≡ length other.now }
         ensures { self.new ≡ other.now }
     {
-        let used = if self.used < other.used {
-            other.used
-        } else {
-            self.used
-        };
-        copy_counts(&mut self.counts, &other.counts, used);
+        copy_counts(&mut self.counts, &other.counts, self.used.max(other.used));
         self.used = other.used;
     }
 
@@ -113,25 +108,14 @@ impl Clock {
         self.counts.len()
     }
 
-    // Takes the greater number of each thread.
-    pub(crate) fn raise(&mut self, other: &Clock)
-        requires widths { length self.old ≡ length other.now }
-        ensures width { length self.new ≡ length self.old }
-        ensures greater { counts_of self.new ≡ join (counts_of self.old) (counts_of other.now) }
-    {
-        self.raise_counts(other.counts());
-    }
-
     // Takes the greater number of each thread from a list of numbers, beyond which each is 0.
-    fn raise_counts(&mut self, counts: &[u64])
+    fn raise(&mut self, counts: &[u64])
         requires within { length counts.now ≤ length self.old }
         ensures width { length self.new ≡ length self.old }
         ensures greater { counts_of self.new ≡ join (counts_of self.old) (counts_of counts.now) }
     {
         take_greater(&mut self.counts, counts);
-        if self.used < counts.len() {
-            self.used = counts.len();
-        }
+        self.used = self.used.max(counts.len());
     }
 
     // The same from a list of short numbers.
@@ -141,9 +125,7 @@ impl Clock {
         ensures greater { counts_of self.new ≡ join (counts_of self.old) (counts_of before.now) }
     {
         take_greater_of_short(&mut self.counts, before);
-        if self.used < before.len() {
-            self.used = before.len();
-        }
+        self.used = self.used.max(before.len());
     }
 
     // Counts a release by the thread, before which the thread has so many events.

@@ -7,6 +7,7 @@ pub invariant_of-self : goal.invariant_of-self
 invariant_of-self c =
     let width = ap length c.self.view_is in
     let within = c.requires.within in
+    let used = c.self.invariant.within in
     rw (with_items_is c.self.inside.counts c.take_greater_of_short.new.mine (c.take_greater_of_short.auto.mine
     ∙ c.deref_mut.ensures.len))
     (joined_unused c.take_greater_of_short.new.mine c.deref_mut.result.now c.self.inside.counts.items
@@ -14,13 +15,3 @@ invariant_of-self c =
     c.self.inside.used _ c.deref_mut.ensures.value c.take_greater_of_short.ensures
     c.take_greater_of_short.auto.mine
     c.self.invariant (omega arith) (omega arith) (omega arith))
-
-pub invariant_of-self-else-self-before : goal.invariant_of-self-else-self-before
-invariant_of-self-else-self-before c =
-    rw (with_items_is c.self.inside.counts c.take_greater_of_short.new.mine (c.take_greater_of_short.auto.mine
-    ∙ c.deref_mut.ensures.len))
-    (joined_unused c.take_greater_of_short.new.mine c.deref_mut.result.now c.self.inside.counts.items
-    c.args.before.now
-    c.self.inside.used _ c.deref_mut.ensures.value c.take_greater_of_short.ensures
-    c.take_greater_of_short.auto.mine
-    c.self.invariant (omega arith) (omega arith) c.self.invariant.within)
