@@ -12,7 +12,6 @@ pub mod NotedAccesses
 pub mod OpenSections
 pub mod Ordering
 pub mod OtherSections
-pub mod SmallLogs
 pub mod Sources
 pub mod StrictSteps
 pub mod Sums

@@ -8,5 +8,4 @@
 //! (`specs/Recurrence`).
 #![tactic(auto)]
 
-pub mod examples;
 pub mod laws;
