@@ -17,12 +17,18 @@ use Rattle.section_sum.specs.Newest.{section}
 use Rattle.section_sum.specs.Sums.{Sums, others_of, sources_of}
 use Rattle.wcp_clocks.specs.Met.{release_at, thread_at, met_clocks, met_under, joined_all}
 use Rattle.wcp_clocks.specs.Met.{counts_release, joins_for, joins_under}
-use Rattle.wcp_clocks.specs.Met.{IsMet, AreNumbers, AreWholeIn}
+use Rattle.wcp_clocks.specs.Met.{AreNumbers, AreWholeIn}
 use Rattle.wcp_clocks.specs.Whole.{IsWhole}
 use Rattle.wcp_clocks.proofs.Wholeness.{whole_join}
 use Rattle.wcp_laws.specs.Step.{join_all}
 use Rattle.wcp_clocks.proofs.Rows.{row_kept, row_again, join_nothing}
 use Rattle.wcp_clocks.specs.StrictRows.{StrictTables, SameRoom}
+
+-- the number is that of a section that an access of the thread to the variable meets
+pub record IsMet (s : Sums) (l x t n : ℕ) : Type 0 where
+  pub some : 0 < n
+  pub kind : AccessKind
+  pub number : n ≡ others_of s l x kind t
 
 pub room_same : (c : StrictTables) → SameRoom c c
 room_same c = record {

@@ -1,5 +1,5 @@
 -- The closed sections that an access meets, by their numbers on a lock, and their clocks.
-use Rattle.std.specs.Prelude.{ℕ, zero, suc, ◌≡◌, ◌+◌, ◌<◌, ◌≤◌, List, [], ◌∷◌, length, Bool, cond, nat_le}
+use Rattle.std.specs.Prelude.{ℕ, zero, suc, ◌+◌, ◌≤◌, List, [], ◌∷◌, length, Bool, cond, nat_le}
 use Rattle.std.specs.Prelude.{Option, Some, None}
 use Rattle.event_core.specs.declared.events.AccessKind.{AccessKind}
 use Rattle.event_core.specs.declared.events.AccessKind.TheVariants.{Read, Write}
@@ -68,9 +68,3 @@ joins_under s closed x k t f (l ∷ ls) =
 abbrev pub joins_latest : Option Closed → (ℕ → ℕ) → ℕ
 joins_latest None f = 0
 joins_latest (Some q) f = cond (nat_le (q.release q.thread) (f q.thread)) 0 1
-
--- the number is that of a section that an access of the thread to the variable meets
-pub record IsMet (s : Sums) (l x t n : ℕ) : Type 0 where
-  pub some : 0 < n
-  pub kind : AccessKind
-  pub number : n ≡ others_of s l x kind t

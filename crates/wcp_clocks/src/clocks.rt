@@ -29,7 +29,6 @@ ghost use Rattle.wcp_clocks.specs.Parts.{IsReadyToSwap};
 ghost use Rattle.wcp_clocks.specs.StandsFor.{StandsFor};
 
 use crate::effects::step;
-use crate::numbers::{below_clock, below_number, strict_number};
 use crate::parts::Parts;
 use crate::room::{are_both_ready, are_ready, make_ready, new_parts, prepare_both, prepare_parts};
 use event_core::{Event, Limits, OutOfMemory, ThreadId, VarId};
@@ -39,7 +38,7 @@ use vector_clocks::JoinedClocks;
 
 /// The clocks of the strict relation, and of all that it stands on.
 ///
-/// Each call but `new`, `prepare` and `prepare_swap` takes no memory.
+/// Each call but `new`, `prepare`, `prepare_swap` and `make_ready` takes no memory.
 #[derive(Drop)]
 pub struct WcpClocks {
     parts: Parts,
@@ -92,8 +91,8 @@ impl WcpClocks {
     }
 
     /// Whether there is room for the event, as `ready` tells, once room for an access is made, and room for a
-    /// section where that takes no memory. Where there is, an `advance` that comes next does not search again
-    /// for the places of an access.
+    /// section where that takes no memory. A growth that is refused is answered `false`. Where there is room,
+    /// an `advance` that comes next does not search again for the places of an access.
     #[inline(always)]
     pub fn make_ready(&mut self, event: &Event) -> bool
         ensures ready { IsTrue result ↔ IsReady self.new event.now }
@@ -163,7 +162,7 @@ impl WcpClocks {
             → StandsFor log self.now → IsLatest log thread j
             → Counts log other (λ i. Strict log i j) result }
     {
-        strict_number(&self.parts, thread, other)
+        self.parts.rows.strict(thread).at(other)
     }
 
     /// How many events of `other` are below the thread's latest event: strictly, or by program order.
@@ -176,7 +175,8 @@ impl WcpClocks {
             → StandsFor log self.now → IsLatest log thread j
             → Counts log other (λ i. Below log i j) result }
     {
-        below_number(&self.parts, thread, other)
+        self.strict(thread, other)
+            .max(self.parts.hb.po(thread).at(other))
     }
 
     /// The thread's clock, which counts the events that are below its latest one. It is lent as the join of
@@ -190,6 +190,6 @@ impl WcpClocks {
             → StandsFor log self.now → IsLatest log thread j
             → Counted log (λ i. Below log i j) (counts_of result) }
     {
-        below_clock(&self.parts, thread)
+        JoinedClocks::new(self.parts.rows.strict(thread), self.parts.hb.po(thread))
     }
 }

@@ -1,13 +1,7 @@
 //! Laws of the clocks, each a contract of a function without a body.
-ghost use Rattle.wcp_clocks.specs.StandsFor.{EmptyStands, SameStand, FitsWhereLegal, WithinWhereLegal};
-ghost use Rattle.wcp_clocks.specs.StandsFor.{HeldWithin};
+ghost use Rattle.wcp_clocks.specs.StandsFor.{SameStand, FitsWhereLegal};
 ghost use Rattle.wcp_clocks.specs.SourcesCount.{SourcesCount};
 ghost use Rattle.wcp_clocks.specs.WorkWithin.{NoWork, SameWork, WorkStep, LittleWork, FewComparisonsInAll};
-
-/// Clocks without numbers stand for the empty log.
-pub fn empty_stands()
-    ensures { EmptyStands }
-{}
 
 /// Clocks with the same numbers stand for the same log.
 pub fn same_stand()
@@ -17,16 +11,6 @@ pub fn same_stand()
 /// A legal event finds the numbers as `advance` asks.
 pub fn fits_where_legal()
     ensures { FitsWhereLegal }
-{}
-
-/// A legal event names numbers within the limits of the clocks, as `prepare` asks.
-pub fn within_where_legal()
-    ensures { WithinWhereLegal }
-{}
-
-/// A thread holds no more locks than there may be.
-pub fn held_within()
-    ensures { HeldWithin }
 {}
 
 /// The sections that the summaries name to an access under a lock count together exactly what happens

@@ -5,7 +5,6 @@ mod clocks;
 mod effects;
 mod holdings;
 pub mod laws;
-mod numbers;
 mod parts;
 mod room;
 mod sources;

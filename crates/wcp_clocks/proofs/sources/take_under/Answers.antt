@@ -12,8 +12,8 @@ use Rattle.lock_queues.specs.Queues.{closed_of}
 use Rattle.section_sum.specs.declared.sources.Sources.{Sources}
 use Rattle.section_sum.specs.Sources.{left, most_sources}
 use Rattle.section_sum.specs.Sums.{sources_of}
-use Rattle.wcp_clocks.specs.Met.{release_at, thread_at, met_clocks, met_under, IsMet}
-use Rattle.wcp_clocks.proofs.Taking.{IsTaking, taking_begins, taking_past, taking_on}
+use Rattle.wcp_clocks.specs.Met.{release_at, thread_at, met_clocks, met_under}
+use Rattle.wcp_clocks.proofs.Taking.{IsMet, IsTaking, taking_begins, taking_past, taking_on}
 use Rattle.wcp_clocks.proofs.Taking.{release_is, thread_is}
 use Rattle.wcp_clocks.proofs.sources.take_under.Goals as goal
 

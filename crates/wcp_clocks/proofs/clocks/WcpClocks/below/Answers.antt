@@ -1,8 +1,8 @@
-use Rattle.std.proofs.Common.{max, ap, sym, subst, ◌∙◌}
+use Rattle.std.proofs.Common.{max, ap, ap₂, sym, subst, ◌∙◌}
 use Rattle.event_core.specs.Count.{Counts}
 use Rattle.event_core.specs.Wcp.{Below}
 use Rattle.wcp_clocks.specs.declared.parts.Parts.{Parts}
-use Rattle.wcp_clocks.specs.Parts.{state_of, hb_of}
+use Rattle.wcp_clocks.specs.Parts.{hb_of}
 use Rattle.wcp_clocks.proofs.Latest.{below_latest}
 use Rattle.wcp_clocks.proofs.clocks.WcpClocks.below.Goals as goal
 
@@ -10,8 +10,10 @@ pub returns-clause-exact : goal.returns-clause-exact
 returns-clause-exact c =
     let t = c.args.thread.0 in
     let u = c.args.other.0 in
-    c.below_number.ensures
-    ∙ ap (λ (p : Parts). max ((state_of p).strict.thread t u) ((hb_of p).po t u)) c.self.view_is
+    c.max.ensures
+    ∙ ap₂ max c.strict.ensures.exact
+    (c.at.ensures ∙ ap (λ f. f u) c.po.ensures.exact
+    ∙ ap (λ (p : Parts). (hb_of p).po t u) c.self.view_is)
 
 pub returns-clause-latest : goal.returns-clause-latest
 returns-clause-latest c limits log j w st latest =

@@ -1,4 +1,4 @@
-use Rattle.std.proofs.Common.{ap, sym, subst, ◌∙◌}
+use Rattle.std.proofs.Common.{ap, ap₂, sym, subst, ◌∙◌}
 use Rattle.event_core.specs.Rows.{Counted, join}
 use Rattle.event_core.specs.Wcp.{Below}
 use Rattle.wcp_clocks.specs.declared.parts.Parts.{Parts}
@@ -8,7 +8,8 @@ use Rattle.wcp_clocks.proofs.clocks.WcpClocks.clock.Goals as goal
 
 pub returns-clause-exact : goal.returns-clause-exact
 returns-clause-exact c =
-    c.below_clock.ensures.counts
+    c.new.ensures.counts
+    ∙ ap₂ join c.strict.ensures.counts c.po.ensures.exact
     ∙ ap (λ (p : Parts). join ((state_of p).strict.thread c.args.thread.0) ((hb_of p).po c.args.thread.0))
     c.self.view_is
 

@@ -9,7 +9,8 @@ use Rattle.wcp_clocks.proofs.clocks.WcpClocks.strict.Goals as goal
 
 pub returns-clause-exact : goal.returns-clause-exact
 returns-clause-exact c =
-    c.strict_number.ensures
+    c.at.ensures
+    ∙ c.strict.ensures.at c.args.other.0
     ∙ ap (λ (p : Parts). (strict_of p.rows).thread c.args.thread.0 c.args.other.0) c.self.view_is
 
 pub returns-clause-latest : goal.returns-clause-latest
