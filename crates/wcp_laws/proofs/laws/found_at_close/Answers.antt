@@ -1,5 +1,0 @@
-use Rattle.wcp_laws.proofs.FoundLaws.{found_at_close}
-use Rattle.wcp_laws.proofs.laws.found_at_close.Goals as goal
-
-pub returns : goal.returns
-returns c = found_at_close
