@@ -53,9 +53,6 @@ later_either (Some m) (Some k) n is = go (nat_lt m k) is
 
 -- the greatest of a list is one of them, and at or above each
 module _ (f : LastAccess → Option ℕ) where
-  folded : Option ℕ → List LastAccess → Option ℕ
-  folded start ps = fold (λ (n : Option ℕ) (p : LastAccess). later n (f p)) start ps
-
   pub fold_above : (start : Option ℕ) (n : ℕ) (ps : List LastAccess) → AtLeast n start
       → AtLeast n (fold (λ (m : Option ℕ) (p : LastAccess). later m (f p)) start ps)
   fold_above start n [] a = a

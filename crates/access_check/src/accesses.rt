@@ -151,18 +151,6 @@ impl Accesses {
         self.find(event, clock)
     }
 
-    #[inline(always)]
-    fn record(&mut self, event: &Event, index: u64, verdict: Verdict)
-        requires room { HasRoom self.old event.now.thread event.now.op }
-        requires index { index < 2 ^ 32 }
-        requires few { count_at self.old.counts event.now.thread.0 < 2 ^ 32 }
-        ensures notes { Notes self.old self.new event.now index verdict }
-        ensures kept { KeepsRoom self.old self.new event.now.thread }
-    {
-        let position = count_event(&mut self.counts, event.thread.0 as usize);
-        note_access(&mut self.vars, event, Access { index, position }, verdict);
-    }
-
     /// The event stands in the log at the index, and this is the verdict on it: after a store that does not
     /// race, the earlier accesses of its variable are forgotten, since they are ordered before it, and so
     /// whatever one of them races with later, the store races with too, at a greater index. It is called for
@@ -180,6 +168,7 @@ impl Accesses {
             → Stands (log ++ event.now ∷ []) self.new }
         ensures kept { KeepsRoom self.old self.new event.now.thread }
     {
-        self.record(event, index, verdict);
+        let position = count_event(&mut self.counts, event.thread.0 as usize);
+        note_access(&mut self.vars, event, Access { index, position }, verdict);
     }
 }
