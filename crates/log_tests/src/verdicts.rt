@@ -17,12 +17,12 @@ const RACES: &[Race] = &[Race { event: 1, with: 0 }, Race { event: 4, with: 3 }]
 
 /// Room is made before verdicts are added.
 fn makes_room(verdicts: &mut Verdicts) -> Result<bool, OutOfMemory> {
-    let had_none = verdicts.is_empty() && !verdicts.has_room(1);
+    let had_none = verdicts.len() == 0 && !verdicts.has_room(1);
     match verdicts.reserve(5) {
         Ok(()) => {}
         Err(OutOfMemory) => verdicts.reserve(5)?,
     }
-    Ok(had_none && verdicts.is_empty() && verdicts.has_room(5))
+    Ok(had_none && verdicts.len() == 0 && verdicts.has_room(5))
 }
 
 /// Whether the verdicts are added, one after another.
@@ -45,7 +45,7 @@ fn tells_all(verdicts: &Verdicts) -> bool {
         }
         index += 1;
     }
-    verdicts.len() == 5 && !verdicts.is_empty()
+    verdicts.len() == 5
 }
 
 /// Whether the races are listed in the order of the log.
