@@ -47,7 +47,8 @@ abbrev pub cells_for : Op → ℕ
 cells_for (Store x) = x.0 + 1
 cells_for _ = 0
 
--- no table has grown beyond the numbers that the operation names
+-- no table has grown beyond the numbers that the operation names; no clause bounds the memory that is
+-- reserved for cells
 pub record GrownFor (old new : Tables) (u : ThreadId) (o : Op) : Type 0 where
   pub threads : length new.threads ≤ max (length old.threads) (threads_for u o)
   pub locks : length new.locks ≤ max (length old.locks) (locks_for o)

@@ -78,14 +78,7 @@ impl Memory {
         ensures means { IfOk result (λ memory. meaning memory ≡ nothing) }
         ensures stands { IfOk result (λ memory. StandsFor memory []) }
     {
-        Ok(Memory::empty(alloc, limits))
-    }
-
-    fn empty(alloc: Global, limits: Limits) -> Memory
-        ensures limits { result.limits ≡ limits }
-        ensures means { meaning result ≡ nothing }
-    {
-        Memory {
+        Ok(Memory {
             alloc,
             limits,
             length: 0,
@@ -93,11 +86,11 @@ impl Memory {
             threads: Vec::new(alloc),
             locks: Vec::new(alloc),
             cells: Vec::new(alloc),
-        }
+        })
     }
 
     /// Makes room for a call that is allowed, or answers `OutOfMemory`. Nothing else changes, and each call
-    /// that was ready stays so.
+    /// that was ready stays so. No clause bounds the memory that is reserved for cells.
     pub fn prepare(&mut self, call: &Call) -> Result<(), OutOfMemory>
         requires { Allows self.old call.now.thread call.now.op }
         ensures same { meaning self.new ≡ meaning self.old }
