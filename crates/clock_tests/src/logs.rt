@@ -181,7 +181,7 @@ fn reserve(log: &mut Log, additional: usize) -> Result<(), OutOfMemory>
 // A log of the events.
 fn log_of(rt: &impl Abort, alloc: Global, events: &[Event]) -> Log {
     let mut log = Log::new(alloc);
-    assert!(rt; log.is_empty() && log.get(0).is_none());
+    assert!(rt; log.len() == 0 && log.get(0).is_none());
     assert!(rt; reserve(&mut log, events.len()).is_ok());
     assert!(rt; log.has_room(events.len()));
     for event in events {
@@ -194,7 +194,7 @@ fn log_of(rt: &impl Abort, alloc: Global, events: &[Event]) -> Log {
 // The log has the events, and none beyond them.
 fn expect_events(rt: &impl Abort, log: &Log, events: &[Event]) {
     assert!(rt; log.len() == events.len() as u64);
-    assert!(rt; log.is_empty() == events.is_empty());
+    assert!(rt; (log.len() == 0) == events.is_empty());
     let mut index = 0;
     for event in events {
         assert!(rt; log.get(index) == Some(*event), "event {index}");
