@@ -17,7 +17,7 @@ pub use counts::{
 pub use logs::{
     ended_threads_rest, grows_by_legal_events, holders_may_release, inside_by_releases,
     joined_holders_have_ended, open_acquires_are_depths, own_events_are_counted,
-    own_steps_are_own_events, slots_are_kept,
+    own_steps_are_own_events, sections_are_numbered, slots_are_kept,
 };
 pub use order::{
     below_near, ends_below, hb_goes_forward, hb_is_order, po_goes_forward, po_is_order,
