@@ -1,9 +1,7 @@
 //! Two threads' handles, in one hand.
-//!
-//! A call that is refused memory is made once more.
 ghost use Rattle.std.specs.Prelude.{◌≡◌};
 
-use crate::actors::begin;
+use crate::calls::{Ask, begin, fork, make};
 use event_core::{
     Event, Limits, LockId, Op, Refusal, Reply, Roots, SiteId, ThreadId, VarId, Verdict,
 };
@@ -16,8 +14,6 @@ use std::sync::Wait;
 use traced_thread::{NotJoined, TracedThread};
 
 const LOCK: LockId = LockId(0);
-
-const VAR: VarId = VarId(0);
 
 const SITE: SiteId = SiteId(7);
 
@@ -50,18 +46,6 @@ fn expect_acquire<N: Name, R: Wait + Abort>(
     assert!(rt; acquire(rt, thread, most) == (answer, made));
 }
 
-fn release<N: Name, R: Wait + Abort>(rt: &R, thread: &mut TracedThread<N>) {
-    assert!(rt; thread.release(rt, LOCK, SITE).is_ok());
-}
-
-fn store<N: Name, R: Wait + Abort>(rt: &R, thread: &mut TracedThread<N>, value: u64) -> Reply {
-    let answer = match thread.store(rt, VAR, value, SITE) {
-        Err(Refusal::OutOfMemory) => thread.store(rt, VAR, value, SITE),
-        answer => answer,
-    };
-    answer.expect(rt, "a store")
-}
-
 /// The store is at the index, and has the verdict.
 fn expect_store<N: Name, R: Wait + Abort>(
     rt: &R,
@@ -70,19 +54,12 @@ fn expect_store<N: Name, R: Wait + Abort>(
     index: u64,
     verdict: Verdict,
 ) {
-    let reply = store(rt, thread, value);
-    assert!(rt; reply.index == index && reply.verdict == verdict);
-}
-
-fn fork<'m, N: Name, R: Wait + Abort>(
-    rt: &R,
-    main: &mut TracedThread<'m, N>,
-) -> TracedThread<'m, N> {
-    let forked = match main.fork(rt, ThreadId(1), SITE) {
-        Err(Refusal::OutOfMemory) => main.fork(rt, ThreadId(1), SITE),
-        forked => forked,
+    let reply = Reply {
+        index,
+        value,
+        verdict,
     };
-    forked.expect(rt, "a fork").0
+    assert!(rt; make(rt, thread, Ask::Store(0, value), SITE) == Ok(reply));
 }
 
 /// The main thread is refused the lock a thousand times, and no event is added.
@@ -100,9 +77,9 @@ fn pass_on<N: Name, R: Wait + Abort>(
     main: &mut TracedThread<N>,
     child: &mut TracedThread<N>,
 ) {
-    release(rt, child);
+    assert!(rt; make(rt, child, Ask::Release(0), SITE).is_ok());
     expect_acquire(rt, main, 1000, Ok(3), 1);
-    release(rt, main);
+    assert!(rt; make(rt, main, Ask::Release(0), SITE).is_ok());
     expect_acquire(rt, child, 0, Ok(5), 0);
 }
 
@@ -114,7 +91,7 @@ fn refuse<N: Name, R: Wait + Abort>(rt: &R, unnamed: Unnamed) -> Closed
 {
     let (shared, pass) = start::<N>(unnamed);
     let mut main = TracedThread::new(&shared, pass);
-    let mut child = fork(rt, &mut main);
+    let (mut child, _) = fork(rt, &mut main, 1);
     expect_acquire(rt, &mut child, 1, Ok(1), 1);
     expect_held(rt, &mut main);
     pass_on(rt, &mut main, &mut child);
@@ -129,7 +106,7 @@ fn refuse<N: Name, R: Wait + Abort>(rt: &R, unnamed: Unnamed) -> Closed
 fn expect_events<N: Name, R: Wait + Abort>(rt: &R, main: &mut TracedThread<N>) {
     let by_child = Event {
         thread: ThreadId(1),
-        op: Op::Store(VAR),
+        op: Op::Store(VarId(0)),
         site: SITE,
         value: 9,
     };
@@ -144,7 +121,7 @@ fn race<N: Name, R: Wait + Abort>(rt: &R, unnamed: Unnamed)
 {
     let (shared, pass) = start::<N>(unnamed);
     let mut main = TracedThread::new(&shared, pass);
-    let mut child = fork(rt, &mut main);
+    let (mut child, _) = fork(rt, &mut main, 1);
     expect_store(rt, &mut child, 9, 1, Verdict::Clear);
     expect_store(rt, &mut main, 5, 2, Verdict::Racy(1));
     expect_events(rt, &mut main);
@@ -163,7 +140,7 @@ fn refuse_join<N: Name, R: Wait + Abort>(rt: &R, unnamed: Unnamed)
 {
     let (shared, pass) = start::<N>(unnamed);
     let mut main = TracedThread::new(&shared, pass);
-    let child = fork(rt, &mut main);
+    let (child, _) = fork(rt, &mut main, 1);
     let answer = main.join(rt, child, SITE);
     expect_log_full(rt, answer.err().expect(rt, "a refusal"));
 }

@@ -5,7 +5,7 @@
 #![tactic(auto)]
 
 #[cfg(test)]
-mod actors;
+mod calls;
 #[cfg(test)]
 mod example;
 #[cfg(test)]

@@ -1,10 +1,10 @@
 //! Calls of two threads after memory was refused.
 ghost use Rattle.std.specs.Prelude.{◌≡◌};
 
-use crate::actors::{Answer, Ask};
+use crate::calls::{Answer, Ask, make_once};
 use Ask::{Acquire, Load, Release, Store};
 use By::{Child, Main};
-use event_core::{Limits, LockId, Refusal, Reply, Roots, SiteId, ThreadId, VarId, Verdict};
+use event_core::{Limits, Refusal, Reply, Roots, SiteId, ThreadId, Verdict};
 use live_monitor::{Unnamed, start};
 use log_pass::Name;
 use std::marker::Brand;
@@ -36,15 +36,6 @@ const LINES: &[(By, Ask)] = &[
     (Child, Release(0)),
     (Child, Load(1)),
 ];
-
-fn answer<N: Name, R: Wait>(rt: &R, thread: &mut TracedThread<'_, N>, ask: Ask) -> Answer {
-    match ask {
-        Load(var) => thread.load(rt, VarId(var), SITE),
-        Store(var, value) => thread.store(rt, VarId(var), value, SITE),
-        Acquire(lock) => thread.acquire(rt, LockId(lock), SITE),
-        Release(lock) => thread.release(rt, LockId(lock), SITE),
-    }
-}
 
 /// Whether memory is short after the answer. Until then a call is accepted at its index, and a release is
 /// never refused for memory.
@@ -79,8 +70,8 @@ fn answer_to<N: Name, R: Wait>(
     ask: Ask,
 ) -> Answer {
     match by {
-        Main => answer(rt, main, ask),
-        Child => answer(rt, child, ask),
+        Main => make_once(rt, main, ask, SITE),
+        Child => make_once(rt, child, ask, SITE),
     }
 }
 

@@ -1,19 +1,20 @@
-//! Worked cases of two threads, whose passes are in one hand.
+//! Worked cases of two threads, whose handles are in one hand.
 ghost use Rattle.std.specs.Prelude.{◌≡◌};
 
-use crate::actors::{Actor, Answer, Ask, begin};
+use crate::calls::{Ask, begin, fork, join, make, swap};
 use Ask::{Acquire, Load, Release, Store};
 use Deed::{Accepted, Found, Refused, Swapped};
 use Turn::{Child, DropChild, Fork, Join, Main};
 use Verdict::{Clear, Racy};
-use event_core::{Limits, Refusal, Reply, Roots, SwapReply, ThreadId, Verdict};
-use live_monitor::{Closed, Shared, StartFault, Unnamed, start};
+use event_core::{Limits, Refusal, Reply, Roots, SiteId, SwapReply, ThreadId, VarId, Verdict};
+use live_monitor::{Closed, StartFault, Unnamed, start};
 use log_pass::Name;
 use seq_monitor::Race;
 use std::alloc::Global;
 use std::marker::Brand;
 use std::process::Abort;
 use std::sync::Wait;
+use traced_thread::TracedThread;
 
 /// What a thread asks for, and the index, the value and the verdict, or the refusal, that it is answered.
 /// Or the value that it swaps in, and how that is answered. Or how many events it finds.
@@ -26,7 +27,7 @@ enum Deed {
 }
 
 /// What thread 0 does, or thread 1, or that thread 0 forks or joins thread 1, with the index. Or that the
-/// pass of thread 1 is dropped.
+/// handle of thread 1 is dropped.
 #[derive(Clone, Copy)]
 enum Turn {
     Main(Deed),
@@ -118,7 +119,7 @@ const CASES: &[Case] = &[
         events: 13,
         races: &[],
     },
-    // Thread 1 is never joined. Its pass is dropped, and it keeps its lock.
+    // Thread 1 is never joined. Its handle is dropped, and it keeps its lock.
     Case {
         names: 1,
         room: 16,
@@ -185,45 +186,24 @@ const CASES: &[Case] = &[
     },
 ];
 
-fn expect_answer<N: Name, R: Wait + Abort>(
-    rt: &R,
-    shared: &Shared<N>,
-    actor: Actor<N>,
-    ask: Ask,
-    wanted: Answer,
-) -> Actor<N> {
-    let (actor, answer) = actor.make(rt, shared, ask, 0);
-    assert!(rt; answer == wanted);
-    actor
-}
+const SITE: SiteId = SiteId(0);
 
-fn take<N: Name, R: Wait + Abort>(
-    rt: &R,
-    shared: &Shared<N>,
-    actor: Actor<N>,
-    deed: Deed,
-) -> Actor<N> {
-    match deed {
+/// The thread is answered as the deed says.
+fn take<N: Name, R: Wait + Abort>(rt: &R, thread: &mut TracedThread<N>, deed: Deed) {
+    let is_told = match deed {
         Accepted(ask, index, value, verdict) => {
             let reply = Reply {
                 index,
                 value,
                 verdict,
             };
-            expect_answer(rt, shared, actor, ask, Ok(reply))
+            make(rt, thread, ask, SITE) == Ok(reply)
         }
-        Refused(ask, refusal) => expect_answer(rt, shared, actor, ask, Err(refusal)),
-        Swapped(value, wanted) => {
-            let (actor, answer) = actor.swap(rt, shared, 0, value, 0);
-            assert!(rt; answer == wanted);
-            actor
-        }
-        Found(wanted) => {
-            let (actor, found) = actor.look(shared);
-            assert!(rt; found == wanted);
-            actor
-        }
-    }
+        Refused(ask, refusal) => make(rt, thread, ask, SITE) == Err(refusal),
+        Swapped(value, answer) => swap(rt, thread, VarId(0), value, SITE) == answer,
+        Found(count) => thread.look() == count,
+    };
+    assert!(rt; is_told);
 }
 
 /// What a fork and a join are answered.
@@ -235,51 +215,37 @@ fn at(index: u64) -> Reply {
     }
 }
 
-/// The pass of thread 0, and that of thread 1 while it runs.
-type Both<N> = (Actor<N>, Option<Actor<N>>);
-
-fn fork<N: Name, R: Wait + Abort>(
+/// Takes the turn. There is a handle of thread 1 while that runs.
+fn take_turn<'m, N: Name, R: Wait + Abort>(
     rt: &R,
-    shared: &Shared<N>,
-    main: Actor<N>,
-    index: u64,
-) -> Both<N> {
-    let (main, child, reply) = main.fork(rt, shared, 1);
-    assert!(rt; reply == at(index));
-    (main, Some(child))
-}
-
-fn join<N: Name, R: Wait + Abort>(
-    rt: &R,
-    shared: &Shared<N>,
-    main: Actor<N>,
-    child: Actor<N>,
-    index: u64,
-) -> Both<N> {
-    let (main, child) = main.meet(shared, child);
-    let (main, reply) = main.join(rt, shared, child);
-    assert!(rt; reply == at(index));
-    (main, None)
-}
-
-fn take_turn<N: Name, R: Wait + Abort>(
-    rt: &R,
-    shared: &Shared<N>,
-    both: Both<N>,
+    main: &mut TracedThread<'m, N>,
+    child: Option<TracedThread<'m, N>>,
     turn: Turn,
-) -> Both<N> {
-    let (main, child) = both;
+) -> Option<TracedThread<'m, N>> {
     match turn {
-        Main(deed) => (take(rt, shared, main, deed), child),
-        Child(deed) => {
-            let child = child.expect(rt, "the child");
-            (main, Some(take(rt, shared, child, deed)))
+        Main(deed) => {
+            take(rt, main, deed);
+            child
         }
-        Fork(index) => fork(rt, shared, main, index),
-        Join(index) => join(rt, shared, main, child.expect(rt, "the child"), index),
+        Child(deed) => {
+            let mut child = child.expect(rt, "the child");
+            take(rt, &mut child, deed);
+            Some(child)
+        }
+        Fork(index) => {
+            let (child, reply) = fork(rt, main, 1);
+            assert!(rt; reply == at(index));
+            Some(child)
+        }
+        Join(index) => {
+            let mut child = child.expect(rt, "the child");
+            main.meet(&mut child);
+            assert!(rt; join(rt, main, child) == at(index));
+            None
+        }
         DropChild => {
             drop(child.expect(rt, "the child"));
-            (main, None)
+            None
         }
     }
 }
@@ -290,13 +256,14 @@ fn take_turns<N: Name, R: Wait + Abort>(rt: &R, unnamed: Unnamed, turns: &[Turn]
     requires limits { unnamed.limits ≡ N.limits }
 {
     let (shared, pass) = start::<N>(unnamed);
-    let mut both = (Actor::new(pass), None);
+    let mut main = TracedThread::new(&shared, pass);
+    let mut child = None;
     for turn in turns {
-        both = take_turn(rt, &shared, both, *turn);
+        child = take_turn(rt, &mut main, child, *turn);
     }
-    let (main, child) = both;
     drop(child);
-    main.close(shared)
+    let pass = main.into_pass();
+    shared.close(pass)
 }
 
 /// The verdict on the event is that it races with the earlier one.

@@ -3,9 +3,9 @@
 //! What is refused memory is made once more.
 ghost use Rattle.std.specs.Prelude.{◌≡◌};
 
-use crate::actors::{Actor, Ask, begin};
-use event_core::{Call, Limits, LockId, Log, Op, Outcome, Roots, ThreadId, VarId};
-use live_monitor::{Closed, Shared, Unnamed, start};
+use crate::calls::{Ask, begin, fork, join, make, swap};
+use event_core::{Call, Limits, LockId, Log, Op, Outcome, Roots, SiteId, ThreadId, VarId};
+use live_monitor::{Closed, Unnamed, start};
 use log_pass::Name;
 use seq_monitor::Monitor;
 use std::alloc::{AllocError, Global};
@@ -13,7 +13,8 @@ use std::marker::Brand;
 use std::process::Abort;
 use std::sync::Wait;
 use std::thread;
-use std::thread::{Threads, join};
+use std::thread::Threads;
+use traced_thread::TracedThread;
 
 /// How many rounds each thread makes.
 const ROUNDS: u32 = 50;
@@ -32,123 +33,81 @@ const ROUND: [Op; 6] = [
 const PATIENCE: u32 = 1_000_000;
 
 /// Asks, and is to be accepted.
-fn must<N: Name, R: Wait + Abort>(
-    rt: &R,
-    shared: &Shared<N>,
-    actor: Actor<N>,
-    ask: Ask,
-    site: u32,
-) -> Actor<N> {
-    let (actor, answer) = actor.make(rt, shared, ask, site);
-    assert!(rt; answer.is_ok(), "site {site}: {answer:?}");
-    actor
+fn must<N: Name, R: Wait + Abort>(rt: &R, thread: &mut TracedThread<N>, ask: Ask, site: SiteId) {
+    let answer = make(rt, thread, ask, site);
+    assert!(rt; answer.is_ok(), "{site:?}: {answer:?}");
 }
 
 /// Acquires the lock, and tries again while another thread holds it.
-fn acquire<N: Name, R: Wait + Abort>(
-    rt: &R,
-    shared: &Shared<N>,
-    actor: Actor<N>,
-    site: u32,
-) -> Actor<N> {
-    let mut actor = actor;
+fn acquire<N: Name, R: Wait + Abort>(rt: &R, thread: &mut TracedThread<N>, site: SiteId) {
     for _ in 0..PATIENCE {
-        let (next, answer) = actor.make(rt, shared, Ask::Acquire(0), site);
-        if answer.is_ok() {
-            return next;
+        if make(rt, thread, Ask::Acquire(0), site).is_ok() {
+            return;
         }
         thread::yield_now();
-        actor = next;
     }
-    must(rt, shared, actor, Ask::Acquire(0), site)
+    must(rt, thread, Ask::Acquire(0), site);
 }
 
 /// The values that a thread's swaps read.
 type Values = [u64; 50];
 
-/// What a thread gives that has made its rounds.
-type Made<N> = (Actor<N>, Values);
-
 /// Makes a round, at a site of its own. It swaps in the value, and gives the one that it read.
 fn make_round<N: Name, R: Wait + Abort>(
     rt: &R,
-    shared: &Shared<N>,
-    actor: Actor<N>,
+    thread: &mut TracedThread<N>,
     round: u32,
     value: u64,
-) -> (Actor<N>, u64) {
-    let loaded = must(rt, shared, actor, Ask::Load(0), round);
-    let stored = must(rt, shared, loaded, Ask::Store(0, 7), round);
-    let inside = acquire(rt, shared, stored, round);
-    let outside = must(rt, shared, inside, Ask::Release(0), round);
-    let (actor, swapped) = outside.swap(rt, shared, 1, value, round);
-    (actor, swapped.expect(rt, "a swap").value)
+) -> u64 {
+    let site = SiteId(round);
+    must(rt, thread, Ask::Load(0), site);
+    must(rt, thread, Ask::Store(0, 7), site);
+    acquire(rt, thread, site);
+    must(rt, thread, Ask::Release(0), site);
+    let swapped = swap(rt, thread, VarId(1), value, site);
+    swapped.expect(rt, "a swap").value
 }
 
 /// Makes all rounds. The values that it swaps in are no other thread's.
-fn make_rounds<N: Name, R: Wait + Abort>(rt: &R, shared: &Shared<N>, actor: Actor<N>) -> Made<N> {
-    let first = (50 * u64::from(actor.number())).saturating_sub(49);
-    let mut actor = actor;
+fn make_rounds<N: Name, R: Wait + Abort>(rt: &R, thread: &mut TracedThread<N>) -> Values {
+    let first = (50 * u64::from(thread.thread().0)).saturating_sub(49);
     let mut values = [0; 50];
     for (round, read) in (0u32..).zip(&mut values) {
-        let value = first.saturating_add(u64::from(round));
-        let (next, found) = make_round(rt, shared, actor, round, value);
-        *read = found;
-        actor = next;
+        *read = make_round(rt, thread, round, first.saturating_add(u64::from(round)));
     }
-    (actor, values)
+    values
 }
 
-/// Joins the thread, and gives the values that its swaps read.
-fn join_made<N: Name, R: Wait + Abort>(
+/// Threads 1 to 4 make their rounds at once. What their swaps read, and the last value.
+fn make_all<N: Name + Send + Sync, R: Threads + Wait + Abort + Sync>(
     rt: &R,
-    shared: &Shared<N>,
-    main: Actor<N>,
-    made: Made<N>,
-) -> (Actor<N>, Values) {
-    let (child, values) = made;
-    let (main, _) = main.join(rt, shared, child);
-    (main, values)
-}
-
-/// Forks two threads.
-fn fork_two<N: Name, R: Wait + Abort>(
-    rt: &R,
-    shared: &Shared<N>,
-    main: Actor<N>,
-    first: u32,
-    second: u32,
-) -> (Actor<N>, Actor<N>, Actor<N>) {
-    let (main, first, _) = main.fork(rt, shared, first);
-    let (main, second, _) = main.fork(rt, shared, second);
-    (main, first, second)
-}
-
-/// Two threads make all rounds at once.
-fn make_both<N: Name + Send + Sync, R: Threads + Wait + Abort + Sync>(
-    rt: &R,
-    shared: &Shared<N>,
-    first: Actor<N>,
-    second: Actor<N>,
-) -> (Made<N>, Made<N>) {
-    join(
+    main: &mut TracedThread<N>,
+) -> ([Values; 4], u64) {
+    let (mut first, _) = fork(rt, main, 1);
+    let (mut second, _) = fork(rt, main, 2);
+    let (mut third, _) = fork(rt, main, 3);
+    let (mut fourth, _) = fork(rt, main, 4);
+    let ((one, two), (three, four)) = thread::join(
         rt,
-        || make_rounds(rt, shared, first),
-        || make_rounds(rt, shared, second),
-    )
-}
-
-/// Joins two threads, and gives the values that the swaps of each read.
-fn join_both<N: Name, R: Wait + Abort>(
-    rt: &R,
-    shared: &Shared<N>,
-    main: Actor<N>,
-    made: (Made<N>, Made<N>),
-) -> (Actor<N>, Values, Values) {
-    let (first, second) = made;
-    let (main, first) = join_made(rt, shared, main, first);
-    let (main, second) = join_made(rt, shared, main, second);
-    (main, first, second)
+        || thread::join(
+            rt,
+            || make_rounds(rt, &mut first),
+            || make_rounds(rt, &mut second),
+        ),
+        || thread::join(
+            rt,
+            || make_rounds(rt, &mut third),
+            || make_rounds(rt, &mut fourth),
+        ),
+    );
+    join(rt, main, first);
+    join(rt, main, second);
+    join(rt, main, third);
+    join(rt, main, fourth);
+    let last = make(rt, main, Ask::Load(1), SiteId(0))
+        .expect(rt, "a load")
+        .value;
+    ([one, two, three, four], last)
 }
 
 /// The closed log of threads 1 to 4, the values that their swaps read, and the last value.
@@ -160,18 +119,10 @@ fn four_threads<N: Name + Send + Sync, R: Threads + Wait + Abort + Sync>(
     requires limits { unnamed.limits ≡ N.limits }
 {
     let (shared, pass) = start::<N>(unnamed);
-    let (main, first, second) = fork_two(rt, &shared, Actor::new(pass), 1, 2);
-    let (main, third, fourth) = fork_two(rt, &shared, main, 3, 4);
-    let (two, others) = join(
-        rt,
-        || make_both(rt, &shared, first, second),
-        || make_both(rt, &shared, third, fourth),
-    );
-    let (main, first, second) = join_both(rt, &shared, main, two);
-    let (main, third, fourth) = join_both(rt, &shared, main, others);
-    let (main, last) = main.make(rt, &shared, Ask::Load(1), 0);
-    let last = last.expect(rt, "a load").value;
-    (main.close(shared), [first, second, third, fourth], last)
+    let mut main = TracedThread::new(&shared, pass);
+    let (values, last) = make_all(rt, &mut main);
+    let pass = main.into_pass();
+    (shared.close(pass), values, last)
 }
 
 /// Five threads, one lock and two variables.
