@@ -1,4 +1,4 @@
-//! Tests of the monitor that threads share: worked cases with the passes in one hand, and threads that call
+//! Tests of the monitor that threads share: worked cases with the handles in one hand, and threads that call
 //! it at once.
 //!
 //! The crate has tests alone, and they see no more of the monitor than any caller does.
