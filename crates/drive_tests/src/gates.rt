@@ -38,7 +38,8 @@ fn a_shut_gate_is_asked_as_often_as_patience_allows(rt: HostRuntime) {
     assert!(&rt; gate.asked.load(Ordering::SeqCst) == 3);
 }
 
-/// Lets each line go ahead once those before it in the order were done.
+/// Lets each line go ahead once those before it in the order were done. Line 1 begins a run: one that was
+/// refused memory is made once more, by the same gate.
 #[derive(Drop)]
 struct InOrder {
     lines: &'static [u64],
@@ -47,6 +48,9 @@ struct InOrder {
 
 impl Gate for InOrder {
     fn enter(&self, _thread: ThreadId, line: u64) -> bool {
+        if line == 1 {
+            self.done.store(0, Ordering::SeqCst);
+        }
         let next = self.done.load(Ordering::SeqCst);
         next < self.lines.len() && self.lines[next] == line
     }
@@ -140,7 +144,7 @@ const MAIN: ThreadId = ThreadId(0);
 
 const CHILD: ThreadId = ThreadId(1);
 
-/// Lets a line go ahead once all was told that comes before it in the list.
+/// Lets a line go ahead once all was told that comes before it in the list. Line 1 begins a run.
 #[derive(Drop)]
 struct Listener {
     expected: &'static [Notice],
@@ -162,6 +166,10 @@ impl Listener {
 
 impl Gate for Listener {
     fn enter(&self, thread: ThreadId, line: u64) -> bool {
+        if line == 1 {
+            self.heard.store(0, Ordering::SeqCst);
+            self.others.store(0, Ordering::SeqCst);
+        }
         self.hears(Asked(thread, line))
     }
 
