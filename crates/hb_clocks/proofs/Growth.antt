@@ -6,8 +6,9 @@ use Rattle.event_core.specs.declared.events.Op.{Op}
 use Rattle.event_core.specs.declared.events.Op.TheVariants.{Load, Store, Acquire, Release, Fork, Join}
 use Rattle.event_core.specs.Rows.{clock_after, depth_after, join, with_row, Rows, to_child, to_lock, brought}
 use Rattle.event_core.specs.Effect.{Effect, Accesses, Opens, Closes, Forks, Joins, Inner}
-use Rattle.hb_clocks.specs.State.{HbState, empty, joins_of, effect, without_locks}
-use Rattle.hb_clocks.specs.Stands.{IsAtMost, GrowsByOne}
+use Rattle.event_core.specs.declared.events.Event.{Event}
+use Rattle.hb_clocks.specs.State.{HbState, empty, after, joins_of, effect, without_locks}
+use Rattle.hb_clocks.specs.Stands.{IsAtMost}
 use Rattle.hb_clocks.proofs.TableSteps.{brought_few}
 
 -- a row that is written has few, where the row and the others do
@@ -88,7 +89,8 @@ few_depth most t op d few a l = go op
     go (Fork u) = up a l
     go (Join u) = up a l
 
-pub grows_by_one : GrowsByOne
+-- an event makes no number greater by more than one
+pub grows_by_one : (most : ℕ) (e : Event) (s : HbState) → IsAtMost most s → IsAtMost (most + 1) (after e s)
 grows_by_one most e s few = record {
   po = λ a u. few_child (most + 1) (effect e s) po_clock (with_row e.thread.0 po_clock s.po) po_few a.0
       (few_row (most + 1) e.thread.0 po_clock s.po po_few a.0 (λ v. let h = few.po a v in omega arith)) u;

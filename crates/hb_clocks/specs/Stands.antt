@@ -67,7 +67,3 @@ AdmitsLegal = (limits : Limits) (log : List Event) (e : Event) (s : HbState)
 -- a log within the greatest number of events has few
 abbrev pub FewInLog : Type 0
 FewInLog = (log : List Event) (s : HbState) → length log ≤ 4294967296 → Stands log s → IsFew s
-
--- an event makes no number greater by more than one
-abbrev pub GrowsByOne : Type 0
-GrowsByOne = (most : ℕ) (e : Event) (s : HbState) → IsAtMost most s → IsAtMost (most + 1) (after e s)

@@ -28,7 +28,8 @@ use Rattle.wcp_laws.specs.Standing.{Stands}
 use Rattle.wcp_laws.specs.Step.{effect, after, held_after, without}
 use Rattle.wcp_laws.proofs.Clocks.{effect_fits}
 use Rattle.wcp_clocks.specs.Parts.{state_of}
-use Rattle.wcp_clocks.specs.StandsFor.{AreDistinct, HeldWithin}
+use Rattle.wcp_clocks.specs.StandsFor.{AreDistinct, StandsFor}
+use Rattle.wcp_clocks.specs.declared.parts.Parts.{Parts}
 
 -- a property of all but one number of a list
 all_without : (P : ℕ → Type 0) (n : ℕ) (xs : List ℕ) → AllByRecursion P xs → AllByRecursion P (without n xs)
@@ -128,7 +129,9 @@ lock_within limits log t l w up =
     by out (inr ge) =
         absurd (let no : not (nat_lt l.0 limits.locks) ≡ true = ap not (le-ltb l.0 limits.locks ge) in cc)
 
-pub held_within : HeldWithin
+-- a thread holds no more locks than there may be
+pub held_within : (limits : Limits) (log : List Event) (p : Parts) (t : ThreadId)
+    → WellFormed limits log → StandsFor log p → length ((state_of p).held t.0) ≤ limits.locks
 held_within limits log p t w st =
     length-le_from_distinct_below ((state_of p).held t.0) limits.locks (st.distinct t) below
   where

@@ -18,8 +18,8 @@ use Rattle.event_core.proofs.Effects.{Fits, accesses, opens, closes, forks, join
 use Rattle.wcp_laws.specs.State.{State}
 use Rattle.wcp_laws.specs.Standing.{Stands}
 use Rattle.wcp_laws.specs.Step.{effect}
-use Rattle.wcp_clocks.specs.Parts.{NamesWithin}
-use Rattle.wcp_clocks.specs.StandsFor.{WithinWhereLegal}
+use Rattle.wcp_clocks.specs.Parts.{NamesWithin, width_of, limits_of, IsWithin}
+use Rattle.wcp_clocks.specs.declared.parts.Parts.{Parts}
 use Rattle.wcp_laws.proofs.Clocks.{effect_fits}
 
 pub thread_within : (limits : Limits) (log : List Event) (e : Event) → WellFormed limits (log ++ e ∷ [])
@@ -53,7 +53,10 @@ target_in_range : (limits : Limits) (log : List Event) (e : Event) → WellForme
 target_in_range limits log e w =
     when_none _ TargetRange (legal_reasons limits log e (well_formed_last limits log e w)).on_table
 
-pub within_where_legal : WithinWhereLegal
+-- a legal event names numbers within the limits of the clocks
+pub within_where_legal : (limits : Limits) (log : List Event) (e : Event) (p : Parts)
+    → WellFormed limits (log ++ e ∷ []) → width_of p ≡ limits.threads → limits_of p ≡ limits
+    → IsWithin p e
 within_where_legal limits log e p w width same = (
   subst (λ n. e.thread.0 < n) (sym width) (thread_within limits log e w),
   named e.op (target_in_range limits log e w),

@@ -18,7 +18,7 @@ use Rattle.wcp_laws.proofs.LegalSteps as laws_steps
 use Rattle.wcp_laws.proofs.FoundLaws.{nothing_found_fits, found_step}
 use Rattle.wcp_clocks.specs.declared.parts.Parts.{Parts}
 use Rattle.wcp_clocks.specs.Parts.{hb_of, state_of, found_in}
-use Rattle.wcp_clocks.specs.StandsFor.{StandsFor, EmptyStands, SameStand, AreDistinct}
+use Rattle.wcp_clocks.specs.StandsFor.{StandsFor, SameStand, AreDistinct}
 use Rattle.wcp_clocks.proofs.HeldLocks.{distinct_step}
 
 -- what a log's numbers are stands for it, by whichever name
@@ -33,7 +33,9 @@ renamed log p h s f is_h is_s is_f stands_h stands_s stands_f distinct = record 
   distinct = subst (λ (x : State). AreDistinct x.held) (sym is_s) distinct;
 }
 
-pub empty_stands : EmptyStands
+-- parts without numbers stand for the empty log
+pub empty_stands : (p : Parts) → state_of p ≡ empty → hb_of p ≡ hb.empty → found_in p ≡ (λ _ _. 0)
+    → StandsFor [] p
 unfolding IsDistinct
 empty_stands p is_s is_h is_f =
     renamed [] p hb.empty empty (λ _ _. 0) is_h is_s is_f hb_conditions.empty_stands laws_empty.empty_stands

@@ -1,5 +1,5 @@
 -- When the clocks stand for a log.
-use Rattle.std.specs.Prelude.{◌≡◌, ℕ, ◌+◌, ◌*◌, ◌<◌, ◌≤◌, List, [], ◌∷◌, ◌++◌, length, nat_eq}
+use Rattle.std.specs.Prelude.{ℕ, ◌+◌, ◌*◌, ◌<◌, List, [], ◌∷◌, ◌++◌, length, nat_eq}
 use Rattle.std.specs.List.{IsDistinct}
 use Rattle.event_core.specs.declared.ids.ThreadId.{ThreadId}
 use Rattle.event_core.specs.declared.ids.LockId.{LockId}
@@ -7,13 +7,11 @@ use Rattle.event_core.specs.declared.events.Event.{Event}
 use Rattle.event_core.specs.declared.bounds.Limits.{Limits}
 use Rattle.event_core.specs.Bounds.{AreBounded}
 use Rattle.event_core.specs.Refusal.{WellFormed}
-use Rattle.hb_clocks.specs.State as hb
 use Rattle.hb_clocks.specs.Stands as hb_stands
-use Rattle.wcp_laws.specs.State.{empty}
 use Rattle.wcp_laws.specs.Standing.{Stands}
 use Rattle.wcp_laws.specs.Found.{FoundFits}
 use Rattle.wcp_clocks.specs.declared.parts.Parts.{Parts}
-use Rattle.wcp_clocks.specs.Parts.{hb_of, state_of, width_of, limits_of, work_of, found_in, Fits, IsWithin}
+use Rattle.wcp_clocks.specs.Parts.{hb_of, state_of, work_of, found_in, Fits}
 use Rattle.wcp_clocks.specs.Parts.{SameNumbers}
 
 -- no lock stands twice in the list of a thread
@@ -27,11 +25,6 @@ pub record StandsFor (log : List Event) (p : Parts) : Type 0 where
   pub strict : Stands log (state_of p)
   pub found : FoundFits log (state_of p) (found_in p)
   pub distinct : AreDistinct (state_of p).held
-
--- parts without numbers stand for the empty log
-abbrev pub EmptyStands : Type 0
-EmptyStands = (p : Parts) → state_of p ≡ empty → hb_of p ≡ hb.empty → found_in p ≡ (λ _ _. 0)
-    → StandsFor [] p
 
 -- parts with the same numbers stand for the same log
 abbrev pub SameStand : Type 0
@@ -52,14 +45,3 @@ IsBounded m = AreBounded m.threads m.locks m.vars m.events
 abbrev pub FitsWhereLegal : Type 0
 FitsWhereLegal = (limits : Limits) (log : List Event) (e : Event) (p : Parts)
     → IsBounded limits → WellFormed limits (log ++ e ∷ []) → StandsFor log p → HasLittleWork e p → Fits e p
-
--- a thread holds no more locks than there may be
-abbrev pub HeldWithin : Type 0
-HeldWithin = (limits : Limits) (log : List Event) (p : Parts) (t : ThreadId)
-    → WellFormed limits log → StandsFor log p → length ((state_of p).held t.0) ≤ limits.locks
-
--- a legal event names numbers within the limits of the clocks
-abbrev pub WithinWhereLegal : Type 0
-WithinWhereLegal = (limits : Limits) (log : List Event) (e : Event) (p : Parts)
-    → WellFormed limits (log ++ e ∷ []) → width_of p ≡ limits.threads → limits_of p ≡ limits
-    → IsWithin p e

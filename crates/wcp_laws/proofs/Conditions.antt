@@ -9,10 +9,10 @@ use Rattle.event_core.specs.Refusal.{WellFormed}
 use Rattle.event_core.specs.Effect.{Closes}
 use Rattle.event_core.proofs.Growth.{well_formed_front}
 use Rattle.event_core.proofs.Legality.{orderly}
-use Rattle.wcp_laws.specs.Conditions.{SoundWhereLegal}
 use Rattle.wcp_laws.specs.Standing.{Stands}
 use Rattle.wcp_laws.specs.State.{State}
 use Rattle.wcp_laws.specs.Step.{effect}
+use Rattle.wcp_laws.specs.Conditions.{IsSound}
 use Rattle.wcp_laws.proofs.Clocks.{effect_fits}
 use Rattle.event_core.proofs.OpenSections.{closes_at, open_by_depth}
 use Rattle.wcp_laws.proofs.Ordering.{counted_earlier, releases_above}
@@ -39,7 +39,9 @@ own_within log e s st =
     = (st.strict.thread e.thread e.thread).within in
     omega arith
 
-pub sound_where_legal : SoundWhereLegal
+-- at each legal event the numbers are so
+pub sound_where_legal : (limits : Limits) (log : List Event) (e : Event) (s : State)
+    → WellFormed limits (log ++ e ∷ []) → Stands log s → IsSound e s
 sound_where_legal limits log e s w st = record {
   above_closed = λ l q u is h. (releases_above limits log e s l w st is).0 q u h;
   above_others = λ l x k t u is. (releases_above limits log e s l w st is).1 x k t u;

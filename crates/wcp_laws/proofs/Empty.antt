@@ -1,5 +1,7 @@
 -- The numbers of the empty log stand for it.
 use Rattle.std.proofs.Common.{◌≡◌, ℕ, List, [], Some, refl, arith, true, false, slice_get}
+use Rattle.wcp_laws.specs.Standing.{Stands}
+use Rattle.wcp_laws.specs.State.{empty}
 use Rattle.event_core.specs.declared.events.Event.{Event}
 use Rattle.event_core.specs.Closed.{Others}
 use Rattle.event_core.specs.Count.{events_of, Past, LockPast}
@@ -8,7 +10,6 @@ use Rattle.event_core.specs.Order.{Hb}
 use Rattle.event_core.specs.Rows.{no_clock, Counted}
 use Rattle.event_core.specs.Wcp.{Strict}
 use Rattle.event_core.proofs.Members.{none_in}
-use Rattle.wcp_laws.specs.Standing.{EmptyStands}
 
 no_events : List Event
 no_events = []
@@ -21,7 +22,8 @@ counted : (P : ℕ → Type 0) → Counted [] P no_clock
 unfolding no_events
 counted P u = record { within = omega arith; first = λ i o. absurd (nothing i o.event o.at) }
 
-pub empty_stands : EmptyStands
+-- the numbers of the empty log stand for it
+pub empty_stands : Stands [] empty
 unfolding events_of depth no_events
 empty_stands = record {
   hb = record { thread = λ t. counted (Past [] (Hb []) t); lock = λ l. counted (LockPast [] (Hb []) l) };

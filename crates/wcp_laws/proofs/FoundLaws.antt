@@ -14,27 +14,27 @@ use Rattle.event_core.specs.declared.events.Op.{Op}
 use Rattle.event_core.specs.declared.events.Op.TheVariants.{Load, Store, Acquire, Release, Fork, Join}
 use Rattle.event_core.specs.Log.{depth}
 use Rattle.event_core.specs.Effect.{Effect, Accesses, Opens, Closes, Forks, Joins, Inner, effect_of}
+use Rattle.event_core.specs.declared.bounds.Limits.{Limits}
+use Rattle.event_core.specs.Refusal.{WellFormed}
 use Rattle.event_core.proofs.Counting.{events_own, events_other, grown_length}
 use Rattle.event_core.proofs.Depth.{thread_cases, same_thread_id}
 use Rattle.event_core.proofs.Growing.{row_same, row_other}
 use Rattle.event_core.proofs.DepthSteps.{cell_other}
 use Rattle.wcp_laws.specs.Conditions.{found_at}
 use Rattle.wcp_laws.specs.Found.{sum_below, total_found, total_closed, has_events, threads_in, FoundFits}
-use Rattle.wcp_laws.specs.Found.{NothingFoundFits, FoundStep, FoundAtClose, FoundAtMost, ThreadsWithin}
 use Rattle.wcp_laws.specs.Standing.{Stands}
-use Rattle.wcp_laws.specs.State.{State}
-use Rattle.wcp_laws.specs.Step.{effect, hb_row, closed_after}
+use Rattle.wcp_laws.specs.State.{State, empty}
+use Rattle.wcp_laws.specs.Step.{effect, hb_row, closed_after, after}
 use Rattle.wcp_laws.proofs.Cursors.{cursors_step}
 use Rattle.wcp_laws.proofs.Sums.{sum_same, sum_within, sum_changed, sum_table}
 
 -- nothing is closed at first
 none_closed : (locks : ℕ) → total_closed locks (λ _. []) ≤ 0
--- nothing is closed at first
 none_closed zero = omega arith
--- nothing is closed at first
 none_closed (suc n) = let rest : total_closed n (λ _. []) ≤ 0 = none_closed n in omega arith
 
-pub nothing_found_fits : NothingFoundFits
+-- it fits the empty log that nothing was found
+pub nothing_found_fits : FoundFits [] empty (λ _ _. 0)
 nothing_found_fits = record {
   counted = λ l t. omega arith;
   own = λ l t none. refl;
@@ -148,7 +148,10 @@ fewer_step locks (x ∷ xs) e s st old few =
     let grown = grown_length (x ∷ xs) e in
     omega arith
 
-pub found_step : FoundStep
+-- and each legal event leaves what fits
+pub found_step : (limits : Limits) (log : List Event) (e : Event) (s : State) (f : ℕ → ℕ → ℕ)
+    → WellFormed limits (log ++ e ∷ []) → Stands log s → FoundFits log s f
+    → FoundFits (log ++ e ∷ []) (after e s) (found_at e.thread (effect e s) s f)
 found_step limits log e s f w st fits = record {
   counted = cursors_step limits log e s f w st fits.counted;
   own = found_own log e s f fits.own (effect e s);
@@ -162,7 +165,11 @@ found_step limits log e s f w st fits = record {
   fewer = λ locks some. fewer_step locks log e s st (fits.fewer locks) (fits.few locks);
 }
 
-pub found_at_close : FoundAtClose
+-- a closing release changes the total by what its thread newly finds on its lock
+pub found_at_close : (locks threads : ℕ) (t : ThreadId) (l : LockId) (s : State) (f : ℕ → ℕ → ℕ)
+    → l.0 < locks → t.0 < threads
+    → total_found locks threads (found_at t (Closes l) s f) + f l.0 t.0
+    ≡ total_found locks threads f + number_counted (s.strict.thread t.0) (s.closed l.0)
 found_at_close locks threads t l s f in_locks in_threads =
     let row : sum_below (new l.0) threads + f l.0 t.0 ≡ sum_below (f l.0) threads + new l.0 t.0
     = sum_changed threads t.0 (f l.0) (new l.0) in_threads row_kept in
@@ -223,7 +230,9 @@ found_by log s f fits l t = go (cases_lt 0 (events_of log thread))
         let nothing : f l t ≡ 0 = fits.own lock thread (omega arith) in
         omega arith
 
-pub found_at_most : FoundAtMost
+-- each thread that has events finds each section once at most
+pub found_at_most : (locks threads : ℕ) (log : List Event) (s : State) (f : ℕ → ℕ → ℕ)
+    → FoundFits log s f → total_found locks threads f ≤ threads_in threads log * length log
 found_at_most locks threads log s f fits =
     let table : total_found locks threads f ≤ threads_in threads log * total_closed locks s.closed
     = sum_table locks threads f (has_events log) (λ l. length (s.closed l)) (found_by log s f fits) in
@@ -231,7 +240,8 @@ found_at_most locks threads log s f fits =
     = mul-le-mul_left (threads_in threads log) (fits.few locks) in
     omega arith
 
-pub threads_within : ThreadsWithin
+-- the threads that have events are no more than the limit
+pub threads_within : (threads : ℕ) (log : List Event) → threads_in threads log ≤ threads
 threads_within threads log =
     sum_within threads (has_events log) (λ t. one (nat_lt 0 (events_of log (record { 0 = t }))))
   where

@@ -1,5 +1,5 @@
 -- What the order of sections says of the clocks.
-use Rattle.std.proofs.Common.{◌≡◌, ℕ, ◌<◌, ◌≤◌, [], ◌∷◌, ◌++◌, true, length, sym, subst, arith}
+use Rattle.std.proofs.Common.{◌≡◌, ℕ, ◌<◌, ◌≤◌, [], ◌∷◌, ◌++◌, true, length, sym, subst, arith, List}
 use Rattle.std.proofs.Common.{take, ◌⊎◌}
 use Rattle.std.proofs.lemmas.Bool.{cases_lt, cases_order}
 use Rattle.std.proofs.lemmas.Option.{slice_get_within}
@@ -11,6 +11,9 @@ use Rattle.event_core.specs.Log.{Of, Section}
 use Rattle.event_core.specs.Order.{Hb, Po, here}
 use Rattle.event_core.specs.Orderly.{Orderly}
 use Rattle.event_core.specs.Wcp.{Strict, rule_c_left, rule_c_right}
+use Rattle.event_core.specs.declared.bounds.Limits.{Limits}
+use Rattle.event_core.specs.Refusal.{WellFormed}
+use Rattle.event_core.specs.declared.events.Event.{Event}
 use Rattle.event_core.proofs.Chains.{hb_forward, hb_trans, hb_thread}
 use Rattle.event_core.proofs.CountLaws.{counts_union, counts_same, counts_grow, own}
 use Rattle.event_core.proofs.CountLaws.{brought_hb}
@@ -22,9 +25,11 @@ use Rattle.event_core.proofs.MoreLaws.{sections_ordered, one_acquire}
 use Rattle.event_core.proofs.Stable.{longer, section_too, hb_too, strict_too}
 use Rattle.event_core.proofs.Effects.{last_closes}
 use Rattle.event_core.proofs.Pasts.{Source, source_within, new_source}
-use Rattle.wcp_laws.specs.Conditions.{ReleasesAbove, CountedEarlier, StrictGrows, StrictIsLatest}
+use Rattle.wcp_laws.specs.Conditions.{ReleasesAbove, CountedEarlier, StrictIsLatest}
 use Rattle.wcp_laws.specs.Conditions.{BelowIsLatest}
 use Rattle.wcp_laws.specs.Step.{effect, hb_row, after}
+use Rattle.wcp_laws.specs.State.{State}
+use Rattle.wcp_laws.specs.Standing.{Stands}
 use Rattle.wcp_laws.proofs.Clocks.{effect_fits, hb_counted}
 use Rattle.wcp_laws.proofs.ClosedSections.{counted_is, is_counted_of}
 use Rattle.wcp_laws.proofs.LegalSteps.{step_stands}
@@ -110,7 +115,10 @@ counted_earlier limits log s l t p q w st hp hq le is = go (cases_order x.2 y.2)
         let g : y.2 < x.2 = gt in
         absurd (omega arith)
 
-pub strict_grows : StrictGrows
+-- a thread's strict clock never goes down
+pub strict_grows : (limits : Limits) (log : List Event) (e : Event) (s : State) (t u : ThreadId)
+    → WellFormed limits (log ++ e ∷ []) → Stands log s
+    → s.strict.thread t.0 u.0 ≤ (after e s).strict.thread t.0 u.0
 strict_grows limits log e s t u w st =
     counts_grow log e u (Past log (Strict log) t) (Past (log ++ e ∷ []) (Strict (log ++ e ∷ [])) t)
     (s.strict.thread t.0 u.0) ((after e s).strict.thread t.0 u.0)

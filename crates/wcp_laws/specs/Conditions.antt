@@ -15,7 +15,7 @@ use Rattle.event_core.specs.Effect.{Effect, Closes}
 use Rattle.event_core.specs.Rows.{with_row}
 use Rattle.event_core.specs.Closed.{Closed, is_counted, Has, number_counted}
 use Rattle.wcp_laws.specs.State.{State}
-use Rattle.wcp_laws.specs.Step.{effect, hb_row, after}
+use Rattle.wcp_laws.specs.Step.{effect, hb_row}
 use Rattle.wcp_laws.specs.Standing.{Stands}
 
 -- a closing release's clock is at or above those of the closed sections of its lock
@@ -32,12 +32,6 @@ CountedEarlier = (limits : Limits) (log : List Event) (s : State) (l : LockId) (
     → WellFormed limits log → Stands log s
     → Has p (s.closed l.0) → Has q (s.closed l.0) → ((u : ThreadId) → p.release u.0 ≤ q.release u.0)
     → IsTrue (is_counted (s.strict.thread t.0) q) → IsTrue (is_counted (s.strict.thread t.0) p)
-
--- a thread's strict clock never goes down
-abbrev pub StrictGrows : Type 0
-StrictGrows = (limits : Limits) (log : List Event) (e : Event) (s : State) (t u : ThreadId)
-    → WellFormed limits (log ++ e ∷ []) → Stands log s
-    → s.strict.thread t.0 u.0 ≤ (after e s).strict.thread t.0 u.0
 
 -- a thread's strict clock counts what strictly precedes its latest event
 abbrev pub StrictIsLatest : Type 0
@@ -67,11 +61,6 @@ pub record IsSound (e : Event) (s : State) : Type 0 where
   pub own_strict : s.strict.thread e.thread.0 e.thread.0 ≤ s.hb.thread e.thread.0 e.thread.0
   -- the section that a release closes was opened: positions begin at 1
   pub opened : (l : LockId) → effect e s ≡ Closes l → 0 < s.opened e.thread.0 l.0
-
--- at each legal event the numbers are so
-abbrev pub SoundWhereLegal : Type 0
-SoundWhereLegal = (limits : Limits) (log : List Event) (e : Event) (s : State)
-    → WellFormed limits (log ++ e ∷ []) → Stands log s → IsSound e s
 
 -- of each lock and thread, so many closed sections at most were found counted as are counted
 abbrev pub CursorsStand : State → (ℕ → ℕ → ℕ) → Type 0

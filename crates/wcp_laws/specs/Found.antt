@@ -2,20 +2,15 @@
 --
 -- A closing release looks, from where its thread's last one on the lock ended, for the latest closed section
 -- that its strict clock counts. So all releases together find no section twice for one thread.
-use Rattle.std.specs.Prelude.{ℕ, zero, suc, ◌≡◌, ◌+◌, ◌*◌, ◌<◌, ◌≤◌, cond, nat_lt}
-use Rattle.std.specs.Prelude.{List, [], ◌∷◌, ◌++◌, length}
+use Rattle.std.specs.Prelude.{ℕ, zero, suc, ◌≡◌, ◌+◌, ◌<◌, ◌≤◌, cond, nat_lt}
+use Rattle.std.specs.Prelude.{List, length}
 use Rattle.event_core.specs.declared.ids.ThreadId.{ThreadId}
 use Rattle.event_core.specs.declared.ids.LockId.{LockId}
 use Rattle.event_core.specs.declared.events.Event.{Event}
-use Rattle.event_core.specs.declared.bounds.Limits.{Limits}
-use Rattle.event_core.specs.Refusal.{WellFormed}
 use Rattle.event_core.specs.Count.{events_of}
-use Rattle.event_core.specs.Effect.{Closes}
-use Rattle.event_core.specs.Closed.{Closed, number_counted}
-use Rattle.wcp_laws.specs.State.{State, empty}
-use Rattle.wcp_laws.specs.Step.{effect, after}
-use Rattle.wcp_laws.specs.Standing.{Stands}
-use Rattle.wcp_laws.specs.Conditions.{CursorsStand, found_at}
+use Rattle.event_core.specs.Closed.{Closed}
+use Rattle.wcp_laws.specs.State.{State}
+use Rattle.wcp_laws.specs.Conditions.{CursorsStand}
 
 -- f 0 + f 1 + .. + f (n - 1)
 abbrev pub sum_below : (ℕ → ℕ) → ℕ → ℕ
@@ -47,29 +42,3 @@ pub record FoundFits (log : List Event) (s : State) (f : ℕ → ℕ → ℕ) : 
   pub few : (locks : ℕ) → total_closed locks s.closed ≤ length log
   -- and the log's first event closes none
   pub fewer : (locks : ℕ) → 0 < length log → total_closed locks s.closed < length log
-
--- it fits the empty log that nothing was found
-abbrev pub NothingFoundFits : Type 0
-NothingFoundFits = FoundFits [] empty (λ _ _. 0)
-
--- and each legal event leaves what fits
-abbrev pub FoundStep : Type 0
-FoundStep = (limits : Limits) (log : List Event) (e : Event) (s : State) (f : ℕ → ℕ → ℕ)
-    → WellFormed limits (log ++ e ∷ []) → Stands log s → FoundFits log s f
-    → FoundFits (log ++ e ∷ []) (after e s) (found_at e.thread (effect e s) s f)
-
--- a closing release changes the total by what its thread newly finds on its lock
-abbrev pub FoundAtClose : Type 0
-FoundAtClose = (locks threads : ℕ) (t : ThreadId) (l : LockId) (s : State) (f : ℕ → ℕ → ℕ)
-    → l.0 < locks → t.0 < threads
-    → total_found locks threads (found_at t (Closes l) s f) + f l.0 t.0
-    ≡ total_found locks threads f + number_counted (s.strict.thread t.0) (s.closed l.0)
-
--- each thread that has events finds each section once at most
-abbrev pub FoundAtMost : Type 0
-FoundAtMost = (locks threads : ℕ) (log : List Event) (s : State) (f : ℕ → ℕ → ℕ)
-    → FoundFits log s f → total_found locks threads f ≤ threads_in threads log * length log
-
--- the threads that have events are no more than the limit
-abbrev pub ThreadsWithin : Type 0
-ThreadsWithin = (threads : ℕ) (log : List Event) → threads_in threads log ≤ threads

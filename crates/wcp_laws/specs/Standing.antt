@@ -14,7 +14,7 @@ use Rattle.event_core.specs.Refusal.{WellFormed}
 use Rattle.event_core.specs.Count.{events_of}
 use Rattle.event_core.specs.Rows.{Counted, RowsStand}
 use Rattle.event_core.specs.Closed.{Open, Noted, Others, Has, ClosedStand}
-use Rattle.wcp_laws.specs.State.{State, empty}
+use Rattle.wcp_laws.specs.State.{State}
 use Rattle.wcp_laws.specs.Step.{after}
 
 pub record Stands (log : List Event) (s : State) : Type 0 where
@@ -31,10 +31,6 @@ pub record Stands (log : List Event) (s : State) : Type 0 where
   pub others : (l : LockId) (x : VarId) (k : AccessKind) (t : ThreadId)
       → Counted log (Others log l x k t) (s.others l.0 x.0 k t.0)
   pub closed : (l : LockId) → ClosedStand log l (s.closed l.0)
-
--- the numbers of the empty log stand for it
-abbrev pub EmptyStands : Type 0
-EmptyStands = Stands [] empty
 
 -- an event that is legal after the log makes numbers that stand for the longer log
 abbrev pub StepStands : Type 0
