@@ -1,11 +1,10 @@
 -- The parts of a monitor stand for its log: what that gives at a legal call, and that it lasts.
 use Rattle.std.proofs.Common.{◌≡◌, ℕ, ◌+◌, ◌<◌, ◌≤◌, List, [], ◌∷◌, ◌++◌, None, true}
 use Rattle.std.proofs.Common.{length}
-use Rattle.std.proofs.Common.{refl, sym, ap, subst, ◌∙◌, take, nat_eq, nat_lt, arith}
+use Rattle.std.proofs.Common.{refl, sym, ap, subst, ◌∙◌, nat_eq, nat_lt, arith}
 use Rattle.std.proofs.lemmas.Bool.{ltb-true, leb-false}
 use Rattle.std.proofs.lemmas.List.Sums.{count_by-le-length}
 use Rattle.std.proofs.lemmas.Option.{slice_get_within}
-use Rattle.std.proofs.Math.Seq.{take-length}
 use Rattle.event_core.specs.declared.ids.ThreadId.{ThreadId}
 use Rattle.event_core.specs.declared.ids.LockId.{LockId}
 use Rattle.event_core.specs.declared.events.Event.{Event}
@@ -26,13 +25,11 @@ use Rattle.event_core.proofs.Growth.{well_formed_grown}
 use Rattle.event_core.proofs.Legality.{AllNone, all_none, when_none}
 use Rattle.event_core.proofs.LogFacts.{of_does}
 use Rattle.event_core.proofs.RunFacts.{allowed_legal}
-use Rattle.event_core.proofs.Slots.{slots}
 use Rattle.vector_clocks.specs.Marks.{IsLatest}
 use Rattle.traced_mem.specs.Meaning.{Meaning}
 use Rattle.traced_mem.specs.Refusals.{refusal_at, reasons_at}
 use Rattle.traced_mem.specs.After.{after, holds_after}
 use Rattle.traced_mem.specs.OfLog.{StandsFor}
-use Rattle.traced_mem.specs.Room.{HoldsFit}
 use Rattle.traced_mem.specs.Tables.{meaning}
 use Rattle.traced_mem.proofs.Allowed.{un_not}
 use Rattle.access_check.specs.Tables.{count_at}
@@ -60,27 +57,9 @@ use Rattle.seq_monitor.proofs.Releases.{release_open, release_held, release_coun
 use Rattle.seq_monitor.proofs.JudgedMore.{one_verdict_more, no_verdicts}
 
 -- the log is well formed
-pub well : (m : Limits) (log : List Event) (p : Parts) (vs : List Verdict) (holds : ℕ)
-    → IsReplay m log p vs holds → WellFormed m log
-well m log p vs holds r = subst (λ (k : Limits). WellFormed k log) r.memory_limits r.memory.well_formed
-
--- the slots that are taken and kept are within the limit
-pub few : (m : Limits) (log : List Event) (p : Parts) (vs : List Verdict) (holds : ℕ)
-    → IsReplay m log p vs holds → length log + holds ≤ m.events
-few m log p vs holds r =
-    let kept : length log + open_acquires (take (length log) log) ≤ m.events
-    = slots m log (well m log p vs holds r) (length log) (omega arith) in
-    let same : open_acquires (take (length log) log) ≡ open_acquires log
-    = ap open_acquires (take-length log) in
-    let is : holds ≡ open_acquires log = r.open_holds in
-    omega arith
-
-pub holds_few : (m : Limits) (log : List Event) (p : Parts) (vs : List Verdict) (holds : ℕ)
-    → IsReplay m log p vs holds → holds ≤ 4294967296
-holds_few m log p vs holds r =
-    let kept : length log + holds ≤ m.events = few m log p vs holds r in
-    let most : m.events ≤ 4294967296 = r.bounds.most_events in
-    omega arith
+pub well : (m : Limits) (log : List Event) (p : Parts) (vs : List Verdict)
+    → IsReplay m log p vs → WellFormed m log
+well m log p vs r = subst (λ (k : Limits). WellFormed k log) r.memory_limits r.memory.well_formed
 
 -- a call that is not refused names numbers within the limits
 pub record Within (m : Limits) (t : ThreadId) (o : Op) : Type 0 where
@@ -118,19 +97,6 @@ clocks_within m t o p width limits lt is = (subst (λ (n : ℕ). t.0 < n) (sym w
     go (Fork u) is = other u is
     go (Join u) is = other u is
     go _ is = tt
-
--- the number of holds stays one
-pub holds_fit : (m : Limits) (log : List Event) (c : Call) (holds : ℕ) → WellFormed m log
-    → refusal m log c ≡ None → holds ≡ open_acquires log → holds ≤ 4294967296 → HoldsFit holds c.op
-holds_fit m log c holds well allowed is few = go c.op refl
-  where
-    go : (o : Op) → c.op ≡ o → HoldsFit holds o
-    go (Acquire l) q = let le : holds ≤ 4294967296 = few in omega arith
-    go (Release l) q =
-        let some : 0 < open_acquires log = release_open m log c l well allowed q in
-        let same : holds ≡ open_acquires log = is in
-        omega arith
-    go _ q = tt
 
 -- a slot is taken, and the others are kept
 pub record SlotTaken (open' : ℕ) (o : Op) : Type 0 where
@@ -187,26 +153,26 @@ judged e clocks accesses count v latest verdict limits log well stands made =
     verdict log made (latest limits (log ++ e ∷ []) (length log) well stands (last_is_latest log e))
 
 -- before an event that is accepted the log has fewer events than it may have
-pub index_fits : (m : Limits) (log : List Event) (c : Call) (p : Parts) (vs : List Verdict) (holds : ℕ)
-    → IsReplay m log p vs holds → refusal m log c ≡ None → length log < 4294967296
-index_fits m log c p vs holds r legal =
+pub index_fits : (m : Limits) (log : List Event) (c : Call) (p : Parts) (vs : List Verdict)
+    → IsReplay m log p vs → refusal m log c ≡ None → length log < 4294967296
+index_fits m log c p vs r legal =
     let e : Event = event_of log c in
     let grown : length (log ++ e ∷ []) ≡ length log + 1 = grown_length log e in
     let within : length (log ++ e ∷ []) ≤ m.events
     = log_within m (log ++ e ∷ [])
-    (well_more m log c e (well m log p vs holds r) legal refl) in
+    (well_more m log c e (well m log p vs r) legal refl) in
     let events : m.events ≤ 4294967296 = r.bounds.most_events in
     omega arith
 
 -- and so has each thread
-pub position_fits : (m : Limits) (log : List Event) (c : Call) (p : Parts) (vs : List Verdict) (holds : ℕ)
-    (t : ThreadId) → IsReplay m log p vs holds → refusal m log c ≡ None
+pub position_fits : (m : Limits) (log : List Event) (c : Call) (p : Parts) (vs : List Verdict)
+    (t : ThreadId) → IsReplay m log p vs → refusal m log c ≡ None
     → count_at p.accesses.counts t.0 < 4294967296
 unfolding events_of
-position_fits m log c p vs holds t r legal =
+position_fits m log c p vs t r legal =
     let same : count_at p.accesses.counts t.0 ≡ events_of log t = r.accesses.counts t in
     let most : events_of log t ≤ length log = count_by-le-length (λ (e : Event). nat_eq e.thread.0 t.0) log in
-    let few : length log < 4294967296 = index_fits m log c p vs holds r legal in
+    let few : length log < 4294967296 = index_fits m log c p vs r legal in
     omega arith
 
 -- how many acquires are to be released after the call
@@ -219,27 +185,25 @@ opened_after log c old new before longer means =
 
 -- one event more
 pub replay_more : (m : Limits) (log log2 : List Event) (c : Call) (e : Event) (old new : Parts)
-    (vs vs2 : List Verdict) (v : Verdict) (holds holds2 : ℕ)
-    → IsReplay m log old vs holds → refusal m log c ≡ None → e ≡ event_of log c
+    (vs vs2 : List Verdict) (v : Verdict)
+    → IsReplay m log old vs → refusal m log c ≡ None → e ≡ event_of log c
     → meaning new.memory ≡ after c.thread c.op c.arg (meaning old.memory)
     → new.memory.limits ≡ old.memory.limits
     → StandsFor new.memory (log ++ event_of log c ∷ [])
     → IsClocksReplay m (log ++ e ∷ []) new.clocks
     → AccessesStand (log ++ e ∷ []) new.accesses → new.accesses.limits ≡ old.accesses.limits
     → IsVerdict (log ++ e ∷ []) (length log) v
-    → log2 ≡ log ++ e ∷ [] → vs2 ≡ vs ++ v ∷ [] → holds2 ≡ holds_after c.op holds
-    → slots_for (open_acquires log) c.op ≤ new.events + 1
+    → log2 ≡ log ++ e ∷ [] → vs2 ≡ vs ++ v ∷ [] → slots_for (open_acquires log) c.op ≤ new.events + 1
     → slots_for (open_acquires log) c.op ≤ new.verdicts + 1
-    → IsReplay m log2 new vs2 holds2
-replay_more m log log2 c e old new vs vs2 v holds holds2 r allowed is means limits memory clocks accesses
-    access_limits verdict longer judged counted events verdicts =
-    let taken : SlotTaken (open_acquires log) c.op = slot_taken m log c (well m log old vs holds r) allowed in
-    let before : holds ≡ open_acquires log = r.open_holds in
-    let after_it : holds2 ≡ holds_after c.op (open_acquires log) = counted ∙ ap (holds_after c.op) before in
-    let opened : open_acquires (log ++ event_of log c ∷ []) ≡ holds_after c.op (open_acquires log)
-    = opened_after log c old.memory new.memory r.memory memory means in
+    → IsReplay m log2 new vs2
+replay_more m log log2 c e old new vs vs2 v r allowed is means limits memory clocks accesses
+    access_limits verdict longer judged events verdicts =
+    let taken : SlotTaken (open_acquires log) c.op = slot_taken m log c (well m log old vs r) allowed in
+    let opened : open_acquires (log ++ e ∷ []) ≡ holds_after c.op (open_acquires log)
+    = ap (λ (x : Event). open_acquires (log ++ x ∷ [])) is
+    ∙ opened_after log c old.memory new.memory r.memory memory means in
     let kept : holds_after c.op (open_acquires log) + 1 ≤ slots_for (open_acquires log) c.op = taken.kept in
-    let here : IsReplay m (log ++ e ∷ []) new (vs ++ v ∷ []) holds2 = record {
+    let here : IsReplay m (log ++ e ∷ []) new (vs ++ v ∷ []) = record {
       bounds = r.bounds;
       memory = subst (λ (x : Event). StandsFor new.memory (log ++ x ∷ [])) (sym is) memory;
       memory_limits = limits ∙ r.memory_limits;
@@ -247,31 +211,30 @@ replay_more m log log2 c e old new vs vs2 v holds holds2 r allowed is means limi
       accesses = accesses;
       access_limits = access_limits ∙ r.access_limits;
       judged = one_verdict_more log e vs v r.judged verdict;
-      open_holds = after_it ∙ (sym opened ∙ ap (λ (x : Event). open_acquires (log ++ x ∷ [])) (sym is));
       event_slots = omega arith;
       verdict_slots = omega arith;
     } in
-    subst (λ (xs : List Event). IsReplay m xs new vs2 holds2) (sym longer)
-    (subst (λ (ws : List Verdict). IsReplay m (log ++ e ∷ []) new ws holds2) (sym judged) here)
+    subst (λ (xs : List Event). IsReplay m xs new vs2) (sym longer)
+    (subst (λ (ws : List Verdict). IsReplay m (log ++ e ∷ []) new ws) (sym judged) here)
 
 -- what the clocks ask of the event
 pub clocks_ready : FitsWhereLegal → LittleWork
     → (m : Limits) (log : List Event) (c : Call) (e : Event) (p : Parts)
-    (vs : List Verdict) (holds : ℕ) → IsReplay m log p vs holds → refusal m log c ≡ None → e ≡ event_of log c
+    (vs : List Verdict) → IsReplay m log p vs → refusal m log c ≡ None → e ≡ event_of log c
     → Fits e p.clocks
-clocks_ready fits little m log c e p vs holds r allowed is =
+clocks_ready fits little m log c e p vs r allowed is =
     clocks_fit fits little m log e p.clocks r.bounds
-    (well_more m log c e (well m log p vs holds r) allowed is) r.clocks
+    (well_more m log c e (well m log p vs r) allowed is) r.clocks
 
 -- the parts before any event
 pub replay_empty : (m : Limits) (log : List Event) (p : Parts) (vs : List Verdict)
     → AreBounded m.threads m.locks m.vars m.events → StandsFor p.memory [] → p.memory.limits ≡ m
     → IsClocksReplay m [] p.clocks → AccessesStand [] p.accesses → p.accesses.limits ≡ m
-    → log ≡ [] → vs ≡ [] → IsReplay m log p vs 0
+    → log ≡ [] → vs ≡ [] → IsReplay m log p vs
 unfolding open_acquires
 replay_empty m log p vs bounds memory memory_limits clocks accesses access_limits none no_vs =
-    subst (λ (xs : List Event). IsReplay m xs p vs 0) (sym none)
-    (subst (λ (ws : List Verdict). IsReplay m [] p ws 0) (sym no_vs) (record {
+    subst (λ (xs : List Event). IsReplay m xs p vs) (sym none)
+    (subst (λ (ws : List Verdict). IsReplay m [] p ws) (sym no_vs) (record {
       bounds = bounds;
       memory = memory;
       memory_limits = memory_limits;
@@ -279,7 +242,6 @@ replay_empty m log p vs bounds memory memory_limits clocks accesses access_limit
       accesses = accesses;
       access_limits = access_limits;
       judged = no_verdicts;
-      open_holds = refl;
       event_slots = omega arith;
       verdict_slots = omega arith;
     }))
@@ -287,12 +249,12 @@ replay_empty m log p vs bounds memory memory_limits clocks accesses access_limit
 -- the clocks after the event
 pub clocks_more : WorkStep
     → (m : Limits) (log : List Event) (c : Call) (e : Event) (old : Parts) (new : Clocks) (vs : List Verdict)
-    (holds : ℕ) → IsReplay m log old vs holds → refusal m log c ≡ None → e ≡ event_of log c
+    → IsReplay m log old vs → refusal m log c ≡ None → e ≡ event_of log c
     → ((k : Limits) (xs : List Event) → WellFormed k (xs ++ e ∷ []) → ClocksStandFor xs old.clocks
     → ClocksStandFor (xs ++ e ∷ []) new)
     → IsWorkOf e old.clocks new → SameLimits old.clocks new → IsClocksReplay m (log ++ e ∷ []) new
-clocks_more work_step m log c e old new vs holds r allowed is stands work limits =
-    let longer : WellFormed m (log ++ e ∷ []) = well_more m log c e (well m log old vs holds r) allowed is in
+clocks_more work_step m log c e old new vs r allowed is stands work limits =
+    let longer : WellFormed m (log ++ e ∷ []) = well_more m log c e (well m log old vs r) allowed is in
     clocks_advanced work_step m log e old.clocks new longer r.clocks
     (stands m log longer r.clocks.stands) work limits
 
@@ -305,18 +267,18 @@ is_outcome m log c e v index value allowed is at has verdict =
     (allowed, at, has, subst (λ (x : Event). IsVerdict (log ++ x ∷ []) (length log) v) is verdict)
 
 -- a call that the memory allows has no refusal
-pub not_refused : (m : Limits) (log : List Event) (c : Call) (p : Parts) (vs : List Verdict) (holds : ℕ)
-    → IsReplay m log p vs holds → Allows p.memory c.thread c.op → refusal m log c ≡ None
-not_refused m log c p vs holds r allowed =
-    sym (same_refusal m log c (well m log p vs holds r))
+pub not_refused : (m : Limits) (log : List Event) (c : Call) (p : Parts) (vs : List Verdict)
+    → IsReplay m log p vs → Allows p.memory c.thread c.op → refusal m log c ≡ None
+not_refused m log c p vs r allowed =
+    sym (same_refusal m log c (well m log p vs r))
     ∙ (ap (λ (x : Meaning). refusal_at m x c.thread c.op) (sym r.memory.means)
     ∙ subst (λ (k : Limits). refusal_at k (meaning p.memory) c.thread c.op ≡ None) r.memory_limits allowed)
 
 -- a release that is not refused is ready in the clocks
 pub release_held_by_clocks : (m : Limits) (log : List Event) (c : Call) (l : LockId) (p : Parts)
-    (vs : List Verdict) (holds : ℕ) → IsReplay m log p vs holds → refusal m log c ≡ None → c.op ≡ Release l
+    (vs : List Verdict) → IsReplay m log p vs → refusal m log c ≡ None → c.op ≡ Release l
     → IsHeldRelease (hb_of p.clocks) c.thread c.op
-release_held_by_clocks m log c l p vs holds r allowed is =
+release_held_by_clocks m log c l p vs r allowed is =
     let held : 0 < depth log c.thread l = release_held m log c l allowed is in
     let same : (hb_of p.clocks).depth c.thread.0 l.0 ≡ depth log c.thread l
     = r.clocks.stands.hb.depths c.thread l in
@@ -325,9 +287,9 @@ release_held_by_clocks m log c l p vs holds r allowed is =
 
 -- there is room for it in the accesses
 pub release_in_accesses : (m : Limits) (log : List Event) (c : Call) (l : LockId) (p : Parts)
-    (vs : List Verdict) (holds : ℕ) → IsReplay m log p vs holds → refusal m log c ≡ None → c.op ≡ Release l
+    (vs : List Verdict) → IsReplay m log p vs → refusal m log c ≡ None → c.op ≡ Release l
     → AccessHasRoom p.accesses c.thread c.op
-release_in_accesses m log c l p vs holds r allowed is =
+release_in_accesses m log c l p vs r allowed is =
     let thread : c.thread.0 < length p.accesses.counts
     = release_counted m log c l p.accesses allowed is r.accesses in
     let here : AccessHasRoom p.accesses c.thread (Release l) = record { thread = thread; access = tt } in

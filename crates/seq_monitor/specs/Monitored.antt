@@ -111,7 +111,7 @@ pub record IsClocksReplay (limits : Limits) (log : List Event) (clocks : Clocks)
   pub joins : (work_of clocks).joins ≤ joins_of limits log
 
 -- the parts stand for the log, which is well formed, and the slots of all releases to come are kept
-pub record IsReplay (limits : Limits) (log : List Event) (parts : Parts) (verdicts : List Verdict) (holds : ℕ)
+pub record IsReplay (limits : Limits) (log : List Event) (parts : Parts) (verdicts : List Verdict)
     : Type 0 where
   pub bounds : AreBounded limits.threads limits.locks limits.vars limits.events
   pub memory : StandsFor parts.memory log
@@ -120,9 +120,8 @@ pub record IsReplay (limits : Limits) (log : List Event) (parts : Parts) (verdic
   pub accesses : AccessesStand log parts.accesses
   pub access_limits : parts.accesses.limits ≡ limits
   pub judged : AreVerdicts log verdicts
-  pub open_holds : holds ≡ open_acquires log
-  pub event_slots : holds ≤ parts.events
-  pub verdict_slots : holds ≤ parts.verdicts
+  pub event_slots : open_acquires log ≤ parts.events
+  pub verdict_slots : open_acquires log ≤ parts.verdicts
 
 -- the work of the clocks. The n events of the log, by k threads, took at most n * k + n comparisons of an
 -- acquire with a clock. Each of them took at most three joins of clocks, or where it is an access at most two

@@ -5,9 +5,7 @@ ghost use Rattle.event_core.specs.declared.events.Event.{Event as AnEvent};
 ghost use Rattle.event_core.specs.declared.ids.ThreadId.{ThreadId as Thread};
 ghost use Rattle.event_core.specs.Refusal.{WellFormed};
 ghost use Rattle.event_core.specs.Verdict.{IsVerdict};
-ghost use Rattle.traced_mem.specs.After.{holds_after};
 ghost use Rattle.traced_mem.specs.OfLog.{StandsFor};
-ghost use Rattle.traced_mem.specs.Room.{HoldsFit};
 ghost use Rattle.traced_mem.specs.Room.{IsReady as MemoryIsReady};
 ghost use Rattle.traced_mem.specs.Room.{IsReadyToSwap as MemoryIsReadyToSwap};
 ghost use Rattle.traced_mem.specs.Tables.{Allows, AllowsSwap, meaning};
@@ -53,20 +51,6 @@ pub(crate) fn reply_with(index: u64, event: &Event, verdict: Verdict) -> Reply
         index,
         value: event.value,
         verdict,
-    }
-}
-
-/// How many acquires are still to be released after the operation.
-#[inline(always)]
-pub(crate) fn count_holds(holds: u64, op: Op) -> u64
-    requires few { holds ≤ 4294967296 }
-    requires some { HoldsFit holds op }
-    ensures { result ≡ holds_after op holds }
-{
-    match op {
-        Op::Acquire(_) => holds + 1,
-        Op::Release(_) => holds - 1,
-        _ => holds,
     }
 }
 

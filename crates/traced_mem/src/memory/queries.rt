@@ -1,9 +1,9 @@
 //! What is asked of a memory: values, holders, depths, the locks of a thread, and room.
-ghost use Rattle.std.specs.Prelude.{◌≡◌, ℕ, ◌<◌, ◌↔◌, IsTrue, List, length};
+ghost use Rattle.std.specs.Prelude.{◌≡◌, ℕ, ◌<◌, ◌≤◌, ◌↔◌, IsTrue, List, length};
 ghost use Rattle.event_core.specs.declared.events.Event.{Event};
 ghost use Rattle.event_core.specs.declared.events.Op.{Op as Operation};
 ghost use Rattle.event_core.specs.declared.ids.LockId.{LockId as Lock};
-ghost use Rattle.event_core.specs.Refusal.{last_value, lock_depth};
+ghost use Rattle.event_core.specs.Refusal.{last_value, lock_depth, open_acquires};
 ghost use Rattle.event_core.specs.Refusal.{holder as holder_of};
 ghost use Rattle.traced_mem.specs.Tables.{meaning, Allows};
 ghost use Rattle.traced_mem.specs.Room.{HasRoom, IsReady, IsReadyToSwap};
@@ -37,6 +37,16 @@ impl Memory {
         ensures depth { (log : List Event) → StandsFor self.now log → result ≡ lock_depth log lock }
     {
         self.find_depth(lock)
+    }
+
+    /// How many acquires are still to be released: so many slots of a log are kept.
+    #[inline(always)]
+    pub fn holds(&self) -> u64
+        ensures means { result ≡ (meaning self.now).holds }
+        ensures few { result ≤ self.now.limits.events }
+        ensures open { (log : List Event) → StandsFor self.now log → result ≡ open_acquires log }
+    {
+        self.holds
     }
 
     /// The locks that the thread holds, in the order of their outer acquires.
