@@ -252,6 +252,7 @@ impl Queues {
             ≡ with_row thread.0 (with_row lock.0 false (has_room self.old thread.0)) (has_room self.old) }
         ensures limits { self.new.limits ≡ self.old.limits }
     {
+        // Asked for its clause alone: how many threads there may be at most.
         let _threads = self.limits.threads();
         let queue = &mut self.queues[lock.0 as usize];
         queue.leave(&mut self.releases, thread, clock);

@@ -63,6 +63,7 @@ impl Interner {
         ensures is { result ≡ length self.now.names }
         ensures within { result ≤ self.now.limit }
     {
+        // There are no more names than this, which is a u32.
         let _most = self.limit;
         self.names.len() as u32
     }
@@ -72,6 +73,7 @@ impl Interner {
     pub fn find(&self, name: &[u8]) -> Option<u32>
         ensures { IfSome result (λ i. number_of self.now name.now ≡ Some (i, self.now)) }
     {
+        // No name stands twice in them.
         let _unique = self.names.as_slice();
         self.cache.find(name)
     }

@@ -163,6 +163,7 @@ impl Memory {
         ensures kept { (u : Thread) (o : Operation) → takes_place call.now.thread call.now.op u o ≡ false
             → IsReady self.old u o → IsReady self.new u o }
     {
+        // No log has more events than this, so the counts below are within their range.
         let _events = self.limits.events();
         let value = match call.op {
             Op::Load(var) => self.value(var),
