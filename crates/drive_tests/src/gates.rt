@@ -7,8 +7,8 @@ use std::test::*;
 
 /// Never lets a line go ahead. It counts how often it is asked.
 #[derive(Drop)]
-struct Shut {
-    asked: AtomicU64,
+pub struct Shut {
+    pub asked: AtomicU64,
 }
 
 impl Gate for Shut {

@@ -1,10 +1,12 @@
 //! A worker that cannot be started, since there are no addresses for its stack.
+use crate::gates::Shut;
 use crate::runs::two_hundred;
 use crate::scripts::{EVENTS, limits, read};
-use script_drive::{DriveFault, FreeGate, Script, drive};
+use script_drive::{DriveFault, Script, drive};
 use std::alloc::{AllocError, Global};
 use std::process::Abort;
 use std::sync::Wait;
+use std::sync::atomic::{AtomicU64, Ordering};
 use std::test::*;
 use std::thread::Threads;
 
@@ -36,16 +38,17 @@ fn take_all(alloc: Global, blocks: &mut Vec<Vec<u8>>) {
 }
 
 /// The line whose fork has no worker, where there are these addresses alone. The worker of the first line is
-/// started, except under tools that keep what is freed, and waits for its fork.
+/// started, and waits for its fork.
 fn line_without_worker<R: AllocGlobal + Threads + Wait + Abort + Sync>(
     rt: &R,
     script: &Script,
+    gate: &Shut,
 ) -> Result<Option<u64>, Fail> {
     let stacks = block_of(rt.alloc(), STACKS)?;
     let mut blocks = Vec::new(rt.alloc());
     take_all(rt.alloc(), &mut blocks);
     drop(stacks);
-    let answer = drive(rt, rt.alloc(), script, &limits(rt, EVENTS), &FreeGate, 1);
+    let answer = drive(rt, rt.alloc(), script, &limits(rt, EVENTS), gate, 1);
     drop(blocks);
     match answer {
         Err(DriveFault::NoWorker { line }) => Ok(Some(line)),
@@ -53,12 +56,17 @@ fn line_without_worker<R: AllocGlobal + Threads + Wait + Abort + Sync>(
     }
 }
 
+/// No line is asked for: a call is made only once all workers are started.
 #[test]
 fn a_worker_that_cannot_be_started_is_told_with_its_fork(rt: HostRuntime) -> Result<(), Fail> {
     let text = two_hundred(rt.alloc())?;
     let script = read(rt.alloc(), text.as_str(), limits(&rt, EVENTS))?;
-    let line = line_without_worker(&rt, &script)?;
+    let gate = Shut {
+        asked: AtomicU64::new(0),
+    };
+    let line = line_without_worker(&rt, &script, &gate)?;
     drop(script);
-    assert!(&rt; matches!(line, Some(1..=199)), "{line:?}");
+    assert!(&rt; matches!(line, Some(2..=199)), "{line:?}");
+    assert!(&rt; gate.asked.load(Ordering::SeqCst) == 0);
     Ok(())
 }

@@ -3,7 +3,7 @@
 //! A call that is refused memory is made once more, so that each case has the same answers where one
 //! allocation is refused. A release is not: it takes no memory.
 use event_core::{Limits, LockId, Refusal, Reply, SiteId, SwapReply, ThreadId, VarId};
-use live_monitor::Unnamed;
+use live_monitor::{StartFault, Unnamed};
 use log_pass::Name;
 use std::alloc::Global;
 use std::process::Abort;
@@ -13,7 +13,7 @@ use traced_thread::{NotJoined, TracedThread};
 /// A monitor with these limits.
 pub fn begin<R: Abort>(rt: &R, alloc: Global, limits: Limits) -> Unnamed {
     let made = match Unnamed::new(alloc, limits) {
-        Err(_) => Unnamed::new(alloc, limits),
+        Err(StartFault::NoRoom) => Unnamed::new(alloc, limits),
         made => made,
     };
     made.expect(rt, "a monitor")

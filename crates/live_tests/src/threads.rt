@@ -68,9 +68,14 @@ fn make_round<N: Name, R: Wait + Abort>(
     swapped.expect(rt, "a swap").value
 }
 
+/// The value that the thread swaps in in its first round: of thread 1 it is 1, and of each later one 50 more.
+fn first_value(thread: ThreadId) -> u64 {
+    (50 * u64::from(thread.0)).saturating_sub(49)
+}
+
 /// Makes all rounds. The values that it swaps in are no other thread's.
 fn make_rounds<N: Name, R: Wait + Abort>(rt: &R, thread: &mut TracedThread<N>) -> Values {
-    let first = (50 * u64::from(thread.thread().0)).saturating_sub(49);
+    let first = first_value(thread.thread());
     let mut values = [0; 50];
     for (round, read) in (0u32..).zip(&mut values) {
         *read = make_round(rt, thread, round, first.saturating_add(u64::from(round)));
@@ -150,9 +155,16 @@ fn calls_of(alloc: Global, log: &Log) -> Result<Vec<Call>, AllocError> {
     Ok(calls)
 }
 
-/// The call is the one of the rounds that has so many before it.
+/// The call is the one of the rounds that has so many before it, with the value that it stores.
 fn expect_call<R: Abort>(rt: &R, call: &Call, before: usize) {
-    assert!(rt; call.op == ROUND[before % 6] && call.site.0 as usize == before / 6);
+    let round = before / 6;
+    assert!(rt; call.op == ROUND[before % 6] && call.site.0 as usize == round);
+    let stored = match before % 6 {
+        1 => Some(7),
+        5 => Some(first_value(call.thread).saturating_add(round as u64)),
+        _ => None,
+    };
+    assert!(rt; stored.is_none_or(|value| call.arg == value));
 }
 
 /// The calls of the thread are its rounds, each once and in order.

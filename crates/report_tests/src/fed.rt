@@ -2,7 +2,7 @@
 use crate::doubles::{Page, Room, Text};
 use crate::traces::{legal, refused};
 use event_core::{Limits, Refusal, Roots};
-use rapid_text::{Cause, TextFault};
+use rapid_text::{Cause, Kind, TextFault};
 use std::alloc::Global;
 use std::process::Abort;
 use trace_report::{ReplayFault, Replayer};
@@ -23,8 +23,13 @@ pub fn is_short(fault: &ReplayFault) -> bool {
 
 /// The fault of a new replayer that is fed the text in its pieces, an empty one before each, and an LF after
 /// a read has failed; none where there was no memory for one. The page has what it wrote.
-fn fault_of(alloc: Global, text: Text<'_>, page: &mut Page) -> Option<Option<ReplayFault>> {
-    let limits = Limits::new(8, 8, 8, 64, Roots::Free).ok()?;
+fn fault_of(
+    alloc: Global,
+    text: Text<'_>,
+    threads: u32,
+    page: &mut Page,
+) -> Option<Option<ReplayFault>> {
+    let limits = Limits::new(threads, 8, 8, 64, Roots::Free).ok()?;
     let mut replayer = Replayer::new(alloc, limits).ok()?;
     let (head, rest) = text.bytes.split_at(text.first.min(text.bytes.len()));
     replayer.feed(head);
@@ -39,25 +44,44 @@ fn fault_of(alloc: Global, text: Text<'_>, page: &mut Page) -> Option<Option<Rep
     Some(replayer.finish(page).err())
 }
 
-/// Whether a new replayer writes this, and whether it is a report. None where memory ran out.
-fn is_told(alloc: Global, text: Text<'_>, output: &str, is_report: bool) -> Option<bool> {
+/// The fault of a new replayer, and whether it writes this. None where memory ran out.
+fn told_once(
+    alloc: Global,
+    text: Text<'_>,
+    threads: u32,
+    output: &str,
+) -> Option<(Option<ReplayFault>, bool)> {
     let mut page = Page::blank(alloc, Room::AMPLE);
-    let fault = fault_of(alloc, text, &mut page);
+    let fault = fault_of(alloc, text, threads, &mut page);
     let is_written = page.bytes.as_slice() == output.as_bytes();
     drop(page);
     match fault? {
         Some(fault) if is_short(&fault) => None,
-        fault => Some(is_written && fault.is_none() == is_report),
+        fault => Some((fault, is_written)),
     }
+}
+
+/// The same, once more where memory ran out.
+fn told(
+    alloc: Global,
+    text: Text<'_>,
+    threads: u32,
+    output: &str,
+) -> Option<(Option<ReplayFault>, bool)> {
+    let told = told_once(alloc, text, threads, output);
+    if told.is_some() {
+        return told;
+    }
+    told_once(alloc, text, threads, output)
 }
 
 /// A replayer that is fed the text so writes this, which is a report or not.
 fn expect_told(rt: &impl Abort, alloc: Global, text: Text<'_>, output: &str, is_report: bool) {
-    let mut told = is_told(alloc, text, output, is_report);
-    if told.is_none() {
-        told = is_told(alloc, text, output, is_report);
-    }
-    assert!(rt; told == Some(true), "{output:?}, cut at {}", text.first);
+    let is_told = match told(alloc, text, 8, output) {
+        Some((fault, is_written)) => is_written && fault.is_none() == is_report,
+        None => false,
+    };
+    assert!(rt; is_told, "{output:?}, cut at {}", text.first);
 }
 
 /// However the bytes are fed, they come to this.
@@ -104,4 +128,65 @@ fn a_cr_and_an_lf_may_be_fed_one_after_the_other(rt: HostRuntime) {
     let report = "events 1 threads 1 locks 0 variables 1 races 0\n";
     expect_told(&rt, rt.alloc(), Text::cut(bytes, 9, 1), report, true);
     expect_however_fed(&rt, rt.alloc(), bytes, false, report, true);
+}
+
+/// A text, whether a read fails after it, how many threads it may name, what is written, and the fault.
+const FAULTS: &[(&[u8], bool, u32, &str, ReplayFault)] = &[
+    (
+        b"T0|w(x)|1",
+        true,
+        8,
+        "",
+        ReplayFault::Text(TextFault {
+            line: 1,
+            cause: Cause::Read,
+        }),
+    ),
+    (
+        b"T0|w(x)|1\n",
+        true,
+        8,
+        "",
+        ReplayFault::Text(TextFault {
+            line: 2,
+            cause: Cause::Read,
+        }),
+    ),
+    (
+        b"T0|rel(l)|1\n",
+        true,
+        8,
+        "line 1: NotHolder\n",
+        ReplayFault::Refused {
+            line: 1,
+            refusal: Refusal::NotHolder,
+        },
+    ),
+    (
+        b"T0|fork(T1)|1",
+        false,
+        1,
+        "line 1: TooManyNames\n",
+        ReplayFault::Text(TextFault {
+            line: 1,
+            cause: Cause::TooManyNames(Kind::Thread),
+        }),
+    ),
+];
+
+#[test]
+fn the_fault_of_a_text_is_answered_however_it_is_fed(rt: HostRuntime) {
+    for (bytes, fails, threads, output, fault) in FAULTS {
+        for cut in 0..=bytes.len() {
+            let text = Text {
+                fails: *fails,
+                ..Text::however_cut(bytes, cut)
+            };
+            let told = told(rt.alloc(), text, *threads, output);
+            assert!(rt;
+                told == Some((Some(*fault), true)),
+                "{bytes:?}, cut at {cut}: {told:?}"
+            );
+        }
+    }
 }

@@ -40,3 +40,5 @@ mod words;
 mod worked_cases;
 #[cfg(test)]
 mod writers;
+#[cfg(test)]
+mod written;

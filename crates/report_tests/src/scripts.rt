@@ -1,5 +1,5 @@
 //! Scripts, and what a run of their threads prints.
-use crate::doubles::{Room, Text};
+use crate::doubles::{Room, Text, joined, letters};
 use crate::runs::{Program, Ran, Run};
 use std::fs;
 use std::test::Fail;
@@ -107,6 +107,13 @@ fn the_worked_scripts_have_their_answers(rt: HostRuntime) {
         let run = Run::script(Text::cut(text.as_bytes(), 5, 3));
         run.prints(&rt, output, *status);
     }
+}
+
+#[test]
+fn a_line_of_a_script_that_is_too_long_is_told(rt: HostRuntime) {
+    let mut room = [0; 2048];
+    let text = joined(&mut room, letters(1025), b"\n");
+    Run::script(Text::whole(text)).prints(&rt, "line 1: LineTooLong\n", 6);
 }
 
 const PATIENCES: &[u32] = &[1, 2, 100];
@@ -238,6 +245,18 @@ const IN_A_FILE: &[(&[&str], &str, &str, u8)] = &[
         "line 3: Stuck\n",
         6,
     ),
+    (
+        &["run", "worked.script", "--threads", "1"],
+        "m fork a\n",
+        "line 1: TooManyNames\n",
+        6,
+    ),
+    (
+        &["run", "worked.script"],
+        "m rel l\n",
+        "line 1: NotHolder\n",
+        3,
+    ),
 ];
 
 #[test]
@@ -246,6 +265,10 @@ fn a_script_in_a_file_is_run(rt: HostRuntime) -> Result<(), Fail> {
         fs::write(&rt, "worked.script", *text)?;
         Run::of(words, Text::whole(b"")).prints(&rt, output, *status);
     }
+    fs::write(&rt, "worked.script", RACE)?;
+    let ran = Run::of(&["run", "worked.script"], Text::whole(b"")).ran_again(&rt);
+    let is_race = is_race(&ran);
+    ran.held(&rt, is_race, "a race");
     fs::remove_file(&rt, "worked.script")?;
     Ok(())
 }

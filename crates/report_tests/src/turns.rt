@@ -1,8 +1,11 @@
 //! How many reads a text takes, and where a read fails.
 use crate::commands::Command;
-use crate::doubles::Text;
+use crate::doubles::{Page, Pieces, Room, Text};
+use event_core::{Limits, Roots};
 use rapid_text::{Cause, TextFault};
-use trace_report::ReplayFault;
+use std::alloc::Global;
+use trace_report::{Counts, ReplayFault, Summary, replay};
+use wcp_tool::check;
 
 /// A text, how many bytes of it a read gives, whether a read at its end fails, how many reads there may be,
 /// the line that could not be read to its end, if any, and what `check` and `replay` write.
@@ -139,4 +142,38 @@ fn a_text_is_read_to_its_end_in_as_many_turns_as_it_takes(rt: HostRuntime) {
             case.turns
         );
     }
+}
+
+/// What `check` and `replay` answer for the long text.
+fn answers(alloc: Global) -> Option<(Counts, Summary)> {
+    let limits = Limits::new(2, 1, 2, 64, Roots::Free).ok()?;
+    let mut page = Page::blank(alloc, Room::AMPLE);
+    let mut text = Pieces::of(Text::whole(LONG));
+    let counts = check(alloc, &mut text, &mut page, limits, 2);
+    let mut text = Pieces::of(Text::whole(LONG));
+    let summary = replay(alloc, &mut text, &mut page, limits, 2);
+    drop(page);
+    Some((counts.ok()?, summary.ok()?))
+}
+
+#[test]
+fn what_is_counted_is_answered(rt: HostRuntime) {
+    let counts = Counts {
+        events: 9,
+        threads: 2,
+        locks: 0,
+        vars: 2,
+    };
+    let summary = Summary {
+        events: 9,
+        threads: 2,
+        locks: 0,
+        vars: 2,
+        races: 3,
+    };
+    let mut answered = answers(rt.alloc());
+    if answered.is_none() {
+        answered = answers(rt.alloc());
+    }
+    assert!(rt; answered == Some((counts, summary)), "{answered:?}");
 }

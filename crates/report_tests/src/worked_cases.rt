@@ -51,9 +51,11 @@ const THREADS: &[(&[&str], &str, u8)] = &[
 
 #[test]
 fn as_many_threads_are_admitted_as_the_option_says(rt: HostRuntime) {
+    let text = b"T0|fork(T1)|1";
     for (words, output, status) in THREADS {
-        let text = Text::whole(b"T0|fork(T1)|1");
-        Run::of(words, text).prints(&rt, output, *status);
+        for cut in 0..=text.len() {
+            Run::of(words, Text::however_cut(text, cut)).prints(&rt, output, *status);
+        }
     }
 }
 

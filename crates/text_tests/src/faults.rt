@@ -20,6 +20,10 @@ const CASES: &[Case] = &[
         answers: &[Fault(1, Cause::Line(LineFault::StrayCr))],
     },
     Case {
+        text: b"T0|w(x\ry",
+        answers: &[Fault(1, Cause::Line(LineFault::StrayCr))],
+    },
+    Case {
         text: b"T0|acq(l",
         answers: &[FEW_FIELDS],
     },
@@ -77,6 +81,15 @@ const CASES: &[Case] = &[
         text: b"T0|w(x)|\nT0|r(y)|",
         answers: &[STORE, Fault(2, Cause::TooManyNames(Kind::Variable))],
     },
+    // the kinds in the order of the line
+    Case {
+        text: b"T0|fork(T1)|\nT0|w(x)|\nT2|r(y)|",
+        answers: &[
+            Told(1, 0, Op::Fork(ThreadId(1)), 0),
+            Told(2, 0, Op::Store(VarId(0)), 0),
+            Fault(3, Cause::TooManyNames(Kind::Thread)),
+        ],
+    },
 ];
 
 #[test]
@@ -92,10 +105,17 @@ type LongLine = (usize, &'static [u8], bool, Answer);
 const LONG_LINES: &[LongLine] = &[
     (255, b"|w(x)|", false, STORE),
     (256, b"|w(x)|", false, LONG_NAME),
+    (
+        256,
+        b"|w()|",
+        false,
+        Fault(1, Cause::Line(LineFault::EmptyName)),
+    ),
     (1024, b"\n", false, FEW_FIELDS),
     (1024, b"\r\n", false, FEW_FIELDS),
     (1025, b"\n", false, TOO_LONG),
     (1025, b"\r\n", false, TOO_LONG),
+    (1025, b"\ra\n", false, TOO_LONG),
     (1026, b"", false, TOO_LONG),
     (1025, b"", true, Fault(1, Cause::Read)),
     (1026, b"", true, TOO_LONG),

@@ -122,6 +122,8 @@ pub const CASES: &[Case] = &[
         rows: &[
             Called(0, LOAD, 0, Ok(0)),
             Called(0, Op::Fork(ThreadId(0)), 0, Err(Refusal::SelfTarget)),
+            Called(0, Op::Join(ThreadId(0)), 0, Err(Refusal::SelfTarget)),
+            Called(0, Op::Fork(ThreadId(2)), 0, Err(Refusal::TargetRange)),
             Called(0, Op::Join(ThreadId(1)), 0, Err(Refusal::TargetNotStarted)),
             Called(0, Op::Fork(ThreadId(1)), 0, Err(Refusal::LogFull)),
             Called(0, Op::Acquire(LockId(1)), 0, Err(Refusal::TargetRange)),
