@@ -144,16 +144,26 @@ fn a_text_is_read_to_its_end_in_as_many_turns_as_it_takes(rt: HostRuntime) {
     }
 }
 
-/// What `check` and `replay` answer for the long text.
-fn answers(alloc: Global) -> Option<(Counts, Summary)> {
-    let limits = Limits::new(2, 1, 2, 64, Roots::Free).ok()?;
+fn counts(alloc: Global, limits: Limits) -> Option<Counts> {
     let mut page = Page::blank(alloc, Room::AMPLE);
     let mut text = Pieces::of(Text::whole(LONG));
     let counts = check(alloc, &mut text, &mut page, limits, 2);
+    drop(page);
+    counts.ok()
+}
+
+fn summary(alloc: Global, limits: Limits) -> Option<Summary> {
+    let mut page = Page::blank(alloc, Room::AMPLE);
     let mut text = Pieces::of(Text::whole(LONG));
     let summary = replay(alloc, &mut text, &mut page, limits, 2);
     drop(page);
-    Some((counts.ok()?, summary.ok()?))
+    summary.ok()
+}
+
+/// What `check` and `replay` answer for the long text.
+fn answers(alloc: Global) -> Option<(Counts, Summary)> {
+    let limits = Limits::new(2, 1, 2, 64, Roots::Free).ok()?;
+    Some((counts(alloc, limits)?, summary(alloc, limits)?))
 }
 
 #[test]
