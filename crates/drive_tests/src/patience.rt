@@ -1,7 +1,9 @@
 //! How often an acquire and a join are tried.
 use crate::scripts::{Answer, Case, EVENTS, PATIENCE, expect_answer};
 use event_core::{LockId, Op, ThreadId, VarId};
+use pass_channel::{Terms, TryRecvError, pass_channel};
 use script_drive::{DriveFault, Gate};
+use std::marker::Brand;
 use std::sync::atomic::{AtomicBool, Ordering};
 use std::test::*;
 use std::thread;
@@ -127,4 +129,30 @@ fn an_acquire_and_a_join_are_tried_again_as_long_as_patience_allows(rt: HostRunt
         };
         expect_answer(&rt, rt.alloc(), &gate, &held.case);
     }
+}
+
+/// Each pass may go to each thread.
+struct Any;
+
+impl Terms for Any {
+    ghost use Rattle.std.specs.Prelude.{⊤};
+
+    ghost good = { λ _ _. ⊤ };
+}
+
+#[test]
+fn a_pass_is_looked_for_as_often_as_is_allowed_and_once_where_it_cannot_come(
+    rt: HostRuntime,
+) -> Result<(), Fail> {
+    for most in [0, 1, 3] {
+        let (sender, mut receiver) = pass_channel::<Brand, Any>(rt.alloc(), ThreadId(1))?;
+        let held = receiver.receive_within(&rt, most);
+        assert!(&rt; matches!(held, Err(TryRecvError::Empty)));
+        assert!(&rt; receiver.looks == most);
+        drop(sender);
+        let let_go = receiver.receive_within(&rt, 9);
+        assert!(&rt; matches!(let_go, Err(TryRecvError::Disconnected)));
+        assert!(&rt; receiver.looks == most + 1);
+    }
+    Ok(())
 }

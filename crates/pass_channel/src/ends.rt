@@ -1,11 +1,13 @@
 //! The two ends of a channel.
-ghost use Rattle.std.specs.Prelude.{◌≡◌, IfOk, IfSome};
+ghost use Rattle.std.specs.Prelude.{◌≡◌, ◌+◌, ◌<◌, ◌≤◌, max, IfOk, IfSome};
+ghost use Rattle.std.specs.Result.{IsErrOf};
 ghost use Rattle.crossbeam_channel.specs.Claims.{view, IsSeatAt};
 ghost use Rattle.crossbeam_channel.specs.Ends.{receives_on, sends_on};
 ghost use Rattle.pass_channel.specs.Posts.{somebody};
 
 use crate::rule::{Address, Addressed, Addressee, Receives, Ruled, Sends, Terms};
 use crossbeam_channel::{RuledReceiver, RuledSender, TryRecvError, bounded_with};
+use crossbeam_utils::Backoff;
 use event_core::ThreadId;
 use log_pass::{Name, Pass};
 use std::alloc::{AllocError, Global};
@@ -24,9 +26,10 @@ pub struct PassSender<N: Name, T: Terms> {
     ghost knows: { view ticket ≡ somebody to },
 }
 
-/// The end out of which the pass for a thread comes.
+/// The end out of which the pass for a thread comes. It counts how often it looked for the pass.
 pub struct PassReceiver<N: Name, T: Terms> {
     pub to: ThreadId,
+    pub looks: u32,
     receiver: RuledReceiver<Pass<N>, Address, Ruled<T>>,
     ticket: Ticket<N>,
     ghost seated: { IsSeatAt (receives_on receiver) ticket },
@@ -48,6 +51,7 @@ impl<N: Name, T: Terms> Drop for PassReceiver<N, T> {
     fn drop(self) {
         let PassReceiver {
             to: _,
+            looks: _,
             receiver: _,
             ticket: _,
         } = self;
@@ -61,6 +65,7 @@ pub fn pass_channel<N: Name, T: Terms>(
 ) -> Result<(PassSender<N, T>, PassReceiver<N, T>), AllocError>
     ensures sender { IfOk result (λ ends. ends.0.to ≡ to) }
     ensures receiver { IfOk result (λ ends. ends.1.to ≡ to) }
+    ensures no_look { IfOk result (λ ends. ends.1.looks ≡ 0) }
 {
     channel_to::<N, T, Brand>(alloc, to)
 }
@@ -73,6 +78,7 @@ fn channel_to<N: Name, T: Terms, K: Addressee>(
     requires { K.thread ≡ to }
     ensures sender { IfOk result (λ ends. ends.0.to ≡ to) }
     ensures receiver { IfOk result (λ ends. ends.1.to ≡ to) }
+    ensures no_look { IfOk result (λ ends. ends.1.looks ≡ 0) }
 {
     let (sender, receiver, mut ticket) = bounded_with::<Pass<N>, Address, Ruled<T>, Global>(
         alloc, 1,
@@ -82,6 +88,7 @@ fn channel_to<N: Name, T: Terms, K: Addressee>(
         PassSender { to, sender, ticket },
         PassReceiver {
             to,
+            looks: 0,
             receiver,
             ticket: other,
         },
@@ -109,18 +116,40 @@ impl<N: Name, T: Terms> PassReceiver<N, T> {
     {
         let PassReceiver {
             to: _,
+            looks: _,
             receiver,
             mut ticket,
         } = self;
         receiver.recv_as::<Receives<T>, R>(rt, &mut ticket).ok()
     }
 
-    /// Looks once whether the pass has come.
-    pub fn try_receive<R: Wait>(&mut self, rt: &R) -> Result<Pass<N>, TryRecvError>
+    // Looks once whether the pass has come.
+    fn look<R: Wait>(&mut self, rt: &R) -> Result<Pass<N>, TryRecvError>
+        requires { self.old.looks < 4294967295 }
         ensures to { self.new.to ≡ self.old.to }
         ensures good { IfOk result (λ pass. T.good self.old.to pass) }
+        ensures counted { self.new.looks ≡ self.old.looks + 1 }
     {
+        self.looks += 1;
         self.receiver
             .try_recv_as::<Receives<T>, R>(rt, &mut self.ticket)
+    }
+
+    /// Looks for the pass until it has come, or until so many looks were made by this end in all. `Empty` is
+    /// the answer only where all were made, and `Disconnected` where the other end was let go without a pass.
+    pub fn receive_within<R: Wait>(&mut self, rt: &R, most: u32) -> Result<Pass<N>, TryRecvError>
+        ensures to { self.new.to ≡ self.old.to }
+        ensures good { IfOk result (λ pass. T.good self.old.to pass) }
+        ensures used_up { IsErrOf result TryRecvError.Empty → most ≤ self.new.looks }
+        ensures no_more { self.new.looks ≤ max self.old.looks most }
+    {
+        let backoff = Backoff::new();
+        'looks: while self.looks < most {
+            match self.look(rt) {
+                Err(TryRecvError::Empty) => backoff.snooze(),
+                answer => return answer,
+            }
+        }
+        Err(TryRecvError::Empty)
     }
 }

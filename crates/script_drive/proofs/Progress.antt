@@ -13,8 +13,6 @@ use mathlib.Core.Logic.{inl, inr}
 use Rattle.event_core.specs.declared.ids.ThreadId.{ThreadId}
 use Rattle.event_core.specs.declared.bounds.Limits.{Limits}
 use Rattle.event_core.specs.declared.events.Event.{Event}
-use Rattle.event_core.specs.declared.events.Op.TheVariants.{Load}
-use Rattle.event_core.specs.declared.events.Act.TheVariants.{One}
 use Rattle.event_core.specs.Steps.{log_of}
 use Rattle.event_core.proofs.Depth.{same_thread_id}
 use Rattle.log_pass.specs.declared.views.PassView.{PassView}
@@ -53,15 +51,17 @@ done_more m script t p q lines l h does = record {
 
 -- ---- a thread's lines among those of the script
 
-module _ (t : ThreadId) (lines : List ScriptLine) (i : ℕ) (d : ScriptLine) (lt : i < length lines) where
-  abbrev pub line : ScriptLine
-  line = get_or lines i d
-
+module _ (t : ThreadId) (lines : List ScriptLine) (i : ℕ) (line : ScriptLine)
+    (is : line ≡ get_or lines i line) (lt : i < length lines) where
   rest : drop i lines ≡ line ∷ drop (i + 1) lines
-  rest = drop-cons lines i d lt ∙ ap (λ (n : ℕ). line ∷ drop n lines) (sym (add-one i))
+  rest = subst (λ (l : ScriptLine). drop i lines ≡ l ∷ drop (i + 1) lines) (sym is)
+      (drop-cons lines i line lt
+      ∙ ap (λ (n : ℕ). get_or lines i line ∷ drop n lines) (sym (add-one i)))
 
   taken : lines_by t (take (i + 1) lines) ≡ lines_by t (take i lines) ++ cond (is_of t.0 line) (line ∷ []) []
-  taken = filter_more (is_of t.0) lines i d lt
+  taken = subst (λ (l : ScriptLine). lines_by t (take (i + 1) lines)
+      ≡ lines_by t (take i lines) ++ cond (is_of t.0 l) (l ∷ []) []) (sym is)
+      (filter_more (is_of t.0) lines i line lt)
 
   left : lines_by t (drop i lines) ≡ cond (is_of t.0 line) (line ∷ lines_by t (drop (i + 1) lines))
       (lines_by t (drop (i + 1) lines))
@@ -126,15 +126,3 @@ all_done script lines t p i same le h =
 pub last_done : (script : List ScriptLine) (t : ThreadId) (p : PassView)
     → HasDone script t p (lines_by t script) → Done script t p
 last_done script t p h = record { thread = h.thread; none_due = h.none_due; follows = h.follows }
-
--- what an index past the lines reads
-abbrev pub no_line : ScriptLine
-no_line = record {
-  act = One (record {
-    thread = record { 0 = 0 };
-    op = Load (record { 0 = 0 });
-    site = record { 0 = 0 };
-    arg = 0;
-  });
-  line = 0;
-}

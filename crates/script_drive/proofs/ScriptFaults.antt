@@ -185,18 +185,19 @@ swap_halts m script l t x site arg p q answer result act next thread later decli
 
 -- ---- the lines of a thread
 
-pub line_at : (script lines : List ScriptLine) (i : ℕ) (d : ScriptLine) → lines ≡ script → i < length lines
-    → Contains script (get_or lines i d)
-line_at script lines i d same lt =
-    subst (λ (s : List ScriptLine). Contains s (get_or lines i d)) same (Contains-get_or lines i d lt)
+pub line_at : (script lines : List ScriptLine) (i : ℕ) (line : ScriptLine) → line ≡ get_or lines i line
+    → lines ≡ script → i < length lines → Contains script line
+line_at script lines i line is same lt =
+    subst (λ (s : List ScriptLine). Contains s line) same
+    (subst (Contains lines) (sym is) (Contains-get_or lines i line lt))
 
-pub next_at : (script lines : List ScriptLine) (t : ThreadId) (p : PassView) (i : ℕ) (d : ScriptLine)
-    → lines ≡ script → i < length lines → is_of t.0 (get_or lines i d) ≡ true
-    → HasDone script t p (lines_by t (take i lines)) → IsNext script (get_or lines i d) p
-next_at script lines t p i d same lt own h = record {
-  line = line_at script lines i d same lt;
+pub next_at : (script lines : List ScriptLine) (t : ThreadId) (p : PassView) (i : ℕ) (line : ScriptLine)
+    → line ≡ get_or lines i line → lines ≡ script → i < length lines → is_of t.0 line ≡ true
+    → HasDone script t p (lines_by t (take i lines)) → IsNext script line p
+next_at script lines t p i line is same lt own h = record {
+  line = line_at script lines i line is same lt;
   before = lines_by t (take i lines);
   later = lines_by t (drop (i + 1) lines);
-  place = ap (lines_by (thread_of (get_or lines i d))) (sym same) ∙ own_place t lines i d lt own;
+  place = ap (lines_by (thread_of line)) (sym same) ∙ own_place t lines i line is lt own;
   done = h.follows;
 }

@@ -40,11 +40,11 @@ abbrev pub own_fault : Halt → Option DriveFault
 own_fault (Fault f) = Some f
 own_fault (Abandoned l) = None
 
--- how a worker ends whose line waits for a thread's last pass and did not find it: not yet, unless that
--- thread ended without one
-abbrev pub ended_wait : TryRecvError → ScriptLine → Option Halt
-ended_wait Empty l = None
-ended_wait Disconnected l = Some (Abandoned l)
+-- how a worker ends to whose line a thread's last pass did not come: patience is used up, unless that thread
+-- ended without one
+abbrev pub ended_wait : TryRecvError → ScriptLine → Halt
+ended_wait Empty l = Fault (stuck_at l)
+ended_wait Disconnected l = Abandoned l
 
 -- ---- which of several faults is answered
 

@@ -32,13 +32,13 @@ fn may_enter<G: Gate>(gate: &G, line: &ScriptLine, patience: u32) -> bool {
     false
 }
 
-// How the wait for a pass ends where a look did not find it: not yet, unless the pass cannot come any more.
-fn ended_wait(error: TryRecvError, line: &ScriptLine) -> Option<Halt>
+// How the wait for a pass ends where it did not come: patience is used up, or it cannot come any more.
+fn ended_wait(error: TryRecvError, line: &ScriptLine) -> Halt
     ensures { result ≡ ended_wait error line.now }
 {
     match error {
-        TryRecvError::Empty => None,
-        TryRecvError::Disconnected => Some(Halt::Abandoned(*line)),
+        TryRecvError::Empty => Halt::Fault(DriveFault::stuck(line)),
+        TryRecvError::Disconnected => Halt::Abandoned(*line),
     }
 }
 
@@ -55,19 +55,10 @@ fn await_end<S: Text, R: Wait>(
     ensures halt { IfErr result (IsHaltOf S.limits S.script.lines) }
 {
     let mut receiver = receiver;
-    let backoff = Backoff::new();
-    for _ in 0..patience {
-        match receiver.try_receive(rt) {
-            Ok(pass) => return Ok(pass),
-            Err(error) => {
-                if let Some(halt) = ended_wait(error, line) {
-                    return Err(halt);
-                }
-            }
-        }
-        backoff.snooze();
+    match receiver.receive_within(rt, patience) {
+        Ok(pass) => Ok(pass),
+        Err(error) => Err(ended_wait(error, line)),
     }
-    Err(Halt::Fault(DriveFault::stuck(line)))
 }
 
 // The pass after a call that was accepted.
@@ -168,13 +159,14 @@ pub(crate) fn run_lines<S: Text, G: Gate, R: Wait>(
     let thread = pass.thread();
     let mut pass = pass;
     for line in drive.script.lines() {
+        let line = line.get();
         if !line.is_of(thread) {
             continue;
         }
-        if !may_enter(drive.gate, line, drive.patience) {
-            return Err(Halt::Fault(DriveFault::stuck(line)));
+        if !may_enter(drive.gate, &line, drive.patience) {
+            return Err(Halt::Fault(DriveFault::stuck(&line)));
         }
-        pass = make_call(drive.rt, drive.shared, pass, line, links, drive.patience)?;
+        pass = make_call(drive.rt, drive.shared, pass, &line, links, drive.patience)?;
         drive.gate.done(line.thread(), line.line);
     }
     Ok(pass)

@@ -112,11 +112,12 @@ impl<S: Text> LooseEnds<S> {
     {
         let mut links = Links::new(alloc);
         for line in script.lines() {
+            let line = line.get();
             if !line.is_of(thread) {
                 continue;
             }
-            self.add_fork(alloc, line, &mut links)?;
-            self.add_join(alloc, line, &mut links)?;
+            self.add_fork(alloc, &line, &mut links)?;
+            self.add_join(alloc, &line, &mut links)?;
         }
         Ok(links)
     }

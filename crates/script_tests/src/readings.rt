@@ -42,8 +42,9 @@ fn has_names(names: &Names, kind: Kind, wanted: &[&str]) -> bool {
 fn has_lines_of(script: &Script, thread: ThreadId, wanted: &[ScriptLine]) -> bool {
     let mut at = 0;
     for line in script.lines() {
+        let line = line.get();
         if line.is_of(thread) {
-            if wanted.get(at) != Some(line) {
+            if wanted.get(at) != Some(&line) {
                 return false;
             }
             at += 1;

@@ -4,13 +4,14 @@ ghost use Rattle.std.specs.List.{list_any};
 ghost use Rattle.rapid_text.specs.Tables.{IsNameOf, number_in};
 ghost use Rattle.script_text.specs.Forms.{named_of, AreNames, Fails};
 ghost use Rattle.script_text.specs.Lines.{forks, joins, thread_of, fork_of, join_of};
-ghost use Rattle.script_text.specs.Scripts.{Parsed, kind_of, act_of, numbered_line, number_or_cause};
+ghost use Rattle.script_text.specs.Scripts.{Parsed, kind_of, numbered_line, number_or_cause};
 ghost use Rattle.script_text.specs.Scripts.{is_bad_fork, is_bad_join, after_content};
 
 use crate::causes::ScriptCause;
 use crate::forms::{NamedAct, Word, read_content};
 use crate::lines::ScriptLine;
-use event_core::{Act, Call, LockId, Op, SiteId, ThreadId, VarId};
+use crate::stored_lines::StoredLine;
+use event_core::ThreadId;
 use rapid_text::{Kind, NameFault, Names};
 
 /// What the argument of a word names.
@@ -22,36 +23,6 @@ fn kind_at(word: Word) -> Kind
         Word::Acquire | Word::Release => Kind::Lock,
         Word::Fork | Word::Join => Kind::Thread,
     }
-}
-
-/// What a word asks a thread to do with the thing of this number.
-fn act_at(word: Word, thread: u32, target: u32, site: u32, arg: u64) -> Act
-    ensures { result ≡ act_of word thread target site arg }
-{
-    let thread = ThreadId(thread);
-    let site = SiteId(site);
-    let op = match word {
-        Word::Load => Op::Load(VarId(target)),
-        Word::Store => Op::Store(VarId(target)),
-        Word::Acquire => Op::Acquire(LockId(target)),
-        Word::Release => Op::Release(LockId(target)),
-        Word::Fork => Op::Fork(ThreadId(target)),
-        Word::Join => Op::Join(ThreadId(target)),
-        Word::Swap => {
-            return Act::Swap {
-                thread,
-                var: VarId(target),
-                site,
-                arg,
-            };
-        }
-    };
-    Act::One(Call {
-        thread,
-        op,
-        site,
-        arg,
-    })
 }
 
 /// The number of a name in a line.
@@ -69,7 +40,7 @@ fn number_in_line(names: &mut Names, kind: Kind, name: &[u8]) -> Result<u32, Scr
 
 /// What a line says, with its names numbered. After an `Err` some of its names may have been numbered.
 #[tactic(auto, unfolding(crate::specs::Scripts::numbered_line))]
-fn number_line(names: &mut Names, line: u64, said: &NamedAct<'_>) -> Result<ScriptLine, ScriptCause>
+fn number_line(names: &mut Names, line: u64, said: &NamedAct<'_>) -> Result<StoredLine, ScriptCause>
     requires { AreNames (named_of said.now) }
     ensures ok { IfOk result (λ l. numbered_line names.old line (named_of said.now) ≡ Ok (l, names.new)) }
     ensures fault { IfErr result (λ f. Fails f (numbered_line names.old line (named_of said.now))) }
@@ -78,26 +49,30 @@ fn number_line(names: &mut Names, line: u64, said: &NamedAct<'_>) -> Result<Scri
     let thread = number_in_line(names, Kind::Thread, said.thread)?;
     let target = number_in_line(names, kind_at(said.word), said.argument)?;
     let site = number_in_line(names, Kind::Site, digits.format(line).as_bytes())?;
-    Ok(ScriptLine {
-        act: act_at(said.word, thread, target, site, said.number),
+    Ok(StoredLine {
+        word: said.word,
+        thread,
+        target,
+        site,
+        arg: said.number,
         line,
     })
 }
 
-fn is_forked(before: &[ScriptLine], thread: ThreadId) -> bool
+fn is_forked(before: &[StoredLine], thread: ThreadId) -> bool
     ensures { result ≡ list_any (forks thread.0) before.now }
 {
-    before.iter().any(|line| line.forks(thread))
+    before.iter().any(|line| line.get().forks(thread))
 }
 
-fn is_joined(before: &[ScriptLine], thread: ThreadId) -> bool
+fn is_joined(before: &[StoredLine], thread: ThreadId) -> bool
     ensures { result ≡ list_any (joins thread.0) before.now }
 {
-    before.iter().any(|line| line.joins(thread))
+    before.iter().any(|line| line.get().joins(thread))
 }
 
 /// Whether the line forks thread 0, or a thread that a line before it forks.
-fn is_bad_fork(before: &[ScriptLine], line: &ScriptLine) -> bool
+fn is_bad_fork(before: &[StoredLine], line: &ScriptLine) -> bool
     ensures { result ≡ is_bad_fork before.now (fork_of line.now) }
 {
     let Some(child) = line.fork() else {
@@ -107,7 +82,7 @@ fn is_bad_fork(before: &[ScriptLine], line: &ScriptLine) -> bool
 }
 
 /// Whether the line joins thread 0, its own thread, or a thread that a line before it joins.
-fn is_bad_join(before: &[ScriptLine], line: &ScriptLine) -> bool
+fn is_bad_join(before: &[StoredLine], line: &ScriptLine) -> bool
     ensures { result ≡ is_bad_join before.now (thread_of line.now) (join_of line.now) }
 {
     let Some(target) = line.join() else {
@@ -121,7 +96,7 @@ fn is_bad_join(before: &[ScriptLine], line: &ScriptLine) -> bool
 #[tactic(auto, unfolding(crate::specs::Scripts::after_content))]
 pub fn add_line(
     names: &mut Names,
-    lines: &mut Vec<ScriptLine>,
+    lines: &mut Vec<StoredLine>,
     number: u64,
     content: &[u8],
 ) -> Result<(), ScriptCause>
@@ -135,14 +110,15 @@ pub fn add_line(
         return Ok(());
     }
     let said = read_content(content)?;
-    let line = number_line(names, number, &said)?;
+    let stored = number_line(names, number, &said)?;
+    let line = stored.get();
     if is_bad_fork(lines.as_slice(), &line) {
         return Err(ScriptCause::BadFork);
     }
     if is_bad_join(lines.as_slice(), &line) {
         return Err(ScriptCause::BadJoin);
     }
-    if lines.push(line).is_err() {
+    if lines.push(stored).is_err() {
         return Err(ScriptCause::OutOfMemory);
     }
     Ok(())

@@ -13,7 +13,9 @@ mod numbers;
 mod reached;
 mod readings;
 mod script;
+mod stored_lines;
 
 pub use causes::{ScriptCause, ScriptFault};
 pub use lines::ScriptLine;
 pub use script::Script;
+pub use stored_lines::StoredLine;

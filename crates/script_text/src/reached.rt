@@ -10,6 +10,7 @@ ghost use Rattle.script_text.specs.Marks.{IsClosed, Keeps};
 ghost use Rattle.script_text.specs.Marks.{none_or_marked, names_marked, AllMarked, IsFirstUnmarked};
 
 use crate::lines::ScriptLine;
+use crate::stored_lines::StoredLine;
 use event_core::{OutOfMemory, ThreadId};
 use std::alloc::Global;
 
@@ -32,7 +33,7 @@ fn mark(line: &ScriptLine, marks: &mut [bool]) -> bool
 }
 
 /// Marks what the lines fork, one after another, and says whether one is new.
-fn spread(lines: &[ScriptLine], marks: &mut [bool]) -> bool
+fn spread(lines: &[StoredLine], marks: &mut [bool]) -> bool
     requires below { AreBelow lines.now (length marks.old) }
     requires sound { MarksReached lines.now marks.old }
     ensures sound { MarksReached lines.now marks.new }
@@ -42,7 +43,7 @@ fn spread(lines: &[ScriptLine], marks: &mut [bool]) -> bool
 {
     let mut changed = false;
     'lines: for line in lines {
-        changed = mark(line, marks) || changed;
+        changed = mark(&line.get(), marks) || changed;
     }
     changed
 }
@@ -60,7 +61,7 @@ fn mark_main(marks: &mut [bool])
 /// A mark for each thread, which says whether forks lead to it from thread 0.
 pub fn reached_threads(
     alloc: Global,
-    lines: &[ScriptLine],
+    lines: &[StoredLine],
     threads: u32,
 ) -> Result<Vec<bool>, OutOfMemory>
     requires { AreBelow lines.now threads }
@@ -102,13 +103,14 @@ fn are_marked(line: &ScriptLine, marks: &[bool]) -> bool
 }
 
 /// The number of the first line that names a thread without a mark.
-pub fn first_unmarked(lines: &[ScriptLine], marks: &[bool]) -> Option<u64>
+pub fn first_unmarked(lines: &[StoredLine], marks: &[bool]) -> Option<u64>
     requires { AreBelow lines.now (length marks.now) }
     ensures found { IfSome result (λ n. IsFirstUnmarked lines.now marks.now n) }
     ensures none { IfNone result (AllMarked lines.now marks.now) }
 {
     'lines: for line in lines {
-        if !are_marked(line, marks) {
+        let line = line.get();
+        if !are_marked(&line, marks) {
             return Some(line.line);
         }
     }

@@ -7,7 +7,7 @@ ghost use Rattle.rapid_line.specs.Cut.{content};
 
 use crate::causes::{ScriptCause, ScriptFault};
 use crate::draft::add_line;
-use crate::lines::ScriptLine;
+use crate::stored_lines::StoredLine;
 use event_core::Limits;
 use rapid_line::{LineCutter, LineTooLong, without_cr};
 use rapid_text::{Fed, Input, Names, Sink, feed_all};
@@ -17,7 +17,7 @@ use std::alloc::Global;
 #[derive(Drop)]
 struct Reading {
     names: Names,
-    lines: Vec<ScriptLine>,
+    lines: Vec<StoredLine>,
     cutter: LineCutter,
     fault: Option<ScriptFault>,
 }
@@ -35,7 +35,7 @@ fn read_fault(cutter: &LineCutter) -> ScriptFault
 /// Judges a line, which stands without its LF.
 fn judge_line(
     names: &mut Names,
-    lines: &mut Vec<ScriptLine>,
+    lines: &mut Vec<StoredLine>,
     line: u64,
     bytes: &[u8],
 ) -> Result<(), ScriptFault>
@@ -55,7 +55,7 @@ fn judge_line(
 /// Takes the lines that end in the piece, up to the first that has a cause.
 fn take_lines(
     names: &mut Names,
-    lines: &mut Vec<ScriptLine>,
+    lines: &mut Vec<StoredLine>,
     cutter: &mut LineCutter,
     piece: &[u8],
 ) -> Result<(), ScriptFault>
@@ -86,7 +86,7 @@ fn take_lines(
 /// Takes the line whose end was not seen as the last one.
 fn finish(
     names: &mut Names,
-    lines: &mut Vec<ScriptLine>,
+    lines: &mut Vec<StoredLine>,
     cutter: &mut LineCutter,
 ) -> Result<(), ScriptFault>
     ensures ok { OnOk result (judged (progress names.old lines.old.items cutter.old) []
@@ -178,7 +178,7 @@ pub fn read_lines<I: Input>(
     reader: &mut I,
     limits: Limits,
     turns: u64,
-) -> Result<(Names, Vec<ScriptLine>), ScriptFault>
+) -> Result<(Names, Vec<StoredLine>), ScriptFault>
     requires turns { turns ≤ 17592186044416 }
     requires works { I.failed reader.old ≡ false }
     ensures ok { IfOk result (λ r. IfSome (I.left reader.old) (λ text.

@@ -4,9 +4,9 @@ ghost use Rattle.script_text.specs.Scripts.{Parsed, IsScript, IsFirstUnreached, 
 ghost use Rattle.script_text.specs.Readings.{IsFault, Incomplete};
 
 use crate::causes::{ScriptCause, ScriptFault};
-use crate::lines::ScriptLine;
 use crate::reached::{first_unmarked, reached_threads};
 use crate::readings::read_lines;
+use crate::stored_lines::StoredLine;
 use event_core::Limits;
 use rapid_text::{Input, Kind, Names};
 use std::alloc::Global;
@@ -22,7 +22,7 @@ fn no_memory() -> ScriptFault
 }
 
 /// Whether forks lead from thread 0 to each thread that a line names.
-fn check_forks(alloc: Global, names: &Names, lines: &[ScriptLine]) -> Result<(), ScriptFault>
+fn check_forks(alloc: Global, names: &Names, lines: &[StoredLine]) -> Result<(), ScriptFault>
     requires { IsDraft (record { names = names.now; lines = lines.now }) }
     ensures ok { OnOk result (IsScript (record { names = names.now; lines = lines.now })) }
     ensures fault { IfErr result (λ f. Incomplete lines.now f) }
@@ -40,7 +40,7 @@ fn check_forks(alloc: Global, names: &Names, lines: &[ScriptLine]) -> Result<(),
 }
 
 /// The script of lines that were judged one after another.
-fn whole_script(alloc: Global, names: Names, lines: Vec<ScriptLine>) -> Result<Script, ScriptFault>
+fn whole_script(alloc: Global, names: Names, lines: Vec<StoredLine>) -> Result<Script, ScriptFault>
     requires { IsDraft (record { names = names; lines = lines.items }) }
     ensures ok { IfOk result (λ s. s ≡ record { names = names; lines = lines.items }) }
     ensures script { IfOk result (λ s. IsScript s) }
@@ -62,7 +62,7 @@ fn whole_script(alloc: Global, names: Names, lines: Vec<ScriptLine>) -> Result<S
 /// forked or joined twice.
 pub struct Script {
     names: Names,
-    lines: Vec<ScriptLine>,
+    lines: Vec<StoredLine>,
 }
 
 // By hand, so that a crate that drops one does not prove the drop of each type within again.
@@ -127,7 +127,7 @@ impl Script {
     }
 
     /// All lines in their order.
-    pub fn lines(&self) -> &[ScriptLine]
+    pub fn lines(&self) -> &[StoredLine]
         ensures { result.now ≡ self.entry.now.lines }
     {
         self.lines.as_slice()

@@ -1,23 +1,24 @@
-use Rattle.std.proofs.Common.{rules, ◌≡◌, ◌+◌, sym, ◌∙◌, subst, drop, get_or}
+use Rattle.std.proofs.Common.{rules, ◌≡◌, ◌+◌, sym, ◌∙◌, subst, drop}
 use Rattle.script_drive.specs.Faults.{IsFaultOf}
 use Rattle.script_drive.specs.Lines.{lines_by}
 use Rattle.script_drive.specs.Workers.{HasDone, Serves}
-use Rattle.script_drive.proofs.Progress.{all_done, done_at, last_done, next_line, no_line, other_left}
+use Rattle.script_drive.proofs.Progress.{all_done, done_at, last_done, next_line, other_left}
 use Rattle.script_drive.proofs.Progress.{other_taken, own_thread}
 use Rattle.script_drive.proofs.ScriptFaults.{line_at, next_at, stuck_fits}
 use Rattle.script_drive.proofs.lines.run_lines.Goals as goal
 
 pub make_call-requires-clause-thread : goal.make_call-requires-clause-thread
 make_call-requires-clause-thread g c =
-    own_thread c.args.pass.thread c.lines-line-items.result.now c.loop-line.line-index _ (search rules)
-    (search rules)
+    own_thread c.args.pass.thread c.lines-line-items.result.now c.loop-line.line-index c.get-line.result
+    (search rules) (search rules) (search rules)
     ∙ sym c.loop-line.invariant.0.thread
 
 pub make_call-requires-clause-next : goal.make_call-requires-clause-next
 make_call-requires-clause-next g c =
     let same : c.lines-line-items.result.now ≡ g.S.Text.script.lines = cc in
     next_at g.S.Text.script.lines c.lines-line-items.result.now c.args.pass.thread c.loop-line.pass
-    c.loop-line.line-index _ same (search rules) (search rules) c.loop-line.invariant.0
+    c.loop-line.line-index c.get-line.result (search rules) same (search rules) (search rules)
+    c.loop-line.invariant.0
 
 pub make_call-requires-clause-serves : goal.make_call-requires-clause-serves
 make_call-requires-clause-serves g c =
@@ -25,7 +26,8 @@ make_call-requires-clause-serves g c =
     let t = c.args.pass.thread in
     let i = c.loop-line.line-index in (
       lines_by t (drop (i + 1) lines),
-      next_line t lines i _ (search rules) (search rules) c.loop-line.links c.loop-line.invariant.1,
+      next_line t lines i c.get-line.result (search rules) (search rules) (search rules) c.loop-line.links
+          c.loop-line.invariant.1,
     )
 
 pub returns-then-not-may_enter-clause-halt : goal.returns-then-not-may_enter-clause-halt
@@ -35,17 +37,20 @@ returns-then-not-may_enter-clause-halt g c =
     let i = c.loop-line.line-index in
     let same : lines ≡ script = cc in
     subst (IsFaultOf g.S.Name.limits script) (sym c.stuck.ensures)
-    (stuck_fits g.S.Name.limits script (get_or lines i _) (line_at script lines i _ same (search rules)))
+    (stuck_fits g.S.Name.limits script c.get-line.result
+    (line_at script lines i c.get-line.result (search rules) same (search rules)))
 
 pub loop-line-preserved : goal.loop-line-preserved
 loop-line-preserved g c =
     let lines = c.lines-line-items.result.now in
     let t = c.args.pass.thread in
     let i = c.loop-line.line-index in (
-      done_at t lines i _ (search rules) (search rules) g.S.Name.limits g.S.Text.script.lines c.loop-line.pass
-          c.in_ok-pass.pass c.loop-line.invariant.0 c.in_ok-pass.ensures.does,
+      done_at t lines i c.get-line.result (search rules) (search rules) (search rules) g.S.Name.limits
+          g.S.Text.script.lines c.loop-line.pass c.in_ok-pass.pass c.loop-line.invariant.0
+          c.in_ok-pass.ensures.does,
       c.in_ok-pass.ensures.serves (lines_by t (drop (i + 1) lines))
-          (next_line t lines i _ (search rules) (search rules) c.loop-line.links c.loop-line.invariant.1),
+          (next_line t lines i c.get-line.result (search rules) (search rules) (search rules)
+          c.loop-line.links c.loop-line.invariant.1),
     )
 
 -- another thread's line is passed over
@@ -55,8 +60,10 @@ loop-line-preserved-then-not-is_of g c =
     let t = c.args.pass.thread in
     let i = c.loop-line.line-index in (
       subst (HasDone g.S.Text.script.lines t c.loop-line.pass)
-          (sym (other_taken t lines i no_line (search rules) (search rules))) c.loop-line.invariant.0,
-      subst (Serves c.loop-line.links) (other_left t lines i no_line (search rules) (search rules))
+          (sym (other_taken t lines i c.get-line.result (search rules) (search rules) (search rules)))
+          c.loop-line.invariant.0,
+      subst (Serves c.loop-line.links)
+          (other_left t lines i c.get-line.result (search rules) (search rules) (search rules))
           c.loop-line.invariant.1,
     )
 

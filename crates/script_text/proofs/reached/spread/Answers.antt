@@ -1,4 +1,4 @@
-use Rattle.std.proofs.Common.{◌≡◌, ◌<◌, ℕ, Bool, true, ap, sym, ◌∙◌, subst}
+use Rattle.std.proofs.Common.{◌≡◌, ◌<◌, ℕ, Bool, true, Some, ap, sym, ◌∙◌, subst}
 use Rattle.std.specs.Prelude.{if◌then◌else◌}
 use Rattle.std.proofs.lemmas.Option.{slice_get-get_or}
 use Rattle.script_text.proofs.Marking.{marks_reached, keeps_line, pass_line, pass_ends}
@@ -7,7 +7,8 @@ use Rattle.script_text.proofs.reached.spread.Goals.{then-mark, else-mark}
 
 pub lines-preserved : goal.lines-preserved
 lines-preserved c =
-    let at = slice_get-get_or c.args.lines.now c.lines.line-index _ c.lines-test.true in
+    let at = slice_get-get_or c.args.lines.now c.lines.line-index _ c.lines-test.true
+    ∙ ap Some (sym (c.get.ensures ∙ c.line-item.is)) in
     let is : c.if-mark.changed ≡ (if c.mark.result then true else c.lines.changed) =
     elim c.if-mark.branch [
       | then-mark w ↦ w.changed-is ∙ w.if-mark.true
@@ -34,5 +35,6 @@ returns-clause-closed c = λ isnt.
 
 pub mark-requires : goal.mark-requires
 mark-requires c = λ u named.
-    let at = slice_get-get_or c.args.lines.now c.lines.line-index _ c.lines-test.true in
+    let at = slice_get-get_or c.args.lines.now c.lines.line-index _ c.lines-test.true
+    ∙ ap Some (sym (c.get.ensures ∙ c.line-item.is)) in
     subst (λ (n : ℕ). u < n) (sym c.lines.auto.marks) (c.requires.below c.lines.line-index _ u at named)

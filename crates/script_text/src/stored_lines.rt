@@ -1,0 +1,74 @@
+//! A line as a script keeps it.
+ghost use Rattle.std.specs.Prelude.{◌≡◌};
+ghost use Rattle.script_text.specs.Scripts.{act_of};
+
+use crate::forms::Word;
+use crate::lines::ScriptLine;
+use event_core::{Act, Call, LockId, Op, SiteId, ThreadId, VarId};
+use std::marker::Model;
+use std::mem::size_of;
+
+/// What a word asks a thread to do with the thing of this number.
+fn act_at(word: Word, thread: u32, target: u32, site: u32, arg: u64) -> Act
+    ensures { result ≡ act_of word thread target site arg }
+{
+    let thread = ThreadId(thread);
+    let site = SiteId(site);
+    let op = match word {
+        Word::Load => Op::Load(VarId(target)),
+        Word::Store => Op::Store(VarId(target)),
+        Word::Acquire => Op::Acquire(LockId(target)),
+        Word::Release => Op::Release(LockId(target)),
+        Word::Fork => Op::Fork(ThreadId(target)),
+        Word::Join => Op::Join(ThreadId(target)),
+        Word::Swap => {
+            return Act::Swap {
+                thread,
+                var: VarId(target),
+                site,
+                arg,
+            };
+        }
+    };
+    Act::One(Call {
+        thread,
+        op,
+        site,
+        arg,
+    })
+}
+
+/// A line as a script keeps it, with the word in place of what it asks for. Contracts see the line.
+#[derive(Drop)]
+pub struct StoredLine {
+    pub(crate) word: Word,
+    pub(crate) thread: u32,
+    pub(crate) target: u32,
+    pub(crate) site: u32,
+    pub(crate) arg: u64,
+    pub(crate) line: u64,
+}
+
+// A line takes so many bytes.
+const _: () = prove!(size_of::<StoredLine>() == 32);
+
+impl Model for StoredLine {
+    ghost use Rattle.script_text.specs.declared.lines.ScriptLine.{ScriptLine};
+    ghost use Rattle.script_text.specs.Scripts.{act_of};
+
+    ghost Value = { ScriptLine };
+
+    ghost view = { λ l. record { act = act_of l.word l.thread l.target l.site l.arg; line = l.line } };
+}
+
+impl StoredLine {
+    /// The line.
+    pub fn get(&self) -> ScriptLine
+        ensures { result ≡ self.now }
+    {
+        ScriptLine {
+            act: act_at(self.word, self.thread, self.target, self.site, self.arg),
+            line: self.line,
+        }
+    }
+}
