@@ -1,26 +1,21 @@
 -- What a text comes to, line by line.
-use Rattle.std.proofs.Common.{◌≡◌, ℕ, ◌+◌, ◌≤◌, ◌<◌, List, [], ◌∷◌, ◌++◌, true, false, Option, Some, None, Ok}
-use Rattle.std.proofs.Common.{Err, length, length-append, take, drop, refl, sym, subst, ap, ap₂, ◌∙◌}
+use Rattle.std.proofs.Common.{◌≡◌, ℕ, ◌+◌, ◌<◌, List, [], ◌∷◌, ◌++◌, true, false, Option, Some, None, Ok}
+use Rattle.std.proofs.Common.{Err, length, drop, refl, sym, subst, ap, ap₂, ◌∙◌}
 use Rattle.std.proofs.Common.{inl, inr, arith}
 use Rattle.std.proofs.Math.Seq.{drop-length}
 use Rattle.event_core.specs.declared.bounds.Limits.{Limits}
-use Rattle.event_core.specs.declared.events.Call.{Call}
 use Rattle.event_core.specs.declared.events.Event.{Event}
 use Rattle.event_core.specs.declared.replies.Refusal.{Refusal}
-use Rattle.event_core.specs.Refusal.{refusal, event_of, WellFormed, open_acquires}
-use Rattle.event_core.proofs.Slots.{slots}
+use Rattle.event_core.specs.Refusal.{refusal, event_of}
 use Rattle.rapid_text.specs.declared.causes.Cause.{Cause}
 use Rattle.rapid_text.specs.declared.causes.Cause.TheVariants as causes
 use Rattle.rapid_text.specs.declared.causes.TextFault.{TextFault}
 use Rattle.rapid_text.specs.Texts.{Judgement, with_event, ended}
 use Rattle.rapid_text.specs.Cutting.{Cutting, judged, most, Pushes, FailsAt, Closes, ClosesAt}
-use Rattle.traced_mem.specs.OfLog.{StandsFor}
-use Rattle.traced_mem.specs.Tables.{Tables}
 use Rattle.trace_report.specs.declared.faults.ReplayFault.TheVariants.{Text, Refused}
 use Rattle.trace_report.specs.Findings.{call_of, ended_with, refused_or, played, finding_after}
 use Rattle.trace_report.specs.Replayed.{cause_gives_up, refusal_gives_up}
 use Rattle.trace_report.specs.Feeding.{Declines, is_read}
-use Rattle.trace_report.specs.Legal.{LegalSoFar, IsAfter}
 
 -- ---- a judgement after a log
 
@@ -138,22 +133,3 @@ close_whole s f (causes.TooManyNames k) h = refl
 close_whole s f causes.OutOfMemory h = refl
 close_whole s f causes.Read h = absurd h
 close_whole s f causes.Failed h = refl
-
--- ---- the log
-
-pub within_limits : (m : Limits) (log : List Event) → WellFormed m log → length log ≤ m.events
-within_limits m log w =
-    let room : length log + open_acquires (take (length log) log) ≤ m.events = slots m log w (length log)
-    (omega arith) in
-    omega arith
-
--- legal memory took the event of a line
-pub legal_line : {j : LegalSoFar} {memory : Tables} {m : Limits} {log : List Event} {call : Call} (e : Event)
-    → memory.limits ≡ j.memory.limits → call ≡ call_of e
-    → ((found : List Event) → StandsFor j.memory found → StandsFor memory (found ++ event_of found call ∷ []))
-    → IsAfter j m log → IsAfter (record { memory = memory; events = j.events + 1 }) m (with_line log e)
-legal_line {j} {memory} {m} {log} e same is takes a = record {
-  limits = same ∙ a.limits;
-  stands = subst (λ (k : Call). StandsFor memory (log ++ event_of log k ∷ [])) is (takes log a.stands);
-  count = omega (arith, a.count, length-append log (event_of log (call_of e) ∷ []));
-}

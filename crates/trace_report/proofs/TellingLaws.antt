@@ -1,6 +1,6 @@
 -- What an answer tells of a finding.
 use Rattle.std.proofs.Common.{◌≡◌, ◌⊎◌, inl, inr, ℕ, List, Option, Some, None, Result, Ok, Err, true, false}
-use Rattle.std.proofs.Common.{refl, sym, ap, ap₂, subst, ◌∙◌, arith}
+use Rattle.std.proofs.Common.{length, refl, sym, ap, ap₂, subst, ◌∙◌, arith}
 use Rattle.std.specs.Prelude.{IfErr, IfSome, OnOk}
 use Rattle.std.specs.Io.KnownBytes.{Appends}
 use Rattle.std.proofs.lemmas.Option.{slice_get_within}
@@ -18,7 +18,6 @@ use Rattle.trace_report.specs.Reports.{AreWithin}
 use Rattle.trace_report.specs.Findings.{Trace}
 use Rattle.trace_report.specs.Replayed.{gives_up, fault_text, Told, TellsText}
 use Rattle.trace_report.specs.Replaying.{fault_or}
-use Rattle.trace_report.specs.Legal.{LegalSoFar, IsAfter}
 use Rattle.trace_report.specs.Feeding.{FindsTrace, FindsFault, is_short}
 use Rattle.trace_report.specs.Checked.{AnswersText, ChecksText, counted, counts_of, told}
 
@@ -125,12 +124,14 @@ fault_tells m left old new r f is finds written g =
 
 -- ---- a check
 
-pub trace_counts : (m : Limits) (left : Option (List ℕ)) (j : LegalSoFar) (names : Tables) (c : Counts)
-    → FindsTrace m left (IsAfter j m) names → c ≡ counts_of j.events names → AnswersText m left (Ok c)
-trace_counts m left j names c f is = record {
+pub trace_counts : (m : Limits) (left : Option (List ℕ)) (After : List Event → Type 0) (events : ℕ)
+    (names : Tables) (c : Counts) → FindsTrace m left After names
+    → ((log : List Event) → After log → events ≡ length log) → c ≡ counts_of events names
+    → AnswersText m left (Ok c)
+trace_counts m left After events names c f count is = record {
   text = f.text;
   is_left = f.is_left;
-  holds = ap (λ (x : Counts). Ok x) (is ∙ ap (λ (n : ℕ). counts_of n names) f.after.count)
+  holds = ap (λ (x : Counts). Ok x) (is ∙ ap (λ (n : ℕ). counts_of n names) (count f.log f.after))
       ∙ sym (ap counted f.finds);
 }
 

@@ -5,7 +5,6 @@ pub mod Reports
 pub mod Findings
 pub mod Replayed
 pub mod Replaying
-pub mod Legal
 pub mod Feeding
 pub mod FeedLaws
 pub mod Checked

@@ -7,12 +7,12 @@ ghost use Rattle.trace_report.specs.Checked.{told, AnswersText, ChecksText};
 
 use crate::counts::Counts;
 use crate::faults::ReplayFault;
-use crate::judge::LegalMemory;
 use crate::telling::tell_failure;
 use crate::whole_text::judge_text;
 use event_core::Limits;
 use rapid_text::{Input, Output, WriteFault};
 use std::alloc::Global;
+use traced_mem::Memory;
 
 /// Judges the trace that the reader has left, and writes one line: the counts of a legal trace, or the first
 /// line that is no event or whose event is refused. The lines before are known by the memory alone, and no
@@ -53,12 +53,12 @@ pub fn check<I: Input, O: Output>(
     ensures write_fault { result ≡ Err ReplayFault.Write → O.failed writer.new ≡ true }
     ensures written { result ≢ Err ReplayFault.Write → O.failed writer.new ≡ false }
 {
-    let memory = LegalMemory::new(alloc, limits);
+    let memory = Memory::new(alloc, limits).unwrap();
     let text = match judge_text(alloc, reader, memory, limits, turns) {
         Ok(text) => text,
         Err(fault) => return Err(tell_failure(writer, fault)),
     };
-    let counts = Counts::of(text.judge.events(), text.cutter.names());
+    let counts = Counts::of(text.judge.len(), text.cutter.names());
     match counts.write(writer) {
         Ok(()) => Ok(counts),
         Err(WriteFault) => Err(ReplayFault::Write),

@@ -14,6 +14,14 @@ use crate::memory::Memory;
 use event_core::{Call, LockId, Op, ThreadId, VarId};
 
 impl Memory {
+    /// How many events there were.
+    pub fn len(&self) -> u64
+        ensures means { result ≡ (meaning self.now).length }
+        ensures count { (log : List Event) → StandsFor self.now log → result ≡ length log }
+    {
+        self.length
+    }
+
     /// The value of the variable's last store, and 0 before any.
     #[inline(always)]
     pub fn value(&self, var: VarId) -> u64

@@ -7,19 +7,17 @@ use Rattle.trace_report.proofs.checking.check.Goals as goal
 
 pub returns-in-Ok-write-clause-finds : goal.returns-in-Ok-write-clause-finds
 returns-in-Ok-write-clause-finds g c _ =
-    trace_counts c.args.limits (g.I.Input.left c.args.reader.now) c.in-Ok.text.judge c.in-Ok.text.cutter.names
-    c.of-counts.result c.in-Ok.ensures.trace
-    (c.of-counts.ensures ∙ ap (λ (t : Tables). counts_of c.events.result t) c.names.ensures
-    ∙ ap (λ n. counts_of n c.in-Ok.text.cutter.names) c.events.ensures)
+    trace_counts c.args.limits (g.I.Input.left c.args.reader.now) _ c.len.result c.in-Ok.text.cutter.names
+    c.of-counts.result c.in-Ok.ensures.trace (λ log after. c.len.ensures.count log after.1)
+    (c.of-counts.ensures ∙ ap (λ (t : Tables). counts_of c.len.result t) c.names.ensures)
 
 pub returns-in-Ok-write-clause-checks : goal.returns-in-Ok-write-clause-checks
 returns-in-Ok-write-clause-checks g c _ =
     line_is_for c.args.limits (g.I.Input.left c.args.reader.now) (g.O.Output.written c.args.writer.now)
     (g.O.Output.written c.write.new.writer) (Ok c.of-counts.result)
-    (trace_counts c.args.limits (g.I.Input.left c.args.reader.now) c.in-Ok.text.judge
-    c.in-Ok.text.cutter.names c.of-counts.result c.in-Ok.ensures.trace
-    (c.of-counts.ensures ∙ ap (λ (t : Tables). counts_of c.events.result t) c.names.ensures
-    ∙ ap (λ n. counts_of n c.in-Ok.text.cutter.names) c.events.ensures))
+    (trace_counts c.args.limits (g.I.Input.left c.args.reader.now) _ c.len.result c.in-Ok.text.cutter.names
+    c.of-counts.result c.in-Ok.ensures.trace (λ log after. c.len.ensures.count log after.1)
+    (c.of-counts.ensures ∙ ap (λ (t : Tables). counts_of c.len.result t) c.names.ensures))
     c.in-Ok-write.ensures.ok
 
 pub returns-in-Ok-write-clause-tells : goal.returns-in-Ok-write-clause-tells
