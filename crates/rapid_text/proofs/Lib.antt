@@ -7,6 +7,7 @@ pub mod LongLines
 pub mod Pieces
 pub mod WindowLaws
 pub mod Outputs
+pub mod Putting
 pub mod Turns
 pub mod Pulls
 pub mod Written

@@ -3,6 +3,7 @@ pub mod Numbers
 pub mod NumberCache
 pub mod Tables
 pub mod Faults
+pub mod Pages
 pub mod Events
 pub mod Texts
 pub mod Cutting

@@ -1,13 +1,15 @@
 //! Lines that are written: events as `thread|word(argument)|location`, and faults as `line N: word`.
 ghost use Rattle.std.specs.Prelude.{◌≡◌, ◌∷◌, [], ◌++◌, OnOk, OnErr, true};
 ghost use Rattle.std.specs.Io.KnownBytes.{Appends};
-ghost use Rattle.rapid_line.specs.Grammar.{content_of, operation, IsWellFormed};
+ghost use Rattle.rapid_line.specs.Grammar.{content_of, IsWellFormed};
 ghost use Rattle.rapid_text.specs.Events.{named_by, word_of_op, kind_of, target_of, HasNames};
 ghost use Rattle.rapid_text.specs.Faults.{fault_line};
+ghost use Rattle.rapid_text.specs.Pages.{Puts};
 
 use crate::causes::Kind;
 use crate::names::Names;
-use crate::output::{Output, WriteFault, write_all};
+use crate::output::{Output, WriteFault};
+use crate::page::Page;
 use event_core::{Event, LockId, Op, ThreadId, VarId};
 use rapid_line::Word;
 
@@ -27,17 +29,33 @@ pub fn parts_of(op: Op) -> (Word, Kind, u32)
     }
 }
 
-/// Writes `word(argument)|`, the field of an operation and the bar after it.
-fn write_operation<W: Output>(w: &mut W, word: Word, argument: &[u8]) -> Result<(), WriteFault>
-    ensures ok { OnOk result (Appends (W.written w.old) (W.written w.new)
-        (operation word argument.now ++ 124 ∷ [])) }
+/// Puts the content of an event's line, `thread|word(argument)|location`. Its numbers have names.
+pub fn put_event<W: Output>(
+    page: &mut Page,
+    w: &mut W,
+    event: &Event,
+    names: &Names,
+) -> Result<(), WriteFault>
+    requires { HasNames names.now event.now }
+    ensures ok { OnOk result (Puts (W.written w.old) page.old (W.written w.new) page.new
+        (content_of (named_by names.now event.now))) }
+    // So it is read again as these names and this operation.
+    ensures fits { IsWellFormed (named_by names.now event.now) }
     ensures healthy { OnOk result (W.failed w.new ≡ W.failed w.old) }
+    // It fails only where the writer did.
     ensures failed { OnErr result (W.failed w.new ≡ true) }
 {
-    write_all(w, word.spelled())?;
-    write_all(w, b"(")?;
-    write_all(w, argument)?;
-    write_all(w, b")|")
+    let (word, kind, number) = parts_of(event.op);
+    let thread = names.name(Kind::Thread, event.thread.0);
+    let argument = names.name(kind, number);
+    let location = names.name(Kind::Site, event.site.0);
+    page.put(w, thread)?;
+    page.put(w, b"|")?;
+    page.put(w, word.spelled())?;
+    page.put(w, b"(")?;
+    page.put(w, argument)?;
+    page.put(w, b")|")?;
+    page.put(w, location)
 }
 
 /// Writes the line of an event, whose numbers have names, or answers `WriteFault` where the writer failed. It
@@ -53,18 +71,15 @@ pub fn write_event<W: Output>(w: &mut W, event: &Event, names: &Names) -> Result
     // It fails only where the writer did.
     ensures failed { OnErr result (W.failed w.new ≡ true) }
 {
-    let (word, kind, number) = parts_of(event.op);
-    let thread = names.name(Kind::Thread, event.thread.0);
-    let argument = names.name(kind, number);
-    let location = names.name(Kind::Site, event.site.0);
-    write_all(w, thread)?;
-    write_all(w, b"|")?;
-    write_operation(w, word, argument)?;
-    write_all(w, location)?;
-    write_all(w, b"\n")
+    let mut page = Page::new();
+    put_event(&mut page, w, event, names)?;
+    page.put(w, b"\n")?;
+    page.flush(w)
 }
 
-/// Writes `line N: word`, and an LF, or answers `WriteFault` where the writer failed.
+/// Writes `line N: word`, and an LF, or answers `WriteFault` where the writer failed. The writer is given the
+/// whole line at once, unless the word has more than 4,000 bytes; no clause tells how it is cut. It takes no
+/// memory.
 pub fn write_fault<W: Output>(w: &mut W, line: u64, word: &str) -> Result<(), WriteFault>
     ensures ok { OnOk result (Appends (W.written w.old) (W.written w.new) (fault_line line word.now)) }
     ensures healthy { OnOk result (W.failed w.new ≡ W.failed w.old) }
@@ -72,9 +87,11 @@ pub fn write_fault<W: Output>(w: &mut W, line: u64, word: &str) -> Result<(), Wr
     ensures failed { OnErr result (W.failed w.new ≡ true) }
 {
     let mut digits = itoa::Buffer::new();
-    write_all(w, b"line ")?;
-    write_all(w, digits.format(line).as_bytes())?;
-    write_all(w, b": ")?;
-    write_all(w, word.as_bytes())?;
-    write_all(w, b"\n")
+    let mut page = Page::new();
+    page.put(w, b"line ")?;
+    page.put(w, digits.format(line).as_bytes())?;
+    page.put(w, b": ")?;
+    page.put(w, word.as_bytes())?;
+    page.put(w, b"\n")?;
+    page.flush(w)
 }

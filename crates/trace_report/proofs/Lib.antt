@@ -1,4 +1,3 @@
-pub mod Putting
 pub mod Races
 pub mod Texts
 pub mod Naming

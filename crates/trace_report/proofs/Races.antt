@@ -13,10 +13,10 @@ use Rattle.event_core.specs.declared.replies.Verdict.TheVariants.{Clear, Racy}
 use Rattle.rapid_text.specs.Tables.{Tables}
 use Rattle.verdict_list.specs.declared.verdicts.Race.{Race}
 use Rattle.verdict_list.specs.Judged.{races_from}
-use Rattle.trace_report.specs.Pages.{Puts}
+use Rattle.rapid_text.specs.Pages.{Puts}
 use Rattle.trace_report.specs.Races.{is_race}
 use Rattle.trace_report.specs.Reports.{event_at, race_line, race_lines, AreWithin}
-use Rattle.trace_report.proofs.Putting.{put_both}
+use Rattle.rapid_text.proofs.Putting.{put_both}
 
 -- ---- their number
 

@@ -1,5 +1,4 @@
 pub mod Words
-pub mod Pages
 pub mod Races
 pub mod Reports
 pub mod Findings

@@ -3,8 +3,7 @@ ghost use Rattle.std.specs.Prelude.{◌≡◌, OnErr, OnOk, true};
 ghost use Rattle.std.specs.Io.KnownBytes.{Appends};
 
 use crate::lines::put_count;
-use crate::page::Page;
-use rapid_text::{Kind, Names, Output, WriteFault};
+use rapid_text::{Kind, Names, Output, Page, WriteFault};
 
 /// How many events a trace has, and how many threads, locks and variables it names.
 #[derive(Clone, Copy, Debug, PartialEq, Eq)]
@@ -17,7 +16,7 @@ pub struct Counts {
 
 impl Counts {
     ghost use Rattle.trace_report.specs.Checked.{counts_of, counts_line};
-    ghost use Rattle.trace_report.specs.Pages.{Puts};
+    ghost use Rattle.rapid_text.specs.Pages.{Puts};
 
     /// The counts of a trace with so many events and these names.
     pub(crate) fn of(events: u64, names: &Names) -> Counts

@@ -4,13 +4,11 @@
 
 mod checking;
 mod counts;
-mod fault_lines;
 mod faults;
 mod judge;
 mod judged_text;
 pub mod laws;
 mod lines;
-mod page;
 mod replayer;
 mod replaying;
 mod reporting;
@@ -21,7 +19,6 @@ mod words;
 
 pub use checking::check;
 pub use counts::Counts;
-pub use fault_lines::write_fault_line;
 pub use faults::ReplayFault;
 pub use replayer::Replayer;
 pub use replaying::replay;

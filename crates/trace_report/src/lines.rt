@@ -1,14 +1,13 @@
 //! The lines of a report, put on a page.
 ghost use Rattle.std.specs.Prelude.{◌≡◌, ℕ, ◌+◌, ◌<◌, ◌++◌, ◌∷◌, [], length, decimal, OnOk, OnErr, true};
 ghost use Rattle.event_core.specs.declared.replies.Verdict.TheVariants.{Racy};
-ghost use Rattle.trace_report.specs.Pages.{Puts};
+ghost use Rattle.rapid_text.specs.Pages.{Puts};
 ghost use Rattle.trace_report.specs.Reports.{labelled, summary_line, event_at, race_line, AreNamed};
 
-use crate::page::Page;
 use crate::summary::Summary;
 use event_core::Log;
 use itoa::Buffer;
-use rapid_text::{Kind, Names, Output, WriteFault, parts_of};
+use rapid_text::{Names, Output, Page, WriteFault, put_event};
 use verdict_list::Race;
 
 /// Puts a label and a number.
@@ -60,7 +59,7 @@ fn put_number<W: Output>(page: &mut Page, writer: &mut W, index: u64) -> Result<
 }
 
 /// Puts the number of an event, counted from 1, and its line without an ending.
-fn put_event<W: Output>(
+fn put_numbered<W: Output>(
     page: &mut Page,
     writer: &mut W,
     log: &Log,
@@ -74,20 +73,14 @@ fn put_event<W: Output>(
     ensures healthy { OnOk result (W.failed writer.new ≡ W.failed writer.old) }
     ensures failed { OnErr result (W.failed writer.new ≡ true) }
 {
-    let most = log.len();
+    // Asked for its clause alone: the length, and so the number, fits 64 bits.
+    let _most = log.len();
     let Some(event) = log.get(index) else {
         return Ok(());
     };
-    let (word, kind, number) = parts_of(event.op);
     put_number(page, writer, index)?;
     page.put(writer, b"|")?;
-    page.put(writer, names.name(Kind::Thread, event.thread.0))?;
-    page.put(writer, b"|")?;
-    page.put(writer, word.spelled())?;
-    page.put(writer, b"(")?;
-    page.put(writer, names.name(kind, number))?;
-    page.put(writer, b")|")?;
-    page.put(writer, names.name(Kind::Site, event.site.0))
+    put_event(page, writer, &event, names)
 }
 
 /// Puts the line of an event that races with an earlier one.
@@ -106,8 +99,8 @@ pub fn put_race<W: Output>(
     ensures healthy { OnOk result (W.failed writer.new ≡ W.failed writer.old) }
     ensures failed { OnErr result (W.failed writer.new ≡ true) }
 {
-    put_event(page, writer, log, names, race.event)?;
+    put_numbered(page, writer, log, names, race.event)?;
     page.put(writer, b" with ")?;
-    put_event(page, writer, log, names, race.with)?;
+    put_numbered(page, writer, log, names, race.with)?;
     page.put(writer, b"\n")
 }

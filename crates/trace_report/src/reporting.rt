@@ -1,14 +1,13 @@
 //! The report of a log.
 ghost use Rattle.std.specs.Prelude.{◌≡◌, OnOk, OnErr, IfOk, true};
 ghost use Rattle.std.specs.Io.KnownBytes.{Appends};
-ghost use Rattle.trace_report.specs.Pages.{Puts};
+ghost use Rattle.rapid_text.specs.Pages.{Puts};
 ghost use Rattle.trace_report.specs.Reports.{report_of, summary_of, AreWithin, AreNamed, race_lines};
 
 use crate::lines::{put_race, put_summary};
-use crate::page::Page;
 use crate::summary::Summary;
 use event_core::Log;
-use rapid_text::{Names, Output, WriteFault};
+use rapid_text::{Names, Output, Page, WriteFault};
 use verdict_list::Verdicts;
 
 /// Puts a line for each race.

@@ -5,11 +5,10 @@ ghost use Rattle.trace_report.specs.Reports.{AreNamed};
 ghost use Rattle.trace_report.specs.Replayed.{answer_gives_up, fault_text, gives_up, Told};
 ghost use Rattle.trace_report.specs.Feeding.{is_short};
 
-use crate::fault_lines::tell_fault;
 use crate::faults::ReplayFault;
 use crate::reporting::report;
 use crate::summary::Summary;
-use rapid_text::{Names, Output, WriteFault};
+use rapid_text::{Names, Output, WriteFault, write_fault};
 use seq_monitor::Monitor;
 
 /// Writes the report of the monitor's log.
@@ -32,7 +31,8 @@ pub fn tell_trace<W: Output>(
     }
 }
 
-/// Writes the one line that tells the fault. The answer is the fault, or that the line could not be written.
+/// Writes the one line that tells the fault; nothing, where the fault says nothing of the text. The answer is
+/// the fault, or that the line could not be written.
 pub fn tell_failure<W: Output>(writer: &mut W, fault: ReplayFault) -> ReplayFault
     requires unwritten { fault ≢ ReplayFault.Write }
     ensures is { (result ≡ fault) ⊎ (result ≡ ReplayFault.Write) }
@@ -42,7 +42,10 @@ pub fn tell_failure<W: Output>(writer: &mut W, fault: ReplayFault) -> ReplayFaul
     ensures healthy { result ≢ ReplayFault.Write → W.failed writer.new ≡ W.failed writer.old }
     ensures failed { result ≡ ReplayFault.Write → W.failed writer.new ≡ true }
 {
-    match tell_fault(writer, fault) {
+    let Some((line, word)) = fault.line_and_word() else {
+        return fault;
+    };
+    match write_fault(writer, line, word) {
         Ok(()) => fault,
         Err(WriteFault) => ReplayFault::Write,
     }

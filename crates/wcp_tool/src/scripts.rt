@@ -18,14 +18,14 @@ use crate::requests::Settings;
 use closed_report::ReportFault;
 use event_core::{Limits, Roots};
 use live_monitor::Closed;
-use rapid_text::{Device, Input, Names, Output};
+use rapid_text::{Device, Input, Names, Output, write_fault};
 use script_drive::{DriveFault, FreeGate, drive};
 use script_text::{Script, ScriptCause, ScriptFault};
 use std::fs;
 use std::fs::Files;
 use std::sync::Wait;
 use std::thread::Threads;
-use trace_report::{refusal_word, write_fault_line};
+use trace_report::refusal_word;
 
 /// Writes `line N: WORD`, and ends so.
 fn tell<O: Output>(writer: &mut O, line: u64, word: &str, ending: Ending) -> Ending
@@ -36,7 +36,7 @@ fn tell<O: Output>(writer: &mut O, line: u64, word: &str, ending: Ending) -> End
         → Appends (O.written writer.old) (O.written writer.new) (fault_line line word.now) }
     ensures fails { O.failed writer.new ≡ is_write_fault result }
 {
-    match write_fault_line(writer, line, word) {
+    match write_fault(writer, line, word) {
         Ok(()) => ending,
         Err(_) => Ending::WriteFault,
     }

@@ -1,7 +1,7 @@
 use Rattle.std.proofs.Common.{◌≡◌, ℕ, length, take, ap, ◌∙◌, arith}
 use Rattle.std.proofs.Math.Seq.{take-length}
 use Rattle.verdict_list.specs.Judged.{races_from}
-use Rattle.trace_report.proofs.Putting.{put_both, put_same}
+use Rattle.rapid_text.proofs.Putting.{put_both, put_same}
 use Rattle.trace_report.proofs.Races.{lines_of, lines_at, races_lines, races_within}
 use Rattle.trace_report.proofs.reporting.put_races.Goals as goal
 

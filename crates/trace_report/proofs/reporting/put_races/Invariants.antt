@@ -1,5 +1,5 @@
 use Rattle.std.proofs.Common.{◌≡◌, take}
-use Rattle.trace_report.specs.Pages.{Puts}
+use Rattle.rapid_text.specs.Pages.{Puts}
 use Rattle.trace_report.proofs.Races.{lines_of}
 use Rattle.trace_report.proofs.reporting.put_races.Given as goal
 

@@ -1,8 +1,8 @@
 use Rattle.std.proofs.Common.{List, ℕ, ◌++◌, ap, subst, ◌∙◌, append-nil}
 use Rattle.trace_report.specs.declared.summary.Summary.{Summary}
-use Rattle.trace_report.specs.Pages.{Puts}
+use Rattle.rapid_text.specs.Pages.{Puts}
 use Rattle.trace_report.specs.Reports.{report_of, summary_line, race_lines}
-use Rattle.trace_report.proofs.Putting.{put_both, put_same, all_written}
+use Rattle.rapid_text.proofs.Putting.{put_both, put_same, all_written}
 use Rattle.trace_report.proofs.reporting.report.Goals as goal
 
 pub returns-clause-ok : goal.returns-clause-ok

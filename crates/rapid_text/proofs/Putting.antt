@@ -4,7 +4,7 @@ use Rattle.std.proofs.Common.{Result, Ok, Err}
 use Rattle.std.specs.Prelude.{OnOk}
 use Rattle.std.specs.Io.KnownBytes.{Appends}
 use Rattle.std.proofs.KnownBytes.{Appends-trans}
-use Rattle.trace_report.specs.Pages.{Puts}
+use Rattle.rapid_text.specs.Pages.{Puts}
 
 pub put_both : {a b c : Option (List ℕ)} {p q r xs ys : List ℕ} → Puts a p b q xs → Puts b q c r ys
     → Puts a p c r (xs ++ ys)

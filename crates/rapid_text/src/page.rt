@@ -1,9 +1,9 @@
 //! A page of fixed size between a text and its writer, so that a short piece of text is no write of its own.
 ghost use Rattle.std.specs.Prelude.{◌≡◌, [], List, ℕ, OnOk, OnErr, true};
-ghost use Rattle.trace_report.specs.Pages.{Puts};
+ghost use Rattle.rapid_text.specs.Pages.{Puts};
 
+use crate::output::{Output, WriteFault, write_all};
 use arrayvec::ArrayVec;
-use rapid_text::{Output, WriteFault, write_all};
 use std::marker::Model;
 
 /// How many bytes may wait.

@@ -1,9 +1,9 @@
 use Rattle.std.proofs.Common.{List, ℕ, ap, subst, ◌∙◌}
 use Rattle.std.proofs.lemmas.Result.{on_ok_weaker}
 use Rattle.arrayvec.specs.ArrayVec.{ArrayVec}
-use Rattle.trace_report.specs.Pages.{Puts}
-use Rattle.trace_report.proofs.Putting.{put_over}
-use Rattle.trace_report.proofs.page.Page.put.Goals as goal
+use Rattle.rapid_text.specs.Pages.{Puts}
+use Rattle.rapid_text.proofs.Putting.{put_over}
+use Rattle.rapid_text.proofs.page.Page.put.Goals as goal
 
 pub returns-clause-ok : goal.returns-clause-ok
 returns-clause-ok g c =
