@@ -24,6 +24,7 @@ use std::sync::Wait;
 
 impl<'m, N: Name> TracedThread<'m, N> {
     /// Loads the variable: the reply has the last value that was stored to it, or 0.
+    #[inline(always)]
     pub fn load<R: Wait>(&mut self, rt: &R, var: VarId, site: SiteId) -> Result<Reply, Refusal>
         ensures later { HasComeTo N.limits self.old self.new }
         ensures accepted { IfOk result
@@ -37,6 +38,7 @@ impl<'m, N: Name> TracedThread<'m, N> {
     }
 
     /// Stores the value to the variable.
+    #[inline(always)]
     pub fn store<R: Wait>(
         &mut self,
         rt: &R,
@@ -79,6 +81,7 @@ impl<'m, N: Name> TracedThread<'m, N> {
     }
 
     /// Acquires the lock. It is refused while another thread holds it.
+    #[inline(always)]
     pub fn acquire<R: Wait>(&mut self, rt: &R, lock: LockId, site: SiteId) -> Result<Reply, Refusal>
         ensures later { HasComeTo N.limits self.old self.new }
         ensures accepted { IfOk result
@@ -117,6 +120,7 @@ impl<'m, N: Name> TracedThread<'m, N> {
     }
 
     /// Releases the lock. It is never refused for want of memory.
+    #[inline(always)]
     pub fn release<R: Wait>(&mut self, rt: &R, lock: LockId, site: SiteId) -> Result<Reply, Refusal>
         ensures later { HasComeTo N.limits self.old self.new }
         ensures accepted { IfOk result
