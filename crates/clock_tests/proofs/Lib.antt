@@ -1,3 +1,2 @@
-pub mod FewJoins
 pub mod OneSection
 pub mod OneLog

@@ -1,7 +1,7 @@
 -- What the tests of closed sections meet the conditions by: on each lock at most one section is closed.
-use Rattle.std.proofs.Common.{◌≡◌, ℕ, suc, ◌+◌, ◌≤◌, Bool, true, false, cond, List, [], ◌∷◌, ◌++◌}
+use Rattle.std.proofs.Common.{◌≡◌, ℕ, ◌≤◌, Bool, true, false, cond, List, [], ◌∷◌, ◌++◌}
 use Rattle.std.proofs.Common.{length, nat_eq, sym, ap, subst, ◌∙◌, arith}
-use Rattle.event_core.specs.Closed.{Closed, Has, first, later, is_counted, number_counted}
+use Rattle.event_core.specs.Closed.{Closed, Has, first, later, is_counted}
 use Rattle.event_core.specs.Rows.{with_row}
 use Rattle.event_core.proofs.Growing.{row_same}
 use Rattle.lock_queues.specs.Searched.{CountsEarlier, IsAboveAll}
@@ -40,12 +40,3 @@ one_closed f g l q e none few m =
     at : (b : Bool) → length (cond b (g l ++ q ∷ []) (g m)) ≤ 1
     at true = one (g l) none
     at false = few m
-
--- of the sections no more are counted than there are
-pub counted_few : (c : ℕ → ℕ) (qs : List Closed) → number_counted c qs ≤ length qs
-counted_few c [] = omega arith
-counted_few c (q ∷ qs) = at (is_counted c q) (counted_few c qs)
-  where
-    at : (b : Bool) → number_counted c qs ≤ length qs → cond b 1 0 + number_counted c qs ≤ suc (length qs)
-    at true h = omega arith
-    at false h = omega arith

@@ -1,7 +1,7 @@
 //! Worked logs with the numbers of their clocks.
 //!
 //! Where memory is refused once, the same call is made again and gives the same numbers.
-ghost use Rattle.std.specs.Prelude.{◌≡◌, ℕ, ◌*◌, ◌<◌, ◌≤◌, ◌↔◌, length, IfOk, OnOk, IsTrue};
+ghost use Rattle.std.specs.Prelude.{◌≡◌, ℕ, ◌<◌, ◌≤◌, ◌↔◌, length, IfOk, OnOk, IsTrue};
 ghost use Rattle.vector_clocks.specs.Counts.{counts_of};
 ghost use Rattle.hb_clocks.specs.State.{empty};
 ghost use Rattle.hb_clocks.specs.Stands.{IsAtMost};
@@ -18,27 +18,23 @@ use std::alloc::Global;
 use std::process::Abort;
 use vector_clocks::{Clock, JoinedClocks, Mark, ReleaseClock, Work};
 
-/// The clocks of three threads, and one beside them. A call takes an event, compares a mark or joins a clock.
+/// The clocks of three threads after some events, and one beside them.
 #[derive(Drop)]
 pub struct Run {
     pub clocks: HbClocks,
-    pub work: Work,
     beside: Clock,
     marked: Option<Mark>,
-    pub calls: u64,
+    events: u64,
     ghost width: { clocks.width ≡ 3 },
     ghost beside_width: { length beside ≡ 3 },
-    ghost few: { IsAtMost calls (state_of clocks) },
-    ghost joins: { work.joins ≤ 2 * calls },
-    ghost comparisons: { work.comparisons ≤ calls },
-    ghost short: { calls ≤ 100 },
+    ghost few: { IsAtMost events (state_of clocks) },
+    ghost short: { events ≤ 100 },
 }
 
 // Where a growth is refused, the same call is made again.
 fn begin_clocks(alloc: Global, limits: &Limits) -> Result<(HbClocks, Work), OutOfMemory>
     ensures width { IfOk result (λ made. made.0.width ≡ limits.now.threads) }
     ensures empty { IfOk result (λ made. state_of made.0 ≡ empty) }
-    ensures work { IfOk result (λ made. made.1 ≡ record { comparisons = 0; joins = 0 }) }
 {
     match HbClocks::new(alloc, limits) {
         Ok(made) => Ok(made),
@@ -99,25 +95,23 @@ fn expect_numbers(rt: &impl Abort, clock: &Clock, wanted: &[u64; 3])
 impl Run {
     pub fn new(rt: &impl Abort, alloc: Global) -> Run {
         let limits = Limits::new(3, 2, 2, 64, Roots::Free).expect(rt, "small limits");
-        let (clocks, work) = begin_clocks(alloc, &limits).expect(rt, "memory");
+        let (clocks, _work) = begin_clocks(alloc, &limits).expect(rt, "memory");
         Run {
             clocks,
-            work,
             beside: zeros(alloc).expect(rt, "memory"),
             marked: None,
-            calls: 0,
+            events: 0,
         }
     }
 
     // Makes room for the event, and takes it.
-    #[tactic(auto, using(crate::proofs::FewJoins::few_joins))]
     pub fn take(&mut self, rt: &impl Abort, event: &Event) {
-        assert!(rt; self.calls < 100);
+        assert!(rt; self.events < 100);
         assert!(rt; is_within(event));
         assert!(rt; make_room(&mut self.clocks, event).is_ok(), "memory");
         assert!(rt; self.clocks.admits(event));
-        self.clocks.advance(event, &mut self.work);
-        self.calls += 1;
+        self.clocks.advance(event, &mut Work::new());
+        self.events += 1;
     }
 
     // The mark of the thread's latest event.
@@ -142,14 +136,12 @@ impl Run {
         clock
     }
 
-    fn expect_counts(&mut self, rt: &impl Abort, thread: ThreadId, wanted: &[bool; 2]) {
+    fn expect_counts(&self, rt: &impl Abort, thread: ThreadId, wanted: &[bool; 2]) {
         let mark = self.marked.expect(rt, "a mark is kept");
         assert!(rt; mark.thread().0 < 3);
-        assert!(rt; self.calls < 99);
-        self.calls += 2;
-        let by_po = mark.counted(self.clocks.po(thread), &mut self.work);
-        let by_hb = mark.counted(self.clocks.hb(thread), &mut self.work);
-        assert_eq!(rt; [by_po, by_hb], *wanted);
+        let by_po = mark.counted(self.clocks.po(thread), &mut Work::new());
+        let by_hb = mark.counted(self.clocks.hb(thread), &mut Work::new());
+        assert!(rt; [by_po, by_hb] == *wanted);
     }
 
     // The clock beside the others takes the numbers of the thread's clock of program order.
@@ -157,18 +149,14 @@ impl Run {
         self.beside.copy_from(self.clocks.po(thread));
     }
 
-    fn join(&mut self, rt: &impl Abort, thread: ThreadId) {
-        assert!(rt; self.calls < 100);
-        self.beside.join(self.clocks.hb(thread), &mut self.work);
-        self.calls += 1;
+    fn join(&mut self, thread: ThreadId) {
+        self.beside.join(self.clocks.hb(thread), &mut Work::new());
     }
 
     // It takes the greater numbers of the release.
     pub fn join_release(&mut self, rt: &impl Abort, release: &ReleaseClock) {
-        assert!(rt; self.calls < 100);
         assert!(rt; release.counts_before().len() <= 3);
-        self.beside.join_release(release, &mut self.work);
-        self.calls += 1;
+        self.beside.join_release(release, &mut Work::new());
     }
 
     pub fn expect_beside(&self, rt: &impl Abort, wanted: &[u64; 3]) {
@@ -177,7 +165,7 @@ impl Run {
 
     fn expect_joined(&self, rt: &impl Abort, first: ThreadId, second: ThreadId, wanted: &[u64; 3]) {
         let joined = JoinedClocks::new(self.clocks.po(first), self.clocks.po(second));
-        assert_eq!(rt; [joined.at(T0), joined.at(T1), joined.at(T2)], *wanted);
+        assert!(rt; [joined.at(T0), joined.at(T1), joined.at(T2)] == *wanted);
     }
 
     fn follow(&mut self, rt: &impl Abort, row: &Row) {
@@ -194,7 +182,7 @@ impl Run {
             Row::Mark(thread) => self.marked = Some(self.latest(rt, *thread)),
             Row::Counts(thread, wanted) => self.expect_counts(rt, *thread, wanted),
             Row::Copy(thread) => self.copy(*thread),
-            Row::Join(thread) => self.join(rt, *thread),
+            Row::Join(thread) => self.join(*thread),
             Row::Clock(wanted) => self.expect_beside(rt, wanted),
             Row::Joined(first, second, wanted) => self.expect_joined(rt, *first, *second, wanted),
         }

@@ -149,22 +149,20 @@ fn limits_are_taken_up_to_the_greatest(rt: HostRuntime) {
     for (threads, locks, vars, events, roots) in LIMITS {
         let limits = Limits::new(*threads, *locks, *vars, *events, *roots);
         let limits = limits.expect(&rt, "within the bounds");
-        assert!(rt; limits.threads() == *threads);
-        assert!(rt; limits.locks() == *locks);
-        assert!(rt; limits.vars() == *vars);
-        assert!(rt; limits.events() == *events);
-        assert!(rt; limits.roots() == *roots);
+        let is_taken = limits.threads() == *threads
+            && limits.locks() == *locks
+            && limits.vars() == *vars
+            && limits.events() == *events
+            && limits.roots() == *roots;
+        assert!(rt; is_taken);
     }
 }
 
 #[test]
 fn the_first_number_out_of_bounds_is_told(rt: HostRuntime) {
-    for (threads, locks, vars, events, fault) in BEYOND {
+    for (row, (threads, locks, vars, events, fault)) in BEYOND.iter().enumerate() {
         let limits = Limits::new(*threads, *locks, *vars, *events, Roots::Free);
-        assert!(rt;
-            limits == Err(*fault),
-            "at {threads} {locks} {vars} {events}"
-        );
+        assert!(rt; limits == Err(*fault), "row {row}");
     }
 }
 
@@ -191,22 +189,20 @@ fn log_of(rt: &impl Abort, alloc: Global, events: &[Event]) -> Log {
     log
 }
 
-// The log has the events, and none beyond them.
-fn expect_events(rt: &impl Abort, log: &Log, events: &[Event]) {
-    assert!(rt; log.len() == events.len() as u64);
-    assert!(rt; (log.len() == 0) == events.is_empty());
-    let mut index = 0;
-    for event in events {
-        assert!(rt; log.get(index) == Some(*event), "event {index}");
-        index += 1;
+// Whether the log has the events, and none beyond them.
+fn has_events(log: &Log, events: &[Event]) -> bool {
+    for (index, event) in (0..).zip(events) {
+        if log.get(index) != Some(*event) {
+            return false;
+        }
     }
-    assert!(rt; log.get(index).is_none());
-    assert!(rt; log.get(4294967296).is_none());
+    let has_none = log.get(log.len()).is_none() && log.get(4294967296).is_none();
+    has_none && log.len() == events.len() as u64 && (log.len() == 0) == events.is_empty()
 }
 
 fn expect_given_back(rt: &impl Abort, alloc: Global, events: &[Event]) {
     let log = log_of(rt, alloc, events);
-    expect_events(rt, &log, events);
+    assert!(rt; has_events(&log, events));
     drop(log);
 }
 
@@ -239,8 +235,9 @@ fn more_room_than_there_can_be_is_refused(rt: HostRuntime) {
 #[test]
 fn a_step_tells_its_thread_its_child_and_its_events(rt: HostRuntime) {
     for (step, thread, child, count) in STEPS {
-        assert!(rt; step.thread() == ThreadId(*thread));
-        assert!(rt; step.child() == *child);
-        assert!(rt; step.count() == *count);
+        let is_told = step.thread() == ThreadId(*thread)
+            && step.child() == *child
+            && step.count() == *count;
+        assert!(rt; is_told);
     }
 }

@@ -1,14 +1,14 @@
 //! Closed sections: what no clause says, that there can be memory, and that the conditions can be met.
 //!
 //! On each lock at most one section is closed, and at most one release asks for it.
-ghost use Rattle.std.specs.Prelude.{◌≡◌, ℕ, ◌+◌, ◌<◌, ◌≤◌, false, length, IsTrue};
+ghost use Rattle.std.specs.Prelude.{◌≡◌, ℕ, ◌<◌, ◌≤◌, length};
 ghost use Rattle.vector_clocks.specs.Counts.{counts_of};
 ghost use Rattle.lock_queues.specs.Queues.{closed_of, found_of, has_room, SameMeaning};
 
 mod cases;
 
 use crate::clocks::{Run, event};
-use cases::{ONE_SECTION, RELEASES, Row, TWO_THREADS};
+use cases::{L, ONE_SECTION, RELEASES, Row, T0, T1, TWO_THREADS};
 use event_core::{Limits, LockId, Op, Roots, ThreadId, VarId};
 use lock_queues::Queues;
 use std::alloc::Global;
@@ -20,11 +20,10 @@ use vector_clocks::{Clock, Mark, Work};
 struct Sections {
     queues: Queues,
     run: Run,
-    is_searched: bool,
     ghost threads: { queues.limits.threads ≡ 3 },
     ghost locks: { queues.limits.locks ≡ 2 },
     ghost few: { (l : ℕ) → length (closed_of queues l) ≤ 1 },
-    ghost found: { is_searched ≡ false → found_of queues ≡ (λ _ _. 0) },
+    ghost found: { found_of queues ≡ (λ _ _. 0) },
 }
 
 // Where a growth is refused, there is no room, and the same call is made again.
@@ -79,22 +78,16 @@ fn find(
     lock: LockId,
     mark: Mark,
     clock: &Clock,
-    work: &mut Work,
 ) -> Option<(ThreadId, u32)>
     requires own { mark.thread ≡ thread.0 }
     requires marked { 0 < mark.position }
     requires width { length clock.now ≡ queues.old.limits.threads }
     requires few { length (closed_of queues.old lock.0) ≤ 1 }
     requires found { found_of queues.old ≡ (λ _ _. 0) }
-    requires work { work.old.comparisons ≤ 100 }
-    ensures comparisons { work.new.comparisons ≤ work.old.comparisons + 2 }
-    ensures joins { work.new.joins ≡ work.old.joins }
-    ensures closed { closed_of queues.new ≡ closed_of queues.old }
-    ensures limits { queues.new.limits ≡ queues.old.limits }
 {
     assert!(rt; queues.ready(thread, lock));
     queues.enter(thread, lock, mark);
-    let below = queues.last_below(thread, lock, clock, work)?;
+    let below = queues.last_below(thread, lock, clock, &mut Work::new())?;
     Some((below.by(), below.own()))
 }
 
@@ -104,7 +97,6 @@ impl Sections {
         Sections {
             queues: Queues::new(alloc, &limits).expect(rt, "no memory is taken"),
             run: Run::new(rt, alloc),
-            is_searched: false,
         }
     }
 
@@ -131,8 +123,8 @@ impl Sections {
         assert!(rt; 0 < number);
         assert!(rt; number <= self.queues.count(lock));
         let section = self.queues.section(lock, number);
-        assert_eq!(rt; (section.by(), section.own()), (wanted.0, wanted.1));
-        assert_eq!(rt; section.counts_before(), wanted.2);
+        let found = (section.by(), section.own(), section.counts_before());
+        assert!(rt; found == wanted);
     }
 
     fn join_release(&mut self, rt: &impl Abort, lock: LockId, number: u32) {
@@ -142,30 +134,18 @@ impl Sections {
             .join_release(rt, &self.queues.section(lock, number));
     }
 
-    fn expect_found(
-        &mut self,
+    // What a release of the thread finds on the lock, by the clock of the other thread.
+    fn found(
+        mut self,
         rt: &impl Abort,
         thread: ThreadId,
         lock: LockId,
         other: ThreadId,
-        wanted: &Option<(ThreadId, u32)>,
-    ) {
+    ) -> Option<(ThreadId, u32)> {
         self.make_room(rt, thread, lock);
-        assert!(rt; !self.is_searched && self.run.calls < 99);
-        self.is_searched = true;
-        self.run.calls += 2;
-        let mark = self.run.latest(rt, thread);
-        let clock = self.run.clocks.hb(other);
-        let found = find(
-            rt,
-            &mut self.queues,
-            thread,
-            lock,
-            mark,
-            clock,
-            &mut self.run.work,
-        );
-        assert!(rt; found == *wanted);
+        let Sections { mut queues, run } = self;
+        let mark = run.latest(rt, thread);
+        find(rt, &mut queues, thread, lock, mark, run.clocks.hb(other))
     }
 
     fn follow(&mut self, rt: &impl Abort, row: &Row) {
@@ -176,9 +156,6 @@ impl Sections {
             Row::Section(lock, number, by, own, before) => {
                 self.expect_section(rt, *lock, *number, (*by, *own, before));
             }
-            Row::Finds(thread, lock, other, wanted) => {
-                self.expect_found(rt, *thread, *lock, *other, wanted);
-            }
             Row::Copy(thread) => self.run.copy(*thread),
             Row::JoinRelease(lock, number) => self.join_release(rt, *lock, *number),
             Row::Clock(wanted) => self.run.expect_beside(rt, wanted),
@@ -186,25 +163,26 @@ impl Sections {
     }
 }
 
-fn follow_all(rt: &impl Abort, alloc: Global, rows: &[Row]) {
+fn follow_all(rt: &impl Abort, alloc: Global, rows: &[Row]) -> Sections {
     let mut sections = Sections::new(rt, alloc);
     for row in rows {
         sections.follow(rt, row);
     }
-    drop(sections);
+    sections
 }
 
 #[test]
 fn a_release_is_one_more_than_the_numbers_before_it(rt: HostRuntime) {
-    follow_all(&rt, rt.alloc(), RELEASES);
+    drop(follow_all(&rt, rt.alloc(), RELEASES));
 }
 
 #[test]
 fn another_thread_finds_the_section(rt: HostRuntime) {
-    follow_all(&rt, rt.alloc(), TWO_THREADS);
+    let sections = follow_all(&rt, rt.alloc(), TWO_THREADS);
+    assert_eq!(rt; sections.found(&rt, T1, L, T0), Some((T0, 0)));
 }
 
 #[test]
 fn a_closed_section_is_found_by_its_number(rt: HostRuntime) {
-    follow_all(&rt, rt.alloc(), ONE_SECTION);
+    drop(follow_all(&rt, rt.alloc(), ONE_SECTION));
 }

@@ -17,7 +17,7 @@ mod cases;
 
 use cases::{
     CHILD, CROSSED_SECTIONS, EARLIER_RELEASE, INNER_RELEASES, Line, MAIN, OTHER,
-    RELEASES_OF_ONE_THREAD,
+    OVERLAPPING_SECTIONS, RELEASES_OF_ONE_THREAD,
 };
 use event_core::{Call, Event, Limits, Op, OutOfMemory, Roots, SiteId, ThreadId};
 use std::alloc::Global;
@@ -125,8 +125,8 @@ fn take(rt: &impl Abort, memory: &mut Memory, clocks: &mut WcpClocks, thread: Th
 fn expect_below(rt: &impl Abort, clocks: &WcpClocks, thread: ThreadId, wanted: [u64; 3])
     requires { width_of clocks.now ≡ 3 }
 {
-    assert_eq!(rt; numbers_below(clocks, thread), wanted);
-    assert_eq!(rt; clock_numbers(clocks, thread), wanted);
+    assert!(rt; numbers_below(clocks, thread) == wanted);
+    assert!(rt; clock_numbers(clocks, thread) == wanted);
 }
 
 // Takes the events in turn, and looks at the numbers after each. At the end so many events are below the last
@@ -159,6 +159,11 @@ fn rule_b_orders_the_releases_of_one_thread(rt: HostRuntime) {
 #[test]
 fn a_release_ends_the_section_of_its_own_lock(rt: HostRuntime) {
     follow(&rt, rt.alloc(), CROSSED_SECTIONS, MAIN, [8, 7, 0]);
+}
+
+#[test]
+fn rule_b_orders_the_releases_of_overlapping_sections(rt: HostRuntime) {
+    follow(&rt, rt.alloc(), OVERLAPPING_SECTIONS, CHILD, [7, 6, 0]);
 }
 
 #[test]

@@ -15,18 +15,17 @@
 use crate::closure::Closure;
 use crate::compared::compare;
 use crate::generator::Generator;
-use crate::judged::Judged;
 use crate::pairs::MOST_EVENTS;
 use crate::rules::Rules;
-use event_core::{Limits, Roots};
-use std::alloc::{AllocError, Global};
+use crate::told::{Told, Way, tell};
+use event_core::{Done, Limits, Op, Roots};
+use std::alloc::Global;
 use std::process::Abort;
-use std::test::Fail;
 
 const LOGS: usize = 500;
 
 // Each broken rule, and how many logs are judged otherwise by it.
-const BROKEN: &[(Rules, u64)] = &[
+const BROKEN: &[(Rules, u64); 6] = &[
     (Rules::WithoutB, 126),
     (Rules::BWithoutOwnThread, 55),
     (Rules::WithoutForkToJoin, 62),
@@ -35,63 +34,87 @@ const BROKEN: &[(Rules, u64)] = &[
     (Rules::AWithOwnThread, 66),
 ];
 
+// What the logs have.
+#[derive(Clone, Copy)]
+struct Tally {
+    forks: u64,
+    joins: u64,
+    swaps: u64,
+    // How many logs each of the broken rules judges otherwise.
+    changed: [u64; 6],
+}
+
+fn increase(count: &mut u64) {
+    *count = count.saturating_add(1);
+}
+
 // Draws a log. The closure judges it as the monitor does.
-fn draw(
-    rt: &impl Abort,
-    alloc: Global,
-    generator: &mut Generator,
-    number: usize,
-) -> Result<Judged, Fail> {
-    let limits = Limits::new(3, 2, 2, MOST_EVENTS as u64, Roots::Free)?;
-    let acts = generator.acts(alloc)?;
-    let judged = Judged::of(alloc, &limits, &acts)?;
-    compare(rt, alloc, &judged.log, &judged.verdicts, number)?;
-    Ok(judged)
+fn draw(rt: &impl Abort, alloc: Global, generator: &mut Generator, number: usize) -> Told {
+    let limits = Limits::new(3, 2, 2, MOST_EVENTS as u64, Roots::Free).expect(rt, "small limits");
+    let acts = generator.acts(rt, alloc);
+    let told = tell(rt, alloc, &limits, &acts, Way::Steps(u64::MAX));
+    compare(rt, alloc, &told, number);
+    told
 }
 
-// Whether some event is judged otherwise by these rules.
-fn is_changed(alloc: Global, judged: &Judged, rules: Rules) -> Result<bool, AllocError> {
-    let closure = Closure::of(alloc, &judged.log, rules)?;
-    let mut verdicts = judged.verdicts.iter().enumerate();
-    Ok(verdicts.any(|(index, verdict)| closure.verdict(&judged.log, index) != *verdict))
-}
-
-// How many logs are judged otherwise by these rules.
-fn count_changed(alloc: Global, logs: &[Judged], rules: Rules) -> Result<u64, AllocError> {
-    let mut count: u64 = 0;
-    for judged in logs {
-        if is_changed(alloc, judged, rules)? {
-            count = count.saturating_add(1);
+impl Tally {
+    fn add_kinds(&mut self, told: &Told) {
+        for done in &told.answers {
+            if let Done::Swap(_) = done {
+                increase(&mut self.swaps);
+            }
+        }
+        for event in &told.log {
+            match event.op {
+                Op::Fork(_) => increase(&mut self.forks),
+                Op::Join(_) => increase(&mut self.joins),
+                _ => {}
+            }
         }
     }
-    Ok(count)
+
+    fn expect_kinds(&self, rt: &impl Abort, forks: u64, joins: u64, swaps: u64) {
+        let has_so_many = self.forks == forks && self.joins == joins && self.swaps == swaps;
+        assert!(rt;
+            has_so_many,
+            "{} forks, {} joins, {} swaps",
+            self.forks, self.joins, self.swaps
+        );
+    }
+
+    fn add_changed(&mut self, rt: &impl Abort, alloc: Global, told: &Told) {
+        for (changed, (rules, _)) in self.changed.iter_mut().zip(BROKEN) {
+            let closure = Closure::of(rt, alloc, &told.log, *rules);
+            let difference = closure.first_difference(&told.log, &told.verdicts);
+            if difference.is_some() {
+                increase(changed);
+            }
+        }
+    }
 }
 
-// All logs together have so many forks, joins and swaps.
-fn expect_kinds(rt: &impl Abort, logs: &[Judged]) {
-    let mut forks: usize = 0;
-    let mut joins: usize = 0;
-    let mut swaps: usize = 0;
-    for judged in logs {
-        forks = forks.saturating_add(judged.forks());
-        joins = joins.saturating_add(judged.joins());
-        swaps = swaps.saturating_add(judged.swaps);
+fn count_all(rt: &impl Abort, alloc: Global) -> Tally {
+    let mut generator = Generator::new(2017);
+    let mut tally = Tally {
+        forks: 0,
+        joins: 0,
+        swaps: 0,
+        changed: [0; 6],
+    };
+    for number in 0..LOGS {
+        let told = draw(rt, alloc, &mut generator, number);
+        tally.add_kinds(&told);
+        tally.add_changed(rt, alloc, &told);
+        drop(told);
     }
-    let is_so = forks == 97 && joins == 321 && swaps == 794;
-    assert!(rt; is_so, "{forks} forks, {joins} joins, {swaps} swaps");
+    tally
 }
 
 #[test]
-fn each_broken_rule_changes_verdicts(rt: HostRuntime) -> Result<(), Fail> {
-    let mut generator = Generator::new(2017);
-    let mut logs = Vec::new(rt.alloc());
-    for number in 0..LOGS {
-        logs.push(draw(&rt, rt.alloc(), &mut generator, number)?)?;
+fn each_broken_rule_changes_verdicts(rt: HostRuntime) {
+    let tally = count_all(&rt, rt.alloc());
+    tally.expect_kinds(&rt, 97, 321, 794);
+    for (changed, (rules, expected)) in tally.changed.iter().zip(BROKEN) {
+        assert!(rt; changed == expected, "{rules:?}: {changed}");
     }
-    expect_kinds(&rt, &logs);
-    for (rules, expected) in BROKEN {
-        let changed = count_changed(rt.alloc(), &logs, *rules)?;
-        assert!(rt; changed == *expected, "{rules:?}: {changed}");
-    }
-    Ok(())
 }

@@ -1,5 +1,7 @@
-//! Calls and what becomes of them, as tables have them.
-use event_core::{Call, LockId, Op, Outcome, Refusal, Reply, SiteId, ThreadId, VarId, Verdict};
+//! Calls, and what becomes of acts, as tables have them.
+use event_core::{
+    Call, Done, LockId, Op, Refusal, Reply, SiteId, SwapReply, ThreadId, VarId, Verdict,
+};
 
 pub const T0: ThreadId = ThreadId(0);
 
@@ -31,32 +33,48 @@ pub fn call(thread: ThreadId, op: Op, value: u64) -> Call {
     }
 }
 
-/// What becomes of a call.
+/// What becomes of an act.
 #[derive(Clone, Copy)]
 pub enum Answer {
-    /// It is accepted: the index and the value of its event, which has no race.
+    /// A call is accepted: the index and the value of its event, which has no race.
     Clear(u64, u64),
-    /// It is accepted: the index and the value of its event, and the index of the earlier one that it races
-    /// with.
+    /// A call is accepted: the index and the value of its event, and the index of the earlier one that it
+    /// races with.
     Racy(u64, u64, u64),
+    /// A swap is accepted: the index and the value of its load, and the indices of the earlier events that
+    /// its load and its store race with.
+    Swapped(u64, u64, Option<u64>, Option<u64>),
     Refused(Refusal),
 }
 
-fn accepted(index: u64, value: u64, verdict: Verdict) -> Outcome {
-    Outcome::Accepted(Reply {
+fn verdict(with: Option<u64>) -> Verdict {
+    match with {
+        Some(earlier) => Verdict::Racy(earlier),
+        None => Verdict::Clear,
+    }
+}
+
+fn one(index: u64, value: u64, with: Option<u64>) -> Done {
+    Done::One(Reply {
         index,
         value,
-        verdict,
+        verdict: verdict(with),
     })
 }
 
 impl Answer {
-    /// The outcome that a monitor answers.
-    pub fn outcome(&self) -> Outcome {
-        match *self {
-            Answer::Clear(index, value) => accepted(index, value, Verdict::Clear),
-            Answer::Racy(index, value, with) => accepted(index, value, Verdict::Racy(with)),
-            Answer::Refused(refusal) => Outcome::Refused(refusal),
+    /// What a monitor answers.
+    pub fn done(self) -> Done {
+        match self {
+            Answer::Clear(index, value) => one(index, value, None),
+            Answer::Racy(index, value, with) => one(index, value, Some(with)),
+            Answer::Swapped(index, value, load, store) => Done::Swap(SwapReply {
+                index,
+                value,
+                load: verdict(load),
+                store: verdict(store),
+            }),
+            Answer::Refused(refusal) => Done::Refused(refusal),
         }
     }
 }

@@ -4,7 +4,8 @@ use crate::pairs::{MOST_EVENTS, MOST_PAIRS, Pairs};
 use crate::rules::Rules;
 use crate::sections::{Section, sections};
 use event_core::{Event, Op, VarId, Verdict};
-use std::alloc::{AllocError, Global};
+use std::alloc::Global;
+use std::process::Abort;
 
 /// The relations of a log of at most `MOST_EVENTS` events.
 #[derive(Clone, Copy)]
@@ -37,16 +38,21 @@ fn conflict(one: &Event, other: &Event) -> bool {
 
 // Whether an event of the section conflicts with the access.
 fn has_conflict(log: &[Event], section: &Section, access: &Event, rules: Rules) -> bool {
-    let may_conflict = section.thread != access.thread || rules.has_own_conflicts();
-    let mut events = log.iter().enumerate();
-    may_conflict
-        && events.any(|(index, event)| section.has(event.thread, index) && touch(event, access))
+    if section.thread == access.thread && !rules.has_own_conflicts() {
+        return false;
+    }
+    for (index, event) in log.iter().enumerate() {
+        if section.has(event.thread, index) && touch(event, access) {
+            return true;
+        }
+    }
+    false
 }
 
 impl Closure {
     /// Closes the relations of the log.
-    pub fn of(alloc: Global, log: &[Event], rules: Rules) -> Result<Closure, AllocError> {
-        let sections = sections(alloc, log)?;
+    pub fn of(rt: &impl Abort, alloc: Global, log: &[Event], rules: Rules) -> Closure {
+        let sections = sections(rt, alloc, log);
         let program_order = program_order(log, rules);
         let mut closure = Closure {
             program_order,
@@ -60,7 +66,7 @@ impl Closure {
                 break;
             }
         }
-        Ok(closure)
+        closure
     }
 
     // Rule (a): a release is below a later access inside a section on its lock, where the release's own
@@ -107,12 +113,17 @@ impl Closure {
 
     // Whether an event of the one section is strictly below an event of the other.
     fn is_below(&self, log: &[Event], one: &Section, other: &Section) -> bool {
-        log.iter().enumerate().any(|(first, earlier)| {
-            one.has(earlier.thread, first)
-                && log.iter().enumerate().any(|(second, later)| {
-                    other.has(later.thread, second) && self.strict.contains(first, second)
-                })
-        })
+        for (first, earlier) in log.iter().enumerate() {
+            for (second, later) in log.iter().enumerate() {
+                if self.strict.contains(first, second)
+                    && one.has(earlier.thread, first)
+                    && other.has(later.thread, second)
+                {
+                    return true;
+                }
+            }
+        }
+        false
     }
 
     // Orders the two events and, by rule (c), each that happens before the first and each that happens after
@@ -129,23 +140,32 @@ impl Closure {
         true
     }
 
-    /// Whether the first event is strictly below the second, or below it by program order.
-    pub fn is_ordered(&self, first: usize, second: usize) -> bool {
+    // Whether the first event is strictly below the second, or below it by program order.
+    fn is_ordered(&self, first: usize, second: usize) -> bool {
         self.strict.contains(first, second) || self.program_order.contains(first, second)
     }
 
-    /// The verdict on the event at the index: the greatest earlier index of a conflicting event that is not
-    /// ordered before it.
-    pub fn verdict(&self, log: &[Event], index: usize) -> Verdict {
+    // The verdict on the event at the index: the greatest earlier index of a conflicting event that is not
+    // ordered before it.
+    fn verdict(&self, log: &[Event], index: usize) -> Verdict {
         let mut verdict = Verdict::Clear;
-        for (earlier, event) in log.iter().enumerate() {
-            if earlier < index
-                && log.get(index).is_some_and(|access| conflict(event, access))
-                && !self.is_ordered(earlier, index)
-            {
-                verdict = Verdict::Racy(earlier as u64);
+        if let Some(access) = log.get(index) {
+            for (earlier, event) in log[..index].iter().enumerate() {
+                if conflict(event, access) && !self.is_ordered(earlier, index) {
+                    verdict = Verdict::Racy(earlier as u64);
+                }
             }
         }
         verdict
+    }
+
+    /// The index of the first event on which it has another verdict than these.
+    pub fn first_difference(&self, log: &[Event], verdicts: &[Verdict]) -> Option<usize> {
+        for (index, verdict) in verdicts.iter().enumerate() {
+            if self.verdict(log, index) != *verdict {
+                return Some(index);
+            }
+        }
+        None
     }
 }

@@ -5,7 +5,8 @@ use crate::calls::call;
 use crate::templates::{Cast, LOCKS, TEMPLATES, THREADS, VARS, template};
 use crate::told::add;
 use event_core::{Act, Call, LockId, Op, SiteId, ThreadId, VarId};
-use std::alloc::{AllocError, Global};
+use std::alloc::Global;
+use std::process::Abort;
 
 // How many acts there are after a template. A monitor refuses most of them.
 const TAIL: u32 = 64;
@@ -56,12 +57,12 @@ impl Generator {
     }
 
     /// So many calls.
-    pub fn calls(&mut self, alloc: Global, count: u32) -> Result<Vec<Call>, AllocError> {
-        let mut calls = Vec::new(alloc);
+    pub fn calls(&mut self, rt: &impl Abort, alloc: Global, count: u32) -> Vec<Act> {
+        let mut acts = Vec::new(alloc);
         for _call in 0..count {
-            add(&mut calls, self.call())?;
+            add(rt, &mut acts, Act::One(self.call()));
         }
-        Ok(calls)
+        acts
     }
 
     // A call, or a swap in place of some of the stores.
@@ -86,18 +87,18 @@ impl Generator {
 
     /// The acts of one of the templates, before each of them perhaps another, and a tail of others. Any
     /// threads, locks and variables stand for those of the template.
-    pub fn acts(&mut self, alloc: Global) -> Result<Vec<Act>, AllocError> {
+    pub fn acts(&mut self, rt: &impl Abort, alloc: Global) -> Vec<Act> {
         let mut acts = Vec::new(alloc);
         let cast = Cast::new(self.below(THREADS), self.below(LOCKS), self.below(VARS));
         for (thread, op) in template(self.below(TEMPLATES)) {
             if self.below(4) == 0 {
-                add(&mut acts, self.any_act())?;
+                add(rt, &mut acts, self.any_act());
             }
-            add(&mut acts, self.act(cast.thread(*thread), cast.op(*op)))?;
+            add(rt, &mut acts, self.act(cast.thread(*thread), cast.op(*op)));
         }
         for _act in 0..TAIL {
-            add(&mut acts, self.any_act())?;
+            add(rt, &mut acts, self.any_act());
         }
-        Ok(acts)
+        acts
     }
 }

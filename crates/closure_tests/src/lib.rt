@@ -13,13 +13,13 @@ mod broken_rules;
 #[cfg(test)]
 mod calls;
 #[cfg(test)]
+mod cases;
+#[cfg(test)]
 mod closure;
 #[cfg(test)]
 mod compared;
 #[cfg(test)]
 mod generator;
-#[cfg(test)]
-mod judged;
 #[cfg(test)]
 mod orders;
 #[cfg(test)]

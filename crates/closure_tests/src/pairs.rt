@@ -55,8 +55,8 @@ impl Pairs {
     /// The pairs that are not in the other set.
     pub fn without(&self, other: &Pairs) -> Pairs {
         let mut left = *self;
-        for (row, more) in left.rows.iter_mut().zip(&other.rows) {
-            *row &= !*more;
+        for first in 0..MOST_EVENTS {
+            left.rows[first] &= !other.rows[first];
         }
         left
     }

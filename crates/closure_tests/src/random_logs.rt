@@ -4,10 +4,9 @@ use crate::compared::compare;
 use crate::generator::Generator;
 use crate::sections::is_inner_acquire;
 use crate::told::{Way, tell};
-use event_core::{Call, Event, Limits, Roots, Verdict};
+use event_core::{Act, Event, Limits, Roots, Verdict};
 use std::alloc::Global;
 use std::process::Abort;
-use std::test::Fail;
 
 const LOGS: usize = 500;
 
@@ -79,32 +78,31 @@ impl Occurrences {
     }
 }
 
-// Compares the verdicts on the log that the calls make, and adds what occurs in it.
+// Compares the verdicts on the log that the acts make, and adds what occurs in it.
 fn compare_log(
     rt: &impl Abort,
     alloc: Global,
-    calls: &[Call],
+    acts: &[Act],
     number: usize,
     occurred: &mut Occurrences,
-) -> Result<(), Fail> {
-    let limits = Limits::new(3, 4, 3, 64, Roots::Free)?;
-    let told = tell(rt, alloc, &limits, calls, Way::Steps(EVENTS))?;
-    let closure = compare(rt, alloc, &told.log, &told.verdicts, number)?;
+) {
+    let limits = Limits::new(3, 4, 3, 64, Roots::Free).expect(rt, "small limits");
+    let told = tell(rt, alloc, &limits, acts, Way::Steps(EVENTS));
+    let closure = compare(rt, alloc, &told, number);
     occurred.add_pairs(&closure);
     occurred.add_verdicts(&told.verdicts);
     occurred.add_events(&told.log);
-    Ok(())
 }
 
 #[test]
-fn the_monitor_and_the_closure_judge_alike(rt: HostRuntime) -> Result<(), Fail> {
+fn the_monitor_and_the_closure_judge_alike(rt: HostRuntime) {
     let mut generator = Generator::new(204);
     let mut occurred = Occurrences::new();
     for number in 0..LOGS {
-        let calls = generator.calls(rt.alloc(), CALLS)?;
-        compare_log(&rt, rt.alloc(), &calls, number, &mut occurred)?;
+        let acts = generator.calls(&rt, rt.alloc(), CALLS);
+        compare_log(&rt, rt.alloc(), &acts, number, &mut occurred);
+        drop(acts);
     }
-    assert!(rt; occurred.events == EVENTS * LOGS as u64, "in {occurred:?}");
-    assert!(rt; occurred.has_each_kind(), "in {occurred:?}");
-    Ok(())
+    let is_whole = occurred.events == EVENTS * LOGS as u64;
+    assert!(rt; is_whole && occurred.has_each_kind(), "in {occurred:?}");
 }

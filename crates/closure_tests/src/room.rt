@@ -1,8 +1,8 @@
 //! Calls after memory was refused.
-use crate::calls::{L, M, T0, T1, X, Y, call};
+use crate::calls::{Answer, L, M, T0, T1, X, Y, call};
 use crate::told::step_once;
 use event_core::Op::{Acquire, Fork, Load, Release, Store};
-use event_core::{Limits, Op, Outcome, Refusal, Reply, Roots, ThreadId, Verdict};
+use event_core::{Done, Limits, Op, Refusal, Roots, ThreadId};
 use seq_monitor::Monitor;
 use std::process::Abort;
 use std::test::Fail;
@@ -24,13 +24,11 @@ const LINES: &[(ThreadId, Op)] = &[
     (T1, Load(Y)),
 ];
 
-// What the call at the index is answered where no call before it was refused.
-fn accepted(index: u64) -> Outcome {
-    Outcome::Accepted(Reply {
-        index,
-        value: 0,
-        verdict: Verdict::Clear,
-    })
+// The call at the index is accepted. Where there is no room, it may be refused, but not for memory.
+fn expect(rt: &impl Abort, done: Done, index: u64, is_short: bool) {
+    let is_told = done == Answer::Clear(index, 0).done()
+        || is_short && done != Done::Refused(Refusal::OutOfMemory);
+    assert!(rt; is_told, "{index}: {done:?}");
 }
 
 // Makes room for each call but a release, and then the call at the first try. Once there is no room, releases
@@ -42,13 +40,7 @@ fn make(rt: &impl Abort, monitor: &mut Monitor) {
         let is_release = matches!(op, Release(_));
         is_short = is_short || !is_release && monitor.prepare(&call).is_err();
         if is_release || !is_short {
-            let outcome = step_once(monitor, call);
-            let is_told = outcome == accepted(index) || is_short;
-            assert!(rt; is_told, "{index}: {outcome:?}");
-            assert!(rt;
-                outcome != Outcome::Refused(Refusal::OutOfMemory),
-                "{index}"
-            );
+            expect(rt, step_once(monitor, call), index, is_short);
         }
     }
 }

@@ -1,6 +1,8 @@
 //! Critical sections.
+use crate::told::add;
 use event_core::{Event, LockId, Op, ThreadId};
-use std::alloc::{AllocError, Global};
+use std::alloc::Global;
+use std::process::Abort;
 
 /// A critical section: what its thread does from an outer acquire of the lock to the outer release that
 /// matches it, or to the end of the log where there is none yet.
@@ -15,23 +17,22 @@ pub struct Section {
 impl Section {
     /// Whether an event of the thread at that index is inside.
     pub fn has(&self, thread: ThreadId, index: usize) -> bool {
-        thread == self.thread
-            && self.acquire <= index
-            && self.release.is_none_or(|release| index <= release)
+        let is_after_release = matches!(self.release, Some(release) if release < index);
+        thread == self.thread && self.acquire <= index && !is_after_release
     }
 }
 
 // How many acquires of the lock by the thread have no release yet.
 fn depth(log: &[Event], thread: ThreadId, lock: LockId) -> usize {
-    let acquires = log
-        .iter()
-        .filter(|event| event.thread == thread && event.op == Op::Acquire(lock))
-        .count();
-    let releases = log
-        .iter()
-        .filter(|event| event.thread == thread && event.op == Op::Release(lock))
-        .count();
-    acquires.saturating_sub(releases)
+    let mut depth: usize = 0;
+    for event in log {
+        if event.thread == thread && event.op == Op::Acquire(lock) {
+            depth = depth.saturating_add(1);
+        } else if event.thread == thread && event.op == Op::Release(lock) {
+            depth = depth.saturating_sub(1);
+        }
+    }
+    depth
 }
 
 /// Whether the event acquires a lock that its thread holds already after the log.
@@ -52,18 +53,19 @@ fn end(sections: &mut [Section], thread: ThreadId, lock: LockId, index: usize) {
 }
 
 /// All sections of the log, in the order of their acquires.
-pub fn sections(alloc: Global, log: &[Event]) -> Result<Vec<Section>, AllocError> {
+pub fn sections(rt: &impl Abort, alloc: Global, log: &[Event]) -> Vec<Section> {
     let mut sections = Vec::new(alloc);
     for (index, event) in log.iter().enumerate() {
         let thread = event.thread;
         match event.op {
             Op::Acquire(lock) if depth(&log[..index], thread, lock) == 0 => {
-                sections.push(Section {
+                let section = Section {
                     thread,
                     lock,
                     acquire: index,
                     release: None,
-                })?;
+                };
+                add(rt, &mut sections, section);
             }
             Op::Release(lock) if depth(&log[..index], thread, lock) == 1 => {
                 end(&mut sections, thread, lock, index);
@@ -71,5 +73,5 @@ pub fn sections(alloc: Global, log: &[Event]) -> Result<Vec<Section>, AllocError
             _ => {}
         }
     }
-    Ok(sections)
+    sections
 }

@@ -1,15 +1,13 @@
-//! Worked cases: calls of a monitor, and what becomes of each, by `step` and by `run`.
+//! Worked cases: calls of a monitor, and what becomes of each, by `step`, by `run` and by `run_acts`.
 use crate::calls::Answer::{self, Clear, Racy, Refused};
-use crate::calls::{L, M, T0, T1, T2, X, Y, call};
-use crate::told::{Told, Way, add, tell};
+use crate::calls::{L, M, T0, T1, T2, X, Y};
+use crate::cases::{CALLS, Lines, Worked};
 use event_core::Op::{self, Acquire, Fork, Load, Release, Store};
 use event_core::Refusal::{
     AlreadyStarted, LogFull, NotHolder, NotStarted, SelfTarget, TargetRange, ThreadRange,
 };
-use event_core::{Call, Limits, LockId, Roots, ThreadId, VarId};
-use std::alloc::{AllocError, Global};
-use std::process::Abort;
-use std::test::Fail;
+use event_core::{Limits, LockId, Roots, ThreadId, VarId};
+use seq_monitor::Race;
 
 // A thread, what it does, the value of a store, and what becomes of the call.
 type Line = (ThreadId, Op, u64, Answer);
@@ -23,8 +21,7 @@ struct Case {
     lines: &'static [Line],
     // How many events the log has then.
     events: usize,
-    // The index of each event that races, and that of the earlier one that it races with.
-    races: &'static [(u64, u64)],
+    races: &'static [Race],
 }
 
 const CASES: &[Case] = &[
@@ -121,7 +118,7 @@ const CASES: &[Case] = &[
             (T1, Load(Y), 0, Racy(10, 4, 5)),
         ],
         events: 11,
-        races: &[(10, 5)],
+        races: &[Race { event: 10, with: 5 }],
     },
     Case {
         name: "each call of a run has its outcome",
@@ -135,7 +132,7 @@ const CASES: &[Case] = &[
             (T1, Store(X), 8, Racy(2, 8, 1)),
         ],
         events: 3,
-        races: &[(2, 1)],
+        races: &[Race { event: 2, with: 1 }],
     },
     Case {
         name: "the greatest numbers are within the limits",
@@ -191,57 +188,22 @@ const CASES: &[Case] = &[
     },
 ];
 
-fn calls(alloc: Global, lines: &[Line]) -> Result<Vec<Call>, AllocError> {
-    let mut calls = Vec::new(alloc);
-    for (thread, op, value, _answer) in lines {
-        add(&mut calls, call(*thread, *op, *value))?;
-    }
-    Ok(calls)
-}
-
-// The monitor answered and holds what the case says.
-fn expect(rt: &impl Abort, case: &Case, told: &Told) {
-    assert!(rt; told.outcomes.len() == case.lines.len(), "{}", case.name);
-    for (outcome, (_, _, _, answer)) in told.outcomes.iter().zip(case.lines) {
-        assert!(rt; *outcome == answer.outcome(), "{}: {outcome:?}", case.name);
-    }
-    assert!(rt; told.log.len() == case.events, "{}", case.name);
-    assert!(rt; told.races.len() == case.races.len(), "{}", case.name);
-    for (race, (event, with)) in told.races.iter().zip(case.races) {
-        assert!(rt;
-            race.event == *event && race.with == *with,
-            "{}: {race:?}",
-            case.name
-        );
-    }
-}
-
-// So it is by the one way.
-fn expect_by(
-    rt: &impl Abort,
-    alloc: Global,
-    case: &Case,
-    calls: &[Call],
-    way: Way,
-) -> Result<(), Fail> {
-    let limits = Limits::new(
-        case.threads,
-        case.names,
-        case.names,
-        case.most_events,
-        Roots::OnlyMain,
-    )?;
-    let told = tell(rt, alloc, &limits, calls, way)?;
-    expect(rt, case, &told);
-    Ok(())
-}
-
 #[test]
-fn each_call_has_its_outcome(rt: HostRuntime) -> Result<(), Fail> {
-    for case in CASES {
-        let calls = calls(rt.alloc(), case.lines)?;
-        expect_by(&rt, rt.alloc(), case, &calls, Way::Steps(u64::MAX))?;
-        expect_by(&rt, rt.alloc(), case, &calls, Way::Run)?;
+fn each_call_has_its_outcome(rt: HostRuntime) {
+    for (number, case) in CASES.iter().enumerate() {
+        let worked = Worked {
+            name: case.name,
+            limits: Limits::new(
+                case.threads,
+                case.names,
+                case.names,
+                case.most_events,
+                Roots::OnlyMain,
+            ),
+            lines: Lines::Calls(case.lines),
+            events: case.events,
+            races: case.races,
+        };
+        worked.expect(&rt, rt.alloc(), CALLS, number);
     }
-    Ok(())
 }

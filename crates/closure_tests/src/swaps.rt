@@ -1,42 +1,20 @@
 //! Worked cases: swaps, and what each is answered, one by one and by `run_acts`.
-//!
-//! What is refused memory once is asked for once more.
-use crate::calls::{T0, T1, X, call};
-use crate::judged::take;
-use crate::told::{add, monitor};
-use event_core::Op::{self, Fork, Load};
-use event_core::Refusal::{self, LogFull};
-use event_core::Verdict::{self, Clear, Racy};
-use event_core::{Act, Done, Limits, Reply, Roots, SiteId, SwapReply, ThreadId, VarId};
-use seq_monitor::Monitor;
-use std::alloc::{AllocError, Global};
-use std::process::Abort;
-use std::test::Fail;
-
-// What a thread does.
-#[derive(Clone, Copy)]
-enum Deed {
-    // A call with no value.
-    One(Op),
-    // A swap that puts in the value.
-    Swap(VarId, u64),
-}
-
-// What it is answered.
-#[derive(Clone, Copy)]
-enum Answer {
-    One(u64, u64, Verdict),
-    // The index and the value of the load, its verdict and that of the store.
-    Swapped(u64, u64, Verdict, Verdict),
-    Refused(Refusal),
-}
+use crate::calls::Answer::{self, Clear, Racy, Refused, Swapped};
+use crate::calls::{T0, T1, X};
+use crate::cases::Deed::{self, One, Swap};
+use crate::cases::{ACTS, Lines, Worked};
+use event_core::Op::{Fork, Load};
+use event_core::Refusal::LogFull;
+use event_core::{Limits, Roots, ThreadId};
+use seq_monitor::Race;
 
 struct Case {
     name: &'static str,
     most_events: u64,
     lines: &'static [(ThreadId, Deed, Answer)],
     // How many events the log has then.
-    events: u64,
+    events: usize,
+    races: &'static [Race],
 }
 
 const CASES: &[Case] = &[
@@ -44,149 +22,60 @@ const CASES: &[Case] = &[
         name: "a swap is a load and a store",
         most_events: 5,
         lines: &[
-            (T0, Deed::One(Fork(T1)), Answer::One(0, 0, Clear)),
-            (T1, Deed::Swap(X, 4), Answer::Swapped(1, 0, Clear, Clear)),
-            (
-                T0,
-                Deed::Swap(X, 5),
-                Answer::Swapped(3, 4, Racy(2), Racy(2)),
-            ),
-            (T0, Deed::Swap(X, 6), Answer::Refused(LogFull)),
+            (T0, One(Fork(T1)), Clear(0, 0)),
+            (T1, Swap(X, 4), Swapped(1, 0, None, None)),
+            (T0, Swap(X, 5), Swapped(3, 4, Some(2), Some(2))),
+            (T0, Swap(X, 6), Refused(LogFull)),
         ],
         events: 5,
+        races: &[Race { event: 3, with: 2 }, Race { event: 4, with: 2 }],
     },
     Case {
         name: "a swap that is refused adds neither event",
         most_events: 4,
         lines: &[
-            (T0, Deed::One(Fork(T1)), Answer::One(0, 0, Clear)),
-            (T1, Deed::Swap(X, 4), Answer::Swapped(1, 0, Clear, Clear)),
-            (T0, Deed::Swap(X, 5), Answer::Refused(LogFull)),
+            (T0, One(Fork(T1)), Clear(0, 0)),
+            (T1, Swap(X, 4), Swapped(1, 0, None, None)),
+            (T0, Swap(X, 5), Refused(LogFull)),
         ],
         events: 3,
+        races: &[],
     },
     Case {
         name: "after it a call takes the next index",
         most_events: 4,
         lines: &[
-            (T0, Deed::One(Fork(T1)), Answer::One(0, 0, Clear)),
-            (T1, Deed::Swap(X, 4), Answer::Swapped(1, 0, Clear, Clear)),
-            (T0, Deed::Swap(X, 5), Answer::Refused(LogFull)),
-            (T0, Deed::One(Load(X)), Answer::One(3, 4, Racy(2))),
+            (T0, One(Fork(T1)), Clear(0, 0)),
+            (T1, Swap(X, 4), Swapped(1, 0, None, None)),
+            (T0, Swap(X, 5), Refused(LogFull)),
+            (T0, One(Load(X)), Racy(3, 4, 2)),
         ],
         events: 4,
+        races: &[Race { event: 3, with: 2 }],
     },
     Case {
         name: "the events of a swap have a verdict each",
         most_events: 9,
         lines: &[
-            (T0, Deed::One(Fork(T1)), Answer::One(0, 0, Clear)),
-            (T1, Deed::One(Load(X)), Answer::One(1, 0, Clear)),
-            (T0, Deed::Swap(X, 5), Answer::Swapped(2, 0, Clear, Racy(1))),
+            (T0, One(Fork(T1)), Clear(0, 0)),
+            (T1, One(Load(X)), Clear(1, 0)),
+            (T0, Swap(X, 5), Swapped(2, 0, None, Some(1))),
         ],
         events: 4,
+        races: &[Race { event: 3, with: 1 }],
     },
 ];
 
-fn act(thread: ThreadId, deed: Deed) -> Act {
-    match deed {
-        Deed::One(op) => Act::One(call(thread, op, 0)),
-        Deed::Swap(var, arg) => Act::Swap {
-            thread,
-            var,
-            site: SiteId(0),
-            arg,
-        },
-    }
-}
-
-fn done(answer: Answer) -> Done {
-    match answer {
-        Answer::One(index, value, verdict) => Done::One(Reply {
-            index,
-            value,
-            verdict,
-        }),
-        Answer::Swapped(index, value, load, store) => Done::Swap(SwapReply {
-            index,
-            value,
-            load,
-            store,
-        }),
-        Answer::Refused(refusal) => Done::Refused(refusal),
-    }
-}
-
-// Makes the acts one by one.
-fn take_each(
-    monitor: &mut Monitor,
-    acts: &[Act],
-    answers: &mut Vec<Done>,
-) -> Result<(), AllocError> {
-    for act in acts {
-        add(answers, take(monitor, *act))?;
-    }
-    Ok(())
-}
-
-// Makes them as one run. Begins again where it stopped.
-fn run(monitor: &mut Monitor, acts: &[Act], answers: &mut Vec<Done>) -> Result<(), AllocError> {
-    for _ in 0..2 {
-        let done = answers.len();
-        if done < acts.len() {
-            let _stopped = monitor.run_acts(&acts[done..], answers);
-        }
-    }
-    Ok(())
-}
-
-// What a new monitor answers to the acts, and how many events its log has then.
-fn tell(
-    alloc: Global,
-    most_events: u64,
-    acts: &[Act],
-    is_run: bool,
-    answers: &mut Vec<Done>,
-) -> Result<u64, Fail> {
-    let limits = Limits::new(2, 1, 1, most_events, Roots::OnlyMain)?;
-    let mut monitor = monitor(alloc, &limits)?;
-    let taken = if is_run {
-        run(&mut monitor, acts, answers)
-    } else {
-        take_each(&mut monitor, acts, answers)
-    };
-    let events = monitor.log().len();
-    drop(monitor);
-    taken?;
-    Ok(events)
-}
-
-fn expect(
-    rt: &impl Abort,
-    alloc: Global,
-    case: &Case,
-    acts: &[Act],
-    is_run: bool,
-) -> Result<(), Fail> {
-    let mut answers = Vec::new(alloc);
-    let events = tell(alloc, case.most_events, acts, is_run, &mut answers)?;
-    assert!(rt; events == case.events, "{}", case.name);
-    assert!(rt; answers.len() == case.lines.len(), "{}", case.name);
-    for (found, (_, _, wanted)) in answers.iter().zip(case.lines) {
-        assert!(rt; *found == done(*wanted), "{}: {found:?}", case.name);
-    }
-    Ok(())
-}
-
 #[test]
-fn each_swap_is_answered(rt: HostRuntime) -> Result<(), Fail> {
-    for case in CASES {
-        let mut acts = Vec::new(rt.alloc());
-        for (thread, deed, _answer) in case.lines {
-            add(&mut acts, act(*thread, *deed))?;
-        }
-        expect(&rt, rt.alloc(), case, &acts, false)?;
-        expect(&rt, rt.alloc(), case, &acts, true)?;
+fn each_swap_is_answered(rt: HostRuntime) {
+    for (number, case) in CASES.iter().enumerate() {
+        let worked = Worked {
+            name: case.name,
+            limits: Limits::new(2, 1, 1, case.most_events, Roots::OnlyMain),
+            lines: Lines::Deeds(case.lines),
+            events: case.events,
+            races: case.races,
+        };
+        worked.expect(&rt, rt.alloc(), ACTS, number);
     }
-    Ok(())
 }

@@ -1,26 +1,23 @@
 //! Worked logs, each with all its races: the index of an event and that of the event that it races with.
-use crate::calls::{K, L, M, N, T0, T1, T2, X, Y, Z, call};
-use crate::compared::compare;
-use crate::told::{Told, Way, add, tell};
+use crate::calls::{K, L, M, N, T0, T1, T2, X, Y, Z};
+use crate::cases::{CALLS, Lines, Worked};
 use event_core::Op::{self, Acquire, Fork, Join, Load, Release, Store};
-use event_core::{Limits, Outcome, Reply, Roots, ThreadId, Verdict};
-use std::alloc::Global;
-use std::process::Abort;
-use std::test::Fail;
+use event_core::{Limits, Roots, ThreadId};
+use seq_monitor::Race;
 
-struct Worked {
+struct Case {
     name: &'static str,
     log: &'static [(ThreadId, Op)],
-    races: &'static [(usize, u64)],
+    races: &'static [Race],
 }
 
-const LOGS: &[Worked] = &[
-    Worked {
+const LOGS: &[Case] = &[
+    Case {
         name: "a fork does not cover a store after it",
         log: &[(T0, Fork(T1)), (T0, Store(X)), (T1, Store(X))],
-        races: &[(2, 1)],
+        races: &[Race { event: 2, with: 1 }],
     },
-    Worked {
+    Case {
         name: "a release is below a conflicting access in a later section",
         log: &[
             (T0, Fork(T1)),
@@ -32,7 +29,7 @@ const LOGS: &[Worked] = &[
         ],
         races: &[],
     },
-    Worked {
+    Case {
         name: "sections without a conflict order nothing",
         log: &[
             (T0, Fork(T1)),
@@ -44,9 +41,9 @@ const LOGS: &[Worked] = &[
             (T1, Release(L)),
             (T1, Load(Y)),
         ],
-        races: &[(7, 1)],
+        races: &[Race { event: 7, with: 1 }],
     },
-    Worked {
+    Case {
         name: "sections with a conflict order what surrounds them",
         log: &[
             (T0, Fork(T1)),
@@ -61,7 +58,7 @@ const LOGS: &[Worked] = &[
         ],
         races: &[],
     },
-    Worked {
+    Case {
         name: "an access before the conflicting one is not ordered",
         log: &[
             (T0, Fork(T1)),
@@ -74,9 +71,9 @@ const LOGS: &[Worked] = &[
             (T1, Load(X)),
             (T1, Release(L)),
         ],
-        races: &[(6, 1)],
+        races: &[Race { event: 6, with: 1 }],
     },
-    Worked {
+    Case {
         name: "ordered events in two sections order their releases",
         log: &[
             (T0, Fork(T1)),
@@ -95,7 +92,7 @@ const LOGS: &[Worked] = &[
         ],
         races: &[],
     },
-    Worked {
+    Case {
         name: "an access before the later section is not ordered",
         log: &[
             (T0, Fork(T1)),
@@ -110,9 +107,9 @@ const LOGS: &[Worked] = &[
             (T1, Release(M)),
             (T1, Load(Y)),
         ],
-        races: &[(10, 5)],
+        races: &[Race { event: 10, with: 5 }],
     },
-    Worked {
+    Case {
         name: "two releases of one thread may be ordered strictly",
         log: &[
             (T0, Fork(T1)),
@@ -140,7 +137,7 @@ const LOGS: &[Worked] = &[
         ],
         races: &[],
     },
-    Worked {
+    Case {
         name: "a fork and a join order what the child does",
         log: &[
             (T0, Store(X)),
@@ -151,7 +148,7 @@ const LOGS: &[Worked] = &[
         ],
         races: &[],
     },
-    Worked {
+    Case {
         name: "a thread that no event forks or joins is not ordered",
         log: &[
             (T0, Fork(T1)),
@@ -159,9 +156,9 @@ const LOGS: &[Worked] = &[
             (T2, Store(X)),
             (T0, Load(X)),
         ],
-        races: &[(3, 2)],
+        races: &[Race { event: 3, with: 2 }],
     },
-    Worked {
+    Case {
         name: "the fork of an idle child is below its join",
         log: &[
             (T0, Store(X)),
@@ -171,7 +168,7 @@ const LOGS: &[Worked] = &[
         ],
         races: &[],
     },
-    Worked {
+    Case {
         name: "an access after the release is outside the section",
         log: &[
             (T0, Fork(T1)),
@@ -183,9 +180,9 @@ const LOGS: &[Worked] = &[
             (T1, Acquire(L)),
             (T1, Store(X)),
         ],
-        races: &[(7, 4)],
+        races: &[Race { event: 7, with: 4 }],
     },
-    Worked {
+    Case {
         name: "the latest racing event is named",
         log: &[
             (T0, Fork(T1)),
@@ -194,9 +191,9 @@ const LOGS: &[Worked] = &[
             (T2, Store(X)),
             (T0, Store(X)),
         ],
-        races: &[(3, 2), (4, 3)],
+        races: &[Race { event: 3, with: 2 }, Race { event: 4, with: 3 }],
     },
-    Worked {
+    Case {
         name: "an inner release does not end the section",
         log: &[
             (T0, Fork(T1)),
@@ -212,53 +209,16 @@ const LOGS: &[Worked] = &[
     },
 ];
 
-// The verdict on the event at the index.
-fn expected(races: &[(usize, u64)], index: usize) -> Verdict {
-    for (racing, earlier) in races {
-        if *racing == index {
-            return Verdict::Racy(*earlier);
-        }
-    }
-    Verdict::Clear
-}
-
-// The monitor accepted all the calls. Its verdicts are the races of the log.
-fn expect_races(rt: &impl Abort, worked: &Worked, told: &Told) {
-    assert!(rt; told.outcomes.len() == worked.log.len(), "{}", worked.name);
-    for (index, outcome) in told.outcomes.iter().enumerate() {
-        let reply = Reply {
-            index: index as u64,
-            value: 0,
-            verdict: expected(worked.races, index),
-        };
-        assert!(rt;
-            *outcome == Outcome::Accepted(reply),
-            "{}: {outcome:?}",
-            worked.name
-        );
-    }
-    assert!(rt; told.races.len() == worked.races.len(), "{}", worked.name);
-}
-
-// So it is by `step` and by `run`, and its verdicts are those of the closure.
-fn expect(rt: &impl Abort, alloc: Global, worked: &Worked, number: usize) -> Result<(), Fail> {
-    let limits = Limits::new(3, 4, 3, 64, Roots::Free)?;
-    let mut calls = Vec::new(alloc);
-    for (thread, op) in worked.log {
-        add(&mut calls, call(*thread, *op, 0))?;
-    }
-    for way in [Way::Steps(u64::MAX), Way::Run] {
-        let told = tell(rt, alloc, &limits, &calls, way)?;
-        expect_races(rt, worked, &told);
-        compare(rt, alloc, &told.log, &told.verdicts, number)?;
-    }
-    Ok(())
-}
-
 #[test]
-fn each_log_has_its_races(rt: HostRuntime) -> Result<(), Fail> {
-    for (number, worked) in LOGS.iter().enumerate() {
-        expect(&rt, rt.alloc(), worked, number)?;
+fn each_log_has_its_races(rt: HostRuntime) {
+    for (number, case) in LOGS.iter().enumerate() {
+        let worked = Worked {
+            name: case.name,
+            limits: Limits::new(3, 4, 3, 64, Roots::Free),
+            lines: Lines::Log(case.log),
+            events: case.log.len(),
+            races: case.races,
+        };
+        worked.expect(&rt, rt.alloc(), CALLS, number);
     }
-    Ok(())
 }

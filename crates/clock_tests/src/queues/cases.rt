@@ -20,9 +20,6 @@ pub enum Row {
     /// The lock's closed section of the number: its thread, how many events of that thread there were before
     /// its release, and how many of each.
     Section(LockId, u32, ThreadId, u32, &'static [u32]),
-    /// What a release of the thread finds on the lock, by the clock of another thread: the section's thread,
-    /// and how many events of that thread there were before its release.
-    Finds(ThreadId, LockId, ThreadId, Option<(ThreadId, u32)>),
     /// A clock takes the numbers of the thread.
     Copy(ThreadId),
     /// It takes the greater numbers of the release of the lock's closed section of the number.
@@ -31,12 +28,7 @@ pub enum Row {
     Clock([u64; 3]),
 }
 
-pub const TWO_THREADS: &[Row] = &[
-    Row::Take(T0),
-    Row::Take(T1),
-    Row::Close(T0, L),
-    Row::Finds(T1, L, T0, Some((T0, 0))),
-];
+pub const TWO_THREADS: &[Row] = &[Row::Take(T0), Row::Take(T1), Row::Close(T0, L)];
 
 pub const ONE_SECTION: &[Row] = &[
     Row::Take(T1),

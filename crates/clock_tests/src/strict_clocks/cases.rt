@@ -89,6 +89,26 @@ pub const CROSSED_SECTIONS: &[Line] = &[
     (MAIN, Op::Join(CHILD), [7, 0, 0]),
 ];
 
+// Main's sections on l and on m overlap, and the store to x is in the first alone. So by rule (a) the child's
+// load of x takes main's release of l, its fifth event, and no more. Main's acquire of m, its fourth event,
+// happens before that release, so it strictly precedes the load, which is in the child's section on m. So by
+// rule (b) the child's release of m takes main's release of m, its seventh event. Its release of l does not.
+pub const OVERLAPPING_SECTIONS: &[Line] = &[
+    (MAIN, Op::Fork(CHILD), [0, 0, 0]),
+    (MAIN, Op::Acquire(L), [0, 0, 0]),
+    (MAIN, Op::Store(X), [0, 0, 0]),
+    (MAIN, Op::Acquire(M), [0, 0, 0]),
+    (MAIN, Op::Release(L), [0, 0, 0]),
+    (MAIN, Op::Store(Y), [0, 0, 0]),
+    (MAIN, Op::Release(M), [0, 0, 0]),
+    (CHILD, Op::Acquire(L), [0, 0, 0]),
+    (CHILD, Op::Acquire(M), [0, 0, 0]),
+    (CHILD, Op::Load(X), [5, 0, 0]),
+    (CHILD, Op::Release(L), [5, 0, 0]),
+    (CHILD, Op::Release(M), [7, 0, 0]),
+    (CHILD, Op::Load(Y), [7, 0, 0]),
+];
+
 // Both stores come after an inner release, and are in the sections of the outer acquires. The outer release
 // is main's sixth event.
 pub const INNER_RELEASES: &[Line] = &[

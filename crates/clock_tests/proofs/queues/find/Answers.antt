@@ -1,8 +1,8 @@
 use Rattle.std.proofs.Common.{ℕ, ◌≤◌, List, length, sym, ap, subst, ◌∙◌, arith}
 use Rattle.event_core.specs.Closed.{Closed}
-use Rattle.vector_clocks.specs.Counts.{counts_of}
+use Rattle.vector_clocks.specs.Work.{Done}
 use Rattle.lock_queues.specs.Queues.{closed_of, opened_of}
-use Rattle.clock_tests.proofs.OneSection.{written, earlier_one, counted_few}
+use Rattle.clock_tests.proofs.OneSection.{written, earlier_one}
 use Rattle.clock_tests.proofs.queues.find.Goals as goal
 
 pub last_below-requires-clause-entered : goal.last_below-requires-clause-entered
@@ -27,11 +27,4 @@ pub last_below-requires-clause-few : goal.last_below-requires-clause-few
 last_below-requires-clause-few g c =
     let one = subst (λ (f : ℕ → List Closed). length (f c.args.lock.0) ≤ 1)
     (sym c.enter.ensures.closed) c.requires.few in
-    omega (arith, one, c.requires.work)
-
-pub returns-clause-comparisons : goal.returns-clause-comparisons
-returns-clause-comparisons g c =
-    let one = subst (λ (f : ℕ → List Closed). length (f c.args.lock.0) ≤ 1)
-    (sym c.enter.ensures.closed) c.requires.few in
-    let counted = counted_few (counts_of c.args.clock.now) (closed_of c.enter.new.self c.args.lock.0) in
-    omega (arith, one, counted, c.last_below.ensures.comparisons)
+    omega (arith, one, ap (λ (work : Done). work.comparisons) c.new.ensures)

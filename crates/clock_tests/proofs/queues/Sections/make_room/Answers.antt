@@ -8,4 +8,4 @@ invariant_of-self-clause-few g c = λ l.
     (c.args.self.now.few l)
 
 pub invariant_of-self-clause-found : goal.invariant_of-self-clause-found
-invariant_of-self-clause-found g c = λ e. c.make_room.ensures.found ∙ c.args.self.now.found e
+invariant_of-self-clause-found g c = c.make_room.ensures.found ∙ c.args.self.now.found

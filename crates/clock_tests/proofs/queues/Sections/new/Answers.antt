@@ -11,5 +11,5 @@ invariant_of-result-clause-few g c = λ l.
     omega (arith, none)
 
 pub invariant_of-result-clause-found : goal.invariant_of-result-clause-found
-invariant_of-result-clause-found g c = λ _.
+invariant_of-result-clause-found g c =
     subst (λ r. IfOk r (λ v. found_of v ≡ (λ _ _. 0))) c.expect.ensures c.new-2.ensures.found
