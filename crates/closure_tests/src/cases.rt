@@ -8,7 +8,7 @@ use std::alloc::Global;
 use std::process::Abort;
 
 /// The ways to make calls.
-pub const CALLS: &[Way] = &[Way::Steps(u64::MAX), Way::Run, Way::RunActs];
+pub const CALLS: &[Way] = &[Way::Steps(u64::MAX), Way::Prepared, Way::Run, Way::RunActs];
 
 /// The ways to make calls and swaps.
 pub const ACTS: &[Way] = &[Way::Steps(u64::MAX), Way::RunActs];

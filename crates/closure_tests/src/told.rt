@@ -11,6 +11,8 @@ use std::process::Abort;
 pub enum Way {
     /// By `step` and `swap`, until the log has so many events.
     Steps(u64),
+    /// The calls by `step`, each once `prepare` has made room for it. There are no swaps.
+    Prepared,
     /// The calls by `run`. There are no swaps.
     Run,
     /// By `run_acts`.
@@ -79,6 +81,15 @@ fn take(rt: &impl Abort, monitor: &mut Monitor, act: Act) -> Done {
     }
 }
 
+// What becomes of the call at the first try, once there is room for it.
+fn take_prepared(rt: &impl Abort, monitor: &mut Monitor, call: Call) -> Done {
+    if monitor.prepare(&call).is_err() {
+        assert!(rt; monitor.prepare(&call).is_ok(), "memory");
+    }
+    assert!(rt; monitor.ready(&call));
+    step_once(monitor, call)
+}
+
 // Begins again where it stopped.
 fn run(monitor: &mut Monitor, calls: &[Call], outcomes: &mut Vec<Outcome>) {
     for _ in 0..2 {
@@ -126,6 +137,7 @@ impl Told {
     ) {
         match way {
             Way::Steps(most) => self.take_each(rt, monitor, acts, most),
+            Way::Prepared => self.prepare_each(rt, monitor, acts),
             Way::Run => self.run_calls(rt, alloc, monitor, acts),
             Way::RunActs => run_acts(monitor, acts, &mut self.answers),
         }
@@ -138,6 +150,14 @@ impl Told {
         for act in acts {
             if monitor.log().len() < most {
                 add(rt, &mut self.answers, take(rt, monitor, *act));
+            }
+        }
+    }
+
+    fn prepare_each(&mut self, rt: &impl Abort, monitor: &mut Monitor, acts: &[Act]) {
+        for act in acts {
+            if let Act::One(call) = act {
+                add(rt, &mut self.answers, take_prepared(rt, monitor, *call));
             }
         }
     }
