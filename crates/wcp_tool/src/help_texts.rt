@@ -12,9 +12,9 @@ Standard input has a trace, with a line for each event, in their order:
 The operations are
   r(VARIABLE)  Load     acq(LOCK)  Acquire    fork(THREAD)  Start a thread
   w(VARIABLE)  Store    rel(LOCK)  Release    join(THREAD)  Wait for its end
-Names are any texts of 1 to 255 bytes without a bar. The location says where in
-the program the event is, and may be empty. A thread that no line forks is there
-from the beginning. Empty lines are passed over, but counted.
+Names are any texts of 1 to 255 bytes without a bar or a CR. The location says
+where in the program the event is, and may be empty. A thread that no line forks
+is there from the beginning. Empty lines are passed over, but counted.
 
 ",
             $printed,
@@ -48,10 +48,11 @@ names the first line that is refused, counted from 1, and says why:
 pub(crate) const PROGRAM_TEXTS: &str = "\
 A trace has a line for each event: its thread, its operation with an argument,
 and its location, as in T0|acq(l)|17. A race is two accesses of one variable by
-different threads, at least one of them a store, that weak causal precedence
-does not order. Where a trace has a race, its events could have come in an order
-in which two such accesses meet, or in a deadlock. Look at the first race of a
-report first: those after it may be no more than what follows from it.
+different threads, at least one of them a store, that weak causal precedence,
+with program order, does not order. By a theorem of its paper, for traces
+without forks and joins, the events of a trace with a race could have come in an
+order in which two such accesses meet, or in a deadlock. Look at the first race
+of a report first: those after it may be no more than what follows from it.
 
 Example:
   printf 'T0|fork(T1)|1\\nT0|w(y)|2\\nT1|r(y)|3\\n' | wcp replay
@@ -99,7 +100,8 @@ for each event that races with an earlier one:
   I|THREAD|OP(VARIABLE)|LOCATION with J|THREAD|OP(VARIABLE)|LOCATION
 I and J number the events from 1, and J is the latest that I races with. Two
 events race where they access one variable, at least one of them stores, their
-threads differ, and weak causal precedence does not order them.",
+threads differ, and weak causal precedence, with program order, does not order
+them.",
     "\
 Example:
   printf 'T0|fork(T1)|1\\nT0|w(y)|2\\nT1|r(y)|3\\n' | wcp replay
@@ -137,7 +139,7 @@ locations are line numbers. Or it has one line, where a script is broken, one of
 its threads is stuck or could not be started, or a call is refused:
   line N: LineTooLong   The line has more than 1024 bytes
   line N: BadLine       It is none of the seven
-  line N: BadNumber     Its number has not 1 to 20 decimal digits, or is above
+  line N: BadNumber     Its number does not have 1 to 20 digits, or is above
                         18446744073709551615
   line N: TooManyNames  It names a thread, lock or variable too many; --threads
                         allows for more threads
