@@ -7,7 +7,7 @@ use Rattle.clap.specs.Lexer.{without_minus}
 use Rattle.clap.specs.Values.{IsSignedIn}
 use Rattle.clap.specs.Walk.{Row, Text, one_of, first_of}
 use Rattle.clap.specs.Simple.{subcommand_of}
-use Rattle.wcp_tool.specs.CommandLine.{asked, asked_in, asked_under, check, faults_of, number_of}
+use Rattle.wcp_tool.specs.CommandLine.{Reads, asked, asked_in, asked_under, check, faults_of, number_of}
 use Rattle.wcp_tool.specs.CommandLine.{over_trace, replay, request_of, run, wcp}
 use Rattle.wcp_tool.specs.declared.requests.Command.{Command}
 use Rattle.wcp_tool.specs.declared.requests.Command.TheVariants.{Check, Replay}
@@ -25,12 +25,6 @@ found_text (Some x) d t e = some_is e
 
 abbrev Picks : Text → Command → Type 0
 Picks name command = (name ≡ codes "check" → command ≡ Check) × (name ≡ codes "replay" → command ≡ Replay)
-
--- the number that was read for an option is the one that was given
-abbrev Reads : Text → ℕ → List Row → ℕ → Type 0
-Reads name most rows n = (t : Text) → IsSignedIn (pos 1) (pos most) t
-    → one_of name rows ≡ Some (without_minus t)
-    → n ≡ number_of (without_minus t)
 
 trace_asked : (name : Text) (rows : List Row) (command : Command) (n : ℕ) → Has name rows
     → (name ≡ codes "run" → ⊥) → Picks name command → Reads (codes "threads") 1024 rows n

@@ -6,7 +6,7 @@ use Rattle.std.specs.Str.{bytes_eq}
 use Rattle.std.specs.Str.Parse.{digits_value, without_leading_plus}
 use Rattle.std.specs.String.{string_bytes}
 use Rattle.clap.specs.Words.{App, Kinds, Row, Rule, Shape, Text, fault_of, new_app, new_rule, one_of}
-use Rattle.clap.specs.Words.{first_of, subcommand_of, with_rule, with_subcommand}
+use Rattle.clap.specs.Words.{IsSignedIn, first_of, subcommand_of, with_rule, with_subcommand, without_minus}
 use Rattle.clap.specs.declared.builder.action.ArgAction.TheVariants.{Set}
 use Rattle.clap.specs.declared.builder.value_parser.ValueParser.TheVariants.{Signed}
 use Rattle.clap.specs.declared.error.kind.ErrorKind.{ErrorKind}
@@ -100,6 +100,12 @@ asked_by s = record { request = request_of s.command; threads = s.threads; patie
 -- the number that decimal digits stand for
 abbrev pub number_of : Text → ℕ
 number_of text = digits_value 10 (without_leading_plus text)
+
+-- the number is the one that is read for the option with this name, from 1 to the greatest
+abbrev pub Reads : Text → ℕ → List Row → ℕ → Type 0
+Reads name most rows n = (t : Text) → IsSignedIn (pos 1) (pos most) t
+    → one_of name rows ≡ Some (without_minus t)
+    → n ≡ number_of (without_minus t)
 
 -- no script is run
 abbrev pub over_trace : Request → Option Text → Option Asked

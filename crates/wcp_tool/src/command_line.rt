@@ -9,7 +9,7 @@ ghost use Rattle.wcp_tool.specs.CommandLine.{file_argument as file_rule};
 ghost use Rattle.wcp_tool.specs.CommandLine.{TellsKind, faults_of, asked, asked_by, IsFaultAt};
 
 use crate::help_texts::{CHECK_TEXTS, PROGRAM_TEXTS, REPLAY_TEXTS, RUN_TEXTS};
-use crate::options::{DEFAULT_PATIENCE, number_of, patience_option, threads_option};
+use crate::options::{DEFAULT_PATIENCE, patience_of, patience_option, threads_of, threads_option};
 use crate::requests::{Command, Settings, UsageFault};
 use clap::error::ErrorKind;
 use clap::{Arg, ArgAction, ArgMatches};
@@ -176,7 +176,7 @@ fn settings_of<'a>(alloc: Global, matches: &ArgMatches<'a>) -> Result<Settings, 
     ensures fault { IfErr result (λ f. f ≡ UsageFault.OutOfMemory) }
 {
     let (name, given) = command_met(matches);
-    let threads = number_of(given, "threads", 1024, 64);
+    let threads = threads_of(given);
     if name != "run" {
         return Ok(Settings {
             command: command_of(name),
@@ -190,7 +190,7 @@ fn settings_of<'a>(alloc: Global, matches: &ArgMatches<'a>) -> Result<Settings, 
     Ok(Settings {
         command: Command::Run(file),
         threads,
-        patience: number_of(given, "patience", 4294967295, DEFAULT_PATIENCE),
+        patience: patience_of(given),
     })
 }
 

@@ -1,12 +1,13 @@
 //! The options of the commands. The value of each is a number.
-ghost use Rattle.std.specs.Prelude.{◌≡◌, ◌≤◌, ℕ, List, Some, false, pos};
-ghost use Rattle.clap.specs.Words.{IsSignedIn, found_of, one_text, rule_of, without_minus};
-ghost use Rattle.wcp_tool.specs.CommandLine.{number_option as rule_for, number_of as number_in};
+ghost use Rattle.std.specs.Prelude.{◌≡◌, ◌≤◌, codes, false};
+ghost use Rattle.clap.specs.Words.{found_of, rows_of, rule_of};
+ghost use Rattle.wcp_tool.specs.CommandLine.{Reads, number_option as rule_for};
 ghost use Rattle.wcp_tool.specs.CommandLine.{threads_option as threads_rule};
 ghost use Rattle.wcp_tool.specs.CommandLine.{patience_option as patience_rule};
 
 use clap::builder::ValueParser;
 use clap::{Arg, ArgAction, ArgMatches};
+use event_core::MOST_THREADS;
 use std::alloc::Global;
 
 /// The patience where none is given.
@@ -32,17 +33,15 @@ fn number_option<'a>(
         .help(help)
 }
 
-/// The number that an option was given, which the parse found within its range.
-pub(crate) fn number_of(matches: &ArgMatches<'_>, name: &str, most: u32, default: u32) -> u32
+/// The number that an option was given, or its default, which the parse found within its range.
+fn number_of(matches: &ArgMatches<'_>, name: &str, most: u32) -> u32
     requires { 1 ≤ most }
     ensures least { 1 ≤ result }
     ensures most { result ≤ most }
-    ensures given { (t : List ℕ) → IsSignedIn (pos 1) (pos most) t
-        → one_text (found_of matches.now) name.now ≡ Some (without_minus t)
-        → result ≡ number_in (without_minus t) }
+    ensures given { Reads name.now most (rows_of (found_of matches.now)) result }
 {
     let given: Option<u32> = matches.get_one(name);
-    given.unwrap_or(default).clamp(1, most)
+    given.unwrap_or(1).clamp(1, most)
 }
 
 /// How many threads may be named, as clap is told of it.
@@ -53,10 +52,19 @@ pub(crate) fn threads_option<'a>(alloc: Global) -> Arg<'a>
     number_option(
         alloc,
         "threads",
-        1024,
+        MOST_THREADS,
         "64",
         "How many threads may be named, 1 to 1024",
     )
+}
+
+/// How many threads may be named.
+pub(crate) fn threads_of(matches: &ArgMatches<'_>) -> u32
+    ensures least { 1 ≤ result }
+    ensures most { result ≤ 1024 }
+    ensures given { Reads (codes "threads") 1024 (rows_of (found_of matches.now)) result }
+{
+    number_of(matches, "threads", MOST_THREADS)
 }
 
 /// How often a line is tried, as clap is told of it.
@@ -67,8 +75,17 @@ pub(crate) fn patience_option<'a>(alloc: Global) -> Arg<'a>
     number_option(
         alloc,
         "patience",
-        4294967295,
+        u32::MAX,
         "1000000",
         "Tries of acq and join, 1 to 4294967295",
     )
+}
+
+/// How often a line is tried.
+pub(crate) fn patience_of(matches: &ArgMatches<'_>) -> u32
+    ensures least { 1 ≤ result }
+    ensures most { result ≤ 4294967295 }
+    ensures given { Reads (codes "patience") 4294967295 (rows_of (found_of matches.now)) result }
+{
+    number_of(matches, "patience", u32::MAX)
 }
