@@ -1,11 +1,10 @@
 -- The settings are what the words ask for.
 use Rattle.std.proofs.Common.{◌≡◌, ◌∙◌, ℕ, List, [], Option, Some, None, true, refl, sym, ap, ap₂, subst}
 use Rattle.std.proofs.Common.{inl, inr, codes, is_some}
-use Rattle.std.specs.Prelude.{pos, option_map, unwrap_or}
+use Rattle.std.specs.Prelude.{option_map, unwrap_or}
 use Rattle.std.specs.Borrow.{Bor}
 use Rattle.clap.specs.Lexer.{without_minus}
-use Rattle.clap.specs.Values.{IsSignedIn}
-use Rattle.clap.specs.Walk.{Row, Text, one_of, first_of}
+use Rattle.clap.specs.Walk.{Row, Text, first_of}
 use Rattle.clap.specs.Simple.{subcommand_of}
 use Rattle.wcp_tool.specs.CommandLine.{Reads, asked, asked_in, asked_under, check, faults_of, number_of}
 use Rattle.wcp_tool.specs.CommandLine.{over_trace, replay, request_of, run, wcp}

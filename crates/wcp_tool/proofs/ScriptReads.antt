@@ -1,5 +1,6 @@
--- What a script that was not read to its end, or a refused call of it, tells of the whole run.
+-- What is told of a script that was not read, or of a call that its run stops at, is of the text.
 use Rattle.std.proofs.Common.{◌≡◌, ℕ, List, Option, Bool, true, subst, sym, refl, inl, inr, ◌⊎◌, ◌≤◌, length}
+use Rattle.std.proofs.Common.{arith}
 use Rattle.std.specs.Prelude.{IfSome, codes}
 use Rattle.std.specs.Io.KnownBytes.{Appends, Consumes}
 use Rattle.std.proofs.Math.Logic.{∥∥₁_elim, ∥∥₁_map, ∥∥₁_prop}
@@ -13,11 +14,11 @@ use Rattle.script_text.specs.declared.causes.ScriptCause.TheVariants.{Read}
 use Rattle.script_text.specs.declared.causes.ScriptCause.TheVariants as causes
 use Rattle.script_text.specs.declared.causes.ScriptFault.{ScriptFault}
 use Rattle.script_text.specs.declared.lines.ScriptLine.{ScriptLine}
-use Rattle.script_text.specs.Faults.{cause_word}
 use Rattle.script_text.specs.Readings.{IsFault}
 use Rattle.trace_report.proofs.Whole.{many_bytes}
 use Rattle.trace_report.specs.Words.{refusal_word}
-use Rattle.wcp_tool.specs.ScriptRuns.{FaultsText, IsOfText, NamesStop, TellsRefusal, TellsRefused, TellsStop}
+use Rattle.wcp_tool.specs.Running.{PerformsRun}
+use Rattle.wcp_tool.specs.ScriptRuns.{IsOfText, NamesStop, TellsFault, TellsRefusal, TellsRefused, TellsStop}
 
 -- a read failed, or there were as many bytes as turns
 why_short : (left rest : Option (List ℕ)) (turns : ℕ) (failed : Bool) (came : List ℕ)
@@ -63,15 +64,27 @@ of_text m left rest turns failed f causes.NoFork other is = is
 of_text m left rest turns failed f causes.Read other is = other (inl refl)
 of_text m left rest turns failed f causes.OutOfMemory other is = other (inr refl)
 
--- the fault that is told is one of the text
+-- the run of a text whose fault is told
 pub fault_told : (m : Limits) (left rest : Option (List ℕ)) (turns : ℕ) (failed : Bool) (f : ScriptFault)
-    (old new : Option (List ℕ)) → ((f.cause ≡ causes.Read) ⊎ (f.cause ≡ causes.OutOfMemory) → ⊥)
-    → IsFault m left rest turns failed f f.cause → Appends old new (fault_line f.line (cause_word f.cause))
-    → FaultsText m left old new
-fault_told m left rest turns failed f old new other is told = record {
-  fault = f;
-  is_of = of_text m left rest turns failed f f.cause other is;
-  written = told;
+    (old new : Option (List ℕ)) (status : ℕ) → TellsFault f old new status
+    → ((f.cause ≡ causes.Read) ⊎ (f.cause ≡ causes.OutOfMemory) → (status ≡ 4) ⊎ (status ≡ 5))
+    → IsFault m left rest turns failed f f.cause → PerformsRun m left old new status
+fault_told m left rest turns failed f old new status (inl told) hindered is =
+    let other : (f.cause ≡ causes.Read) ⊎ (f.cause ≡ causes.OutOfMemory) → ⊥
+    = λ h. omega (arith, told.0, hindered h) in
+    record {
+      ran = λ h. absurd (omega (arith, told.0, h));
+      refused = λ h. absurd (omega (arith, told.0, h));
+      broken = λ h. inl (record {
+        fault = f;
+        is_of = of_text m left rest turns failed f f.cause other is;
+        written = told.1;
+      });
+    }
+fault_told m left rest turns failed f old new status (inr gave_up) hindered is = record {
+  ran = λ h. absurd (omega (arith, gave_up, h));
+  refused = λ h. absurd (omega (arith, gave_up, h));
+  broken = λ h. absurd (omega (arith, gave_up, h));
 }
 
 -- the stop that is told is one of the script

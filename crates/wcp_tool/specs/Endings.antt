@@ -1,5 +1,5 @@
 -- How the program ends.
-use Rattle.std.specs.Prelude.{ℕ, Bool, Result, Ok, Err, true, false, cond, nat_eq}
+use Rattle.std.specs.Prelude.{◌≡◌, ◌≢◌, ◌⊎◌, ℕ, Bool, Result, Ok, Err, true, false, cond, nat_eq}
 use Rattle.event_core.specs.declared.replies.Refusal.{Refusal}
 use Rattle.event_core.specs.declared.replies.Refusal.TheVariants as refusals
 use Rattle.rapid_text.specs.declared.causes.Cause.{Cause}
@@ -27,6 +27,13 @@ status_of BrokenScript = 6
 abbrev pub is_write_fault : Ending → Bool
 is_write_fault WriteFault = true
 is_write_fault _ = false
+
+-- a command that was asked for ended so: nothing was written where a read failed or memory ran out, and the
+-- writer failed where it says so, and nowhere else
+pub record HasEnded (unwritten : Type 0) (write_failed : Bool) (ending : Ending) : Type 0 where
+  pub asked_for : ending ≢ WrongUsage
+  pub quiet : (ending ≡ ReadFault) ⊎ (ending ≡ OutOfMemory) → unwritten
+  pub fails : write_failed ≡ is_write_fault ending
 
 abbrev pub cause_ending : Cause → Ending
 cause_ending causes.Read = ReadFault

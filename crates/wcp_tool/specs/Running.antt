@@ -50,17 +50,18 @@ pub record Replays (m : Limits) (left old new : Option (List ℕ)) (status : ℕ
 
 -- what a run of a script's threads writes: a report, or the one line that tells which of its calls is refused
 -- and why, or why it came to no report
-pub record PerformsRun (m : Limits) (old new : Option (List ℕ)) (status : ℕ) : Type 0 where
-  -- it is of some script and of what its threads did: what the file held is not known
-  pub ran : (status ≡ 0) ⊎ (status ≡ 1) → RunsText m None old new status
-  pub refused : status ≡ 3 → RefusesText m None old new
-  pub broken : status ≡ 6 → BreaksText m None old new
+pub record PerformsRun (m : Limits) (left old new : Option (List ℕ)) (status : ℕ) : Type 0 where
+  pub ran : (status ≡ 0) ⊎ (status ≡ 1) → RunsText m left old new status
+  pub refused : status ≡ 3 → RefusesText m left old new
+  pub broken : status ≡ 6 → BreaksText m left old new
 
--- what is done for a request with so many threads, where the reader had this text left
+-- what is done for a request with so many threads, where the reader had this text left; what the file of a
+-- script held is not known
 abbrev pub Performs : Request → ℕ → Option (List ℕ) → Option (List ℕ) → Option (List ℕ) → ℕ → Type 0
 Performs check threads left old new status = Checks (limits_with threads Free) left old new status
 Performs replay threads left old new status = Replays (limits_with threads Free) left old new status
-Performs (run path) threads left old new status = PerformsRun (limits_with threads OnlyMain) old new status
+Performs (run path) threads left old new status =
+    PerformsRun (limits_with threads OnlyMain) None old new status
 
 -- a text was not read to its end: a read failed, or it has as many bytes as there are turns
 abbrev pub IsCutShort : Option (List ℕ) → Bool → Type 0

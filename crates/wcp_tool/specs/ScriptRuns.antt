@@ -6,9 +6,9 @@ use Rattle.event_core.specs.declared.bounds.Limits.{Limits}
 use Rattle.event_core.specs.declared.events.Event.{Event}
 use Rattle.event_core.specs.declared.ids.ThreadId.{ThreadId}
 use Rattle.event_core.specs.declared.replies.Refusal.{Refusal}
-use Rattle.event_core.specs.declared.replies.Verdict.{Verdict}
 use Rattle.event_core.specs.Refusal.{WellFormed}
 use Rattle.event_core.specs.Steps.{own_events}
+use Rattle.closed_report.specs.Closed.{IsReportOf}
 use Rattle.rapid_text.specs.Faults.{fault_line}
 use Rattle.rapid_text.specs.Tables.{Tables}
 use Rattle.script_drive.specs.Faults.{Refuses, is_told}
@@ -23,19 +23,26 @@ use Rattle.script_text.specs.Faults.{cause_word}
 use Rattle.script_text.specs.Lines.{fork_of, joins}
 use Rattle.script_text.specs.Readings.{HasFault, LacksFork}
 use Rattle.script_text.specs.Scripts.{IsScript, Parsed, script_of}
-use Rattle.seq_monitor.specs.Monitored.{AreVerdicts}
-use Rattle.trace_report.specs.Reports.{AreNamed, report_of, summary_of}
+use Rattle.trace_report.specs.declared.summary.Summary.{Summary}
+use Rattle.trace_report.specs.Reports.{AreNamed}
 use Rattle.trace_report.specs.Words.{refusal_word}
 use Rattle.wcp_tool.specs.Endings.{status_of, summary_ending}
+
+-- the text that the reader had left is a script, and this holds of it
+pub record OfScript (m : Limits) (left : Option (List ℕ)) (Holds : Parsed → Type 0) : Type 0 where
+  pub script : Parsed
+  pub is_of : IfSome left (λ text. script_of m text ≡ Ok script)
+  pub is : IsScript script
+  pub holds : Holds script
+
+-- ---- a run with status 0 or 1
 
 -- the report of this log was written, with the definition's verdict on each event, and so ends the program
 pub record ReportsLog (names : Tables) (log : List Event) (old new : Option (List ℕ)) (status : ℕ)
     : Type 0 where
-  pub verdicts : List Verdict
-  pub judged : AreVerdicts log verdicts
-  pub named : AreNamed names log
-  pub written : Appends old new (report_of names log verdicts)
-  pub ends : status ≡ status_of (summary_ending (summary_of names log verdicts))
+  pub summary : Summary
+  pub report : IsReportOf names log old new summary
+  pub ends : status ≡ status_of (summary_ending summary)
 
 -- the thread of a script's first line
 abbrev pub first_thread : ThreadId
@@ -56,18 +63,10 @@ pub record Ran (m : Limits) (script : Parsed) (old new : Option (List ℕ)) (sta
   pub reports : ReportsLog script.names log old new status
 
 -- the text that the reader had left is a script, and its threads were run
-pub record RunsText (m : Limits) (left old new : Option (List ℕ)) (status : ℕ) : Type 0 where
-  pub script : Parsed
-  pub is_of : IfSome left (λ text. script_of m text ≡ Ok script)
-  pub is : IsScript script
-  pub ran : Ran m script old new status
+abbrev pub RunsText : Limits → Option (List ℕ) → Option (List ℕ) → Option (List ℕ) → ℕ → Type 0
+RunsText m left old new status = OfScript m left (λ script. Ran m script old new status)
 
--- the one line that names this fault of a script was written, and the status is 6; unless it could not be
--- written, the script not be read to its end, or memory ran out
-abbrev pub TellsFault : ScriptFault → Option (List ℕ) → Option (List ℕ) → ℕ → Type 0
-TellsFault f old new status =
-    ((status ≡ 6) × Appends old new (fault_line f.line (cause_word f.cause)))
-    ⊎ ((status ≡ 4) ⊎ (status ≡ 5))
+-- ---- a run with status 3
 
 -- one line was written, which names a line of the script whose call the definition refuses, and why. Another
 -- thread's hold of a lock is no reason, since such an acquire is tried again.
@@ -84,11 +83,8 @@ abbrev pub TellsRefusal : Limits → List ScriptLine → Option (List ℕ) → O
 TellsRefusal m lines old new = ∥ NamesRefusal m lines old new ∥₁
 
 -- the text that the reader had left is a script, and one line tells which of its calls is refused and why
-pub record RefusesText (m : Limits) (left old new : Option (List ℕ)) : Type 0 where
-  pub script : Parsed
-  pub is_of : IfSome left (λ text. script_of m text ≡ Ok script)
-  pub is : IsScript script
-  pub tells : TellsRefusal m script.lines old new
+abbrev pub RefusesText : Limits → Option (List ℕ) → Option (List ℕ) → Option (List ℕ) → Type 0
+RefusesText m left old new = OfScript m left (λ script. TellsRefusal m script.lines old new)
 
 -- the fault is a refusal, and one line was written, which tells its line and its word
 abbrev pub TellsRefused : DriveFault → Option (List ℕ) → Option (List ℕ) → Type 0
@@ -96,6 +92,13 @@ TellsRefused (Refused t n why) old new = Appends old new (fault_line n (refusal_
 TellsRefused _ old new = ⊥
 
 -- ---- a run with status 6
+
+-- the one line that names this fault of a script was written, and the status is 6; unless it could not be
+-- written, the script not be read to its end, or memory ran out
+abbrev pub TellsFault : ScriptFault → Option (List ℕ) → Option (List ℕ) → ℕ → Type 0
+TellsFault f old new status =
+    ((status ≡ 6) × Appends old new (fault_line f.line (cause_word f.cause)))
+    ⊎ ((status ≡ 4) ⊎ (status ≡ 5))
 
 -- the fault is one of the text that the reader had left: the first of its lines, or a thread to which no
 -- forks lead
@@ -134,13 +137,11 @@ pub record LacksNames (m : Limits) (script : Parsed) (old new : Option (List ℕ
   pub unnamed : AreNamed script.names log → ⊥
   pub quiet : new ≡ old
 
--- the text that the reader had left is a script, and its run did not come to a report
-pub record StopsText (m : Limits) (left old new : Option (List ℕ)) : Type 0 where
-  pub script : Parsed
-  pub is_of : IfSome left (λ text. script_of m text ≡ Ok script)
-  pub is : IsScript script
-  pub why : ∥ NamesStop script.lines old new ∥₁ ⊎ LacksNames m script old new
+-- the run of the script did not come to a report
+abbrev pub Stops : Limits → Parsed → Option (List ℕ) → Option (List ℕ) → Type 0
+Stops m script old new = ∥ NamesStop script.lines old new ∥₁ ⊎ LacksNames m script old new
 
 -- why a run ends with status 6
 abbrev pub BreaksText : Limits → Option (List ℕ) → Option (List ℕ) → Option (List ℕ) → Type 0
-BreaksText m left old new = FaultsText m left old new ⊎ StopsText m left old new
+BreaksText m left old new =
+    FaultsText m left old new ⊎ OfScript m left (λ script. Stops m script old new)

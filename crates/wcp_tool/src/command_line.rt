@@ -66,16 +66,14 @@ fn bare_program<'a>(alloc: Global) -> Result<clap::Command<'a>, AllocError>
     ensures local { IfOk result (λ c. (out-Command c).has_globals ≡ false) }
     ensures app { IfOk result (λ c. app_of c ≡ bare) }
 {
-    let named = clap::Command::new(alloc, "wcp").bin_name("wcp")?;
-    Ok(
-        named
-            .version("0.1.0")
-            .about("Finds the data races of programs with threads, locks and variables")
-            .after_help(PROGRAM_TEXTS)
-            .no_binary_name(true)
-            .arg_required_else_help(true)
-            .subcommand_required(true),
-    )
+    clap::Command::new(alloc, "wcp")
+        .version("0.1.0")
+        .about("Finds the data races of programs with threads, locks and variables")
+        .after_help(PROGRAM_TEXTS)
+        .no_binary_name(true)
+        .arg_required_else_help(true)
+        .subcommand_required(true)
+        .bin_name("wcp")
 }
 
 /// The program with one more command over a trace.

@@ -87,18 +87,18 @@ fn fault_ending(fault: ReplayFault) -> Ending
 }
 
 /// How a check with this answer ends.
-pub(crate) fn ending_of_check(answer: &Result<Counts, ReplayFault>) -> Ending
-    ensures { result ≡ check_ending answer.now }
+pub(crate) fn ending_of_check(answer: Result<Counts, ReplayFault>) -> Ending
+    ensures { result ≡ check_ending answer }
 {
     match answer {
         Ok(_) => Ending::Done,
-        Err(fault) => fault_ending(*fault),
+        Err(fault) => fault_ending(fault),
     }
 }
 
 /// How a run with this report ends.
-pub(crate) fn summary_ending(summary: &Summary) -> Ending
-    ensures { result ≡ for_summary summary.now }
+pub(crate) fn summary_ending(summary: Summary) -> Ending
+    ensures { result ≡ for_summary summary }
 {
     if summary.races == 0 {
         Ending::Done
@@ -108,11 +108,11 @@ pub(crate) fn summary_ending(summary: &Summary) -> Ending
 }
 
 /// How a replay with this answer ends.
-pub(crate) fn ending_of_replay(answer: &Result<Summary, ReplayFault>) -> Ending
-    ensures { result ≡ replay_ending answer.now }
+pub(crate) fn ending_of_replay(answer: Result<Summary, ReplayFault>) -> Ending
+    ensures { result ≡ replay_ending answer }
 {
     match answer {
         Ok(summary) => summary_ending(summary),
-        Err(fault) => fault_ending(*fault),
+        Err(fault) => fault_ending(fault),
     }
 }

@@ -2,7 +2,7 @@
 ghost use Rattle.std.specs.Prelude.{◌≡◌, ◌≢◌, ◌⊎◌, ℕ, List, ◌≤◌, Option, IfErr, IfSome, true, false, length};
 ghost use Rattle.std.specs.Prelude.{map};
 ghost use Rattle.clap.specs.Words.{Text};
-ghost use Rattle.wcp_tool.specs.Endings.{is_write_fault, status_of};
+ghost use Rattle.wcp_tool.specs.Endings.{HasEnded, is_write_fault, status_of};
 ghost use Rattle.wcp_tool.specs.CommandLine.{request_of};
 ghost use Rattle.wcp_tool.specs.Running.{Checks, Replays, Performs, IsCut, IsHindered, Runs};
 ghost use Rattle.wcp_tool.specs.Running.{EndsAs, LeavesInput, limits_with, reads_trace};
@@ -15,7 +15,6 @@ use crate::requests::{Command, Settings, UsageFault};
 use crate::scripts::run_file;
 use event_core::Roots;
 use rapid_text::{Input, Output, write_all};
-use std::alloc::Global;
 use std::convert::AsStr;
 use std::env;
 use std::env::Env;
@@ -24,56 +23,6 @@ use std::io::ErrorKind;
 use std::sync::Wait;
 use std::thread::Threads;
 use trace_report::{check, replay};
-
-/// The command `check`.
-fn run_check<I: Input, O: Output>(
-    alloc: Global,
-    threads: u32,
-    reader: &mut I,
-    writer: &mut O,
-) -> Ending
-    requires threads { (1 ≤ threads) × (threads ≤ 1024) }
-    requires reads { I.failed reader.old ≡ false }
-    requires writes { O.failed writer.old ≡ false }
-    ensures performs { result ≢ Ending.ReadFault → result ≢ Ending.WriteFault → result ≢ Ending.OutOfMemory
-        → Checks (limits_with threads Free) (I.left reader.old) (O.written writer.old)
-        (O.written writer.new) (status_of result) }
-    ensures usage { result ≢ Ending.WrongUsage }
-    ensures quiet { (result ≡ Ending.ReadFault) ⊎ (result ≡ Ending.OutOfMemory) → writer.new ≡ writer.old }
-    ensures short { result ≡ Ending.ReadFault → (I.failed reader.new ≡ true)
-        ⊎ IfSome (I.left reader.old) (λ text. 17592186044416 ≤ length text) }
-    ensures read { result ≡ Ending.Done → I.failed reader.new ≡ false }
-    ensures fails { O.failed writer.new ≡ is_write_fault result }
-{
-    let limits = limits_of(threads, Roots::Free);
-    let answer = check(alloc, reader, writer, limits, TURNS);
-    ending_of_check(&answer)
-}
-
-/// The command `replay`.
-fn run_replay<I: Input, O: Output>(
-    alloc: Global,
-    threads: u32,
-    reader: &mut I,
-    writer: &mut O,
-) -> Ending
-    requires threads { (1 ≤ threads) × (threads ≤ 1024) }
-    requires reads { I.failed reader.old ≡ false }
-    requires writes { O.failed writer.old ≡ false }
-    ensures performs { result ≢ Ending.ReadFault → result ≢ Ending.WriteFault → result ≢ Ending.OutOfMemory
-        → Replays (limits_with threads Free) (I.left reader.old) (O.written writer.old)
-        (O.written writer.new) (status_of result) }
-    ensures usage { result ≢ Ending.WrongUsage }
-    ensures quiet { (result ≡ Ending.ReadFault) ⊎ (result ≡ Ending.OutOfMemory) → writer.new ≡ writer.old }
-    ensures short { result ≡ Ending.ReadFault → (I.failed reader.new ≡ true)
-        ⊎ IfSome (I.left reader.old) (λ text. 17592186044416 ≤ length text) }
-    ensures read { (result ≡ Ending.Done) ⊎ (result ≡ Ending.Races) → I.failed reader.new ≡ false }
-    ensures fails { O.failed writer.new ≡ is_write_fault result }
-{
-    let limits = limits_of(threads, Roots::Free);
-    let answer = replay(alloc, reader, writer, limits, TURNS);
-    ending_of_replay(&answer)
-}
 
 /// Does what the settings ask for.
 fn run<R: AllocGlobal + Files + Threads + Wait + Sync, I: Input, O: Output>(
@@ -88,13 +37,11 @@ fn run<R: AllocGlobal + Files + Threads + Wait + Sync, I: Input, O: Output>(
     ensures performs { result ≢ Ending.ReadFault → result ≢ Ending.WriteFault → result ≢ Ending.OutOfMemory
         → Performs (request_of settings.command) settings.threads (I.left reader.old)
         (O.written writer.old) (O.written writer.new) (status_of result) }
-    ensures usage { result ≢ Ending.WrongUsage }
-    ensures quiet { (result ≡ Ending.ReadFault) ⊎ (result ≡ Ending.OutOfMemory) → writer.new ≡ writer.old }
+    ensures ends { HasEnded (writer.new ≡ writer.old) (O.failed writer.new) result }
     ensures short { result ≡ Ending.ReadFault
         → IsCut (request_of settings.command) (I.left reader.old) (I.failed reader.new) }
     ensures untouched { reads_trace (request_of settings.command) ≡ false → reader.new ≡ reader.old }
     ensures read { (result ≡ Ending.Done) ⊎ (result ≡ Ending.Races) → I.failed reader.new ≡ false }
-    ensures fails { O.failed writer.new ≡ is_write_fault result }
 {
     let Settings {
         command,
@@ -102,8 +49,14 @@ fn run<R: AllocGlobal + Files + Threads + Wait + Sync, I: Input, O: Output>(
         patience,
     } = settings;
     match command {
-        Command::Check => run_check(rt.alloc(), threads, reader, writer),
-        Command::Replay => run_replay(rt.alloc(), threads, reader, writer),
+        Command::Check => {
+            let limits = limits_of(threads, Roots::Free);
+            ending_of_check(check(rt.alloc(), reader, writer, limits, TURNS))
+        }
+        Command::Replay => {
+            let limits = limits_of(threads, Roots::Free);
+            ending_of_replay(replay(rt.alloc(), reader, writer, limits, TURNS))
+        }
         Command::Run(path) => {
             let ending = run_file(rt, path.as_str(), writer, threads, patience);
             drop(path);

@@ -3,19 +3,18 @@ ghost use Rattle.std.specs.Prelude.{◌≡◌, ◌≢◌, ◌⊎◌, ◌≤◌, 
 ghost use Rattle.std.specs.Io.KnownBytes.{Appends};
 ghost use Rattle.rapid_text.specs.Faults.{fault_line};
 ghost use Rattle.script_text.specs.declared.causes.ScriptFault.{ScriptFault as Why};
-ghost use Rattle.script_text.specs.Faults.{cause_word};
 ghost use Rattle.script_text.specs.Scripts.{script_of};
-ghost use Rattle.wcp_tool.specs.Endings.{is_write_fault, status_of};
+ghost use Rattle.wcp_tool.specs.Endings.{HasEnded, is_write_fault, status_of};
 ghost use Rattle.wcp_tool.specs.Running.{IsCutShort, PerformsRun, limits_with};
 ghost use Rattle.trace_report.specs.Reports.{AreNamed};
-ghost use Rattle.wcp_tool.specs.ScriptRuns.{BreaksText, LacksNames, NamesStop, Ran, RefusesText, ReportsLog};
-ghost use Rattle.wcp_tool.specs.ScriptRuns.{RunsText, TellsFault, TellsRefusal, TellsRefused, TellsStop};
+ghost use Rattle.wcp_tool.specs.ScriptRuns.{BreaksText, Ran, RefusesText, ReportsLog, RunsText, Stops};
+ghost use Rattle.wcp_tool.specs.ScriptRuns.{TellsFault, TellsRefusal, TellsRefused, TellsStop};
 ghost use Rattle.event_core.specs.declared.bounds.Roots.TheVariants.{OnlyMain};
 
 use crate::bounds::{TURNS, limits_of};
 use crate::endings::{Ending, finish, summary_ending};
 use crate::requests::Settings;
-use closed_report::ReportFault;
+use closed_report::{ReportFault, report_closed};
 use event_core::{Limits, Roots};
 use live_monitor::Closed;
 use rapid_text::{Device, Input, Names, Output, write_fault};
@@ -49,15 +48,7 @@ fn explain_script<O: Output>(writer: &mut O, fault: &ScriptFault) -> Ending
     ensures hindered { (fault.now.cause ≡ ScriptCause.Read) ⊎ (fault.now.cause ≡ ScriptCause.OutOfMemory)
         → (status_of result ≡ 4) ⊎ (status_of result ≡ 5) }
     ensures cut { result ≡ Ending.ReadFault → fault.now.cause ≡ ScriptCause.Read }
-    ensures refused { result ≢ Ending.Refused }
-    ensures broken { result ≡ Ending.BrokenScript
-        → ((fault.now.cause ≡ ScriptCause.Read) ⊎ (fault.now.cause ≡ ScriptCause.OutOfMemory) → ⊥)
-        × Appends (O.written writer.old) (O.written writer.new)
-        (fault_line fault.now.line (cause_word fault.now.cause)) }
-    ensures ran { (result ≢ Ending.Done) × (result ≢ Ending.Races) }
-    ensures usage { result ≢ Ending.WrongUsage }
-    ensures quiet { (result ≡ Ending.ReadFault) ⊎ (result ≡ Ending.OutOfMemory) → writer.new ≡ writer.old }
-    ensures fails { O.failed writer.new ≡ is_write_fault result }
+    ensures ends { HasEnded (writer.new ≡ writer.old) (O.failed writer.new) result }
 {
     match fault.cause {
         ScriptCause::Read => Ending::ReadFault,
@@ -69,15 +60,13 @@ fn explain_script<O: Output>(writer: &mut O, fault: &ScriptFault) -> Ending
 /// Tells why a script was not run to its end.
 fn explain_drive<O: Output>(writer: &mut O, fault: &DriveFault) -> Ending
     requires writes { O.failed writer.old ≡ false }
-    ensures refused { result ≡ Ending.Refused
-        → TellsRefused fault.now (O.written writer.old) (O.written writer.new) }
-    ensures broken { result ≡ Ending.BrokenScript
-        → TellsStop fault.now (O.written writer.old) (O.written writer.new) }
-    ensures ran { (result ≢ Ending.Done) × (result ≢ Ending.Races) }
-    ensures usage { result ≢ Ending.WrongUsage }
+    ensures refused { status_of result ≡ 3 → TellsRefused fault.now (O.written writer.old)
+        (O.written writer.new) }
+    ensures broken { status_of result ≡ 6 → TellsStop fault.now (O.written writer.old)
+        (O.written writer.new) }
+    ensures ran { (status_of result ≢ 0) × (status_of result ≢ 1) }
     ensures whole { result ≢ Ending.ReadFault }
-    ensures quiet { result ≡ Ending.OutOfMemory → writer.new ≡ writer.old }
-    ensures fails { O.failed writer.new ≡ is_write_fault result }
+    ensures ends { HasEnded (writer.new ≡ writer.old) (O.failed writer.new) result }
 {
     match fault {
         DriveFault::Stuck { line, .. } => tell(writer, *line, "Stuck", Ending::BrokenScript),
@@ -90,19 +79,18 @@ fn explain_drive<O: Output>(writer: &mut O, fault: &DriveFault) -> Ending
 }
 
 /// Reports what the threads did.
-fn report_closed<O: Output>(writer: &mut O, closed: &Closed, names: &Names) -> Ending
+fn tell_report<O: Output>(writer: &mut O, closed: &Closed, names: &Names) -> Ending
     requires writes { O.failed writer.old ≡ false }
-    ensures reports { (result ≡ Ending.Done) ⊎ (result ≡ Ending.Races) → ReportsLog names.now closed.now.log
+    ensures reports { (status_of result ≡ 0) ⊎ (status_of result ≡ 1) → ReportsLog names.now closed.now.log
         (O.written writer.old) (O.written writer.new) (status_of result) }
-    ensures refused { result ≢ Ending.Refused }
-    ensures usage { result ≢ Ending.WrongUsage }
-    ensures broken { result ≡ Ending.BrokenScript
-        → (AreNamed names.now closed.now.log → ⊥) × (writer.new ≡ writer.old) }
-    ensures quiet { (result ≢ Ending.ReadFault) × (result ≢ Ending.OutOfMemory) }
-    ensures fails { O.failed writer.new ≡ is_write_fault result }
+    ensures refused { status_of result ≢ 3 }
+    ensures broken { status_of result ≡ 6 → (AreNamed names.now closed.now.log → ⊥)
+        × (writer.new ≡ writer.old) }
+    ensures whole { result ≢ Ending.ReadFault }
+    ensures ends { HasEnded (writer.new ≡ writer.old) (O.failed writer.new) result }
 {
-    match closed_report::report_closed(writer, closed, names) {
-        Ok(summary) => summary_ending(&summary),
+    match report_closed(writer, closed, names) {
+        Ok(summary) => summary_ending(summary),
         // The threads made the calls of the script's lines, whose numbers all have names: it does not occur.
         Err(ReportFault::Unnamed) => Ending::BrokenScript,
         Err(ReportFault::Write) => Ending::WriteFault,
@@ -119,21 +107,18 @@ fn run_threads<R: AllocGlobal + Threads + Wait + Sync, O: Output>(
 ) -> Ending
     requires only_main { limits.now.roots ≡ OnlyMain }
     requires writes { O.failed writer.old ≡ false }
-    ensures ran { (result ≡ Ending.Done) ⊎ (result ≡ Ending.Races) → Ran limits.now script.now
+    ensures ran { (status_of result ≡ 0) ⊎ (status_of result ≡ 1) → Ran limits.now script.now
         (O.written writer.old) (O.written writer.new) (status_of result) }
-    ensures refused { result ≡ Ending.Refused → TellsRefusal limits.now script.now.lines
+    ensures refused { status_of result ≡ 3 → TellsRefusal limits.now script.now.lines
         (O.written writer.old) (O.written writer.new) }
-    ensures broken { result ≡ Ending.BrokenScript
-        → ∥ NamesStop script.now.lines (O.written writer.old) (O.written writer.new) ∥₁
-        ⊎ LacksNames limits.now script.now (O.written writer.old) (O.written writer.new) }
-    ensures usage { result ≢ Ending.WrongUsage }
+    ensures broken { status_of result ≡ 6 → Stops limits.now script.now (O.written writer.old)
+        (O.written writer.new) }
     ensures whole { result ≢ Ending.ReadFault }
-    ensures quiet { result ≡ Ending.OutOfMemory → writer.new ≡ writer.old }
-    ensures fails { O.failed writer.new ≡ is_write_fault result }
+    ensures ends { HasEnded (writer.new ≡ writer.old) (O.failed writer.new) result }
 {
     match drive(rt, rt.alloc(), script, limits, &FreeGate, patience) {
         Ok(closed) => {
-            let ending = report_closed(writer, &closed, script.names());
+            let ending = tell_report(writer, &closed, script.names());
             drop(closed);
             ending
         }
@@ -152,23 +137,14 @@ fn run_lines<R: AllocGlobal + Threads + Wait + Sync, I: Input, O: Output>(
     requires threads { (1 ≤ threads) × (threads ≤ 1024) }
     requires reads { I.failed script.old ≡ false }
     requires writes { O.failed writer.old ≡ false }
-    ensures ran { (result ≡ Ending.Done) ⊎ (result ≡ Ending.Races)
-        → RunsText (limits_with threads OnlyMain) (I.left script.old) (O.written writer.old)
+    ensures performs { PerformsRun (limits_with threads OnlyMain) (I.left script.old) (O.written writer.old)
         (O.written writer.new) (status_of result) }
-    ensures refused { result ≡ Ending.Refused
-        → RefusesText (limits_with threads OnlyMain) (I.left script.old) (O.written writer.old)
-        (O.written writer.new) }
-    ensures broken { result ≡ Ending.BrokenScript
-        → BreaksText (limits_with threads OnlyMain) (I.left script.old) (O.written writer.old)
-        (O.written writer.new) }
     ensures fault { IfSome (I.left script.old) (λ text. (f : Why)
         → script_of (limits_with threads OnlyMain) text ≡ Err f
         → TellsFault f (O.written writer.old) (O.written writer.new) (status_of result)) }
-    ensures usage { result ≢ Ending.WrongUsage }
     ensures cut { result ≡ Ending.ReadFault → IsCutShort (I.left script.old) (I.failed script.new) }
     ensures read { (result ≡ Ending.Done) ⊎ (result ≡ Ending.Races) → I.failed script.new ≡ false }
-    ensures quiet { (result ≡ Ending.ReadFault) ⊎ (result ≡ Ending.OutOfMemory) → writer.new ≡ writer.old }
-    ensures fails { O.failed writer.new ≡ is_write_fault result }
+    ensures ends { HasEnded (writer.new ≡ writer.old) (O.failed writer.new) result }
 {
     let limits = limits_of(threads, Roots::OnlyMain);
     match Script::read(rt.alloc(), script, limits, TURNS) {
@@ -244,11 +220,9 @@ pub(crate) fn run_file<R: AllocGlobal + Files + Threads + Wait + Sync, O: Output
 ) -> Ending
     requires threads { (1 ≤ threads) × (threads ≤ 1024) }
     requires writes { O.failed writer.old ≡ false }
-    ensures performs { PerformsRun (limits_with threads OnlyMain) (O.written writer.old)
+    ensures performs { PerformsRun (limits_with threads OnlyMain) None (O.written writer.old)
         (O.written writer.new) (status_of result) }
-    ensures usage { result ≢ Ending.WrongUsage }
-    ensures quiet { (result ≡ Ending.ReadFault) ⊎ (result ≡ Ending.OutOfMemory) → writer.new ≡ writer.old }
-    ensures fails { O.failed writer.new ≡ is_write_fault result }
+    ensures ends { HasEnded (writer.new ≡ writer.old) (O.failed writer.new) result }
 {
     let Ok(file) = fs::open(rt, path) else {
         return Ending::ReadFault;

@@ -15,9 +15,9 @@ returns-in-Ok-clause-ran g c h = record {
     joined = c.in-Ok.ensures.joined;
   };
   reports = subst (λ (t : Tables). ReportsLog t c.in-Ok.closed.log (g.O.Output.written c.args.writer.now)
-      (g.O.Output.written c.report_closed-ending.new.writer) (status_of c.report_closed-ending.result))
+      (g.O.Output.written c.tell_report-ending.new.writer) (status_of c.tell_report-ending.result))
       c.names.ensures
-      (c.report_closed-ending.ensures.reports h);
+      (c.tell_report-ending.ensures.reports h);
 }
 
 pub returns-in-Err-clause-refused : goal.returns-in-Err-clause-refused
@@ -26,7 +26,7 @@ returns-in-Err-clause-refused g c h =
 
 pub returns-in-Ok-clause-broken : goal.returns-in-Ok-clause-broken
 returns-in-Ok-clause-broken g c h =
-    let lacks = c.report_closed-ending.ensures.broken h in
+    let lacks = c.tell_report-ending.ensures.broken h in
     inr (record {
       log = c.in-Ok.closed.log;
       is = record {
