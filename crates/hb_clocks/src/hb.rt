@@ -4,8 +4,8 @@
 //! A thread's clock counts what is below its latest event, or below its fork before its first event:
 //! a fork gives its clocks to the child at once. A lock's clock counts what is below its latest outer
 //! release. The log itself is not kept.
-ghost use Rattle.std.specs.Prelude.{◌≡◌, ℕ, ◌+◌, ◌<◌, ◌^◌, ◌↔◌, List, [], ◌∷◌, ◌++◌, length, IfOk, OnOk};
-ghost use Rattle.std.specs.Prelude.{IsTrue};
+ghost use Rattle.std.specs.Prelude.{◌≡◌, ℕ, ◌+◌, ◌<◌, ◌≤◌, ◌^◌, ◌↔◌, List, [], ◌∷◌, ◌++◌, length, IfOk};
+ghost use Rattle.std.specs.Prelude.{IsTrue, OnOk};
 ghost use Rattle.event_core.specs.declared.events.Event.{Event as AnEvent};
 ghost use Rattle.event_core.specs.declared.bounds.Limits.{Limits as Bounds};
 ghost use Rattle.event_core.specs.Order.{Po, Hb};
@@ -171,13 +171,14 @@ impl HbClocks {
 
     /// The mark of the thread's latest event.
     pub fn mark(&self, thread: ThreadId) -> Mark
-        requires { 0 < (state_of self.now).po thread.0 thread.0 }
+        requires some { 0 < (state_of self.now).po thread.0 thread.0 }
+        requires few { (state_of self.now).po thread.0 thread.0 ≤ 2 ^ 32 }
         ensures exact { result ≡ latest_mark thread (state_of self.now) }
         ensures names { (log : List AnEvent) (j : ℕ) → Stands log (state_of self.now) → IsLatest log thread j
             → Names log result thread j }
     {
         let row = &self.po[thread.0 as usize];
-        Mark::new(thread, row.at(thread))
+        Mark::new(thread, (row.at(thread) - 1) as u32)
     }
 
     /// How often the thread holds the lock.

@@ -1,6 +1,5 @@
 -- What is kept of one lock stays so over each change.
 use Rattle.std.proofs.Common.{◌≡◌, ℕ, ◌+◌, ◌<◌, ◌≤◌, ◌⊎◌, true, false, List, [], ◌∷◌, ◌++◌, length, set}
-use Rattle.std.proofs.Common.{Option, Some}
 use Rattle.std.proofs.Common.{ap, sym, subst, arith, length-set}
 use Rattle.std.specs.Prelude.{IfSome, slice_index}
 use Rattle.std.specs.List.{remove}
@@ -13,33 +12,30 @@ use Rattle.lock_queues.specs.declared.rooms.Room.{Room}
 use Rattle.lock_queues.specs.declared.sections.Entry.{Entry}
 use Rattle.lock_queues.specs.Sections.{entry_at, no_entry}
 use Rattle.lock_queues.specs.Rooms.{has_room_in, IsRoom, AreRooms}
-use Rattle.lock_queues.specs.Queue.{IsKept, first_of}
-use Rattle.vector_clocks.specs.Marks.{Named}
-use Rattle.std.specs.Option.{option_or}
+use Rattle.lock_queues.specs.Queue.{IsKept}
 use Rattle.lock_queues.proofs.Lookup.{thread_at, room_is, rooms_more, rooms_set, rooms_push, rooms_remove}
 use Rattle.lock_queues.proofs.Placing.{Placed, placed_within}
 
 -- a thread with room has its number among those found
-pub thread_within : {w : ℕ} {es : List Entry} {b : Option Named} {rooms : List Room} {found : List ℕ}
+pub thread_within : {w : ℕ} {es : List Entry} {rooms : List Room} {found : List ℕ}
     {m : ℕ} (t : ℕ)
-    → IsKept w es b rooms found m → has_room_in rooms t ≡ true → t < length found
+    → IsKept w es rooms found m → has_room_in rooms t ≡ true → t < length found
 thread_within {rooms = rooms} {found = found} t kept has =
     let lt = (room_is (length found) rooms t kept.own has).within in
     let is = thread_at rooms t has in
     omega arith
 
 -- the thread enters
-pub kept_entered : {w : ℕ} {es : List Entry} {b : Option Named} {rooms : List Room} {found : List ℕ}
+pub kept_entered : {w : ℕ} {es : List Entry} {rooms : List Room} {found : List ℕ}
     {m t i : ℕ} (s : Room)
-    → IsKept w es b rooms found m → Placed rooms t i → t ≡ s.thread.0
-    → IfSome s.opened (λ m. m.thread ≡ s.thread.0) → IsKept w es b (set rooms i s) found m
+    → IsKept w es rooms found m → Placed rooms t i → t ≡ s.thread.0
+    → IfSome s.opened (λ m. m.thread ≡ s.thread.0) → IsKept w es (set rooms i s) found m
 kept_entered {rooms = rooms} {found = found} {t = t} {i = i} s kept p own marked =
     let lt = thread_within t kept p.has in
     let room : IsRoom (length found) s = record { within = omega arith; own = marked } in
     let same : length (set rooms i s) ≡ length rooms = length-set rooms i s in
     let spare = kept.spare in
     record {
-      first = kept.first;
       threads = kept.threads;
       within = kept.within;
       wide = kept.wide;
@@ -51,13 +47,12 @@ kept_entered {rooms = rooms} {found = found} {t = t} {i = i} s kept p own marked
     }
 
 -- the thread has found so many
-pub kept_found : {w : ℕ} {es : List Entry} {b : Option Named} {rooms : List Room} {found : List ℕ} {m : ℕ}
-    (t n : ℕ) → IsKept w es b rooms found m → t < length found → n ≤ length es
-    → IsKept w es b rooms (set found t n) m
+pub kept_found : {w : ℕ} {es : List Entry} {rooms : List Room} {found : List ℕ} {m : ℕ}
+    (t n : ℕ) → IsKept w es rooms found m → t < length found → n ≤ length es
+    → IsKept w es rooms (set found t n) m
 kept_found {es = es} {rooms = rooms} {found = found} t n kept lt le =
     let same = length-set found t n in
     record {
-      first = kept.first;
       threads = omega (arith, same, kept.threads);
       within = λ u. elim (cases_eq u t) [
         | inl e ↦ subst (λ v. slice_index (set found t n) v ≤ length es) (sym e)
@@ -81,25 +76,18 @@ each_pushed P es x old new k lt = go (cases_lt k (length es))
     go (inr past) =
         let n = length_push es x in subst P (sym (get_or_push es x no_entry k (omega arith))) new
 
--- the first of some entries stays so
-first_pushed : (es : List Entry) (x : Entry) (b : Option Named) → b ≡ first_of es
-    → option_or b (Some x.acquire) ≡ first_of (es ++ x ∷ [])
-first_pushed [] x b is = ap (λ o. option_or o (Some x.acquire)) is
-first_pushed (e ∷ es) x b is = ap (λ o. option_or o (Some x.acquire)) is
-
 -- the thread leaves
-pub kept_left : {w : ℕ} {es : List Entry} {b : Option Named} {rooms : List Room} {found : List ℕ}
+pub kept_left : {w : ℕ} {es : List Entry} {rooms : List Room} {found : List ℕ}
     {m t i : ℕ} (x : Entry) (more : ℕ)
-    → IsKept w es b rooms found m → Placed rooms t i → x.place.width ≤ w
+    → IsKept w es rooms found m → Placed rooms t i → x.place.width ≤ w
     → x.acquire.thread < x.place.width → m ≤ more
-    → IsKept w (es ++ x ∷ []) (option_or b (Some x.acquire)) (remove rooms i) found more
-kept_left {w = w} {es = es} {b = b} {rooms = rooms} {found = found} {t = t} {i = i} x more kept p wide
+    → IsKept w (es ++ x ∷ []) (remove rooms i) found more
+kept_left {w = w} {es = es} {rooms = rooms} {found = found} {t = t} {i = i} x more kept p wide
     own le =
     let fewer : length (remove rooms i) + 1 ≡ length rooms = length-remove rooms i (placed_within p) in
     let longer : length (es ++ x ∷ []) ≡ length es + 1 = length_push es x in
     let spare = kept.spare in
     record {
-      first = first_pushed es x b kept.first;
       threads = kept.threads;
       within = λ v. (let h = kept.within v in omega arith);
       wide = each_pushed (λ (e : Entry). e.place.width ≤ w) es x kept.wide wide;
@@ -111,14 +99,13 @@ kept_left {w = w} {es = es} {b = b} {rooms = rooms} {found = found} {t = t} {i =
     }
 
 -- there is more memory
-pub kept_grown : {w : ℕ} {es same : List Entry} {b : Option Named} {rooms : List Room} {found : List ℕ}
-    {m : ℕ} (more : List ℕ) (larger : ℕ) → IsKept w es b rooms found m → same ≡ es
+pub kept_grown : {w : ℕ} {es same : List Entry} {rooms : List Room} {found : List ℕ}
+    {m : ℕ} (more : List ℕ) (larger : ℕ) → IsKept w es rooms found m → same ≡ es
     → slice_index more ≡ slice_index found → length found ≤ length more → length more ≤ w → m ≤ larger
-    → IsKept w same b rooms more larger
-kept_grown {w = w} {es = es} {b = b} {rooms = rooms} {found = found} more larger kept is alike longer few le =
+    → IsKept w same rooms more larger
+kept_grown {w = w} {es = es} {rooms = rooms} {found = found} more larger kept is alike longer few le =
     let spare = kept.spare in
-    subst (λ (xs : List Entry). IsKept w xs b rooms more larger) (sym is) (record {
-      first = kept.first;
+    subst (λ (xs : List Entry). IsKept w xs rooms more larger) (sym is) (record {
       threads = few;
       within = λ t. (
           let e : slice_index more t ≡ slice_index found t = ap (λ (f : ℕ → ℕ). f t) alike in
@@ -132,13 +119,12 @@ kept_grown {w = w} {es = es} {b = b} {rooms = rooms} {found = found} more larger
     })
 
 -- a room joins
-pub kept_pushed : {w : ℕ} {es : List Entry} {b : Option Named} {rooms : List Room} {found : List ℕ} {m : ℕ}
-    (s : Room) → IsKept w es b rooms found m → has_room_in rooms s.thread.0 ≡ false → IsRoom (length found) s
-    → length es + (length rooms + 1) ≤ m → IsKept w es b (rooms ++ s ∷ []) found m
+pub kept_pushed : {w : ℕ} {es : List Entry} {rooms : List Room} {found : List ℕ} {m : ℕ}
+    (s : Room) → IsKept w es rooms found m → has_room_in rooms s.thread.0 ≡ false → IsRoom (length found) s
+    → length es + (length rooms + 1) ≤ m → IsKept w es (rooms ++ s ∷ []) found m
 kept_pushed {rooms = rooms} {found = found} s kept none is spare =
     let more : length (rooms ++ s ∷ []) ≡ length rooms + 1 = length_push rooms s in
     record {
-      first = kept.first;
       threads = kept.threads;
       within = kept.within;
       wide = kept.wide;

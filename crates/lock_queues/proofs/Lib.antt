@@ -2,6 +2,7 @@ pub mod Placing
 pub mod Lookup
 pub mod Counting
 pub mod Latest
+pub mod Listing
 pub mod Keeping
 pub mod Storing
 pub mod Changes

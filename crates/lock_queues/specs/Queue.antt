@@ -1,7 +1,5 @@
 -- What is kept of one lock.
-use Rattle.std.specs.Prelude.{ℕ, ◌≡◌, ◌+◌, ◌<◌, ◌≤◌, List, [], ◌∷◌, length, slice_index, slice_index_or}
-use Rattle.std.specs.Prelude.{Option, Some, None}
-use Rattle.vector_clocks.specs.Marks.{Named}
+use Rattle.std.specs.Prelude.{ℕ, ◌≡◌, ◌+◌, ◌<◌, ◌≤◌, List, [], length, slice_index, slice_index_or}
 use Rattle.lock_queues.specs.Sections.{entry_at}
 use Rattle.lock_queues.specs.Rooms.{AreRooms, opened_in}
 use Rattle.lock_queues.specs.declared.rooms.Room.{Room}
@@ -17,15 +15,9 @@ pub record Kept : Type 0 where
   -- for how many entries there is memory
   pub most : ℕ
 
--- the mark of the first section's acquire
-abbrev pub first_of : List Entry → Option Named
-first_of [] = None
-first_of (e ∷ es) = Some e.acquire
-
 -- what the fields keep
-pub record IsKept (width : ℕ) (entries : List Entry) (begun : Option Named) (rooms : List Room)
-    (found : List ℕ) (most : ℕ) : Type 0 where
-  pub first : begun ≡ first_of entries
+pub record IsKept (width : ℕ) (entries : List Entry) (rooms : List Room) (found : List ℕ) (most : ℕ) :
+    Type 0 where
   pub threads : length found ≤ width
   pub within : (t : ℕ) → slice_index found t ≤ length entries
   pub wide : (k : ℕ) → k < length entries → (entry_at entries k).place.width ≤ width

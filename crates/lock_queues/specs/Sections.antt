@@ -2,10 +2,11 @@
 use Rattle.std.specs.Prelude.{ℕ, ◌≡◌, ◌≤◌, ◌<◌, List, [], ◌∷◌, ◌++◌, length, map}
 use Rattle.std.specs.Prelude.{slice_index_or, Option, Some, None, cond}
 use Rattle.std.specs.Option.{option_or}
+use Rattle.std.specs.Simd.Lanes.{zip2}
 use Rattle.event_core.specs.Closed.{Closed, is_counted}
 use Rattle.vector_clocks.specs.Counts.{counts_of}
 use Rattle.vector_clocks.specs.Marks.{Named}
-use Rattle.vector_clocks.specs.Releases.{numbers_at, raised, IsReadable, IsAdded}
+use Rattle.vector_clocks.specs.Releases.{Place, numbers_at, raised, IsReadable, IsAdded}
 use Rattle.lock_queues.specs.declared.sections.Entry.{Entry}
 
 -- the mark of the acquire, and the numbers of the release's clock, beyond which each is 0
@@ -68,6 +69,22 @@ no_entry = record {
 
 abbrev pub entry_at : List Entry → ℕ → Entry
 entry_at entries k = slice_index_or entries k no_entry
+
+-- the marks of their acquires
+abbrev pub acquires_of : List Entry → List Named
+acquires_of entries = map (λ e. e.acquire) entries
+
+abbrev pub mark_at : List Named → ℕ → Named
+mark_at marks k = slice_index_or marks k no_entry.acquire
+
+-- the entries of such marks and places
+abbrev pub entries_of : List Named → List Place → List Entry
+entries_of marks places = zip2 (λ m p. record { acquire = m; place = p }) marks places
+
+-- closed sections, and for how many there is memory
+pub record Listed : Type 0 where
+  pub entries : List Entry
+  pub most : ℕ
 
 -- their numbers are there
 abbrev pub AreReadable : List ℕ → List Entry → Type 0

@@ -6,8 +6,8 @@
 ghost use Rattle.std.specs.Prelude.{◌≡◌, ◌≤◌, length, max, slice_index, OnOk};
 
 use crate::rooms::{Room, find};
-use crate::search::search_from;
-use crate::sections::Entry;
+use crate::search::search;
+use crate::sections::{ClosedSections, Entry};
 use event_core::{OutOfMemory, ThreadId, grow_to};
 use std::alloc::Global;
 use std::marker::Model;
@@ -18,37 +18,32 @@ pub(crate) struct Queue {
     width: usize,
     // The closed sections, in the order of their releases, whose clocks never go down. There is memory for
     // one more of each room.
-    entries: Vec<Entry>,
-    // The mark of the first one's acquire: a thread that has found none is often to find none, and the
-    // entries lie elsewhere in memory.
-    first: Option<Mark>,
+    entries: ClosedSections,
     rooms: Vec<Room>,
     // By the number of the thread, how many of the first closed sections it has found counted.
     found: Vec<usize>,
 }
 
 impl Model for Queue {
-    ghost use Rattle.std.specs.Prelude.{vec_capacity};
     ghost use Rattle.lock_queues.specs.Queue.{Kept, IsKept};
 
     ghost Value = { Kept };
 
     ghost view = { λ q. record {
       width = q.width;
-      entries = q.entries.items;
+      entries = q.entries.entries;
       rooms = q.rooms.items;
       found = q.found.items;
-      most = vec_capacity q.entries;
+      most = q.entries.most;
     } };
 
     ghost invariant = { λ q.
-        IsKept q.width q.entries.items q.first q.rooms.items q.found.items (vec_capacity q.entries) };
+        IsKept q.width q.entries.entries q.rooms.items q.found.items q.entries.most };
 }
 
 impl Queue {
     ghost use Rattle.std.specs.Prelude.{◌≡◌, ℕ, ◌+◌, ◌-◌, ◌<◌, ◌≤◌, ◌^◌, length, cond};
     ghost use Rattle.std.specs.Prelude.{true, false, MatchOption, IsTrue, OnOk, OnErr, slice_index};
-    ghost use Rattle.std.specs.Prelude.{vec_capacity};
     ghost use Rattle.event_core.specs.Rows.{with_row};
     ghost use Rattle.vector_clocks.specs.Counts.{counts_of};
     ghost use Rattle.lock_queues.specs.Rooms.{has_room_in, opened_in};
@@ -64,8 +59,7 @@ impl Queue {
     {
         Queue {
             width,
-            entries: Vec::new(alloc),
-            first: None,
+            entries: ClosedSections::new(alloc),
             rooms: Vec::new(alloc),
             found: Vec::new(alloc),
         }
@@ -111,7 +105,7 @@ impl Queue {
         if self.found.len() <= thread.0 as usize || self.rooms.capacity() < more {
             return false;
         }
-        if self.entries.capacity() - self.entries.len() < more {
+        if !self.entries.ready(more) {
             return false;
         }
         self.rooms.push_reserved(Room {
@@ -131,8 +125,7 @@ impl Queue {
             (length self.new.entries + (length self.new.rooms + 1) ≤ self.new.most) }
     {
         grow_to(&mut self.found, thread.0 as usize + 1, || 0)?;
-        self.entries.reserve(self.rooms.len() + 1)?;
-        Ok(())
+        self.entries.make_room(self.rooms.len() + 1)
     }
 
     // The thread's section is open from the event on.
@@ -173,9 +166,8 @@ impl Queue {
         let at = find(&self.rooms, thread);
         let room = self.rooms.remove(at);
         let acquire = room.opened.unwrap();
-        self.first = self.first.or(Some(acquire));
         let place = releases.push(thread, clock);
-        self.entries.push_reserved(Entry { acquire, place });
+        self.entries.push(Entry { acquire, place });
     }
 
     // How many of the sections the clock counts, which the thread then has found.
@@ -201,7 +193,7 @@ impl Queue {
             ≤ work.new.comparisons + slice_index self.old.found thread.0 }
     {
         let at = thread.0 as usize;
-        let more = search_from(self.first, &self.entries, self.found[at], clock, work);
+        let more = search(self.entries.acquires(), self.found[at], clock, work);
         self.found[at] = more;
         more
     }
@@ -241,7 +233,7 @@ impl Queue {
         ensures { IsSection result self.now.width
             (closed_as (section_of releases.now.numbers (entry_at self.now.entries at))) }
     {
-        let entry = &self.entries[at];
+        let entry = self.entries.at(at);
         releases.at(entry.acquire.thread(), &entry.place)
     }
 }

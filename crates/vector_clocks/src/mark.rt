@@ -7,32 +7,38 @@ use crate::clock::Clock;
 use crate::work::Work;
 use event_core::ThreadId;
 use std::marker::Model;
+use std::mem::size_of;
 
-/// An event, by its thread and its position among that thread's events, from 1.
+/// An event, by its thread and its position among that thread's events, from 1. A log has at most 2^32
+/// events, so the number of those before it takes 32 bits.
 #[derive(Clone, Copy)]
 pub struct Mark {
     thread: u32,
-    position: u64,
+    before: u32,
 }
 
+// There is one for each closed section, and a search goes over them.
+const _: () = prove!(size_of::<Mark>() == 8);
+
 impl Model for Mark {
+    ghost use Rattle.std.specs.Prelude.{◌+◌, ◌-◌};
     ghost use Rattle.vector_clocks.specs.Marks.{Named};
 
     ghost Value = { Named };
 
-    ghost view = { λ m. record { thread = m.thread; position = m.position } };
+    ghost view = { λ m. record { thread = m.thread; position = m.before + 1 } };
 
-    ghost inverse = { λ n. record { thread = n.thread; position = n.position } };
+    ghost inverse = { λ n. record { thread = n.thread; before = n.position - 1 } };
 }
 
 impl Mark {
-    /// The mark of the thread's event at the position.
-    pub fn new(thread: ThreadId, position: u64) -> Mark
-        ensures { result ≡ record { thread = thread.0; position = position } }
+    /// The mark of the thread's event before which the thread has so many.
+    pub fn new(thread: ThreadId, before: u32) -> Mark
+        ensures { result ≡ record { thread = thread.0; position = before + 1 } }
     {
         Mark {
             thread: thread.0,
-            position,
+            before,
         }
     }
 
@@ -51,6 +57,6 @@ impl Mark {
         ensures work { work.new ≡ record work.old { comparisons = work.old.comparisons + 1 } }
     {
         work.add_comparison();
-        self.position <= clock.at(ThreadId(self.thread))
+        (self.before as u64) < clock.at(ThreadId(self.thread))
     }
 }

@@ -1,7 +1,7 @@
 -- What an effect does to the clocks, in the words of the step.
 use Rattle.std.proofs.Common.{◌≡◌, ℕ, ◌+◌, ◌<◌, Bool, true, false, nat_eq, nat_lt, not, ◌&&◌, ◌||◌, cond}
-use Rattle.std.proofs.Common.{List, [], ◌∷◌}
-use Rattle.std.proofs.Common.{sym, ap, ap₂, subst, ◌∙◌, refl, arith, inl, inr, ◌⊎◌, ◌↔◌}
+use Rattle.std.proofs.Common.{List, [], ◌∷◌, max}
+use Rattle.std.proofs.Common.{sym, ap, ap₂, ◌∙◌, refl, arith, inl, inr, ◌⊎◌, ◌↔◌}
 use Rattle.std.proofs.lemmas.Bool.{cases_Bool, eqb-true, eq-eqb, ltb_from_iff}
 use Rattle.event_core.specs.declared.ids.LockId.{LockId}
 use Rattle.event_core.specs.declared.ids.VarId.{VarId}
@@ -11,7 +11,7 @@ use Rattle.event_core.specs.declared.events.AccessKind.{AccessKind}
 use Rattle.event_core.specs.declared.events.AccessKind.TheVariants.{Read, Write}
 use Rattle.event_core.specs.Closed.{Closed, Has, first, later}
 use Rattle.event_core.specs.Rows.{join, bump, brought}
-use Rattle.event_core.specs.Effect.{Accesses, Closes}
+use Rattle.event_core.specs.Effect.{Accesses, Opens, Closes}
 use Rattle.hb_clocks.specs.State as hb
 use Rattle.section_sum.specs.Cell.{is_kind}
 use Rattle.section_sum.specs.Sums.{Sums, noted_of, is_held, is_access, SameOthers}
@@ -88,8 +88,10 @@ same_numbers old new closed same are l v k t =
     let e = same l v k t in let n = are l v k t in omega arith
 
 -- after its event the thread counts itself
-pub own_counted : (e : Event) (old new : hb.HbState) → new ≡ hb.after e old → 0 < new.po e.thread.0 e.thread.0
-own_counted e old new is = subst (λ n. 0 < n) (sym (at ∙ bumped)) (omega arith)
+own_next : (e : Event) (old new : hb.HbState) → new ≡ hb.after e old
+    → new.po e.thread.0 e.thread.0
+    ≡ join (old.po e.thread.0) (brought (hb.effect e old) (hb.without_locks old.po)) e.thread.0 + 1
+own_next e old new is = ap (λ (g : ℕ → ℕ). g t) (own_program_order e old new is) ∙ bumped
   where
     t : ℕ
     t = e.thread.0
@@ -97,11 +99,21 @@ own_counted e old new is = subst (λ n. 0 < n) (sym (at ∙ bumped)) (omega arit
     f : ℕ → ℕ
     f = join (old.po t) (brought (hb.effect e old) (hb.without_locks old.po))
 
-    at : new.po t t ≡ hb.po_row e old t
-    at = ap (λ (g : ℕ → ℕ). g t) (own_program_order e old new is)
-
     bumped : bump t f t ≡ f t + 1
     bumped = ap (λ b. cond b (f t + 1) (f t)) (eq-eqb t t refl)
+
+pub own_counted : (e : Event) (old new : hb.HbState) → new ≡ hb.after e old → 0 < new.po e.thread.0 e.thread.0
+own_counted e old new is = let next = own_next e old new is in omega arith
+
+-- after an outer acquire it counts one event more of itself
+pub own_opened : (e : Event) (l : LockId) (old new : hb.HbState) → hb.effect e old ≡ Opens l
+    → new ≡ hb.after e old → new.po e.thread.0 e.thread.0 ≡ old.po e.thread.0 e.thread.0 + 1
+own_opened e l old new opens is =
+    let next = own_next e old new is in
+    let t = e.thread.0 in
+    let none : join (old.po t) (brought (hb.effect e old) (hb.without_locks old.po)) t ≡ max (old.po t t) 0
+    = ap (λ k. join (old.po t) (brought k (hb.without_locks old.po)) t) opens in
+    omega arith
 
 -- the thread's clock of happens-before after its event
 pub own_happens_before : (e : Event) (old new : hb.HbState) → new ≡ hb.after e old

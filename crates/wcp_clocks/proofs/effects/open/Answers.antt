@@ -6,7 +6,7 @@ use Rattle.lock_queues.specs.Queues.{opened_of}
 use Rattle.wcp_laws.specs.Step.{hb_row}
 use Rattle.wcp_clocks.specs.Met.{met_clocks, AreNumbers}
 use Rattle.wcp_clocks.specs.Parts.{hb_of, state_of}
-use Rattle.wcp_clocks.proofs.EffectWords.{own_program_order, own_counted}
+use Rattle.wcp_clocks.proofs.EffectWords.{own_program_order, own_counted, own_opened}
 use Rattle.wcp_clocks.proofs.Passing.{joins_told}
 use Rattle.wcp_clocks.proofs.effects.open.Goals as goal
 
@@ -15,8 +15,17 @@ advance-requires-clause-work c =
     let w = ap (λ (d : Done). d.joins) c.take_lock.ensures.work in
     let few = c.requires.fits.joins in omega arith
 
-pub mark-requires : goal.mark-requires
-mark-requires c = own_counted c.args.event.now (hb_of c.args.parts.now) _ c.advance.ensures.exact
+pub mark-requires-clause-some : goal.mark-requires-clause-some
+mark-requires-clause-some c = own_counted c.args.event.now (hb_of c.args.parts.now) _ c.advance.ensures.exact
+
+pub mark-requires-clause-few : goal.mark-requires-clause-few
+mark-requires-clause-few c =
+    let e = c.args.event.now in
+    let old = hb_of c.args.parts.now in
+    let next = own_opened e c.args.lock old _ c.requires.effect c.advance.ensures.exact in
+    let few = c.requires.fits.few_counts e.thread.0 in
+    let own = c.requires.fits.own in
+    omega arith
 
 pub returns : goal.returns
 returns c =

@@ -1,8 +1,6 @@
 use Rattle.std.proofs.Common.{◌≡◌, ℕ, ◌++◌, ◌∷◌, [], ap, sym, subst, ◌∙◌, arith, List}
-use Rattle.std.proofs.Common.{false, vec_capacity}
-use Rattle.std.proofs.Common.{Option}
+use Rattle.std.proofs.Common.{false}
 use Rattle.std.specs.List.{remove}
-use Rattle.vector_clocks.specs.Marks.{Named}
 use Rattle.event_core.specs.Rows.{with_row}
 use Rattle.vector_clocks.specs.Counts.{counts_of}
 use Rattle.vector_clocks.specs.Releases.{IsAdded}
@@ -54,19 +52,13 @@ invariant_of-self c =
     let within = added.within in
     let width = ap (λ (k : Kept). k.width) c.self.view_is in
     let wide = c.requires.width in
-    let capacity = c.push_reserved.ensures.capacity in
-    let Keeps : List Entry → Option Named → List Room → Type 0
-    = λ es first rs. IsKept c.self.inside.width es first rs c.self.inside.found.items
-    (vec_capacity c.push_reserved.new.self) in
-    let first = c.or-self-inside.result in
+    let more = c.push.ensures.most in
+    let Keeps : List Entry → List Room → Type 0
+    = λ es rs. IsKept c.self.inside.width es rs c.self.inside.found.items c.push.new.self.most in
     let x : Entry = record { acquire = c.unwrap-acquire.result; place = c.push-place.result } in
-    subst (λ rs. Keeps c.push_reserved.new.self.items first rs) (sym c.remove-room.ensures.items)
-    (subst (λ es. Keeps es first (remove c.self.inside.rooms.items c.find-at.result))
-    (sym c.push_reserved.ensures.items)
-    (subst (λ o. Keeps (c.self.inside.entries.items ++ x ∷ []) o
-    (remove c.self.inside.rooms.items c.find-at.result))
-    (sym c.or-self-inside.ensures)
-    (kept_left x _ c.self.invariant p (omega arith) (omega arith) (omega arith))))
+    subst (Keeps c.push.new.self.entries) (sym c.remove-room.ensures.items)
+    (subst (λ es. Keeps es (remove c.self.inside.rooms.items c.find-at.result)) (sym c.push.ensures.entries)
+    (kept_left x _ c.self.invariant p (omega arith) (omega arith) (omega arith)))
 
 pub returns-clause-joined : goal.returns-clause-joined
 returns-clause-joined c =
@@ -79,7 +71,7 @@ returns-clause-joined c =
     let x : Entry = record { acquire = c.unwrap-acquire.result; place = c.push-place.result } in
     record {
       entry = x;
-      entries = c.push_reserved.ensures.items ∙ ap (λ (k : Kept). k.entries ++ x ∷ []) c.self.view_is;
+      entries = c.push.ensures.entries ∙ ap (λ (k : Kept). k.entries ++ x ∷ []) c.self.view_is;
       thread = marked ∙ sym room.thread;
       acquired = sym (room.opened ∙ ap position_of c.unwrap-acquire.ensures)
           ∙ ap (λ (k : Kept). opened_in k.rooms t) c.self.view_is;

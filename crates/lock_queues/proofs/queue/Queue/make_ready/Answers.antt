@@ -1,5 +1,5 @@
 use Rattle.std.proofs.Common.{◌≡◌, ◌+◌, ◌≤◌, ℕ, Bool, None, true, false, List, length, arith}
-use Rattle.std.proofs.Common.{ap, refl, sym, subst, ◌∙◌, vec_capacity}
+use Rattle.std.proofs.Common.{ap, refl, sym, subst, ◌∙◌}
 use Rattle.event_core.specs.Rows.{with_row}
 use Rattle.lock_queues.specs.declared.rooms.Room.{Room}
 use Rattle.std.specs.Prelude.{slice_index}
@@ -21,16 +21,12 @@ invariant_of-self c =
     let within = c.if-len-thread.false in
     let room : IsRoom (length found) s = record { within = omega (arith, threads); own = tt } in
     let rooms = c.self.inside.rooms.ok in
-    let entries = c.self.inside.entries.ok in
     let len = c.len-more.ensures in
-    let capacity = c.capacity-2.ensures in
-    let count_entries = c.len-2.ensures in
-    let enough = c.if-capacity-len.false in
-    let places = c.if-capacity-more.false in
-    let spare : length c.self.inside.entries.items + (length c.self.inside.rooms.items + 1)
-    ≤ vec_capacity c.self.inside.entries = omega (arith, rooms, entries) in
-    subst (λ (xs : List Room). IsKept c.self.inside.width c.self.inside.entries.items c.self.inside.first xs
-    found (vec_capacity c.self.inside.entries))
+    let entries = c.ready.ensures.0 c.if-not-ready.false in
+    let spare : length c.self.inside.entries.entries + (length c.self.inside.rooms.items + 1)
+    ≤ c.self.inside.entries.most = omega (arith, rooms, entries) in
+    subst (λ (xs : List Room). IsKept c.self.inside.width c.self.inside.entries.entries xs found
+    c.self.inside.entries.most)
     (sym c.push_reserved.ensures.items) (kept_pushed s c.self.invariant none room spare)
 
 pub returns-clause-same : goal.returns-clause-same

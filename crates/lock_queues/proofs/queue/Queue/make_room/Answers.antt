@@ -1,5 +1,5 @@
 use Rattle.std.proofs.Common.{◌≡◌, None, true, false, length, arith, ap, refl, sym, subst, ◌∙◌}
-use Rattle.std.proofs.Common.{List, vec_capacity}
+use Rattle.std.proofs.Common.{List}
 use Rattle.std.specs.Prelude.{slice_index}
 use Rattle.event_core.specs.Rows.{with_row}
 use Rattle.lock_queues.specs.declared.rooms.Room.{Room}
@@ -23,8 +23,8 @@ invariant_of-self-2 c =
     let rooms = ap (λ (k : Kept). length k.rooms) c.self.view_is in
     let most = ap (λ (k : Kept). k.most) c.self.view_is in
     let spare = c.in_ok-reserve.ensures.spare in
-    subst (λ (xs : List Room). IsKept c.self.inside.width c.self.inside.entries.items c.self.inside.first xs
-    found (vec_capacity c.self.inside.entries))
+    subst (λ (xs : List Room). IsKept c.self.inside.width c.self.inside.entries.entries xs found
+    c.self.inside.entries.most)
     (sym c.in_ok-push.ensures.items) (kept_pushed s c.self.invariant none room (omega arith))
 
 pub returns-clause-same : goal.returns-clause-same

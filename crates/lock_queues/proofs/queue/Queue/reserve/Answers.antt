@@ -12,24 +12,13 @@ invariant_of-self c =
     kept_grown _ _ c.self.invariant refl (λ i t. c.grow_to.ensures.same 0 (λ n given. search rules) t i)
     c.grow_to.ensures.more (omega arith) (omega arith)
 
-pub invariant_of-self-in_err-reserve : goal.invariant_of-self-in_err-reserve
-invariant_of-self-in_err-reserve c =
-    let most = c.grow_to.ensures.most in
-    let few = c.self.invariant.threads in
-    let lt = c.requires.within in
-    let width = ap (λ (k : Kept). k.width) c.self.view_is in
-    kept_grown _ _ c.self.invariant c.reserve.ensures.items
-    (λ i t. c.grow_to.ensures.same 0 (λ n given. search rules) t i) c.grow_to.ensures.more
-    (omega arith)
-    c.reserve.ensures.capacity
-
 pub invariant_of-self-2 : goal.invariant_of-self-2
 invariant_of-self-2 c =
     let most = c.grow_to.ensures.most in
     let few = c.self.invariant.threads in
     let lt = c.requires.within in
     let width = ap (λ (k : Kept). k.width) c.self.view_is in
-    kept_grown _ _ c.self.invariant c.reserve.ensures.items
+    kept_grown _ _ c.self.invariant c.make_room.ensures.same
     (λ i t. c.grow_to.ensures.same 0 (λ n given. search rules) t i) c.grow_to.ensures.more
     (omega arith)
-    c.reserve.ensures.capacity
+    c.make_room.ensures.larger
