@@ -3,7 +3,7 @@
 //! Each line of a log has an event, and how many events of each thread strictly precede it. These numbers are
 //! worked out by hand from the paper's rules. That the event is legal is learned from a memory, which permits
 //! its call. Where a growth is refused once, the same call is made again and gives the same numbers.
-ghost use Rattle.std.specs.Prelude.{◌≡◌, List, [], IfOk, OnOk};
+ghost use Rattle.std.specs.Prelude.{◌≡◌, ◌<◌, List, [], IfOk, OnOk};
 ghost use Rattle.event_core.specs.declared.events.Event.{Event as AnEvent};
 ghost use Rattle.traced_mem.specs.OfLog.{StandsFor as MemoryStandsFor};
 ghost use Rattle.traced_mem.specs.Room.{IsReady as MemoryIsReady};
@@ -15,11 +15,12 @@ ghost use Rattle.clock_tests.specs.OneLog.{small, StandForOneLog};
 
 mod cases;
 
+use crate::clocks::event;
 use cases::{
     CHILD, CROSSED_SECTIONS, EARLIER_RELEASE, INNER_RELEASES, Line, MAIN, OTHER,
-    OVERLAPPING_SECTIONS, RELEASES_OF_ONE_THREAD,
+    OVERLAPPING_SECTIONS, RELEASES_OF_ONE_THREAD, Y,
 };
-use event_core::{Call, Event, Limits, Op, OutOfMemory, Roots, SiteId, ThreadId};
+use event_core::{Call, Event, Limits, Op, OutOfMemory, Roots, SiteId, ThreadId, VarId};
 use std::alloc::Global;
 use std::process::Abort;
 use traced_mem::Memory;
@@ -54,6 +55,20 @@ fn make_room(clocks: &mut WcpClocks, event: &Event) -> Result<(), OutOfMemory>
         return Ok(());
     }
     clocks.prepare(event)
+}
+
+// Makes room for both events of a swap. Where a growth is refused, the same call is made again.
+fn make_room_to_swap(
+    clocks: &mut WcpClocks,
+    thread: ThreadId,
+    var: VarId,
+) -> Result<(), OutOfMemory>
+    requires { thread.0 < width_of clocks.old }
+{
+    if clocks.prepare_swap(thread, var).is_ok() {
+        return Ok(());
+    }
+    clocks.prepare_swap(thread, var)
 }
 
 // Makes room for the call where it is permitted, and tells whether there is room now.
@@ -169,4 +184,16 @@ fn rule_b_orders_the_releases_of_overlapping_sections(rt: HostRuntime) {
 #[test]
 fn an_inner_release_ends_no_section(rt: HostRuntime) {
     follow(&rt, rt.alloc(), INNER_RELEASES, CHILD, [6, 5, 0]);
+}
+
+#[test]
+fn room_for_a_swap_serves_its_load_and_its_store(rt: HostRuntime) {
+    let limits = small_limits(&rt);
+    let mut clocks = begin_clocks(rt.alloc(), &limits).expect(&rt, "memory");
+    assert!(rt; !clocks.ready_swap(MAIN, Y));
+    assert!(rt; make_room_to_swap(&mut clocks, MAIN, Y).is_ok(), "memory");
+    assert!(rt; clocks.ready_swap(MAIN, Y));
+    assert!(rt; clocks.ready(&event(MAIN, Op::Load(Y))));
+    assert!(rt; clocks.ready(&event(MAIN, Op::Store(Y))));
+    drop(clocks);
 }

@@ -5,8 +5,8 @@ use std::marker::Model;
 
 /// How many comparisons of a mark with a clock and how many joins of clocks were made.
 ///
-/// Contracts alone see the numbers. One is made with a monitor's clocks of happens-before, and none beside
-/// it.
+/// Contracts alone see the numbers. A monitor counts all its work into one, which is made with its clocks of
+/// happens-before.
 #[derive(Drop)]
 pub struct Work {
     comparisons: u64,
