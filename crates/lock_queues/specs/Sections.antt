@@ -77,9 +77,18 @@ acquires_of entries = map (λ e. e.acquire) entries
 abbrev pub mark_at : List Named → ℕ → Named
 mark_at marks k = slice_index_or marks k no_entry.acquire
 
+abbrev pub first_of : List Named → Option Named
+first_of [] = None
+first_of (m ∷ ms) = Some m
+
 -- the entries of such marks and places
 abbrev pub entries_of : List Named → List Place → List Entry
 entries_of marks places = zip2 (λ m p. record { acquire = m; place = p }) marks places
+
+-- they are of the same sections, of which the first has this mark
+pub record AreLists (first : Option Named) (marks : List Named) (places : List Place) : Type 0 where
+  pub same : length marks ≡ length places
+  pub begun : first ≡ first_of marks
 
 -- closed sections, and for how many there is memory
 pub record Listed : Type 0 where

@@ -6,7 +6,7 @@
 ghost use Rattle.std.specs.Prelude.{◌≡◌, ◌≤◌, length, max, slice_index, OnOk};
 
 use crate::rooms::{Room, find};
-use crate::search::search;
+use crate::search::search_from;
 use crate::sections::{ClosedSections, Entry};
 use event_core::{OutOfMemory, ThreadId, grow_to};
 use std::alloc::Global;
@@ -193,7 +193,9 @@ impl Queue {
             ≤ work.new.comparisons + slice_index self.old.found thread.0 }
     {
         let at = thread.0 as usize;
-        let more = search(self.entries.acquires(), self.found[at], clock, work);
+        let first = self.entries.first();
+        let acquires = self.entries.acquires();
+        let more = search_from(first, acquires, self.found[at], clock, work);
         self.found[at] = more;
         more
     }

@@ -25,45 +25,45 @@ index_mut-requires c =
     let len = c.self.inside.found.ok.0 in
     omega arith
 
-pub search-more-requires-clause-within : goal.search-more-requires-clause-within
-search-more-requires-clause-within c =
+pub search_from-more-requires-clause-within : goal.search_from-more-requires-clause-within
+search_from-more-requires-clause-within c =
     let same = ap (λ (k : Kept). has_room_in k.rooms c.args.thread.0) c.self.view_is in
     let lt = thread_within c.args.thread.0 c.self.invariant (same ∙ c.requires.room) in
     let is = get_or_read c.self.inside.found.items c.args.thread.0 _ lt c.index.ensures 0 in
     let le = c.self.invariant.within c.args.thread.0 in
-    let seen = count_seen _ c.acquires.ensures in
+    let seen = count_seen _ c.acquires-acquires.ensures in
     omega arith
 
-pub search-more-requires-clause-before : goal.search-more-requires-clause-before
-search-more-requires-clause-before c k small =
+pub search_from-more-requires-clause-before : goal.search_from-more-requires-clause-before
+search_from-more-requires-clause-before c k small =
     let same = ap (λ (k : Kept). has_room_in k.rooms c.args.thread.0) c.self.view_is in
     let lt = thread_within c.args.thread.0 c.self.invariant (same ∙ c.requires.room) in
     let here = get_or_read c.self.inside.found.items c.args.thread.0 _ lt c.index.ensures 0 in
     let is = ap (λ (k : Kept). slice_index k.found c.args.thread.0) c.self.view_is in
-    subst (Counts c.args.clock.now) (sym (mark_seen _ (c.acquires.ensures ∙ ap (λ (q : Kept). acquires_of q.entries) c.self.view_is) k)) (c.requires.before k (omega arith))
+    subst (Counts c.args.clock.now) (sym (mark_seen _ (c.acquires-acquires.ensures ∙ ap (λ (q : Kept). acquires_of q.entries) c.self.view_is) k)) (c.requires.before k (omega arith))
 
-pub search-more-requires-clause-widths : goal.search-more-requires-clause-widths
-search-more-requires-clause-widths c k small =
-    let count = count_seen _ c.acquires.ensures in
+pub search_from-more-requires-clause-widths : goal.search_from-more-requires-clause-widths
+search_from-more-requires-clause-widths c k small =
+    let count = count_seen _ c.acquires-acquires.ensures in
     let lt : k < length c.self.inside.entries.entries = omega (arith, count, small) in
     let own = c.self.invariant.marked k lt in
     let wide = c.self.invariant.wide k lt in
     let width = ap (λ (q : Kept). q.width) c.self.view_is in
     let clock = c.requires.width in
-    let is = ap (λ (m : Named). m.thread) (mark_seen _ c.acquires.ensures k) in
+    let is = ap (λ (m : Named). m.thread) (mark_seen _ c.acquires-acquires.ensures k) in
     omega arith
 
 pub returns-clause-counted : goal.returns-clause-counted
 returns-clause-counted c k small =
-    let are = c.acquires.ensures ∙ ap (λ (q : Kept). acquires_of q.entries) c.self.view_is in
-    subst (Counts c.args.clock.now) (mark_seen _ are k) (c.search-more.ensures.counted k small)
+    let are = c.acquires-acquires.ensures ∙ ap (λ (q : Kept). acquires_of q.entries) c.self.view_is in
+    subst (Counts c.args.clock.now) (mark_seen _ are k) (c.search_from-more.ensures.counted k small)
 
 pub returns-clause-found : goal.returns-clause-found
 returns-clause-found c =
     let same = ap (λ (k : Kept). has_room_in k.rooms c.args.thread.0) c.self.view_is in
     let lt = thread_within c.args.thread.0 c.self.invariant (same ∙ c.requires.room) in
-    counts_set c.self.inside.found.items c.args.thread.0 c.search-more.result lt
-    ∙ ap (λ (k : Kept). with_row c.args.thread.0 c.search-more.result (slice_index k.found))
+    counts_set c.self.inside.found.items c.args.thread.0 c.search_from-more.result lt
+    ∙ ap (λ (k : Kept). with_row c.args.thread.0 c.search_from-more.result (slice_index k.found))
     c.self.view_is
 
 pub returns-clause-most : goal.returns-clause-most
@@ -72,7 +72,7 @@ returns-clause-most c =
     let lt = thread_within c.args.thread.0 c.self.invariant (same ∙ c.requires.room) in
     let here = get_or_read c.self.inside.found.items c.args.thread.0 _ lt c.index.ensures 0 in
     let is = ap (λ (k : Kept). slice_index k.found c.args.thread.0) c.self.view_is in
-    let work = c.search-more.ensures.most in
+    let work = c.search_from-more.ensures.most in
     omega arith
 
 pub returns-clause-least : goal.returns-clause-least
@@ -81,13 +81,13 @@ returns-clause-least c =
     let lt = thread_within c.args.thread.0 c.self.invariant (same ∙ c.requires.room) in
     let here = get_or_read c.self.inside.found.items c.args.thread.0 _ lt c.index.ensures 0 in
     let is = ap (λ (k : Kept). slice_index k.found c.args.thread.0) c.self.view_is in
-    let work = c.search-more.ensures.least in
+    let work = c.search_from-more.ensures.least in
     omega arith
 
 pub invariant_of-self : goal.invariant_of-self
 invariant_of-self c =
     let same = ap (λ (k : Kept). has_room_in k.rooms c.args.thread.0) c.self.view_is in
     let lt = thread_within c.args.thread.0 c.self.invariant (same ∙ c.requires.room) in
-    let seen = count_seen _ c.acquires.ensures in
-    kept_found c.args.thread.0 c.search-more.result c.self.invariant lt
-    (omega (arith, seen, c.search-more.ensures.within))
+    let seen = count_seen _ c.acquires-acquires.ensures in
+    kept_found c.args.thread.0 c.search_from-more.result c.self.invariant lt
+    (omega (arith, seen, c.search_from-more.ensures.within))

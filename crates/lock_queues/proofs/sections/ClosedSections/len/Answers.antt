@@ -5,7 +5,7 @@ use Rattle.lock_queues.proofs.sections.ClosedSections.len.Goals as goal
 
 pub returns : goal.returns
 returns c =
-    let count = count_listed c.self.inside.acquires.items c.self.inside.places.items c.self.invariant in
+    let count = count_listed c.self.inside.acquires.items c.self.inside.places.items c.self.invariant.same in
     let is = ap (λ (l : Listed). length l.entries) c.self.view_is in
     let len = c.self.inside.acquires.ok.0 in
     let got = c.len.ensures in

@@ -5,7 +5,7 @@ use Rattle.lock_queues.proofs.sections.ClosedSections.push.Goals as goal
 
 pub push_reserved-requires : goal.push_reserved-requires
 push_reserved-requires c =
-    let count = count_listed c.self.inside.acquires.items c.self.inside.places.items c.self.invariant in
+    let count = count_listed c.self.inside.acquires.items c.self.inside.places.items c.self.invariant.same in
     let is = ap (λ (l : Listed). length l.entries) c.self.view_is in
     let most = ap (λ (l : Listed). l.most) c.self.view_is in
     let len = c.self.inside.acquires.ok.0 in
@@ -14,7 +14,7 @@ push_reserved-requires c =
 
 pub push_reserved-requires-2 : goal.push_reserved-requires-2
 push_reserved-requires-2 c =
-    let same = c.self.invariant in
+    let same = c.self.invariant.same in
     let count = count_listed c.self.inside.acquires.items c.self.inside.places.items same in
     let is = ap (λ (l : Listed). length l.entries) c.self.view_is in
     let most = ap (λ (l : Listed). l.most) c.self.view_is in
@@ -26,5 +26,5 @@ pub returns-clause-entries : goal.returns-clause-entries
 returns-clause-entries c =
     ap₂ entries_of c.push_reserved.ensures.items c.push_reserved-2.ensures.items
     ∙ listed_push c.self.inside.acquires.items c.self.inside.places.items c.args.entry.acquire
-    c.args.entry.place c.self.invariant
+    c.args.entry.place c.self.invariant.same
     ∙ ap (λ (l : Listed). l.entries ++ c.args.entry ∷ []) c.self.view_is

@@ -6,7 +6,7 @@ use Rattle.lock_queues.proofs.sections.ClosedSections.ready.Goals as goal
 
 pub returns : goal.returns
 returns c =
-    let same = c.self.invariant in
+    let same = c.self.invariant.same in
     let count = count_listed c.self.inside.acquires.items c.self.inside.places.items same in
     let is = ap (λ (l : Listed). length l.entries) c.self.view_is in
     let most = ap (λ (l : Listed). l.most) c.self.view_is in
