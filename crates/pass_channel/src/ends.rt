@@ -2,7 +2,7 @@
 ghost use Rattle.std.specs.Prelude.{◌≡◌, ◌+◌, ◌<◌, ◌≤◌, max, IfOk, IfSome};
 ghost use Rattle.std.specs.Result.{IsErrOf};
 ghost use Rattle.crossbeam_channel.specs.Claims.{view, IsSeatAt};
-ghost use Rattle.crossbeam_channel.specs.Ends.{receives_on, sends_on};
+ghost use Rattle.crossbeam_channel.specs.Ends.{sends_on};
 ghost use Rattle.pass_channel.specs.Posts.{somebody};
 
 use crate::rule::{Address, Addressed, Addressee, Receives, Ruled, Sends, Terms};
@@ -11,7 +11,7 @@ use crossbeam_utils::Backoff;
 use event_core::ThreadId;
 use log_pass::{Name, Pass};
 use std::alloc::{AllocError, Global};
-use std::marker::Brand;
+use std::marker::{Brand, Model};
 use std::sync::Wait;
 
 /// The right to use one end, with what it knows of the channel.
@@ -26,14 +26,28 @@ pub struct PassSender<N: Name, T: Terms> {
     ghost knows: { view ticket ≡ somebody to },
 }
 
-/// The end out of which the pass for a thread comes. It counts how often it looked for the pass.
+/// The end out of which the pass for a thread comes. It counts how often it looked for the pass. Contracts see
+/// the thread as `to`, and the count as `looks`. Nothing but a look is counted.
 pub struct PassReceiver<N: Name, T: Terms> {
-    pub to: ThreadId,
-    pub looks: u32,
+    to: ThreadId,
+    looks: u32,
     receiver: RuledReceiver<Pass<N>, Address, Ruled<T>>,
     ticket: Ticket<N>,
-    ghost seated: { IsSeatAt (receives_on receiver) ticket },
-    ghost knows: { view ticket ≡ somebody to },
+}
+
+impl<N: Name, T: Terms> Model for PassReceiver<N, T> {
+    ghost use Rattle.std.specs.Prelude.{◌≡◌};
+    ghost use Rattle.crossbeam_channel.specs.Claims.{view as view_of, IsSeatAt};
+    ghost use Rattle.crossbeam_channel.specs.Ends.{receives_on};
+    ghost use Rattle.pass_channel.specs.Posts.{somebody};
+    ghost use Rattle.pass_channel.specs.Looks.{Looking};
+
+    ghost Value = { Looking };
+
+    ghost view = { λ r. record { to = r.to; looks = r.looks } };
+
+    ghost invariant = { λ r. IsSeatAt (receives_on r.receiver) r.ticket
+        × (view_of r.ticket ≡ somebody r.to) };
 }
 
 // By hand, so that a crate that drops an end does not prove the drop of each type within again.
