@@ -124,6 +124,13 @@ impl<N: Name, T: Terms> PassSender<N, T> {
 }
 
 impl<N: Name, T: Terms> PassReceiver<N, T> {
+    /// The thread for which the pass is.
+    pub fn to(&self) -> ThreadId
+        ensures { result ≡ self.now.to }
+    {
+        self.to
+    }
+
     /// Waits for the pass. There is none where the other end was let go without one.
     pub fn receive<R: Wait>(self, rt: &R) -> Option<Pass<N>>
         ensures { IfSome result (λ pass. T.good self.to pass) }

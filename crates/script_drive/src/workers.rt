@@ -126,7 +126,7 @@ impl<S: Text> LooseEnds<S> {
         ensures { IfSome result (λ birth. birth.receiver.to ≡ thread) }
     {
         for at in 0..self.births.len() {
-            if self.births[at].receiver.to == thread {
+            if self.births[at].receiver.to() == thread {
                 return Some(self.births.swap_remove(at));
             }
         }
