@@ -79,17 +79,13 @@ pub fn perform<N: Name, R: Abort>(
     op: Op,
     arg: u64,
 ) -> Pass<N>
-    requires holds_none { keeper.old.held ≡ None }
     requires none_due { pass.due ≡ None }
     requires limits { memory.old.limits ≡ N.limits }
-    requires stands { StandsFor memory.old (log_of keeper.old.steps) }
-    ensures holds_none { keeper.new.held ≡ None }
+    requires stands { StandsFor memory.old (log_of keeper.old) }
     ensures due { result.due ≡ forked_by op }
     ensures limits { memory.new.limits ≡ N.limits }
-    ensures stands { StandsFor memory.new (log_of keeper.new.steps) }
+    ensures stands { StandsFor memory.new (log_of keeper.new) }
 {
     let event = make(rt, memory, pass.thread(), op, arg);
-    published.lend(keeper, pass);
-    published.commit(keeper, &event);
-    published.part(keeper)
+    published.publish(keeper, pass, &event)
 }

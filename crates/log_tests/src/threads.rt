@@ -23,14 +23,12 @@ fn children<N: Name, R: Abort>(
     pass: Pass<N>,
     children: &mut Vec<Pass<N>>,
 ) -> Result<Pass<N>, AllocError>
-    requires holds_none { keeper.old.held ≡ None }
     requires none_due { pass.due ≡ None }
     requires limits { memory.old.limits ≡ N.limits }
-    requires stands { StandsFor memory.old (log_of keeper.old.steps) }
-    ensures holds_none { keeper.new.held ≡ None }
+    requires stands { StandsFor memory.old (log_of keeper.old) }
     ensures none_due { IfOk result (λ pass. pass.due ≡ None) }
     ensures limits { memory.new.limits ≡ N.limits }
-    ensures stands { StandsFor memory.new (log_of keeper.new.steps) }
+    ensures stands { StandsFor memory.new (log_of keeper.new) }
 {
     let mut pass = pass;
     for child in 1..9 {
@@ -61,10 +59,9 @@ fn stores<N: Name, R: Abort>(
     memory: &mut Memory,
     pass: Pass<N>,
 ) -> Pass<N>
-    requires holds_none { keeper.old.held ≡ None }
     requires none_due { pass.due ≡ None }
     requires limits { memory.old.limits ≡ N.limits }
-    requires stands { StandsFor memory.old (log_of keeper.old.steps) }
+    requires stands { StandsFor memory.old (log_of keeper.old) }
 {
     let mut pass = pass;
     for value in 0..100 {
@@ -121,10 +118,9 @@ fn look_beside_stores<N: Name + Send + Sync, R: Threads + Abort + Sync>(
     memory: &mut Memory,
     pass: Pass<N>,
 ) -> Result<(), AllocError>
-    requires holds_none { keeper.old.held ≡ None }
     requires none_due { pass.due ≡ None }
     requires limits { memory.old.limits ≡ N.limits }
-    requires stands { StandsFor memory.old (log_of keeper.old.steps) }
+    requires stands { StandsFor memory.old (log_of keeper.old) }
 {
     let mut others = Vec::new(alloc);
     let Ok(pass) = children(rt, published, keeper, memory, pass, &mut others) else {

@@ -5,8 +5,7 @@ use Rattle.log_tests.proofs.threads.children.Given as goal
 
 abbrev pub invariant-loop-child : goal.invariant-loop-child
 invariant-loop-child g l = record {
-  holds_none : l.keeper.held ≡ None;
   none_due : l.pass.due ≡ None;
   limits : l.memory.limits ≡ g.N.Name.limits;
-  stands : StandsFor l.memory (log_of l.keeper.steps);
+  stands : StandsFor l.memory (log_of l.keeper);
 }
