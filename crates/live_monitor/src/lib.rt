@@ -1,7 +1,7 @@
 //! The monitor that running threads share.
 //!
 //! Each thread has a pass, through which it makes its calls. A call takes the lock, and there the
-//! sequential monitor judges it. Then the pass is lent to the keeper of the one list of steps, and where
+//! sequential monitor judges it. Then the pass comes to the keeper of the one list of steps, and where
 //! the call was accepted the event is published by one addition to the one shared word, the length of the
 //! log. Then the pass, which has seen all steps and this one, parts again. A fork gives a second pass, a
 //! join spends one. Who only wants to know how far the log has come looks at the word, without the lock.

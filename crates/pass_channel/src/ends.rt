@@ -26,8 +26,8 @@ pub struct PassSender<N: Name, T: Terms> {
     ghost knows: { view ticket ≡ somebody to },
 }
 
-/// The end out of which the pass for a thread comes. It counts how often it looked for the pass. Contracts see
-/// the thread as `to`, and the count as `looks`. Nothing but a look is counted.
+/// The end out of which the pass for a thread comes. It counts how often it looked for the pass. Contracts
+/// see the thread as `to`, and the count as `looks`. Nothing but a look is counted.
 pub struct PassReceiver<N: Name, T: Terms> {
     to: ThreadId,
     looks: u32,
