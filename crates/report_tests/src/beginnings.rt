@@ -1,7 +1,6 @@
 //! Each beginning of a legal trace, and what it comes to.
 use crate::doubles::{Text, keep};
-use crate::runs::{CHECK, REPLAY, Run};
-use std::test::Fail;
+use crate::runs::expect_both;
 
 /// A part of a line, up to its second bar or from there on; what `check` and `replay` print of a text that
 /// ends within it; and the status.
@@ -123,15 +122,12 @@ const PARTS: &[Part] = &[
 ];
 
 #[test]
-fn each_beginning_of_nested_sections_has_its_answer(rt: HostRuntime) -> Result<(), Fail> {
+fn each_beginning_of_nested_sections_has_its_answer(rt: HostRuntime) {
     let mut text = Vec::new(rt.alloc());
     for (part, counts, report, status) in PARTS {
         for byte in part.as_bytes() {
-            keep(&mut text, &[*byte])?;
-            let beginning = Text::whole(&text);
-            Run::of(CHECK, beginning).prints(&rt, counts, *status);
-            Run::of(REPLAY, beginning).prints(&rt, report, *status);
+            keep(&mut text, &[*byte]);
+            expect_both(&rt, Text::whole(&text), (*counts, *report, "", *status));
         }
     }
-    Ok(())
 }

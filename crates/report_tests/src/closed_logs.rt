@@ -1,6 +1,7 @@
 //! The log that a script's threads leave: its events, written line by line with the names of the script.
 use crate::doubles::{Page, Room, Text};
-use crate::runs::{REPLAY, Run};
+use crate::expected::expect;
+use crate::runs::{REPLAY, Run, SCRIPT};
 use closed_report::is_named;
 use event_core::{Limits, Roots, ThreadId};
 use live_monitor::Closed;
@@ -80,11 +81,15 @@ fn write_log<G: Gate + Sync, R: AllocGlobal + Threads + Wait + Sync>(
     let limits = Limits::new(2, 1, 2, 64, Roots::OnlyMain).ok()?;
     let mut reader = Device::new(case.script.as_bytes());
     let script = Script::read(rt.alloc(), &mut reader, limits, 100).ok()?;
-    match drive(rt, rt.alloc(), &script, &limits, gate, case.patience) {
-        Ok(closed) => Some(write_events(page, &closed, script.names())),
+    let driven = drive(rt, rt.alloc(), &script, &limits, gate, case.patience);
+    let is_written = match &driven {
+        Ok(closed) => Some(write_events(page, closed, script.names())),
         Err(DriveFault::OutOfMemory | DriveFault::NoWorker { .. }) => None,
         Err(_) => Some(false),
-    }
+    };
+    drop(driven);
+    drop(script);
+    is_written
 }
 
 /// The log is written, its lines are known ones, and a replay of them prints the report.
@@ -100,8 +105,14 @@ fn expect_log<G: Gate + Sync, R: Abort + AllocGlobal + Files + Threads + Wait + 
     }
     let log = page.bytes.as_slice();
     let is_known = is_written == Some(true) && case.logs.contains(&log);
-    assert!(rt; is_known, "{}: {log:?}", case.script);
-    Run::of(REPLAY, Text::whole(log)).prints(rt, case.report, 0);
+    expect(rt, is_known, case.script);
+    let replay = Run {
+        text: Text::whole(log),
+        output: case.report,
+        ..REPLAY
+    };
+    replay.expect(rt);
+    drop(page);
 }
 
 /// And so does a run of the script.
@@ -109,8 +120,12 @@ fn expect_log<G: Gate + Sync, R: Abort + AllocGlobal + Files + Threads + Wait + 
 fn a_closed_log_is_replayed_to_the_report_of_its_script(rt: HostRuntime) {
     for case in CASES {
         expect_log(&rt, case, &FreeGate);
-        let run = Run::script(Text::whole(case.script.as_bytes()));
-        run.prints(&rt, case.report, 0);
+        let run = Run {
+            text: Text::whole(case.script.as_bytes()),
+            output: case.report,
+            ..SCRIPT
+        };
+        run.expect(&rt);
     }
 }
 

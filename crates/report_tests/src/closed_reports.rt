@@ -2,6 +2,7 @@
 ghost use Rattle.std.specs.Prelude.{◌≡◌};
 
 use crate::doubles::{Page, Room};
+use crate::expected::expect;
 use closed_report::{NameLists, NamingFault, ReportFault, names_of, report_closed};
 use event_core::{Limits, Refusal, Roots, SiteId, ThreadId, VarId};
 use live_monitor::{Closed, Unnamed, start};
@@ -10,7 +11,6 @@ use rapid_text::Kind;
 use std::alloc::Global;
 use std::fmt::InlineText;
 use std::marker::Brand;
-use std::process::Abort;
 use std::sync::Wait;
 use traced_thread::TracedThread;
 
@@ -27,19 +27,66 @@ const EMPTY: &str = "events 0 threads 2 locks 1 variables 1 races 0\n";
 const SWAPS: &str = "events 6 threads 2 locks 1 variables 1 races 2\n\
     4|main|r(x)| with 3|child|w(x)|b\n5|main|w(x)| with 3|child|w(x)|b\n";
 
-/// Lists that lack a name of the swaps.
-const LACKING: &[NameLists<'static>] = &[
-    NameLists {
-        threads: &["main"],
-        ..NAMES
+/// Whether two threads swap, the names, how much of the report is taken, and what is answered, the number of
+/// races or a fault, and written.
+struct Case {
+    has_swaps: bool,
+    names: NameLists<'static>,
+    room: Room,
+    races: Result<u64, ReportFault>,
+    written: &'static str,
+}
+
+const REPORTED: Case = Case {
+    has_swaps: true,
+    names: NAMES,
+    room: Room::AMPLE,
+    races: Ok(2),
+    written: SWAPS,
+};
+
+const UNNAMED: Case = Case {
+    races: Err(ReportFault::Unnamed),
+    written: "",
+    ..REPORTED
+};
+
+const CASES: &[Case] = &[
+    REPORTED,
+    Case {
+        has_swaps: false,
+        races: Ok(0),
+        written: EMPTY,
+        ..REPORTED
     },
-    NameLists {
-        variables: &[],
-        ..NAMES
+    // A number without a name is told, and nothing is written.
+    Case {
+        names: NameLists {
+            threads: &["main"],
+            ..NAMES
+        },
+        ..UNNAMED
     },
-    NameLists {
-        sites: &["a", "b"],
-        ..NAMES
+    Case {
+        names: NameLists {
+            variables: &[],
+            ..NAMES
+        },
+        ..UNNAMED
+    },
+    Case {
+        names: NameLists {
+            sites: &["a", "b"],
+            ..NAMES
+        },
+        ..UNNAMED
+    },
+    // A report that is not taken is told.
+    Case {
+        room: Room::NONE,
+        races: Err(ReportFault::Write),
+        written: "",
+        ..REPORTED
     },
 ];
 
@@ -91,9 +138,10 @@ const FAULTS: &[(NameLists<'static>, NamingFault, &str)] = &[
 /// Two threads swap, and neither waits for the other.
 fn swap_both<N: Name, R: Wait>(rt: &R, main: &mut TracedThread<N>) -> Result<(), Refusal> {
     let (mut child, _) = main.fork(rt, ThreadId(1), SiteId(0))?;
-    child.swap(rt, VarId(0), 7, SiteId(1))?;
-    main.swap(rt, VarId(0), 5, SiteId(2))?;
+    let by_child = child.swap(rt, VarId(0), 7, SiteId(1));
+    let by_main = main.swap(rt, VarId(0), 5, SiteId(2));
     main.join(rt, child, SiteId(0))?;
+    by_child.and(by_main)?;
     Ok(())
 }
 
@@ -132,55 +180,24 @@ fn reported<R: Wait>(
     Some(answer.map(|summary| summary.races))
 }
 
-/// What is answered, and whether this is written.
-fn met<R: Wait + AllocGlobal>(
-    rt: &R,
-    has_swaps: bool,
-    lists: &NameLists<'static>,
-    room: Room,
-    written: &str,
-) -> (Option<Result<u64, ReportFault>>, bool) {
-    let mut page = Page::blank(rt.alloc(), room);
-    let answer = reported(rt, rt.alloc(), has_swaps, lists, &mut page);
-    let is_written = page.bytes.as_slice() == written.as_bytes();
+/// Whether the log is reported so. None where memory ran out.
+fn is_reported<R: Wait + AllocGlobal>(rt: &R, case: &Case) -> Option<bool> {
+    let mut page = Page::blank(rt.alloc(), case.room);
+    let answer = reported(rt, rt.alloc(), case.has_swaps, &case.names, &mut page);
+    let is_written = page.bytes.as_slice() == case.written.as_bytes();
     drop(page);
-    (answer, is_written)
-}
-
-/// It is answered so many races or a fault, and this is written.
-fn expect<R: Abort + Wait + AllocGlobal>(
-    rt: &R,
-    has_swaps: bool,
-    lists: &NameLists<'static>,
-    room: Room,
-    races: Result<u64, ReportFault>,
-    written: &str,
-) {
-    let mut told = met(rt, has_swaps, lists, room, written);
-    if told.0.is_none() {
-        told = met(rt, has_swaps, lists, room, written);
-    }
-    assert!(rt; told.0 == Some(races));
-    assert!(rt; told.1);
+    Some(answer? == case.races && is_written)
 }
 
 #[test]
 fn a_closed_log_is_reported_with_the_names_of_its_numbers(rt: HostRuntime) {
-    expect(&rt, false, &NAMES, Room::AMPLE, Ok(0), EMPTY);
-    expect(&rt, true, &NAMES, Room::AMPLE, Ok(2), SWAPS);
-}
-
-#[test]
-fn a_number_without_a_name_is_told_and_nothing_is_written(rt: HostRuntime) {
-    for lists in LACKING {
-        expect(&rt, true, lists, Room::AMPLE, Err(ReportFault::Unnamed), "");
+    for case in CASES {
+        let mut told = is_reported(&rt, case);
+        if told.is_none() {
+            told = is_reported(&rt, case);
+        }
+        expect(&rt, told == Some(true), case.written);
     }
-}
-
-#[test]
-fn a_report_that_is_not_taken_is_told(rt: HostRuntime) {
-    let none = Room::of_puts(0);
-    expect(&rt, true, &NAMES, none, Err(ReportFault::Write), "");
 }
 
 /// What is wrong with the lists.
@@ -201,7 +218,7 @@ fn says(fault: NamingFault, said: &str) -> bool {
 #[test]
 fn lists_that_are_no_names_are_told_with_their_place(rt: HostRuntime) {
     for (lists, fault, said) in FAULTS {
-        assert!(&rt; naming(rt.alloc(), lists) == Some(*fault));
-        assert!(&rt; says(*fault, said));
+        let is_told = naming(rt.alloc(), lists) == Some(*fault);
+        expect(&rt, is_told && says(*fault, said), said);
     }
 }

@@ -1,12 +1,9 @@
 //! Command lines, and what is said of them.
 use crate::doubles::Text;
-use crate::runs::{Ran, Run};
+use crate::expected::expect;
+use crate::runs::{CHECK, Program, Ran, Run};
 use std::alloc::Global;
-use std::fs::Files;
-use std::process::Abort;
-use std::sync::Wait;
-use std::test::Fail;
-use std::thread::Threads;
+use std::fmt::InlineText;
 use wcp_tool::settings;
 
 /// Words, and the command, the number of threads and the patience that they ask for.
@@ -40,118 +37,115 @@ const TAKEN: &[(&[&str], &str, u32, u32)] = &[
     (&["run", "--", "--help"], "Run(\"--help\")", 64, 1000000),
 ];
 
-/// Words that ask for help or for the version, and a part of what is said.
-const ASKED: &[(&[&str], &str)] = &[
-    (&["--help"], "Usage: wcp <COMMAND>"),
-    (&["-h"], "Exit status:"),
-    (&["help"], "check"),
-    (&["check", "--help"], "Usage: wcp check [OPTIONS] < TRACE"),
-    (&["help", "check"], "TooManyNames"),
-    (&["replay", "--help"], "Usage: wcp replay [OPTIONS] < TRACE"),
-    (&["help", "replay"], "races R"),
-    (&["run", "--help"], "Usage: wcp run [OPTIONS] FILE"),
-    (&["run", "-h"], "--patience <N>"),
-    (&["help", "run"], "Stuck"),
-    (&["--version"], "wcp 0.1.0\n"),
-    (&["-V"], "wcp 0.1.0\n"),
-];
+/// The trace that help has as its example.
+const TRACE: &[u8] = b"T0|fork(T1)|1\nT0|w(y)|2\nT1|r(y)|3\n";
 
-/// Words, standard input, and a line that is printed: in help, and where its example is run; and the status.
-const EXAMPLES: &[(&[&str], &[u8], &str, u8)] = &[
+/// Words, a part of what is said, and the status.
+const SAID: &[(&[&str], &str, u8)] = &[
+    // Help and the version are asked for.
+    (&["--help"], "Usage: wcp <COMMAND>", 0),
+    (&["-h"], "Exit status:", 0),
+    (&["help"], "check", 0),
     (
         &["check", "--help"],
-        b"",
-        "events 3 threads 2 locks 0 variables 1\n",
+        "Usage: wcp check [OPTIONS] < TRACE",
         0,
     ),
-    (
-        &["check"],
-        TRACE,
-        "events 3 threads 2 locks 0 variables 1\n",
-        0,
-    ),
+    (&["help", "check"], "TooManyNames", 0),
     (
         &["replay", "--help"],
-        b"",
+        "Usage: wcp replay [OPTIONS] < TRACE",
+        0,
+    ),
+    (&["help", "replay"], "races R", 0),
+    (&["run", "--help"], "Usage: wcp run [OPTIONS] FILE", 0),
+    (&["run", "-h"], "--patience <N>", 0),
+    (&["help", "run"], "Stuck", 0),
+    (&["--version"], "wcp 0.1.0\n", 0),
+    (&["-V"], "wcp 0.1.0\n", 0),
+    // The example of help, and what a run of it prints.
+    (
+        &["check", "--help"],
+        "events 3 threads 2 locks 0 variables 1\n",
+        0,
+    ),
+    (&["check"], "events 3 threads 2 locks 0 variables 1\n", 0),
+    (
+        &["replay", "--help"],
         "events 3 threads 2 locks 0 variables 1 races 1\n",
         0,
     ),
     (
         &["replay"],
-        TRACE,
         "events 3 threads 2 locks 0 variables 1 races 1\n",
         1,
     ),
-    (
-        &["replay", "--help"],
-        b"",
-        "3|T1|r(y)|3 with 2|T0|w(y)|2\n",
-        0,
-    ),
-    (&["replay"], TRACE, "3|T1|r(y)|3 with 2|T0|w(y)|2\n", 1),
-];
-
-/// The trace that help has as its example.
-const TRACE: &[u8] = b"T0|fork(T1)|1\nT0|w(y)|2\nT1|r(y)|3\n";
-
-/// Words that are wrong, and a part of what is said of them.
-const WRONG: &[(&[&str], &str)] = &[
-    (&[], "Usage: wcp <COMMAND>"),
-    (&["report"], "'report'"),
-    (&["run"], "<FILE>"),
-    (&["run", "--threads", "2"], "<FILE>"),
-    (&["run", "a", "b"], "'b'"),
+    (&["replay", "--help"], "3|T1|r(y)|3 with 2|T0|w(y)|2\n", 0),
+    (&["replay"], "3|T1|r(y)|3 with 2|T0|w(y)|2\n", 1),
+    // The words are wrong.
+    (&[], "Usage: wcp <COMMAND>", 2),
+    (&["report"], "'report'", 2),
+    (&["run"], "<FILE>", 2),
+    (&["run", "--threads", "2"], "<FILE>", 2),
+    (&["run", "a", "b"], "'b'", 2),
     (
         &["run", "a", "--threads", "1025"],
         "1025 is not in 1..=1024",
+        2,
     ),
     (
         &["run", "a", "--patience", "0"],
         "0 is not in 1..=4294967295",
+        2,
     ),
     (
         &["run", "a", "--patience", "4294967296"],
         "4294967296 is not in 1..=4294967295",
+        2,
     ),
-    (&["run", "a", "--patience"], "a value is required"),
-    (&["check", "--threads", "0"], "0 is not in 1..=1024"),
-    (&["check", "--threads", "1025"], "1025 is not in 1..=1024"),
-    (&["check", "--threads", "x"], "'x'"),
-    (&["check", "--threads"], "a value is required"),
+    (&["run", "a", "--patience"], "a value is required", 2),
+    (&["check", "--threads", "0"], "0 is not in 1..=1024", 2),
+    (
+        &["check", "--threads", "1025"],
+        "1025 is not in 1..=1024",
+        2,
+    ),
+    (&["check", "--threads", "x"], "'x'", 2),
+    (&["check", "--threads"], "a value is required", 2),
     (
         &["check", "trace.txt"],
         "Usage: wcp check [OPTIONS] < TRACE",
+        2,
     ),
-    (&["--threads", "2", "check"], "'--threads'"),
-    (&["replay", "--threads", "0"], "0 is not in 1..=1024"),
-    (&["replay", "--patience", "1"], "'--patience'"),
+    (&["--threads", "2", "check"], "'--threads'", 2),
+    (&["replay", "--threads", "0"], "0 is not in 1..=1024", 2),
+    (&["replay", "--patience", "1"], "'--patience'", 2),
 ];
 
-/// The words ask for this command, with these options.
-fn expect_taken(
-    rt: &impl Abort,
+/// Whether the words ask for this command, with these options. None where memory ran out.
+fn is_taken(
     alloc: Global,
     words: &[&str],
     command: &str,
-    options: (u32, u32),
-) -> Result<(), Fail> {
-    let got = settings(alloc, words)?;
-    let met_options = (got.threads, got.patience);
-    let met = format!(in alloc; "{:?}", got.command);
+    threads: u32,
+    patience: u32,
+) -> Option<bool> {
+    let got = settings(alloc, words).ok()?;
+    let met: InlineText<64> = InlineText::of(format_args!("{:?}", got.command));
+    let is_so = got.threads == threads && got.patience == patience;
     drop(got);
-    let met = met?;
-    let is_taken = met.as_str() == command && met_options == options;
-    assert!(rt; is_taken, "{words:?}: {met}, {met_options:?}");
-    drop(met);
-    Ok(())
+    Some(is_so && met.as_str() == command)
 }
 
 #[test]
-fn a_command_is_taken_with_its_options(rt: HostRuntime) -> Result<(), Fail> {
+fn a_command_is_taken_with_its_options(rt: HostRuntime) {
     for (words, command, threads, patience) in TAKEN {
-        expect_taken(&rt, rt.alloc(), words, command, (*threads, *patience))?;
+        let is_so = match is_taken(rt.alloc(), words, command, *threads, *patience) {
+            Some(is_so) => is_so,
+            None => is_taken(rt.alloc(), words, command, *threads, *patience) == Some(true),
+        };
+        expect(&rt, is_so, command);
     }
-    Ok(())
 }
 
 /// Whether no line has more than 80 columns.
@@ -177,37 +171,17 @@ fn is_said(ran: &Ran, part: &str, status: u8) -> bool {
 }
 
 /// What is wrong is told on standard error, with status 2; all else on standard output, in lines of at most
-/// 80 columns.
-fn expect_said<R: Abort + AllocGlobal + Files + Threads + Wait + Sync>(
-    rt: &R,
-    words: &[&str],
-    input: &[u8],
-    part: &str,
-    status: u8,
-) {
-    let ran = Run::of(words, Text::whole(input)).ran_again(rt);
-    let is_said = is_said(&ran, part, status);
-    ran.held(rt, is_said, part);
-}
-
+/// 80 columns. The trace of help is on standard input.
 #[test]
-fn help_and_the_version_have_lines_of_at_most_80_columns(rt: HostRuntime) {
-    for (words, part) in ASKED {
-        expect_said(&rt, words, b"", part, 0);
-    }
-}
-
-/// The trace that help has as its example comes to what help says.
-#[test]
-fn help_tells_what_its_example_prints(rt: HostRuntime) {
-    for (words, input, part, status) in EXAMPLES {
-        expect_said(&rt, words, input, part, *status);
-    }
-}
-
-#[test]
-fn what_is_wrong_with_a_command_line_is_told(rt: HostRuntime) {
-    for (words, part) in WRONG {
-        expect_said(&rt, words, b"T0|w(x)|1", part, 2);
+fn each_command_line_is_answered(rt: HostRuntime) {
+    for (words, part, status) in SAID {
+        let run = Run {
+            program: Program::Words(words),
+            text: Text::whole(TRACE),
+            ..CHECK
+        };
+        let ran = run.ran_again(&rt);
+        let is_said = is_said(&ran, part, *status);
+        ran.held(&rt, is_said, part);
     }
 }

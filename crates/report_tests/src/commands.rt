@@ -1,9 +1,11 @@
 //! What a check and a replay answer, and what they write, of a text that comes in so many reads.
 use crate::doubles::{Page, Pieces, Room, Text};
-use crate::fed::is_short;
+use crate::expected::expect;
+use crate::told::{Told, is_judged, told};
 use event_core::{Limits, Roots};
 use std::alloc::Global;
-use trace_report::{ReplayFault, replay};
+use std::process::Abort;
+use trace_report::replay;
 use wcp_tool::check;
 
 #[derive(Clone, Copy)]
@@ -13,42 +15,38 @@ pub enum Command {
 }
 
 impl Command {
-    fn ends_once(
-        self,
-        alloc: Global,
-        text: Text<'_>,
-        turns: u32,
-        output: &str,
-    ) -> Option<(Option<ReplayFault>, bool)> {
+    fn ends_once(self, alloc: Global, text: Text<'_>, turns: u64, output: &str) -> Told {
         let limits = Limits::new(2, 1, 2, 64, Roots::Free).ok()?;
         let mut page = Page::blank(alloc, Room::AMPLE);
         let mut reader = Pieces::of(text);
-        let turns = u64::from(turns);
         let fault = match self {
             Command::Check => check(alloc, &mut reader, &mut page, limits, turns).err(),
             Command::Replay => replay(alloc, &mut reader, &mut page, limits, turns).err(),
         };
-        let is_written = page.bytes.as_slice() == output.as_bytes();
-        drop(page);
-        match fault {
-            Some(fault) if is_short(&fault) => None,
-            fault => Some((fault, is_written)),
-        }
+        told(fault, page, output)
     }
 
-    /// The fault of the text, with names for two threads, one lock and two variables; and whether this is
+    /// What is told of the text, with names for two threads, one lock and two variables, where this is to be
     /// written. It is asked for again where memory ran out.
-    pub fn ends(
-        self,
-        alloc: Global,
-        text: Text<'_>,
-        turns: u32,
-        output: &str,
-    ) -> Option<(Option<ReplayFault>, bool)> {
+    pub fn ends(self, alloc: Global, text: Text<'_>, turns: u64, output: &str) -> Told {
         let ended = self.ends_once(alloc, text, turns, output);
         if ended.is_some() {
             return ended;
         }
         self.ends_once(alloc, text, turns, output)
+    }
+}
+
+/// Wherever the text is cut in two, a check of it writes this, which is counts or not.
+pub fn expect_wherever_cut(
+    rt: &impl Abort,
+    alloc: Global,
+    text: Text<'_>,
+    output: &str,
+    is_report: bool,
+) {
+    for first in 1..text.bytes.len() {
+        let ended = Command::Check.ends(alloc, Text { first, ..text }, 100, output);
+        expect(rt, is_judged(ended, is_report), output);
     }
 }

@@ -1,6 +1,6 @@
 //! Readers and writers of std under a device: they fail, or take no byte.
 use crate::doubles::{Page, Room};
-use crate::runs::COMMANDS;
+use crate::expected::expect;
 use rapid_text::Device;
 use std::fs::Files;
 use std::io;
@@ -96,16 +96,19 @@ fn end<R: AllocGlobal + Files + Threads + Wait + Sync>(
 fn expect_end<R: Abort + AllocGlobal + Files + Threads + Wait + Sync>(
     rt: &R,
     words: &[&str],
-    reader: Broken<'_>,
+    (text, fails): (&str, bool),
     writer: Narrow<'_>,
-    errors: &str,
-    status: u8,
+    (errors, status): (&str, u8),
 ) {
+    let reader = Broken {
+        text: text.as_bytes(),
+        fails,
+    };
     let mut met = end(rt, words, reader, writer, errors);
     if met.0 == 5 {
         met = end(rt, words, reader, writer, errors);
     }
-    assert!(rt; met == (status, true), "{words:?}: {met:?}");
+    expect(rt, met == (status, true), text);
 }
 
 /// A text whose reader fails, what is written to standard output and to standard error, and the status.
@@ -120,14 +123,10 @@ const BROKEN: &[(&str, &str, &str, u8)] = &[
 
 #[test]
 fn a_device_tells_of_a_reader_that_fails(rt: HostRuntime) {
-    for words in COMMANDS {
+    for command in ["check", "replay"] {
         for (text, output, errors, status) in BROKEN {
-            let reader = Broken {
-                text: text.as_bytes(),
-                fails: true,
-            };
             let writer = Narrow::of(output, output.len(), true);
-            expect_end(&rt, words, reader, writer, errors, *status);
+            expect_end(&rt, &[command], (*text, true), writer, (*errors, *status));
         }
     }
 }
@@ -139,38 +138,35 @@ const RACE: &str = "T0|fork(T1)|1\nT0|w(y)|2\nT0|acq(l)|3\nT0|w(x)|4\nT0|rel(l)|
 const REFUSED: &str = "T0|w(y)|1\nT1|rel(l)|2\n";
 
 /// A command, a text, what is printed of it, and the status.
-const PRINTED: &[(&[&str], &str, &str, u8)] = &[
+const PRINTED: &[(&str, &str, &str, u8)] = &[
+    ("check", RACE, "events 8 threads 2 locks 1 variables 2\n", 0),
     (
-        &["check"],
-        RACE,
-        "events 8 threads 2 locks 1 variables 2\n",
-        0,
-    ),
-    (
-        &["replay"],
+        "replay",
         RACE,
         "events 8 threads 2 locks 1 variables 2 races 1\n8|T1|r(y)|8 with 2|T0|w(y)|2\n",
         1,
     ),
-    (&["check"], REFUSED, "line 2: NotHolder\n", 3),
-    (&["replay"], REFUSED, "line 2: NotHolder\n", 3),
+    ("check", REFUSED, "line 2: NotHolder\n", 3),
+    ("replay", REFUSED, "line 2: NotHolder\n", 3),
 ];
 
 /// Whichever write fails or takes no byte, the status says so, until none does.
 #[test]
 fn a_device_tells_of_a_writer_that_takes_no_more(rt: HostRuntime) {
     for fails in [true, false] {
-        for (words, text, output, status) in PRINTED {
-            let reader = Broken {
-                text: text.as_bytes(),
-                fails: false,
-            };
+        for (command, text, output, status) in PRINTED {
             for writes in 0..output.len() {
                 let writer = Narrow::of(output, writes, fails);
-                expect_end(&rt, words, reader, writer, "write fault\n", 4);
+                expect_end(
+                    &rt,
+                    &[*command],
+                    (*text, false),
+                    writer,
+                    ("write fault\n", 4),
+                );
             }
             let writer = Narrow::of(output, output.len(), fails);
-            expect_end(&rt, words, reader, writer, "", *status);
+            expect_end(&rt, &[*command], (*text, false), writer, ("", *status));
         }
     }
 }

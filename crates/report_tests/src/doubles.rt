@@ -2,7 +2,7 @@
 ghost use Rattle.std.specs.Prelude.{◌≡◌, false, None};
 
 use rapid_text::{Input, Output, ReadFailed, WriteFailed};
-use std::alloc::{AllocError, Global};
+use std::alloc::Global;
 
 /// A text, and how it comes: first a piece of so many bytes, then all others of another size. At the end of
 /// the text the reader says so, or it fails.
@@ -15,6 +15,13 @@ pub struct Text<'a> {
 }
 
 impl<'a> Text<'a> {
+    pub const EMPTY: Text<'static> = Text {
+        bytes: b"",
+        first: usize::MAX,
+        others: usize::MAX,
+        fails: false,
+    };
+
     pub fn cut(bytes: &'a [u8], first: usize, others: usize) -> Text<'a> {
         Text {
             bytes,
@@ -36,15 +43,6 @@ impl<'a> Text<'a> {
             Text::cut(bytes, cut, usize::MAX)
         }
     }
-}
-
-/// One text and then another, in the room.
-pub fn joined<'a>(room: &'a mut [u8; 2048], head: &[u8], tail: &[u8]) -> &'a [u8] {
-    let first = head.len().min(1048);
-    let second = tail.len().min(1000);
-    room[..first].copy_from_slice(&head[..first]);
-    room[first..first + second].copy_from_slice(&tail[..second]);
-    &room[..first + second]
 }
 
 /// So many letters, at most 1,048.
@@ -103,12 +101,12 @@ impl Room {
         puts: usize::MAX,
     };
 
-    pub fn of_puts(puts: usize) -> Room {
-        Room {
-            puts,
-            ..Room::AMPLE
-        }
-    }
+    pub const ONE_PUT: Room = Room {
+        most: usize::MAX,
+        puts: 1,
+    };
+
+    pub const NONE: Room = Room { most: 0, puts: 0 };
 }
 
 /// Keeps what is written to it.
@@ -137,12 +135,9 @@ impl Page {
     }
 }
 
-/// Keeps the bytes too. What is refused once is asked for again.
-pub fn keep(kept: &mut Vec<u8>, bytes: &[u8]) -> Result<(), AllocError> {
-    if kept.extend_from_slice(bytes).is_ok() {
-        return Ok(());
-    }
-    kept.extend_from_slice(bytes)
+/// Keeps the bytes too, and says whether. What is refused once is asked for again.
+pub fn keep(kept: &mut Vec<u8>, bytes: &[u8]) -> bool {
+    kept.extend_from_slice(bytes).is_ok() || kept.extend_from_slice(bytes).is_ok()
 }
 
 impl Output for Page {
@@ -153,7 +148,7 @@ impl Output for Page {
     fn put(&mut self, bytes: &[u8]) -> Result<usize, WriteFailed> {
         let n = bytes.len().min(self.room.most);
         let is_full = self.room.puts == 0 || (n == 0 && !bytes.is_empty());
-        if is_full || keep(&mut self.bytes, &bytes[..n]).is_err() {
+        if is_full || !keep(&mut self.bytes, &bytes[..n]) {
             self.failed = true;
             return Err(WriteFailed);
         }

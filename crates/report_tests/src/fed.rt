@@ -1,25 +1,13 @@
 //! Texts that a replayer is fed, whole, byte by byte, and cut in two at each place.
 use crate::doubles::{Page, Room, Text};
+use crate::expected::expect;
+use crate::told::{Told, is_judged, told};
 use crate::traces::{legal, refused};
 use event_core::{Limits, Refusal, Roots};
 use rapid_text::{Cause, Kind, TextFault};
 use std::alloc::Global;
 use std::process::Abort;
 use trace_report::{ReplayFault, Replayer};
-
-/// Whether the fault says that memory ran out.
-pub fn is_short(fault: &ReplayFault) -> bool {
-    matches!(
-        fault,
-        ReplayFault::Text(TextFault {
-            cause: Cause::OutOfMemory,
-            ..
-        }) | ReplayFault::Refused {
-            refusal: Refusal::OutOfMemory,
-            ..
-        }
-    )
-}
 
 /// The fault of a new replayer that is fed the text in its pieces, an empty one before each, and an LF after
 /// a read has failed; none where there was no memory for one. The page has what it wrote.
@@ -44,30 +32,14 @@ fn fault_of(
     Some(replayer.finish(page).err())
 }
 
-/// The fault of a new replayer, and whether it writes this. None where memory ran out.
-fn told_once(
-    alloc: Global,
-    text: Text<'_>,
-    threads: u32,
-    output: &str,
-) -> Option<(Option<ReplayFault>, bool)> {
+fn told_once(alloc: Global, text: Text<'_>, threads: u32, output: &str) -> Told {
     let mut page = Page::blank(alloc, Room::AMPLE);
-    let fault = fault_of(alloc, text, threads, &mut page);
-    let is_written = page.bytes.as_slice() == output.as_bytes();
-    drop(page);
-    match fault? {
-        Some(fault) if is_short(&fault) => None,
-        fault => Some((fault, is_written)),
-    }
+    let fault = fault_of(alloc, text, threads, &mut page)?;
+    told(fault, page, output)
 }
 
-/// The same, once more where memory ran out.
-fn told(
-    alloc: Global,
-    text: Text<'_>,
-    threads: u32,
-    output: &str,
-) -> Option<(Option<ReplayFault>, bool)> {
+/// What a new replayer tells that is to write this, once more where memory ran out.
+fn fed(alloc: Global, text: Text<'_>, threads: u32, output: &str) -> Told {
     let told = told_once(alloc, text, threads, output);
     if told.is_some() {
         return told;
@@ -77,47 +49,42 @@ fn told(
 
 /// A replayer that is fed the text so writes this, which is a report or not.
 fn expect_told(rt: &impl Abort, alloc: Global, text: Text<'_>, output: &str, is_report: bool) {
-    let is_told = match told(alloc, text, 8, output) {
-        Some((fault, is_written)) => is_written && fault.is_none() == is_report,
-        None => false,
-    };
-    assert!(rt; is_told, "{output:?}, cut at {}", text.first);
+    let told = fed(alloc, text, 8, output);
+    expect(rt, is_judged(told, is_report), output);
 }
 
 /// However the bytes are fed, they come to this.
 pub fn expect_however_fed(
     rt: &impl Abort,
     alloc: Global,
-    bytes: &[u8],
-    fails: bool,
+    text: Text<'_>,
     output: &str,
     is_report: bool,
 ) {
-    let text = Text {
-        fails,
-        ..Text::cut(bytes, 0, 1)
+    let by_one = Text {
+        first: 0,
+        others: 1,
+        ..text
     };
-    expect_told(rt, alloc, text, output, is_report);
-    for first in 0..=bytes.len() {
-        let text = Text {
-            fails,
-            ..Text::cut(bytes, first, usize::MAX)
-        };
-        expect_told(rt, alloc, text, output, is_report);
+    expect_told(rt, alloc, by_one, output, is_report);
+    for first in 0..=text.bytes.len() {
+        expect_told(rt, alloc, Text { first, ..text }, output, is_report);
     }
 }
 
 #[test]
 fn legal_traces_have_their_report_however_they_are_fed(rt: HostRuntime) {
     for (_, text, _, report, _) in legal() {
-        expect_however_fed(&rt, rt.alloc(), text.as_bytes(), false, report, true);
+        let text = Text::whole(text.as_bytes());
+        expect_however_fed(&rt, rt.alloc(), text, report, true);
     }
 }
 
 #[test]
 fn refused_traces_have_their_line_however_they_are_fed(rt: HostRuntime) {
     for (_, text, line) in refused() {
-        expect_however_fed(&rt, rt.alloc(), text.as_bytes(), false, line, false);
+        let text = Text::whole(text.as_bytes());
+        expect_however_fed(&rt, rt.alloc(), text, line, false);
     }
 }
 
@@ -127,7 +94,7 @@ fn a_cr_and_an_lf_may_be_fed_one_after_the_other(rt: HostRuntime) {
     let bytes = b"T0|w(x)|1\r\n".as_slice();
     let report = "events 1 threads 1 locks 0 variables 1 races 0\n";
     expect_told(&rt, rt.alloc(), Text::cut(bytes, 9, 1), report, true);
-    expect_however_fed(&rt, rt.alloc(), bytes, false, report, true);
+    expect_however_fed(&rt, rt.alloc(), Text::whole(bytes), report, true);
 }
 
 /// A text, whether a read fails after it, how many threads it may name, what is written, and the fault.
@@ -182,11 +149,8 @@ fn the_fault_of_a_text_is_answered_however_it_is_fed(rt: HostRuntime) {
                 fails: *fails,
                 ..Text::however_cut(bytes, cut)
             };
-            let told = told(rt.alloc(), text, *threads, output);
-            assert!(rt;
-                told == Some((Some(*fault), true)),
-                "{bytes:?}, cut at {cut}: {told:?}"
-            );
+            let told = fed(rt.alloc(), text, *threads, output);
+            expect(&rt, told == Some((Some(*fault), true)), output);
         }
     }
 }

@@ -19,6 +19,8 @@ mod devices;
 #[cfg(test)]
 mod doubles;
 #[cfg(test)]
+mod expected;
+#[cfg(test)]
 mod fed;
 #[cfg(test)]
 mod long_lines;
@@ -30,6 +32,8 @@ mod readers;
 mod runs;
 #[cfg(test)]
 mod scripts;
+#[cfg(test)]
+mod told;
 #[cfg(test)]
 mod traces;
 #[cfg(test)]

@@ -1,10 +1,9 @@
 //! Names and lines of the greatest length, and longer ones, cut in two at each place.
-use crate::commands::Command;
+use crate::commands::expect_wherever_cut;
 use crate::doubles::{Text, keep, letters};
 use crate::fed::expect_however_fed;
-use crate::runs::{CHECK, REPLAY, Run};
-use std::alloc::{AllocError, Global};
-use std::test::Fail;
+use crate::runs::expect_both;
+use std::alloc::Global;
 
 /// So many letters, and what follows them.
 type Part = (usize, &'static str);
@@ -130,63 +129,45 @@ fn cases() -> &'static [Case] {
     CASES
 }
 
-fn text_of(alloc: Global, parts: &[Part]) -> Result<Vec<u8>, AllocError> {
+fn text_of(alloc: Global, parts: &[Part]) -> Vec<u8> {
     let mut text = Vec::new(alloc);
     for (count, rest) in parts {
-        keep(&mut text, letters(*count))?;
-        keep(&mut text, rest.as_bytes())?;
+        keep(&mut text, letters(*count));
+        keep(&mut text, rest.as_bytes());
     }
-    Ok(text)
+    text
 }
 
 #[test]
-fn long_lines_are_judged_whole_and_byte_by_byte(rt: HostRuntime) -> Result<(), Fail> {
+fn long_lines_are_judged_whole_and_byte_by_byte(rt: HostRuntime) {
     for case in cases() {
-        let bytes = text_of(rt.alloc(), case.parts)?;
+        let bytes = text_of(rt.alloc(), case.parts);
         for most in [usize::MAX, 1] {
             let text = Text {
                 fails: case.fails,
                 ..Text::cut(&bytes, most, most)
             };
-            Run::of(CHECK, text).expect(&rt, case.counts, case.errors, case.status);
-            Run::of(REPLAY, text).expect(&rt, case.report, case.errors, case.status);
+            expect_both(
+                &rt,
+                text,
+                (case.counts, case.report, case.errors, case.status),
+            );
         }
+        drop(bytes);
     }
-    Ok(())
 }
 
-/// A check comes to the same wherever the text is cut in two.
+/// A check comes to the same wherever the text is cut in two, and a replay however it is fed.
 #[test]
-fn long_lines_are_checked_wherever_they_are_cut(rt: HostRuntime) -> Result<(), Fail> {
+fn long_lines_are_judged_wherever_they_are_cut(rt: HostRuntime) {
     for case in cases() {
-        let bytes = text_of(rt.alloc(), case.parts)?;
-        for first in 1..bytes.len() {
-            let text = Text {
-                fails: case.fails,
-                ..Text::cut(&bytes, first, usize::MAX)
-            };
-            let is_checked = match Command::Check.ends(rt.alloc(), text, 100, case.counts) {
-                Some((fault, is_written)) => is_written && fault.is_none() == (case.status == 0),
-                None => false,
-            };
-            assert!(rt; is_checked, "{:?}, cut at {first}", case.counts);
-        }
+        let bytes = text_of(rt.alloc(), case.parts);
+        let text = Text {
+            fails: case.fails,
+            ..Text::whole(&bytes)
+        };
+        expect_wherever_cut(&rt, rt.alloc(), text, case.counts, case.status == 0);
+        expect_however_fed(&rt, rt.alloc(), text, case.report, case.status == 0);
+        drop(bytes);
     }
-    Ok(())
-}
-
-#[test]
-fn long_lines_are_replayed_however_they_are_fed(rt: HostRuntime) -> Result<(), Fail> {
-    for case in cases() {
-        let bytes = text_of(rt.alloc(), case.parts)?;
-        expect_however_fed(
-            &rt,
-            rt.alloc(),
-            &bytes,
-            case.fails,
-            case.report,
-            case.status == 0,
-        );
-    }
-    Ok(())
 }

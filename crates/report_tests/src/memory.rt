@@ -1,35 +1,57 @@
 //! Runs of the program where memory is refused.
 use crate::doubles::Text;
-use crate::runs::{CHECK, REPLAY, Ran, Run};
+use crate::runs::{CHECK, REPLAY, Ran, Run, SCRIPT};
 use crate::traces::legal;
+use std::fs::Files;
+use std::process::Abort;
+use std::sync::Wait;
+use std::thread::Threads;
 
-/// This was printed, or nothing but that memory ran out.
-fn is_whole(ran: &Ran, output: &str, status: u8) -> bool {
+/// It was run so, or nothing was said but that memory ran out, or that a thread could not be started.
+fn is_whole_or_not(run: &Run<'_>, ran: &Ran) -> bool {
     match ran.status {
         5 => ran.is("", "out of memory\n", 5),
-        _ => ran.is(output, "", status),
+        6 => ran.is("line 1: NoWorker\n", "", 6),
+        _ => ran.is(run.output, run.errors, run.status),
     }
+}
+
+fn expect_whole_or_not<R: Abort + AllocGlobal + Files + Threads + Wait + Sync>(
+    rt: &R,
+    run: &Run<'_>,
+) {
+    let ran = run.ran(rt);
+    let is_whole_or_not = is_whole_or_not(run, &ran);
+    ran.held(rt, is_whole_or_not, run.output);
 }
 
 /// Whichever allocation is refused, the answer is that of an ample run, or nothing but that memory ran out.
 #[test]
 fn a_trace_is_answered_whole_or_not_at_all(rt: HostRuntime) {
-    for (_, text, line, report, status) in legal() {
-        for (words, output, status) in [(CHECK, line, 0), (REPLAY, report, *status)] {
-            let ran = Run::of(words, Text::whole(text.as_bytes())).ran(&rt);
-            let is_whole = is_whole(&ran, output, status);
-            ran.held(&rt, is_whole, output);
-        }
+    for (_, text, counts, report, status) in legal() {
+        let text = Text::whole(text.as_bytes());
+        let check = Run {
+            text,
+            output: counts,
+            ..CHECK
+        };
+        expect_whole_or_not(&rt, &check);
+        let replay = Run {
+            text,
+            output: report,
+            status: *status,
+            ..REPLAY
+        };
+        expect_whole_or_not(&rt, &replay);
     }
 }
 
-/// A script is run whole, or nothing is said but that memory ran out, or that a thread could not be started.
 #[test]
 fn a_script_is_run_whole_or_not_at_all(rt: HostRuntime) {
-    let text = b"m fork a\na w x 5\nm join a\nm r x\n";
-    let report = "events 4 threads 2 locks 0 variables 1 races 0\n";
-    let ran = Run::script(Text::whole(text)).ran(&rt);
-    let has_no_worker = ran.is("line 1: NoWorker\n", "", 6);
-    let is_whole = is_whole(&ran, report, 0);
-    ran.held(&rt, has_no_worker || is_whole, report);
+    let script = Run {
+        text: Text::whole(b"m fork a\na w x 5\nm join a\nm r x\n"),
+        output: "events 4 threads 2 locks 0 variables 1 races 0\n",
+        ..SCRIPT
+    };
+    expect_whole_or_not(&rt, &script);
 }

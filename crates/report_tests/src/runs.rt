@@ -8,12 +8,6 @@ use std::sync::Wait;
 use std::thread::Threads;
 use wcp_tool::{Command, Settings, run_script, tool};
 
-pub const CHECK: &[&str] = &["check"];
-
-pub const REPLAY: &[&str] = &["replay"];
-
-pub const COMMANDS: &[&[&str]] = &[CHECK, REPLAY];
-
 /// What is run: the program over its words, or a script, a line of which is tried so often, and at least
 /// once.
 #[derive(Clone, Copy)]
@@ -22,14 +16,38 @@ pub enum Program<'a> {
     Script(u32),
 }
 
-/// A run, with what it reads and the room for what it writes.
+/// A run with what it reads and the room for what it writes, and what it is to write to standard output and
+/// to standard error, and to end with.
 #[derive(Clone, Copy)]
 pub struct Run<'a> {
     pub program: Program<'a>,
     pub text: Text<'a>,
-    pub output: Room,
-    pub errors: Room,
+    pub room: Room,
+    pub errors_room: Room,
+    pub output: &'a str,
+    pub errors: &'a str,
+    pub status: u8,
 }
+
+pub const CHECK: Run<'static> = Run {
+    program: Program::Words(&["check"]),
+    text: Text::EMPTY,
+    room: Room::AMPLE,
+    errors_room: Room::AMPLE,
+    output: "",
+    errors: "",
+    status: 0,
+};
+
+pub const REPLAY: Run<'static> = Run {
+    program: Program::Words(&["replay"]),
+    ..CHECK
+};
+
+pub const SCRIPT: Run<'static> = Run {
+    program: Program::Script(1000000),
+    ..CHECK
+};
 
 /// What a run ended with, and what it wrote to standard output and to standard error.
 #[derive(Drop)]
@@ -86,34 +104,11 @@ fn script_status<R: AllocGlobal + Threads + Wait + Sync>(
     status
 }
 
-impl<'a> Run<'a> {
-    /// A run of the program with room for all that is written.
-    pub fn of(words: &'a [&'a str], text: Text<'a>) -> Run<'a> {
-        Run {
-            program: Program::Words(words),
-            text,
-            output: Room::AMPLE,
-            errors: Room::AMPLE,
-        }
-    }
-
-    /// A run of a script with patience and room for all that is written.
-    pub fn script(text: Text<'a>) -> Run<'a> {
-        Run {
-            program: Program::Script(1000000),
-            ..Run::of(&[], text)
-        }
-    }
-
-    /// The run with so much room for what it prints.
-    pub fn in_room(self, output: Room) -> Run<'a> {
-        Run { output, ..self }
-    }
-
+impl Run<'_> {
     pub fn ran<R: AllocGlobal + Files + Threads + Wait + Sync>(&self, rt: &R) -> Ran {
         let mut reader = Pieces::of(self.text);
-        let mut output = Page::blank(rt.alloc(), self.output);
-        let mut errors = Page::blank(rt.alloc(), self.errors);
+        let mut output = Page::blank(rt.alloc(), self.room);
+        let mut errors = Page::blank(rt.alloc(), self.errors_room);
         let status = match self.program {
             Program::Words(words) => tool(rt, words, &mut reader, &mut output, &mut errors),
             Program::Script(patience) => {
@@ -137,26 +132,45 @@ impl<'a> Run<'a> {
         self.ran(rt)
     }
 
-    /// The run writes this to standard output and to standard error, and ends with this status.
-    pub fn expect<R: Abort + AllocGlobal + Files + Threads + Wait + Sync>(
-        &self,
-        rt: &R,
-        output: &str,
-        errors: &str,
-        status: u8,
-    ) {
+    /// The run writes what it is to write, and ends so.
+    pub fn expect<R: Abort + AllocGlobal + Files + Threads + Wait + Sync>(&self, rt: &R) {
         let ran = self.ran_again(rt);
-        let is_so = ran.is(output, errors, status);
-        ran.held(rt, is_so, str::from_utf8(self.text.bytes).unwrap_or(output));
+        let is_so = ran.is(self.output, self.errors, self.status);
+        let text = str::from_utf8(self.text.bytes).unwrap_or(self.output);
+        ran.held(rt, is_so, text);
     }
+}
 
-    /// The run prints this and tells of no error.
-    pub fn prints<R: Abort + AllocGlobal + Files + Threads + Wait + Sync>(
-        &self,
-        rt: &R,
-        output: &str,
-        status: u8,
-    ) {
-        self.expect(rt, output, "", status);
+pub fn expect_all<R: Abort + AllocGlobal + Files + Threads + Wait + Sync>(
+    rt: &R,
+    runs: &[Run<'_>],
+) {
+    for run in runs {
+        run.expect(rt);
     }
+}
+
+/// What a check of the text prints, what a replay of it prints, what both tell on standard error, and the
+/// status of the replay. A check ends with the same, or with 0 where the replay reports a race.
+pub fn expect_both<R: Abort + AllocGlobal + Files + Threads + Wait + Sync>(
+    rt: &R,
+    text: Text<'_>,
+    (counts, report, errors, status): (&str, &str, &str, u8),
+) {
+    let check = Run {
+        text,
+        output: counts,
+        errors,
+        status: if status == 1 { 0 } else { status },
+        ..CHECK
+    };
+    check.expect(rt);
+    let replay = Run {
+        text,
+        output: report,
+        errors,
+        status,
+        ..REPLAY
+    };
+    replay.expect(rt);
 }

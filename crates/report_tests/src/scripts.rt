@@ -1,8 +1,11 @@
 //! Scripts, and what a run of their threads prints.
-use crate::doubles::{Room, Text, joined, letters};
-use crate::runs::{Program, Ran, Run};
+use crate::doubles::{Room, Text, keep, letters};
+use crate::runs::{CHECK, Program, Ran, Run, SCRIPT, expect_all};
 use std::fs;
-use std::test::Fail;
+use std::fs::Files;
+use std::process::Abort;
+use std::sync::Wait;
+use std::thread::Threads;
 
 /// What the script is, its text, what a run of it prints, and the status with which it ends.
 type Case = (&'static str, &'static str, &'static str, u8);
@@ -104,29 +107,120 @@ const SCRIPTS: &[Case] = &[
 #[test]
 fn the_worked_scripts_have_their_answers(rt: HostRuntime) {
     for (_, text, output, status) in SCRIPTS {
-        let run = Run::script(Text::cut(text.as_bytes(), 5, 3));
-        run.prints(&rt, output, *status);
+        let run = Run {
+            text: Text::cut(text.as_bytes(), 5, 3),
+            output,
+            status: *status,
+            ..SCRIPT
+        };
+        run.expect(&rt);
     }
 }
 
 #[test]
 fn a_line_of_a_script_that_is_too_long_is_told(rt: HostRuntime) {
-    let mut room = [0; 2048];
-    let text = joined(&mut room, letters(1025), b"\n");
-    Run::script(Text::whole(text)).prints(&rt, "line 1: LineTooLong\n", 6);
+    let mut text = Vec::new(rt.alloc());
+    keep(&mut text, letters(1025));
+    keep(&mut text, b"\n");
+    let run = Run {
+        text: Text::whole(&text),
+        output: "line 1: LineTooLong\n",
+        status: 6,
+        ..SCRIPT
+    };
+    run.expect(&rt);
 }
 
-const PATIENCES: &[u32] = &[1, 2, 100];
+const STUCK: Run<'static> = Run {
+    program: Program::Script(1),
+    text: Text {
+        bytes: b"m acq l\nm fork a\na acq l\n",
+        ..Text::EMPTY
+    },
+    output: "line 3: Stuck\n",
+    status: 6,
+    ..SCRIPT
+};
+
+/// A text whose reader fails.
+const FAILS: Text<'static> = Text {
+    fails: true,
+    ..Text::EMPTY
+};
+
+const READ_FAULT: Run<'static> = Run {
+    errors: "read fault\n",
+    status: 4,
+    ..SCRIPT
+};
+
+const BAD_LINE: Run<'static> = Run {
+    output: "line 1: BadLine\n",
+    status: 6,
+    ..SCRIPT
+};
+
+const RUNS: &[Run<'static>] = &[
+    // A line is given up as soon as patience says.
+    STUCK,
+    Run {
+        program: Program::Script(2),
+        ..STUCK
+    },
+    Run {
+        program: Program::Script(100),
+        ..STUCK
+    },
+    // Whole lines that came before a reader failed are judged first.
+    Run {
+        text: Text {
+            bytes: b"m acq l",
+            ..FAILS
+        },
+        ..READ_FAULT
+    },
+    Run {
+        text: Text {
+            bytes: b"m fork a\na r",
+            ..FAILS
+        },
+        ..READ_FAULT
+    },
+    Run {
+        text: Text {
+            bytes: b"m  r x\n",
+            ..FAILS
+        },
+        ..BAD_LINE
+    },
+    // A writer that takes one put and no more has the whole line of a fault.
+    Run {
+        text: Text {
+            bytes: b"m  r x\n",
+            ..Text::EMPTY
+        },
+        room: Room::ONE_PUT,
+        ..BAD_LINE
+    },
+    Run {
+        text: Text {
+            bytes: b"m rel l\n",
+            ..Text::EMPTY
+        },
+        room: Room::ONE_PUT,
+        output: "line 1: NotHolder\n",
+        status: 3,
+        ..SCRIPT
+    },
+    Run {
+        program: Program::Words(&["run", "there/is/no/such/script"]),
+        ..READ_FAULT
+    },
+];
 
 #[test]
-fn a_line_is_given_up_as_soon_as_patience_says(rt: HostRuntime) {
-    for patience in PATIENCES {
-        let run = Run {
-            program: Program::Script(*patience),
-            ..Run::script(Text::whole(b"m acq l\nm fork a\na acq l\n"))
-        };
-        run.prints(&rt, "line 3: Stuck\n", 6);
-    }
+fn patience_readers_and_writers_bound_a_run_of_a_script(rt: HostRuntime) {
+    expect_all(&rt, RUNS);
 }
 
 /// Nothing orders the store and the load of `y`, in whichever order they come.
@@ -160,31 +254,21 @@ fn is_race(ran: &Ran) -> bool {
     }
 }
 
+/// A run of the race reports it.
+fn expect_race<R: Abort + AllocGlobal + Files + Threads + Wait + Sync>(rt: &R, run: &Run<'_>) {
+    let ran = run.ran_again(rt);
+    let is_race = is_race(&ran);
+    ran.held(rt, is_race, "a race");
+}
+
 #[test]
 fn a_race_is_reported_whole_whatever_the_schedule(rt: HostRuntime) {
     for _ in 0..20 {
-        let ran = Run::script(Text::whole(RACE)).ran_again(&rt);
-        let is_race = is_race(&ran);
-        ran.held(&rt, is_race, "a race");
-    }
-}
-
-/// A text whose reader fails, what is written to standard output and to standard error, and the status.
-const FAILED: &[(&str, &str, &str, u8)] = &[
-    ("m acq l", "", "read fault\n", 4),
-    ("m fork a\na r", "", "read fault\n", 4),
-    ("m  r x\n", "line 1: BadLine\n", "", 6),
-];
-
-/// Whole lines that came before the failure are judged first.
-#[test]
-fn the_lines_before_a_reader_failed_are_judged(rt: HostRuntime) {
-    for (text, output, errors, status) in FAILED {
-        let text = Text {
-            fails: true,
-            ..Text::whole(text.as_bytes())
+        let run = Run {
+            text: Text::whole(RACE),
+            ..SCRIPT
         };
-        Run::script(text).expect(&rt, output, errors, *status);
+        expect_race(&rt, &run);
     }
 }
 
@@ -196,33 +280,16 @@ const WRITING: &[&[u8]] = &[RACE, b"m rel l\n", b"m  r x\n"];
 fn a_script_ends_with_status_4_where_a_write_fails(rt: HostRuntime) {
     for text in WRITING {
         for puts in 0..3 {
-            let run = Run::script(Text::whole(text)).in_room(Room { most: 7, puts });
+            let run = Run {
+                text: Text::whole(text),
+                room: Room { most: 7, puts },
+                ..SCRIPT
+            };
             let ran = run.ran_again(&rt);
             let is_told = ran.status == 4 && ran.errors.as_slice() == b"write fault\n".as_slice();
             ran.held(&rt, is_told, "a write that fails");
         }
     }
-}
-
-/// Scripts with a fault, its line, and the status.
-const FAULTY: &[(&str, &str, u8)] = &[
-    ("m  r x\n", "line 1: BadLine\n", 6),
-    ("m rel l\n", "line 1: NotHolder\n", 3),
-];
-
-/// A writer that takes one put and no more has the whole line.
-#[test]
-fn a_fault_line_of_a_script_is_written_in_one_piece(rt: HostRuntime) {
-    for (text, output, status) in FAULTY {
-        let run = Run::script(Text::whole(text.as_bytes())).in_room(Room::of_puts(1));
-        run.prints(&rt, output, *status);
-    }
-}
-
-#[test]
-fn a_missing_file_is_answered_with_a_read_fault(rt: HostRuntime) {
-    let run = Run::of(&["run", "there/is/no/such/script"], Text::whole(b""));
-    run.expect(&rt, "", "read fault\n", 4);
 }
 
 /// Words that run the script in the file, its text, what is printed, and the status.
@@ -259,16 +326,33 @@ const IN_A_FILE: &[(&[&str], &str, &str, u8)] = &[
     ),
 ];
 
-#[test]
-fn a_script_in_a_file_is_run(rt: HostRuntime) -> Result<(), Fail> {
-    for (words, text, output, status) in IN_A_FILE {
-        fs::write(&rt, "worked.script", *text)?;
-        Run::of(words, Text::whole(b"")).prints(&rt, output, *status);
+/// Writes the script to the file, at the second try where memory ran out. A run tells what the file has.
+fn write_script<R: Files>(rt: &R, text: &[u8]) {
+    if fs::write(rt, "worked.script", text).is_err() {
+        let _ = fs::write(rt, "worked.script", text);
     }
-    fs::write(&rt, "worked.script", RACE)?;
-    let ran = Run::of(&["run", "worked.script"], Text::whole(b"")).ran_again(&rt);
-    let is_race = is_race(&ran);
-    ran.held(&rt, is_race, "a race");
-    fs::remove_file(&rt, "worked.script")?;
-    Ok(())
+}
+
+#[test]
+fn a_script_in_a_file_is_run(rt: HostRuntime) {
+    for (words, text, output, status) in IN_A_FILE {
+        write_script(&rt, text.as_bytes());
+        let run = Run {
+            program: Program::Words(words),
+            output,
+            status: *status,
+            ..CHECK
+        };
+        run.expect(&rt);
+    }
+}
+
+#[test]
+fn a_race_of_a_script_in_a_file_is_reported(rt: HostRuntime) {
+    write_script(&rt, RACE);
+    let run = Run {
+        program: Program::Words(&["run", "worked.script"]),
+        ..CHECK
+    };
+    expect_race(&rt, &run);
 }

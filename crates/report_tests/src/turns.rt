@@ -1,6 +1,7 @@
 //! How many reads a text takes, and where a read fails.
 use crate::commands::Command;
 use crate::doubles::{Page, Pieces, Room, Text};
+use crate::expected::expect;
 use event_core::{Limits, Roots};
 use rapid_text::{Cause, TextFault};
 use std::alloc::Global;
@@ -13,7 +14,7 @@ struct Case {
     text: &'static [u8],
     most: usize,
     fails: bool,
-    turns: u32,
+    turns: u64,
     stops_at: Option<u64>,
     counts: &'static str,
     report: &'static str,
@@ -128,19 +129,11 @@ fn a_text_is_read_to_its_end_in_as_many_turns_as_it_takes(rt: HostRuntime) {
             fails: case.fails,
             ..Text::cut(case.text, case.most, case.most)
         };
-        let wanted = case.fault();
+        let wanted = Some((case.fault(), true));
         let checked = Command::Check.ends(rt.alloc(), text, case.turns, case.counts);
-        assert!(rt;
-            checked == Some((wanted, true)),
-            "{} turns: {checked:?}",
-            case.turns
-        );
+        expect(&rt, checked == wanted, case.counts);
         let replayed = Command::Replay.ends(rt.alloc(), text, case.turns, case.report);
-        assert!(rt;
-            replayed == Some((wanted, true)),
-            "{} turns: {replayed:?}",
-            case.turns
-        );
+        expect(&rt, replayed == wanted, case.report);
     }
 }
 
@@ -185,5 +178,5 @@ fn what_is_counted_is_answered(rt: HostRuntime) {
     if answered.is_none() {
         answered = answers(rt.alloc());
     }
-    assert!(rt; answered == Some((counts, summary)), "{answered:?}");
+    expect(&rt, answered == Some((counts, summary)), "other counts");
 }

@@ -1,4 +1,5 @@
 //! The words of refusals.
+use crate::expected::expect;
 use event_core::{Refusal, ThreadId};
 use trace_report::refusal_word;
 
@@ -19,6 +20,6 @@ const WORDS: &[(Refusal, &str)] = &[
 #[test]
 fn each_refusal_has_its_word(rt: HostRuntime) {
     for (refusal, word) in WORDS {
-        assert!(rt; refusal_word(*refusal) == *word, "{word}");
+        expect(&rt, refusal_word(*refusal) == *word, word);
     }
 }

@@ -1,35 +1,39 @@
 //! The program on traces, each whole and in pieces.
-use crate::doubles::{Text, joined};
-use crate::runs::{CHECK, REPLAY, Run};
+use crate::doubles::{Text, keep, letters};
+use crate::runs::{Program, REPLAY, Run, expect_both};
 use crate::traces::{legal, refused};
 use std::alloc::Global;
-use std::test::Fail;
 
 /// Whole, byte by byte, and cut in two at each place.
 #[test]
 fn legal_traces_have_their_answers_however_they_are_cut(rt: HostRuntime) {
-    for (_, text, line, report, status) in legal() {
+    for (_, text, counts, report, status) in legal() {
         for cut in 0..=text.len().max(1) {
             let text = Text::however_cut(text.as_bytes(), cut);
-            Run::of(CHECK, text).prints(&rt, line, 0);
-            Run::of(REPLAY, text).prints(&rt, report, *status);
+            expect_both(&rt, text, (*counts, *report, "", *status));
         }
     }
+}
+
+/// The text and an LF.
+fn ended(alloc: Global, text: &str) -> Vec<u8> {
+    let mut ended = Vec::new(alloc);
+    keep(&mut ended, text.as_bytes());
+    keep(&mut ended, b"\n");
+    ended
 }
 
 /// The line of the refusal is printed. An LF after the text changes nothing.
 #[test]
 fn the_first_refused_line_is_named_however_a_text_is_cut(rt: HostRuntime) {
     for (_, text, line) in refused() {
+        let ended = ended(rt.alloc(), text);
+        expect_both(&rt, Text::whole(&ended), (*line, *line, "", 3));
         for cut in 0..=text.len() {
             let text = Text::however_cut(text.as_bytes(), cut);
-            Run::of(CHECK, text).prints(&rt, line, 3);
-            Run::of(REPLAY, text).prints(&rt, line, 3);
+            expect_both(&rt, text, (*line, *line, "", 3));
         }
-        let mut room = [0; 2048];
-        let ended = Text::whole(joined(&mut room, text.as_bytes(), b"\n"));
-        Run::of(CHECK, ended).prints(&rt, line, 3);
-        Run::of(REPLAY, ended).prints(&rt, line, 3);
+        drop(ended);
     }
 }
 
@@ -54,44 +58,71 @@ fn as_many_threads_are_admitted_as_the_option_says(rt: HostRuntime) {
     let text = b"T0|fork(T1)|1";
     for (words, output, status) in THREADS {
         for cut in 0..=text.len() {
-            Run::of(words, Text::however_cut(text, cut)).prints(&rt, output, *status);
+            let run = Run {
+                program: Program::Words(words),
+                text: Text::however_cut(text, cut),
+                output,
+                status: *status,
+                ..REPLAY
+            };
+            run.expect(&rt);
         }
     }
 }
 
-/// A store, and twenty loads by another thread; and their report.
-fn loads_and_races(alloc: Global) -> Result<(String, String), Fail> {
-    let place = "p".repeat(alloc, 255)?;
-    let mut text = String::new(alloc);
-    let mut report = String::new(alloc);
-    writeln!(text, "T0|w(x)|1")?;
-    writeln!(report, "events 21 threads 2 locks 0 variables 1 races 20")?;
-    for number in 2..22 {
-        writeln!(text, "T1|r(x)|{place}")?;
-        writeln!(report, "{number}|T1|r(x)|{place} with 1|T0|w(x)|1")?;
+/// The numbers of the loads.
+const NUMBERS: &[&str] = &[
+    "2", "3", "4", "5", "6", "7", "8", "9", "10", "11", "12", "13", "14", "15", "16", "17", "18",
+    "19", "20", "21",
+];
+
+fn text_of_loads(alloc: Global) -> Vec<u8> {
+    let mut text = Vec::new(alloc);
+    keep(&mut text, b"T0|w(x)|1\n");
+    for _ in NUMBERS {
+        keep(&mut text, b"T1|r(x)|");
+        keep(&mut text, letters(255));
+        keep(&mut text, b"\n");
     }
-    Ok((text, report))
+    text
 }
 
-/// The lines of the report fill more than a page.
+fn report_of_loads(alloc: Global) -> Vec<u8> {
+    let mut report = Vec::new(alloc);
+    keep(
+        &mut report,
+        b"events 21 threads 2 locks 0 variables 1 races 20\n",
+    );
+    for number in NUMBERS {
+        keep(&mut report, number.as_bytes());
+        keep(&mut report, b"|T1|r(x)|");
+        keep(&mut report, letters(255));
+        keep(&mut report, b" with 1|T0|w(x)|1\n");
+    }
+    report
+}
+
+/// A store, and twenty loads by another thread. The lines of the report fill more than a page.
 #[test]
-fn a_long_report_is_written_whole(rt: HostRuntime) -> Result<(), Fail> {
-    let (text, report) = loads_and_races(rt.alloc())?;
-    let run = Run::of(REPLAY, Text::whole(text.as_bytes()));
-    run.prints(&rt, &report, 1);
-    Ok(())
+fn a_long_report_is_written_whole(rt: HostRuntime) {
+    let text = text_of_loads(rt.alloc());
+    let report = report_of_loads(rt.alloc());
+    let counts = "events 21 threads 2 locks 0 variables 1\n";
+    let report = str::from_utf8(&report).unwrap_or("");
+    expect_both(&rt, Text::whole(&text), (counts, report, "", 1));
 }
 
 /// A thousand lines in pieces that end within them.
 #[test]
-fn a_thousand_lines_are_judged(rt: HostRuntime) -> Result<(), Fail> {
-    let text = "T0|acq(l)|1\nT0|w(x)|2\nT0|r(y)|3\nT0|rel(l)|4\n".repeat(rt.alloc(), 250)?;
-    let cut = Text::cut(text.as_bytes(), 1001, 4001);
-    Run::of(CHECK, cut).prints(&rt, "events 1000 threads 1 locks 1 variables 2\n", 0);
-    Run::of(REPLAY, cut).prints(
-        &rt,
-        "events 1000 threads 1 locks 1 variables 2 races 0\n",
-        0,
-    );
-    Ok(())
+fn a_thousand_lines_are_judged(rt: HostRuntime) {
+    let mut text = Vec::new(rt.alloc());
+    for _ in 0..250 {
+        keep(
+            &mut text,
+            b"T0|acq(l)|1\nT0|w(x)|2\nT0|r(y)|3\nT0|rel(l)|4\n",
+        );
+    }
+    let counts = "events 1000 threads 1 locks 1 variables 2\n";
+    let report = "events 1000 threads 1 locks 1 variables 2 races 0\n";
+    expect_both(&rt, Text::cut(&text, 1001, 4001), (counts, report, "", 0));
 }

@@ -1,73 +1,129 @@
 //! Writers that fail, and writers that take a part or nothing.
 use crate::doubles::{Room, Text};
-use crate::runs::{COMMANDS, Run};
+use crate::runs::{CHECK, Program, Run, expect_all};
 
-const TRACE: &str = "T0|fork(T1)|1\nT0|w(y)|2\nT0|acq(l)|3\nT0|w(x)|4\nT0|rel(l)|5\n\
-                     T1|acq(l)|6\nT1|rel(l)|7\nT1|r(y)|8\n";
+const CHECKED: Run<'static> = Run {
+    text: Text {
+        bytes: b"T0|fork(T1)|1\nT0|w(y)|2\nT0|acq(l)|3\nT0|w(x)|4\nT0|rel(l)|5\n\
+                 T1|acq(l)|6\nT1|rel(l)|7\nT1|r(y)|8\n",
+        ..Text::EMPTY
+    },
+    output: "events 8 threads 2 locks 1 variables 2\n",
+    ..CHECK
+};
 
-const REPORT: &str =
-    "events 8 threads 2 locks 1 variables 2 races 1\n8|T1|r(y)|8 with 2|T0|w(y)|2\n";
+const REPLAYED: Run<'static> = Run {
+    program: Program::Words(&["replay"]),
+    output: "events 8 threads 2 locks 1 variables 2 races 1\n8|T1|r(y)|8 with 2|T0|w(y)|2\n",
+    status: 1,
+    ..CHECKED
+};
 
-/// The commands with what they print of the trace, and the status with which they end.
-const PRINTED: &[(&[&str], &str, u8)] = &[
-    (&["check"], "events 8 threads 2 locks 1 variables 2\n", 0),
-    (&["replay"], REPORT, 1),
+const REFUSED: Run<'static> = Run {
+    text: Text {
+        bytes: b"T0|w(x)|1\nT0|rel(l)|2\n",
+        ..Text::EMPTY
+    },
+    room: Room::ONE_PUT,
+    output: "line 2: NotHolder\n",
+    status: 3,
+    ..CHECK
+};
+
+const CLOSED: Run<'static> = Run {
+    text: Text {
+        bytes: b"T0|w(x)|1\n",
+        ..Text::EMPTY
+    },
+    room: Room {
+        most: usize::MAX,
+        puts: 0,
+    },
+    errors: "write fault\n",
+    status: 4,
+    ..CHECK
+};
+
+const BY_SEVEN: Room = Room {
+    most: 7,
+    ..Room::AMPLE
+};
+
+const BY_ONE: Room = Room {
+    most: 1,
+    ..Room::AMPLE
+};
+
+const RUNS: &[Run<'static>] = &[
+    // A writer that takes the bytes in parts is asked again for what is left.
+    CHECKED,
+    Run {
+        room: BY_SEVEN,
+        ..CHECKED
+    },
+    Run {
+        room: BY_ONE,
+        ..CHECKED
+    },
+    REPLAYED,
+    Run {
+        room: BY_SEVEN,
+        ..REPLAYED
+    },
+    Run {
+        room: BY_ONE,
+        ..REPLAYED
+    },
+    // A writer that takes one put and no more has the whole line of a fault.
+    REFUSED,
+    Run {
+        program: Program::Words(&["replay"]),
+        ..REFUSED
+    },
+    // A pipe whose reader is gone takes no put: of help, of the version, of counts, a report, a fault line.
+    Run {
+        program: Program::Words(&["--help"]),
+        ..CLOSED
+    },
+    Run {
+        program: Program::Words(&["--version"]),
+        ..CLOSED
+    },
+    Run {
+        program: Program::Words(&["replay", "--help"]),
+        ..CLOSED
+    },
+    CLOSED,
+    Run {
+        program: Program::Words(&["replay"]),
+        ..CLOSED
+    },
+    Run {
+        program: Program::Words(&["replay"]),
+        text: Text {
+            bytes: b"T0|rel(l)|1\n",
+            ..Text::EMPTY
+        },
+        ..CLOSED
+    },
+    // The status is the same where nothing can be said of it.
+    Run {
+        room: Room::NONE,
+        errors_room: Room::NONE,
+        output: "",
+        status: 4,
+        ..CHECKED
+    },
+    Run {
+        room: Room::NONE,
+        errors_room: Room::NONE,
+        output: "",
+        status: 4,
+        ..REPLAYED
+    },
 ];
 
-const SIZES: &[usize] = &[usize::MAX, 7, 1];
-
-/// A writer that takes the bytes in parts is asked again for what is left.
 #[test]
-fn writing_goes_on_where_a_writer_takes_a_part(rt: HostRuntime) {
-    for (words, output, status) in PRINTED {
-        for most in SIZES {
-            let room = Room {
-                most: *most,
-                ..Room::AMPLE
-            };
-            let run = Run::of(words, Text::whole(TRACE.as_bytes())).in_room(room);
-            run.prints(&rt, output, *status);
-        }
-    }
-}
-
-/// A writer that takes one put and no more has the whole line.
-#[test]
-fn a_fault_line_is_written_in_one_piece(rt: HostRuntime) {
-    let text = Text::whole(b"T0|w(x)|1\nT0|rel(l)|2\n");
-    for words in COMMANDS {
-        let run = Run::of(words, text).in_room(Room::of_puts(1));
-        run.prints(&rt, "line 2: NotHolder\n", 3);
-    }
-}
-
-/// Words and a text for which there is something to print: help, the version, counts, a report, a fault line.
-const PRINTING: &[(&[&str], &[u8])] = &[
-    (&["--help"], b""),
-    (&["--version"], b""),
-    (&["replay", "--help"], b""),
-    (&["check"], b"T0|w(x)|1\n"),
-    (&["replay"], b"T0|w(x)|1\n"),
-    (&["replay"], b"T0|rel(l)|1\n"),
-];
-
-/// A pipe whose reader is gone takes no put.
-#[test]
-fn a_closed_pipe_ends_with_status_4(rt: HostRuntime) {
-    for (words, text) in PRINTING {
-        let run = Run::of(words, Text::whole(text)).in_room(Room::of_puts(0));
-        run.expect(&rt, "", "write fault\n", 4);
-    }
-}
-
-#[test]
-fn the_status_is_the_same_where_nothing_can_be_said_of_it(rt: HostRuntime) {
-    let none = Room { most: 0, puts: 0 };
-    for words in COMMANDS {
-        let run = Run {
-            errors: none,
-            ..Run::of(words, Text::whole(TRACE.as_bytes())).in_room(none)
-        };
-        run.prints(&rt, "", 4);
-    }
+fn a_writer_that_fails_ends_a_run_with_status_4(rt: HostRuntime) {
+    expect_all(&rt, RUNS);
 }

@@ -30,16 +30,32 @@ fn copy(alloc: Global, text: &str, page: &mut Page) -> Option<bool> {
     is_copied
 }
 
+/// The lines of all events, and no page unless all are written. They are asked for again where memory ran out.
+fn copied(alloc: Global, text: &str) -> Option<Page> {
+    let mut page = Page::blank(alloc, Room::AMPLE);
+    let mut is_copied = copy(alloc, text, &mut page);
+    if is_copied.is_none() {
+        page.bytes.clear();
+        is_copied = copy(alloc, text, &mut page);
+    }
+    if is_copied == Some(true) {
+        Some(page)
+    } else {
+        None
+    }
+}
+
 #[test]
 fn a_trace_that_is_written_again_has_the_same_report(rt: HostRuntime) {
     for (_, text, _, report, status) in legal() {
-        let mut page = Page::blank(rt.alloc(), Room::AMPLE);
-        let mut is_copied = copy(rt.alloc(), text, &mut page);
-        if is_copied.is_none() {
-            page = Page::blank(rt.alloc(), Room::AMPLE);
-            is_copied = copy(rt.alloc(), text, &mut page);
-        }
-        assert!(rt; is_copied == Some(true), "{text:?}");
-        Run::of(REPLAY, Text::whole(page.bytes.as_slice())).prints(&rt, report, *status);
+        let page = copied(rt.alloc(), text).expect(&rt, text);
+        let run = Run {
+            text: Text::whole(&page.bytes),
+            output: report,
+            status: *status,
+            ..REPLAY
+        };
+        run.expect(&rt);
+        drop(page);
     }
 }
