@@ -127,7 +127,7 @@ fn each_beginning_of_nested_sections_has_its_answer(rt: HostRuntime) {
     for (part, counts, report, status) in PARTS {
         for byte in part.as_bytes() {
             keep(&mut text, &[*byte]);
-            expect_both(&rt, Text::whole(&text), (*counts, *report, "", *status));
+            expect_both(&rt, Text::whole(&text), (*counts, *report), "", *status);
         }
     }
 }

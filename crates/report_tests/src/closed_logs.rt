@@ -106,12 +106,7 @@ fn expect_log<G: Gate + Sync, R: Abort + AllocGlobal + Files + Threads + Wait + 
     let log = page.bytes.as_slice();
     let is_known = is_written == Some(true) && case.logs.contains(&log);
     expect(rt, is_known, case.script);
-    let replay = Run {
-        text: Text::whole(log),
-        output: case.report,
-        ..REPLAY
-    };
-    replay.expect(rt);
+    Run::of(REPLAY, Text::whole(log)).expect(rt, case.report, "", 0);
     drop(page);
 }
 
@@ -120,12 +115,8 @@ fn expect_log<G: Gate + Sync, R: Abort + AllocGlobal + Files + Threads + Wait + 
 fn a_closed_log_is_replayed_to_the_report_of_its_script(rt: HostRuntime) {
     for case in CASES {
         expect_log(&rt, case, &FreeGate);
-        let run = Run {
-            text: Text::whole(case.script.as_bytes()),
-            output: case.report,
-            ..SCRIPT
-        };
-        run.expect(&rt);
+        let run = Run::of(SCRIPT, Text::whole(case.script.as_bytes()));
+        run.expect(&rt, case.report, "", 0);
     }
 }
 

@@ -27,67 +27,47 @@ const EMPTY: &str = "events 0 threads 2 locks 1 variables 1 races 0\n";
 const SWAPS: &str = "events 6 threads 2 locks 1 variables 1 races 2\n\
     4|main|r(x)| with 3|child|w(x)|b\n5|main|w(x)| with 3|child|w(x)|b\n";
 
-/// Whether two threads swap, the names, how much of the report is taken, and what is answered, the number of
-/// races or a fault, and written.
-struct Case {
-    has_swaps: bool,
-    names: NameLists<'static>,
-    room: Room,
-    races: Result<u64, ReportFault>,
-    written: &'static str,
-}
-
-const REPORTED: Case = Case {
-    has_swaps: true,
-    names: NAMES,
-    room: Room::AMPLE,
-    races: Ok(2),
-    written: SWAPS,
+/// Lists that lack a name of the swaps.
+const ONE_THREAD: NameLists<'static> = NameLists {
+    threads: &["main"],
+    ..NAMES
 };
 
-const UNNAMED: Case = Case {
-    races: Err(ReportFault::Unnamed),
-    written: "",
-    ..REPORTED
+const NO_VARIABLE: NameLists<'static> = NameLists {
+    variables: &[],
+    ..NAMES
 };
+
+const TWO_SITES: NameLists<'static> = NameLists {
+    sites: &["a", "b"],
+    ..NAMES
+};
+
+/// Whether two threads swap, the names, the room for the report, the number of races or the fault that is
+/// answered, and what is written.
+type Case = (
+    bool,
+    NameLists<'static>,
+    Room,
+    Result<u64, ReportFault>,
+    &'static str,
+);
 
 const CASES: &[Case] = &[
-    REPORTED,
-    Case {
-        has_swaps: false,
-        races: Ok(0),
-        written: EMPTY,
-        ..REPORTED
-    },
+    (false, NAMES, Room::AMPLE, Ok(0), EMPTY),
+    (true, NAMES, Room::AMPLE, Ok(2), SWAPS),
     // A number without a name is told, and nothing is written.
-    Case {
-        names: NameLists {
-            threads: &["main"],
-            ..NAMES
-        },
-        ..UNNAMED
-    },
-    Case {
-        names: NameLists {
-            variables: &[],
-            ..NAMES
-        },
-        ..UNNAMED
-    },
-    Case {
-        names: NameLists {
-            sites: &["a", "b"],
-            ..NAMES
-        },
-        ..UNNAMED
-    },
+    (true, ONE_THREAD, Room::AMPLE, Err(ReportFault::Unnamed), ""),
+    (
+        true,
+        NO_VARIABLE,
+        Room::AMPLE,
+        Err(ReportFault::Unnamed),
+        "",
+    ),
+    (true, TWO_SITES, Room::AMPLE, Err(ReportFault::Unnamed), ""),
     // A report that is not taken is told.
-    Case {
-        room: Room::NONE,
-        races: Err(ReportFault::Write),
-        written: "",
-        ..REPORTED
-    },
+    (true, NAMES, Room::NONE, Err(ReportFault::Write), ""),
 ];
 
 /// Lists that are no names, why, and what the fault says.
@@ -182,21 +162,22 @@ fn reported<R: Wait>(
 
 /// Whether the log is reported so. None where memory ran out.
 fn is_reported<R: Wait + AllocGlobal>(rt: &R, case: &Case) -> Option<bool> {
-    let mut page = Page::blank(rt.alloc(), case.room);
-    let answer = reported(rt, rt.alloc(), case.has_swaps, &case.names, &mut page);
-    let is_written = page.bytes.as_slice() == case.written.as_bytes();
+    let (has_swaps, lists, room, races, written) = case;
+    let mut page = Page::blank(rt.alloc(), *room);
+    let answer = reported(rt, rt.alloc(), *has_swaps, lists, &mut page);
+    let is_written = page.bytes.as_slice() == written.as_bytes();
     drop(page);
-    Some(answer? == case.races && is_written)
+    Some(answer? == *races && is_written)
 }
 
 #[test]
 fn a_closed_log_is_reported_with_the_names_of_its_numbers(rt: HostRuntime) {
     for case in CASES {
-        let mut told = is_reported(&rt, case);
-        if told.is_none() {
-            told = is_reported(&rt, case);
-        }
-        expect(&rt, told == Some(true), case.written);
+        let is_so = match is_reported(&rt, case) {
+            Some(is_so) => is_so,
+            None => is_reported(&rt, case) == Some(true),
+        };
+        expect(&rt, is_so, case.4);
     }
 }
 

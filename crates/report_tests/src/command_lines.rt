@@ -1,7 +1,7 @@
 //! Command lines, and what is said of them.
 use crate::doubles::Text;
 use crate::expected::expect;
-use crate::runs::{CHECK, Program, Ran, Run};
+use crate::runs::{Program, Ran, Run};
 use std::alloc::Global;
 use std::fmt::InlineText;
 use wcp_tool::settings;
@@ -175,12 +175,7 @@ fn is_said(ran: &Ran, part: &str, status: u8) -> bool {
 #[test]
 fn each_command_line_is_answered(rt: HostRuntime) {
     for (words, part, status) in SAID {
-        let run = Run {
-            program: Program::Words(words),
-            text: Text::whole(TRACE),
-            ..CHECK
-        };
-        let ran = run.ran_again(&rt);
+        let ran = Run::of(Program::Words(words), Text::whole(TRACE)).ran_again(&rt);
         let is_said = is_said(&ran, part, *status);
         ran.held(&rt, is_said, part);
     }

@@ -15,13 +15,6 @@ pub struct Text<'a> {
 }
 
 impl<'a> Text<'a> {
-    pub const EMPTY: Text<'static> = Text {
-        bytes: b"",
-        first: usize::MAX,
-        others: usize::MAX,
-        fails: false,
-    };
-
     pub fn cut(bytes: &'a [u8], first: usize, others: usize) -> Text<'a> {
         Text {
             bytes,
@@ -107,6 +100,16 @@ impl Room {
     };
 
     pub const NONE: Room = Room { most: 0, puts: 0 };
+
+    pub const BY_SEVEN: Room = Room {
+        most: 7,
+        ..Room::AMPLE
+    };
+
+    pub const BY_ONE: Room = Room {
+        most: 1,
+        ..Room::AMPLE
+    };
 }
 
 /// Keeps what is written to it.

@@ -147,11 +147,8 @@ fn long_lines_are_judged_whole_and_byte_by_byte(rt: HostRuntime) {
                 fails: case.fails,
                 ..Text::cut(&bytes, most, most)
             };
-            expect_both(
-                &rt,
-                text,
-                (case.counts, case.report, case.errors, case.status),
-            );
+            let printed = (case.counts, case.report);
+            expect_both(&rt, text, printed, case.errors, case.status);
         }
         drop(bytes);
     }

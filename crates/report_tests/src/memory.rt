@@ -1,57 +1,45 @@
 //! Runs of the program where memory is refused.
 use crate::doubles::Text;
-use crate::runs::{CHECK, REPLAY, Ran, Run, SCRIPT};
+use crate::runs::{CHECK, Program, REPLAY, Ran, Run, SCRIPT};
 use crate::traces::legal;
 use std::fs::Files;
 use std::process::Abort;
 use std::sync::Wait;
 use std::thread::Threads;
 
-/// It was run so, or nothing was said but that memory ran out, or that a thread could not be started.
-fn is_whole_or_not(run: &Run<'_>, ran: &Ran) -> bool {
+/// This was printed, or nothing but that memory ran out, or that a thread could not be started.
+fn is_whole(ran: &Ran, output: &str, status: u8) -> bool {
     match ran.status {
         5 => ran.is("", "out of memory\n", 5),
         6 => ran.is("line 1: NoWorker\n", "", 6),
-        _ => ran.is(run.output, run.errors, run.status),
+        _ => ran.is(output, "", status),
     }
 }
 
-fn expect_whole_or_not<R: Abort + AllocGlobal + Files + Threads + Wait + Sync>(
+/// Whichever allocation is refused, the run prints what an ample one does, or not at all.
+fn expect_whole<R: Abort + AllocGlobal + Files + Threads + Wait + Sync>(
     rt: &R,
-    run: &Run<'_>,
+    program: Program<'_>,
+    text: &str,
+    output: &str,
+    status: u8,
 ) {
-    let ran = run.ran(rt);
-    let is_whole_or_not = is_whole_or_not(run, &ran);
-    ran.held(rt, is_whole_or_not, run.output);
+    let ran = Run::of(program, Text::whole(text.as_bytes())).ran(rt);
+    let is_whole = is_whole(&ran, output, status);
+    ran.held(rt, is_whole, output);
 }
 
-/// Whichever allocation is refused, the answer is that of an ample run, or nothing but that memory ran out.
 #[test]
 fn a_trace_is_answered_whole_or_not_at_all(rt: HostRuntime) {
     for (_, text, counts, report, status) in legal() {
-        let text = Text::whole(text.as_bytes());
-        let check = Run {
-            text,
-            output: counts,
-            ..CHECK
-        };
-        expect_whole_or_not(&rt, &check);
-        let replay = Run {
-            text,
-            output: report,
-            status: *status,
-            ..REPLAY
-        };
-        expect_whole_or_not(&rt, &replay);
+        expect_whole(&rt, CHECK, text, counts, 0);
+        expect_whole(&rt, REPLAY, text, report, *status);
     }
 }
 
 #[test]
 fn a_script_is_run_whole_or_not_at_all(rt: HostRuntime) {
-    let script = Run {
-        text: Text::whole(b"m fork a\na w x 5\nm join a\nm r x\n"),
-        output: "events 4 threads 2 locks 0 variables 1 races 0\n",
-        ..SCRIPT
-    };
-    expect_whole_or_not(&rt, &script);
+    let text = "m fork a\na w x 5\nm join a\nm r x\n";
+    let report = "events 4 threads 2 locks 0 variables 1 races 0\n";
+    expect_whole(&rt, SCRIPT, text, report, 0);
 }

@@ -16,38 +16,19 @@ pub enum Program<'a> {
     Script(u32),
 }
 
-/// A run with what it reads and the room for what it writes, and what it is to write to standard output and
-/// to standard error, and to end with.
+pub const CHECK: Program<'static> = Program::Words(&["check"]);
+
+pub const REPLAY: Program<'static> = Program::Words(&["replay"]);
+
+pub const SCRIPT: Program<'static> = Program::Script(1000000);
+
+/// A run, with what it reads, and the room for what it writes to standard output and to standard error.
 #[derive(Clone, Copy)]
 pub struct Run<'a> {
     pub program: Program<'a>,
     pub text: Text<'a>,
-    pub room: Room,
-    pub errors_room: Room,
-    pub output: &'a str,
-    pub errors: &'a str,
-    pub status: u8,
+    pub rooms: (Room, Room),
 }
-
-pub const CHECK: Run<'static> = Run {
-    program: Program::Words(&["check"]),
-    text: Text::EMPTY,
-    room: Room::AMPLE,
-    errors_room: Room::AMPLE,
-    output: "",
-    errors: "",
-    status: 0,
-};
-
-pub const REPLAY: Run<'static> = Run {
-    program: Program::Words(&["replay"]),
-    ..CHECK
-};
-
-pub const SCRIPT: Run<'static> = Run {
-    program: Program::Script(1000000),
-    ..CHECK
-};
 
 /// What a run ended with, and what it wrote to standard output and to standard error.
 #[derive(Drop)]
@@ -104,11 +85,20 @@ fn script_status<R: AllocGlobal + Threads + Wait + Sync>(
     status
 }
 
-impl Run<'_> {
+impl<'a> Run<'a> {
+    /// A run with room for all that is written.
+    pub fn of(program: Program<'a>, text: Text<'a>) -> Run<'a> {
+        Run {
+            program,
+            text,
+            rooms: (Room::AMPLE, Room::AMPLE),
+        }
+    }
+
     pub fn ran<R: AllocGlobal + Files + Threads + Wait + Sync>(&self, rt: &R) -> Ran {
         let mut reader = Pieces::of(self.text);
-        let mut output = Page::blank(rt.alloc(), self.room);
-        let mut errors = Page::blank(rt.alloc(), self.errors_room);
+        let mut output = Page::blank(rt.alloc(), self.rooms.0);
+        let mut errors = Page::blank(rt.alloc(), self.rooms.1);
         let status = match self.program {
             Program::Words(words) => tool(rt, words, &mut reader, &mut output, &mut errors),
             Program::Script(patience) => {
@@ -132,45 +122,57 @@ impl Run<'_> {
         self.ran(rt)
     }
 
-    /// The run writes what it is to write, and ends so.
-    pub fn expect<R: Abort + AllocGlobal + Files + Threads + Wait + Sync>(&self, rt: &R) {
+    /// The run writes this to standard output and to standard error, and ends with this status.
+    pub fn expect<R: Abort + AllocGlobal + Files + Threads + Wait + Sync>(
+        &self,
+        rt: &R,
+        output: &str,
+        errors: &str,
+        status: u8,
+    ) {
         let ran = self.ran_again(rt);
-        let is_so = ran.is(self.output, self.errors, self.status);
-        let text = str::from_utf8(self.text.bytes).unwrap_or(self.output);
-        ran.held(rt, is_so, text);
+        let is_so = ran.is(output, errors, status);
+        ran.held(rt, is_so, str::from_utf8(self.text.bytes).unwrap_or(output));
     }
 }
 
-pub fn expect_all<R: Abort + AllocGlobal + Files + Threads + Wait + Sync>(
-    rt: &R,
-    runs: &[Run<'_>],
-) {
-    for run in runs {
-        run.expect(rt);
-    }
-}
-
-/// What a check of the text prints, what a replay of it prints, what both tell on standard error, and the
-/// status of the replay. A check ends with the same, or with 0 where the replay reports a race.
+/// A check and a replay of the text come to this: the counts or the report, what is told on standard error,
+/// and the status of the replay. A check ends with 0 where a replay reports a race.
 pub fn expect_both<R: Abort + AllocGlobal + Files + Threads + Wait + Sync>(
     rt: &R,
     text: Text<'_>,
-    (counts, report, errors, status): (&str, &str, &str, u8),
+    (counts, report): (&str, &str),
+    errors: &str,
+    status: u8,
 ) {
-    let check = Run {
-        text,
-        output: counts,
-        errors,
-        status: if status == 1 { 0 } else { status },
-        ..CHECK
-    };
-    check.expect(rt);
-    let replay = Run {
-        text,
-        output: report,
-        errors,
-        status,
-        ..REPLAY
-    };
-    replay.expect(rt);
+    let checked = if status == 1 { 0 } else { status };
+    Run::of(CHECK, text).expect(rt, counts, errors, checked);
+    Run::of(REPLAY, text).expect(rt, report, errors, status);
+}
+
+/// What is run, the text that it reads, whether the reader then fails, the room for what it writes, what it
+/// writes to standard output and to standard error, and the status.
+pub type Row = (
+    Program<'static>,
+    &'static str,
+    bool,
+    (Room, Room),
+    &'static str,
+    &'static str,
+    u8,
+);
+
+pub fn expect_rows<R: Abort + AllocGlobal + Files + Threads + Wait + Sync>(rt: &R, rows: &[Row]) {
+    for (program, text, fails, rooms, output, errors, status) in rows {
+        let text = Text {
+            fails: *fails,
+            ..Text::whole(text.as_bytes())
+        };
+        let run = Run {
+            program: *program,
+            text,
+            rooms: *rooms,
+        };
+        run.expect(rt, output, errors, *status);
+    }
 }

@@ -1,6 +1,7 @@
 //! Scripts, and what a run of their threads prints.
 use crate::doubles::{Room, Text, keep, letters};
-use crate::runs::{CHECK, Program, Ran, Run, SCRIPT, expect_all};
+use crate::runs::Program::{self, Script};
+use crate::runs::{Ran, Row, Run, SCRIPT, expect_rows};
 use std::fs;
 use std::fs::Files;
 use std::process::Abort;
@@ -107,13 +108,8 @@ const SCRIPTS: &[Case] = &[
 #[test]
 fn the_worked_scripts_have_their_answers(rt: HostRuntime) {
     for (_, text, output, status) in SCRIPTS {
-        let run = Run {
-            text: Text::cut(text.as_bytes(), 5, 3),
-            output,
-            status: *status,
-            ..SCRIPT
-        };
-        run.expect(&rt);
+        let run = Run::of(SCRIPT, Text::cut(text.as_bytes(), 5, 3));
+        run.expect(&rt, output, "", *status);
     }
 }
 
@@ -122,105 +118,56 @@ fn a_line_of_a_script_that_is_too_long_is_told(rt: HostRuntime) {
     let mut text = Vec::new(rt.alloc());
     keep(&mut text, letters(1025));
     keep(&mut text, b"\n");
-    let run = Run {
-        text: Text::whole(&text),
-        output: "line 1: LineTooLong\n",
-        status: 6,
-        ..SCRIPT
-    };
-    run.expect(&rt);
+    Run::of(SCRIPT, Text::whole(&text)).expect(&rt, "line 1: LineTooLong\n", "", 6);
 }
 
-const STUCK: Run<'static> = Run {
-    program: Program::Script(1),
-    text: Text {
-        bytes: b"m acq l\nm fork a\na acq l\n",
-        ..Text::EMPTY
-    },
-    output: "line 3: Stuck\n",
-    status: 6,
-    ..SCRIPT
-};
+const STUCK: &str = "m acq l\nm fork a\na acq l\n";
 
-/// A text whose reader fails.
-const FAILS: Text<'static> = Text {
-    fails: true,
-    ..Text::EMPTY
-};
+const GIVEN_UP: &str = "line 3: Stuck\n";
 
-const READ_FAULT: Run<'static> = Run {
-    errors: "read fault\n",
-    status: 4,
-    ..SCRIPT
-};
+const MISSING: Program<'static> = Program::Words(&["run", "there/is/no/such/script"]);
 
-const BAD_LINE: Run<'static> = Run {
-    output: "line 1: BadLine\n",
-    status: 6,
-    ..SCRIPT
-};
+const FAULT: &str = "read fault\n";
 
-const RUNS: &[Run<'static>] = &[
+const ALL: (Room, Room) = (Room::AMPLE, Room::AMPLE);
+
+const ONE_PUT: (Room, Room) = (Room::ONE_PUT, Room::AMPLE);
+
+const ROWS: &[Row] = &[
     // A line is given up as soon as patience says.
-    STUCK,
-    Run {
-        program: Program::Script(2),
-        ..STUCK
-    },
-    Run {
-        program: Program::Script(100),
-        ..STUCK
-    },
+    (Script(1), STUCK, false, ALL, GIVEN_UP, "", 6),
+    (Script(2), STUCK, false, ALL, GIVEN_UP, "", 6),
+    (Script(100), STUCK, false, ALL, GIVEN_UP, "", 6),
     // Whole lines that came before a reader failed are judged first.
-    Run {
-        text: Text {
-            bytes: b"m acq l",
-            ..FAILS
-        },
-        ..READ_FAULT
-    },
-    Run {
-        text: Text {
-            bytes: b"m fork a\na r",
-            ..FAILS
-        },
-        ..READ_FAULT
-    },
-    Run {
-        text: Text {
-            bytes: b"m  r x\n",
-            ..FAILS
-        },
-        ..BAD_LINE
-    },
+    (SCRIPT, "m acq l", true, ALL, "", FAULT, 4),
+    (SCRIPT, "m fork a\na r", true, ALL, "", FAULT, 4),
+    (SCRIPT, "m  r x\n", true, ALL, "line 1: BadLine\n", "", 6),
     // A writer that takes one put and no more has the whole line of a fault.
-    Run {
-        text: Text {
-            bytes: b"m  r x\n",
-            ..Text::EMPTY
-        },
-        room: Room::ONE_PUT,
-        ..BAD_LINE
-    },
-    Run {
-        text: Text {
-            bytes: b"m rel l\n",
-            ..Text::EMPTY
-        },
-        room: Room::ONE_PUT,
-        output: "line 1: NotHolder\n",
-        status: 3,
-        ..SCRIPT
-    },
-    Run {
-        program: Program::Words(&["run", "there/is/no/such/script"]),
-        ..READ_FAULT
-    },
+    (
+        SCRIPT,
+        "m  r x\n",
+        false,
+        ONE_PUT,
+        "line 1: BadLine\n",
+        "",
+        6,
+    ),
+    (
+        SCRIPT,
+        "m rel l\n",
+        false,
+        ONE_PUT,
+        "line 1: NotHolder\n",
+        "",
+        3,
+    ),
+    // A missing file is answered with a read fault.
+    (MISSING, "", false, ALL, "", FAULT, 4),
 ];
 
 #[test]
 fn patience_readers_and_writers_bound_a_run_of_a_script(rt: HostRuntime) {
-    expect_all(&rt, RUNS);
+    expect_rows(&rt, ROWS);
 }
 
 /// Nothing orders the store and the load of `y`, in whichever order they come.
@@ -264,11 +211,7 @@ fn expect_race<R: Abort + AllocGlobal + Files + Threads + Wait + Sync>(rt: &R, r
 #[test]
 fn a_race_is_reported_whole_whatever_the_schedule(rt: HostRuntime) {
     for _ in 0..20 {
-        let run = Run {
-            text: Text::whole(RACE),
-            ..SCRIPT
-        };
-        expect_race(&rt, &run);
+        expect_race(&rt, &Run::of(SCRIPT, Text::whole(RACE)));
     }
 }
 
@@ -281,9 +224,9 @@ fn a_script_ends_with_status_4_where_a_write_fails(rt: HostRuntime) {
     for text in WRITING {
         for puts in 0..3 {
             let run = Run {
+                program: SCRIPT,
                 text: Text::whole(text),
-                room: Room { most: 7, puts },
-                ..SCRIPT
+                rooms: (Room { most: 7, puts }, Room::AMPLE),
             };
             let ran = run.ran_again(&rt);
             let is_told = ran.status == 4 && ran.errors.as_slice() == b"write fault\n".as_slice();
@@ -337,22 +280,14 @@ fn write_script<R: Files>(rt: &R, text: &[u8]) {
 fn a_script_in_a_file_is_run(rt: HostRuntime) {
     for (words, text, output, status) in IN_A_FILE {
         write_script(&rt, text.as_bytes());
-        let run = Run {
-            program: Program::Words(words),
-            output,
-            status: *status,
-            ..CHECK
-        };
-        run.expect(&rt);
+        let run = Run::of(Program::Words(words), Text::whole(b""));
+        run.expect(&rt, output, "", *status);
     }
 }
 
 #[test]
 fn a_race_of_a_script_in_a_file_is_reported(rt: HostRuntime) {
     write_script(&rt, RACE);
-    let run = Run {
-        program: Program::Words(&["run", "worked.script"]),
-        ..CHECK
-    };
-    expect_race(&rt, &run);
+    let words = Program::Words(&["run", "worked.script"]);
+    expect_race(&rt, &Run::of(words, Text::whole(b"")));
 }

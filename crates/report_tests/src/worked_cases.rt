@@ -1,6 +1,6 @@
 //! The program on traces, each whole and in pieces.
 use crate::doubles::{Text, keep, letters};
-use crate::runs::{Program, REPLAY, Run, expect_both};
+use crate::runs::{Program, Run, expect_both};
 use crate::traces::{legal, refused};
 use std::alloc::Global;
 
@@ -10,7 +10,7 @@ fn legal_traces_have_their_answers_however_they_are_cut(rt: HostRuntime) {
     for (_, text, counts, report, status) in legal() {
         for cut in 0..=text.len().max(1) {
             let text = Text::however_cut(text.as_bytes(), cut);
-            expect_both(&rt, text, (*counts, *report, "", *status));
+            expect_both(&rt, text, (*counts, *report), "", *status);
         }
     }
 }
@@ -28,10 +28,10 @@ fn ended(alloc: Global, text: &str) -> Vec<u8> {
 fn the_first_refused_line_is_named_however_a_text_is_cut(rt: HostRuntime) {
     for (_, text, line) in refused() {
         let ended = ended(rt.alloc(), text);
-        expect_both(&rt, Text::whole(&ended), (*line, *line, "", 3));
+        expect_both(&rt, Text::whole(&ended), (*line, *line), "", 3);
         for cut in 0..=text.len() {
             let text = Text::however_cut(text.as_bytes(), cut);
-            expect_both(&rt, text, (*line, *line, "", 3));
+            expect_both(&rt, text, (*line, *line), "", 3);
         }
         drop(ended);
     }
@@ -58,14 +58,8 @@ fn as_many_threads_are_admitted_as_the_option_says(rt: HostRuntime) {
     let text = b"T0|fork(T1)|1";
     for (words, output, status) in THREADS {
         for cut in 0..=text.len() {
-            let run = Run {
-                program: Program::Words(words),
-                text: Text::however_cut(text, cut),
-                output,
-                status: *status,
-                ..REPLAY
-            };
-            run.expect(&rt);
+            let text = Text::however_cut(text, cut);
+            Run::of(Program::Words(words), text).expect(&rt, output, "", *status);
         }
     }
 }
@@ -109,7 +103,7 @@ fn a_long_report_is_written_whole(rt: HostRuntime) {
     let report = report_of_loads(rt.alloc());
     let counts = "events 21 threads 2 locks 0 variables 1\n";
     let report = str::from_utf8(&report).unwrap_or("");
-    expect_both(&rt, Text::whole(&text), (counts, report, "", 1));
+    expect_both(&rt, Text::whole(&text), (counts, report), "", 1);
 }
 
 /// A thousand lines in pieces that end within them.
@@ -124,5 +118,6 @@ fn a_thousand_lines_are_judged(rt: HostRuntime) {
     }
     let counts = "events 1000 threads 1 locks 1 variables 2\n";
     let report = "events 1000 threads 1 locks 1 variables 2 races 0\n";
-    expect_both(&rt, Text::cut(&text, 1001, 4001), (counts, report, "", 0));
+    let text = Text::cut(&text, 1001, 4001);
+    expect_both(&rt, text, (counts, report), "", 0);
 }

@@ -1,129 +1,65 @@
 //! Writers that fail, and writers that take a part or nothing.
-use crate::doubles::{Room, Text};
-use crate::runs::{CHECK, Program, Run, expect_all};
+use crate::doubles::Room;
+use crate::runs::{CHECK, Program, REPLAY, Row, expect_rows};
 
-const CHECKED: Run<'static> = Run {
-    text: Text {
-        bytes: b"T0|fork(T1)|1\nT0|w(y)|2\nT0|acq(l)|3\nT0|w(x)|4\nT0|rel(l)|5\n\
-                 T1|acq(l)|6\nT1|rel(l)|7\nT1|r(y)|8\n",
-        ..Text::EMPTY
-    },
-    output: "events 8 threads 2 locks 1 variables 2\n",
-    ..CHECK
-};
+const TRACE: &str = "T0|fork(T1)|1\nT0|w(y)|2\nT0|acq(l)|3\nT0|w(x)|4\nT0|rel(l)|5\n\
+                     T1|acq(l)|6\nT1|rel(l)|7\nT1|r(y)|8\n";
 
-const REPLAYED: Run<'static> = Run {
-    program: Program::Words(&["replay"]),
-    output: "events 8 threads 2 locks 1 variables 2 races 1\n8|T1|r(y)|8 with 2|T0|w(y)|2\n",
-    status: 1,
-    ..CHECKED
-};
+const COUNTS: &str = "events 8 threads 2 locks 1 variables 2\n";
 
-const REFUSED: Run<'static> = Run {
-    text: Text {
-        bytes: b"T0|w(x)|1\nT0|rel(l)|2\n",
-        ..Text::EMPTY
-    },
-    room: Room::ONE_PUT,
-    output: "line 2: NotHolder\n",
-    status: 3,
-    ..CHECK
-};
+const REPORT: &str =
+    "events 8 threads 2 locks 1 variables 2 races 1\n8|T1|r(y)|8 with 2|T0|w(y)|2\n";
 
-const CLOSED: Run<'static> = Run {
-    text: Text {
-        bytes: b"T0|w(x)|1\n",
-        ..Text::EMPTY
-    },
-    room: Room {
-        most: usize::MAX,
-        puts: 0,
-    },
-    errors: "write fault\n",
-    status: 4,
-    ..CHECK
-};
+const REFUSED: &str = "T0|w(x)|1\nT0|rel(l)|2\n";
 
-const BY_SEVEN: Room = Room {
-    most: 7,
-    ..Room::AMPLE
-};
+const LINE: &str = "line 2: NotHolder\n";
 
-const BY_ONE: Room = Room {
-    most: 1,
-    ..Room::AMPLE
-};
+const STORE: &str = "T0|w(x)|1\n";
 
-const RUNS: &[Run<'static>] = &[
+const FAULT: &str = "write fault\n";
+
+const HELP: Program<'static> = Program::Words(&["--help"]);
+
+const VERSION: Program<'static> = Program::Words(&["--version"]);
+
+const HELP_OF_REPLAY: Program<'static> = Program::Words(&["replay", "--help"]);
+
+const ALL: (Room, Room) = (Room::AMPLE, Room::AMPLE);
+
+const BY_SEVEN: (Room, Room) = (Room::BY_SEVEN, Room::AMPLE);
+
+const BY_ONE: (Room, Room) = (Room::BY_ONE, Room::AMPLE);
+
+const ONE_PUT: (Room, Room) = (Room::ONE_PUT, Room::AMPLE);
+
+const CLOSED: (Room, Room) = (Room::NONE, Room::AMPLE);
+
+const BOTH_CLOSED: (Room, Room) = (Room::NONE, Room::NONE);
+
+const ROWS: &[Row] = &[
     // A writer that takes the bytes in parts is asked again for what is left.
-    CHECKED,
-    Run {
-        room: BY_SEVEN,
-        ..CHECKED
-    },
-    Run {
-        room: BY_ONE,
-        ..CHECKED
-    },
-    REPLAYED,
-    Run {
-        room: BY_SEVEN,
-        ..REPLAYED
-    },
-    Run {
-        room: BY_ONE,
-        ..REPLAYED
-    },
+    (CHECK, TRACE, false, ALL, COUNTS, "", 0),
+    (CHECK, TRACE, false, BY_SEVEN, COUNTS, "", 0),
+    (CHECK, TRACE, false, BY_ONE, COUNTS, "", 0),
+    (REPLAY, TRACE, false, ALL, REPORT, "", 1),
+    (REPLAY, TRACE, false, BY_SEVEN, REPORT, "", 1),
+    (REPLAY, TRACE, false, BY_ONE, REPORT, "", 1),
     // A writer that takes one put and no more has the whole line of a fault.
-    REFUSED,
-    Run {
-        program: Program::Words(&["replay"]),
-        ..REFUSED
-    },
-    // A pipe whose reader is gone takes no put: of help, of the version, of counts, a report, a fault line.
-    Run {
-        program: Program::Words(&["--help"]),
-        ..CLOSED
-    },
-    Run {
-        program: Program::Words(&["--version"]),
-        ..CLOSED
-    },
-    Run {
-        program: Program::Words(&["replay", "--help"]),
-        ..CLOSED
-    },
-    CLOSED,
-    Run {
-        program: Program::Words(&["replay"]),
-        ..CLOSED
-    },
-    Run {
-        program: Program::Words(&["replay"]),
-        text: Text {
-            bytes: b"T0|rel(l)|1\n",
-            ..Text::EMPTY
-        },
-        ..CLOSED
-    },
+    (CHECK, REFUSED, false, ONE_PUT, LINE, "", 3),
+    (REPLAY, REFUSED, false, ONE_PUT, LINE, "", 3),
+    // A pipe whose reader is gone takes no put.
+    (HELP, "", false, CLOSED, "", FAULT, 4),
+    (VERSION, "", false, CLOSED, "", FAULT, 4),
+    (HELP_OF_REPLAY, "", false, CLOSED, "", FAULT, 4),
+    (CHECK, STORE, false, CLOSED, "", FAULT, 4),
+    (REPLAY, STORE, false, CLOSED, "", FAULT, 4),
+    (REPLAY, "T0|rel(l)|1\n", false, CLOSED, "", FAULT, 4),
     // The status is the same where nothing can be said of it.
-    Run {
-        room: Room::NONE,
-        errors_room: Room::NONE,
-        output: "",
-        status: 4,
-        ..CHECKED
-    },
-    Run {
-        room: Room::NONE,
-        errors_room: Room::NONE,
-        output: "",
-        status: 4,
-        ..REPLAYED
-    },
+    (CHECK, TRACE, false, BOTH_CLOSED, "", "", 4),
+    (REPLAY, TRACE, false, BOTH_CLOSED, "", "", 4),
 ];
 
 #[test]
-fn a_writer_that_fails_ends_a_run_with_status_4(rt: HostRuntime) {
-    expect_all(&rt, RUNS);
+fn a_closed_pipe_ends_with_status_4_and_one_that_takes_a_part_does_not(rt: HostRuntime) {
+    expect_rows(&rt, ROWS);
 }

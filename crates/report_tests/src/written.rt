@@ -49,13 +49,7 @@ fn copied(alloc: Global, text: &str) -> Option<Page> {
 fn a_trace_that_is_written_again_has_the_same_report(rt: HostRuntime) {
     for (_, text, _, report, status) in legal() {
         let page = copied(rt.alloc(), text).expect(&rt, text);
-        let run = Run {
-            text: Text::whole(&page.bytes),
-            output: report,
-            status: *status,
-            ..REPLAY
-        };
-        run.expect(&rt);
+        Run::of(REPLAY, Text::whole(&page.bytes)).expect(&rt, report, "", *status);
         drop(page);
     }
 }
