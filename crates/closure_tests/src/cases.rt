@@ -1,7 +1,8 @@
 //! Worked cases, and that a monitor meets each by each way to make its acts.
 use crate::calls::{Answer, call};
 use crate::compared::compare;
-use crate::told::{Told, Way, add, tell};
+use crate::expected::{add, expect};
+use crate::told::{Way, tell};
 use event_core::{Act, Done, LimitFault, Limits, Op, SiteId, ThreadId, VarId};
 use seq_monitor::Race;
 use std::alloc::Global;
@@ -94,11 +95,11 @@ impl Worked {
         }
     }
 
-    fn acts(&self, rt: &impl Abort, alloc: Global) -> Vec<Act> {
+    fn acts(&self, alloc: Global) -> Vec<Act> {
         let mut acts = Vec::new(alloc);
         for index in 0..self.count() {
             if let Some((act, _answer)) = self.line(index) {
-                add(rt, &mut acts, act);
+                add(&mut acts, act);
             }
         }
         acts
@@ -106,31 +107,30 @@ impl Worked {
 
     /// By each of the ways a new monitor answers and holds what the case says, and judges as the closure
     /// does.
-    pub fn expect(&self, rt: &impl Abort, alloc: Global, ways: &[Way], number: usize) {
-        let limits = self.limits.expect(rt, "small limits");
-        let acts = self.acts(rt, alloc);
+    pub fn expect(&self, rt: &impl Abort, alloc: Global, ways: &[Way]) {
+        let limits = self.limits.expect(rt, self.name);
+        let acts = self.acts(alloc);
         for way in ways {
             let told = tell(rt, alloc, &limits, &acts, *way);
-            self.expect_answers(rt, &told.answers);
-            self.expect_end(rt, &told);
-            compare(rt, alloc, &told, number);
+            let is_told = self.has_answers(&told.answers)
+                && told.log.len() == self.events
+                && told.races.as_slice() == self.races;
+            expect(rt, is_told, self.name);
+            compare(rt, alloc, &told, self.name);
             drop(told);
         }
+        drop(acts);
     }
 
-    fn expect_answers(&self, rt: &impl Abort, answers: &[Done]) {
-        assert!(rt; answers.len() == self.count(), "{}", self.name);
+    fn has_answers(&self, answers: &[Done]) -> bool {
+        let mut has_answers = answers.len() == self.count();
         for (index, answer) in answers.iter().enumerate() {
             let is_told = match self.line(index) {
                 Some((_act, wanted)) => *answer == wanted.done(),
                 None => false,
             };
-            assert!(rt; is_told, "{}: {answer:?}", self.name);
+            has_answers = has_answers && is_told;
         }
-    }
-
-    fn expect_end(&self, rt: &impl Abort, told: &Told) {
-        let is_held = told.log.len() == self.events && told.races.as_slice() == self.races;
-        assert!(rt; is_held, "{}: the log or its races", self.name);
+        has_answers
     }
 }

@@ -5,7 +5,6 @@ use crate::rules::Rules;
 use crate::sections::{Section, sections};
 use event_core::{Event, Op, VarId, Verdict};
 use std::alloc::Global;
-use std::process::Abort;
 
 /// The relations of a log of at most `MOST_EVENTS` events.
 #[derive(Clone, Copy)]
@@ -51,8 +50,8 @@ fn has_conflict(log: &[Event], section: &Section, access: &Event, rules: Rules) 
 
 impl Closure {
     /// Closes the relations of the log.
-    pub fn of(rt: &impl Abort, alloc: Global, log: &[Event], rules: Rules) -> Closure {
-        let sections = sections(rt, alloc, log);
+    pub fn of(alloc: Global, log: &[Event], rules: Rules) -> Closure {
+        let sections = sections(alloc, log);
         let program_order = program_order(log, rules);
         let mut closure = Closure {
             program_order,
@@ -159,13 +158,12 @@ impl Closure {
         verdict
     }
 
-    /// The index of the first event on which it has another verdict than these.
-    pub fn first_difference(&self, log: &[Event], verdicts: &[Verdict]) -> Option<usize> {
+    /// Whether it has these verdicts on the events.
+    pub fn has_verdicts(&self, log: &[Event], verdicts: &[Verdict]) -> bool {
+        let mut has_verdicts = true;
         for (index, verdict) in verdicts.iter().enumerate() {
-            if self.verdict(log, index) != *verdict {
-                return Some(index);
-            }
+            has_verdicts = has_verdicts && self.verdict(log, index) == *verdict;
         }
-        None
+        has_verdicts
     }
 }

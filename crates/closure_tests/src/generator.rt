@@ -2,11 +2,10 @@
 ghost use Rattle.std.specs.Prelude.{◌<◌};
 
 use crate::calls::call;
+use crate::expected::add;
 use crate::templates::{Cast, LOCKS, TEMPLATES, THREADS, VARS, template};
-use crate::told::add;
 use event_core::{Act, Call, LockId, Op, SiteId, ThreadId, VarId};
 use std::alloc::Global;
-use std::process::Abort;
 
 // How many acts there are after a template. A monitor refuses most of them.
 const TAIL: u32 = 64;
@@ -57,10 +56,10 @@ impl Generator {
     }
 
     /// So many calls.
-    pub fn calls(&mut self, rt: &impl Abort, alloc: Global, count: u32) -> Vec<Act> {
+    pub fn calls(&mut self, alloc: Global, count: u32) -> Vec<Act> {
         let mut acts = Vec::new(alloc);
         for _call in 0..count {
-            add(rt, &mut acts, Act::One(self.call()));
+            add(&mut acts, Act::One(self.call()));
         }
         acts
     }
@@ -87,17 +86,21 @@ impl Generator {
 
     /// The acts of one of the templates, before each of them perhaps another, and a tail of others. Any
     /// threads, locks and variables stand for those of the template.
-    pub fn acts(&mut self, rt: &impl Abort, alloc: Global) -> Vec<Act> {
+    pub fn acts(&mut self, alloc: Global) -> Vec<Act> {
         let mut acts = Vec::new(alloc);
-        let cast = Cast::new(self.below(THREADS), self.below(LOCKS), self.below(VARS));
+        let cast = Cast {
+            thread: self.below(THREADS),
+            lock: self.below(LOCKS),
+            var: self.below(VARS),
+        };
         for (thread, op) in template(self.below(TEMPLATES)) {
             if self.below(4) == 0 {
-                add(rt, &mut acts, self.any_act());
+                add(&mut acts, self.any_act());
             }
-            add(rt, &mut acts, self.act(cast.thread(*thread), cast.op(*op)));
+            add(&mut acts, self.act(cast.thread(*thread), cast.op(*op)));
         }
         for _act in 0..TAIL {
-            add(rt, &mut acts, self.any_act());
+            add(&mut acts, self.any_act());
         }
         acts
     }

@@ -19,6 +19,8 @@ mod closure;
 #[cfg(test)]
 mod compared;
 #[cfg(test)]
+mod expected;
+#[cfg(test)]
 mod generator;
 #[cfg(test)]
 mod orders;

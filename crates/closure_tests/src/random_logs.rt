@@ -1,6 +1,7 @@
 //! The comparison on random logs.
 use crate::closure::Closure;
 use crate::compared::compare;
+use crate::expected::expect;
 use crate::generator::Generator;
 use crate::sections::is_inner_acquire;
 use crate::told::{Way, tell};
@@ -8,7 +9,7 @@ use event_core::{Act, Event, Limits, Roots, Verdict};
 use std::alloc::Global;
 use std::process::Abort;
 
-const LOGS: usize = 500;
+const LOGS: u64 = 500;
 
 const EVENTS: u64 = 24;
 
@@ -16,7 +17,7 @@ const EVENTS: u64 = 24;
 const CALLS: u32 = 512;
 
 // How often each kind of thing occurred in all logs together.
-#[derive(Clone, Copy, Debug)]
+#[derive(Clone, Copy)]
 struct Occurrences {
     events: u64,
     // Pairs that are strictly ordered, beyond program order.
@@ -32,15 +33,13 @@ fn increase(count: &mut u64, more: u64) {
 }
 
 impl Occurrences {
-    fn new() -> Occurrences {
-        Occurrences {
-            events: 0,
-            strict_pairs: 0,
-            unordered_pairs: 0,
-            racy_verdicts: 0,
-            inner_acquires: 0,
-        }
-    }
+    const NONE: Occurrences = Occurrences {
+        events: 0,
+        strict_pairs: 0,
+        unordered_pairs: 0,
+        racy_verdicts: 0,
+        inner_acquires: 0,
+    };
 
     // Whether something of each kind occurred.
     fn has_each_kind(&self) -> bool {
@@ -79,16 +78,10 @@ impl Occurrences {
 }
 
 // Compares the verdicts on the log that the acts make, and adds what occurs in it.
-fn compare_log(
-    rt: &impl Abort,
-    alloc: Global,
-    acts: &[Act],
-    number: usize,
-    occurred: &mut Occurrences,
-) {
+fn compare_log(rt: &impl Abort, alloc: Global, acts: &[Act], occurred: &mut Occurrences) {
     let limits = Limits::new(3, 4, 3, 64, Roots::Free).expect(rt, "small limits");
     let told = tell(rt, alloc, &limits, acts, Way::Steps(EVENTS));
-    let closure = compare(rt, alloc, &told, number);
+    let closure = compare(rt, alloc, &told, "a random log");
     occurred.add_pairs(&closure);
     occurred.add_verdicts(&told.verdicts);
     occurred.add_events(&told.log);
@@ -97,12 +90,16 @@ fn compare_log(
 #[test]
 fn the_monitor_and_the_closure_judge_alike(rt: HostRuntime) {
     let mut generator = Generator::new(204);
-    let mut occurred = Occurrences::new();
-    for number in 0..LOGS {
-        let acts = generator.calls(&rt, rt.alloc(), CALLS);
-        compare_log(&rt, rt.alloc(), &acts, number, &mut occurred);
+    let mut occurred = Occurrences::NONE;
+    for _log in 0..LOGS {
+        let acts = generator.calls(rt.alloc(), CALLS);
+        compare_log(&rt, rt.alloc(), &acts, &mut occurred);
         drop(acts);
     }
-    let is_whole = occurred.events == EVENTS * LOGS as u64;
-    assert!(rt; is_whole && occurred.has_each_kind(), "in {occurred:?}");
+    expect(
+        &rt,
+        occurred.events == EVENTS * LOGS,
+        "the number of events",
+    );
+    expect(&rt, occurred.has_each_kind(), "a kind that did not occur");
 }

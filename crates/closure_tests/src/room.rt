@@ -1,5 +1,6 @@
 //! Calls after memory was refused.
 use crate::calls::{Answer, L, M, T0, T1, X, Y, call};
+use crate::expected::expect;
 use crate::told::step_once;
 use event_core::Op::{Acquire, Fork, Load, Release, Store};
 use event_core::{Done, Limits, Op, Refusal, Roots, ThreadId};
@@ -24,11 +25,10 @@ const LINES: &[(ThreadId, Op)] = &[
     (T1, Load(Y)),
 ];
 
-// The call at the index is accepted. Where there is no room, it may be refused, but not for memory.
-fn expect(rt: &impl Abort, done: Done, index: u64, is_short: bool) {
-    let is_told = done == Answer::Clear(index, 0).done()
-        || is_short && done != Done::Refused(Refusal::OutOfMemory);
-    assert!(rt; is_told, "{index}: {done:?}");
+// Whether the call at the index is accepted. Where there is no room, it may be refused, but not for memory.
+fn is_made(done: Done, index: u64, is_short: bool) -> bool {
+    done == Answer::Clear(index, 0).done()
+        || is_short && done != Done::Refused(Refusal::OutOfMemory)
 }
 
 // Makes room for each call but a release, and then the call at the first try. Once there is no room, releases
@@ -40,7 +40,8 @@ fn make(rt: &impl Abort, monitor: &mut Monitor) {
         let is_release = matches!(op, Release(_));
         is_short = is_short || !is_release && monitor.prepare(&call).is_err();
         if is_release || !is_short {
-            expect(rt, step_once(monitor, call), index, is_short);
+            let done = step_once(monitor, call);
+            expect(rt, is_made(done, index, is_short), "a call is accepted");
         }
     }
 }

@@ -2,7 +2,7 @@
 use crate::sections::Section;
 
 /// By which rules a log is closed.
-#[derive(Clone, Copy, Debug)]
+#[derive(Clone, Copy)]
 pub enum Rules {
     /// By all of them, as they are written.
     Whole,

@@ -1,8 +1,7 @@
 //! Critical sections.
-use crate::told::add;
+use crate::expected::add;
 use event_core::{Event, LockId, Op, ThreadId};
 use std::alloc::Global;
-use std::process::Abort;
 
 /// A critical section: what its thread does from an outer acquire of the lock to the outer release that
 /// matches it, or to the end of the log where there is none yet.
@@ -53,7 +52,7 @@ fn end(sections: &mut [Section], thread: ThreadId, lock: LockId, index: usize) {
 }
 
 /// All sections of the log, in the order of their acquires.
-pub fn sections(rt: &impl Abort, alloc: Global, log: &[Event]) -> Vec<Section> {
+pub fn sections(alloc: Global, log: &[Event]) -> Vec<Section> {
     let mut sections = Vec::new(alloc);
     for (index, event) in log.iter().enumerate() {
         let thread = event.thread;
@@ -65,7 +64,7 @@ pub fn sections(rt: &impl Abort, alloc: Global, log: &[Event]) -> Vec<Section> {
                     acquire: index,
                     release: None,
                 };
-                add(rt, &mut sections, section);
+                add(&mut sections, section);
             }
             Op::Release(lock) if depth(&log[..index], thread, lock) == 1 => {
                 end(&mut sections, thread, lock, index);

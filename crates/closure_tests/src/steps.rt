@@ -190,7 +190,7 @@ const CASES: &[Case] = &[
 
 #[test]
 fn each_call_has_its_outcome(rt: HostRuntime) {
-    for (number, case) in CASES.iter().enumerate() {
+    for case in CASES {
         let worked = Worked {
             name: case.name,
             limits: Limits::new(
@@ -204,6 +204,6 @@ fn each_call_has_its_outcome(rt: HostRuntime) {
             events: case.events,
             races: case.races,
         };
-        worked.expect(&rt, rt.alloc(), CALLS, number);
+        worked.expect(&rt, rt.alloc(), CALLS);
     }
 }

@@ -68,7 +68,7 @@ const CASES: &[Case] = &[
 
 #[test]
 fn each_swap_is_answered(rt: HostRuntime) {
-    for (number, case) in CASES.iter().enumerate() {
+    for case in CASES {
         let worked = Worked {
             name: case.name,
             limits: Limits::new(2, 1, 1, case.most_events, Roots::OnlyMain),
@@ -76,6 +76,6 @@ fn each_swap_is_answered(rt: HostRuntime) {
             events: case.events,
             races: case.races,
         };
-        worked.expect(&rt, rt.alloc(), ACTS, number);
+        worked.expect(&rt, rt.alloc(), ACTS);
     }
 }

@@ -116,20 +116,16 @@ pub fn template(number: u32) -> &'static [Line] {
     }
 }
 
-/// Which threads, locks and variables stand for those of a template.
+/// Which threads, locks and variables stand for those of a template: those that are so many further on, round
+/// and round.
 #[derive(Clone, Copy)]
 pub struct Cast {
-    thread: u32,
-    lock: u32,
-    var: u32,
+    pub thread: u32,
+    pub lock: u32,
+    pub var: u32,
 }
 
 impl Cast {
-    /// Those that are so many further on, round and round.
-    pub fn new(thread: u32, lock: u32, var: u32) -> Cast {
-        Cast { thread, lock, var }
-    }
-
     pub fn thread(self, thread: ThreadId) -> ThreadId {
         ThreadId(thread.0.wrapping_add(self.thread) % THREADS)
     }

@@ -1,6 +1,7 @@
 //! What a monitor makes of a list of acts, one by one or as one run.
 //!
 //! What is refused memory once is asked for once more, but for releases: they take none.
+use crate::expected::{add, expect};
 use event_core::{Act, Call, Done, Event, Limits, Op, OutOfMemory, Outcome, Refusal, Verdict};
 use seq_monitor::{Monitor, Race};
 use std::alloc::Global;
@@ -28,13 +29,6 @@ pub struct Told {
     pub verdicts: Vec<Verdict>,
     /// The races that the monitor's list of verdicts has.
     pub races: Vec<Race>,
-}
-
-/// Adds the item to the list.
-pub fn add<T: Copy + Drop>(rt: &impl Abort, list: &mut Vec<T>, item: T) {
-    if list.push(item).is_err() {
-        assert!(rt; list.push(item).is_ok(), "memory");
-    }
 }
 
 fn monitor(rt: &impl Abort, alloc: Global, limits: &Limits) -> Monitor {
@@ -72,7 +66,7 @@ fn take(rt: &impl Abort, monitor: &mut Monitor, act: Act) -> Done {
     if let Act::One(call) = act
         && let Op::Release(_) = call.op
     {
-        assert!(rt; monitor.ready(&call));
+        expect(rt, monitor.ready(&call), "a release is ready");
         return step_once(monitor, call);
     }
     match take_once(monitor, act) {
@@ -83,10 +77,12 @@ fn take(rt: &impl Abort, monitor: &mut Monitor, act: Act) -> Done {
 
 // What becomes of the call at the first try, once there is room for it.
 fn take_prepared(rt: &impl Abort, monitor: &mut Monitor, call: Call) -> Done {
-    if monitor.prepare(&call).is_err() {
-        assert!(rt; monitor.prepare(&call).is_ok(), "memory");
-    }
-    assert!(rt; monitor.ready(&call));
+    let is_prepared = monitor.prepare(&call).is_ok() || monitor.prepare(&call).is_ok();
+    expect(
+        rt,
+        is_prepared && monitor.ready(&call),
+        "a call is prepared",
+    );
     step_once(monitor, call)
 }
 
@@ -119,7 +115,8 @@ pub fn tell(rt: &impl Abort, alloc: Global, limits: &Limits, acts: &[Act], way: 
         races: Vec::new(alloc),
     };
     let mut monitor = monitor(rt, alloc, limits);
-    assert!(rt; monitor.limits().events() == limits.events());
+    let has_limits = monitor.limits().events() == limits.events();
+    expect(rt, has_limits, "the limits of a new monitor");
     told.make(rt, alloc, &mut monitor, acts, way);
     drop(monitor);
     told
@@ -138,18 +135,18 @@ impl Told {
         match way {
             Way::Steps(most) => self.take_each(rt, monitor, acts, most),
             Way::Prepared => self.prepare_each(rt, monitor, acts),
-            Way::Run => self.run_calls(rt, alloc, monitor, acts),
+            Way::Run => self.run_calls(alloc, monitor, acts),
             Way::RunActs => run_acts(monitor, acts, &mut self.answers),
         }
-        self.keep_verdicts(rt);
-        self.keep_log(rt, monitor);
-        self.expect_verdicts(rt, monitor);
+        self.keep_verdicts();
+        self.keep_log(monitor);
+        expect(rt, self.has_verdicts(monitor), "the list of verdicts");
     }
 
     fn take_each(&mut self, rt: &impl Abort, monitor: &mut Monitor, acts: &[Act], most: u64) {
         for act in acts {
             if monitor.log().len() < most {
-                add(rt, &mut self.answers, take(rt, monitor, *act));
+                add(&mut self.answers, take(rt, monitor, *act));
             }
         }
     }
@@ -157,41 +154,41 @@ impl Told {
     fn prepare_each(&mut self, rt: &impl Abort, monitor: &mut Monitor, acts: &[Act]) {
         for act in acts {
             if let Act::One(call) = act {
-                add(rt, &mut self.answers, take_prepared(rt, monitor, *call));
+                add(&mut self.answers, take_prepared(rt, monitor, *call));
             }
         }
     }
 
-    fn run_calls(&mut self, rt: &impl Abort, alloc: Global, monitor: &mut Monitor, acts: &[Act]) {
+    fn run_calls(&mut self, alloc: Global, monitor: &mut Monitor, acts: &[Act]) {
         let mut calls = Vec::new(alloc);
         for act in acts {
             if let Act::One(call) = act {
-                add(rt, &mut calls, *call);
+                add(&mut calls, *call);
             }
         }
         let mut outcomes = Vec::new(alloc);
         run(monitor, &calls, &mut outcomes);
-        self.keep_outcomes(rt, &outcomes);
+        self.keep_outcomes(&outcomes);
     }
 
-    fn keep_outcomes(&mut self, rt: &impl Abort, outcomes: &[Outcome]) {
+    fn keep_outcomes(&mut self, outcomes: &[Outcome]) {
         for outcome in outcomes {
             let done = match *outcome {
                 Outcome::Accepted(reply) => Done::One(reply),
                 Outcome::Refused(refusal) => Done::Refused(refusal),
             };
-            add(rt, &mut self.answers, done);
+            add(&mut self.answers, done);
         }
     }
 
     // Keeps the verdicts of the replies.
-    fn keep_verdicts(&mut self, rt: &impl Abort) {
+    fn keep_verdicts(&mut self) {
         for done in &self.answers {
             match done {
-                Done::One(reply) => add(rt, &mut self.verdicts, reply.verdict),
+                Done::One(reply) => add(&mut self.verdicts, reply.verdict),
                 Done::Swap(reply) => {
-                    add(rt, &mut self.verdicts, reply.load);
-                    add(rt, &mut self.verdicts, reply.store);
+                    add(&mut self.verdicts, reply.load);
+                    add(&mut self.verdicts, reply.store);
                 }
                 Done::Refused(_) => {}
             }
@@ -199,25 +196,26 @@ impl Told {
     }
 
     // Keeps the log and the races that the monitor holds.
-    fn keep_log(&mut self, rt: &impl Abort, monitor: &Monitor) {
+    fn keep_log(&mut self, monitor: &Monitor) {
         for index in 0..monitor.log().len() {
             if let Some(event) = monitor.log().get(index) {
-                add(rt, &mut self.log, event);
+                add(&mut self.log, event);
             }
         }
         for race in monitor.verdicts().races() {
-            add(rt, &mut self.races, *race);
+            add(&mut self.races, *race);
         }
     }
 
-    // The monitor's list of verdicts has those that it answered.
-    fn expect_verdicts(&self, rt: &impl Abort, monitor: &Monitor) {
-        let answered = self.verdicts.len();
-        let held = monitor.verdicts().len();
-        assert!(rt; self.log.len() == answered && held == monitor.log().len());
-        for (index, verdict) in self.verdicts.iter().enumerate() {
-            let index = index as u64;
-            assert!(rt; index < monitor.log().len() && monitor.verdict_at(index) == *verdict);
+    // Whether the monitor's list of verdicts has those that it answered.
+    fn has_verdicts(&self, monitor: &Monitor) -> bool {
+        let count = monitor.log().len();
+        let mut has_verdicts = self.log.len() == self.verdicts.len()
+            && monitor.verdicts().len() == count;
+        for (index, verdict) in (0..).zip(&self.verdicts) {
+            let is_held = index < count && monitor.verdict_at(index) == *verdict;
+            has_verdicts = has_verdicts && is_held;
         }
+        has_verdicts
     }
 }

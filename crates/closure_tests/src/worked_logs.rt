@@ -211,7 +211,7 @@ const LOGS: &[Case] = &[
 
 #[test]
 fn each_log_has_its_races(rt: HostRuntime) {
-    for (number, case) in LOGS.iter().enumerate() {
+    for case in LOGS {
         let worked = Worked {
             name: case.name,
             limits: Limits::new(3, 4, 3, 64, Roots::Free),
@@ -219,6 +219,6 @@ fn each_log_has_its_races(rt: HostRuntime) {
             events: case.log.len(),
             races: case.races,
         };
-        worked.expect(&rt, rt.alloc(), CALLS, number);
+        worked.expect(&rt, rt.alloc(), CALLS);
     }
 }

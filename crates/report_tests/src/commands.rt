@@ -15,10 +15,11 @@ pub enum Command {
 }
 
 impl Command {
-    fn ends_once(self, alloc: Global, text: Text<'_>, turns: u64, output: &str) -> Told {
+    fn ends_once(self, alloc: Global, text: Text<'_>, turns: u32, output: &str) -> Told {
         let limits = Limits::new(2, 1, 2, 64, Roots::Free).ok()?;
         let mut page = Page::blank(alloc, Room::AMPLE);
         let mut reader = Pieces::of(text);
+        let turns = u64::from(turns);
         let fault = match self {
             Command::Check => check(alloc, &mut reader, &mut page, limits, turns).err(),
             Command::Replay => replay(alloc, &mut reader, &mut page, limits, turns).err(),
@@ -28,7 +29,7 @@ impl Command {
 
     /// What is told of the text, with names for two threads, one lock and two variables, where this is to be
     /// written. It is asked for again where memory ran out.
-    pub fn ends(self, alloc: Global, text: Text<'_>, turns: u64, output: &str) -> Told {
+    pub fn ends(self, alloc: Global, text: Text<'_>, turns: u32, output: &str) -> Told {
         let ended = self.ends_once(alloc, text, turns, output);
         if ended.is_some() {
             return ended;

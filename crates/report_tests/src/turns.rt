@@ -8,18 +8,6 @@ use std::alloc::Global;
 use trace_report::{Counts, ReplayFault, Summary, replay};
 use wcp_tool::check;
 
-/// A text, how many bytes of it a read gives, whether a read at its end fails, how many reads there may be,
-/// the line that could not be read to its end, if any, and what `check` and `replay` write.
-struct Case {
-    text: &'static [u8],
-    most: usize,
-    fails: bool,
-    turns: u64,
-    stops_at: Option<u64>,
-    counts: &'static str,
-    report: &'static str,
-}
-
 /// Stores and loads of two threads, 234 bytes.
 const LONG: &[u8] = b"main|fork(worker)|10\nmain|w(queue.first)|main.c:12\n\
     main|w(queue.last)|main.c:13\nworker|r(queue.first)|31\nworker|r(queue.last)|32\n\
@@ -33,107 +21,65 @@ const LONG_REPORT: &str = "events 9 threads 2 locks 0 variables 2 races 3\n\
 
 const STORE: &[u8] = b"T0|w(x)|1\n";
 
-/// Nothing is written where a line is not read to its end.
-const STOPPED: Case = Case {
-    text: b"",
-    most: 1,
-    fails: false,
-    turns: 2000,
-    stops_at: None,
-    counts: "",
-    report: "",
-};
+const LONG_COUNTS: &str = "events 9 threads 2 locks 0 variables 2\n";
 
+const STORE_COUNTS: &str = "events 1 threads 1 locks 0 variables 1\n";
+
+const STORE_REPORT: &str = "events 1 threads 1 locks 0 variables 1 races 0\n";
+
+const LFS: &[u8] = &[b'\n'; 2000];
+
+const LETTERS: &[u8] = &[b'a'; 1025];
+
+const ALL: usize = usize::MAX;
+
+/// A text, how many bytes of it a read gives, whether a read at its end fails, how many reads there may be,
+/// the line that could not be read to its end, if any, and what `check` and `replay` write.
+type Case = (
+    &'static [u8],
+    usize,
+    bool,
+    u32,
+    Option<u64>,
+    &'static str,
+    &'static str,
+);
+
+/// The read that finds the end takes a turn too. Nothing is written where a line is not read to its end.
 const CASES: &[Case] = &[
-    // The read that finds the end takes a turn too.
-    Case {
-        text: LONG,
-        most: usize::MAX,
-        turns: 2,
-        counts: "events 9 threads 2 locks 0 variables 2\n",
-        report: LONG_REPORT,
-        ..STOPPED
-    },
-    Case {
-        text: LONG,
-        most: usize::MAX,
-        turns: 1,
-        stops_at: Some(10),
-        ..STOPPED
-    },
-    Case {
-        text: STORE,
-        turns: 11,
-        counts: "events 1 threads 1 locks 0 variables 1\n",
-        report: "events 1 threads 1 locks 0 variables 1 races 0\n",
-        ..STOPPED
-    },
-    Case {
-        text: STORE,
-        turns: 10,
-        stops_at: Some(2),
-        ..STOPPED
-    },
-    Case {
-        text: STORE,
-        turns: 0,
-        stops_at: Some(1),
-        ..STOPPED
-    },
-    Case {
-        text: &[b'\n'; 2000],
-        turns: 1000,
-        stops_at: Some(1001),
-        ..STOPPED
-    },
+    (LONG, ALL, false, 2, None, LONG_COUNTS, LONG_REPORT),
+    (LONG, ALL, false, 1, Some(10), "", ""),
+    (STORE, 1, false, 11, None, STORE_COUNTS, STORE_REPORT),
+    (STORE, 1, false, 10, Some(2), "", ""),
+    (STORE, 1, false, 0, Some(1), "", ""),
+    (LFS, 1, false, 1000, Some(1001), "", ""),
     // A read that fails has the number of the line whose end was not read.
-    Case {
-        fails: true,
-        stops_at: Some(1),
-        ..STOPPED
-    },
-    Case {
-        text: &[b'a'; 1025],
-        fails: true,
-        stops_at: Some(1),
-        ..STOPPED
-    },
-    Case {
-        text: STORE,
-        fails: true,
-        stops_at: Some(2),
-        ..STOPPED
-    },
-    Case {
-        text: b"T0|w(x)|1\n\r\nT0|rel",
-        fails: true,
-        stops_at: Some(3),
-        ..STOPPED
-    },
+    (b"", 1, true, 2000, Some(1), "", ""),
+    (LETTERS, 1, true, 2000, Some(1), "", ""),
+    (STORE, 1, true, 2000, Some(2), "", ""),
+    (b"T0|w(x)|1\n\r\nT0|rel", 1, true, 2000, Some(3), "", ""),
 ];
 
-impl Case {
-    fn fault(&self) -> Option<ReplayFault> {
-        let line = self.stops_at?;
-        Some(ReplayFault::Text(TextFault {
-            line,
-            cause: Cause::Read,
-        }))
-    }
+fn fault(stops_at: Option<u64>) -> Option<ReplayFault> {
+    let line = stops_at?;
+    Some(ReplayFault::Text(TextFault {
+        line,
+        cause: Cause::Read,
+    }))
 }
 
 #[test]
 fn a_text_is_read_to_its_end_in_as_many_turns_as_it_takes(rt: HostRuntime) {
-    for case in CASES {
+    for (text, most, fails, turns, stops_at, counts, report) in CASES {
         let text = Text {
-            fails: case.fails,
-            ..Text::cut(case.text, case.most, case.most)
+            fails: *fails,
+            ..Text::cut(text, *most, *most)
         };
-        let wanted = Some((case.fault(), true));
-        let checked = Command::Check.ends(rt.alloc(), text, case.turns, case.counts);
-        expect(&rt, checked == wanted, case.counts);
-        let replayed = Command::Replay.ends(rt.alloc(), text, case.turns, case.report);
-        expect(&rt, replayed == wanted, case.report);
+        let wanted = Some((fault(*stops_at), true));
+        let checked = Command::Check.ends(rt.alloc(), text, *turns, counts);
+        expect(&rt, checked == wanted, "a check in so many turns");
+        let replayed = Command::Replay.ends(rt.alloc(), text, *turns, report);
+        expect(&rt, replayed == wanted, "a replay in so many turns");
     }
 }
 

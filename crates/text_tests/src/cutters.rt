@@ -1,6 +1,7 @@
 //! A cutter whose text comes piece by piece.
+use super::expected::expect;
 use super::told::{event, limits};
-use event_core::{Event, Limits, LockId, Op, OutOfMemory, VarId};
+use event_core::{Event, LockId, Op, VarId};
 use rapid_text::{Cause, Cutter, LineFault, TextFault};
 use std::alloc::Global;
 
@@ -31,29 +32,35 @@ use Given::{End, Piece, ReadFailed};
 /// seen.
 type Step = (Given, Answer, u64, u64);
 
-const CASES: &[&[Step]] = &[
-    // a line comes in pieces
-    &[
-        (Piece(b"\nT0|rel(l"), Took(9), 0, 2),
-        (Piece(b""), Took(0), 0, 2),
-        (Piece(b")|\r"), Took(3), 0, 2),
-        (Piece(b"\nT1|"), Told(1, 0, Op::Release(LockId(0)), 0), 2, 3),
-        (Piece(b"T1|w(x)|7"), Took(9), 2, 3),
-        (End, Told(0, 1, Op::Store(VarId(0)), 1), 3, 4),
-        (End, Took(0), 3, 4),
-    ],
-    // an unfinished line is judged at the end
-    &[
-        (Piece(b"T0|w(x"), Took(6), 0, 1),
-        (End, Fault(1, Cause::Line(LineFault::FewFields)), 1, 1),
-        (End, Fault(1, Cause::Failed), 1, 1),
-        (Piece(b"T0|w(x)|\n"), Fault(1, Cause::Failed), 1, 1),
-    ],
-    // a cutter whose reader failed stays failed
-    &[
-        (ReadFailed, Fault(1, Cause::Read), 1, 1),
-        (ReadFailed, Fault(1, Cause::Failed), 1, 1),
-    ],
+const CASES: &[(&str, &[Step])] = &[
+    (
+        "a line comes in pieces",
+        &[
+            (Piece(b"\nT0|rel(l"), Took(9), 0, 2),
+            (Piece(b""), Took(0), 0, 2),
+            (Piece(b")|\r"), Took(3), 0, 2),
+            (Piece(b"\nT1|"), Told(1, 0, Op::Release(LockId(0)), 0), 2, 3),
+            (Piece(b"T1|w(x)|7"), Took(9), 2, 3),
+            (End, Told(0, 1, Op::Store(VarId(0)), 1), 3, 4),
+            (End, Took(0), 3, 4),
+        ],
+    ),
+    (
+        "an unfinished line is judged at the end",
+        &[
+            (Piece(b"T0|w(x"), Took(6), 0, 1),
+            (End, Fault(1, Cause::Line(LineFault::FewFields)), 1, 1),
+            (End, Fault(1, Cause::Failed), 1, 1),
+            (Piece(b"T0|w(x)|\n"), Fault(1, Cause::Failed), 1, 1),
+        ],
+    ),
+    (
+        "a cutter whose reader failed stays failed",
+        &[
+            (ReadFailed, Fault(1, Cause::Read), 1, 1),
+            (ReadFailed, Fault(1, Cause::Failed), 1, 1),
+        ],
+    ),
 ];
 
 /// The bytes that were taken and the event, or the fault.
@@ -68,59 +75,52 @@ fn give(cutter: &mut Cutter, given: &Given) -> Result<(usize, Option<Event>), Te
     }
 }
 
-/// Whether the answer is this one, and the cutter knows of a fault where it is one.
-fn is_wanted(
-    answer: &Result<(usize, Option<Event>), TextFault>,
-    failed: Option<u64>,
-    wanted: Answer,
-) -> bool {
-    match (answer, wanted) {
-        (Ok((taken, None)), Took(count)) => *taken == count && failed.is_none(),
-        (Ok((taken, Some(told))), Told(count, thread, op, site)) => {
-            *taken == count && *told == event(thread, op, site) && failed.is_none()
+impl Answer {
+    /// Whether the cutter answers so, and knows of a fault where it is one.
+    fn is(self, answer: &Result<(usize, Option<Event>), TextFault>, failed: Option<u64>) -> bool {
+        match self {
+            Took(count) => failed.is_none() && *answer == Ok((count, None)),
+            Told(count, thread, op, site) => {
+                failed.is_none() && *answer == Ok((count, Some(event(thread, op, site))))
+            }
+            Fault(line, cause) => {
+                failed == Some(line) && *answer == Err(TextFault { line, cause })
+            }
         }
-        (Err(fault), Fault(line, cause)) => {
-            *fault == TextFault { line, cause } && failed == Some(line)
-        }
-        _ => false,
     }
 }
 
-/// How many of the steps the cutter answers so, one after another.
-fn count_agreed(cutter: &mut Cutter, steps: &[Step]) -> Result<usize, OutOfMemory> {
-    for (index, (given, wanted, line, unfinished)) in steps.iter().enumerate() {
+/// Whether the cutter answers the steps so, one after another. None where memory ran out.
+fn takes(cutter: &mut Cutter, steps: &[Step]) -> Option<bool> {
+    let mut are_answered = true;
+    for (given, wanted, line, unfinished) in steps {
         let answer = give(cutter, given);
         if let Err(fault) = answer
             && fault.cause == Cause::OutOfMemory
         {
-            return Err(OutOfMemory);
+            return None;
         }
-        if !is_wanted(&answer, cutter.failed(), *wanted)
-            || cutter.line() != *line
-            || cutter.unfinished() != *unfinished
-        {
-            return Ok(index);
-        }
+        are_answered = are_answered
+            && wanted.is(&answer, cutter.failed())
+            && cutter.line() == *line
+            && cutter.unfinished() == *unfinished;
     }
-    Ok(steps.len())
+    Some(are_answered)
 }
 
-/// How many of the steps a new cutter answers so. It knows of no fault before the first.
-fn agreed(alloc: Global, limits: Limits, steps: &[Step]) -> Result<usize, OutOfMemory> {
-    let mut cutter = Cutter::new(alloc, limits)?;
-    let agreed = if cutter.failed().is_none() {
-        count_agreed(&mut cutter, steps)
-    } else {
-        Ok(0)
-    };
+/// Whether a new cutter answers the steps so. It knows of no fault before the first.
+fn are_answered(alloc: Global, steps: &[Step]) -> Option<bool> {
+    let mut cutter = Cutter::new(alloc, limits()?).ok()?;
+    let is_new = cutter.failed().is_none();
+    let are_answered = takes(&mut cutter, steps);
     drop(cutter);
-    agreed
+    Some(are_answered? && is_new)
 }
 
 #[test]
 fn a_cutter_answers_each_piece(rt: HostRuntime) {
-    for steps in CASES {
-        let agreed = again!(&rt; agreed(rt.alloc(), limits(&rt), steps));
-        assert!(rt; agreed == steps.len());
+    for (name, steps) in CASES {
+        let are_answered = again!(are_answered(rt.alloc(), steps));
+        expect(&rt, are_answered, name);
     }
 }

@@ -1,8 +1,9 @@
 //! Texts without a fault, however they are cut.
 use super::doubles::{cut, whole};
+use super::expected::{expect, keep};
 use super::told::Answer::{End, Told};
-use super::told::{Answer, Case, expect_all, expect_told, long};
-use event_core::{LockId, Op, OutOfMemory, ThreadId, VarId};
+use super::told::{Answer, Case, expect_all, expect_told};
+use event_core::{LockId, Op, ThreadId, VarId};
 use std::alloc::Global;
 
 const X: VarId = VarId(0);
@@ -58,36 +59,42 @@ fn texts_without_a_fault_are_read_to_their_end(rt: HostRuntime) {
 /// its places.
 #[test]
 fn a_line_may_lie_across_pieces(rt: HostRuntime) {
-    for lines in 4080..4100 {
-        let text = again!(&rt; long(rt.alloc(), b'\n', lines, b"T0|w(x)|7\r\nT0|r(x)|8"));
+    for line in 4081..4101 {
+        let mut text = Vec::new(rt.alloc());
+        for _ in 1..line {
+            keep(&mut text, b"\n");
+        }
+        keep(&mut text, b"T0|w(x)|7\r\nT0|r(x)|8");
         let answers = [
-            Told(lines as u64 + 1, 0, Op::Store(X), 0),
-            Told(lines as u64 + 2, 0, Op::Load(X), 1),
+            Told(line, 0, Op::Store(X), 0),
+            Told(line + 1, 0, Op::Load(X), 1),
             End,
         ];
-        expect_told(&rt, rt.alloc(), whole(text.as_slice()), 100, &answers);
+        expect_told(&rt, rt.alloc(), whole(&text), 100, &answers);
+        drop(text);
     }
 }
 
 /// So many lines, and what a reader tells of them: stores by one thread at one place.
-fn stores(alloc: Global, lines: u64) -> Result<(Vec<u8>, Vec<Answer>), OutOfMemory> {
+fn stores(alloc: Global, lines: u64) -> (Vec<u8>, Vec<Answer>) {
     let mut text = Vec::new(alloc);
     let mut answers = Vec::new(alloc);
     for line in 0..lines {
+        keep(&mut text, b"T0|w(x)|7\n");
         let told = Told(line + 1, 0, Op::Store(X), 0);
-        if text.extend_from_slice(b"T0|w(x)|7\n").is_err() || answers.push(told).is_err() {
-            return Err(OutOfMemory);
+        if answers.push(told).is_err() {
+            let _ = answers.push(told);
         }
     }
-    Ok((text, answers))
+    (text, answers)
 }
 
 /// A thousand lines of ten bytes take three pieces of 4,096 bytes, and as many in pieces of other lengths.
 #[test]
 fn a_long_text_is_read_to_its_end(rt: HostRuntime) {
-    let (text, answers) = again!(&rt; stores(rt.alloc(), 1000));
+    let (text, answers) = stores(rt.alloc(), 1000);
+    expect(&rt, answers.len() == 1000, "memory");
     for first in [4096, 4095, 33] {
-        let pieces = cut(text.as_slice(), first);
-        expect_told(&rt, rt.alloc(), pieces, 100, answers.as_slice());
+        expect_told(&rt, rt.alloc(), cut(&text, first), 100, &answers);
     }
 }

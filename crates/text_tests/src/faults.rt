@@ -1,9 +1,11 @@
 //! Texts with a fault, each with the line and the cause.
 use super::doubles::Pieces;
+use super::expected::{expect, keep};
 use super::told::Answer::{Fault, Told};
-use super::told::{Answer, Case, expect_all, expect_told, long};
-use event_core::{LockId, Op, OutOfMemory, ThreadId, VarId};
+use super::told::{Answer, Case, expect_all, expect_told};
+use event_core::{LockId, Op, ThreadId, VarId};
 use rapid_text::{Cause, Kind, LineFault, NamedLine, Word, read_line};
+use std::alloc::Global;
 
 const STORE: Answer = Told(1, 0, Op::Store(VarId(0)), 0);
 
@@ -121,19 +123,30 @@ const LONG_LINES: &[LongLine] = &[
     (1026, b"", true, TOO_LONG),
 ];
 
+/// So many letters, and then the end.
+pub fn letters_and(alloc: Global, count: usize, end: &[u8]) -> Vec<u8> {
+    let mut text = Vec::new(alloc);
+    for _ in 0..count {
+        keep(&mut text, b"a");
+    }
+    keep(&mut text, end);
+    text
+}
+
 #[test]
 fn lines_and_names_have_a_greatest_length(rt: HostRuntime) {
     for (len, end, fails, answer) in LONG_LINES {
-        let text = again!(&rt; long(rt.alloc(), b'a', *len, end));
+        let text = letters_and(rt.alloc(), *len, end);
         for piece in [1, 1000, 4096] {
             let pieces = Pieces {
-                text: text.as_slice(),
+                text: &text,
                 first: piece,
                 others: piece,
                 fails: *fails,
             };
             expect_told(&rt, rt.alloc(), pieces, 2000, &[*answer]);
         }
+        drop(text);
     }
 }
 
@@ -148,7 +161,7 @@ fn is_release_of_m(line: &NamedLine<'_>) -> bool {
 fn a_content_is_read_by_itself(rt: HostRuntime) {
     let line = read_line(b"T0|rel(m(1))|a:7").expect(&rt, "a line");
     assert!(rt; is_release_of_m(&line));
-    assert!(rt; Word::Release.spelled() == b"rel".as_slice());
+    expect(&rt, Word::Release.spelled() == b"rel".as_slice(), "rel");
 }
 
 const NAMES_OF_CAUSES: &[(Cause, &str)] = &[
@@ -168,6 +181,6 @@ const NAMES_OF_CAUSES: &[(Cause, &str)] = &[
 #[test]
 fn causes_have_their_names(rt: HostRuntime) {
     for (cause, name) in NAMES_OF_CAUSES {
-        assert!(rt; cause.word() == *name);
+        expect(&rt, cause.word() == *name, name);
     }
 }

@@ -1,8 +1,8 @@
 //! Names and their numbers.
 ghost use Rattle.rapid_text.specs.Tables.{IsNameOf};
 
+use super::expected::expect;
 use super::told::limits;
-use event_core::Limits;
 use rapid_text::{Kind, NameFault, Names};
 use std::alloc::Global;
 
@@ -25,22 +25,17 @@ fn numbers(names: &mut Names) -> [Result<u32, NameFault>; 5] {
     [y, x, again, lock, number(names, Kind::Thread, b"z")]
 }
 
-fn is_second_thread(names: &Names, name: &[u8]) -> bool {
-    names.count(Kind::Thread) == 2 && names.name(Kind::Thread, 1) == name
-}
-
-/// The numbers that new names gives, and whether the second thread is then x.
-fn numbered(alloc: Global, limits: Limits) -> ([Result<u32, NameFault>; 5], bool) {
-    let mut names = Names::new(alloc, limits);
-    let numbers = numbers(&mut names);
-    let is_x = is_second_thread(&names, b"x");
+/// Whether new names number some names so, and have the second thread then.
+fn are_numbered(alloc: Global) -> Option<bool> {
+    let mut names = Names::new(alloc, limits()?);
+    let are_numbered = numbers(&mut names) == [Ok(0), Ok(1), Ok(0), Ok(0), Err(NameFault::TooMany)];
+    let has_second = names.count(Kind::Thread) == 2
+        && names.name(Kind::Thread, 1) == b"x".as_slice();
     drop(names);
-    (numbers, is_x)
+    Some(are_numbered && has_second)
 }
 
 #[test]
 fn names_are_numbered_by_first_appearance(rt: HostRuntime) {
-    let (numbers, second_is_x) = numbered(rt.alloc(), limits(&rt));
-    assert!(rt; numbers == [Ok(0), Ok(1), Ok(0), Ok(0), Err(NameFault::TooMany)]);
-    assert!(rt; second_is_x);
+    expect(&rt, are_numbered(rt.alloc()) == Some(true), "y, x");
 }

@@ -1,6 +1,7 @@
 //! What a reader answers, one call after another.
 use super::doubles::{Pieces, Source, byte_by_byte, cut, whole};
-use event_core::{Event, Limits, Op, OutOfMemory, Roots, SiteId, ThreadId};
+use super::expected::expect_of;
+use event_core::{Event, Limits, Op, Roots, SiteId, ThreadId};
 use rapid_text::{Cause, Reader, TextFault};
 use std::alloc::Global;
 use std::process::Abort;
@@ -23,8 +24,8 @@ pub struct Case {
 }
 
 /// Limits with names for two threads, one lock and one variable.
-pub fn limits(rt: &impl Abort) -> Limits {
-    Limits::new(2, 1, 1, 1000, Roots::Free).expect(rt, "within the bounds")
+pub fn limits() -> Option<Limits> {
+    Limits::new(2, 1, 1, 1000, Roots::Free).ok()
 }
 
 pub fn event(thread: u32, op: Op, site: u32) -> Event {
@@ -36,46 +37,40 @@ pub fn event(thread: u32, op: Op, site: u32) -> Event {
     }
 }
 
-/// Whether the answer, and the line that the reader names after it, are these.
-fn is_wanted(answer: &Result<Option<Event>, TextFault>, line: u64, wanted: &Answer) -> bool {
-    match (answer, *wanted) {
-        (Ok(Some(told)), Answer::Told(at, thread, op, site)) => {
-            line == at && *told == event(thread, op, site)
+impl Answer {
+    /// Whether the reader answers so, and names this line after it.
+    fn is(self, answer: &Result<Option<Event>, TextFault>, named: u64) -> bool {
+        match self {
+            Answer::Told(line, thread, op, site) => {
+                named == line && *answer == Ok(Some(event(thread, op, site)))
+            }
+            Answer::End => *answer == Ok(None),
+            Answer::Fault(line, cause) => *answer == Err(TextFault { line, cause }),
         }
-        (Ok(None), Answer::End) => true,
-        (Err(fault), Answer::Fault(at, cause)) => *fault == TextFault { line: at, cause },
-        _ => false,
     }
 }
 
-/// How many of the answers the reader gives, one after another.
-fn count_agreed(reader: &mut Reader<Source<'_>>, answers: &[Answer]) -> Result<usize, OutOfMemory> {
-    for (index, wanted) in answers.iter().enumerate() {
+/// Whether the reader gives the answers, one after another. None where memory ran out.
+fn gives(reader: &mut Reader<Source<'_>>, answers: &[Answer]) -> Option<bool> {
+    let mut are_told = true;
+    for wanted in answers {
         let answer = reader.next();
         if let Err(fault) = answer
             && fault.cause == Cause::OutOfMemory
         {
-            return Err(OutOfMemory);
+            return None;
         }
-        if !is_wanted(&answer, reader.line(), wanted) {
-            return Ok(index);
-        }
+        are_told = are_told && wanted.is(&answer, reader.line());
     }
-    Ok(answers.len())
+    Some(are_told)
 }
 
-/// How many of the answers a new reader of the pieces gives.
-fn agreed(
-    alloc: Global,
-    limits: Limits,
-    pieces: Pieces<'_>,
-    turns: u32,
-    answers: &[Answer],
-) -> Result<usize, OutOfMemory> {
-    let mut reader = Reader::new(alloc, Source::of(pieces), limits, turns as u64)?;
-    let agreed = count_agreed(&mut reader, answers);
+/// Whether a new reader of the pieces gives the answers. None where memory ran out.
+fn are_told(alloc: Global, pieces: Pieces<'_>, turns: u32, answers: &[Answer]) -> Option<bool> {
+    let mut reader = Reader::new(alloc, Source::of(pieces), limits()?, u64::from(turns)).ok()?;
+    let are_told = gives(&mut reader, answers);
     drop(reader);
-    agreed
+    are_told
 }
 
 /// A reader of the pieces with so many turns gives these answers.
@@ -86,14 +81,8 @@ pub fn expect_told(
     turns: u32,
     answers: &[Answer],
 ) {
-    let limits = limits(rt);
-    let agreed = again!(rt; agreed(alloc, limits, pieces, turns, answers));
-    assert!(rt;
-        agreed == answers.len(),
-        "{:?} by {}",
-        pieces.text,
-        pieces.first
-    );
+    let are_told = again!(are_told(alloc, pieces, turns, answers));
+    expect_of(rt, are_told, pieces.text);
 }
 
 /// A reader of each text gives its answers: whole, byte by byte, and cut in two at each place.
@@ -105,15 +94,4 @@ pub fn expect_all(rt: &impl Abort, alloc: Global, cases: &[Case]) {
         expect_told(rt, alloc, whole(case.text), 100, case.answers);
         expect_told(rt, alloc, byte_by_byte(case.text), 10000, case.answers);
     }
-}
-
-/// So many of the byte, and then the end.
-pub fn long(alloc: Global, byte: u8, len: usize, end: &[u8]) -> Result<Vec<u8>, OutOfMemory> {
-    let Ok(mut text) = vec![in alloc; byte; len] else {
-        return Err(OutOfMemory);
-    };
-    if text.extend_from_slice(end).is_err() {
-        return Err(OutOfMemory);
-    }
-    Ok(text)
 }

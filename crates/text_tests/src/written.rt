@@ -1,55 +1,44 @@
 //! Lines that are written, and read again.
 use super::doubles::Page;
+use super::expected::expect;
 use super::told::limits;
-use event_core::{Limits, OutOfMemory};
 use rapid_text::{Device, Output, Reader, write_event, write_fault};
 use std::alloc::Global;
 
 /// Reads each event and writes its line: whether all were written, up to the end of the text.
-fn copy_all<W: Output>(reader: &mut Reader<Device<&[u8]>>, w: &mut W) -> Result<bool, OutOfMemory> {
+fn copy_all<W: Output>(reader: &mut Reader<Device<&[u8]>>, w: &mut W) -> Option<bool> {
     for _ in 0..100 {
         match reader.next() {
             Ok(Some(event)) => {
                 if write_event(w, &event, reader.names()).is_err() {
-                    return Ok(false);
+                    return Some(false);
                 }
             }
-            Ok(None) => return Ok(true),
-            Err(_) => return Err(OutOfMemory),
+            Ok(None) => return Some(true),
+            Err(_) => return None,
         }
     }
-    Ok(false)
+    Some(false)
 }
 
-/// Whether the lines of all events of the text are written.
-fn copy<W: Output>(
-    alloc: Global,
-    limits: Limits,
-    text: &[u8],
-    w: &mut W,
-) -> Result<bool, OutOfMemory> {
-    let mut reader = Reader::new(alloc, Device::new(text), limits, 100)?;
+/// Whether the lines of all events of the text are written. None where memory ran out.
+fn copy<W: Output>(alloc: Global, text: &[u8], w: &mut W) -> Option<bool> {
+    let mut reader = Reader::new(alloc, Device::new(text), limits()?, 100).ok()?;
     let is_copied = copy_all(&mut reader, w);
     drop(reader);
     is_copied
 }
 
 /// Whether the lines of all events are written, and are the text, in so many puts of at most so many bytes.
-fn is_copied(
-    alloc: Global,
-    limits: Limits,
-    text: &[u8],
-    puts: usize,
-    most: usize,
-) -> Result<bool, OutOfMemory> {
+fn is_copied(alloc: Global, puts: usize, most: usize) -> Option<bool> {
     let mut page = Page {
-        rest: text,
+        rest: TEXT,
         most,
         puts,
         failed: false,
     };
-    let is_copied = copy(alloc, limits, text, &mut page)?;
-    Ok(is_copied && page.rest.is_empty())
+    let is_copied = copy(alloc, TEXT, &mut page)?;
+    Some(is_copied && page.rest.is_empty())
 }
 
 const TEXT: &[u8] =
@@ -59,12 +48,12 @@ const TEXT: &[u8] =
 #[test]
 fn what_is_written_is_the_text_that_was_read(rt: HostRuntime) {
     for most in [3, 4096] {
-        let is_copied = again!(&rt; is_copied(rt.alloc(), limits(&rt), TEXT, 4096, most));
-        assert!(rt; is_copied, "at most {most} bytes");
+        let is_copied = again!(is_copied(rt.alloc(), 4096, most));
+        expect(&rt, is_copied, "a text in parts");
     }
     for puts in 0..TEXT.len() + 1 {
-        let is_copied = again!(&rt; is_copied(rt.alloc(), limits(&rt), TEXT, puts, 1));
-        assert!(rt; is_copied == (puts == TEXT.len()), "{puts} puts");
+        let is_copied = again!(is_copied(rt.alloc(), puts, 1));
+        expect(&rt, is_copied == (puts == TEXT.len()), "so many puts");
     }
 }
 
@@ -85,9 +74,17 @@ fn put_fault_line(puts: usize) -> (bool, bool) {
 #[test]
 fn a_fault_line_is_written(rt: HostRuntime) {
     for puts in 0..FAULT_LINE.len() {
-        assert!(rt; put_fault_line(puts) == (false, true), "{puts} puts");
+        expect(
+            &rt,
+            put_fault_line(puts) == (false, true),
+            "a line that is cut",
+        );
     }
-    assert!(rt; put_fault_line(FAULT_LINE.len()) == (true, false));
+    expect(
+        &rt,
+        put_fault_line(FAULT_LINE.len()) == (true, false),
+        "a line",
+    );
 }
 
 /// Whether a fault line is written to so many bytes, after which the writer takes nothing.
@@ -95,9 +92,9 @@ fn fits_fault_line(room: &mut [u8]) -> bool {
     write_fault(&mut Device::new(room), 12, "Held").is_ok()
 }
 
-/// Whether the line of the first event is.
-fn fits_event(alloc: Global, limits: Limits, room: &mut [u8]) -> Result<bool, OutOfMemory> {
-    copy(alloc, limits, b"T0|w(x)|1", &mut Device::new(room))
+/// Whether the line of an event is.
+fn fits_event(alloc: Global, room: &mut [u8]) -> Option<bool> {
+    copy(alloc, b"T0|w(x)|1", &mut Device::new(room))
 }
 
 /// A slice takes what it has room for, and then nothing.
@@ -106,8 +103,8 @@ fn a_writer_that_takes_nothing_has_failed(rt: HostRuntime) {
     let mut bytes = [0u8; 16];
     for room in 0..16 {
         let bytes = &mut bytes[..room];
-        assert!(rt; fits_fault_line(bytes) == (room >= 14), "{room} bytes");
-        let fits_event = again!(&rt; fits_event(rt.alloc(), limits(&rt), bytes));
-        assert!(rt; fits_event == (room >= 10), "{room} bytes");
+        expect(&rt, fits_fault_line(bytes) == (room >= 14), "a fault line");
+        let fits_event = again!(fits_event(rt.alloc(), bytes));
+        expect(&rt, fits_event == (room >= 10), "an event");
     }
 }

@@ -1,20 +1,11 @@
 //! What a text is read as, whole or in pieces.
-use crate::readers::Pieces;
+use super::doubles::{Pieces, Source};
+use super::expected::expect_of;
 use event_core::{Limits, Roots, ThreadId};
 use rapid_text::{Kind, Names};
 use script_text::{Script, ScriptCause, ScriptFault, ScriptLine};
 use std::alloc::Global;
-use std::test::Fail;
-
-/// A text, how many bytes of it come at once, whether the reader fails at its end or says that it has ended,
-/// and how many turns there are.
-#[derive(Clone, Copy)]
-pub struct Reading<'a> {
-    pub text: &'a [u8],
-    pub most: usize,
-    pub fails: bool,
-    pub turns: u32,
-}
+use std::process::Abort;
 
 /// What a script is to have: the names of its threads, the lines of each, and the names of its locations.
 #[derive(Clone, Copy)]
@@ -83,35 +74,37 @@ impl Wanted<'_> {
     }
 }
 
-impl Reading<'_> {
-    /// Whether the script is the one that is wanted, or its fault.
-    fn judge_once(
-        &self,
-        alloc: Global,
-        limits: Limits,
-        wanted: &Wanted<'_>,
-    ) -> Result<bool, ScriptFault> {
-        let mut pieces = Pieces::of(self.text, self.most, self.fails);
-        let script = Script::read(alloc, &mut pieces, limits, u64::from(self.turns))?;
-        let is_wanted = wanted.is(&script);
-        drop(script);
-        Ok(is_wanted)
-    }
-
-    /// Whether the script is the one that is wanted, or its fault, with names for three threads, two locks
-    /// and two variables. What met a refused growth is asked again, so the answer is the same where one
-    /// allocation is refused.
-    pub fn judge(
-        &self,
-        alloc: Global,
-        wanted: &Wanted<'_>,
-    ) -> Result<Result<bool, ScriptFault>, Fail> {
-        let limits = Limits::new(3, 2, 2, 1000, Roots::OnlyMain)?;
-        match self.judge_once(alloc, limits, wanted) {
-            Err(fault) if fault.cause == ScriptCause::OutOfMemory => Ok(self.judge_once(
-                alloc, limits, wanted,
-            )),
-            answer => Ok(answer),
+/// Whether the script is the one that is wanted, or its fault, with names for three threads, two locks and two
+/// variables. None where memory ran out.
+fn read(
+    alloc: Global,
+    pieces: Pieces<'_>,
+    turns: u32,
+    wanted: &Wanted<'_>,
+) -> Option<Result<bool, ScriptFault>> {
+    let limits = Limits::new(3, 2, 2, 1000, Roots::OnlyMain).ok()?;
+    match Script::read(alloc, &mut Source::of(pieces), limits, u64::from(turns)) {
+        Ok(script) => {
+            let is_wanted = wanted.is(&script);
+            drop(script);
+            Some(Ok(is_wanted))
         }
+        Err(fault) if fault.cause == ScriptCause::OutOfMemory => None,
+        Err(fault) => Some(Err(fault)),
     }
+}
+
+/// The text is read as the script that is wanted, or has the fault, at the second try where memory ran out.
+pub fn expect_read(
+    rt: &impl Abort,
+    alloc: Global,
+    pieces: Pieces<'_>,
+    turns: u32,
+    (wanted, answer): (&Wanted<'_>, Result<bool, ScriptFault>),
+) {
+    let mut met = read(alloc, pieces, turns, wanted);
+    if met.is_none() {
+        met = read(alloc, pieces, turns, wanted);
+    }
+    expect_of(rt, met == Some(answer), pieces.text);
 }

@@ -1,10 +1,8 @@
 //! Scripts without a fault, with their lines by thread.
-use crate::readings::{Reading, Wanted};
+use super::doubles::{byte_by_byte, whole};
+use super::script_readings::{Wanted, expect_read};
 use event_core::{Act, Call, LockId, Op, SiteId, ThreadId, VarId};
 use script_text::ScriptLine;
-use std::alloc::Global;
-use std::process::Abort;
-use std::test::Fail;
 
 /// A line of a thread with a call at a site.
 macro_rules! line_of {
@@ -89,30 +87,12 @@ const SCRIPTS: &[(&str, Wanted<'static>)] = &[
     ),
 ];
 
-/// The reading of the text is the script that is wanted, whole and byte by byte.
-fn expect_script(
-    rt: &impl Abort,
-    alloc: Global,
-    text: &str,
-    wanted: &Wanted<'_>,
-) -> Result<(), Fail> {
-    for most in [usize::MAX, 1] {
-        let reading = Reading {
-            text: text.as_bytes(),
-            most,
-            fails: false,
-            turns: 100,
-        };
-        let answer = reading.judge(alloc, wanted)?;
-        assert!(rt; answer == Ok(true), "{text}: {answer:?}");
-    }
-    Ok(())
-}
-
+/// Whole and byte by byte.
 #[test]
-fn each_thread_has_its_lines(rt: HostRuntime) -> Result<(), Fail> {
+fn each_thread_has_its_lines(rt: HostRuntime) {
     for (text, wanted) in SCRIPTS {
-        expect_script(&rt, rt.alloc(), text, wanted)?;
+        for pieces in [whole(text.as_bytes()), byte_by_byte(text.as_bytes())] {
+            expect_read(&rt, rt.alloc(), pieces, 100, (wanted, Ok(true)));
+        }
     }
-    Ok(())
 }
