@@ -25,7 +25,7 @@ pub enum NameFault {
     OutOfMemory,
 }
 
-/// Why a text has a fault. Each cause has a number, which its words begin with.
+/// Why a text has a fault. Each cause has a number, which its comment begins with.
 #[derive(Clone, Copy, Debug, PartialEq, Eq)]
 pub enum Cause {
     /// 1 to 6, and 10 for a CR in the content: the line is no event.

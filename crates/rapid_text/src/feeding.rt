@@ -1,6 +1,7 @@
 //! A text that is pulled from an input and fed to what takes it, piece by piece.
 ghost use Rattle.std.specs.Prelude.{◌≡◌, ◌≢◌, ◌⊎◌, ℕ, ◌≤◌, List, [], ◌++◌, true, false, length};
 ghost use Rattle.rapid_text.specs.Feeding.{Pulled, Whole};
+ghost use Rattle.rapid_text.specs.Turns.{WithinTurns};
 
 use crate::input::Input;
 
@@ -40,8 +41,8 @@ pub enum Fed {
     Cut,
 }
 
-/// Feeds what the input has left of its text to the sink, with no more than so many pulls, each of up to
-/// 65,536 bytes.
+/// Feeds what the input has left of its text to the sink, in pieces of up to 65,536 bytes, one for each turn
+/// at most.
 pub fn feed_all<I: Input, S: Sink>(input: &mut I, sink: &mut S, turns: u64) -> Fed
     // All of the text was pulled, and taken.
     ensures whole { result ≡ Fed.Whole → Whole (I.left input.old) (I.left input.new) turns
@@ -52,6 +53,8 @@ pub fn feed_all<I: Input, S: Sink>(input: &mut I, sink: &mut S, turns: u64) -> F
     // What was pulled was taken; a pull failed, or each of so many gave a byte at least.
     ensures cut { result ≡ Fed.Cut → Pulled (I.left input.old) (I.left input.new) turns
         (λ bytes. S.takes sink.old bytes sink.new × ((I.failed input.new ≡ true) ⊎ (turns ≤ length bytes))) }
+    // However it ends, no more than 65,536 bytes were pulled for each turn.
+    ensures few { WithinTurns turns (I.left input.old) (I.left input.new) }
     // No failure of the input is passed over.
     ensures healthy { result ≢ Fed.Cut → I.failed input.new ≡ I.failed input.old }
 {

@@ -60,12 +60,7 @@ impl Names {
         ensures is { result ≡ length (space self.now kind).names }
         ensures within { result ≤ (space self.now kind).limit }
     {
-        match kind {
-            Kind::Thread => self.threads.count(),
-            Kind::Lock => self.locks.count(),
-            Kind::Variable => self.variables.count(),
-            Kind::Site => self.sites.count(),
-        }
+        self.space(kind).count()
     }
 
     // The names of the kind.

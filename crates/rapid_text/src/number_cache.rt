@@ -211,7 +211,7 @@ impl NumberCache {
         }
     }
 
-    /// The number of the name, if one of its notes is there.
+    /// The number of the name, if a note of it is found. A note may be missed.
     #[inline(always)]
     pub fn find(&self, name: &[u8]) -> Option<u32>
         ensures { IfSome result (λ number. IsFound self.now number name.now) }
@@ -235,7 +235,7 @@ impl NumberCache {
         None
     }
 
-    /// Notes the number of the name, if that is short.
+    /// Notes the number of the name, if that is short. The note may be left out.
     pub fn note(&mut self, name: &[u8], number: u32)
         ensures { (note : ANote) → IsOneOf self.new note
             → IsOneOf self.old note ⊎ IsNoteOf number name.now note }

@@ -4,8 +4,8 @@ ghost use Rattle.script_text.specs.Faults.{cause_word};
 
 use thiserror::Error;
 
-/// Why a script has a fault. Each cause has a number, which its words begin with. Of several at the first
-/// line that has one, the first in this order is answered.
+/// Why a script has a fault. Each cause has a number, which its comment begins with. Of several at the
+/// first line that has one, the first in this order is answered.
 #[derive(Clone, Copy, Debug, PartialEq, Eq)]
 pub enum ScriptCause {
     /// 1: the content has more than 1,024 bytes.

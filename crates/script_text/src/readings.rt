@@ -1,5 +1,6 @@
 //! A script that is read in pieces, however it is cut.
 ghost use Rattle.std.specs.Prelude.{◌≡◌, ◌≢◌, ◌≤◌, [], false, length, Ok, IfErr, IfOk, IfSome, OnOk};
+ghost use Rattle.rapid_text.specs.Turns.{WithinTurns};
 ghost use Rattle.script_text.specs.Forms.{Fails};
 ghost use Rattle.script_text.specs.Scripts.{IsDraft, after_content, script_of};
 ghost use Rattle.script_text.specs.Readings.{progress, unread, judged, Takes, Stops, EndStops, IsFault};
@@ -158,6 +159,7 @@ fn read_text<I: Input>(
         (IsDraft (record { names = reading.new.names; lines = reading.new.lines.items })) }
     ensures fault { IfErr result (λ f.
         IsFault limits (I.left reader.old) (I.left reader.new) turns (I.failed reader.new) f f.cause) }
+    ensures few { WithinTurns turns (I.left reader.old) (I.left reader.new) }
     ensures healthy { OnOk result (I.failed reader.new ≡ false) }
     ensures told { IfErr result (λ f. f.cause ≢ ScriptCause.Read → I.failed reader.new ≡ false) }
 {
@@ -186,6 +188,7 @@ pub fn read_lines<I: Input>(
     ensures draft { IfOk result (λ r. IsDraft (record { names = r.0; lines = r.1.items })) }
     ensures fault { IfErr result (λ f.
         IsFault limits (I.left reader.old) (I.left reader.new) turns (I.failed reader.new) f f.cause) }
+    ensures few { WithinTurns turns (I.left reader.old) (I.left reader.new) }
     ensures healthy { OnOk result (I.failed reader.new ≡ false) }
     ensures told { IfErr result (λ f. f.cause ≢ ScriptCause.Read → I.failed reader.new ≡ false) }
 {

@@ -1,5 +1,6 @@
 //! Scripts that were read.
 ghost use Rattle.std.specs.Prelude.{◌≡◌, ◌≢◌, ℕ, ◌≤◌, length, IfOk, IfErr, IfSome, OnOk, Ok, false};
+ghost use Rattle.rapid_text.specs.Turns.{WithinTurns};
 ghost use Rattle.script_text.specs.Scripts.{Parsed, IsScript, IsFirstUnreached, IsDraft, script_of};
 ghost use Rattle.script_text.specs.Readings.{IsFault, Incomplete};
 
@@ -81,9 +82,9 @@ impl Model for Script {
 }
 
 impl Script {
-    /// Reads the script that the reader gives, with no more than so many pulls of at most 65,536 bytes each,
-    /// of which there may be 2^44. It keeps no more of the text than one piece and one line. The fault is the
-    /// first line that has a cause, `Read` at the line whose end was not seen, or `OutOfMemory`.
+    /// Reads the script that the reader gives. It reads up to 65,536 bytes for each turn, and there may be
+    /// 2^44 turns. It keeps no more of the text than one piece and one line. The fault is the first line that
+    /// has a cause, `Read` at the line whose end was not seen, or `OutOfMemory`.
     pub fn read<I: Input>(
         alloc: Global,
         reader: &mut I,
@@ -102,6 +103,8 @@ impl Script {
         // long.
         ensures fault { IfErr result (λ f.
             IsFault limits (I.left reader.old) (I.left reader.new) turns (I.failed reader.new) f f.cause) }
+        // However it ends, no more than 65,536 bytes were read for each turn.
+        ensures few { WithinTurns turns (I.left reader.old) (I.left reader.new) }
         // A failure of the reader is never passed over: it is told as `Read`.
         ensures healthy { OnOk result (I.failed reader.new ≡ false) }
         ensures told { IfErr result (λ f. f.cause ≢ ScriptCause.Read → I.failed reader.new ≡ false) }

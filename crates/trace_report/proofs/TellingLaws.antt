@@ -1,7 +1,7 @@
 -- What an answer tells of a finding.
 use Rattle.std.proofs.Common.{◌≡◌, ◌⊎◌, inl, inr, ℕ, List, Option, Some, None, Result, Ok, Err, true, false}
 use Rattle.std.proofs.Common.{length, refl, sym, ap, ap₂, subst, ◌∙◌, arith}
-use Rattle.std.specs.Prelude.{IfErr, IfSome, OnOk}
+use Rattle.std.specs.Prelude.{IfErr, IfSome}
 use Rattle.std.specs.Io.KnownBytes.{Appends}
 use Rattle.std.proofs.lemmas.Option.{slice_get_within}
 use Rattle.event_core.specs.declared.bounds.Limits.{Limits}
@@ -55,10 +55,6 @@ pub never_short : {A : Type 0} (answer : Result A ReplayFault) (P : ReplayFault 
     → IfErr answer (λ f. is_short f ≡ false) → IfErr answer (λ f. is_short f ≡ true → P f)
 never_short (Ok a) P whole = tt
 never_short (Err f) P whole = λ short. absurd (let bad : false ≡ true = sym whole ∙ short in cc)
-
-pub on_any : {A P : Type 0} (answer : Result A ReplayFault) → P → OnOk answer P
-on_any (Ok a) p = p
-on_any (Err f) p = tt
 
 -- the fault that stands is what the text comes to, and else that of its end
 pub ended_fault : (o : Option ReplayFault) (later : Result Trace ReplayFault) (r f : ReplayFault) → r ≡ f

@@ -1,6 +1,7 @@
 //! The check of a trace, from the bytes of a reader to its one line.
 ghost use Rattle.std.specs.Prelude.{◌≡◌, ◌≢◌, ◌≤◌, ◌⊎◌, Err, true, false, length, OnOk, IfErr, IfSome};
 ghost use Rattle.std.specs.Io.KnownBytes.{Appends};
+ghost use Rattle.rapid_text.specs.Turns.{WithinTurns};
 ghost use Rattle.trace_report.specs.Replayed.{answer_gives_up};
 ghost use Rattle.trace_report.specs.Feeding.{IsCutAt, is_short};
 ghost use Rattle.trace_report.specs.Checked.{told, AnswersText, ChecksText};
@@ -16,7 +17,7 @@ use traced_mem::Memory;
 
 /// Judges the trace that the reader has left, and writes one line: the counts of a legal trace, or the first
 /// line that is no event or whose event is refused. The lines before are known by the memory alone, and no
-/// log is kept. It makes no more than so many reads of at most 65,536 bytes each, of which there may be 2^44.
+/// log is kept. It reads up to 65,536 bytes for each turn, and there may be 2^44 turns.
 ///
 /// Nothing is written where the text could not be read to its end, or a growth was refused. The two are
 /// told apart by the cause `Read`, and by the cause or the refusal `OutOfMemory`.
@@ -41,12 +42,14 @@ pub fn check<I: Input, O: Output>(
         → Appends (O.written writer.old) (O.written writer.new) (told result) }
     // Nothing is written where the answer says nothing of the text.
     ensures quiet { answer_gives_up result ≡ true → result ≢ Err ReplayFault.Write → writer.new ≡ writer.old }
-    // The text was not read to its end only where a read failed, or there were no more reads than bytes.
-    ensures read { IfErr result (λ f. is_short f ≡ true
+    // It is a read fault only where a read failed, or the text has as many bytes as there are turns.
+    ensures short { IfErr result (λ f. is_short f ≡ true
         → (I.failed reader.new ≡ true) ⊎ IfSome (I.left reader.old) (λ text. turns ≤ length text)) }
     // A read fault is at the line whose end was not seen, and no line before has a fault or a refused event.
     ensures cut { IfErr result (λ f. is_short f ≡ true
         → IsCutAt limits (I.left reader.old) (I.left reader.new) f) }
+    // However it ends, no more than 65,536 bytes were read for each turn.
+    ensures few { WithinTurns turns (I.left reader.old) (I.left reader.new) }
     // No failure of the reader is passed over where there are counts.
     ensures read_whole { OnOk result (I.failed reader.new ≡ false) }
     // It is a fault of the writer exactly where the writer failed or took no byte.

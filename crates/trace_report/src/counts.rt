@@ -43,7 +43,8 @@ impl Counts {
         page.put(writer, b"\n")
     }
 
-    /// Writes the line of counts. The writer is given the whole line at once.
+    /// Writes the line of counts. The writer is given the whole line at once, but no clause tells how it is
+    /// cut.
     pub(crate) fn write<W: Output>(&self, writer: &mut W) -> Result<(), WriteFault>
         ensures ok { OnOk result
             (Appends (W.written writer.old) (W.written writer.new) (counts_line self.now)) }

@@ -1,7 +1,7 @@
 //! A text that is replayed in pieces, however it is cut.
 ghost use Rattle.std.specs.Prelude.{◌≡◌, ◌≢◌, ◌⊎◌, ℕ, ◌+◌, ◌↔◌, ◌++◌, []};
 ghost use Rattle.std.specs.Prelude.{List, length, Err, None, Some, true, false};
-ghost use Rattle.std.specs.Prelude.{IfOk, IfErr, IfSome, OnOk, IsTrue, ◌<◌};
+ghost use Rattle.std.specs.Prelude.{IfOk, IfErr, IfSome, IsTrue, ◌<◌};
 ghost use Rattle.rapid_text.specs.Cutting.{most};
 ghost use Rattle.rapid_text.specs.declared.causes.Cause.TheVariants.{Read};
 ghost use Rattle.trace_report.specs.Replayed.{fault_gives_up, answer_gives_up, Told};
@@ -88,7 +88,6 @@ impl Replayer {
             → writer.new ≡ writer.old }
         // A read fault is answered only where one stands.
         ensures read { IfErr result (λ f. is_short f ≡ true → self.fault ≡ Some f) }
-        ensures ok { OnOk result (self.fault ≡ None) }
         // A fault that stands is the answer, unless its line could not be written.
         ensures answered { IfSome self.fault (λ f. (result ≡ Err f) ⊎ (result ≡ Err ReplayFault.Write)) }
         // It is a fault of the writer exactly where the writer failed or took no byte.

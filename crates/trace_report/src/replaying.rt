@@ -1,5 +1,6 @@
 //! The replay of a trace, from the bytes of a reader to its report.
 ghost use Rattle.std.specs.Prelude.{◌≡◌, ◌≢◌, ◌⊎◌, ◌≤◌, Err, true, false, IfErr, IfSome, OnOk, length};
+ghost use Rattle.rapid_text.specs.Turns.{WithinTurns};
 ghost use Rattle.trace_report.specs.Replayed.{answer_gives_up, TellsText};
 ghost use Rattle.trace_report.specs.Feeding.{IsCutAt, is_short};
 
@@ -13,8 +14,8 @@ use seq_monitor::Monitor;
 use std::alloc::Global;
 
 /// Replays the trace that the reader has left, and writes what it comes to: the report of a legal trace, or
-/// one line for the first line that is no event or whose event is refused. It makes no more than so many
-/// reads of at most 65,536 bytes each, of which there may be 2^44.
+/// one line for the first line that is no event or whose event is refused. It reads up to 65,536 bytes for
+/// each turn, and there may be 2^44 turns.
 ///
 /// Nothing is written before the text has ended or a fault is met, nor where the text could not be read to
 /// its end or a growth was refused.
@@ -39,6 +40,8 @@ pub fn replay<I: Input, O: Output>(
     // A read fault is at the line whose end was not seen, and no line before has a fault or a refused event.
     ensures cut { IfErr result (λ f. is_short f ≡ true
         → IsCutAt limits (I.left reader.old) (I.left reader.new) f) }
+    // However it ends, no more than 65,536 bytes were read for each turn.
+    ensures few { WithinTurns turns (I.left reader.old) (I.left reader.new) }
     ensures read_whole { OnOk result (I.failed reader.new ≡ false) }
     // It is a fault of the writer exactly where the writer failed or took no byte.
     ensures write_fault { result ≡ Err ReplayFault.Write → O.failed writer.new ≡ true }

@@ -1,6 +1,7 @@
 //! A text that is judged whole, from an input.
 ghost use Rattle.std.specs.Prelude.{◌≡◌, ◌≢◌, ◌⊎◌, ◌≤◌, [], Err, None, true, false, IfErr, IfOk, IfSome};
 ghost use Rattle.std.specs.Prelude.{OnOk, length};
+ghost use Rattle.rapid_text.specs.Turns.{WithinTurns};
 ghost use Rattle.trace_report.specs.Replayed.{gives_up};
 ghost use Rattle.trace_report.specs.Feeding.{IsFed, FindsTrace, FindsFault, IsCutAt, is_short};
 
@@ -11,8 +12,8 @@ use event_core::Limits;
 use rapid_text::{Fed, Input, feed_all};
 use std::alloc::Global;
 
-/// Judges what the reader has left of its text, but for a last line without an end, with no more than so many
-/// reads.
+/// Judges what the reader has left of its text, but for a last line without an end. It reads up to 65,536
+/// bytes for each turn.
 fn read_text<I: Input, J: Judge>(
     alloc: Global,
     reader: &mut I,
@@ -29,6 +30,7 @@ fn read_text<I: Input, J: Judge>(
         → (I.failed reader.new ≡ true) ⊎ IfSome (I.left reader.old) (λ text. turns ≤ length text)) }
     ensures cut { IfSome result.fault (λ f. is_short f ≡ true
         → IsCutAt limits (I.left reader.old) (I.left reader.new) f) }
+    ensures few { WithinTurns turns (I.left reader.old) (I.left reader.new) }
     ensures healthy { result.fault ≡ None → I.failed reader.new ≡ I.failed reader.old }
 {
     let mut text = JudgedText::new(alloc, limits, judge);
@@ -39,7 +41,8 @@ fn read_text<I: Input, J: Judge>(
     text
 }
 
-/// Judges the text that the reader has left, with no more than so many reads. The judge is before any event.
+/// Judges the text that the reader has left. It reads up to 65,536 bytes for each turn. The judge is before
+/// any event.
 pub fn judge_text<I: Input, J: Judge + Drop>(
     alloc: Global,
     reader: &mut I,
@@ -60,6 +63,8 @@ pub fn judge_text<I: Input, J: Judge + Drop>(
     // A read fault is at the line whose end was not seen, and no line before has a fault or a refused event.
     ensures cut { IfErr result (λ f. is_short f ≡ true
         → IsCutAt limits (I.left reader.old) (I.left reader.new) f) }
+    // However it ends, no more than 65,536 bytes were read for each turn.
+    ensures few { WithinTurns turns (I.left reader.old) (I.left reader.new) }
     ensures healthy { OnOk result (I.failed reader.new ≡ I.failed reader.old) }
     ensures unwritten { result ≢ Err ReplayFault.Write }
 {

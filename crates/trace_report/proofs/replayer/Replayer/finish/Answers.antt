@@ -14,7 +14,7 @@ use Rattle.trace_report.specs.Replaying.{Replaying, after}
 use Rattle.trace_report.specs.Reports.{AreNamed}
 use Rattle.trace_report.proofs.TellingLaws.{is_the_fault, short_is_the_fault, fault_told, ended_fault}
 use Rattle.trace_report.proofs.TellingLaws.{ended_trace}
-use Rattle.trace_report.proofs.TellingLaws.{never_short, on_any, answered_or, refused, same_fault}
+use Rattle.trace_report.proofs.TellingLaws.{never_short, answered_or, refused, same_fault}
 use Rattle.trace_report.proofs.replayer.Replayer.finish.Goals as goal
 
 pub returns-in-Err-clause-tells : goal.returns-in-Err-clause-tells
@@ -94,8 +94,3 @@ returns-clause-quiet g c gives other = absurd (other (c.tell_trace-answer.ensure
 pub returns-clause-read : goal.returns-clause-read
 returns-clause-read g c =
     never_short c.tell_trace-answer.result (λ f. c.args.self.fault ≡ Some f) c.tell_trace-answer.ensures.whole
-
-pub returns-clause-ok : goal.returns-clause-ok
-returns-clause-ok g c =
-    on_any c.tell_trace-answer.result
-    (ap (λ (r : Replaying). r.fault) (sym c.self.view_is) ∙ c.in_default.ensures.stands)
