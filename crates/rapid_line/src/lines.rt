@@ -21,8 +21,9 @@ pub struct NamedLine<'a> {
     pub location: &'a [u8],
 }
 
+/// The word that is spelled so.
 #[tactic(auto, unfolding(crate::specs::Reading::word_of))]
-fn word_at(bytes: &[u8]) -> Option<Word>
+pub fn word_at(bytes: &[u8]) -> Option<Word>
     ensures { result ≡ word_of bytes.now }
 {
     if bytes == b"r".as_slice() {

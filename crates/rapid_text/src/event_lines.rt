@@ -14,7 +14,7 @@ use event_core::{Event, LockId, Op, SiteId, ThreadId, VarId};
 use rapid_line::{Line, LineFault, NamedLine, Word, read_barred, read_line, without_cr};
 
 /// What the argument of a word names.
-fn kind_at(word: Word) -> Kind
+pub fn kind_at(word: Word) -> Kind
     ensures { result ≡ kind_of word }
 {
     match word {
@@ -24,7 +24,8 @@ fn kind_at(word: Word) -> Kind
     }
 }
 
-fn op_at(word: Word, number: u32) -> Op
+/// The operation that a word says, on the thing with this number.
+pub fn op_at(word: Word, number: u32) -> Op
     ensures { result ≡ op_of word number }
 {
     match word {

@@ -21,6 +21,7 @@ mod writing;
 pub use causes::{Cause, Kind, NameFault, TextFault};
 pub use cutter::Cutter;
 pub use device::Device;
+pub use event_lines::{kind_at, op_at};
 pub use feeding::{Fed, Sink, feed_all};
 pub use input::{Input, ReadFailed};
 pub use laws::{nothing_before, pieces_are_one_text};

@@ -52,7 +52,8 @@ use Rattle.script_text.specs.declared.causes.ScriptCause.TheVariants.{BadFork, B
 use Rattle.script_text.specs.declared.causes.ScriptFault.{ScriptFault}
 use Rattle.script_text.specs.declared.lines.ScriptLine.{ScriptLine}
 use Rattle.script_text.specs.declared.forms.Word.{Word}
-use Rattle.script_text.specs.declared.forms.Word.TheVariants.{Load, Store, Acquire, Release, Fork, Join, Swap}
+use Rattle.script_text.specs.declared.forms.Word.TheVariants.{One, Swap}
+use Rattle.rapid_line.specs.declared.words.Word.TheVariants as words
 use Rattle.script_text.specs.Forms.{Named, line_of, unless}
 use Rattle.script_text.specs.Lines.{thread_of, fork_of, join_of, forks, joins, is_thread}
 use Rattle.script_text.specs.Scripts.{Parsed, AreLegal, IsDraft, judge, next_line, after_content, with_line}
@@ -217,22 +218,17 @@ placed_within t kind name n u v e g =
 has_names : (w : Word) (a b c number : ℕ) (t : Tables) → a < length (space t kinds.Thread).names
     → b < length (space t (kind_of w)).names → c < length (space t kinds.Site).names
     → HasNames t (act_event (act_of w a b c number))
-has_names Load a b c number t x y z = record { thread = x; target = y; site = z }
-has_names Store a b c number t x y z = record { thread = x; target = y; site = z }
-has_names Acquire a b c number t x y z = record { thread = x; target = y; site = z }
-has_names Release a b c number t x y z = record { thread = x; target = y; site = z }
-has_names Fork a b c number t x y z = record { thread = x; target = y; site = z }
-has_names Join a b c number t x y z = record { thread = x; target = y; site = z }
+has_names (One words.Load) a b c number t x y z = record { thread = x; target = y; site = z }
+has_names (One words.Store) a b c number t x y z = record { thread = x; target = y; site = z }
+has_names (One words.Acquire) a b c number t x y z = record { thread = x; target = y; site = z }
+has_names (One words.Release) a b c number t x y z = record { thread = x; target = y; site = z }
+has_names (One words.Fork) a b c number t x y z = record { thread = x; target = y; site = z }
+has_names (One words.Join) a b c number t x y z = record { thread = x; target = y; site = z }
 has_names Swap a b c number t x y z = record { thread = x; target = y; site = z }
 
 thread_of_act : (w : Word) (a b c number n : ℕ)
     → (thread_of (record { act = act_of w a b c number; line = n })).0 ≡ a
-thread_of_act Load a b c number n = refl
-thread_of_act Store a b c number n = refl
-thread_of_act Acquire a b c number n = refl
-thread_of_act Release a b c number n = refl
-thread_of_act Fork a b c number n = refl
-thread_of_act Join a b c number n = refl
+thread_of_act (One w) a b c number n = refl
 thread_of_act Swap a b c number n = refl
 
 new_is_first : (b : Bool) (s u : Numbered) (i : ℕ)

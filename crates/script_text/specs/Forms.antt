@@ -19,14 +19,17 @@ use Rattle.std.specs.Prelude.{
   Ok,
   Err,
   nat_lt,
+  option_map,
   if◌then◌else◌,
 }
 use Rattle.std.specs.Str.{bytes_eq}
 use Rattle.rapid_line.specs.Cut.{has, cut}
 use Rattle.rapid_line.specs.Grammar.{IsName}
+use Rattle.rapid_line.specs.Reading.{word_of as trace_word}
+use Rattle.rapid_line.specs.declared.words.Word.TheVariants as words
 use Rattle.script_text.specs.Numbers.{number_of}
 use Rattle.script_text.specs.declared.forms.Word.{Word}
-use Rattle.script_text.specs.declared.forms.Word.TheVariants.{Load, Store, Acquire, Release, Fork, Join, Swap}
+use Rattle.script_text.specs.declared.forms.Word.TheVariants.{One, Swap}
 use Rattle.script_text.specs.declared.forms.NamedAct.{NamedAct}
 use Rattle.script_text.specs.declared.causes.ScriptCause.{ScriptCause}
 use Rattle.script_text.specs.declared.causes.ScriptCause.TheVariants.{LineTooLong, BadLine, BadNumber}
@@ -39,35 +42,16 @@ pub record Named : Type 0 where
   pub argument : List ℕ
   pub number : ℕ
 
--- r, w, acq, rel, fork, join, swap
-abbrev pub spelling : Word → List ℕ
-spelling Load = 114 ∷ []
-spelling Store = 119 ∷ []
-spelling Acquire = 97 ∷ 99 ∷ 113 ∷ []
-spelling Release = 114 ∷ 101 ∷ 108 ∷ []
-spelling Fork = 102 ∷ 111 ∷ 114 ∷ 107 ∷ []
-spelling Join = 106 ∷ 111 ∷ 105 ∷ 110 ∷ []
-spelling Swap = 115 ∷ 119 ∷ 97 ∷ 112 ∷ []
-
--- the word that is spelled so
+-- the word that is spelled so: swap, or a word of a trace
 unfoldable pub word_of : List ℕ → Option Word
 word_of bytes =
-    if bytes_eq bytes (spelling Load) then Some Load
-    else (if bytes_eq bytes (spelling Store) then Some Store
-    else (if bytes_eq bytes (spelling Acquire) then Some Acquire
-    else (if bytes_eq bytes (spelling Release) then Some Release
-    else (if bytes_eq bytes (spelling Fork) then Some Fork
-    else (if bytes_eq bytes (spelling Join) then Some Join
-    else (if bytes_eq bytes (spelling Swap) then Some Swap else None))))))
+    if bytes_eq bytes (115 ∷ 119 ∷ 97 ∷ 112 ∷ []) then Some Swap
+    else option_map (λ w. One w) (trace_word bytes)
 
 -- a number stands after the argument
 abbrev pub takes_number : Word → Bool
-takes_number Load = false
-takes_number Store = true
-takes_number Acquire = false
-takes_number Release = false
-takes_number Fork = false
-takes_number Join = false
+takes_number (One words.Store) = true
+takes_number (One w) = false
 takes_number Swap = true
 
 -- a name is 1 to 255 bytes, any but blank, |, LF and CR
@@ -125,11 +109,6 @@ line_of bytes =
 abbrev pub named_of : NamedAct → Named
 named_of line =
     record { thread = line.thread.now; word = line.word; argument = line.argument.now; number = line.number }
-
--- the answer is what was read, seen so
-abbrev pub Gives : {X Y : Type 0} → (X → Y) → Result X ScriptCause → Result Y ScriptCause → Type 0
-Gives view (Ok x) read = read ≡ Ok (view x)
-Gives view (Err e) read = read ≡ Err e
 
 -- the cause is the one that was read, unless memory ran out
 abbrev pub Fails : {Y : Type 0} → ScriptCause → Result Y ScriptCause → Type 0

@@ -36,13 +36,13 @@ use Rattle.rapid_text.specs.declared.causes.Kind.{Kind}
 use Rattle.rapid_text.specs.declared.causes.Kind.TheVariants as kinds
 use Rattle.rapid_text.specs.Tables.{Tables, no_names, number_in}
 use Rattle.rapid_line.specs.Cut.{content}
-use Rattle.rapid_text.specs.Events.{HasNames}
+use Rattle.rapid_text.specs.Events.{HasNames, op_of, kind_of as trace_kind}
 use Rattle.rapid_line.specs.Lines.{lines_of}
 use Rattle.script_text.specs.declared.causes.ScriptCause.{ScriptCause}
 use Rattle.script_text.specs.declared.causes.ScriptCause.TheVariants.{TooManyNames, BadFork, BadJoin}
 use Rattle.script_text.specs.declared.causes.ScriptFault.{ScriptFault}
 use Rattle.script_text.specs.declared.forms.Word.{Word}
-use Rattle.script_text.specs.declared.forms.Word.TheVariants.{Load, Store, Acquire, Release, Fork, Join, Swap}
+use Rattle.script_text.specs.declared.forms.Word.TheVariants.{One, Swap}
 use Rattle.script_text.specs.declared.lines.ScriptLine.{ScriptLine}
 use Rattle.script_text.specs.Forms.{Named, line_of, unless}
 use Rattle.script_text.specs.Lines.{thread_of, fork_of, join_of, forks, joins, is_of}
@@ -60,12 +60,7 @@ begun limits = record { names = no_names limits; lines = [] }
 
 -- what the argument of a word names
 abbrev pub kind_of : Word → Kind
-kind_of Load = kinds.Variable
-kind_of Store = kinds.Variable
-kind_of Acquire = kinds.Lock
-kind_of Release = kinds.Lock
-kind_of Fork = kinds.Thread
-kind_of Join = kinds.Thread
+kind_of (One w) = trace_kind w
 kind_of Swap = kinds.Variable
 
 abbrev pub call_act : Op → ℕ → ℕ → ℕ → Act
@@ -74,12 +69,7 @@ call_act op thread site number =
 
 -- what a word asks a thread to do with the thing of this number, at this site and with this argument
 abbrev pub act_of : Word → ℕ → ℕ → ℕ → ℕ → Act
-act_of Load thread n site number = call_act (ops.Load (record { 0 = n })) thread site number
-act_of Store thread n site number = call_act (ops.Store (record { 0 = n })) thread site number
-act_of Acquire thread n site number = call_act (ops.Acquire (record { 0 = n })) thread site number
-act_of Release thread n site number = call_act (ops.Release (record { 0 = n })) thread site number
-act_of Fork thread n site number = call_act (ops.Fork (record { 0 = n })) thread site number
-act_of Join thread n site number = call_act (ops.Join (record { 0 = n })) thread site number
+act_of (One w) thread n site number = call_act (op_of w n) thread site number
 act_of Swap thread n site number =
     acts.Swap (record { 0 = thread }) (record { 0 = n }) (record { 0 = site }) number
 

@@ -12,16 +12,15 @@ use crate::forms::{NamedAct, Word, read_content};
 use crate::lines::ScriptLine;
 use crate::stored_lines::StoredLine;
 use event_core::ThreadId;
-use rapid_text::{Kind, NameFault, Names};
+use rapid_text::{Kind, NameFault, Names, kind_at};
 
 /// What the argument of a word names.
-fn kind_at(word: Word) -> Kind
+fn kind_of(word: Word) -> Kind
     ensures { result ≡ kind_of word }
 {
     match word {
-        Word::Load | Word::Store | Word::Swap => Kind::Variable,
-        Word::Acquire | Word::Release => Kind::Lock,
-        Word::Fork | Word::Join => Kind::Thread,
+        Word::One(word) => kind_at(word),
+        Word::Swap => Kind::Variable,
     }
 }
 
@@ -47,7 +46,7 @@ fn number_line(names: &mut Names, line: u64, said: &NamedAct<'_>) -> Result<Stor
 {
     let mut digits = itoa::Buffer::new();
     let thread = number_in_line(names, Kind::Thread, said.thread)?;
-    let target = number_in_line(names, kind_at(said.word), said.argument)?;
+    let target = number_in_line(names, kind_of(said.word), said.argument)?;
     let site = number_in_line(names, Kind::Site, digits.format(line).as_bytes())?;
     Ok(StoredLine {
         word: said.word,

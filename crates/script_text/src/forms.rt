@@ -2,7 +2,8 @@
 ghost use Rattle.std.specs.Prelude.{◌≡◌, IfOk, IfErr, IsTrue};
 ghost use Rattle.script_text.specs.Forms.{word_of, takes_number, is_name, line_of, plain, numbered};
 ghost use Rattle.rapid_line.specs.Grammar.{IsName};
-ghost use Rattle.script_text.specs.Forms.{form, Gives, named_of, AreNames, Fails};
+ghost use Rattle.rapid_line.specs.Reading.{Gives};
+ghost use Rattle.script_text.specs.Forms.{form, named_of, AreNames, Fails};
 
 use crate::causes::ScriptCause;
 use crate::numbers::number;
@@ -11,12 +12,8 @@ use rapid_line::{contains, cut_at};
 /// What a line asks for.
 #[derive(Clone, Copy, Debug, PartialEq, Eq)]
 pub enum Word {
-    Load,
-    Store,
-    Acquire,
-    Release,
-    Fork,
-    Join,
+    /// What a word of a trace says.
+    One(rapid_line::Word),
     Swap,
 }
 
@@ -33,28 +30,11 @@ pub struct NamedAct<'a> {
 fn word_at(bytes: &[u8]) -> Option<Word>
     ensures { result ≡ word_of bytes.now }
 {
-    if bytes == b"r".as_slice() {
-        return Some(Word::Load);
-    }
-    if bytes == b"w".as_slice() {
-        return Some(Word::Store);
-    }
-    if bytes == b"acq".as_slice() {
-        return Some(Word::Acquire);
-    }
-    if bytes == b"rel".as_slice() {
-        return Some(Word::Release);
-    }
-    if bytes == b"fork".as_slice() {
-        return Some(Word::Fork);
-    }
-    if bytes == b"join".as_slice() {
-        return Some(Word::Join);
-    }
     if bytes == b"swap".as_slice() {
         return Some(Word::Swap);
     }
-    None
+    let word = rapid_line::word_at(bytes)?;
+    Some(Word::One(word))
 }
 
 impl Word {
@@ -63,8 +43,8 @@ impl Word {
         ensures { result ≡ takes_number self }
     {
         match self {
-            Word::Store | Word::Swap => true,
-            Word::Load | Word::Acquire | Word::Release | Word::Fork | Word::Join => false,
+            Word::One(word) => word == rapid_line::Word::Store,
+            Word::Swap => true,
         }
     }
 }

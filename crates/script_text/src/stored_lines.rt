@@ -4,7 +4,8 @@ ghost use Rattle.script_text.specs.Scripts.{act_of};
 
 use crate::forms::Word;
 use crate::lines::ScriptLine;
-use event_core::{Act, Call, LockId, Op, SiteId, ThreadId, VarId};
+use event_core::{Act, Call, SiteId, ThreadId, VarId};
+use rapid_text::op_at;
 use std::marker::Model;
 use std::mem::size_of;
 
@@ -14,28 +15,20 @@ fn act_at(word: Word, thread: u32, target: u32, site: u32, arg: u64) -> Act
 {
     let thread = ThreadId(thread);
     let site = SiteId(site);
-    let op = match word {
-        Word::Load => Op::Load(VarId(target)),
-        Word::Store => Op::Store(VarId(target)),
-        Word::Acquire => Op::Acquire(LockId(target)),
-        Word::Release => Op::Release(LockId(target)),
-        Word::Fork => Op::Fork(ThreadId(target)),
-        Word::Join => Op::Join(ThreadId(target)),
-        Word::Swap => {
-            return Act::Swap {
-                thread,
-                var: VarId(target),
-                site,
-                arg,
-            };
-        }
-    };
-    Act::One(Call {
-        thread,
-        op,
-        site,
-        arg,
-    })
+    match word {
+        Word::One(word) => Act::One(Call {
+            thread,
+            op: op_at(word, target),
+            site,
+            arg,
+        }),
+        Word::Swap => Act::Swap {
+            thread,
+            var: VarId(target),
+            site,
+            arg,
+        },
+    }
 }
 
 /// A line as a script keeps it, with the word in place of what it asks for. Contracts see the line.
