@@ -47,17 +47,17 @@ word_of bytes =
     else (if bytes_eq bytes (spelling Join) then Some Join else None)))))
 
 -- goes on with a value, or answers the fault
-abbrev pub or_fault : {A B : Type 0} → LineFault → Option A → (A → Result B LineFault) → Result B LineFault
+abbrev pub or_fault : {A B E : Type 0} → E → Option A → (A → Result B E) → Result B E
 or_fault f None next = Err f
 or_fault f (Some x) next = next x
 
 -- goes on where the test is false, or answers the fault
-abbrev pub unless : {B : Type 0} → LineFault → Bool → Result B LineFault → Result B LineFault
+abbrev pub unless : {B E : Type 0} → E → Bool → Result B E → Result B E
 unless f true next = Err f
 unless f false next = next
 
 -- goes on with what was read, or answers its fault
-abbrev pub and_then : {A B : Type 0} → Result A LineFault → (A → Result B LineFault) → Result B LineFault
+abbrev pub and_then : {A B E : Type 0} → Result A E → (A → Result B E) → Result B E
 and_then (Err f) next = Err f
 and_then (Ok x) next = next x
 

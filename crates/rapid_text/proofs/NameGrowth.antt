@@ -14,6 +14,7 @@ use Rattle.event_core.specs.declared.events.Event.{Event}
 use Rattle.rapid_line.specs.declared.words.Word.{Word}
 use Rattle.rapid_line.specs.declared.words.Word.TheVariants as words
 use Rattle.rapid_line.specs.Grammar.{Named}
+use Rattle.rapid_line.proofs.Steps.{and_then_ok}
 use Rattle.rapid_text.specs.declared.causes.Kind.{Kind}
 use Rattle.rapid_text.specs.declared.causes.Kind.TheVariants as kinds
 use Rattle.rapid_text.specs.declared.causes.Cause.{Cause}
@@ -21,7 +22,7 @@ use Rattle.rapid_text.specs.declared.causes.NameFault.{NameFault}
 use Rattle.rapid_text.specs.declared.causes.NameFault.TheVariants.{TooMany, OutOfMemory}
 use Rattle.rapid_text.specs.Numbers.{Numbered, with_name, found_or, place_of, number_of, Grows}
 use Rattle.rapid_text.specs.Tables.{Tables, space, with_space, put_back, number_in, name_at, TablesGrow}
-use Rattle.rapid_text.specs.Events.{kind_of, op_of, event_of, number_or_fault, next, named_event}
+use Rattle.rapid_text.specs.Events.{kind_of, op_of, event_of, number_or_fault, named_event}
 use Rattle.rapid_text.specs.Events.{word_of_op, target_of, named_by, HasNames}
 use Rattle.rapid_text.proofs.NameLaws.{numbers, grows}
 use Rattle.event_core.proofs.Places.{get_before, get_last}
@@ -261,11 +262,6 @@ made t u d n₁ n₂ n₃ a b c g =
       grows = g;
     }
 
-next_ok : {A B : Type 0} (r : Result A Cause) (go : A → Result B Cause) (y : B) → next r go ≡ Ok y
-    → (x : A) × (r ≡ Ok x) × (go x ≡ Ok y)
-next_ok (Err f) go y e = absurd cc
-next_ok (Ok x) go y e = (x, refl, e)
-
 numbered_ok : (kind : Kind) (o : Option (ℕ × Tables)) (p : ℕ × Tables) → number_or_fault kind o ≡ Ok p
     → o ≡ Some p
 numbered_ok kind None p e = absurd cc
@@ -280,10 +276,10 @@ pub named_event_is : (t : Tables) (d : Named) (e : Event) (u : Tables) → named
     → Named_event t d e u
 unfolding named_event
 named_event_is t d e u eq =
-    let p = next_ok (number_or_fault kinds.Thread (number_in t kinds.Thread d.thread)) _ (e, u) eq in
-    let q = next_ok (number_or_fault (kind_of d.word) (number_in p.0.1 (kind_of d.word) d.argument)) _
+    let p = and_then_ok (number_or_fault kinds.Thread (number_in t kinds.Thread d.thread)) _ (e, u) eq in
+    let q = and_then_ok (number_or_fault (kind_of d.word) (number_in p.0.1 (kind_of d.word) d.argument)) _
     (e, u) p.2 in
-    let r = next_ok (number_or_fault kinds.Site (number_in q.0.1 kinds.Site d.location)) _ (e, u) q.2 in
+    let r = and_then_ok (number_or_fault kinds.Site (number_in q.0.1 kinds.Site d.location)) _ (e, u) q.2 in
     let a = gives t kinds.Thread d.thread p.0.0 p.0.1
     (numbered_ok kinds.Thread (number_in t kinds.Thread d.thread) p.0 p.1) in
     let b = gives p.0.1 (kind_of d.word) d.argument q.0.0 q.0.1

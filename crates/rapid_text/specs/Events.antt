@@ -27,7 +27,7 @@ use Rattle.rapid_text.specs.declared.causes.Cause.TheVariants as causes
 -- the content of a line: the line without the CR at its end
 pub use Rattle.rapid_line.specs.Cut.{content}
 use Rattle.rapid_line.specs.Grammar.{Named}
-use Rattle.rapid_line.specs.Reading.{line_of}
+use Rattle.rapid_line.specs.Reading.{line_of, and_then}
 use Rattle.rapid_text.specs.Tables.{Tables, space, number_in, name_at}
 
 -- what the argument of a word names
@@ -58,16 +58,12 @@ abbrev pub number_or_fault : Kind → Option (ℕ × Tables) → Result (ℕ × 
 number_or_fault kind None = Err (causes.TooManyNames kind)
 number_or_fault kind (Some p) = Ok p
 
-abbrev pub next : {A B : Type 0} → Result A Cause → (A → Result B Cause) → Result B Cause
-next (Err f) go = Err f
-next (Ok x) go = go x
-
 -- the event of a named event, its names numbered in the order thread, argument, location
 unfoldable pub named_event : Tables → Named → Result (Event × Tables) Cause
 named_event t e =
-    next (number_or_fault kinds.Thread (number_in t kinds.Thread e.thread)) (λ p.
-    next (number_or_fault (kind_of e.word) (number_in p.1 (kind_of e.word) e.argument)) (λ q.
-    next (number_or_fault kinds.Site (number_in q.1 kinds.Site e.location)) (λ r.
+    and_then (number_or_fault kinds.Thread (number_in t kinds.Thread e.thread)) (λ p.
+    and_then (number_or_fault (kind_of e.word) (number_in p.1 (kind_of e.word) e.argument)) (λ q.
+    and_then (number_or_fault kinds.Site (number_in q.1 kinds.Site e.location)) (λ r.
     Ok (event_of e.word p.0 q.0 r.0, r.1))))
 
 abbrev pub some_event : Result (Event × Tables) Cause → Result (Option Event × Tables) Cause

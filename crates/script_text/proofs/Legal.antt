@@ -45,6 +45,8 @@ use Rattle.rapid_text.specs.declared.causes.Kind.TheVariants as kinds
 use Rattle.rapid_text.specs.Numbers.{Numbered, number_of, with_name}
 use Rattle.rapid_text.specs.Tables.{Tables, TablesGrow, number_in, space, put_back}
 use Rattle.rapid_line.specs.Cut.{content}
+use Rattle.rapid_line.specs.Reading.{and_then, unless}
+use Rattle.rapid_line.proofs.Steps.{and_then_ok, unless_ok}
 use Rattle.rapid_text.specs.Events.{HasNames}
 use Rattle.rapid_text.proofs.NameGrowth.{gives, TablesGrow-refl, TablesGrow-trans, HasNames-kept}
 use Rattle.script_text.specs.declared.causes.ScriptCause.{ScriptCause}
@@ -54,10 +56,10 @@ use Rattle.script_text.specs.declared.lines.ScriptLine.{ScriptLine}
 use Rattle.script_text.specs.declared.forms.Word.{Word}
 use Rattle.script_text.specs.declared.forms.Word.TheVariants.{One, Swap}
 use Rattle.rapid_line.specs.declared.words.Word.TheVariants as words
-use Rattle.script_text.specs.Forms.{Named, line_of, unless}
+use Rattle.script_text.specs.Forms.{Named, line_of}
 use Rattle.script_text.specs.Lines.{thread_of, fork_of, join_of, forks, joins, is_thread}
 use Rattle.script_text.specs.Scripts.{Parsed, AreLegal, IsDraft, judge, next_line, after_content, with_line}
-use Rattle.script_text.specs.Scripts.{and_then, number_or_cause, numbered_line, is_bad_fork, is_bad_join}
+use Rattle.script_text.specs.Scripts.{number_or_cause, numbered_line, is_bad_fork, is_bad_join}
 use Rattle.script_text.specs.Scripts.{act_event, act_of, kind_of, begun}
 
 -- ---- what an Ok says
@@ -68,17 +70,6 @@ ok_or x (Err e) = x
 
 ok_same : {A E : Type 0} (x y : A) → (let r : Result A E = Ok x in r) ≡ Ok y → x ≡ y
 ok_same x y e = ap (ok_or x) e
-
-and_then_ok : {A B : Type 0} (r : Result A ScriptCause) (next : A → Result B ScriptCause) (y : B)
-    → and_then r next ≡ Ok y → (x : A) × (r ≡ Ok x) × (next x ≡ Ok y)
-and_then_ok (Err cause) next y e = absurd cc
-and_then_ok (Ok x) next y e = (x, refl, e)
-
-unless_ok : {B : Type 0} (cause : ScriptCause) (b : Bool) (r : Result B ScriptCause) (y : B)
-    → unless cause b r ≡ Ok y
-    → (b ≡ false) × (r ≡ Ok y)
-unless_ok cause true r y e = absurd cc
-unless_ok cause false r y e = (refl, e)
 
 number_ok : (o : Option (ℕ × Tables)) (p : ℕ × Tables) → number_or_cause o ≡ Ok p → o ≡ Some p
 number_ok None p e = absurd cc

@@ -14,7 +14,6 @@ use Rattle.std.specs.Prelude.{
   length,
   Option,
   Some,
-  None,
   Result,
   Ok,
   Err,
@@ -25,7 +24,7 @@ use Rattle.std.specs.Prelude.{
 use Rattle.std.specs.Str.{bytes_eq}
 use Rattle.rapid_line.specs.Cut.{has, cut}
 use Rattle.rapid_line.specs.Grammar.{IsName}
-use Rattle.rapid_line.specs.Reading.{word_of as trace_word}
+use Rattle.rapid_line.specs.Reading.{or_fault, unless, word_of as trace_word}
 use Rattle.rapid_line.specs.declared.words.Word.TheVariants as words
 use Rattle.script_text.specs.Numbers.{number_of}
 use Rattle.script_text.specs.declared.forms.Word.{Word}
@@ -65,17 +64,6 @@ pub record AreNames (said : Named) : Type 0 where
   pub thread : IsName said.thread
   pub argument : IsName said.argument
 
--- goes on with a value, or answers the cause
-abbrev pub or_cause : {A B : Type 0} → ScriptCause → Option A → (A → Result B ScriptCause)
-    → Result B ScriptCause
-or_cause cause None next = Err cause
-or_cause cause (Some x) next = next x
-
--- goes on where the test is false, or answers the cause
-abbrev pub unless : {B : Type 0} → ScriptCause → Bool → Result B ScriptCause → Result B ScriptCause
-unless cause true next = Err cause
-unless cause false next = next
-
 -- thread word argument
 abbrev pub plain : List ℕ → Word → List ℕ → Result Named ScriptCause
 plain thread w argument =
@@ -85,9 +73,9 @@ plain thread w argument =
 -- thread word argument number; the argument ends at the first blank, and no other follows
 abbrev pub numbered : List ℕ → Word → List ℕ → Result Named ScriptCause
 numbered thread w rest =
-    or_cause BadLine (cut 32 rest) (λ p.
+    or_fault BadLine (cut 32 rest) (λ p.
     unless BadLine (not (is_name thread) || not (is_name p.0) || has 32 p.1)
-    (or_cause BadNumber (number_of p.1) (λ n.
+    (or_fault BadNumber (number_of p.1) (λ n.
     Ok (record { thread = thread; word = w; argument = p.0; number = n }))))
 
 abbrev pub form : List ℕ → Word → List ℕ → Result Named ScriptCause
@@ -99,9 +87,9 @@ unfoldable pub line_of : List ℕ → Result Named ScriptCause
 line_of bytes =
     unless LineTooLong (nat_lt 1024 (length bytes))
     (unless BadLine (has 13 bytes)
-    (or_cause BadLine (cut 32 bytes) (λ p.
-    or_cause BadLine (cut 32 p.1) (λ q.
-    or_cause BadLine (word_of q.0) (λ w. form p.0 w q.1)))))
+    (or_fault BadLine (cut 32 bytes) (λ p.
+    or_fault BadLine (cut 32 p.1) (λ q.
+    or_fault BadLine (word_of q.0) (λ w. form p.0 w q.1)))))
 
 -- ---- what the code answers
 

@@ -38,13 +38,14 @@ use Rattle.rapid_text.specs.Tables.{Tables, no_names, number_in}
 use Rattle.rapid_line.specs.Cut.{content}
 use Rattle.rapid_text.specs.Events.{HasNames, op_of, kind_of as trace_kind}
 use Rattle.rapid_line.specs.Lines.{lines_of}
+use Rattle.rapid_line.specs.Reading.{and_then, unless}
 use Rattle.script_text.specs.declared.causes.ScriptCause.{ScriptCause}
 use Rattle.script_text.specs.declared.causes.ScriptCause.TheVariants.{TooManyNames, BadFork, BadJoin}
 use Rattle.script_text.specs.declared.causes.ScriptFault.{ScriptFault}
 use Rattle.script_text.specs.declared.forms.Word.{Word}
 use Rattle.script_text.specs.declared.forms.Word.TheVariants.{One, Swap}
 use Rattle.script_text.specs.declared.lines.ScriptLine.{ScriptLine}
-use Rattle.script_text.specs.Forms.{Named, line_of, unless}
+use Rattle.script_text.specs.Forms.{Named, line_of}
 use Rattle.script_text.specs.Lines.{thread_of, fork_of, join_of, forks, joins, is_of}
 
 -- what was read of a script: its names, and its lines in their order
@@ -72,12 +73,6 @@ abbrev pub act_of : Word → ℕ → ℕ → ℕ → ℕ → Act
 act_of (One w) thread n site number = call_act (op_of w n) thread site number
 act_of Swap thread n site number =
     acts.Swap (record { 0 = thread }) (record { 0 = n }) (record { 0 = site }) number
-
--- goes on with a value, or answers its cause
-abbrev pub and_then : {A B : Type 0} → Result A ScriptCause → (A → Result B ScriptCause)
-    → Result B ScriptCause
-and_then (Err cause) next = Err cause
-and_then (Ok x) next = next x
 
 -- the number of a name, or that there are too many of its kind
 abbrev pub number_or_cause : Option (ℕ × Tables) → Result (ℕ × Tables) ScriptCause

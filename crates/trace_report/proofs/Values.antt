@@ -5,10 +5,11 @@ use Rattle.event_core.specs.declared.events.Event.{Event}
 use Rattle.rapid_line.specs.declared.words.LineFault.{LineFault}
 use Rattle.rapid_line.specs.Grammar.{Named}
 use Rattle.rapid_line.specs.Reading.{line_of}
+use Rattle.rapid_line.proofs.Steps.{and_then_ok}
 use Rattle.rapid_text.specs.declared.causes.Cause.{Cause}
 use Rattle.rapid_text.specs.declared.causes.Kind.TheVariants as kinds
 use Rattle.rapid_text.specs.Tables.{Tables, number_in}
-use Rattle.rapid_text.specs.Events.{next, named_event, reading, event_or, some_event}
+use Rattle.rapid_text.specs.Events.{named_event, reading, event_or, some_event}
 use Rattle.rapid_text.specs.Events.{number_or_fault, kind_of, content}
 use Rattle.rapid_text.specs.Texts.{Judgement, judge, after_line, with_event}
 use Rattle.trace_report.specs.Findings.{log_of}
@@ -18,12 +19,6 @@ abbrev pub StoreNothing : List Event → Type 0
 StoreNothing [] = Unit {0}
 StoreNothing (e ∷ es) = (e.value ≡ 0) × StoreNothing es
 
--- a step that goes on with a value did so with some value
-went_on : {A B : Type 0} (r : Result A Cause) (go : A → Result B Cause) (x : B) → next r go ≡ Ok x
-    → (a : A) × (go a ≡ Ok x)
-went_on (Ok a) go x e = (a, e)
-went_on (Err f) go x e = absurd (cc)
-
 -- the value of the event that was read
 abbrev value_in : Result (Event × Tables) Cause → ℕ
 value_in (Ok p) = p.0.value
@@ -32,11 +27,11 @@ value_in (Err f) = 0
 named_stores_nothing : (t : Tables) (n : Named) (p : Event × Tables) → named_event t n ≡ Ok p → p.0.value ≡ 0
 unfolding named_event
 named_stores_nothing t n p e =
-    let a = went_on (number_or_fault kinds.Thread (number_in t kinds.Thread n.thread)) _ p e in
+    let a = and_then_ok (number_or_fault kinds.Thread (number_in t kinds.Thread n.thread)) _ p e in
     let argument = number_in a.0.1 (kind_of n.word) n.argument in
-    let b = went_on (number_or_fault (kind_of n.word) argument) _ p a.1 in
-    let c = went_on (number_or_fault kinds.Site (number_in b.0.1 kinds.Site n.location)) _ p b.1 in
-    sym (ap value_in c.1)
+    let b = and_then_ok (number_or_fault (kind_of n.word) argument) _ p a.2 in
+    let c = and_then_ok (number_or_fault kinds.Site (number_in b.0.1 kinds.Site n.location)) _ p b.2 in
+    sym (ap value_in c.2)
 
 -- no event, or one of value 0
 abbrev IsNothing : Option Event → Type 0
