@@ -13,7 +13,7 @@ use Rattle.script_text.specs.Lines.{fork_of, join_of, joins as line_joins}
 use Rattle.script_drive.specs.Lines.{unread, asked_by, Follows, lines_by}
 
 -- the first pass of a thread
-pub record Newborn (t : ThreadId) (p : PassView) : Type 0 where
+pub record IsFirst (t : ThreadId) (p : PassView) : Type 0 where
   pub thread : p.thread ≡ t
   pub none_due : p.due ≡ None
   pub no_step : p.mine ≡ []

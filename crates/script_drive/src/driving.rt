@@ -46,10 +46,10 @@ fn work<S: Text, G: Gate, R: Wait>(
             thread: _,
             mut links,
         },
-        birth,
+        start,
         end,
     } = worker;
-    let pass = birth.receiver.receive(drive.rt)?;
+    let pass = start.receiver.receive(drive.rt)?;
     let ended = run_lines(drive, pass, &mut links);
     drop(links);
     match (ended, end) {
@@ -79,7 +79,7 @@ fn start_workers<'s, 'e, S: Text + Send + Sync, G: Gate + Sync, R: Threads + Wai
 {
     let mut started = Vec::new(alloc);
     for worker in workers {
-        let line = worker.birth.line;
+        let line = worker.start.line;
         let Ok(handle) = scope.spawn(move || work(drive, worker)) else {
             return Err(DriveFault::NoWorker { line });
         };
@@ -90,7 +90,7 @@ fn start_workers<'s, 'e, S: Text + Send + Sync, G: Gate + Sync, R: Threads + Wai
     Ok(started)
 }
 
-// The faults of the workers, once all have ended.
+// The faults of the workers, once all have ended. No clause tells that none is left out.
 fn own_faults<S: Text, R: Threads>(
     rt: &R,
     alloc: Global,

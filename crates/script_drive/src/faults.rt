@@ -126,7 +126,7 @@ impl Halt {
             (Halt::Fault(own), Some(other)) => own.or_earlier(other),
             (Halt::Fault(own), None) => own,
             (Halt::Abandoned(_), Some(other)) => other,
-            // A worker is abandoned by one that has a fault, so this is not reached.
+            // A worker is abandoned by one that has a fault, so this does not occur. No clause tells so.
             (Halt::Abandoned(line), None) => DriveFault::stuck(&line),
         }
     }

@@ -11,7 +11,7 @@ ghost use Rattle.script_drive.specs.Workers.{AreSettled, Does, Done, Serves};
 use crate::faults::{DriveFault, Halt};
 use crate::gate::Gate;
 use crate::links::Links;
-use crate::text::{Ends, Text};
+use crate::text::{LastPasses, Text};
 use crossbeam_utils::Backoff;
 use event_core::{Act, Op, Refusal};
 use live_monitor::{Shared, Tries};
@@ -45,7 +45,7 @@ fn ended_wait(error: TryRecvError, line: &ScriptLine) -> Halt
 // Waits for the pass of the thread that the line joins, as long as patience allows.
 fn await_end<S: Text, R: Wait>(
     rt: &R,
-    receiver: PassReceiver<S, Ends<S>>,
+    receiver: PassReceiver<S, LastPasses<S>>,
     line: &ScriptLine,
     patience: u32,
 ) -> Result<Pass<S>, Halt>
@@ -108,18 +108,18 @@ fn make_call<S: Text, R: Wait>(
             }
             Op::Release(lock) => answered(line, shared.release(rt, pass, lock, call.site)),
             Op::Fork(_) => {
-                let birth = links.next_birth();
-                match shared.fork(rt, pass, birth.to, call.site) {
+                let sender = links.next_fork();
+                match shared.fork(rt, pass, sender.to, call.site) {
                     (pass, Ok((child, _))) => {
-                        birth.send(rt, child);
+                        sender.send(rt, child);
                         Ok(pass)
                     }
                     (_, Err(refusal)) => Err(Halt::Fault(DriveFault::refused(line, refusal))),
                 }
             }
             Op::Join(_) => {
-                let end = links.next_end();
-                let child = await_end(rt, end, line, patience)?;
+                let receiver = links.next_join();
+                let child = await_end(rt, receiver, line, patience)?;
                 match shared.join(rt, pass, child, call.site) {
                     (pass, Ok(_)) => Ok(pass),
                     (_, Err((refusal, _))) => {

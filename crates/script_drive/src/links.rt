@@ -1,7 +1,7 @@
 //! The ends of channels by which a worker reaches the threads that it forks and joins.
 ghost use Rattle.std.specs.Prelude.{◌≡◌, ◌<◌, ◌∷◌, ◌++◌, [], length, OnErr, OnOk};
 
-use crate::text::{Births, Ends, Text};
+use crate::text::{FirstPasses, LastPasses, Text};
 use event_core::ThreadId;
 use log_pass::Name;
 use pass_channel::{PassReceiver, PassSender};
@@ -10,14 +10,14 @@ use std::marker::Model;
 
 /// A worker's ends, in the order of its lines. Contracts see whom it is still to fork, and whom to join.
 pub(crate) struct Links<S: Text> {
-    births: Vec<PassSender<S, Births>>,
-    ends: Vec<PassReceiver<S, Ends<S>>>,
+    forks: Vec<PassSender<S, FirstPasses>>,
+    joins: Vec<PassReceiver<S, LastPasses<S>>>,
 }
 
 // By hand, so that each function that drops one does not drop both queues.
 impl<S: Text> Drop for Links<S> {
     fn drop(self) {
-        let Links { births: _, ends: _ } = self;
+        let Links { forks: _, joins: _ } = self;
     }
 }
 
@@ -28,8 +28,8 @@ impl<S: Text> Model for Links<S> {
     ghost Value = { Reach };
 
     ghost view = { λ k. record {
-      forks = map (λ sender. sender.to) k.births.items;
-      joins = map (λ receiver. receiver.to) k.ends.items;
+      forks = map (λ sender. sender.to) k.forks.items;
+      joins = map (λ receiver. receiver.to) k.joins.items;
     } };
 }
 
@@ -39,44 +39,47 @@ impl<S: Text> Links<S> {
         ensures joins { result.joins ≡ [] }
     {
         Links {
-            births: Vec::new(alloc),
-            ends: Vec::new(alloc),
+            forks: Vec::new(alloc),
+            joins: Vec::new(alloc),
         }
     }
 
     /// Adds the end for one more thread that is forked.
-    pub(crate) fn add_birth(&mut self, birth: PassSender<S, Births>) -> Result<(), AllocError>
-        ensures forks { OnOk result (self.new.forks ≡ self.old.forks ++ birth.to ∷ []) }
+    pub(crate) fn add_fork(&mut self, sender: PassSender<S, FirstPasses>) -> Result<(), AllocError>
+        ensures forks { OnOk result (self.new.forks ≡ self.old.forks ++ sender.to ∷ []) }
         ensures joins { self.new.joins ≡ self.old.joins }
     {
-        self.births.push(birth)?;
+        self.forks.push(sender)?;
         Ok(())
     }
 
     /// Adds the end for one more thread that is joined.
-    pub(crate) fn add_end(&mut self, end: PassReceiver<S, Ends<S>>) -> Result<(), AllocError>
+    pub(crate) fn add_join(
+        &mut self,
+        receiver: PassReceiver<S, LastPasses<S>>,
+    ) -> Result<(), AllocError>
         ensures forks { self.new.forks ≡ self.old.forks }
-        ensures joins { OnOk result (self.new.joins ≡ self.old.joins ++ end.to ∷ []) }
+        ensures joins { OnOk result (self.new.joins ≡ self.old.joins ++ receiver.to ∷ []) }
     {
-        self.ends.push(end)?;
+        self.joins.push(receiver)?;
         Ok(())
     }
 
     /// Takes out the end for the thread that is forked next.
-    pub(crate) fn next_birth(&mut self) -> PassSender<S, Births>
+    pub(crate) fn next_fork(&mut self) -> PassSender<S, FirstPasses>
         requires { 0 < length self.old.forks }
         ensures forks { self.old.forks ≡ result.to ∷ self.new.forks }
         ensures joins { self.new.joins ≡ self.old.joins }
     {
-        self.births.remove(0)
+        self.forks.remove(0)
     }
 
     /// Takes out the end for the thread that is joined next.
-    pub(crate) fn next_end(&mut self) -> PassReceiver<S, Ends<S>>
+    pub(crate) fn next_join(&mut self) -> PassReceiver<S, LastPasses<S>>
         requires { 0 < length self.old.joins }
         ensures forks { self.new.forks ≡ self.old.forks }
         ensures joins { self.old.joins ≡ result.to ∷ self.new.joins }
     {
-        self.ends.remove(0)
+        self.joins.remove(0)
     }
 }

@@ -17,20 +17,20 @@ impl Text for Brand {
 }
 
 /// The first pass of a thread, which its fork gives.
-pub(crate) struct Births;
+pub(crate) struct FirstPasses;
 
-impl Terms for Births {
-    ghost use Rattle.script_drive.specs.Workers.{Newborn};
+impl Terms for FirstPasses {
+    ghost use Rattle.script_drive.specs.Workers.{IsFirst};
 
-    ghost good = { Newborn };
+    ghost good = { IsFirst };
 }
 
 /// The last pass of a thread, which has made the calls of its lines.
-pub(crate) struct Ends<S: Text> {
+pub(crate) struct LastPasses<S: Text> {
     text: PhantomData<S>,
 }
 
-impl<S: Text> Terms for Ends<S> {
+impl<S: Text> Terms for LastPasses<S> {
     ghost use Rattle.script_drive.specs.Workers.{Done};
 
     ghost good = { Done S.script.lines };

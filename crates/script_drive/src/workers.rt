@@ -7,7 +7,7 @@ ghost use Rattle.script_drive.specs.Lines.{lines_by};
 ghost use Rattle.script_drive.specs.Workers.{forked, joined, Serves};
 
 use crate::links::Links;
-use crate::text::{Births, Ends, Text};
+use crate::text::{FirstPasses, LastPasses, Text};
 use event_core::ThreadId;
 use log_pass::Name;
 use pass_channel::{PassReceiver, PassSender, pass_channel};
@@ -36,8 +36,8 @@ impl<S: Text> Model for OwnLinks<S> {
 
 /// Where a worker's first pass comes from, and the line of the script that forks its thread.
 #[derive(Drop)]
-pub(crate) struct Birth<S: Text> {
-    pub receiver: PassReceiver<S, Births>,
+pub(crate) struct Start<S: Text> {
+    pub receiver: PassReceiver<S, FirstPasses>,
     pub line: u64,
     ghost forks: { IsForkLine S.script.lines line },
 }
@@ -46,20 +46,20 @@ pub(crate) struct Birth<S: Text> {
 #[derive(Drop)]
 pub(crate) struct Worker<S: Text> {
     pub own: OwnLinks<S>,
-    pub birth: Birth<S>,
-    pub end: Option<PassSender<S, Ends<S>>>,
-    ghost begins: { birth.receiver.to ≡ own.thread },
+    pub start: Start<S>,
+    pub end: Option<PassSender<S, LastPasses<S>>>,
+    ghost begins: { start.receiver.to ≡ own.thread },
     ghost ends: { ForSome end (λ sender. sender.to ≡ own.thread) },
 }
 
 // The ends of channels that no worker has yet.
 #[derive(Drop)]
-struct LooseEnds<S: Text> {
-    births: Vec<Birth<S>>,
-    ends: Vec<PassSender<S, Ends<S>>>,
+struct UnclaimedEnds<S: Text> {
+    starts: Vec<Start<S>>,
+    ends: Vec<PassSender<S, LastPasses<S>>>,
 }
 
-impl<S: Text> LooseEnds<S> {
+impl<S: Text> UnclaimedEnds<S> {
     // Makes the channel for the thread that the line forks, if it forks one.
     fn add_fork(
         &mut self,
@@ -72,9 +72,9 @@ impl<S: Text> LooseEnds<S> {
         ensures joins { links.new.joins ≡ links.old.joins }
     {
         if let Some(child) = line.fork() {
-            let (sender, receiver) = pass_channel::<S, Births>(alloc, child)?;
-            links.add_birth(sender)?;
-            self.births.push(Birth {
+            let (sender, receiver) = pass_channel::<S, FirstPasses>(alloc, child)?;
+            links.add_fork(sender)?;
+            self.starts.push(Start {
                 receiver,
                 line: line.line,
             })?;
@@ -93,8 +93,8 @@ impl<S: Text> LooseEnds<S> {
         ensures joins { OnOk result (links.new.joins ≡ links.old.joins ++ joined (line.now ∷ [])) }
     {
         if let Some(child) = line.join() {
-            let (sender, receiver) = pass_channel::<S, Ends<S>>(alloc, child)?;
-            links.add_end(receiver)?;
+            let (sender, receiver) = pass_channel::<S, LastPasses<S>>(alloc, child)?;
+            links.add_join(receiver)?;
             self.ends.push(sender)?;
         }
         Ok(())
@@ -122,18 +122,18 @@ impl<S: Text> LooseEnds<S> {
         Ok(links)
     }
 
-    fn take_birth(&mut self, thread: ThreadId) -> Option<Birth<S>>
-        ensures { IfSome result (λ birth. birth.receiver.to ≡ thread) }
+    fn take_start(&mut self, thread: ThreadId) -> Option<Start<S>>
+        ensures { IfSome result (λ start. start.receiver.to ≡ thread) }
     {
-        for at in 0..self.births.len() {
-            if self.births[at].receiver.to() == thread {
-                return Some(self.births.swap_remove(at));
+        for at in 0..self.starts.len() {
+            if self.starts[at].receiver.to() == thread {
+                return Some(self.starts.swap_remove(at));
             }
         }
         None
     }
 
-    fn take_end(&mut self, thread: ThreadId) -> Option<PassSender<S, Ends<S>>>
+    fn take_end(&mut self, thread: ThreadId) -> Option<PassSender<S, LastPasses<S>>>
         ensures { IfSome result (λ sender. sender.to ≡ thread) }
     {
         for at in 0..self.ends.len() {
@@ -144,8 +144,9 @@ impl<S: Text> LooseEnds<S> {
         None
     }
 
-    // A worker for each thread that has these links and that a line forks.
-    fn hand_out(
+    // A worker for each thread that has these links and that a line forks. No clause tells that none is left
+    // out.
+    fn make_workers(
         mut self,
         alloc: Global,
         others: Vec<OwnLinks<S>>,
@@ -153,8 +154,8 @@ impl<S: Text> LooseEnds<S> {
         let mut workers = Vec::new(alloc);
         for own in others {
             let end = self.take_end(own.thread);
-            if let Some(birth) = self.take_birth(own.thread) {
-                workers.push(Worker { own, birth, end })?;
+            if let Some(start) = self.take_start(own.thread) {
+                workers.push(Worker { own, start, end })?;
             }
         }
         Ok(workers)
@@ -165,20 +166,20 @@ impl<S: Text> LooseEnds<S> {
 fn other_links<S: Text>(
     alloc: Global,
     script: &Script,
-    loose: &mut LooseEnds<S>,
+    unclaimed: &mut UnclaimedEnds<S>,
 ) -> Result<Vec<OwnLinks<S>>, AllocError>
     requires script { script.now ≡ S.script }
 {
     let mut others = Vec::new(alloc);
     for number in 1..script.threads() {
         let thread = ThreadId(number);
-        let links = loose.connect(alloc, script, thread)?;
+        let links = unclaimed.connect(alloc, script, thread)?;
         others.push(OwnLinks { thread, links })?;
     }
     Ok(others)
 }
 
-/// Thread 0's links, and a worker for each other thread.
+/// Thread 0's links, and a worker for each other thread. No clause tells that no worker is left out.
 pub(crate) fn all_workers<S: Text>(
     alloc: Global,
     script: &Script,
@@ -186,12 +187,12 @@ pub(crate) fn all_workers<S: Text>(
     requires script { script.now ≡ S.script }
     ensures main { IfOk result (λ made. Serves made.0 (lines_by main S.script.lines)) }
 {
-    let mut loose = LooseEnds {
-        births: Vec::new(alloc),
+    let mut unclaimed = UnclaimedEnds {
+        starts: Vec::new(alloc),
         ends: Vec::new(alloc),
     };
-    let main_links = loose.connect(alloc, script, ThreadId(0))?;
-    let others = other_links(alloc, script, &mut loose)?;
-    let workers = loose.hand_out(alloc, others)?;
+    let main_links = unclaimed.connect(alloc, script, ThreadId(0))?;
+    let others = other_links(alloc, script, &mut unclaimed)?;
+    let workers = unclaimed.make_workers(alloc, others)?;
     Ok((main_links, workers))
 }

@@ -12,9 +12,10 @@ returns-in_default-Ok-join-clause-does g c =
     let line = c.args.line.now in
     let u = c.in-Join.field-0 in
     let child = c.in_ok-child-in-Join.child in
-    let is : c.next_end-end.result.to ≡ u
-    = next_joined line c.in-One.call u c.next_end-end.result.to c.args.links.now c.next_end-end.new.self
-    c.in-One.is c.in-Join.is c.requires.serves.0 c.requires.serves.1 c.next_end-end.ensures.joins in
+    let is : c.next_join-receiver.result.to ≡ u
+    = next_joined line c.in-One.call u c.next_join-receiver.result.to c.args.links.now
+    c.next_join-receiver.new.self
+    c.in-One.is c.in-Join.is c.requires.serves.0 c.requires.serves.1 c.next_join-receiver.ensures.joins in
     let done : Done g.S.Text.script.lines u child
     = subst (λ t. Done g.S.Text.script.lines t child) is c.in_ok-child-in-Join.ensures.done in
     join_does g.S.Name.limits g.S.Text.script.lines line c.in-One.call c.args.pass c.join.result.0 child
@@ -57,10 +58,10 @@ pub returns-in_default-Err-clause-halt : goal.returns-in_default-Err-clause-halt
 returns-in_default-Err-clause-halt g c =
     let line = c.args.line.now in
     let u = c.in-Fork.field-0 in
-    let to = c.next_birth-birth.result.to in
+    let to = c.next_fork-sender.result.to in
     let is : to ≡ u
-    = next_forked line c.in-One.call u to c.args.links.now c.next_birth-birth.new.self c.in-One.is
-    c.in-Fork.is c.requires.serves.0 c.requires.serves.1 c.next_birth-birth.ensures.forks in
+    = next_forked line c.in-One.call u to c.args.links.now c.next_fork-sender.new.self c.in-One.is
+    c.in-Fork.is c.requires.serves.0 c.requires.serves.1 c.next_fork-sender.ensures.forks in
     subst (IsFaultOf g.S.Name.limits g.S.Text.script.lines) (sym c.refused.ensures)
     (call_fits g.S.Name.limits g.S.Text.script.lines line c.in-One.call (Fork to) c.in-One.call.site 0
     c.args.pass c.fork.result.0 c.in_default-Err.refusal c.in-One.is (c.in-Fork.is ∙ ap Fork (sym is))
@@ -72,9 +73,10 @@ returns-in_default-Err-join-clause-halt g c =
     let line = c.args.line.now in
     let u = c.in-Join.field-0 in
     let child = c.in_ok-child-in-Join.child in
-    let is : c.next_end-end.result.to ≡ u
-    = next_joined line c.in-One.call u c.next_end-end.result.to c.args.links.now c.next_end-end.new.self
-    c.in-One.is c.in-Join.is c.requires.serves.0 c.requires.serves.1 c.next_end-end.ensures.joins in
+    let is : c.next_join-receiver.result.to ≡ u
+    = next_joined line c.in-One.call u c.next_join-receiver.result.to c.args.links.now
+    c.next_join-receiver.new.self
+    c.in-One.is c.in-Join.is c.requires.serves.0 c.requires.serves.1 c.next_join-receiver.ensures.joins in
     subst (IsFaultOf g.S.Name.limits g.S.Text.script.lines) (sym c.refused-in_default-Err-join.ensures)
     (call_fits g.S.Name.limits g.S.Text.script.lines line c.in-One.call (Join child.thread)
     c.in-One.call.site 0 c.args.pass c.join.result.0 c.in_default-Err-join.refusal c.in-One.is

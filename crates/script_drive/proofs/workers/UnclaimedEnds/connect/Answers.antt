@@ -1,7 +1,7 @@
 use Rattle.std.proofs.Common.{rules, sym, subst}
 use Rattle.script_drive.specs.Workers.{Serves}
 use Rattle.script_drive.proofs.Progress.{other_taken, served_more}
-use Rattle.script_drive.proofs.workers.LooseEnds.connect.Goals as goal
+use Rattle.script_drive.proofs.workers.UnclaimedEnds.connect.Goals as goal
 
 pub loop-line-preserved : goal.loop-line-preserved
 loop-line-preserved g c =
