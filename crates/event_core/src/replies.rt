@@ -31,8 +31,8 @@ pub struct SwapReply {
     pub store: Verdict,
 }
 
-/// Why a call is refused. Each reason has a number, which its words begin with; they are looked at in that
-/// order.
+/// Why a call is refused. Each reason has a number, which its comment begins with; they are looked at in
+/// that order.
 #[derive(Clone, Copy, Debug, PartialEq, Eq, Error)]
 pub enum Refusal {
     /// 1: the caller's number is not below the limit of threads.

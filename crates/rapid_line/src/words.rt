@@ -30,8 +30,8 @@ impl Word {
     }
 }
 
-/// Why a content has no named event. Each cause has a number, which its words begin with. Of several, the
-/// first in this order is answered.
+/// Why a content has no named event. Each cause has a number, which its comment begins with. Of several,
+/// the first in this order is answered.
 #[derive(Clone, Copy, Debug, PartialEq, Eq)]
 pub enum LineFault {
     /// 1: the content has more than 1,024 bytes.

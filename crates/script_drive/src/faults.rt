@@ -7,8 +7,8 @@ use event_core::{Refusal, ThreadId};
 use script_text::ScriptLine;
 use thiserror::Error;
 
-/// Why a script was not run to its end. Lines are numbered from 1. Each reason has a number, which its words
-/// begin with.
+/// Why a script was not run to its end. Lines are numbered from 1. Each reason has a number, which its
+/// comment begins with.
 #[derive(Clone, Copy, Debug, PartialEq, Eq, Error)]
 pub enum DriveFault {
     /// 1: the line was tried as often as patience allows: its gate did not admit it, another thread held the

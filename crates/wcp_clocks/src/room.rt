@@ -156,7 +156,7 @@ fn make_named_ready(parts: &mut Parts, thread: ThreadId, op: Op) -> bool
     }
 }
 
-// Whether there is room for a section on the lock. Room that takes no memory is made.
+// Whether there is room for a section on the lock. Room that takes no memory is made, which no clause tells.
 fn make_section_ready(parts: &mut Parts, thread: ThreadId, lock: LockId) -> bool
     ensures named { IsTrue result ↔ (HasLock parts.new.rows lock.0
         × IsTrue (has_room parts.new.queues thread.0 lock.0) × (0 < room_at parts.new.held thread.0)) }
