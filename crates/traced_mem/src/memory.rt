@@ -6,7 +6,7 @@ ghost use Rattle.event_core.specs.declared.ids.ThreadId.{ThreadId as Thread};
 ghost use Rattle.event_core.specs.Refusal.{value_of, event_of};
 ghost use Rattle.traced_mem.specs.Meaning.{nothing};
 ghost use Rattle.traced_mem.specs.After.{after, value_at, holds_after};
-ghost use Rattle.traced_mem.specs.Tables.{meaning, Allows, AllowsSwap};
+ghost use Rattle.traced_mem.specs.Tables.{meaning, Allows};
 ghost use Rattle.traced_mem.specs.Room.{IsReady, IsReadyToSwap, GrownFor, HoldsFit, takes_place};
 ghost use Rattle.traced_mem.specs.OfLog.{StandsFor};
 
@@ -89,13 +89,13 @@ impl Memory {
         })
     }
 
-    /// Makes room for a call that is allowed, or answers `OutOfMemory`. Nothing else changes, and each call
-    /// that was ready stays so. No clause bounds the memory that is reserved for cells.
+    /// Makes room for a call, or answers `OutOfMemory`. Nothing else changes, and each call that was ready
+    /// stays so. No clause bounds the memory that is reserved for cells.
     pub fn prepare(&mut self, call: &Call) -> Result<(), OutOfMemory>
-        requires { Allows self.old call.now.thread call.now.op }
         ensures same { meaning self.new ≡ meaning self.old }
         ensures limits { self.new.limits ≡ self.old.limits }
         ensures ready { OnOk result (IsReady self.new call.now.thread call.now.op) }
+        ensures again { IsReady self.old call.now.thread call.now.op → IsOk result }
         ensures kept { (u : Thread) (o : Operation) → IsReady self.old u o → IsReady self.new u o }
         ensures grown { GrownFor self.old self.new call.now.thread call.now.op }
         ensures stands { (log : List Event) → StandsFor self.old log → StandsFor self.new log }
@@ -103,13 +103,13 @@ impl Memory {
         self.make_room(call.thread, call.op)
     }
 
-    /// Makes room for both calls of a swap that is allowed, or answers `OutOfMemory`. Nothing else changes,
-    /// and each call that was ready stays so.
+    /// Makes room for both calls of a swap, or answers `OutOfMemory`. Nothing else changes, and each call
+    /// that was ready stays so.
     pub fn prepare_swap(&mut self, thread: ThreadId, var: VarId) -> Result<(), OutOfMemory>
-        requires { AllowsSwap self.old thread var }
         ensures same { meaning self.new ≡ meaning self.old }
         ensures limits { self.new.limits ≡ self.old.limits }
         ensures ready { OnOk result (IsReadyToSwap self.new thread var) }
+        ensures again { IsReadyToSwap self.old thread var → IsOk result }
         ensures kept { (u : Thread) (o : Operation) → IsReady self.old u o → IsReady self.new u o }
         ensures grown { GrownFor self.old self.new thread (Operation.Store var) }
         ensures stands { (log : List Event) → StandsFor self.old log → StandsFor self.new log }
@@ -121,9 +121,13 @@ impl Memory {
         ensures same { meaning self.new ≡ meaning self.old }
         ensures limits { self.new.limits ≡ self.old.limits }
         ensures ready { OnOk result (IsReady self.new thread op) }
+        ensures again { IsReady self.old thread op → IsOk result }
         ensures kept { (u : Thread) (o : Operation) → IsReady self.old u o → IsReady self.new u o }
         ensures grown { GrownFor self.old self.new thread op }
     {
+        if self.has_room(thread, op) {
+            return Ok(());
+        }
         grow(
             &mut self.threads,
             &mut self.locks,

@@ -84,7 +84,7 @@ impl Memory {
     }
 
     #[inline(always)]
-    fn has_room(&self, thread: ThreadId, op: Op) -> bool
+    pub(super) fn has_room(&self, thread: ThreadId, op: Op) -> bool
         ensures room { IsTrue result ↔ IsReady self.now thread op }
         ensures release { (lock : Lock) → op ≡ Operation.Release lock
             → Allows self.now thread op → IsTrue result }
