@@ -106,7 +106,7 @@ impl Memory {
         let at = thread.0 as usize;
         match self.limits.roots() {
             Roots::Free => at < self.threads.len() && self.threads[at].mentioned,
-            Roots::OnlyMain => at == 0 || (at < self.threads.len() && self.threads[at].forked),
+            Roots::OnlyMain => self.is_forked(thread),
         }
     }
 
