@@ -1,105 +1,95 @@
 -- The list of a thread's locks is what it is said to be.
-use Rattle.std.proofs.Common.{◌≡◌, ℕ, suc, zero, ◌+◌, ◌-◌, ◌<◌, ◌≤◌, Bool, true, false, cond, Some, None}
-use Rattle.std.proofs.Common.{List, [], ◌∷◌, ◌++◌, length, take, drop, nat_eq, ◌&&◌, count_by, slice_get, ap}
-use Rattle.std.proofs.Common.{ap₂, sym, refl, ◌∙◌, subst, ◌⊎◌, if◌then◌else◌, arith, get_or, take_all}
-use Rattle.std.proofs.Common.{take-append-drop}
-use Rattle.std.proofs.lemmas.Bool.{cases_eq, cases_lt, eqb-true, eq-eqb, and_from, cond-true, cond-false}
-use Rattle.std.proofs.lemmas.List.{length_push, take-append-le}
-use Rattle.std.proofs.lemmas.Option.{slice_get_within, slice_get_cases}
-use Rattle.std.proofs.Math.Seq.{take-length}
+use Rattle.std.proofs.Common.{◌≡◌, ℕ, suc, ◌+◌, ◌-◌, ◌<◌, ◌≤◌, Bool, true, false, List, [], ◌∷◌, ◌++◌, length}
+use Rattle.std.proofs.Common.{take, nat_eq, ◌&&◌, ap, sym, ◌∙◌, subst, ◌⊎◌, if◌then◌else◌, arith}
+use Rattle.std.proofs.Common.{refl, append-nil, append_assoc}
+use Rattle.std.proofs.lemmas.Bool.{eqb-true, eq-eqb, and_from}
+use Rattle.std.proofs.lemmas.Option.{slice_get_within}
 use mathlib.Core.Logic.{inl, inr}
 use Rattle.event_core.specs.declared.ids.ThreadId.{ThreadId}
 use Rattle.event_core.specs.declared.ids.LockId.{LockId}
+use Rattle.event_core.specs.declared.ids.VarId.{VarId}
 use Rattle.event_core.specs.declared.events.Event.{Event}
+use Rattle.event_core.specs.declared.events.Op.TheVariants.{Acquire, Release}
+use Rattle.event_core.specs.declared.events.AccessKind.{AccessKind}
+use Rattle.event_core.specs.declared.events.AccessKind.TheVariants.{Read, Write}
 use Rattle.event_core.specs.declared.bounds.Limits.{Limits}
-use Rattle.event_core.specs.Log.{depth, acquires, releases, OuterAcquire, op_acquires, op_releases}
-use Rattle.event_core.proofs.Depth.{count_snoc, lock_cases, same_lock_id, thread_cases, same_thread_id}
-use Rattle.event_core.proofs.Depth.{take_event}
-use Rattle.event_core.proofs.Stable.{longer}
-use Rattle.event_core.specs.declared.events.Op.{Op}
-use Rattle.event_core.specs.declared.events.Op.TheVariants.{Load, Store, Acquire, Release, Fork, Join}
+use Rattle.event_core.specs.Closed.{Open, Has, first, later}
+use Rattle.event_core.specs.Effect.{Effect, Opens, Closes, access_of}
+use Rattle.event_core.specs.Log.{depth, OuterAcquire}
+use Rattle.event_core.specs.Orderly.{Orderly}
 use Rattle.event_core.specs.Refusal.{WellFormed}
+use Rattle.event_core.proofs.Counting.{grown_length}
+use Rattle.event_core.proofs.Depth.{lock_cases, same_lock_id, thread_cases, same_thread_id}
+use Rattle.event_core.proofs.Effects.{Fits, accesses, opens, closes, forks, joins, again, inner}
+use Rattle.event_core.proofs.Effects.{depth_up, depth_down, last_opens, whole}
 use Rattle.event_core.proofs.Growth.{well_formed_front}
-use Rattle.event_core.proofs.Places.{get_last}
-use Rattle.event_core.proofs.Legality.{holder_depth}
-use Rattle.traced_mem.specs.OfLog.{held_after, held_from, held_in}
-use Rattle.traced_mem.proofs.OneMore.{same_depth, deeper_by_one, shallower_by_one, held_snoc}
-use Rattle.traced_mem.proofs.Updates.{eqb_ne}
-use Rattle.traced_mem.proofs.Without.{without_here, without_next, eqb_cases, has_push, has_last, has_without}
+use Rattle.event_core.proofs.HeldDepths.{held_now, held_same, still_held}
+use Rattle.event_core.proofs.Legality.{holder_depth, orderly}
+use Rattle.event_core.proofs.Members.{none_in, has_front, has_last}
+use Rattle.event_core.proofs.OpenSections.{its_effect, open_held, open_new}
 use Rattle.traced_mem.specs.After.{without}
-use Rattle.traced_mem.specs.Held.{Since, InOrder, none, more, Has, AreHeld}
+use Rattle.traced_mem.specs.Held.{InOrder, none, more, AreHeld}
+use Rattle.traced_mem.specs.OfLog.{held_after, held_from, held_in}
+use Rattle.traced_mem.proofs.Updates.{eqb_ne}
+use Rattle.traced_mem.proofs.Without.{without_here, without_next, eqb_cases, has_without}
 
-module _ (log : List Event) (e : Event) (u : ThreadId) where
-  take_old : (k : ℕ) → k ≤ length log → take k (log ++ e ∷ []) ≡ take k log
-  take_old k le = take-append-le k log (e ∷ []) le
+-- the list, as depths say it
+record Are (log : List Event) (u : ThreadId) (ls : List LockId) : Type 0 where
+  in_order : InOrder log u 0 ls
+  all : (l : LockId) → 0 < depth log u l → Has l ls
 
-  opened_on : (l : LockId) (a : ℕ) → OuterAcquire log a u l → OuterAcquire (log ++ e ∷ []) a u l
-  opened_on l a o =
-      let lt : a < length log = slice_get_within log a o.does.event o.does.at in
-      record {
-        does = record {
-          event = o.does.event;
-          at = sym ((longer log (e ∷ [])).events a lt) ∙ o.does.at;
-          thread = o.does.thread;
-          does = o.does.does;
-        };
-        outer = ap (λ (xs : List Event). depth xs u l) (take_old a (omega arith)) ∙ o.outer;
-      }
+within : (log : List Event) (u : ThreadId) (l : LockId) (a : ℕ) → Open log u l a → a < length log
+within log u l a s = slice_get_within log a s.opened.does.event s.opened.does.at
 
-  since_on : (l : LockId) (a : ℕ) → Since log u l a → 0 < depth (log ++ e ∷ []) u l
-      → Since (log ++ e ∷ []) u l a
-  since_on l a s d = record { opened = opened_on l a s.opened; held = held }
-    where
-      held : (k : ℕ) → a < k → k ≤ length (log ++ e ∷ []) → 0 < depth (take k (log ++ e ∷ [])) u l
-      held k lt le = go (cases_lt (length log) k)
-        where
-          go : (length log < k) ⊎ (k ≤ length log) → 0 < depth (take k (log ++ e ∷ [])) u l
-          go (inl more_than) =
-              let n = length_push log e in
-              subst (λ (xs : List Event). 0 < depth xs u l) (sym (take_all k (log ++ e ∷ []) (omega arith))) d
-          go (inr at_most) = subst (λ (xs : List Event). 0 < depth xs u l) (sym (take_old k at_most))
-              (s.held k lt at_most)
+-- each lock of the list is held
+has_depth : (log : List Event) (u : ThreadId) (n : ℕ) (ls : List LockId) → InOrder log u n ls → (l : LockId)
+    → Has l ls → 0 < depth log u l
+has_depth log u n [] (none m) l h = absurd (none_in h)
+has_depth log u n (y ∷ ls) (more m a x xs le s r) l (first _ _ same) =
+    subst (λ (q : LockId). 0 < depth log u q) (sym same) (open_held log u y a s)
+has_depth log u n (y ∷ ls) (more m a x xs le s r) l (later _ _ h) = has_depth log u (suc a) ls r l h
 
-  since_within : (l : LockId) (a : ℕ) → Since log u l a → a < length log
-  since_within l a s = slice_get_within log a s.opened.does.event s.opened.does.at
+-- the lock of an open section is not that of a later one
+no_again : (log : List Event) (u : ThreadId) (l : LockId) (a n : ℕ) (ls : List LockId) → Open log u l a
+    → a < n → InOrder log u n ls → Has l ls → ⊥
+no_again log u l a n [] s lt o h = none_in h
+no_again log u l a n (y ∷ ls) s lt (more m b x xs le t r) (first _ _ same) =
+    let w = within log u y b t in
+    let up : 0 < depth (take b log) u l = s.held b (omega arith) (omega arith) in
+    let zero : depth (take b log) u l ≡ 0
+    = ap (λ (q : LockId). depth (take b log) u q) same ∙ t.opened.outer in
+    omega arith
+no_again log u l a n (y ∷ ls) s lt (more m b x xs le t r) (later _ _ h) =
+    no_again log u l a (suc b) ls s (omega arith) r h
 
+module _ (log : List Event) (e : Event) (u : ThreadId) (ord : Orderly (log ++ e ∷ [])) where
   keep : (n : ℕ) (ls : List LockId) → InOrder log u n ls
       → ((l : LockId) → Has l ls → 0 < depth (log ++ e ∷ []) u l) → InOrder (log ++ e ∷ []) u n ls
   keep n [] (none m) d = none n
   keep n (l ∷ ls) (more m a x xs le s r) d =
-      more n a l ls le (since_on l a s (d l (inl refl))) (keep (suc a) ls r (λ y h. d y (inr h)))
+      more n a l ls le (open_new log e ord u l a s (d l (first l ls refl)))
+      (keep (suc a) ls r (λ y h. d y (later l ls h)))
 
   push : (n : ℕ) (ls : List LockId) (y : LockId) → InOrder log u n ls
       → ((l : LockId) → Has l ls → 0 < depth (log ++ e ∷ []) u l)
-      → n ≤ length log → Since (log ++ e ∷ []) u y (length log) → InOrder (log ++ e ∷ []) u n (ls ++ y ∷ [])
+      → n ≤ length log → Open (log ++ e ∷ []) u y (length log) → InOrder (log ++ e ∷ []) u n (ls ++ y ∷ [])
   push n [] y (none m) d le s = more n (length log) y [] le s (none (suc (length log)))
   push n (l ∷ ls) y (more m a x xs le s r) d le2 t =
-      let lt : a < length log = since_within l a s in
-      more n a l (ls ++ y ∷ []) le (since_on l a s (d l (inl refl)))
-      (push (suc a) ls y r (λ z h. d z (inr h)) (omega arith) t)
+      let lt : a < length log = within log u l a s in
+      more n a l (ls ++ y ∷ []) le (open_new log e ord u l a s (d l (first l ls refl)))
+      (push (suc a) ls y r (λ z h. d z (later l ls h)) (omega arith) t)
 
   lower : (n m : ℕ) (ls : List LockId) → n ≤ m → InOrder (log ++ e ∷ []) u m ls
       → InOrder (log ++ e ∷ []) u n ls
   lower n m [] le (none k) = none n
   lower n m (l ∷ ls) le (more k a x xs le2 s r) = more n a l ls (omega arith) s r
 
-  no_again : (l : LockId) (a n : ℕ) (ls : List LockId) → Since log u l a → a < n → InOrder log u n ls
-      → Has l ls → ⊥
-  no_again l a n [] s lt o h = h
-  no_again l a n (y ∷ ls) s lt (more m b x xs le t r) (inl same) =
-      let up : 0 < depth (take b log) u l
-      = s.held b (omega arith) (let w = since_within y b t in omega arith) in
-      let z : depth (take b log) u y ≡ 0 = t.opened.outer in
-      let z2 : depth (take b log) u l ≡ 0 = ap (λ (q : LockId). depth (take b log) u q) (sym same) ∙ z in
-      omega arith
-  no_again l a n (y ∷ ls) s lt (more m b x xs le t r) (inr h) = no_again l a (suc b) ls s (omega arith) r h
-
   drops : (n : ℕ) (ls : List LockId) (y : LockId) → InOrder log u n ls
       → ((l : LockId) → (l ≡ y → ⊥) → Has l ls → 0 < depth (log ++ e ∷ []) u l)
       → InOrder (log ++ e ∷ []) u n (without y ls)
   drops n [] y (none m) d = none n
   drops n (l ∷ ls) y (more m a x xs le s r) d =
-      go (eqb_cases l y) (drops (suc a) ls y r (λ z q h. d z q (inr h)))
+      go (eqb_cases l y) (drops (suc a) ls y r (λ z q h. d z q (later l ls h)))
     where
       go : (nat_eq l.0 y.0 ≡ true) ⊎ (nat_eq l.0 y.0 ≡ false)
           → InOrder (log ++ e ∷ []) u (suc a) (without y ls)
@@ -109,213 +99,152 @@ module _ (log : List Event) (e : Event) (u : ThreadId) where
           subst (InOrder (log ++ e ∷ []) u n) (sym (without_here y l ls t))
           (lower n (suc a) ls (omega arith)
           (keep (suc a) ls r (λ z h. d z
-          (λ q. no_again l a (suc a) ls s (omega arith) r
-          (subst (λ (w : LockId). Has w ls) (q ∙ sym same) h)) (inr h))))
+          (λ q. no_again log u l a (suc a) ls s (omega arith) r
+          (subst (λ (w : LockId). Has w ls) (q ∙ sym same) h)) (later l ls h))))
       go (inr f) ih =
           let other : l ≡ y → ⊥ = λ q. (let t : nat_eq l.0 y.0 ≡ true
           = eq-eqb l.0 y.0 (ap (λ (w : LockId). w.0) q) in cc) in
           subst (InOrder (log ++ e ∷ []) u n) (sym (without_next y l ls f))
-          (more n a l (without y ls) le (since_on l a s (d l other (inl refl))) ih)
+          (more n a l (without y ls) le (open_new log e ord u l a s (d l other (first l ls refl))) ih)
 
--- what the event makes of depths
-neither : (log : List Event) (e : Event) (u : ThreadId) (l : LockId) → acquires u l e ≡ false
-    → releases u l e ≡ false → depth (log ++ e ∷ []) u l ≡ depth log u l
-unfolding depth
-neither log e u l x y =
-    let p : count_by (acquires u l) (log ++ e ∷ []) ≡ count_by (acquires u l) log + 0
-    = count_snoc (acquires u l) log e ∙ ap (λ t. count_by (acquires u l) log + cond t 1 0) x in
-    let q : count_by (releases u l) (log ++ e ∷ []) ≡ count_by (releases u l) log + 0
-    = count_snoc (releases u l) log e ∙ ap (λ t. count_by (releases u l) log + cond t 1 0) y in
-    omega arith
-
--- the list, as depths say it
-record Are (log : List Event) (u : ThreadId) (ls : List LockId) : Type 0 where
-  in_order : InOrder log u 0 ls
-  all : (l : LockId) → 0 < depth log u l → Has l ls
-
-has_depth : (log : List Event) (u : ThreadId) (n : ℕ) (ls : List LockId) → InOrder log u n ls → (l : LockId)
-    → Has l ls → 0 < depth log u l
-has_depth log u n [] (none m) l h = absurd h
-has_depth log u n (y ∷ ls) (more m a x xs le s r) l (inl same) =
-    let lt : a < length log = slice_get_within log a s.opened.does.event s.opened.does.at in
-    let d : 0 < depth (take (length log) log) u y = s.held (length log) lt (omega arith) in
-    subst (λ (q : LockId). 0 < depth log u q) same
-    (subst (λ (xs : List Event). 0 < depth xs u y) (take-length log) d)
-has_depth log u n (y ∷ ls) (more m a x xs le s r) l (inr h) = has_depth log u (suc a) ls r l h
-
-module _ (k : Limits) (log : List Event) (e : Event) (u : ThreadId) (w : WellFormed k log) (ls : List LockId)
-    (are : Are log u ls) where
-  -- no depth gets to 0, or from it
-  same_list : ((l : LockId) → 0 < depth log u l → 0 < depth (log ++ e ∷ []) u l)
-      → ((l : LockId) → 0 < depth (log ++ e ∷ []) u l → 0 < depth log u l) → Are (log ++ e ∷ []) u ls
-  same_list up down = record {
-    in_order = keep log e u 0 ls are.in_order (λ l h. up l (has_depth log u 0 ls are.in_order l h));
-    all = λ l d. are.all l (down l d);
+  -- the section that the event opens
+  opened : (y : LockId) → e.thread ≡ u → e.op ≡ Acquire y → depth log e.thread y ≡ 0
+      → Open (log ++ e ∷ []) u y (length log)
+  opened y t o zero = record {
+    opened = subst (λ v. OuterAcquire (log ++ e ∷ []) (length log) v y) t (last_opens log e y o zero);
+    held = λ k b c. (
+        let grown = grown_length log e in
+        let is : suc (length log) ≡ k = omega arith in
+        let up : depth (log ++ e ∷ []) e.thread y ≡ depth log e.thread y + 1 = depth_up log e y ord o in
+        let now : 0 < depth (log ++ e ∷ []) u y
+        = subst (λ v. 0 < depth (log ++ e ∷ []) v y) t (omega arith) in
+        subst (λ n. 0 < depth (take n (log ++ e ∷ [])) u y) is
+        (subst (λ xs. 0 < depth xs u y) (sym (whole log e)) now));
   }
 
-  -- by the operation
-  step_at : (o : Op) → e.op ≡ o → Are (log ++ e ∷ []) u (held_after log u e o ls)
-  step_at (Acquire y) q = go (thread_cases e.thread u) (cases_eq (depth log u y) 0)
-    where
-      unlike : (l : LockId) → (l ≡ y → ⊥) → depth (log ++ e ∷ []) u l ≡ depth log u l
-      unlike l n = same_depth log e u l (ap (op_acquires l) q
-          ∙ eqb_ne y.0 l.0 (λ z. n (same_lock_id (sym z)))) (ap (op_releases l) q)
+module _ (log : List Event) (e : Event) (u : ThreadId) (ord : Orderly (log ++ e ∷ [])) (ls : List LockId)
+    (are : Are log u ls) where
+  -- by an event that neither opens nor closes a section of the thread the list stays
+  same_list : (k : Effect) → Fits log e k → ((l : LockId) → e.thread ≡ u → k ≡ Opens l → ⊥)
+      → ((l : LockId) → e.thread ≡ u → k ≡ Closes l → ⊥) → held_after log u e e.op ls ≡ ls
+      → Are (log ++ e ∷ []) u (held_after log u e e.op ls)
+  same_list k f un nc is = subst (Are (log ++ e ∷ []) u) (sym is) (record {
+    in_order =
+        keep log e u ord 0 ls are.in_order
+        (λ l h. still_held log e ord k f u l (has_depth log u 0 ls are.in_order l h) (nc l));
+    all = λ l d. are.all l ((held_same log e ord k f u l (un l) (nc l)).0 d);
+  })
 
-      go : (e.thread ≡ u) ⊎ (e.thread ≡ u → ⊥) → (depth log u y ≡ 0) ⊎ (depth log u y ≡ 0 → ⊥)
-          → Are (log ++ e ∷ []) u (held_after log u e (Acquire y) ls)
-      go (inl t) (inl z) =
-          let up : depth (log ++ e ∷ []) u y ≡ depth log u y + 1 = deeper_by_one k log e u y w t q in
-          let test : (nat_eq e.thread.0 u.0 && nat_eq (depth log u y) 0) ≡ true
-          = and_from _ _ (eq-eqb _ _ (ap (λ (x : ThreadId). x.0) t)) (eq-eqb _ _ z) in
-          subst (Are (log ++ e ∷ []) u) (sym (cond-true _ (ls ++ y ∷ []) ls test)) (record {
-            in_order = push log e u 0 ls y are.in_order
-                (λ l h. kept l (has_depth log u 0 ls are.in_order l h) (lock_cases l y) up) (omega arith)
-                (record {
-                  opened = record {
-                    does = record { event = e; at = get_last log e; thread = t; does = q };
-                    outer =
-                        ap (λ (xs : List Event). depth xs u y) (take_old log e u (length log) (omega arith)
-                        ∙ take-length log) ∙ z;
-                  };
-                  held = λ m lt le. (
-                      let n = length_push log e in
-                      let p : 0 < depth (log ++ e ∷ []) u y = omega arith in
-                      subst (λ (xs : List Event). 0 < depth xs u y)
-                      (sym (take_all m (log ++ e ∷ []) (omega arith))) p
-                      );
-                });
-            all = λ l d. all_of l d (lock_cases l y);
+  same_thread : e.thread ≡ u → nat_eq e.thread.0 u.0 ≡ true
+  same_thread t = eq-eqb _ _ (ap (λ (x : ThreadId). x.0) t)
+
+  -- an event that does not begin or end the thread's hold of its lock passes no test
+  no_test : (n : ℕ) → (e.thread ≡ u → n ≡ 0 → ⊥) → (nat_eq e.thread.0 u.0 && nat_eq n 0) ≡ false
+  no_test n never = go (thread_cases e.thread u)
+    where
+      go : (e.thread ≡ u) ⊎ (e.thread ≡ u → ⊥) → (nat_eq e.thread.0 u.0 && nat_eq n 0) ≡ false
+      go (inl t) = ap (λ b. b && nat_eq n 0) (same_thread t) ∙ eqb_ne n 0 (never t)
+      go (inr other) = ap (λ b. b && nat_eq n 0) (eqb_ne _ _ (λ x. other (same_thread_id x)))
+
+  acquires_if : (y : LockId) (b : Bool) → e.op ≡ Acquire y
+      → (nat_eq e.thread.0 u.0 && nat_eq (depth log u y) 0) ≡ b
+      → held_after log u e e.op ls ≡ (if b then ls ++ y ∷ [] else ls)
+  acquires_if y b o test =
+      ap (λ p. held_after log u e p ls) o ∙ ap (λ (c : Bool). if c then ls ++ y ∷ [] else ls) test
+
+  releases_if : (y : LockId) (b : Bool) → e.op ≡ Release y
+      → (nat_eq e.thread.0 u.0 && nat_eq (depth (log ++ e ∷ []) u y) 0) ≡ b
+      → held_after log u e e.op ls ≡ (if b then without y ls else ls)
+  releases_if y b o test =
+      ap (λ p. held_after log u e p ls) o ∙ ap (λ (c : Bool). if c then without y ls else ls) test
+
+  accesses_no_lock : (x : VarId) (k : AccessKind) → held_after log u e (access_of x k) ls ≡ ls
+  accesses_no_lock x Read = refl
+  accesses_no_lock x Write = refl
+
+  next_list : (k : Effect) → Fits log e k → Are (log ++ e ∷ []) u (held_after log u e e.op ls)
+  next_list k f = go k f (thread_cases e.thread u)
+    where
+      go : (k : Effect) → Fits log e k → (e.thread ≡ u) ⊎ (e.thread ≡ u → ⊥)
+          → Are (log ++ e ∷ []) u (held_after log u e e.op ls)
+      go k (accesses x j o) by = same_list k (accesses x j o) (λ l t is. cc) (λ l t is. cc)
+          (ap (λ p. held_after log u e p ls) o ∙ accesses_no_lock x j)
+      go k (forks v o) by = same_list k (forks v o) (λ l t is. cc) (λ l t is. cc)
+          (ap (λ p. held_after log u e p ls) o)
+      go k (joins v o) by = same_list k (joins v o) (λ l t is. cc) (λ l t is. cc)
+          (ap (λ p. held_after log u e p ls) o)
+      go k (again y o d) by = same_list k (again y o d) (λ l t is. cc) (λ l t is. cc)
+          (acquires_if y false o (no_test _ (λ t z. d (subst (λ v. depth log v y ≡ 0) (sym t) z))))
+      go k (inner y o d) by = same_list k (inner y o d) (λ l t is. cc) (λ l t is. cc)
+          (releases_if y false o (no_test _ (λ t z. (
+          let was : 0 < depth log e.thread y = held_now log e ord y o in
+          let down : depth (log ++ e ∷ []) e.thread y ≡ depth log e.thread y - 1 = depth_down log e y o in
+          let now : depth (log ++ e ∷ []) e.thread y ≡ 0
+          = subst (λ v. depth (log ++ e ∷ []) v y ≡ 0) (sym t) z in
+          d (omega arith)))))
+      go k (opens y o d) (inr n) = same_list k (opens y o d) (λ l t is. n t) (λ l t is. cc)
+          (acquires_if y false o (no_test _ (λ t. absurd (n t))))
+      go k (closes y o d) (inr n) = same_list k (closes y o d) (λ l t is. cc) (λ l t is. n t)
+          (releases_if y false o (no_test _ (λ t. absurd (n t))))
+      go k (opens y o d) (inl t) =
+          let zero : depth log u y ≡ 0 = subst (λ v. depth log v y ≡ 0) t d in
+          subst (Are (log ++ e ∷ []) u) (sym (acquires_if y true o (and_from _ _ (same_thread t)
+          (eq-eqb _ _ zero))))
+          (record {
+            in_order =
+                push log e u ord 0 ls y are.in_order
+                (λ l h. still_held log e ord k (opens y o d) u l (has_depth log u 0 ls are.in_order l h)
+                (λ p is. cc))
+                (omega arith) (opened log e u ord y t o d);
+            all = λ l up. all_of l up (lock_cases l y);
           })
         where
-          kept : (l : LockId) → 0 < depth log u l → (l ≡ y) ⊎ (l ≡ y → ⊥)
-              → depth (log ++ e ∷ []) u y ≡ depth log u y + 1 → 0 < depth (log ++ e ∷ []) u l
-          kept l d (inl same) up = subst (λ (x : LockId). 0 < depth (log ++ e ∷ []) u x) (sym same)
-              (omega arith)
-          kept l d (inr n) up = let s = unlike l n in omega arith
-
           all_of : (l : LockId) → 0 < depth (log ++ e ∷ []) u l → (l ≡ y) ⊎ (l ≡ y → ⊥) → Has l (ls ++ y ∷ [])
-          all_of l d (inl same) = subst (λ (x : LockId). Has x (ls ++ y ∷ [])) (sym same) (has_last y ls)
-          all_of l d (inr n) = has_push l y ls (are.all l (let s = unlike l n in omega arith))
-      go (inl t) (inr held_too) =
-          let up : depth (log ++ e ∷ []) u y ≡ depth log u y + 1 = deeper_by_one k log e u y w t q in
-          let test : (nat_eq e.thread.0 u.0 && nat_eq (depth log u y) 0) ≡ false
-          = ap₂ (λ (a b : Bool). a && b) (eq-eqb _ _ (ap (λ (x : ThreadId). x.0) t))
-          (eqb_ne _ _ held_too) in
-          subst (Are (log ++ e ∷ []) u) (sym (cond-false _ (ls ++ y ∷ []) ls test))
-          (same_list (λ l d. ups l d (lock_cases l y) up) (λ l d. downs l d (lock_cases l y)))
-        where
-          ups : (l : LockId) → 0 < depth log u l → (l ≡ y) ⊎ (l ≡ y → ⊥)
-              → depth (log ++ e ∷ []) u y ≡ depth log u y + 1 → 0 < depth (log ++ e ∷ []) u l
-          ups l d (inl same) up = subst (λ (x : LockId). 0 < depth (log ++ e ∷ []) u x) (sym same)
-              (omega arith)
-          ups l d (inr n) up = let s = unlike l n in omega arith
-
-          downs : (l : LockId) → 0 < depth (log ++ e ∷ []) u l → (l ≡ y) ⊎ (l ≡ y → ⊥) → 0 < depth log u l
-          downs l d (inl same) = subst (λ (x : LockId). 0 < depth log u x) (sym same) (omega arith)
-          downs l d (inr n) = let s = unlike l n in omega arith
-      go (inr other) z =
-          let f : nat_eq e.thread.0 u.0 ≡ false = eqb_ne _ _ (λ x. other (same_thread_id x)) in
-          subst (Are (log ++ e ∷ []) u)
-          (sym (ap (λ b. if b && nat_eq (depth log u y) 0 then ls ++ y ∷ [] else ls) f))
-          (same_list (λ l d. (let s = not_mine l in omega arith))
-          (λ l d. (let s = not_mine l in omega arith)))
-        where
-          not_mine : (l : LockId) → depth (log ++ e ∷ []) u l ≡ depth log u l
-          not_mine l = let f : nat_eq e.thread.0 u.0 ≡ false = eqb_ne _ _ (λ x. other (same_thread_id x)) in
-              neither log e u l (ap (λ b. b && op_acquires l e.op) f) (ap (λ b. b && op_releases l e.op) f)
-  step_at (Release y) q = go (thread_cases e.thread u) (cases_eq (depth (log ++ e ∷ []) u y) 0)
-    where
-      unlike : (l : LockId) → (l ≡ y → ⊥) → depth (log ++ e ∷ []) u l ≡ depth log u l
-      unlike l n = same_depth log e u l (ap (op_acquires l) q) (ap (op_releases l) q
-          ∙ eqb_ne y.0 l.0 (λ z. n (same_lock_id (sym z))))
-
-      go : (e.thread ≡ u) ⊎ (e.thread ≡ u → ⊥)
-          → (depth (log ++ e ∷ []) u y ≡ 0) ⊎ (depth (log ++ e ∷ []) u y ≡ 0 → ⊥)
-          → Are (log ++ e ∷ []) u (held_after log u e (Release y) ls)
-      go (inl t) (inl z) =
-          let test : (nat_eq e.thread.0 u.0 && nat_eq (depth (log ++ e ∷ []) u y) 0) ≡ true
-          = and_from _ _ (eq-eqb _ _ (ap (λ (x : ThreadId). x.0) t)) (eq-eqb _ _ z) in
-          subst (Are (log ++ e ∷ []) u) (sym (cond-true _ (without y ls) ls test)) (record {
-            in_order = drops log e u 0 ls y are.in_order
-                (λ l n h. (let s = unlike l n in let d = has_depth log u 0 ls are.in_order l h in
-                omega arith));
-            all = λ l d. all_of l d (lock_cases l y) z;
+          all_of l up (inl same) = subst (λ (x : LockId). Has x (ls ++ y ∷ [])) (sym same) (has_last ls y)
+          all_of l up (inr n) =
+              has_front l ls (y ∷ []) (are.all l
+              ((held_same log e ord (Opens y) (opens y o d) u l
+              (λ p is. n (let q : Opens y ≡ Opens l = is in cc)) (λ p is. cc)).0 up))
+      go k (closes y o d) (inl t) =
+          let down : depth (log ++ e ∷ []) e.thread y ≡ depth log e.thread y - 1 = depth_down log e y o in
+          let zero : depth (log ++ e ∷ []) u y ≡ 0
+          = subst (λ v. depth (log ++ e ∷ []) v y ≡ 0) t (omega arith) in
+          subst (Are (log ++ e ∷ []) u) (sym (releases_if y true o (and_from _ _ (same_thread t)
+          (eq-eqb _ _ zero))))
+          (record {
+            in_order =
+                drops log e u ord 0 ls y are.in_order
+                (λ l n h. still_held log e ord k (closes y o d) u l (has_depth log u 0 ls are.in_order l h)
+                (λ p is. n (let q : Closes y ≡ Closes l = is in cc)));
+            all = λ l up. all_of l up (lock_cases l y) zero;
           })
         where
           all_of : (l : LockId) → 0 < depth (log ++ e ∷ []) u l → (l ≡ y) ⊎ (l ≡ y → ⊥)
               → depth (log ++ e ∷ []) u y ≡ 0 → Has l (without y ls)
-          all_of l d (inl same) z = absurd (let d2 : 0 < depth (log ++ e ∷ []) u y =
-              subst (λ (x : LockId). 0 < depth (log ++ e ∷ []) u x) same d in omega arith)
-          all_of l d (inr n) z = has_without l y ls n (are.all l (let s = unlike l n in omega arith))
-      go (inl t) (inr left) =
-          let down : depth (log ++ e ∷ []) u y ≡ depth log u y - 1 = shallower_by_one log e u y t q in
-          let test : (nat_eq e.thread.0 u.0 && nat_eq (depth (log ++ e ∷ []) u y) 0) ≡ false
-          = ap₂ (λ (a b : Bool). a && b) (eq-eqb _ _ (ap (λ (x : ThreadId). x.0) t)) (eqb_ne _ _ left) in
-          subst (Are (log ++ e ∷ []) u) (sym (cond-false _ (without y ls) ls test))
-          (same_list (λ l d. ups l d (lock_cases l y)) (λ l d. downs l d (lock_cases l y) down))
-        where
-          ups : (l : LockId) → 0 < depth log u l → (l ≡ y) ⊎ (l ≡ y → ⊥) → 0 < depth (log ++ e ∷ []) u l
-          ups l d (inl same) = subst (λ (x : LockId). 0 < depth (log ++ e ∷ []) u x) (sym same)
-              (omega (arith, left))
-          ups l d (inr n) = let s = unlike l n in omega arith
+          all_of l up (inl same) zero = absurd (let up2 : 0 < depth (log ++ e ∷ []) u y =
+              subst (λ (x : LockId). 0 < depth (log ++ e ∷ []) u x) same up in omega arith)
+          all_of l up (inr n) zero =
+              has_without l y ls n (are.all l
+              ((held_same log e ord (Closes y) (closes y o d) u l (λ p is. cc)
+              (λ p is. n (let q : Closes y ≡ Closes l = is in cc))).0 up))
 
-          downs : (l : LockId) → 0 < depth (log ++ e ∷ []) u l → (l ≡ y) ⊎ (l ≡ y → ⊥)
-              → depth (log ++ e ∷ []) u y ≡ depth log u y - 1 → 0 < depth log u l
-          downs l d (inl same) down =
-              subst (λ (x : LockId). 0 < depth log u x) (sym same) (omega (arith, left))
-          downs l d (inr n) down = let s = unlike l n in omega arith
-      go (inr other) z =
-          let f : nat_eq e.thread.0 u.0 ≡ false = eqb_ne _ _ (λ x. other (same_thread_id x)) in
-          subst (Are (log ++ e ∷ []) u)
-          (sym (ap (λ b. if b && nat_eq (depth (log ++ e ∷ []) u y) 0 then without y ls else ls) f))
-          (same_list (λ l d. (let s = not_mine l in omega arith))
-          (λ l d. (let s = not_mine l in omega arith)))
-        where
-          not_mine : (l : LockId) → depth (log ++ e ∷ []) u l ≡ depth log u l
-          not_mine l = let f : nat_eq e.thread.0 u.0 ≡ false = eqb_ne _ _ (λ x. other (same_thread_id x)) in
-              neither log e u l (ap (λ b. b && op_acquires l e.op) f) (ap (λ b. b && op_releases l e.op) f)
-  step_at (Load y) q = same_list
-      (λ l d. (let s = same_depth log e u l (ap (op_acquires l) q) (ap (op_releases l) q) in omega arith))
-      (λ l d. (let s = same_depth log e u l (ap (op_acquires l) q) (ap (op_releases l) q) in omega arith))
-  step_at (Store y) q = same_list
-      (λ l d. (let s = same_depth log e u l (ap (op_acquires l) q) (ap (op_releases l) q) in omega arith))
-      (λ l d. (let s = same_depth log e u l (ap (op_acquires l) q) (ap (op_releases l) q) in omega arith))
-  step_at (Fork y) q = same_list
-      (λ l d. (let s = same_depth log e u l (ap (op_acquires l) q) (ap (op_releases l) q) in omega arith))
-      (λ l d. (let s = same_depth log e u l (ap (op_acquires l) q) (ap (op_releases l) q) in omega arith))
-  step_at (Join y) q = same_list
-      (λ l d. (let s = same_depth log e u l (ap (op_acquires l) q) (ap (op_releases l) q) in omega arith))
-      (λ l d. (let s = same_depth log e u l (ap (op_acquires l) q) (ap (op_releases l) q) in omega arith))
-
--- after each beginning of the log
-after_each : (m : Limits) (log : List Event) (u : ThreadId) → WellFormed m log → (k : ℕ)
-    → Are (take k log) u (held_in (take k log) u)
-unfolding held_in depth
-after_each m log u w zero = record { in_order = none 0; all = λ l d. absurd (omega arith) }
-after_each m log u w (suc k) = go (slice_get_cases log k).1 (after_each m log u w k)
-  where
-    go : (((e : Event) × (k < length log) × (slice_get log k ≡ Some e) × (get_or log k e ≡ e))
-        ⊎ ((length log ≤ k) × (slice_get log k ≡ None)))
-        → Are (take k log) u (held_from [] (take k log) u [])
-        → Are (take (suc k) log) u (held_from [] (take (suc k) log) u [])
-    go (inr past) ih =
-        let p : length log ≤ k = past.0 in
-        let same : take (suc k) log ≡ take k log = take_all (suc k) log (omega arith)
-        ∙ sym (take_all k log p) in
-        subst (λ xs. Are xs u (held_from [] xs u [])) (sym same) ih
-    go (inl x) ih =
-        let wk : WellFormed m (take k log)
-        = well_formed_front m (take k log) (drop k log)
-        (subst (WellFormed m) (sym (take-append-drop k log)) w) in
-        let next : Are (take k log ++ x.0 ∷ []) u
-        (held_after (take k log) u x.0 x.0.op (held_from [] (take k log) u []))
-        = step_at m (take k log) x.0 u wk (held_from [] (take k log) u []) ih x.0.op refl in
-        subst (λ xs. Are xs u (held_from [] xs u [])) (sym (take_event log k x.0 x.2))
-        (subst (Are (take k log ++ x.0 ∷ []) u) (sym (held_snoc [] (take k log) x.0 u [])) next)
+-- event by event
+list_from : (m : Limits) (before es : List Event) (u : ThreadId) (ls : List LockId)
+    → WellFormed m (before ++ es) → Are before u ls → Are (before ++ es) u (held_from before es u ls)
+list_from m before [] u ls w are = subst (λ xs. Are xs u ls) (sym (append-nil before)) are
+list_from m before (e ∷ es) u ls w are =
+    let split : (before ++ e ∷ []) ++ es ≡ before ++ e ∷ es = append_assoc before (e ∷ []) es in
+    let longer : WellFormed m ((before ++ e ∷ []) ++ es) = subst (WellFormed m) (sym split) w in
+    let ord = orderly m (before ++ e ∷ []) (well_formed_front m (before ++ e ∷ []) es longer) in
+    let k = its_effect before e in
+    subst (λ xs. Are xs u (held_from before (e ∷ es) u ls)) split
+    (list_from m (before ++ e ∷ []) es u (held_after before u e e.op ls) longer
+    (next_list before e u ord ls are k.0 k.1))
 
 pub held_in_order : (m : Limits) (log : List Event) (u : ThreadId) → WellFormed m log
     → AreHeld log u (held_in log u)
+unfolding held_in depth
 held_in_order m log u w =
-    let a : Are log u (held_in log u)
-    = subst (λ xs. Are xs u (held_in xs u)) (take-length log) (after_each m log u w (length log)) in
+    let a : Are log u (held_from [] log u [])
+    = list_from m [] log u [] w (record { in_order = none 0; all = λ l d. absurd (omega arith) }) in
     record { in_order = a.in_order; all = λ l h. a.all l (holder_depth log l u h) }

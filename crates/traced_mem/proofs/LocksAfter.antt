@@ -9,19 +9,23 @@ use Rattle.event_core.specs.declared.events.Event.{Event}
 use Rattle.event_core.specs.declared.events.Call.{Call}
 use Rattle.event_core.specs.declared.bounds.Limits.{Limits}
 use Rattle.event_core.specs.declared.events.Op.{Op}
-use Rattle.event_core.specs.declared.events.Op.TheVariants.{Load, Store, Acquire, Release, Fork, Join}
+use Rattle.event_core.specs.declared.events.Op.TheVariants.{Acquire, Release}
 use Rattle.event_core.specs.Log.{depth, op_acquires, op_releases}
 use Rattle.event_core.specs.Refusal.{refusal, lock_depth, depth_by, holder, last_acquirer, held_by, event_of}
-use Rattle.event_core.specs.Refusal.{WellFormed}
-use Rattle.event_core.proofs.Legality.{acquirer_snoc, holder_is, holder_depth}
+use Rattle.event_core.specs.Refusal.{lock_at, WellFormed}
+use Rattle.event_core.specs.Orderly.{Orderly}
+use Rattle.event_core.proofs.Effects.{depth_up, depth_down}
+use Rattle.event_core.proofs.Growth.{well_formed_grown}
+use Rattle.event_core.proofs.Legality.{acquirer_snoc, holder_is, holder_depth, orderly}
+use Rattle.event_core.proofs.RunFacts.{allowed_legal}
 use Rattle.traced_mem.specs.Meaning.{Lock}
 use Rattle.traced_mem.specs.Refusals.{held_at, not_holder_at}
 use Rattle.traced_mem.specs.After.{updated, deeper, shallower, locks_after}
-use Rattle.traced_mem.specs.OfLog.{lock_id, meaning_of}
+use Rattle.traced_mem.specs.OfLog.{meaning_of}
 use Rattle.traced_mem.proofs.Allowed.{Allowed, allowed, release_holder}
 use Rattle.traced_mem.proofs.SameRefusals.{same_refusal}
 use Rattle.traced_mem.proofs.Updates.{eqb_ne, eqb_refl, updated_same, updated_other}
-use Rattle.traced_mem.proofs.OneMore.{same_depth, same_holder, deeper_by_one, shallower_by_one}
+use Rattle.traced_mem.proofs.OneMore.{same_depth, same_holder}
 use Rattle.traced_mem.proofs.Depths.{depth_if_held, last_holds, own_depth}
 
 -- a lock that the event has nothing to do with
@@ -43,13 +47,13 @@ same_lock log e l a r i = record {
     depths h = deep (holder (log ++ e ∷ []) l) ∙ ap (λ o. depth_by o log l) h
 
 -- the lock of an acquire
-acquired_lock : (k : Limits) (log : List Event) (e : Event) (l : LockId) → WellFormed k log → e.op ≡ Acquire l
-    → held_by (holder log l) e.thread ≡ None
+acquired_lock : (k : Limits) (log : List Event) (e : Event) (l : LockId) → WellFormed k log
+    → Orderly (log ++ e ∷ []) → e.op ≡ Acquire l → held_by (holder log l) e.thread ≡ None
     → (meaning_of (log ++ e ∷ [])).lock l.0 ≡ deeper e.thread ((meaning_of log).lock l.0)
-acquired_lock k log e l w o n i = record { holder = is i; depth = deep i }
+acquired_lock k log e l w ord o n i = record { holder = is i; depth = deep i }
   where
     more : depth (log ++ e ∷ []) e.thread l ≡ depth log e.thread l + 1
-    more = deeper_by_one k log e e.thread l w refl o
+    more = depth_up log e l ord o
 
     last : last_acquirer (log ++ e ∷ []) l ≡ Some e.thread
     last = acquirer_snoc log e l ∙ cond-true _ _ _ (ap (op_acquires l) o ∙ eqb_refl l.0)
@@ -72,7 +76,7 @@ released_lock k log e l w o held_now i = record { holder = is i; depth = deep i 
     D = depth log e.thread l
 
     less : depth (log ++ e ∷ []) e.thread l ≡ D - 1
-    less = shallower_by_one log e e.thread l refl o
+    less = depth_down log e l o
 
     last : last_acquirer (log ++ e ∷ []) l ≡ Some e.thread
     last = acquirer_snoc log e l ∙ cond-false _ _ _ (ap (op_acquires l) o)
@@ -112,20 +116,11 @@ module _ (k : Limits) (log : List Event) (c : Call) (w : WellFormed k log) (h : 
   may : Allowed k (meaning_of log) c.thread c.op
   may = allowed k (meaning_of log) c.thread c.op (same_refusal k log c w ∙ h)
 
+  ord : Orderly (log ++ event_of log c ∷ [])
+  ord = orderly k _ (well_formed_grown k log (event_of log c) w (allowed_legal k log c h))
+
   locks_law_at : (o : Op) → c.op ≡ o → (n : ℕ)
       → (meaning_of (log ++ event_of log c ∷ [])).lock n ≡ locks_after c.thread o (meaning_of log).lock n
-  locks_law_at (Load x) q n =
-      same_lock log (event_of log c) (lock_id n) (ap (op_acquires (lock_id n)) q)
-      (ap (op_releases (lock_id n)) q)
-  locks_law_at (Store x) q n =
-      same_lock log (event_of log c) (lock_id n) (ap (op_acquires (lock_id n)) q)
-      (ap (op_releases (lock_id n)) q)
-  locks_law_at (Fork x) q n =
-      same_lock log (event_of log c) (lock_id n) (ap (op_acquires (lock_id n)) q)
-      (ap (op_releases (lock_id n)) q)
-  locks_law_at (Join x) q n =
-      same_lock log (event_of log c) (lock_id n) (ap (op_acquires (lock_id n)) q)
-      (ap (op_releases (lock_id n)) q)
   locks_law_at (Acquire l) q n = go (cases_eq n l.0)
     where
       free_lock : held_by (holder log l) c.thread ≡ None
@@ -140,11 +135,11 @@ module _ (k : Limits) (log : List Event) (c : Call) (w : WellFormed k log) (h : 
       go (inl same) =
           let P : ℕ → Type 0 = λ m. (meaning_of (log ++ event_of log c ∷ [])).lock m
           ≡ updated l.0 (deeper c.thread ((meaning_of log).lock l.0)) (meaning_of log).lock m in
-          subst P (sym same) (acquired_lock k log (event_of log c) l w q free_lock
+          subst P (sym same) (acquired_lock k log (event_of log c) l w ord q free_lock
           ∙ sym (updated_same l.0 (deeper c.thread ((meaning_of log).lock l.0)) (meaning_of log).lock))
       go (inr other) =
-          same_lock log (event_of log c) (lock_id n) (ap (op_acquires (lock_id n)) q
-          ∙ eqb_ne l.0 n (λ e. other (sym e))) (ap (op_releases (lock_id n)) q)
+          same_lock log (event_of log c) (lock_at n) (ap (op_acquires (lock_at n)) q
+          ∙ eqb_ne l.0 n (λ e. other (sym e))) (ap (op_releases (lock_at n)) q)
           ∙ sym (updated_other l.0 (deeper c.thread ((meaning_of log).lock l.0))
           (meaning_of log).lock n other)
   locks_law_at (Release l) q n = go (cases_eq n l.0)
@@ -162,9 +157,12 @@ module _ (k : Limits) (log : List Event) (c : Call) (w : WellFormed k log) (h : 
           subst P (sym same) (released_lock k log (event_of log c) l w q held_now
           ∙ sym (updated_same l.0 (shallower ((meaning_of log).lock l.0)) (meaning_of log).lock))
       go (inr other) =
-          same_lock log (event_of log c) (lock_id n) (ap (op_acquires (lock_id n)) q)
-          (ap (op_releases (lock_id n)) q ∙ eqb_ne l.0 n (λ e. other (sym e)))
+          same_lock log (event_of log c) (lock_at n) (ap (op_acquires (lock_at n)) q)
+          (ap (op_releases (lock_at n)) q ∙ eqb_ne l.0 n (λ e. other (sym e)))
           ∙ sym (updated_other l.0 (shallower ((meaning_of log).lock l.0)) (meaning_of log).lock n other)
+  locks_law_at _ q n =
+      same_lock log (event_of log c) (lock_at n) (ap (op_acquires (lock_at n)) q)
+      (ap (op_releases (lock_at n)) q)
 
   pub locks_law : (meaning_of (log ++ event_of log c ∷ [])).lock
       ≡ locks_after c.thread c.op (meaning_of log).lock

@@ -13,6 +13,7 @@ use Rattle.event_core.specs.declared.events.Op.TheVariants.{Load, Store, Acquire
 use Rattle.event_core.specs.Log.{depth}
 use Rattle.event_core.specs.Refusal.{refusal, lock_depth, held, forks, joins, mentions, op_forks, op_joins}
 use Rattle.event_core.specs.Refusal.{holder, event_of, WellFormed}
+use Rattle.event_core.proofs.Effects.{depth_down}
 use Rattle.traced_mem.specs.Meaning.{Thread}
 use Rattle.traced_mem.specs.Refusals.{held_at, not_holder_at}
 use Rattle.traced_mem.specs.After.{updated, without, gains, loses, now_forked, now_joined, mentioned_again}
@@ -21,7 +22,7 @@ use Rattle.traced_mem.specs.OfLog.{thread_id, var_id, held_after, held_in, meani
 use Rattle.traced_mem.proofs.Allowed.{Allowed, allowed, release_holder}
 use Rattle.traced_mem.proofs.SameRefusals.{same_refusal}
 use Rattle.traced_mem.proofs.Updates.{eqb_ne, eqb_refl, updated_same, updated_other, or_true, or_false}
-use Rattle.traced_mem.proofs.OneMore.{any_snoc, held_snoc, shallower_by_one}
+use Rattle.traced_mem.proofs.OneMore.{any_snoc, held_snoc}
 use Rattle.traced_mem.proofs.Depths.{depth_if_held, own_depth}
 
 -- what an event has to do with threads and locks, by its operation
@@ -145,7 +146,7 @@ module _ (k : Limits) (log : List Event) (c : Call) (w : WellFormed k log) (h : 
           (subst (λ o. not_holder_at (meaning_of log) c.thread o ≡ None) q may.holds)
 
       left : depth (log ++ event_of log c ∷ []) c.thread l ≡ lock_depth log l - 1
-      left = shallower_by_one log (event_of log c) c.thread l refl q
+      left = depth_down log (event_of log c) l q
           ∙ ap (λ d. d - 1) (sym (depth_if_held log l c.thread held_now))
 
       pick : Bool → ℕ → List LockId → List LockId

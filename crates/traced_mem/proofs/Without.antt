@@ -1,13 +1,14 @@
 -- A list without a lock, and what it has.
-use Rattle.std.proofs.Common.{◌≡◌, ℕ, suc, ◌+◌, ◌<◌, true, false, cond, Some, None, List, [], ◌∷◌, ◌++◌}
-use Rattle.std.proofs.Common.{length, not, nat_eq, nat_lt, ap, sym, refl, ◌∙◌, subst, ◌⊎◌, arith}
+use Rattle.std.proofs.Common.{◌≡◌, ℕ, suc, ◌+◌, ◌<◌, true, false, cond, Some, None, List, [], ◌∷◌}
+use Rattle.std.proofs.Common.{length, not, nat_eq, nat_lt, ap, sym, ◌∙◌, subst, ◌⊎◌, arith}
 use Rattle.std.proofs.lemmas.Bool.{cases_Bool, lt-ltb, ltb-true, eqb-true}
 use Rattle.std.specs.List.{prefix_len}
 use mathlib.Core.Logic.{inl, inr}
 use Rattle.event_core.specs.declared.ids.LockId.{LockId}
+use Rattle.event_core.specs.Closed.{Has, first, later}
 use Rattle.event_core.proofs.Depth.{same_lock_id}
+use Rattle.event_core.proofs.Members.{none_in}
 use Rattle.traced_mem.specs.After.{without, without_at}
-use Rattle.traced_mem.specs.Held.{Has}
 
 pub without_here : (l x : LockId) (xs : List LockId) → nat_eq x.0 l.0 ≡ true → without l (x ∷ xs) ≡ xs
 without_here l x xs t =
@@ -55,22 +56,15 @@ pub eqb_cases : (x l : LockId) → (nat_eq x.0 l.0 ≡ true) ⊎ (nat_eq x.0 l.0
 eqb_cases x l = cases_Bool (nat_eq x.0 l.0)
 
 -- what a list has
-pub has_push : (l y : LockId) (xs : List LockId) → Has l xs → Has l (xs ++ y ∷ [])
-has_push l y [] h = absurd h
-has_push l y (x ∷ xs) (inl e) = inl e
-has_push l y (x ∷ xs) (inr h) = inr (has_push l y xs h)
-
-pub has_last : (l : LockId) (xs : List LockId) → Has l (xs ++ l ∷ [])
-has_last l [] = inl refl
-has_last l (x ∷ xs) = inr (has_last l xs)
-
 pub has_without : (l y : LockId) (xs : List LockId) → (l ≡ y → ⊥) → Has l xs → Has l (without y xs)
-has_without l y [] n h = absurd h
+has_without l y [] n h = absurd (none_in h)
 has_without l y (x ∷ xs) n h = go (eqb_cases x y) h (λ k. has_without l y xs n k)
   where
-    go : (nat_eq x.0 y.0 ≡ true) ⊎ (nat_eq x.0 y.0 ≡ false) → (x ≡ l) ⊎ Has l xs
+    go : (nat_eq x.0 y.0 ≡ true) ⊎ (nat_eq x.0 y.0 ≡ false) → Has l (x ∷ xs)
         → (Has l xs → Has l (without y xs)) → Has l (without y (x ∷ xs))
-    go (inl t) (inl e) ih = absurd (n (sym e ∙ same_lock_id (eqb-true x.0 y.0 t)))
-    go (inl t) (inr h) ih = subst (Has l) (sym (without_here y x xs t)) h
-    go (inr f) (inl e) ih = subst (Has l) (sym (without_next y x xs f)) (inl e)
-    go (inr f) (inr h) ih = subst (Has l) (sym (without_next y x xs f)) (inr (ih h))
+    go (inl t) (first _ _ e) ih = absurd (n (e ∙ same_lock_id (eqb-true x.0 y.0 t)))
+    go (inl t) (later _ _ h) ih = subst (Has l) (sym (without_here y x xs t)) h
+    go (inr f) (first _ _ e) ih =
+        subst (Has l) (sym (without_next y x xs f)) (first x (without y xs) e)
+    go (inr f) (later _ _ h) ih =
+        subst (Has l) (sym (without_next y x xs f)) (later x (without y xs) (ih h))

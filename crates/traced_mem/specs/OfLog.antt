@@ -9,16 +9,13 @@ use Rattle.event_core.specs.declared.events.Op.{Op}
 use Rattle.event_core.specs.declared.events.Op.TheVariants.{Acquire, Release}
 use Rattle.event_core.specs.Log.{depth}
 use Rattle.event_core.specs.Refusal.{forks, joins, mentions, holder, lock_depth, open_acquires, last_value}
-use Rattle.event_core.specs.Refusal.{WellFormed}
+use Rattle.event_core.specs.Refusal.{lock_at, WellFormed}
 use Rattle.traced_mem.specs.Meaning.{Meaning}
 use Rattle.traced_mem.specs.After.{without}
 use Rattle.traced_mem.specs.Tables.{Tables, meaning}
 
 abbrev pub thread_id : ℕ → ThreadId
 thread_id n = record { 0 = n }
-
-abbrev pub lock_id : ℕ → LockId
-lock_id n = record { 0 = n }
 
 abbrev pub var_id : ℕ → VarId
 var_id n = record { 0 = n }
@@ -50,7 +47,7 @@ meaning_of log = record {
     mentioned = list_any (mentions (thread_id u)) log;
     held = held_in log (thread_id u);
   };
-  lock = λ l. record { holder = holder log (lock_id l); depth = lock_depth log (lock_id l) };
+  lock = λ l. record { holder = holder log (lock_at l); depth = lock_depth log (lock_at l) };
   cell = λ x. last_value log (var_id x);
 }
 

@@ -1,4 +1,4 @@
-use Rattle.std.proofs.Common.{ap, sym, ◌∙◌}
+use Rattle.std.proofs.Common.{ap, ◌∙◌}
 use Rattle.traced_mem.specs.Meaning.{Meaning}
 use Rattle.traced_mem.specs.Tables.{Tables}
 use Rattle.traced_mem.proofs.memory.Memory.len.Goals as goal
