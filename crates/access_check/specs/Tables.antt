@@ -1,6 +1,6 @@
 -- The tables of accesses: what they mean, and the room that is made.
 use Rattle.std.specs.Prelude.{ℕ, ◌+◌, ◌≡◌, ◌<◌, ◌≤◌, List, [], Option, Some, None, IsTrue, cond}
-use Rattle.std.specs.Prelude.{nat_eq, length, slice_index, slice_index_or}
+use Rattle.std.specs.Prelude.{nat_eq, length, max, slice_index, slice_index_or}
 use Rattle.event_core.specs.declared.ids.ThreadId.{ThreadId}
 use Rattle.event_core.specs.declared.ids.VarId.{VarId}
 use Rattle.event_core.specs.declared.events.Event.{Event}
@@ -65,16 +65,6 @@ HasRoomToSwap tables t x = HasRoom tables t (Load x) × HasRoom tables t (Store 
 abbrev pub KeepsRoom : Tables → Tables → ThreadId → Type 0
 KeepsRoom old new t = (o : Op) → HasRoom old t o → HasRoom new t o
 
--- the event's numbers are within the limits
-abbrev pub VarWithin : Limits → Op → Type 0
-VarWithin m (Load x) = x.0 < m.vars
-VarWithin m (Store x) = x.0 < m.vars
-VarWithin m _ = Unit {0}
-
-pub record IsWithin (m : Limits) (t : ThreadId) (o : Op) : Type 0 where
-  pub thread : t.0 < m.threads
-  pub var : VarWithin m o
-
 abbrev pub last_of : ThreadId → Access → LastAccess
 last_of t a = record { thread = t; access = a }
 
@@ -101,6 +91,17 @@ pub record Grown (old new : Tables) : Type 0 where
   pub counts : (u : ℕ) → count_at new.counts u ≡ count_at old.counts u
   pub accesses : (x : ℕ) (m : AccessKind) → kept m (accesses_at new.vars x) ≡ kept m (accesses_at old.vars x)
   pub room : (t : ThreadId) → KeepsRoom old new t
+
+-- how many variables get tables for the operation: the next ones get theirs with the one that is named
+abbrev pub vars_for : Op → ℕ
+vars_for (Load x) = x.0 + 64
+vars_for (Store x) = x.0 + 64
+vars_for _ = 0
+
+-- no table has grown further than that; no clause bounds the room in a variable's own lists
+pub record GrownFor (old new : Tables) (t : ThreadId) (o : Op) : Type 0 where
+  pub counts : length new.counts ≤ max (length old.counts) (t.0 + 1)
+  pub vars : length new.vars ≤ max (length old.vars) (vars_for o)
 
 -- before any event
 abbrev pub no_tables : Limits → Tables

@@ -37,7 +37,7 @@ impl Accesses {
     ghost use Rattle.event_core.specs.Effect.{access_of};
     ghost use Rattle.event_core.specs.Verdict.{IsVerdict};
     ghost use Rattle.vector_clocks.specs.Counts.{counts_of};
-    ghost use Rattle.access_check.specs.Tables.{HasRoom, HasRoomToSwap, KeepsRoom, IsWithin, Notes, Grown};
+    ghost use Rattle.access_check.specs.Tables.{HasRoom, HasRoomToSwap, KeepsRoom, Notes, Grown, GrownFor};
     ghost use Rattle.access_check.specs.Tables.{count_at, no_tables, verdict_of, RoomAt};
     ghost use Rattle.event_core.specs.declared.events.Op.{Op as Operation};
     ghost use Rattle.access_check.specs.Standing.{Stands};
@@ -56,11 +56,13 @@ impl Accesses {
         })
     }
 
-    /// Makes room for the event, whose numbers are within the limits. Nothing else changes.
+    /// Makes room for the event, whose thread's number is within the limits. Nothing else changes.
     pub fn make_room(&mut self, event: &Event) -> Result<(), OutOfMemory>
-        requires { IsWithin self.old.limits event.now.thread event.now.op }
+        requires { event.now.thread.0 < self.old.limits.threads }
         ensures same { Grown self.old self.new }
+        ensures grown { GrownFor self.old self.new event.now.thread event.now.op }
         ensures room { OnOk result (HasRoom self.new event.now.thread event.now.op) }
+        ensures again { HasRoom self.old event.now.thread event.now.op → IsOk result }
     {
         match event.op {
             Op::Load(var) => self.grow(event.thread, var, AccessKind::Read),
@@ -69,21 +71,25 @@ impl Accesses {
         }
     }
 
-    /// Makes room for both events of a swap, a load and then a store of the variable, whose numbers are
-    /// within the limits. Nothing else changes.
+    /// Makes room for both events of a swap, a load and then a store of the variable, by a thread whose
+    /// number is within the limits. Nothing else changes.
     pub fn make_room_swap(&mut self, thread: ThreadId, var: VarId) -> Result<(), OutOfMemory>
-        requires { IsWithin self.old.limits thread (Operation.Load var) }
+        requires { thread.0 < self.old.limits.threads }
         ensures same { Grown self.old self.new }
+        ensures grown { GrownFor self.old self.new thread (Operation.Load var) }
         ensures room { OnOk result (HasRoomToSwap self.new thread var) }
+        ensures again { HasRoomToSwap self.old thread var → IsOk result }
     {
         self.grow(thread, var, AccessKind::Read)?;
         self.grow(thread, var, AccessKind::Write)
     }
 
     fn grow(&mut self, thread: ThreadId, var: VarId, kind: AccessKind) -> Result<(), OutOfMemory>
-        requires { IsWithin self.old.limits thread (Operation.Load var) }
+        requires { thread.0 < self.old.limits.threads }
         ensures same { Grown self.old self.new }
+        ensures grown { GrownFor self.old self.new thread (access_of var kind) }
         ensures room { OnOk result (HasRoom self.new thread (access_of var kind)) }
+        ensures again { HasRoom self.old thread (access_of var kind) → IsOk result }
     {
         grow_counts(&mut self.counts, thread.0 as usize + 1)?;
         grow_at(&mut self.vars, self.alloc, var.0 as usize, thread, kind)

@@ -145,7 +145,7 @@ impl Model for LastAccesses {
 }
 
 impl LastAccesses {
-    ghost use Rattle.std.specs.Prelude.{◌≡◌, [], length, IsTrue, OnOk};
+    ghost use Rattle.std.specs.Prelude.{◌≡◌, [], length, IsTrue, IsOk, OnOk};
     ghost use Rattle.event_core.specs.declared.ids.ThreadId.{ThreadId as Thread};
     ghost use Rattle.vector_clocks.specs.Counts.{counts_of};
     ghost use Rattle.access_check.specs.LastAccesses.{latest, put, has_room, no_last_accesses};
@@ -166,6 +166,7 @@ impl LastAccesses {
         ensures same { self.new.items ≡ self.old.items }
         ensures more { (t : Thread) → IsTrue (has_room t self.old) → IsTrue (has_room t self.new) }
         ensures room { OnOk result (IsTrue (has_room thread self.new)) }
+        ensures again { IsTrue (has_room thread self.old) → IsOk result }
     {
         if self.ready(thread) {
             return Ok(());

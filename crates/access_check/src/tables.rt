@@ -1,5 +1,5 @@
 //! Work on the tables: of each thread how many events it has, and of each variable who touched it last.
-ghost use Rattle.std.specs.Prelude.{◌≡◌, ℕ, ◌+◌, ◌<◌, ◌≤◌, ◌^◌, length, OnOk, cond, nat_eq, max};
+ghost use Rattle.std.specs.Prelude.{◌≡◌, ℕ, ◌+◌, ◌<◌, ◌≤◌, ◌^◌, length, OnOk, OnErr, IsOk, cond, nat_eq, max};
 ghost use Rattle.event_core.specs.declared.ids.ThreadId.{ThreadId as Thread};
 ghost use Rattle.event_core.specs.declared.events.AccessKind.{AccessKind as Kind};
 ghost use Rattle.event_core.specs.declared.events.Op.{Op as Operation};
@@ -25,6 +25,7 @@ pub(crate) fn grow_counts(counts: &mut Vec<u64>, threads: usize) -> Result<(), O
     ensures more { length counts.old.items ≤ length counts.new.items }
     ensures most { length counts.new.items ≤ max (length counts.old.items) threads }
     ensures ok { OnOk result (threads ≤ length counts.new.items) }
+    ensures short { OnErr result (length counts.old.items < threads) }
 {
     grow_to(counts, threads, || 0)
 }
@@ -36,6 +37,7 @@ fn grow_vars(vars: &mut Vec<VariableAccesses>, alloc: Global, var: usize) -> Res
     requires { var < 2 ^ 32 }
     ensures same { (x : ℕ) → accesses_at vars.new.items x ≡ accesses_at vars.old.items x }
     ensures more { length vars.old.items ≤ length vars.new.items }
+    ensures most { length vars.new.items ≤ max (length vars.old.items) (var + 64) }
     ensures ok { OnOk result (var < length vars.new.items) }
 {
     grow_to(vars, var + VARS_AT_ONCE, || VariableAccesses::new(alloc))
@@ -51,7 +53,9 @@ fn make_room_at(
     requires { var < length vars.old }
     ensures same { (x : ℕ) (k : Kind) → kept k (accesses_at vars.new x) ≡ kept k (accesses_at vars.old x) }
     ensures more { (t : Thread) (x : ℕ) (k : Kind) → RoomAt vars.old t x k → RoomAt vars.new t x k }
+    ensures as_many { length vars.new ≡ length vars.old }
     ensures room { OnOk result (RoomAt vars.new thread var kind) }
+    ensures again { RoomAt vars.old thread var kind → IsOk result }
 {
     let accesses = &mut vars[var];
     accesses.make_room(thread, kind)
@@ -70,7 +74,9 @@ pub(crate) fn grow_at(
         → kept k (accesses_at vars.new.items x) ≡ kept k (accesses_at vars.old.items x) }
     ensures more { (t : Thread) (x : ℕ) (k : Kind) → RoomAt vars.old.items t x k
         → RoomAt vars.new.items t x k }
+    ensures most { length vars.new.items ≤ max (length vars.old.items) (var + 64) }
     ensures room { OnOk result (RoomAt vars.new.items thread var kind) }
+    ensures again { RoomAt vars.old.items thread var kind → IsOk result }
 {
     if vars.len() <= var {
         grow_vars(vars, alloc, var)?;

@@ -17,7 +17,7 @@ pub struct VariableAccesses {
 }
 
 impl VariableAccesses {
-    ghost use Rattle.std.specs.Prelude.{◌≡◌, length, IsTrue, OnOk};
+    ghost use Rattle.std.specs.Prelude.{◌≡◌, length, IsTrue, IsOk, OnOk};
     ghost use Rattle.event_core.specs.declared.ids.ThreadId.{ThreadId as Thread};
     ghost use Rattle.event_core.specs.declared.events.AccessKind.{AccessKind as Kind};
     ghost use Rattle.vector_clocks.specs.Counts.{counts_of};
@@ -41,6 +41,7 @@ impl VariableAccesses {
         ensures more { (t : Thread) (k : Kind) → IsTrue (has_room t (of_kind k self.old))
             → IsTrue (has_room t (of_kind k self.new)) }
         ensures room { OnOk result (IsTrue (has_room thread (of_kind kind self.new))) }
+        ensures again { IsTrue (has_room thread (of_kind kind self.old)) → IsOk result }
     {
         match kind {
             AccessKind::Read => self.loads.make_room(thread),

@@ -1,8 +1,8 @@
 //! Worked logs of accesses, and the verdicts on them by clocks of other logs.
 //!
 //! Where a growth is refused once, the same call is made again and gives the same verdict.
-ghost use Rattle.std.specs.Prelude.{◌≡◌, ℕ, ◌≤◌, ◌↔◌, length, IsTrue};
-ghost use Rattle.access_check.specs.Tables.{count_at, IsWithin};
+ghost use Rattle.std.specs.Prelude.{◌≡◌, ℕ, ◌<◌, ◌≤◌, length};
+ghost use Rattle.access_check.specs.Tables.{count_at};
 
 use crate::clocks::{Run, event};
 use access_check::Accesses;
@@ -95,26 +95,16 @@ impl Log {
         }
     }
 
-    fn is_within(&self, event: &Event) -> bool
-        ensures { IsTrue result ↔ IsWithin self.now.limits event.now.thread event.now.op }
-    {
-        event.thread.0 < self.limits.threads()
-            && match event.op {
-                Op::Load(var) | Op::Store(var) => var.0 < self.limits.vars(),
-                _ => true,
-            }
-    }
-
     fn make_room_once(&mut self, event: &Event) -> Result<(), OutOfMemory>
-        requires { IsWithin self.old.limits event.now.thread event.now.op }
+        requires { event.now.thread.0 < self.old.limits.threads }
         ensures { self.new.limits ≡ self.old.limits }
     {
         self.accesses.make_room(event)
     }
 
-    // Makes room for the event, whose numbers are within the limits.
+    // Makes room for the event, whose thread's number is within the limits.
     fn make_room(&mut self, event: &Event) -> Result<(), OutOfMemory>
-        requires { IsWithin self.old.limits event.now.thread event.now.op }
+        requires { event.now.thread.0 < self.old.limits.threads }
     {
         if self.make_room_once(event).is_ok() {
             return Ok(());
@@ -126,7 +116,7 @@ impl Log {
     fn step(&mut self, rt: &impl Abort, event: &Event, clock: &JoinedClocks) -> Verdict
         requires { length clock.now ≡ 3 }
     {
-        assert!(rt; self.is_within(event));
+        assert!(rt; event.thread.0 < self.limits.threads());
         assert!(rt; self.make_room(event).is_ok());
         assert!(rt; self.accesses.ready(event));
         assert!(rt; self.length < 64);
@@ -181,4 +171,15 @@ fn a_store_without_a_race_stands_for_what_was_before_it(rt: HostRuntime) {
 #[test]
 fn accesses_of_one_thread_do_not_conflict(rt: HostRuntime) {
     expect_verdicts(&rt, rt.alloc(), ONE_THREAD);
+}
+
+#[test]
+fn a_swap_gets_room_for_both_its_events(rt: HostRuntime) {
+    let mut log = Log::new(&rt, rt.alloc());
+    if log.accesses.make_room_swap(T1, X).is_err() {
+        assert!(rt; log.accesses.make_room_swap(T1, X).is_ok());
+    }
+    assert!(rt; log.accesses.ready(&event(T1, Op::Load(X))));
+    assert!(rt; log.accesses.ready(&event(T1, Op::Store(X))));
+    drop(log);
 }

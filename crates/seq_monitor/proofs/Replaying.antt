@@ -10,7 +10,7 @@ use Rattle.event_core.specs.declared.ids.LockId.{LockId}
 use Rattle.event_core.specs.declared.events.Event.{Event}
 use Rattle.event_core.specs.declared.events.Call.{Call}
 use Rattle.event_core.specs.declared.events.Op.{Op}
-use Rattle.event_core.specs.declared.events.Op.TheVariants.{Load, Store, Acquire, Release, Fork, Join}
+use Rattle.event_core.specs.declared.events.Op.TheVariants.{Acquire, Release, Fork, Join}
 use Rattle.event_core.specs.declared.bounds.Limits.{Limits}
 use Rattle.event_core.specs.declared.replies.Refusal.TheVariants.{ThreadRange, TargetRange}
 use Rattle.event_core.specs.declared.replies.Verdict.{Verdict}
@@ -33,7 +33,6 @@ use Rattle.traced_mem.specs.OfLog.{StandsFor}
 use Rattle.traced_mem.specs.Tables.{meaning}
 use Rattle.traced_mem.proofs.Allowed.{un_not}
 use Rattle.access_check.specs.Tables.{count_at}
-use Rattle.access_check.specs.Tables.{IsWithin as AccessIsWithin}
 use Rattle.access_check.specs.Tables.{HasRoom as AccessHasRoom}
 use Rattle.access_check.specs.Tables.{Tables as AccessTables}
 use Rattle.access_check.specs.Standing.{Stands as AccessesStand}
@@ -74,12 +73,6 @@ within m mem t o h =
       thread = leb-false m.threads t.0 (when_none _ ThreadRange r.0);
       target = un_not _ (when_none _ TargetRange r.1.1.1.0);
     }
-
-pub accesses_within : (m : Limits) (t : ThreadId) (o : Op) → t.0 < m.threads → in_range m o ≡ true
-    → AccessIsWithin m t o
-accesses_within m t (Load x) lt is = record { thread = lt; var = ltb-true x.0 m.vars is }
-accesses_within m t (Store x) lt is = record { thread = lt; var = ltb-true x.0 m.vars is }
-accesses_within m t _ lt is = record { thread = lt; var = tt }
 
 pub clocks_within : (m : Limits) (t : ThreadId) (o : Op) (p : Clocks) → width_of p ≡ m.threads
     → limits_of p ≡ m → t.0 < m.threads → in_range m o ≡ true → ClocksAreWithin p (event_by t o)

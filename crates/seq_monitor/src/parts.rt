@@ -8,9 +8,9 @@ ghost use Rattle.event_core.specs.Verdict.{IsVerdict};
 ghost use Rattle.traced_mem.specs.OfLog.{StandsFor};
 ghost use Rattle.traced_mem.specs.Room.{IsReady as MemoryIsReady};
 ghost use Rattle.traced_mem.specs.Room.{IsReadyToSwap as MemoryIsReadyToSwap};
-ghost use Rattle.traced_mem.specs.Tables.{Allows, AllowsSwap, meaning};
+ghost use Rattle.traced_mem.specs.Tables.{meaning};
 ghost use Rattle.access_check.specs.Standing.{Stands as AccessesStand};
-ghost use Rattle.access_check.specs.Tables.{Grown, IsWithin};
+ghost use Rattle.access_check.specs.Tables.{Grown};
 ghost use Rattle.access_check.specs.Tables.{HasRoom as AccessesHaveRoom};
 ghost use Rattle.access_check.specs.Tables.{HasRoomToSwap as AccessesHaveRoomToSwap};
 ghost use Rattle.event_core.specs.declared.events.Op.{Op as Operation};
@@ -111,9 +111,8 @@ pub(crate) fn grow(
     call: &Call,
     slots: usize,
 ) -> Result<(), OutOfMemory>
-    requires allowed { Allows memory.old call.now.thread call.now.op }
     requires clocks { ClocksAreWithin clocks.old (an_event_by call.now.thread call.now.op) }
-    requires accesses { IsWithin accesses.old.limits call.now.thread call.now.op }
+    requires width { width_of clocks.old ≡ accesses.old.limits.threads }
     ensures memory { meaning memory.new ≡ meaning memory.old }
     ensures memory_limits { memory.new.limits ≡ memory.old.limits }
     ensures memory_stands { (past : List AnEvent) → StandsFor memory.old past → StandsFor memory.new past }
@@ -153,9 +152,8 @@ pub(crate) fn grow_for_swap(
     var: VarId,
     slots: usize,
 ) -> Result<(), OutOfMemory>
-    requires allowed { AllowsSwap memory.old thread var }
     requires clocks { thread.0 < width_of clocks.old }
-    requires accesses { IsWithin accesses.old.limits thread (Operation.Load var) }
+    requires width { width_of clocks.old ≡ accesses.old.limits.threads }
     ensures memory { meaning memory.new ≡ meaning memory.old }
     ensures memory_limits { memory.new.limits ≡ memory.old.limits }
     ensures memory_stands { (past : List AnEvent) → StandsFor memory.old past → StandsFor memory.new past }
