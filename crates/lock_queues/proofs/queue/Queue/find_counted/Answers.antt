@@ -40,7 +40,8 @@ search_from-more-requires-clause-before c k small =
     let lt = thread_within c.args.thread.0 c.self.invariant (same ∙ c.requires.room) in
     let here = get_or_read c.self.inside.found.items c.args.thread.0 _ lt c.index.ensures 0 in
     let is = ap (λ (k : Kept). slice_index k.found c.args.thread.0) c.self.view_is in
-    subst (Counts c.args.clock.now) (sym (mark_seen _ (c.acquires-acquires.ensures ∙ ap (λ (q : Kept). acquires_of q.entries) c.self.view_is) k)) (c.requires.before k (omega arith))
+    let are = c.acquires-acquires.ensures ∙ ap (λ (q : Kept). acquires_of q.entries) c.self.view_is in
+    subst (Counts c.args.clock.now) (sym (mark_seen _ are k)) (c.requires.before k (omega arith))
 
 pub search_from-more-requires-clause-widths : goal.search_from-more-requires-clause-widths
 search_from-more-requires-clause-widths c k small =

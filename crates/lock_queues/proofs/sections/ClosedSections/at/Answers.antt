@@ -33,4 +33,5 @@ returns c =
     let acquire = get_or_read ms c.args.at _ lt c.index.ensures no_entry.acquire in
     let place = get_or_read ps c.args.at _ (omega arith) c.index-2.ensures no_entry.place in
     (λ i. record { acquire = acquire i; place = place i })
-    ∙ sym (entry_listed ms ps c.args.at same lt) ∙ ap (λ (l : Listed). entry_at l.entries c.args.at) c.self.view_is
+    ∙ sym (entry_listed ms ps c.args.at same lt)
+    ∙ ap (λ (l : Listed). entry_at l.entries c.args.at) c.self.view_is
