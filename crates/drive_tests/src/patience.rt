@@ -148,11 +148,11 @@ fn a_pass_is_looked_for_as_often_as_is_allowed_and_once_where_it_cannot_come(
         let (sender, mut receiver) = pass_channel::<Brand, Any>(rt.alloc(), ThreadId(1))?;
         let held = receiver.receive_within(&rt, most);
         assert!(&rt; matches!(held, Err(TryRecvError::Empty)));
-        assert!(&rt; receiver.looks == most);
+        assert!(&rt; receiver.looks() == most);
         drop(sender);
         let let_go = receiver.receive_within(&rt, 9);
         assert!(&rt; matches!(let_go, Err(TryRecvError::Disconnected)));
-        assert!(&rt; receiver.looks == most + 1);
+        assert!(&rt; receiver.looks() == most + 1);
     }
     Ok(())
 }

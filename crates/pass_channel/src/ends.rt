@@ -131,6 +131,13 @@ impl<N: Name, T: Terms> PassReceiver<N, T> {
         self.to
     }
 
+    /// How often this end looked for the pass.
+    pub fn looks(&self) -> u32
+        ensures { result ≡ self.now.looks }
+    {
+        self.looks
+    }
+
     /// Waits for the pass. There is none where the other end was let go without one; no clause tells when that
     /// is.
     pub fn receive<R: Wait>(self, rt: &R) -> Option<Pass<N>>
