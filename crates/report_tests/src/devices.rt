@@ -155,18 +155,15 @@ const PRINTED: &[(&str, &str, &str, u8)] = &[
 fn a_device_tells_of_a_writer_that_takes_no_more(rt: HostRuntime) {
     for fails in [true, false] {
         for (command, text, output, status) in PRINTED {
-            for writes in 0..output.len() {
+            for writes in 0..=output.len() {
+                let told = if writes < output.len() {
+                    ("write fault\n", 4)
+                } else {
+                    ("", *status)
+                };
                 let writer = Narrow::of(output, writes, fails);
-                expect_end(
-                    &rt,
-                    &[*command],
-                    (*text, false),
-                    writer,
-                    ("write fault\n", 4),
-                );
+                expect_end(&rt, &[*command], (*text, false), writer, told);
             }
-            let writer = Narrow::of(output, output.len(), fails);
-            expect_end(&rt, &[*command], (*text, false), writer, ("", *status));
         }
     }
 }

@@ -121,17 +121,45 @@ fn a_line_of_a_script_that_is_too_long_is_told(rt: HostRuntime) {
     Run::of(SCRIPT, Text::whole(&text)).expect(&rt, "line 1: LineTooLong\n", "", 6);
 }
 
+/// Nothing orders the store and the load of `y`, in whichever order they come.
+const RACE: &str = "m fork a\nm w y 1\nm acq l\nm w x 1\nm rel l\na acq l\na rel l\na r y\n";
+
+const RACE_COUNTS: &[u8] = b"events 8 threads 2 locks 1 variables 2 races 1\n";
+
 const STUCK: &str = "m acq l\nm fork a\na acq l\n";
+
+/// A line with two blanks, and a release of a lock that is free.
+const BAD: &str = "m  r x\n";
+
+const FREE: &str = "m rel l\n";
 
 const GIVEN_UP: &str = "line 3: Stuck\n";
 
 const MISSING: Program<'static> = Program::Words(&["run", "there/is/no/such/script"]);
 
-const FAULT: &str = "read fault\n";
+const UNREAD: &str = "read fault\n";
+
+const UNWRITTEN: &str = "write fault\n";
 
 const ALL: (Room, Room) = (Room::AMPLE, Room::AMPLE);
 
 const ONE_PUT: (Room, Room) = (Room::ONE_PUT, Room::AMPLE);
+
+/// So many puts of at most seven bytes.
+const NEVER: (Room, Room) = (Room { most: 7, puts: 0 }, Room::AMPLE);
+
+const ONCE: (Room, Room) = (Room { most: 7, puts: 1 }, Room::AMPLE);
+
+const TWICE: (Room, Room) = (Room { most: 7, puts: 2 }, Room::AMPLE);
+
+/// So many puts of at most 17 bytes, as many as the line has that a thread was not started.
+const ONE_LINE: (Room, Room) = (Room { most: 17, puts: 1 }, Room::AMPLE);
+
+const TWO_LINES: (Room, Room) = (Room { most: 17, puts: 2 }, Room::AMPLE);
+
+const LESS: &str = "events 8 threads ";
+
+const MORE: &str = "events 8 threads 2 locks 1 variabl";
 
 const ROWS: &[Row] = &[
     // A line is given up as soon as patience says.
@@ -139,41 +167,30 @@ const ROWS: &[Row] = &[
     (Script(2), STUCK, false, ALL, GIVEN_UP, "", 6),
     (Script(100), STUCK, false, ALL, GIVEN_UP, "", 6),
     // Whole lines that came before a reader failed are judged first.
-    (SCRIPT, "m acq l", true, ALL, "", FAULT, 4),
-    (SCRIPT, "m fork a\na r", true, ALL, "", FAULT, 4),
-    (SCRIPT, "m  r x\n", true, ALL, "line 1: BadLine\n", "", 6),
+    (SCRIPT, "m acq l", true, ALL, "", UNREAD, 4),
+    (SCRIPT, "m fork a\na r", true, ALL, "", UNREAD, 4),
+    (SCRIPT, BAD, true, ALL, "line 1: BadLine\n", "", 6),
     // A writer that takes one put and no more has the whole line of a fault.
-    (
-        SCRIPT,
-        "m  r x\n",
-        false,
-        ONE_PUT,
-        "line 1: BadLine\n",
-        "",
-        6,
-    ),
-    (
-        SCRIPT,
-        "m rel l\n",
-        false,
-        ONE_PUT,
-        "line 1: NotHolder\n",
-        "",
-        3,
-    ),
+    (SCRIPT, BAD, false, ONE_PUT, "line 1: BadLine\n", "", 6),
+    (SCRIPT, FREE, false, ONE_PUT, "line 1: NotHolder\n", "", 3),
+    // Whichever write fails, of a report or of a fault, the status says so.
+    (SCRIPT, RACE, false, NEVER, "", UNWRITTEN, 4),
+    (SCRIPT, RACE, false, ONE_LINE, LESS, UNWRITTEN, 4),
+    (SCRIPT, RACE, false, TWO_LINES, MORE, UNWRITTEN, 4),
+    (SCRIPT, FREE, false, NEVER, "", UNWRITTEN, 4),
+    (SCRIPT, FREE, false, ONCE, "line 1:", UNWRITTEN, 4),
+    (SCRIPT, FREE, false, TWICE, "line 1: NotHol", UNWRITTEN, 4),
+    (SCRIPT, BAD, false, NEVER, "", UNWRITTEN, 4),
+    (SCRIPT, BAD, false, ONCE, "line 1:", UNWRITTEN, 4),
+    (SCRIPT, BAD, false, TWICE, "line 1: BadLin", UNWRITTEN, 4),
     // A missing file is answered with a read fault.
-    (MISSING, "", false, ALL, "", FAULT, 4),
+    (MISSING, "", false, ALL, "", UNREAD, 4),
 ];
 
 #[test]
 fn patience_readers_and_writers_bound_a_run_of_a_script(rt: HostRuntime) {
     expect_rows(&rt, ROWS);
 }
-
-/// Nothing orders the store and the load of `y`, in whichever order they come.
-const RACE: &[u8] = b"m fork a\nm w y 1\nm acq l\nm w x 1\nm rel l\na acq l\na rel l\na r y\n";
-
-const RACE_COUNTS: &[u8] = b"events 8 threads 2 locks 1 variables 2 races 1\n";
 
 /// The line of the race. None, one or two calls of the child come before the store, and none, one, two or
 /// three calls of the main thread come between the child's section and the load. Or the load comes first.
@@ -211,27 +228,7 @@ fn expect_race<R: Abort + AllocGlobal + Files + Threads + Wait + Sync>(rt: &R, r
 #[test]
 fn a_race_is_reported_whole_whatever_the_schedule(rt: HostRuntime) {
     for _ in 0..20 {
-        expect_race(&rt, &Run::of(SCRIPT, Text::whole(RACE)));
-    }
-}
-
-/// Texts for which there is a report or a fault to write.
-const WRITING: &[&[u8]] = &[RACE, b"m rel l\n", b"m  r x\n"];
-
-/// Whichever write fails, of a report or of a fault, the status says so.
-#[test]
-fn a_script_ends_with_status_4_where_a_write_fails(rt: HostRuntime) {
-    for text in WRITING {
-        for puts in 0..3 {
-            let run = Run {
-                program: SCRIPT,
-                text: Text::whole(text),
-                rooms: (Room { most: 7, puts }, Room::AMPLE),
-            };
-            let ran = run.ran_again(&rt);
-            let is_told = ran.status == 4 && ran.errors.as_slice() == b"write fault\n".as_slice();
-            ran.held(&rt, is_told, "a write that fails");
-        }
+        expect_race(&rt, &Run::of(SCRIPT, Text::whole(RACE.as_bytes())));
     }
 }
 
@@ -287,7 +284,7 @@ fn a_script_in_a_file_is_run(rt: HostRuntime) {
 
 #[test]
 fn a_race_of_a_script_in_a_file_is_reported(rt: HostRuntime) {
-    write_script(&rt, RACE);
+    write_script(&rt, RACE.as_bytes());
     let words = Program::Words(&["run", "worked.script"]);
     expect_race(&rt, &Run::of(words, Text::whole(b"")));
 }

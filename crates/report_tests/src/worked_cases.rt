@@ -15,23 +15,20 @@ fn legal_traces_have_their_answers_however_they_are_cut(rt: HostRuntime) {
     }
 }
 
-/// The text and an LF.
-fn ended(alloc: Global, text: &str) -> Vec<u8> {
-    let mut ended = Vec::new(alloc);
-    keep(&mut ended, text.as_bytes());
-    keep(&mut ended, b"\n");
-    ended
-}
-
 /// The line of the refusal is printed. An LF after the text changes nothing.
 #[test]
 fn the_first_refused_line_is_named_however_a_text_is_cut(rt: HostRuntime) {
     for (_, text, line) in refused() {
-        let ended = ended(rt.alloc(), text);
-        expect_both(&rt, Text::whole(&ended), (*line, *line), "", 3);
-        for cut in 0..=text.len() {
-            let text = Text::however_cut(text.as_bytes(), cut);
-            expect_both(&rt, text, (*line, *line), "", 3);
+        let mut ended = Vec::new(rt.alloc());
+        keep(&mut ended, text.as_bytes());
+        keep(&mut ended, b"\n");
+        for cut in 0..=ended.len() {
+            let bytes = if cut < ended.len() {
+                text.as_bytes()
+            } else {
+                &ended
+            };
+            expect_both(&rt, Text::however_cut(bytes, cut), (*line, *line), "", 3);
         }
         drop(ended);
     }

@@ -1,5 +1,6 @@
 //! Traces that are read event by event, and written again.
 use crate::doubles::{Page, Room, Text};
+use crate::expected::expect;
 use crate::runs::{REPLAY, Run};
 use crate::traces::legal;
 use event_core::{Limits, Roots};
@@ -30,25 +31,22 @@ fn copy(alloc: Global, text: &str, page: &mut Page) -> Option<bool> {
     is_copied
 }
 
-/// The lines of all events, and no page unless all are written. They are asked for again where memory ran out.
-fn copied(alloc: Global, text: &str) -> Option<Page> {
+/// The lines of all events, which are asked for again where memory ran out, and whether all are written.
+fn copied(alloc: Global, text: &str) -> (Page, bool) {
     let mut page = Page::blank(alloc, Room::AMPLE);
     let mut is_copied = copy(alloc, text, &mut page);
     if is_copied.is_none() {
         page.bytes.clear();
         is_copied = copy(alloc, text, &mut page);
     }
-    if is_copied == Some(true) {
-        Some(page)
-    } else {
-        None
-    }
+    (page, is_copied == Some(true))
 }
 
 #[test]
 fn a_trace_that_is_written_again_has_the_same_report(rt: HostRuntime) {
     for (_, text, _, report, status) in legal() {
-        let page = copied(rt.alloc(), text).expect(&rt, text);
+        let (page, is_copied) = copied(rt.alloc(), text);
+        expect(&rt, is_copied, text);
         Run::of(REPLAY, Text::whole(&page.bytes)).expect(&rt, report, "", *status);
         drop(page);
     }

@@ -37,5 +37,9 @@ fn are_numbered(alloc: Global) -> Option<bool> {
 
 #[test]
 fn names_are_numbered_by_first_appearance(rt: HostRuntime) {
-    expect(&rt, are_numbered(rt.alloc()) == Some(true), "y, x");
+    expect(
+        &rt,
+        are_numbered(rt.alloc()) == Some(true),
+        "the numbers of y and x",
+    );
 }

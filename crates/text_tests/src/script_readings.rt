@@ -74,8 +74,8 @@ impl Wanted<'_> {
     }
 }
 
-/// Whether the script is the one that is wanted, or its fault, with names for three threads, two locks and two
-/// variables. None where memory ran out.
+/// Whether the script is the one that is wanted, or its fault, with names for three threads, two locks and
+/// two variables. None where memory ran out.
 fn read(
     alloc: Global,
     pieces: Pieces<'_>,

@@ -73,18 +73,14 @@ fn put_fault_line(puts: usize) -> (bool, bool) {
 
 #[test]
 fn a_fault_line_is_written(rt: HostRuntime) {
-    for puts in 0..FAULT_LINE.len() {
+    for puts in 0..=FAULT_LINE.len() {
+        let is_whole = puts == FAULT_LINE.len();
         expect(
             &rt,
-            put_fault_line(puts) == (false, true),
-            "a line that is cut",
+            put_fault_line(puts) == (is_whole, !is_whole),
+            "a fault line",
         );
     }
-    expect(
-        &rt,
-        put_fault_line(FAULT_LINE.len()) == (true, false),
-        "a line",
-    );
 }
 
 /// Whether a fault line is written to so many bytes, after which the writer takes nothing.
