@@ -41,8 +41,7 @@ pub enum Fed {
     Cut,
 }
 
-/// Feeds what the input has left of its text to the sink, in pieces of up to 65,536 bytes, one for each turn
-/// at most.
+/// Feeds what the input has left of its text to the sink, in pieces of up to 65,536 bytes. Each takes a turn.
 pub fn feed_all<I: Input, S: Sink>(input: &mut I, sink: &mut S, turns: u64) -> Fed
     // All of the text was pulled, and taken.
     ensures whole { result ≡ Fed.Whole → Whole (I.left input.old) (I.left input.new) turns
