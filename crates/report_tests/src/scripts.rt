@@ -4,7 +4,6 @@ use crate::runs::Program::{self, Script};
 use crate::runs::{Ran, Row, Run, SCRIPT, expect_rows};
 use std::fs;
 use std::fs::Files;
-use std::process::Abort;
 use std::sync::Wait;
 use std::thread::Threads;
 
@@ -218,17 +217,12 @@ fn is_race(ran: &Ran) -> bool {
     }
 }
 
-/// A run of the race reports it.
-fn expect_race<R: Abort + AllocGlobal + Files + Threads + Wait + Sync>(rt: &R, run: &Run<'_>) {
-    let ran = run.ran_again(rt);
-    let is_race = is_race(&ran);
-    ran.held(rt, is_race, "a race");
-}
-
 #[test]
 fn a_race_is_reported_whole_whatever_the_schedule(rt: HostRuntime) {
     for _ in 0..20 {
-        expect_race(&rt, &Run::of(SCRIPT, Text::whole(RACE.as_bytes())));
+        let ran = Run::of(SCRIPT, Text::whole(RACE.as_bytes())).ran_again(&rt);
+        let is_race = is_race(&ran);
+        ran.held(&rt, is_race, "a race");
     }
 }
 
@@ -266,25 +260,29 @@ const IN_A_FILE: &[(&[&str], &str, &str, u8)] = &[
     ),
 ];
 
-/// Writes the script to the file, at the second try where memory ran out. A run tells what the file has.
-fn write_script<R: Files>(rt: &R, text: &[u8]) {
+/// What becomes of the script in a file that the words name. It is written at the second try where memory ran
+/// out, and removed then.
+fn ran_in_a_file<R: AllocGlobal + Files + Threads + Wait + Sync>(
+    rt: &R,
+    words: &[&str],
+    text: &str,
+) -> Ran {
     if fs::write(rt, "worked.script", text).is_err() {
         let _ = fs::write(rt, "worked.script", text);
     }
+    let ran = Run::of(Program::Words(words), Text::whole(b"")).ran_again(rt);
+    let _ = fs::remove_file(rt, "worked.script");
+    ran
 }
 
 #[test]
 fn a_script_in_a_file_is_run(rt: HostRuntime) {
     for (words, text, output, status) in IN_A_FILE {
-        write_script(&rt, text.as_bytes());
-        let run = Run::of(Program::Words(words), Text::whole(b""));
-        run.expect(&rt, output, "", *status);
+        let ran = ran_in_a_file(&rt, words, text);
+        let is_so = ran.is(output, "", *status);
+        ran.held(&rt, is_so, text);
     }
-}
-
-#[test]
-fn a_race_of_a_script_in_a_file_is_reported(rt: HostRuntime) {
-    write_script(&rt, RACE.as_bytes());
-    let words = Program::Words(&["run", "worked.script"]);
-    expect_race(&rt, &Run::of(words, Text::whole(b"")));
+    let ran = ran_in_a_file(&rt, &["run", "worked.script"], RACE);
+    let is_race = is_race(&ran);
+    ran.held(&rt, is_race, "a race");
 }
