@@ -133,8 +133,8 @@ impl Queues {
         at < self.queues.len() && self.queues[at].ready(thread)
     }
 
-    /// Makes room for the thread's next section on the lock where that takes no memory, which no clause tells.
-    /// Tells whether there is room for it now, or for the open one, as `ready` does.
+    /// Makes room for the thread's next section on the lock where that takes no memory; no clause tells whether
+    /// it does. Tells whether there is room for it now, or for the open one, as `ready` does.
     pub fn make_ready(&mut self, thread: ThreadId, lock: LockId) -> bool
         ensures room { result ≡ has_room self.new thread.0 lock.0 }
         ensures same { SameMeaning self.old self.new }

@@ -138,8 +138,8 @@ impl<N: Name, T: Terms> PassReceiver<N, T> {
         self.looks
     }
 
-    /// Waits for the pass. There is none where the other end was let go without one; no clause tells when that
-    /// is.
+    /// Waits for the pass. There is none where the other end was let go without one; no clause tells
+    /// when that is.
     pub fn receive<R: Wait>(self, rt: &R) -> Option<Pass<N>>
         ensures { IfSome result (λ pass. T.good self.to pass) }
     {
@@ -165,8 +165,8 @@ impl<N: Name, T: Terms> PassReceiver<N, T> {
     }
 
     /// Looks for the pass until it has come, or until so many looks were made by this end in all. `Empty` is
-    /// the answer only where all were made, and `Disconnected` where the other end was let go without a pass; no
-    /// clause tells when that is.
+    /// the answer only where all were made, and `Disconnected` where the other end was let go without a pass;
+    /// no clause tells when that is.
     pub fn receive_within<R: Wait>(&mut self, rt: &R, most: u32) -> Result<Pass<N>, TryRecvError>
         ensures to { self.new.to ≡ self.old.to }
         ensures good { IfOk result (λ pass. T.good self.old.to pass) }

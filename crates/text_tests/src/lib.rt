@@ -1,5 +1,6 @@
-//! Tests of traces and scripts as text: what readers, cutters and names of `rapid_text` answer, what scripts are
-//! read as, whatever the pieces are in which a text comes, what is written, and inputs and outputs that fail.
+//! Tests of traces and scripts as text: what readers, cutters and names of `rapid_text` answer, what scripts
+//! are read as, whatever the pieces are in which a text comes, what is written, and inputs and outputs that
+//! fail.
 //! The lines are those of `rapid_line` and of `script_text`.
 //!
 //! The crate has tests alone, and they see no more of those crates than any caller does. What met a refused
