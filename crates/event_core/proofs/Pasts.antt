@@ -4,8 +4,10 @@ use Rattle.std.proofs.lemmas.Option.{slice_get_within}
 use Rattle.event_core.specs.declared.ids.ThreadId.{ThreadId}
 use Rattle.event_core.specs.declared.events.Event.{Event}
 use Rattle.event_core.specs.declared.events.Op.TheVariants.{Fork}
+use Rattle.event_core.specs.Count.{Past}
 use Rattle.event_core.specs.Log.{Does, Of}
-use Rattle.event_core.proofs.Stable.{longer, back, of, does}
+use Rattle.event_core.specs.Wcp.{Strict}
+use Rattle.event_core.proofs.Stable.{longer, back, of, does, strict_too}
 
 abbrev pub Source : List Event → ThreadId → ℕ → Type 0
 Source log t g = Of log g t ⊎ ((v : ThreadId) × Does log g v (Fork t))
@@ -23,3 +25,10 @@ module _ (log : List Event) (e : Event) where
   pub new_source : (t : ThreadId) (g : ℕ) → g < length log → Source log t g → Source (log ++ e ∷ []) t g
   new_source t g lt (inl o) = inl (of (longer log (e ∷ [])) lt o)
   new_source t g lt (inr d) = inr (d.0, does (longer log (e ∷ [])) lt d.1)
+
+-- a thread's past is in its past of the longer log
+pub past_longer : (log : List Event) (e : Event) (t : ThreadId) (i : ℕ) → Past log (Strict log) t i
+    → Past (log ++ e ∷ []) (Strict (log ++ e ∷ [])) t i
+past_longer log e t i p =
+    let lt = source_within log t p.0 p.1 in
+    (p.0, new_source log e t p.0 lt p.1, strict_too (longer log (e ∷ [])) lt p.2)

@@ -1,7 +1,7 @@
 -- What an event adds to the strict clock of its thread, as sets.
 use Rattle.std.proofs.Common.{◌≡◌, ℕ, ◌<◌, ◌≤◌, List, [], ◌∷◌, ◌++◌, length, refl, sym, subst, ◌∙◌, arith}
 use Rattle.std.proofs.Common.{take, ◌⊎◌}
-use Rattle.std.proofs.Math.Seq.{take-append_seam, take-length}
+use Rattle.std.proofs.Math.Seq.{take-append_seam}
 use Rattle.std.proofs.lemmas.Option.{slice_get_within}
 use mathlib.Core.Logic.{inl, inr}
 use Rattle.event_core.specs.declared.events.AccessKind.{AccessKind}
@@ -13,15 +13,14 @@ use Rattle.event_core.specs.declared.ids.ThreadId.{ThreadId}
 use Rattle.event_core.specs.declared.ids.VarId.{VarId}
 use Rattle.event_core.specs.Closed.{Others}
 use Rattle.event_core.specs.Count.{Past, LockPast}
-use Rattle.event_core.specs.Log.{Does, depth, OuterRelease, Section, InSection, OpsConflict}
+use Rattle.event_core.specs.Log.{Does, depth, OuterRelease, Section, OpsConflict}
 use Rattle.event_core.specs.Order.{Hb}
 use Rattle.event_core.specs.Orderly.{Orderly}
 use Rattle.event_core.specs.Effect.{Effect, Accesses, Opens, Closes, Forks, Joins, Inner, access_of}
 use Rattle.event_core.specs.Wcp.{Meets, Strict}
 use Rattle.event_core.proofs.Counting.{last_of, last_does}
-use Rattle.event_core.proofs.Depth.{Opener, opener}
-use Rattle.event_core.proofs.LogFacts.{of_does, of_one, does_op, does_thread}
-use Rattle.event_core.proofs.Stable.{longer, back, of, does, acquire, releases_it, section_too, hb_too}
+use Rattle.event_core.proofs.LogFacts.{of_one, does_op}
+use Rattle.event_core.proofs.Stable.{longer, back, releases_it, section_too, hb_too}
 use Rattle.event_core.proofs.Stable.{strict_too}
 use Rattle.event_core.proofs.StrictStep.{Comes, from_own, from_join, from_lock, from_access, from_release}
 use Rattle.event_core.proofs.StrictStep.{strict_comes, comes_strict}
@@ -29,6 +28,8 @@ use Rattle.event_core.proofs.Effects.{Fits, accesses, opens, closes, forks, join
 use Rattle.event_core.proofs.Effects.{last_closes, last_opens, closes_at_one}
 use Rattle.event_core.proofs.Accesses.{access_no_acquire, access_no_release, access_no_fork, access_no_join}
 use Rattle.event_core.proofs.Accesses.{conflict_access}
+use Rattle.event_core.proofs.OtherSections.{meets_other, other_meets, other_of, others_by}
+use Rattle.event_core.proofs.SectionSteps.{section_within}
 use Rattle.wcp_laws.proofs.Accesses.{Met, met_by}
 use Rattle.event_core.proofs.Brings.{Brings, join_brings, acquire_brings}
 use Rattle.event_core.proofs.Pasts.{source_within, old_source, new_source}
@@ -64,11 +65,11 @@ module _ (log : List Event) (e : Event) (ord : Orderly (log ++ e ∷ [])) where
   meets_adds : (x : VarId) (k : AccessKind) (i r : ℕ) → e.op ≡ access_of x k
       → Meets (log ++ e ∷ []) r (length log) → Hb (log ++ e ∷ []) i r
       → (l : LockId) × (0 < depth log e.thread l) × Met log x k e.thread l i
-  meets_adds x k i r o m h = (m.lock, held, met_by log x k e.thread m.lock i m.conflict.first ops other)
+  meets_adds x k i r o m h =
+      let q = meets_other log e x k r o m in
+      let below : Hb log i r = hb_too (back (longer log (e ∷ []))) (section_within q.2.section) h in
+      (m.lock, held, met_by log x k q.0 e.thread m.lock i q.1 (others_by q.2 below))
     where
-      lt : r < length log
-      lt = m.before
-
       thread : m.thread ≡ e.thread
       thread = of_one m.inside.of (last_of log e)
 
@@ -87,91 +88,14 @@ module _ (log : List Event) (e : Event) (ord : Orderly (log ++ e ∷ [])) where
           subst (λ v. 0 < depth log v m.lock) thread
           (subst (λ xs. 0 < depth xs m.thread m.lock) (take-append_seam log (e ∷ [])) h)
 
-      ops : OpsConflict m.conflict.first (access_of x k)
-      ops =
-          subst (λ q. OpsConflict m.conflict.first q)
-          (does_op m.conflict.does_second (last_does log e) ∙ o) m.conflict.ops
-
-      s : InSection (log ++ e ∷ []) m.lock r m.access
-      s = m.in_section
-
-      by : m.conflict.by ≡ s.thread
-      by = of_one (of_does m.conflict.does_first) s.of
-
-      theirs : m.conflict.other ≡ e.thread
-      theirs = does_thread m.conflict.does_second (last_does log e)
-
-      other : (j : AccessKind) → m.conflict.first ≡ access_of x j → Others log m.lock x j e.thread i
-      other j a = record {
-        thread = s.thread;
-        other = λ q. m.conflict.threads (by ∙ q ∙ sym theirs);
-        acquire = s.acquire;
-        release = r;
-        section = section_too (back (longer log (e ∷ []))) lt s.section;
-        access = m.access;
-        from = s.from;
-        to = s.to;
-        does =
-            subst (λ p. Does log m.access s.thread p) a
-            (subst (λ v. Does log m.access v m.conflict.first) by
-            (does (back (longer log (e ∷ [])))
-            (let to : m.access ≤ r = s.to in omega arith) m.conflict.does_first));
-        below = hb_too (back (longer log (e ∷ []))) lt h;
-      }
-
   -- and what is met under a lock that the thread holds strictly precedes the access
   adds_meets : (x : VarId) (k j : AccessKind) (l : LockId) (i : ℕ) → e.op ≡ access_of x k
       → 0 < depth log e.thread l → OpsConflict (access_of x j) (access_of x k)
       → Others log l x j e.thread i → Strict (log ++ e ∷ []) i (length log)
   adds_meets x k j l i o held c q =
       comes_strict (log ++ e ∷ []) e.thread i (length log) ord (last_of log e)
-      (from_access q.release met (hb_too (longer log (e ∷ [])) lt q.below))
-    where
-      lt : q.release < length log
-      lt = slice_get_within log q.release q.section.closed.does.event q.section.closed.does.at
-
-      reached : q.access < length log
-      reached = let to : q.access ≤ q.release = q.to in let b = lt in omega arith
-
-      p : Opener log e.thread l (length log)
-      p =
-          opener log e.thread l (length log) (omega arith)
-          (subst (λ xs. 0 < depth xs e.thread l) (sym (take-length log)) held)
-
-      met : Meets (log ++ e ∷ []) q.release (length log)
-      met = record {
-        before = lt;
-        lock = l;
-        thread = e.thread;
-        acquire = p.index;
-        inside = record {
-          opened = acquire (longer log (e ∷ [])) p.below p.opened;
-          of = last_of log e;
-          from = (let b : p.index < length log = p.below in omega arith);
-          held =
-              λ n a b. subst (λ xs. 0 < depth xs e.thread l) ((longer log (e ∷ [])).fronts n b)
-              (p.held n a b);
-        };
-        access = q.access;
-        in_section = record {
-          thread = q.thread;
-          acquire = q.acquire;
-          section = section_too (longer log (e ∷ [])) lt q.section;
-          of = of (longer log (e ∷ [])) reached (of_does q.does);
-          from = q.from;
-          to = q.to;
-        };
-        conflict = record {
-          first = access_of x j;
-          second = access_of x k;
-          by = q.thread;
-          other = e.thread;
-          does_first = does (longer log (e ∷ [])) reached q.does;
-          does_second = subst (λ y. Does (log ++ e ∷ []) (length log) e.thread y) o (last_does log e);
-          ops = c;
-          threads = q.other;
-        };
-      }
+      (from_access q.release (other_meets log e l x k j q.release o held c (other_of q)).0
+      (hb_too (longer log (e ∷ [])) (section_within q.section) q.below))
 
   -- only an access meets a release
   access_adds : (k : Effect) → Fits log e k → (i r : ℕ) → Meets (log ++ e ∷ []) r (length log)
