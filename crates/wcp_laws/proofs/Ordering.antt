@@ -13,13 +13,12 @@ use Rattle.event_core.specs.Wcp.{Strict, rule_c_right}
 use Rattle.event_core.specs.declared.bounds.Limits.{Limits}
 use Rattle.event_core.specs.Refusal.{WellFormed}
 use Rattle.event_core.specs.declared.events.Event.{Event}
-use Rattle.event_core.proofs.Chains.{hb_thread}
-use Rattle.event_core.proofs.CountLaws.{counts_union, counts_same, counts_grow, own}
-use Rattle.event_core.proofs.CountLaws.{brought_hb}
+use Rattle.event_core.proofs.Chains.{hb_of_po}
+use Rattle.event_core.proofs.CountLaws.{counts_union, counts_grow}
 use Rattle.event_core.proofs.Legality.{orderly}
 use Rattle.event_core.proofs.Main.{strict_forward}
 use Rattle.event_core.proofs.SectionSteps.{before_within, before_end, counted_before, release_order}
-use Rattle.event_core.proofs.Pasts.{Source, source_within, past_longer}
+use Rattle.event_core.proofs.Pasts.{source_within, past_longer, past_latest}
 use Rattle.wcp_laws.specs.Conditions.{ReleasesAbove, CountedEarlier, StrictIsLatest}
 use Rattle.wcp_laws.specs.Conditions.{BelowIsLatest}
 use Rattle.wcp_laws.specs.Step.{effect, hb_row, after}
@@ -72,21 +71,8 @@ strict_grows limits log e s t u w st =
 
 pub strict_is_latest : StrictIsLatest
 strict_is_latest limits log s j t u w st o last =
-    counts_same log u (Past log (Strict log) t) (λ i. Strict log i j) (s.strict.thread t.0 u.0)
-    (λ i of_i. (λ p. to i p.0 p.1 p.2, λ d. (j, inl o, d))) (st.strict.thread t u)
-  where
-    ord : Orderly log
-    ord = orderly limits log w
-
-    to : (i g : ℕ) → Source log t g → Strict log i g
-        → Strict log i j
-    to i g (inl a) d = by (cases_lt j g)
-      where
-        by : (j < g) ⊎ (g ≤ j) → Strict log i j
-        by (inl lt) = absurd (last g lt a)
-        by (inr le) = rule_c_right d (hb_thread t a o le)
-    to i g (inr a) d =
-        rule_c_right d (brought_hb log t g j o (own g (ord.fork_first g j t a.0 a.1 o) (inr a) here))
+    past_latest log (Strict log) t u j (s.strict.thread t.0 u.0) (orderly limits log w)
+    (λ i g p q. rule_c_right p (hb_of_po q)) o last (st.strict.thread t u)
 
 pub below_is_latest : BelowIsLatest
 below_is_latest limits log s j n t u w st o last po =
