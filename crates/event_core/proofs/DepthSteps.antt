@@ -1,6 +1,5 @@
 -- How often each lock is held, after an event.
 use Rattle.std.proofs.Common.{◌≡◌, ℕ, ◌+◌, ◌-◌, List, [], ◌∷◌, ◌++◌, refl, sym, ap, subst, ◌∙◌, inl, inr, ◌⊎◌}
-use Rattle.std.proofs.lemmas.Bool.{cases_eq}
 use Rattle.event_core.specs.declared.ids.ThreadId.{ThreadId}
 use Rattle.event_core.specs.declared.ids.LockId.{LockId}
 use Rattle.event_core.specs.declared.events.Event.{Event}
@@ -11,21 +10,8 @@ use Rattle.event_core.specs.Orderly.{Orderly}
 use Rattle.event_core.specs.Rows.{with_row, depth_after}
 use Rattle.event_core.proofs.Depth.{same_lock_id, same_thread_id}
 use Rattle.event_core.proofs.Effects.{depth_same, depth_up, depth_down}
-use Rattle.event_core.proofs.Growing.{row_same, row_other}
+use Rattle.event_core.proofs.Growing.{cell_same, cell_other}
 use Rattle.event_core.proofs.HeldDepths.{cell_cases, same_at}
-
--- one cell of a table is written
-pub cell_same : {A : Type 0} (t l : ℕ) (v : A) (f : ℕ → ℕ → A) → with_row t (with_row l v (f t)) f t l ≡ v
-cell_same t l v f = ap (λ g. g l) (row_same t (with_row l v (f t)) f) ∙ row_same l v (f t)
-
-pub cell_other : {A : Type 0} (t l : ℕ) (v : A) (f : ℕ → ℕ → A) (a b : ℕ) → (a ≡ t → b ≡ l → ⊥)
-    → with_row t (with_row l v (f t)) f a b ≡ f a b
-cell_other {A = A} t l v f a b n = go (cases_eq a t)
-  where
-    go : (a ≡ t) ⊎ (a ≡ t → ⊥) → with_row t (with_row l v (f t)) f a b ≡ f a b
-    go (inl e) = subst (λ x. with_row t (with_row l v (f t)) f x b ≡ f x b) (sym e)
-        (ap (λ g. g b) (row_same t (with_row l v (f t)) f) ∙ row_other l v (f t) b (n e))
-    go (inr ne) = ap (λ g. g b) (row_other t (with_row l v (f t)) f a ne)
 
 -- an operation that neither acquires nor releases changes no depth
 abbrev Counts : Op → Type 0

@@ -1,33 +1,31 @@
 -- One step of the clocks of happens-before, as sets: what is below the event that a log grows by.
-use Rattle.std.proofs.Common.{◌≡◌, ℕ, ◌<◌, List, [], ◌∷◌, ◌++◌, length, arith, inl, inr, ◌⊎◌}
+use Rattle.std.proofs.Common.{ℕ, ◌<◌, List, [], ◌∷◌, ◌++◌, length, arith, inl, inr, ◌⊎◌}
 use Rattle.event_core.specs.declared.events.Event.{Event}
 use Rattle.event_core.specs.Order.{Hb}
 use Rattle.event_core.specs.Count.{Past, LockPast}
 use Rattle.event_core.specs.Effect.{Effect}
-use Rattle.event_core.proofs.ClockStep.{NewBelow, by_thread, by_joined, by_lock_of, step_to, step_from}
+use Rattle.event_core.specs.Newest.{HbNew, itself, by_thread, by_join, by_lock}
+use Rattle.event_core.proofs.ClockStep.{hb_new, new_hb}
 use Rattle.event_core.proofs.Effects.{Fits, accesses, opens, closes, forks, joins, again, inner}
 use Rattle.event_core.proofs.Brings.{Brings, join_brings, acquire_brings}
 
 module _ (log : List Event) (e : Event) where
   pub hb_to : (k : Effect) → Fits log e k → (i : ℕ) → i < length log → Hb (log ++ e ∷ []) i (length log)
       → Past log (Hb log) e.thread i ⊎ Brings log (Hb log) (LockPast log (Hb log)) k i
-  hb_to k f i lt h = go (step_to log e i h)
+  hb_to k f i lt h = go (hb_new log e i h)
     where
-      go : (i ≡ length log) ⊎ NewBelow log e i
-          → Past log (Hb log) e.thread i ⊎ Brings log (Hb log) (LockPast log (Hb log)) k i
-      go (inl is) = absurd (omega arith)
-      go (inr (by_thread p)) = inl p
-      go (inr (by_joined u o p)) =
-          inr (join_brings log e (Hb log) (LockPast log (Hb log)) u i k f o p)
-      go (inr (by_lock_of l o z p)) =
-          inr (acquire_brings log e (Hb log) (LockPast log (Hb log)) l i k f o z p)
+      go : HbNew log e i → Past log (Hb log) e.thread i ⊎ Brings log (Hb log) (LockPast log (Hb log)) k i
+      go (itself is) = absurd (omega arith)
+      go (by_thread p) = inl p
+      go (by_join u o p) = inr (join_brings log e (Hb log) (LockPast log (Hb log)) u i k f o p)
+      go (by_lock l o z p) = inr (acquire_brings log e (Hb log) (LockPast log (Hb log)) l i k f o z p)
 
   pub hb_from : (k : Effect) → Fits log e k → (i : ℕ)
       → Past log (Hb log) e.thread i ⊎ Brings log (Hb log) (LockPast log (Hb log)) k i
       → Hb (log ++ e ∷ []) i (length log)
-  hb_from k f i (inl p) = step_from log e i (by_thread p)
-  hb_from _ (joins u o) i (inr p) = step_from log e i (by_joined u o p)
-  hb_from _ (opens l o d) i (inr p) = step_from log e i (by_lock_of l o d p)
+  hb_from k f i (inl p) = new_hb log e i (by_thread p)
+  hb_from _ (joins u o) i (inr p) = new_hb log e i (by_join u o p)
+  hb_from _ (opens l o d) i (inr p) = new_hb log e i (by_lock l o d p)
   hb_from _ (accesses x k o) i (inr p) = absurd p
   hb_from _ (closes l o d) i (inr p) = absurd p
   hb_from _ (forks u o) i (inr p) = absurd p

@@ -45,3 +45,7 @@ pub mod SectionNumbers
 pub mod Keeping
 pub mod Blanks
 pub mod Packing
+pub mod NotedAccesses
+pub mod SectionSteps
+pub mod OtherSections
+pub mod OpenPositions

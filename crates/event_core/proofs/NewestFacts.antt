@@ -13,7 +13,6 @@ use Rattle.event_core.specs.Order.{Hb, here}
 use Rattle.event_core.specs.Wcp.{Strict}
 use Rattle.event_core.specs.Orderly.{Orderly}
 use Rattle.event_core.specs.Count.{events_of, Counts}
-use Rattle.event_core.specs.Newest.{HbNew, itself, by_thread, by_join, by_lock}
 use Rattle.event_core.specs.Newest.{StrictNew, from_thread, from_join, from_lock, from_access, from_release}
 use Rattle.event_core.proofs.LogFacts.{does_op}
 use Rattle.event_core.proofs.Depth.{thread_cases}
@@ -23,8 +22,7 @@ use Rattle.event_core.proofs.CountLaws.{rank_below}
 use Rattle.event_core.proofs.Counting.{nat_eq_same, nat_eq_other, last_of, last_does, is_last, last_thread}
 use Rattle.event_core.proofs.Counting.{events_grow}
 use Rattle.event_core.proofs.Effects.{last_opens, last_closes, closes_at_one}
-use Rattle.event_core.proofs.ClockStep.{NewBelow, by_thread as below_thread, by_joined, by_lock_of, step_to}
-use Rattle.event_core.proofs.ClockStep.{step_from}
+use Rattle.event_core.proofs.Pasts.{source_within, old_source, new_source}
 use Rattle.event_core.proofs.StrictStep.{Comes, from_own, from_join as comes_join, from_lock as comes_lock}
 use Rattle.event_core.proofs.StrictStep.{from_access as comes_access, from_release as comes_release}
 use Rattle.event_core.proofs.StrictStep.{strict_comes, comes_strict}
@@ -96,46 +94,9 @@ counts_new log e u P n a all = record {
             let s = all t in
             omega arith
 
--- what happens before a new event
-pub hb_new : (log : List Event) (e : Event) (i : ℕ) → Hb (log ++ e ∷ []) i (length log) → HbNew log e i
-hb_new log e i h = go (step_to log e i h)
-  where
-    go : (i ≡ length log) ⊎ NewBelow log e i → HbNew log e i
-    go (inl is) = itself is
-    go (inr (below_thread p)) = by_thread p
-    go (inr (by_joined u o p)) = by_join u o p
-    go (inr (by_lock_of l o z p)) = by_lock l o z p
-
-pub new_hb : (log : List Event) (e : Event) (i : ℕ) → HbNew log e i → Hb (log ++ e ∷ []) i (length log)
-new_hb log e i (itself is) = subst (λ x. Hb (log ++ e ∷ []) x (length log)) (sym is) here
-new_hb log e i (by_thread p) = step_from log e i (below_thread p)
-new_hb log e i (by_join u o p) = step_from log e i (by_joined u o p)
-new_hb log e i (by_lock l o z p) = step_from log e i (by_lock_of l o z p)
-
-Source : List Event → ThreadId → ℕ → Type 0
-Source log t g = Of log g t ⊎ ((v : ThreadId) × Does log g v (Fork t))
-
-old_source : (log : List Event) (e : Event) (t : ThreadId) (g : ℕ) → g < length log
-    → Source (log ++ e ∷ []) t g → Source log t g
-unfolding Source
-old_source log e t g lt (inl o) = inl (of (back (longer log (e ∷ []))) lt o)
-old_source log e t g lt (inr d) = inr (d.0, does (back (longer log (e ∷ []))) lt d.1)
-
-new_source : (log : List Event) (e : Event) (t : ThreadId) (g : ℕ) → g < length log
-    → Source log t g → Source (log ++ e ∷ []) t g
-unfolding Source
-new_source log e t g lt (inl o) = inl (of (longer log (e ∷ [])) lt o)
-new_source log e t g lt (inr d) = inr (d.0, does (longer log (e ∷ [])) lt d.1)
-
-source_within : (log : List Event) (t : ThreadId) (g : ℕ) → Source log t g → g < length log
-unfolding Source
-source_within log t g (inl o) = slice_get_within log g o.event o.at
-source_within log t g (inr d) = slice_get_within log g d.1.event d.1.at
-
 -- what strictly precedes a new event
 pub strict_new : (log : List Event) (e : Event) (i : ℕ) → Orderly (log ++ e ∷ [])
     → Strict (log ++ e ∷ []) i (length log) → StrictNew log e i
-unfolding Source
 strict_new log e i w s = go (strict_comes (log ++ e ∷ []) e.thread i (length log) w (last_of log e) s)
   where
     a : Agree (length log) (log ++ e ∷ []) log
@@ -157,7 +118,6 @@ strict_new log e i w s = go (strict_comes (log ++ e ∷ []) e.thread i (length l
 
 pub new_strict : (log : List Event) (e : Event) (i : ℕ) → Orderly (log ++ e ∷ []) → StrictNew log e i
     → Strict (log ++ e ∷ []) i (length log)
-unfolding Source
 new_strict log e i w s = comes_strict (log ++ e ∷ []) e.thread i (length log) w (last_of log e) (go s)
   where
     a : Agree (length log) log (log ++ e ∷ [])

@@ -1,5 +1,5 @@
 -- What the definitions say of the small logs.
-use Rattle.std.proofs.Common.{◌≡◌, ℕ, suc, ◌≤◌, ◌+◌, List, Bool, true, refl, ap, arith, take, Some}
+use Rattle.std.proofs.Common.{◌≡◌, ℕ, suc, ◌<◌, ◌≤◌, ◌+◌, List, Bool, true, refl, ap, arith, take, Some}
 use Rattle.std.proofs.Common.{slice_get, nat_le, ◌&&◌}
 use mathlib.Core.Logic.{inl, inr}
 use Rattle.event_core.specs.declared.ids.ThreadId.{ThreadId}
@@ -7,7 +7,7 @@ use Rattle.event_core.specs.declared.ids.LockId.{LockId}
 use Rattle.event_core.specs.declared.events.Event.{Event}
 use Rattle.event_core.specs.declared.events.Op.{Op}
 use Rattle.event_core.specs.declared.events.Op.TheVariants.{Load, Store, Acquire, Release}
-use Rattle.event_core.specs.Log.{Does, Of, depth, Section, InSection}
+use Rattle.event_core.specs.Log.{Does, Of, depth, Inside, Section, InSection, Conflict, OpsConflict}
 use Rattle.event_core.specs.Order.{lock, Po, Hb}
 use Rattle.event_core.specs.Wcp.{Meets, Strict, rule_a, rule_c_left, rule_c_right, Below}
 use Rattle.event_core.specs.Verdict.{Races}
@@ -47,6 +47,35 @@ in_it {u = u} {a = a} s o from to =
 pub main_not_child : main ≡ child → ⊥
 main_not_child e = let n : main.0 ≡ child.0 = ap (λ (t : ThreadId). t.0) e in cc
 
+-- accesses of two threads that conflict
+pub conflict_at : {log : List Event} {i j : ℕ} {u v : ThreadId} {p q : Op} → Does log i u p → Does log j v q
+    → OpsConflict p q → (u ≡ v → ⊥) → Conflict log i j
+conflict_at {u = u} {v = v} {p = p} {q = q} a b ops apart = record {
+  first = p;
+  second = q;
+  by = u;
+  other = v;
+  does_first = a;
+  does_second = b;
+  ops = ops;
+  threads = apart;
+}
+
+-- main's section with an access, and the child's later access in a section on the same lock
+pub meets_at : {log : List Event} {m : LockId} {a r g b j : ℕ} {p q : Op} → Section log main m a r
+    → Does log g main p → a ≤ g → g ≤ r → Inside log child m b j → Does log j child q → r < j
+    → OpsConflict p q → Meets log r j
+meets_at {m = m} {g = g} {b = b} s first from to inside second before ops = record {
+  before = before;
+  lock = m;
+  thread = child;
+  acquire = b;
+  inside = inside;
+  access = g;
+  in_section = in_it s (of_does first) from to;
+  conflict = conflict_at first second ops main_not_child;
+}
+
 -- two sections with conflicting stores
 section_stores : Section two_sections main l 1 3
 unfolding depth
@@ -56,28 +85,11 @@ section_stores =
 
 stores_meet : Meets two_sections 3 5
 unfolding depth
-stores_meet = record {
-  before = omega arith;
-  lock = l;
-  thread = child;
-  acquire = 4;
-  inside =
-      inside_at two_sections child l 4 1 5 (is two_sections 4 child (Acquire l) refl) refl
-      (at_thread two_sections 5 child (Store x) refl) refl refl;
-  access = 2;
-  in_section =
-      in_it section_stores (at_thread two_sections 2 main (Store x) refl) (omega arith) (omega arith);
-  conflict = record {
-    first = Store x;
-    second = Store x;
-    by = main;
-    other = child;
-    does_first = is two_sections 2 main (Store x) refl;
-    does_second = is two_sections 5 child (Store x) refl;
-    ops = refl;
-    threads = main_not_child;
-  };
-}
+stores_meet =
+    meets_at section_stores (is two_sections 2 main (Store x) refl) (omega arith) (omega arith)
+    (inside_at two_sections child l 4 1 5 (is two_sections 4 child (Acquire l) refl) refl
+    (at_thread two_sections 5 child (Store x) refl) refl refl) (is two_sections 5 child (Store x) refl)
+    (omega arith) refl
 
 store_first : Strict two_sections 2 5
 store_first =
@@ -125,46 +137,22 @@ happens_before_alone = (
     races : Races empty_section 1 7
     races = record {
       before = omega arith;
-      conflict = record {
-        first = Store y;
-        second = Load y;
-        by = main;
-        other = child;
-        does_first = is empty_section 1 main (Store y) refl;
-        does_second = is empty_section 7 child (Load y) refl;
-        ops = refl;
-        threads = main_not_child;
-      };
+      conflict =
+          conflict_at (is empty_section 1 main (Store y) refl) (is empty_section 7 child (Load y) refl) refl
+          main_not_child;
       unordered = unordered;
     }
 
 -- a later section that loads
 loading_meet : Meets loading_section 4 6
 unfolding depth
-loading_meet = record {
-  before = omega arith;
-  lock = l;
-  thread = child;
-  acquire = 5;
-  inside =
-      inside_at loading_section child l 5 1 6 (is loading_section 5 child (Acquire l) refl) refl
-      (at_thread loading_section 6 child (Load x) refl) refl refl;
-  access = 3;
-  in_section =
-      in_it (section_at loading_section main l 2 2 4 (is loading_section 2 main (Acquire l) refl)
-      (is loading_section 4 main (Release l) refl) refl refl refl refl)
-      (at_thread loading_section 3 main (Store x) refl) (omega arith) (omega arith);
-  conflict = record {
-    first = Store x;
-    second = Load x;
-    by = main;
-    other = child;
-    does_first = is loading_section 3 main (Store x) refl;
-    does_second = is loading_section 6 child (Load x) refl;
-    ops = refl;
-    threads = main_not_child;
-  };
-}
+loading_meet =
+    meets_at (section_at loading_section main l 2 2 4 (is loading_section 2 main (Acquire l) refl)
+    (is loading_section 4 main (Release l) refl) refl refl refl refl)
+    (is loading_section 3 main (Store x) refl) (omega arith) (omega arith)
+    (inside_at loading_section child l 5 1 6 (is loading_section 5 child (Acquire l) refl) refl
+    (at_thread loading_section 6 child (Load x) refl) refl refl) (is loading_section 6 child (Load x) refl)
+    (omega arith) refl
 
 main_before : {i j : ℕ} (o p : Op) → slice_get loading_section i ≡ Some (event main o)
     → slice_get loading_section j ≡ Some (event main p) → i ≤ j → Hb loading_section i j

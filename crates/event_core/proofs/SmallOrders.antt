@@ -14,35 +14,19 @@ use Rattle.event_core.specs.Examples.{sections_in_turn}
 use Rattle.event_core.specs.Examples.{RuleBOrdersReleases}
 use Rattle.event_core.proofs.Chains.{chain_one, hb_thread, hb_trans}
 use Rattle.event_core.proofs.SmallTests.{inside_at, clear_but, racy_with, no_strict}
-use Rattle.event_core.proofs.SmallLogs.{is, at_thread, section_at, in_it, main_not_child, po_stays_in}
+use Rattle.event_core.proofs.SmallLogs.{is, at_thread, section_at, in_it, conflict_at, meets_at}
+use Rattle.event_core.proofs.SmallLogs.{main_not_child, po_stays_in}
 
 -- the load before the conflicting one
 late_meet : Meets early_load 4 7
 unfolding depth
-late_meet = record {
-  before = omega arith;
-  lock = l;
-  thread = child;
-  acquire = 5;
-  inside =
-      inside_at early_load child l 5 2 7 (is early_load 5 child (Acquire l) refl) refl
-      (at_thread early_load 7 child (Load x) refl) refl refl;
-  access = 3;
-  in_section =
-      in_it (section_at early_load main l 2 2 4 (is early_load 2 main (Acquire l) refl)
-      (is early_load 4 main (Release l) refl) refl refl refl refl)
-      (at_thread early_load 3 main (Store x) refl) (omega arith) (omega arith);
-  conflict = record {
-    first = Store x;
-    second = Load x;
-    by = main;
-    other = child;
-    does_first = is early_load 3 main (Store x) refl;
-    does_second = is early_load 7 child (Load x) refl;
-    ops = refl;
-    threads = main_not_child;
-  };
-}
+late_meet =
+    meets_at (section_at early_load main l 2 2 4 (is early_load 2 main (Acquire l) refl)
+    (is early_load 4 main (Release l) refl) refl refl refl refl) (is early_load 3 main (Store x) refl)
+    (omega arith) (omega arith)
+    (inside_at early_load child l 5 2 7 (is early_load 5 child (Acquire l) refl) refl
+    (at_thread early_load 7 child (Load x) refl) refl refl) (is early_load 7 child (Load x) refl)
+    (omega arith) refl
 
 not_strict_early : Strict early_load 1 6 → ⊥
 unfolding depth
@@ -59,16 +43,9 @@ order_begins = (
   racy_with early_load 6 1
       (record {
         before = omega arith;
-        conflict = record {
-          first = Store y;
-          second = Load y;
-          by = main;
-          other = child;
-          does_first = is early_load 1 main (Store y) refl;
-          does_second = is early_load 6 child (Load y) refl;
-          ops = refl;
-          threads = main_not_child;
-        };
+        conflict =
+            conflict_at (is early_load 1 main (Store y) refl) (is early_load 6 child (Load y) refl) refl
+            main_not_child;
         unordered = early_unordered;
       })
       refl,
@@ -85,30 +62,13 @@ effect_thread {i = i} {j = j} t o p a b le =
 
 effect_meet : Meets sections_in_turn 4 8
 unfolding depth
-effect_meet = record {
-  before = omega arith;
-  lock = k;
-  thread = child;
-  acquire = 7;
-  inside =
-      inside_at sections_in_turn child k 7 1 8 (is sections_in_turn 7 child (Acquire k) refl) refl
-      (at_thread sections_in_turn 8 child (Load x) refl) refl refl;
-  access = 3;
-  in_section =
-      in_it (section_at sections_in_turn main k 2 2 4 (is sections_in_turn 2 main (Acquire k) refl)
-      (is sections_in_turn 4 main (Release k) refl) refl refl refl refl)
-      (at_thread sections_in_turn 3 main (Store x) refl) (omega arith) (omega arith);
-  conflict = record {
-    first = Store x;
-    second = Load x;
-    by = main;
-    other = child;
-    does_first = is sections_in_turn 3 main (Store x) refl;
-    does_second = is sections_in_turn 8 child (Load x) refl;
-    ops = refl;
-    threads = main_not_child;
-  };
-}
+effect_meet =
+    meets_at (section_at sections_in_turn main k 2 2 4 (is sections_in_turn 2 main (Acquire k) refl)
+    (is sections_in_turn 4 main (Release k) refl) refl refl refl refl)
+    (is sections_in_turn 3 main (Store x) refl) (omega arith) (omega arith)
+    (inside_at sections_in_turn child k 7 1 8 (is sections_in_turn 7 child (Acquire k) refl) refl
+    (at_thread sections_in_turn 8 child (Load x) refl) refl refl) (is sections_in_turn 8 child (Load x) refl)
+    (omega arith) refl
 
 first_on_l : Section sections_in_turn main l 1 6
 unfolding depth
@@ -160,29 +120,11 @@ in_thread {i = i} {j = j} t o p a b le = hb_thread t (at_thread long i t o a) (a
 
 over_m : Meets long 8 13
 unfolding depth
-over_m = record {
-  before = omega arith;
-  lock = m;
-  thread = child;
-  acquire = 12;
-  inside =
-      inside_at long child m 12 1 13 (is long 12 child (Acquire m) refl) refl
-      (at_thread long 13 child (Load x) refl) refl refl;
-  access = 7;
-  in_section =
-      in_it (section_at long main m 6 2 8 (is long 6 main (Acquire m) refl) (is long 8 main (Release m) refl)
-      refl refl refl refl) (at_thread long 7 main (Store x) refl) (omega arith) (omega arith);
-  conflict = record {
-    first = Store x;
-    second = Load x;
-    by = main;
-    other = child;
-    does_first = is long 7 main (Store x) refl;
-    does_second = is long 13 child (Load x) refl;
-    ops = refl;
-    threads = main_not_child;
-  };
-}
+over_m =
+    meets_at (section_at long main m 6 2 8 (is long 6 main (Acquire m) refl) (is long 8 main (Release m) refl)
+    refl refl refl refl) (is long 7 main (Store x) refl) (omega arith) (omega arith)
+    (inside_at long child m 12 1 13 (is long 12 child (Acquire m) refl) refl
+    (at_thread long 13 child (Load x) refl) refl refl) (is long 13 child (Load x) refl) (omega arith) refl
 
 over_k : Hb long 16 17
 unfolding depth

@@ -15,7 +15,8 @@ use Rattle.event_core.specs.Examples.{InnerReleaseEndsNoSection, ForkIsBelowJoin
 use Rattle.event_core.proofs.Chains.{chain_one, chain_trans, hb_thread, po_thread}
 use Rattle.event_core.proofs.SmallTests.{inside_at, clear_but, racy_with, is_left_by_none}
 use Rattle.event_core.proofs.SmallTests.{no_strict}
-use Rattle.event_core.proofs.SmallLogs.{is, at_thread, section_at, in_it, main_not_child, po_stays_in}
+use Rattle.event_core.proofs.SmallLogs.{is, at_thread, section_at, in_it, conflict_at, meets_at}
+use Rattle.event_core.proofs.SmallLogs.{main_not_child, po_stays_in}
 
 -- overlapping sections
 overlap_unordered : Below overlapping_sections 4 7 → ⊥
@@ -34,16 +35,9 @@ own_section_ends = (
   racy_with overlapping_sections 7 4
       (record {
         before = omega arith;
-        conflict = record {
-          first = Store x;
-          second = Store x;
-          by = main;
-          other = child;
-          does_first = is overlapping_sections 4 main (Store x) refl;
-          does_second = is overlapping_sections 7 child (Store x) refl;
-          ops = refl;
-          threads = main_not_child;
-        };
+        conflict =
+            conflict_at (is overlapping_sections 4 main (Store x) refl)
+            (is overlapping_sections 7 child (Store x) refl) refl main_not_child;
         unordered = overlap_unordered;
       })
       refl,
@@ -58,28 +52,11 @@ inner_section =
 
 inner_meet : Meets inner_release 5 7
 unfolding depth
-inner_meet = record {
-  before = omega arith;
-  lock = l;
-  thread = child;
-  acquire = 6;
-  inside =
-      inside_at inner_release child l 6 1 7 (is inner_release 6 child (Acquire l) refl) refl
-      (at_thread inner_release 7 child (Store x) refl) refl refl;
-  access = 4;
-  in_section =
-      in_it inner_section (at_thread inner_release 4 main (Store x) refl) (omega arith) (omega arith);
-  conflict = record {
-    first = Store x;
-    second = Store x;
-    by = main;
-    other = child;
-    does_first = is inner_release 4 main (Store x) refl;
-    does_second = is inner_release 7 child (Store x) refl;
-    ops = refl;
-    threads = main_not_child;
-  };
-}
+inner_meet =
+    meets_at inner_section (is inner_release 4 main (Store x) refl) (omega arith) (omega arith)
+    (inside_at inner_release child l 6 1 7 (is inner_release 6 child (Acquire l) refl) refl
+    (at_thread inner_release 7 child (Store x) refl) refl refl) (is inner_release 7 child (Store x) refl)
+    (omega arith) refl
 
 pub inner_release_inside : InnerReleaseEndsNoSection
 unfolding depth
@@ -122,32 +99,18 @@ latest_race = (
   racy_with three_stores 3 2
       (record {
         before = omega arith;
-        conflict = record {
-          first = Store x;
-          second = Store x;
-          by = child;
-          other = other;
-          does_first = is three_stores 2 child (Store x) refl;
-          does_second = is three_stores 3 other (Store x) refl;
-          ops = refl;
-          threads = λ e. let n : child.0 ≡ other.0 = ap (λ (t : ThreadId). t.0) e in cc;
-        };
+        conflict =
+            conflict_at (is three_stores 2 child (Store x) refl) (is three_stores 3 other (Store x) refl) refl
+            (λ e. let n : child.0 ≡ other.0 = ap (λ (t : ThreadId). t.0) e in cc);
         unordered = stores_unordered (λ i. nat_eq i 2) 2 3 (omega arith) refl refl (λ e. cc);
       })
       refl,
   racy_with three_stores 4 3
       (record {
         before = omega arith;
-        conflict = record {
-          first = Store x;
-          second = Store x;
-          by = other;
-          other = main;
-          does_first = is three_stores 3 other (Store x) refl;
-          does_second = is three_stores 4 main (Store x) refl;
-          ops = refl;
-          threads = λ e. let n : other.0 ≡ main.0 = ap (λ (t : ThreadId). t.0) e in cc;
-        };
+        conflict =
+            conflict_at (is three_stores 3 other (Store x) refl) (is three_stores 4 main (Store x) refl) refl
+            (λ e. let n : other.0 ≡ main.0 = ap (λ (t : ThreadId). t.0) e in cc);
         unordered = stores_unordered (λ i. nat_eq i 3) 3 4 (omega arith) refl refl (λ e. cc);
       })
       refl,

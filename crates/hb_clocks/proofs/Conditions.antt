@@ -19,11 +19,12 @@ use Rattle.event_core.specs.Orderly.{Orderly}
 use Rattle.event_core.specs.Refusal.{WellFormed, self_target}
 use Rattle.event_core.specs.Count.{events_of, Past, LockPast}
 use Rattle.event_core.specs.Rows.{no_clock, Counted}
-use Rattle.event_core.proofs.Chains.{chain_trans, po_thread, hb_thread}
+use Rattle.event_core.proofs.Chains.{chain_trans, hb_of_po, hb_trans}
 use Rattle.event_core.proofs.CountLaws.{counts_same, rank_below, at_rank}
 use Rattle.event_core.proofs.Growth.{well_formed_last}
 use Rattle.event_core.proofs.Legality.{orderly, legal_reasons, when_none}
 use Rattle.event_core.proofs.Effects.{depth_same, depth_up}
+use Rattle.event_core.proofs.Pasts.{past_latest}
 use Rattle.hb_clocks.specs.State.{HbState, empty}
 use Rattle.hb_clocks.specs.Stands.{Stands, IsAlone, IsApart, AdmitsLegal, FewInLog}
 use Rattle.vector_clocks.specs.Marks.{IsLatest, Named, Names}
@@ -119,34 +120,15 @@ pub po_latest : (limits : Limits) (log : List Event) (t : ThreadId) (j : ℕ) (f
     → WellFormed limits log → IsLatest log t j
     → Counted log (Past log (Po log) t) f → Counted log (λ i. Po log i j) f
 po_latest limits log t j f w latest is u =
-    counts_same log u (Past log (Po log) t) (λ i. Po log i j) (f u.0)
-    (λ i of_i. (λ p. to i p.0 p.1 p.2, λ d. (j, inl latest.of, d))) (is u)
-  where
-    to : (i g : ℕ) → (Of log g t ⊎ ((v : ThreadId) × Does log g v (Fork t))) → Po log i g → Po log i j
-    to i g (inl a) d = by (cases_lt j g)
-      where
-        by : (j < g) ⊎ (g ≤ j) → Po log i j
-        by (inl lt) = absurd (latest.last g lt a)
-        by (inr le) = chain_trans d (po_thread t a latest.of le)
-    to i g (inr a) d =
-        step d (fork_to_event t a.0 ((orderly limits log w).fork_first g j t a.0 a.1 latest.of) a.1 latest.of)
+    past_latest log (Po log) t u j (f u.0) (orderly limits log w) (λ i g p q. chain_trans p q) latest.of
+    latest.last (is u)
 
 pub hb_latest : (limits : Limits) (log : List Event) (t : ThreadId) (j : ℕ) (f : ℕ → ℕ)
     → WellFormed limits log → IsLatest log t j
     → Counted log (Past log (Hb log) t) f → Counted log (λ i. Hb log i j) f
 hb_latest limits log t j f w latest is u =
-    counts_same log u (Past log (Hb log) t) (λ i. Hb log i j) (f u.0)
-    (λ i of_i. (λ p. to i p.0 p.1 p.2, λ d. (j, inl latest.of, d))) (is u)
-  where
-    to : (i g : ℕ) → (Of log g t ⊎ ((v : ThreadId) × Does log g v (Fork t))) → Hb log i g → Hb log i j
-    to i g (inl a) d = by (cases_lt j g)
-      where
-        by : (j < g) ⊎ (g ≤ j) → Hb log i j
-        by (inl lt) = absurd (latest.last g lt a)
-        by (inr le) = chain_trans d (hb_thread t a latest.of le)
-    to i g (inr a) d =
-        step d (program (fork_to_event t a.0
-        ((orderly limits log w).fork_first g j t a.0 a.1 latest.of) a.1 latest.of))
+    past_latest log (Hb log) t u j (f u.0) (orderly limits log w) (λ i g p q. hb_trans p (hb_of_po q)) latest.of
+    latest.last (is u)
 
 events_rise : (log : List Event) (u : ThreadId) (i j : ℕ) → i ≤ j
     → events_of (take i log) u ≤ events_of (take j log) u

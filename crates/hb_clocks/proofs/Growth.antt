@@ -7,7 +7,7 @@ use Rattle.event_core.specs.declared.events.Op.TheVariants.{Load, Store, Acquire
 use Rattle.event_core.specs.Rows.{clock_after, depth_after, join, with_row, Rows, to_child, to_lock, brought}
 use Rattle.event_core.specs.Effect.{Effect, Accesses, Opens, Closes, Forks, Joins, Inner}
 use Rattle.event_core.specs.declared.events.Event.{Event}
-use Rattle.hb_clocks.specs.State.{HbState, empty, after, joins_of, effect, without_locks}
+use Rattle.hb_clocks.specs.State.{HbState, empty, after, effect, without_locks}
 use Rattle.hb_clocks.specs.Stands.{IsAtMost}
 use Rattle.hb_clocks.proofs.TableSteps.{brought_few}
 
@@ -129,11 +129,3 @@ at_most_more m n s le few = record {
   lock = λ l u. (let h = few.lock l u in omega arith);
   depth = λ t l. (let h = few.depth t l in omega arith);
 }
-
-pub joins_few : (k : Effect) → joins_of k ≤ 2
-joins_few (Opens l) = omega arith
-joins_few (Joins u) = omega arith
-joins_few (Closes l) = omega arith
-joins_few (Forks u) = omega arith
-joins_few (Accesses x k) = omega arith
-joins_few Inner = omega arith

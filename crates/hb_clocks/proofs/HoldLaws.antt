@@ -13,7 +13,7 @@ use Rattle.hb_clocks.specs.declared.holds.Hold.{Hold}
 use Rattle.hb_clocks.specs.Holds.{hold_at, no_hold, depths_of, lowered, holds_after, is_outer, effect_by}
 use Rattle.hb_clocks.specs.Holds.{HasHold, Alone}
 use Rattle.event_core.specs.Rows.{depth_after}
-use Rattle.event_core.proofs.DepthSteps.{cell_same, cell_other}
+use Rattle.event_core.proofs.Growing.{cell_same, cell_other}
 
 -- no other thread holds the lock that is acquired
 abbrev pub AloneAt : List Hold → ℕ → Op → Type 0

@@ -1,25 +1,16 @@
 -- Which sections of a list a clock counts, place by place.
-use Rattle.std.proofs.Common.{◌≡◌, ℕ, suc, zero, ◌<◌, ◌≤◌, ◌+◌, List, [], ◌∷◌, length, Bool, true, false}
+use Rattle.std.proofs.Common.{◌≡◌, ℕ, suc, zero, ◌<◌, ◌≤◌, List, [], ◌∷◌, length, Bool, true, false}
 use Rattle.std.proofs.Common.{cond, refl, sym, ap, ◌∙◌, arith, ◌⊎◌, Option, Some, None}
 use Rattle.std.proofs.lemmas.Bool.{cases_Bool}
 use Rattle.std.specs.Option.{option_or}
 use mathlib.Core.Logic.{inl, inr}
 use Rattle.event_core.specs.Closed.{Closed, is_counted, number_counted}
+use Rattle.event_core.proofs.SectionSteps.{number_most}
 use Rattle.lock_queues.specs.Sections.{closed_at, latest_counted}
 
 -- the clock counts the section at the place
 abbrev pub CountsAt : (ℕ → ℕ) → List Closed → ℕ → Type 0
 CountsAt c qs k = is_counted c (closed_at qs k) ≡ true
-
--- no more are counted than there are
-pub number_most : (c : ℕ → ℕ) (qs : List Closed) → number_counted c qs ≤ length qs
-number_most c [] = omega arith
-number_most c (q ∷ qs) = go (is_counted c q) (number_most c qs)
-  where
-    go : (b : Bool) → number_counted c qs ≤ length qs
-        → cond {A = ℕ} b 1 0 + number_counted c qs ≤ suc (length qs)
-    go true h = omega arith
-    go false h = omega arith
 
 -- where the first n are counted, so many are
 pub number_least : (c : ℕ → ℕ) (qs : List Closed) (n : ℕ) → n ≤ length qs

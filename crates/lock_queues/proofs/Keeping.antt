@@ -1,6 +1,6 @@
 -- What is kept of one lock stays so over each change.
 use Rattle.std.proofs.Common.{◌≡◌, ℕ, ◌+◌, ◌<◌, ◌≤◌, ◌⊎◌, true, false, List, [], ◌∷◌, ◌++◌, length, set}
-use Rattle.std.proofs.Common.{ap, sym, subst, arith, length-set}
+use Rattle.std.proofs.Common.{ap, sym, subst, ◌∙◌, arith, length-set}
 use Rattle.std.specs.Prelude.{IfSome, slice_index}
 use Rattle.std.specs.List.{remove}
 use Rattle.std.proofs.lemmas.Bool.{cases_lt, cases_eq}
@@ -12,7 +12,7 @@ use Rattle.lock_queues.specs.declared.rooms.Room.{Room}
 use Rattle.lock_queues.specs.declared.sections.Entry.{Entry}
 use Rattle.lock_queues.specs.Sections.{entry_at, no_entry}
 use Rattle.lock_queues.specs.Rooms.{has_room_in, IsRoom, AreRooms}
-use Rattle.lock_queues.specs.Queue.{IsKept}
+use Rattle.lock_queues.specs.Queue.{Kept, IsKept}
 use Rattle.lock_queues.proofs.Lookup.{thread_at, room_is, rooms_more, rooms_set, rooms_push, rooms_remove}
 use Rattle.lock_queues.proofs.Placing.{Placed, placed_within}
 
@@ -24,6 +24,12 @@ thread_within {rooms = rooms} {found = found} t kept has =
     let lt = (room_is (length found) rooms t kept.own has).within in
     let is = thread_at rooms t has in
     omega arith
+
+-- so has one with room as the queue is seen
+pub seen_within : {inside now : Kept} {m : ℕ} (t : ℕ) → inside ≡ now
+    → IsKept inside.width inside.entries inside.rooms inside.found m → has_room_in now.rooms t ≡ true
+    → t < length inside.found
+seen_within t is kept has = thread_within t kept (ap (λ (k : Kept). has_room_in k.rooms t) is ∙ has)
 
 -- the thread enters
 pub kept_entered : {w : ℕ} {es : List Entry} {rooms : List Room} {found : List ℕ}

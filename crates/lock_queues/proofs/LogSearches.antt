@@ -1,174 +1,89 @@
 -- What a search by a clock finds of the sections that stand for a log.
-use Rattle.std.proofs.Common.{◌≡◌, ℕ, ◌<◌, ◌≤◌, ◌+◌, ◌-◌, List, [], ◌∷◌, ◌++◌, length, refl, sym, ap}
-use Rattle.std.proofs.Common.{subst, ◌∙◌, arith, take, ◌⊎◌, true, Option, Some, None}
+use Rattle.std.proofs.Common.{◌≡◌, ℕ, ◌<◌, ◌≤◌, ◌-◌, List, [], ◌∷◌, ◌++◌, length, refl, sym, ap}
+use Rattle.std.proofs.Common.{subst, ◌∙◌, arith, ◌⊎◌, Option, Some, None}
 use Rattle.std.specs.Prelude.{IsSomeAnd}
-use Rattle.std.proofs.lemmas.Bool.{cases_order, cases_lt, leb-true, le-leb}
-use Rattle.std.proofs.lemmas.Option.{slice_get_within}
 use mathlib.Core.Logic.{inl, inr}
 use Rattle.event_core.specs.declared.bounds.Limits.{Limits}
 use Rattle.event_core.specs.declared.events.Event.{Event}
 use Rattle.event_core.specs.declared.ids.LockId.{LockId}
 use Rattle.event_core.specs.declared.ids.ThreadId.{ThreadId}
-use Rattle.event_core.specs.Closed.{Closed, IsClosed, ended, number_of}
-use Rattle.event_core.specs.Closed.{is_counted, number_counted}
+use Rattle.event_core.specs.Closed.{Closed, Has, ended, number_of, number_counted}
 use Rattle.event_core.specs.Count.{events_of, Past}
-use Rattle.event_core.specs.Log.{Of, depth, OuterRelease, Section}
-use Rattle.event_core.specs.Order.{Hb, here}
+use Rattle.event_core.specs.Log.{depth, Section}
+use Rattle.event_core.specs.Order.{Hb}
 use Rattle.event_core.specs.Orderly.{Orderly}
 use Rattle.event_core.specs.Refusal.{WellFormed}
 use Rattle.event_core.specs.Rows.{with_row, Counted}
-use Rattle.event_core.specs.Wcp.{Strict, rule_c_left}
-use Rattle.event_core.proofs.Chains.{hb_forward, hb_trans, hb_thread}
+use Rattle.event_core.specs.Wcp.{Strict}
 use Rattle.event_core.proofs.CountLaws.{counts_grow}
-use Rattle.event_core.proofs.Depth.{section_of, same_lock_id, same_thread_id}
-use Rattle.event_core.proofs.Effects.{last_closes}
+use Rattle.event_core.proofs.Depth.{same_lock_id, same_thread_id}
 use Rattle.event_core.proofs.Growing.{cell_same, cell_other}
 use Rattle.event_core.proofs.Growth.{well_formed_front}
 use Rattle.event_core.proofs.HeldDepths.{cell_cases}
 use Rattle.event_core.proofs.Legality.{orderly}
-use Rattle.event_core.proofs.LogFacts.{of_does}
-use Rattle.event_core.proofs.MoreLaws.{sections_ordered, one_acquire}
-use Rattle.event_core.proofs.SectionNumbers.{number_order, ended_mono}
-use Rattle.event_core.proofs.Stable.{longer, section_too, hb_too}
+use Rattle.event_core.proofs.SectionNumbers.{number_order}
+use Rattle.event_core.proofs.SectionSteps.{counts_acquire, acquire_counted, counted_is, is_counted_of}
+use Rattle.event_core.proofs.SectionSteps.{counted_before, release_order, before_end, before_within}
+use Rattle.event_core.proofs.SectionSteps.{number_most}
 use Rattle.lock_queues.specs.Sections.{closed_at, latest_counted}
 use Rattle.lock_queues.specs.Queues.{Tables, closed_of, opened_of, found_of}
 use Rattle.lock_queues.specs.Searched.{CountsEarlier}
 use Rattle.lock_queues.specs.Standing.{AreSections, AreOf, Stands, CountsEvent, CountsNone, IsLatest}
 use Rattle.lock_queues.specs.Laws.{StrictClocksMayAsk, FindingKeepsThem, ReleasesAreAbove}
-use Rattle.lock_queues.proofs.CountedLists.{CountsAt, number_most, number_least, counted_first, none_counted}
+use Rattle.lock_queues.proofs.CountedLists.{CountsAt, number_least, counted_first, none_counted}
 use Rattle.lock_queues.proofs.CountedLists.{IsLatestAt, latest_place}
 use Rattle.lock_queues.proofs.LogSteps.{same_are, holder_has_events}
 use Rattle.lock_queues.proofs.SectionLists.{Entered, entered, has_place, place_within}
 
--- the test of an entry is that of the acquire of its section
-pub counts_acquire : (log : List Event) (c : ℕ → ℕ) (u : ThreadId) (l : LockId) (a r : ℕ) (q : Closed)
-    → IsClosed log u l a r q → is_counted c q ≡ true → CountsEvent log c u a
-counts_acquire log c u l a r q is h =
-    let le : q.position ≤ c q.thread = leb-true q.position (c q.thread) h in
-    let same : c q.thread ≡ c u.0 = ap c is.thread in
-    let at : q.position ≡ events_of (take a log) u + 1 = is.position in
-    omega arith
-
-pub acquire_counted : (log : List Event) (c : ℕ → ℕ) (u : ThreadId) (l : LockId) (a r : ℕ) (q : Closed)
-    → IsClosed log u l a r q → CountsEvent log c u a → is_counted c q ≡ true
-acquire_counted log c u l a r q is lt =
-    let same : c q.thread ≡ c u.0 = ap c is.thread in
-    let at : q.position ≡ events_of (take a log) u + 1 = is.position in
-    le-leb q.position (c q.thread) (omega (arith, lt, same, at))
-
 module _ (log : List Event) (ord : Orderly log) (t : ThreadId) (c : ℕ → ℕ)
-    (counted : Counted log (Past log (Strict log) t) c) where
-  -- the clock counts an acquire where it strictly precedes the thread's events
-  to_past : (u : ThreadId) (l : LockId) (a r : ℕ) → Section log u l a r → CountsEvent log c u a
-      → Past log (Strict log) t a
-  to_past u l a r s lt = ((counted u).first a (of_does s.inside.opened.does)).1 lt
+    (counted : Counted log (Past log (Strict log) t) c) (l : LockId) (qs : List Closed)
+    (are : AreSections log l qs) where
+  -- with a section the clock counts the earlier ones on its lock, place by place
+  before : (k m : ℕ) → k ≤ m → m < length qs → CountsAt c qs m → CountsAt c qs k
+  before k m le lt h =
+      let x = entered log l qs ord are k (omega arith) in
+      let y = entered log l qs ord are m lt in
+      let up = number_order log l x.release y.release y.thread y.is.section.closed
+      (let i = x.number in let j = y.number in omega (arith, i, j, le)) in
+      counted_before log t c x.thread y.thread l x.acquire x.release y.acquire y.release (closed_at qs k)
+      (closed_at qs m) ord counted x.is y.is up h
 
-  from_past : (u : ThreadId) (l : LockId) (a r : ℕ) → Section log u l a r → Past log (Strict log) t a
-      → CountsEvent log c u a
-  from_past u l a r s p = ((counted u).first a (of_does s.inside.opened.does)).0 p
-
-  -- with a section the clock counts the earlier ones on its lock
-  earlier : (l : LockId) (u v : ThreadId) (a r b s : ℕ) → Section log u l a r → Section log v l b s → r ≤ s
-      → CountsEvent log c v b → CountsEvent log c u a
-  earlier l u v a r b s x y le is = go (cases_order r s)
+  -- of two entries the one with the lower release clock is the earlier one
+  pub counts_earlier : CountsEarlier c qs
+  counts_earlier p q hp hq le is =
+      counted_before log t c x.thread y.thread l x.acquire x.release y.acquire y.release p q ord counted x.is
+      y.is
+      (release_order log x.thread y.thread l x.acquire x.release y.acquire y.release p q x.is y.is
+      (λ w. le w.0)) is
     where
-      p : Past log (Strict log) t b
-      p = to_past v l b s y is
+      place : (z : Closed) → Has z qs → (k : ℕ) × Entered log l k z
+      place z h =
+          let k = has_place z qs h in
+          (k.0, subst (λ i. Entered log l k.0 i) k.2 (entered log l qs ord are k.0 k.1))
 
-      go : (r ≡ s) ⊎ ((r < s) ⊎ (s < r)) → CountsEvent log c u a
-      go (inl same) =
-          let z : Section log u l a s = subst (λ n. Section log u l a n) same x in
-          from_past u l a r x (subst (λ n. Past log (Strict log) t n) (sym (one_acquire z y)) p)
-      go (inr (inl lt)) =
-          let up : Hb log a b
-          = hb_trans (hb_thread u (of_does x.inside.opened.does) (of_does x.closed.does) x.inside.from)
-          (sections_ordered ord x y lt) in
-          from_past u l a r x (p.0, p.1, rule_c_left up p.2)
-      go (inr (inr gt)) = absurd (omega (arith, gt, le))
+      x : Entered log l (place p hp).0 p
+      x = (place p hp).1
 
-  module _ (l : LockId) (qs : List Closed) (are : AreSections log l qs) where
-    -- so do the entries, place by place
-    before : (k m : ℕ) → k ≤ m → m < length qs → CountsAt c qs m → CountsAt c qs k
-    before k m le lt h =
-        let x = entered log l qs ord are k (omega arith) in
-        let y = entered log l qs ord are m lt in
-        let up = number_order log l x.release y.release y.thread y.is.section.closed
-        (let i = x.number in let j = y.number in omega (arith, i, j, le)) in
-        acquire_counted log c x.thread l x.acquire x.release (closed_at qs k) x.is
-        (earlier l x.thread y.thread x.acquire x.release y.acquire y.release x.is.section y.is.section up
-        (counts_acquire log c y.thread l y.acquire y.release (closed_at qs m) y.is h))
+      y : Entered log l (place q hq).0 q
+      y = (place q hq).1
 
-    -- of two entries the one with the lower release clock is the earlier one
-    pub counts_earlier : CountsEarlier c qs
-    counts_earlier p q hp hq le is = go (cases_lt y.0 x.0)
-      where
-        x : (k : ℕ) × (k < length qs) × (closed_at qs k ≡ p)
-        x = has_place p qs hp
+  -- what has been found is counted
+  pub found_counted : (n : ℕ) → n ≤ ended log l
+      → ((u : ThreadId) (a r : ℕ) → Section log u l a r → number_of log l r ≤ n → Past log (Strict log) t a)
+      → n ≤ number_counted c qs
+  found_counted n most found =
+      let count : length qs ≡ ended log l = are.count in
+      number_least c qs n (omega (arith, count, most)) (λ k lt.
+      (let x = entered log l qs ord are k (omega (arith, count, most, lt)) in
+      is_counted_of log (Past log (Strict log) t) c x.thread l x.acquire x.release (closed_at qs k) counted
+      x.is (found x.thread x.acquire x.release x.is.section (let i = x.number in omega (arith, i, lt)))))
 
-        y : (k : ℕ) × (k < length qs) × (closed_at qs k ≡ q)
-        y = has_place q qs hq
-
-        at_y : CountsAt c qs y.0
-        at_y = subst (λ z. is_counted c z ≡ true) (sym y.2) is
-
-        go : (y.0 < x.0) ⊎ (x.0 ≤ y.0) → is_counted c p ≡ true
-        go (inr up) = subst (λ z. is_counted c z ≡ true) x.2 (before x.0 y.0 up y.1 at_y)
-        go (inl down) =
-            let i = entered log l qs ord are x.0 x.1 in
-            let j = entered log l qs ord are y.0 y.1 in
-            let up : j.release < i.release
-            = lower j.release i.release j.thread i.thread j.is.section.closed i.is.section.closed
-            (let m = i.number in let n = j.number in omega (arith, m, n, down)) in
-            absurd (above i.thread i.acquire i.release j.thread j.acquire j.release i.is j.is up)
-          where
-            lower : (r s : ℕ) (u v : ThreadId) → OuterRelease log r u l → OuterRelease log s v l
-                → number_of log l r < number_of log l s → r < s
-            lower r s u v o o' lt = by (cases_lt r s)
-              where
-                by : (r < s) ⊎ (s ≤ r) → r < s
-                by (inl h) = h
-                by (inr h) =
-                    let le' = number_order_back s r h in absurd (omega (arith, lt, le'))
-                  where
-                    number_order_back : (s r : ℕ) → s ≤ r → number_of log l s ≤ number_of log l r
-                    number_order_back s r h = omega (arith, ended_mono log l s r h)
-
-            -- the later release counts itself, and the earlier one does not
-            above : (u : ThreadId) (a r : ℕ) (v : ThreadId) (b s : ℕ)
-                → IsClosed log u l a r (closed_at qs x.0) → IsClosed log v l b s (closed_at qs y.0)
-                → s < r → ⊥
-            above u a r v b s p' q' lt =
-                let o : Of log r u = of_does p'.section.closed.does in
-                let mine : events_of (take r log) u < (closed_at qs x.0).release u.0
-                = ((p'.release u).first r o).0 here in
-                let at : (closed_at qs x.0).release u.0 ≤ (closed_at qs y.0).release u.0
-                = subst (λ z. (closed_at qs x.0).release u.0 ≤ z.release u.0) (sym y.2)
-                (subst (λ z. z.release u.0 ≤ q.release u.0) (sym x.2) (le u.0)) in
-                let h : Hb log r s = ((q'.release u).first r o).1 (omega (arith, mine, at)) in
-                let f : r ≤ s = hb_forward h in
-                omega (arith, f, lt)
-
-    -- what has been found is counted
-    pub found_counted : (n : ℕ) → n ≤ ended log l
-        → ((u : ThreadId) (a r : ℕ) → Section log u l a r → number_of log l r ≤ n → Past log (Strict log) t a)
-        → n ≤ number_counted c qs
-    found_counted n most found =
-        let count : length qs ≡ ended log l = are.count in
-        number_least c qs n (omega (arith, count, most)) (λ k lt.
-        (let x = entered log l qs ord are k (omega (arith, count, most, lt)) in
-        acquire_counted log c x.thread l x.acquire x.release (closed_at qs k) x.is
-        (from_past x.thread l x.acquire x.release x.is.section
-        (found x.thread x.acquire x.release x.is.section (let i = x.number in omega (arith, i, lt))))))
-
-    -- and what is counted may be found
-    pub counted_found : (u : ThreadId) (a r : ℕ) → Section log u l a r
-        → number_of log l r ≤ number_counted c qs → Past log (Strict log) t a
-    counted_found u a r s le =
-        let place = place_within log l qs are u a r s in
-        let at : CountsAt c qs (number_of log l r - 1)
-        = counted_first c qs before (number_of log l r - 1) (omega (arith, le)) in
-        to_past u l a r s
-        (counts_acquire log c u l a r (closed_at qs (number_of log l r - 1)) (are.each u a r s) at)
+  -- and what is counted may be found
+  pub counted_found : (u : ThreadId) (a r : ℕ) → Section log u l a r
+      → number_of log l r ≤ number_counted c qs → Past log (Strict log) t a
+  counted_found u a r s le =
+      counted_is log (Past log (Strict log) t) c u l a r (closed_at qs (number_of log l r - 1)) counted
+      (are.each u a r s) (counted_first c qs before (number_of log l r - 1) (omega (arith, le)))
 
 -- the clock of what strictly precedes a thread's events may ask
 pub strict_clocks_may_ask : StrictClocksMayAsk
@@ -246,40 +161,18 @@ finding_keeps_them limits log old new t l c w counted up is st =
 -- the clock of a release is at or above those of the sections on its lock
 pub releases_are_above : ReleasesAreAbove
 releases_are_above limits log e v l c w is counted st q u h =
+    let x = has_place q (closed_of v l.0) h in
+    let y = entered log l (closed_of v l.0) (orderly limits log (well_formed_front limits log (e ∷ []) w))
+    (st.closed_are l) x.0 x.1 in
     subst (λ z. z.release u ≤ c u) x.2
     (counts_grow log e thread (λ i. Hb log i y.release) (λ i. Hb (log ++ e ∷ []) i (length log))
-    ((closed_at (closed_of v l.0) x.0).release u) (c u) below within (y.is.release thread) (counted thread))
+    ((closed_at (closed_of v l.0) x.0).release u) (c u)
+    (λ i b. before_end log e (orderly limits (log ++ e ∷ []) w) l is i y.thread y.acquire y.release
+    y.is.section b)
+    (λ i b. before_within y.is.section b) (y.is.release thread) (counted thread))
   where
     thread : ThreadId
     thread = record { 0 = u }
-
-    ord : Orderly (log ++ e ∷ [])
-    ord = orderly limits (log ++ e ∷ []) w
-
-    x : (k : ℕ) × (k < length (closed_of v l.0)) × (closed_at (closed_of v l.0) k ≡ q)
-    x = has_place q (closed_of v l.0) h
-
-    y : Entered log l x.0 (closed_at (closed_of v l.0) x.0)
-    y =
-        entered log l (closed_of v l.0) (orderly limits log (well_formed_front limits log (e ∷ []) w))
-        (st.closed_are l) x.0 x.1
-
-    lt : y.release < length log
-    lt =
-        slice_get_within log y.release y.is.section.closed.does.event y.is.section.closed.does.at
-
-    mine : (a : ℕ) × Section (log ++ e ∷ []) e.thread l a (length log)
-    mine = section_of (log ++ e ∷ []) e.thread l (length log) ord (last_closes log e l is.op is.outer)
-
-    within : (i : ℕ) → Hb log i y.release → i < length log
-    within i b = let le : i ≤ y.release = hb_forward b in let l' = lt in omega arith
-
-    below : (i : ℕ) → Hb log i y.release → Hb (log ++ e ∷ []) i (length log)
-    below i b =
-        hb_trans (hb_too (longer log (e ∷ [])) lt b)
-        (hb_trans (sections_ordered ord (section_too (longer log (e ∷ [])) lt y.is.section) mine.1 lt)
-        (hb_thread e.thread (of_does mine.1.inside.opened.does) (of_does mine.1.closed.does)
-        mine.1.inside.from))
 
 -- no section has an acquire that the clock counts
 pub none_in_log : (limits : Limits) (log : List Event) (v : Tables) (l : LockId) (c : ℕ → ℕ)

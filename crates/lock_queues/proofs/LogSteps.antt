@@ -1,6 +1,6 @@
 -- The calls keep what the queues stand for.
-use Rattle.std.proofs.Common.{◌≡◌, ℕ, ◌<◌, ◌≤◌, ◌+◌, ◌-◌, List, [], ◌∷◌, ◌++◌, length, refl, sym, ap}
-use Rattle.std.proofs.Common.{subst, ◌∙◌, arith, take, ◌⊎◌}
+use Rattle.std.proofs.Common.{◌≡◌, ℕ, ◌<◌, ◌≤◌, ◌+◌, List, [], ◌∷◌, ◌++◌, length, refl, sym, ap}
+use Rattle.std.proofs.Common.{subst, ◌∙◌, arith, ◌⊎◌}
 use Rattle.std.proofs.lemmas.Option.{slice_get_within}
 use Rattle.std.proofs.Math.Seq.{take-append_seam}
 use mathlib.Core.Logic.{inl, inr}
@@ -9,7 +9,7 @@ use Rattle.event_core.specs.declared.events.Event.{Event}
 use Rattle.event_core.specs.declared.events.Op.TheVariants.{Acquire, Release}
 use Rattle.event_core.specs.declared.ids.LockId.{LockId}
 use Rattle.event_core.specs.declared.ids.ThreadId.{ThreadId}
-use Rattle.event_core.specs.Closed.{Closed, Open, OpensSection, EndsSection, ended, number_of}
+use Rattle.event_core.specs.Closed.{Closed, OpensSection, EndsSection, ended, number_of}
 use Rattle.event_core.specs.Count.{events_of, Past}
 use Rattle.event_core.specs.Log.{Of, depth, OuterRelease, Section}
 use Rattle.event_core.specs.Order.{Hb}
@@ -18,31 +18,23 @@ use Rattle.event_core.specs.Refusal.{WellFormed}
 use Rattle.event_core.specs.Rows.{with_row, Counted}
 use Rattle.event_core.specs.Wcp.{Strict}
 use Rattle.event_core.proofs.CountLaws.{rank_below}
-use Rattle.event_core.proofs.Counting.{is_last, last_thread, last_op, events_grow}
-use Rattle.event_core.proofs.Depth.{lock_cases, same_lock_id, same_thread_id}
-use Rattle.event_core.proofs.Effects.{front, depth_down, last_closes}
-use Rattle.event_core.proofs.Growing.{row_same, row_other, cell_same, cell_other}
+use Rattle.event_core.proofs.Counting.{events_grow}
+use Rattle.event_core.proofs.Depth.{lock_cases, same_lock_id}
+use Rattle.event_core.proofs.Effects.{last_closes}
+use Rattle.event_core.proofs.Growing.{row_same, row_other}
 use Rattle.event_core.proofs.Legality.{orderly}
 use Rattle.event_core.proofs.LogFacts.{of_does}
-use Rattle.event_core.proofs.OpenSections.{ends_at, open_old, open_held, open_by_depth}
+use Rattle.event_core.proofs.OpenPositions.{ArePositions, positions_same, positions_more, positions_less}
+use Rattle.event_core.proofs.OpenSections.{ends_at, open_by_depth}
+use Rattle.event_core.proofs.Pasts.{past_longer}
 use Rattle.event_core.proofs.SectionNumbers.{number_longer, number_last}
 use Rattle.event_core.proofs.SectionNumbers.{ended_none, ended_snoc}
-use Rattle.event_core.proofs.Stable.{longer, back, of, does, section_too, strict_too}
+use Rattle.event_core.proofs.SectionSteps.{each_section}
 use Rattle.vector_clocks.specs.Marks.{Named, Names}
 use Rattle.lock_queues.specs.Queues.{Tables, closed_of, opened_of, found_of}
 use Rattle.lock_queues.specs.Standing.{AreSections, AreOf, Stands, IsOther}
 use Rattle.lock_queues.specs.Laws.{SameStand, OthersLeaveThem, HoldersHaveEntered}
 use Rattle.lock_queues.proofs.SectionLists.{sections_same, sections_more}
-
--- a thread's past is in its past of the longer log
-past_longer : (log : List Event) (e : Event) (t : ThreadId) (i : ℕ) → Past log (Strict log) t i
-    → Past (log ++ e ∷ []) (Strict (log ++ e ∷ [])) t i
-past_longer log e t i (j, inl o, s) =
-    let lt = slice_get_within log j o.event o.at in
-    (j, inl (of (longer log (e ∷ [])) lt o), strict_too (longer log (e ∷ [])) lt s)
-past_longer log e t i (j, inr d, s) =
-    let lt = slice_get_within log j d.1.event d.1.at in
-    (j, inr (d.0, does (longer log (e ∷ [])) lt d.1), strict_too (longer log (e ∷ [])) lt s)
 
 -- who holds a lock has an event
 pub holder_has_events : (log : List Event) (t : ThreadId) (l : LockId) → 0 < depth log t l
@@ -59,18 +51,15 @@ module _ (log : List Event) (e : Event) (ord : Orderly (log ++ e ∷ [])) where
       → number_of log l r ≤ found l.0 t.0 → Past log (Strict log) t a)
       → (t : ThreadId) (l : LockId) (u : ThreadId) (a r : ℕ) → Section (log ++ e ∷ []) u l a r
       → number_of (log ++ e ∷ []) l r ≤ found l.0 t.0 → Past (log ++ e ∷ []) (Strict (log ++ e ∷ [])) t a
-  found_longer found most was t l u a r x le = go (is_last log e r u (of_does x.closed.does))
+  found_longer found most was t l =
+      each_section log e l Found
+      (λ u a r lt x le. let same = number_longer log e l r (omega (arith, lt)) in
+      past_longer log e t a (was t l u a r x (omega (arith, same, le))))
+      (λ a x le. absurd (let last = number_last log e l in let few = most t l in omega (arith, last, few, le)))
     where
-      go : (r < length log) ⊎ (r ≡ length log) → Past (log ++ e ∷ []) (Strict (log ++ e ∷ [])) t a
-      go (inl lt) =
-          let same = number_longer log e l r (omega arith) in
-          past_longer log e t a
-          (was t l u a r (section_too (back (longer log (e ∷ []))) lt x) (omega (arith, same, le)))
-      go (inr at) =
-          let last : number_of (log ++ e ∷ []) l r ≡ ended log l + 1
-          = ap (number_of (log ++ e ∷ []) l) at ∙ number_last log e l in
-          let few = most t l in
-          absurd (omega (arith, last, few, le))
+      Found : ThreadId → ℕ → ℕ → Type 0
+      Found u a r =
+          number_of (log ++ e ∷ []) l r ≤ found l.0 t.0 → Past (log ++ e ∷ []) (Strict (log ++ e ∷ [])) t a
 
   -- an event ends no section twice, and takes none away
   ended_more : (l : LockId) → ended log l ≤ ended (log ++ e ∷ []) l
@@ -79,9 +68,7 @@ module _ (log : List Event) (e : Event) (ord : Orderly (log ++ e ∷ [])) where
   -- tables with the sections of the longer log and the positions of its open ones
   next : {closed closed' : ℕ → List Closed} {opened opened' found : ℕ → ℕ → ℕ} → AreOf log closed opened found
       → ((l : LockId) → AreSections (log ++ e ∷ []) l (closed' l.0))
-      → ((t : ThreadId) (l : LockId) (a : ℕ) → Open (log ++ e ∷ []) t l a
-      → opened' t.0 l.0 ≡ events_of (take a (log ++ e ∷ [])) t + 1)
-      → AreOf (log ++ e ∷ []) closed' opened' found
+      → ArePositions (log ++ e ∷ []) opened' → AreOf (log ++ e ∷ []) closed' opened' found
   next st sections positions = record {
     closed_are = sections;
     opened_are = positions;
@@ -90,30 +77,6 @@ module _ (log : List Event) (e : Event) (ord : Orderly (log ++ e ∷ [])) where
     none = λ t l z. st.none t l (let up = events_grow log e t in omega (arith, up, z));
   }
 
-  -- a section that was open before the event
-  opened_before : {closed : ℕ → List Closed} {opened found : ℕ → ℕ → ℕ} → AreOf log closed opened found
-      → (t : ThreadId) (l : LockId) (a : ℕ) → Open (log ++ e ∷ []) t l a → a < length log
-      → opened t.0 l.0 ≡ events_of (take a (log ++ e ∷ [])) t + 1
-  opened_before st t l a p lt =
-      st.opened_are t l a (open_old log e ord t l a p lt)
-      ∙ sym (ap (λ xs. events_of xs t + 1) (front log e a (omega arith)))
-
-  -- and one that the event opens
-  opened_now : (t : ThreadId) (l : LockId) (a : ℕ) → Open (log ++ e ∷ []) t l a → a ≡ length log
-      → (e.thread ≡ t) × OpensSection log e.thread l e
-  opened_now t l a p is =
-      let th : e.thread ≡ t = last_thread log e a t is (of_does p.opened.does) in
-      let outer : depth log t l ≡ 0
-      = subst (λ xs. depth xs t l ≡ 0) (take-append_seam log (e ∷ []))
-      (subst (λ n. depth (take n (log ++ e ∷ [])) t l ≡ 0) is p.opened.outer) in (
-        th,
-        record {
-          thread = refl;
-          op = last_op log e a t (Acquire l) is p.opened.does;
-          outer = subst (λ v. depth log v l ≡ 0) (sym th) outer;
-        },
-      )
-
   -- an event that neither opens nor ends a section
   pub others_leave : {closed : ℕ → List Closed} {opened found : ℕ → ℕ → ℕ} → IsOther log e
       → AreOf log closed opened found → AreOf (log ++ e ∷ []) closed opened found
@@ -121,13 +84,7 @@ module _ (log : List Event) (e : Event) (ord : Orderly (log ++ e ∷ [])) where
       next st
       (λ l. sections_same log e ord l (closed l.0) (λ r. other.ends l (ends_at log e ord l r))
       (st.closed_are l))
-      (λ t l a p. at t l a p (is_last log e a t (of_does p.opened.does)))
-    where
-      at : (t : ThreadId) (l : LockId) (a : ℕ) → Open (log ++ e ∷ []) t l a
-          → (a < length log) ⊎ (a ≡ length log)
-          → opened t.0 l.0 ≡ events_of (take a (log ++ e ∷ [])) t + 1
-      at t l a p (inl lt) = opened_before st t l a p lt
-      at t l a p (inr is) = absurd (other.opens l (opened_now t l a p is).1)
+      (positions_same log e ord opened st.opened_are other.opens)
 
   -- an event that opens one
   opens_own : {closed : ℕ → List Closed} {opened found : ℕ → ℕ → ℕ} (l : LockId) (n : ℕ)
@@ -136,38 +93,10 @@ module _ (log : List Event) (e : Event) (ord : Orderly (log ++ e ∷ [])) where
   opens_own {closed = closed} {opened = opened} l n is number st =
       next st (λ m. sections_same log e ord m (closed m.0) (λ r. not_ends m (ends_at log e ord m r).op)
       (st.closed_are m))
-      (λ t m a p. at t m a p (is_last log e a t (of_does p.opened.does)))
+      (positions_more log e ord opened l n st.opened_are is number)
     where
-      new : ℕ → ℕ → ℕ
-      new = with_row e.thread.0 (with_row l.0 n (opened e.thread.0)) opened
-
       not_ends : (m : LockId) → e.op ≡ Release m → ⊥
       not_ends m r = let q : Acquire l ≡ Release m = sym is.op ∙ r in cc
-
-      at : (t : ThreadId) (m : LockId) (a : ℕ) → Open (log ++ e ∷ []) t m a
-          → (a < length log) ⊎ (a ≡ length log)
-          → new t.0 m.0 ≡ events_of (take a (log ++ e ∷ [])) t + 1
-      at t m a p (inl lt) =
-          cell_other e.thread.0 l.0 n opened t.0 m.0 apart ∙ opened_before st t m a p lt
-        where
-          apart : t.0 ≡ e.thread.0 → m.0 ≡ l.0 → ⊥
-          apart q r =
-              let up : 0 < depth log t m = open_held log t m a (open_old log e ord t m a p lt) in
-              let zero_at : depth log t m ≡ 0
-              = subst (λ v. depth log v m ≡ 0) (same_thread_id (sym q))
-              (subst (λ v. depth log e.thread v ≡ 0) (same_lock_id (sym r)) is.outer) in
-              omega arith
-      at t m a p (inr last) =
-          let x = opened_now t m a p last in
-          let q : Acquire l ≡ Acquire m = sym is.op ∙ x.1.op in
-          let same : l ≡ m = cc in
-          let here : new e.thread.0 l.0 ≡ events_of log e.thread + 1
-          = cell_same e.thread.0 l.0 n opened ∙ number in
-          let taken : take a (log ++ e ∷ []) ≡ log
-          = ap (λ k. take k (log ++ e ∷ [])) last ∙ take-append_seam log (e ∷ []) in
-          subst (λ (v : ThreadId). new v.0 m.0 ≡ events_of (take a (log ++ e ∷ [])) v + 1) x.0
-          (subst (λ (y : LockId). new e.thread.0 y.0 ≡ events_of (take a (log ++ e ∷ [])) e.thread + 1) same
-          (here ∙ sym (ap (λ xs. events_of xs e.thread + 1) taken)))
 
   -- an event that ends one
   ends_own : {closed : ℕ → List Closed} {opened found : ℕ → ℕ → ℕ} (l : LockId) (clock : ℕ → ℕ)
@@ -181,8 +110,7 @@ module _ (log : List Event) (e : Event) (ord : Orderly (log ++ e ∷ [])) where
       } ∷ []) closed)
       (with_row e.thread.0 (with_row l.0 0 (opened e.thread.0)) opened) found
   ends_own {closed = closed} {opened = opened} l clock is counted st =
-      next st (λ m. sections m (lock_cases l m))
-      (λ t m a p. at t m a p (is_last log e a t (of_does p.opened.does)))
+      next st (λ m. sections m (lock_cases l m)) (positions_less log e ord opened l st.opened_are is)
     where
       entry : Closed
       entry = record { thread = e.thread.0; position = opened e.thread.0 l.0; release = clock }
@@ -205,27 +133,6 @@ module _ (log : List Event) (e : Event) (ord : Orderly (log ++ e ∷ [])) where
           (sym (row_other l.0 longer_list closed m.0 (λ q. ne (same_lock_id (sym q)))))
           (sections_same log e ord m (closed m.0) (λ r. ne (
           let q : Release l ≡ Release m = sym is.op ∙ (ends_at log e ord m r).op in cc)) (st.closed_are m))
-
-      new : ℕ → ℕ → ℕ
-      new = with_row e.thread.0 (with_row l.0 0 (opened e.thread.0)) opened
-
-      at : (t : ThreadId) (m : LockId) (a : ℕ) → Open (log ++ e ∷ []) t m a
-          → (a < length log) ⊎ (a ≡ length log)
-          → new t.0 m.0 ≡ events_of (take a (log ++ e ∷ [])) t + 1
-      at t m a p (inl lt) =
-          cell_other e.thread.0 l.0 0 opened t.0 m.0 apart ∙ opened_before st t m a p lt
-        where
-          apart : t.0 ≡ e.thread.0 → m.0 ≡ l.0 → ⊥
-          apart q r =
-              let up : 0 < depth (log ++ e ∷ []) t m = open_held (log ++ e ∷ []) t m a p in
-              let down : depth (log ++ e ∷ []) e.thread l ≡ 0
-              = depth_down log e l is.op ∙ ap (λ v. v - 1) is.outer in
-              let zero_at : depth (log ++ e ∷ []) t m ≡ 0
-              = subst (λ v. depth (log ++ e ∷ []) v m ≡ 0) (same_thread_id (sym q))
-              (subst (λ v. depth (log ++ e ∷ []) e.thread v ≡ 0) (same_lock_id (sym r)) down) in
-              omega arith
-      at t m a p (inr last) =
-          let q : Acquire m ≡ Release l = sym (opened_now t m a p last).1.op ∙ is.op in absurd cc
 
 -- tables that are the same are of the same log
 pub same_are : {log : List Event} {closed closed' : ℕ → List Closed} {opened opened' found found' : ℕ → ℕ → ℕ}

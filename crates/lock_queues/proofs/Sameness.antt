@@ -1,11 +1,12 @@
 -- What the tables mean where a queue has other room.
-use Rattle.std.proofs.Common.{◌≡◌, ℕ, ◌<◌, Bool, true, List, length, map, set, ap, ◌∙◌}
+use Rattle.std.proofs.Common.{◌≡◌, ℕ, ◌<◌, Bool, true, List, length, get_or, map, set, ap, ◌∙◌}
+use Rattle.std.proofs.lemmas.List.{get_or_read}
 use Rattle.std.specs.Prelude.{slice_index}
 use Rattle.event_core.specs.Bounds.{Bounds}
 use Rattle.event_core.specs.Rows.{with_row}
 use Rattle.lock_queues.specs.Sections.{closed_as, sections_of}
 use Rattle.lock_queues.specs.Rooms.{has_room_in, opened_in}
-use Rattle.lock_queues.specs.Queue.{Kept, queue_at, AreAlike}
+use Rattle.lock_queues.specs.Queue.{Kept, queue_at, no_queue, AreAlike}
 use Rattle.lock_queues.specs.Queue.{SameMeaning as SameQueue}
 use Rattle.lock_queues.specs.Queues.{Tables, SameMeaning, closed_of, opened_of, found_of, has_room}
 use Rattle.lock_queues.proofs.Lifting.{lifted_same, lifted_cell}
@@ -13,13 +14,14 @@ use Rattle.lock_queues.proofs.Searching.{tables}
 
 -- the queues rs hold the same as qs, and x of them is replaced by q
 pub same_tables : (v : Tables) (b : Bounds) (qs rs : List Kept) (ns ms : List ℕ) (l : ℕ) (x q : Kept)
-    → tables b qs ns ≡ v → AreAlike qs rs → ms ≡ ns → l < length rs → x ≡ queue_at rs l → SameQueue x q
+    → tables b qs ns ≡ v → AreAlike qs rs → ms ≡ ns → l < length rs → x ≡ get_or rs l x → SameQueue x q
     → SameMeaning v (tables b (set rs l q) ms)
-same_tables v b qs rs ns ms l x q is alike numbers lt read same =
+same_tables v b qs rs ns ms l x q is alike numbers lt found same =
+    let read : x ≡ queue_at rs l = get_or_read rs l x lt found no_queue in
     let entries = same.entries ∙ ap (λ (y : Kept). y.entries) read in
     let closed = ap (λ es. map closed_as (sections_of ms es)) entries in
     let opened = same.opened ∙ ap (λ (y : Kept). opened_in y.rooms) read in
-    let found = same.found ∙ ap (λ (y : Kept). slice_index y.found) read in
+    let searched = same.found ∙ ap (λ (y : Kept). slice_index y.found) read in
     record {
       closed =
           (λ i m. lifted_same (λ (y : Kept). map closed_as (sections_of ms y.entries)) rs l q lt closed m i)
@@ -28,17 +30,18 @@ same_tables v b qs rs ns ms l x q is alike numbers lt read same =
           (λ i u m. lifted_same (λ (y : Kept). opened_in y.rooms) rs l q lt opened m i u)
           ∙ (λ i u m. opened_in ((alike m).1 i) u) ∙ ap opened_of is;
       found =
-          (λ i m. lifted_same (λ (y : Kept). slice_index y.found) rs l q lt found m i)
+          (λ i m. lifted_same (λ (y : Kept). slice_index y.found) rs l q lt searched m i)
           ∙ (λ i m. slice_index ((alike m).2 i)) ∙ ap found_of is;
       limits = ap (λ (u : Tables). u.limits) is;
     }
 
 -- where a room is made
 pub room_made : (v : Tables) (b : Bounds) (qs rs : List Kept) (ns ms : List ℕ) (t l : ℕ) (x q : Kept)
-    → tables b qs ns ≡ v → AreAlike qs rs → l < length rs → x ≡ queue_at rs l
+    → tables b qs ns ≡ v → AreAlike qs rs → l < length rs → x ≡ get_or rs l x
     → has_room_in q.rooms ≡ with_row t true (has_room_in x.rooms)
     → has_room (tables b (set rs l q) ms) ≡ with_row t (with_row l true (has_room v t)) (has_room v)
-room_made v b qs rs ns ms t l x q is alike lt read made =
+room_made v b qs rs ns ms t l x q is alike lt found made =
+    let read : x ≡ queue_at rs l = get_or_read rs l x lt found no_queue in
     let was : (λ u m. has_room_in (queue_at rs m).rooms u) ≡ has_room v
     = (λ i u m. has_room_in ((alike m).1 i) u) ∙ ap has_room is in
     let row = λ (y : Kept). with_row t true (has_room_in y.rooms) in
@@ -47,9 +50,10 @@ room_made v b qs rs ns ms t l x q is alike lt read made =
 
 -- where none is made
 pub rooms_same : (v : Tables) (b : Bounds) (qs rs : List Kept) (ns ms : List ℕ) (l : ℕ) (x q : Kept)
-    → tables b qs ns ≡ v → AreAlike qs rs → l < length rs → x ≡ queue_at rs l → q.rooms ≡ x.rooms
+    → tables b qs ns ≡ v → AreAlike qs rs → l < length rs → x ≡ get_or rs l x → q.rooms ≡ x.rooms
     → has_room (tables b (set rs l q) ms) ≡ has_room v
-rooms_same v b qs rs ns ms l x q is alike lt read same =
+rooms_same v b qs rs ns ms l x q is alike lt found same =
+    let read : x ≡ queue_at rs l = get_or_read rs l x lt found no_queue in
     (λ i u m. lifted_same (λ (y : Kept). has_room_in y.rooms) rs l q lt
     (ap has_room_in same ∙ ap (λ (y : Kept). has_room_in y.rooms) read) m i u)
     ∙ (λ i u m. has_room_in ((alike m).1 i) u) ∙ ap has_room is

@@ -1,5 +1,5 @@
 -- What a search of a lock's sections finds, by the queue and the numbers that the tables have.
-use Rattle.std.proofs.Common.{◌≡◌, ℕ, ◌<◌, ◌≤◌, List, length, get_or, ap, sym, subst, ◌∙◌, arith}
+use Rattle.std.proofs.Common.{◌≡◌, ℕ, ◌<◌, ◌≤◌, true, List, length, get_or, ap, sym, subst, ◌∙◌, arith}
 use Rattle.std.proofs.lemmas.List.{get_or_read}
 use Rattle.event_core.specs.Bounds.{Bounds}
 use Rattle.event_core.specs.Closed.{number_counted}
@@ -8,9 +8,9 @@ use Rattle.lock_queues.specs.Sections.{closed_as, closed_at, section_of, section
 use Rattle.lock_queues.specs.Sections.{CountsEntry, AreRising}
 use Rattle.lock_queues.specs.Searched.{CountsEarlier}
 use Rattle.lock_queues.specs.Queue.{Kept, queue_at, no_queue}
-use Rattle.lock_queues.specs.Queues.{Tables, AreKept, kept_of, closed_of, opened_of}
+use Rattle.lock_queues.specs.Queues.{Tables, AreKept, kept_of, closed_of, opened_of, has_room}
 use Rattle.lock_queues.proofs.Counting.{CountsBefore, counts_before, number_is}
-use Rattle.lock_queues.proofs.Lifting.{Read, known_listed, read_entered}
+use Rattle.lock_queues.proofs.Lifting.{Read, known_listed, read_entered, read_room}
 use Rattle.lock_queues.proofs.Tables.{some_made}
 use Rattle.lock_queues.proofs.Storing.{acquire_is, closed_is, count_of, count_closed}
 
@@ -67,12 +67,24 @@ section_read v b qs ns l k q is read =
     ap (λ (x : Kept). closed_as (section_of ns (entry_at x.entries k))) read
     ∙ sym (closed_is ns (queue_at qs l).entries k) ∙ ap (λ (u : Tables). closed_at (closed_of u l) k) is
 
--- the queue of a lock that the thread has entered has the width of all, and a room
+-- the queue of a lock that the thread has entered, as a read gives it
+pub entered_read : {v : Tables} {b : Bounds} {qs : List Kept} {ns : List ℕ} {q : Kept} (t l : ℕ)
+    → tables b qs ns ≡ v → 0 < opened_of v t l → q ≡ get_or qs l q → Read qs t l q
+entered_read {qs = qs} {q = q} t l is entered read =
+    read_entered qs t l q (subst (λ (u : Tables). 0 < opened_of u t l) (sym is) entered) read
+
+-- and of one on which it has room
+pub room_read : {v : Tables} {b : Bounds} {qs : List Kept} {ns : List ℕ} {q : Kept} (t l : ℕ)
+    → tables b qs ns ≡ v → has_room v t l ≡ true → q ≡ get_or qs l q → Read qs t l q
+room_read {qs = qs} {q = q} t l is room read =
+    read_room qs t l q (ap (λ (u : Tables). has_room u t l) is ∙ room) read
+
+-- an entered one has the width of all, and a room
 module _ {v : Tables} {b : Bounds} {qs : List Kept} {ns : List ℕ} {made most : ℕ} {q : Kept} (t l : ℕ)
     (is : tables b qs ns ≡ v) (kept : AreKept b.threads qs ns made most) (entered : 0 < opened_of v t l)
     (read : q ≡ get_or qs l q) where
   found : Read qs t l q
-  found = read_entered qs t l q (subst (λ (u : Tables). 0 < opened_of u t l) (sym is) entered) read
+  found = entered_read t l is entered read
 
   pub entered_width : {n : ℕ} → n ≡ v.limits.threads → n ≡ q.width
   entered_width wide =

@@ -1,10 +1,8 @@
 -- The lists of closed sections: their entries, and what an event makes of them.
-use Rattle.std.proofs.Common.{◌≡◌, ℕ, suc, ◌<◌, ◌≤◌, ◌+◌, ◌-◌, List, [], ◌∷◌, ◌++◌, length, sym, ap}
-use Rattle.std.proofs.Common.{subst, ◌∙◌, arith, take, ◌⊎◌, length-append}
+use Rattle.std.proofs.Common.{◌≡◌, ℕ, suc, ◌<◌, ◌+◌, ◌-◌, List, [], ◌∷◌, ◌++◌, length, sym, ap, subst}
+use Rattle.std.proofs.Common.{◌∙◌, arith, take, length-append}
 use Rattle.std.proofs.lemmas.List.{get_or_append_left}
 use Rattle.std.proofs.Math.Seq.{get_or-append_seam, take-length}
-use Rattle.std.proofs.lemmas.Option.{slice_get_within}
-use mathlib.Core.Logic.{inl, inr}
 use Rattle.event_core.specs.declared.events.Event.{Event}
 use Rattle.event_core.specs.declared.ids.LockId.{LockId}
 use Rattle.event_core.specs.declared.ids.ThreadId.{ThreadId}
@@ -14,15 +12,10 @@ use Rattle.event_core.specs.Log.{OuterRelease, Section}
 use Rattle.event_core.specs.Order.{Hb}
 use Rattle.event_core.specs.Orderly.{Orderly}
 use Rattle.event_core.specs.Rows.{Counted}
-use Rattle.event_core.proofs.Chains.{hb_forward}
-use Rattle.event_core.proofs.Counting.{counted_longer, is_last, last_thread}
 use Rattle.event_core.proofs.Depth.{section_of}
-use Rattle.event_core.proofs.Effects.{front}
-use Rattle.event_core.proofs.LogFacts.{of_does}
-use Rattle.event_core.proofs.OpenSections.{closing_open}
 use Rattle.event_core.proofs.SectionNumbers.{ended_same, ended_one, number_within, number_longer, number_last}
 use Rattle.event_core.proofs.SectionNumbers.{at_number}
-use Rattle.event_core.proofs.Stable.{longer, back, section_too, hb_too}
+use Rattle.event_core.proofs.SectionSteps.{section_within, each_section, closed_longer, closed_now}
 use Rattle.lock_queues.specs.Sections.{closed_as, no_section, closed_at}
 use Rattle.lock_queues.specs.Standing.{AreSections}
 
@@ -77,34 +70,15 @@ place_within log l qs are u a r s =
     omega (arith, count, le)
 
 module _ (log : List Event) (e : Event) (ord : Orderly (log ++ e ∷ [])) where
-  -- the entry of a closed section is its entry in the longer log
-  closed_longer : (u : ThreadId) (l : LockId) (a r : ℕ) (q : Closed) → IsClosed log u l a r q
-      → IsClosed (log ++ e ∷ []) u l a r q
-  closed_longer u l a r q c = record {
-    section = section_too (longer log (e ∷ [])) lt c.section;
-    thread = c.thread;
-    position =
-        c.position ∙ sym (ap (λ xs. events_of xs u + 1)
-        (front log e a (let from : a ≤ r = c.section.inside.from in omega (arith, lt))));
-    release =
-        counted_longer log e (λ i. Hb log i r) (λ i. Hb (log ++ e ∷ []) i r) q.release
-        (λ i h. hb_too (longer log (e ∷ [])) lt h) (λ i b h. hb_too (back (longer log (e ∷ []))) lt h)
-        (λ i h. (let le : i ≤ r = hb_forward h in omega (arith, lt))) c.release;
-  }
-    where
-      lt : r < length log
-      lt = slice_get_within log r c.section.closed.does.event c.section.closed.does.at
-
   -- a section that ended before the event has the same place
   old_entry : (u : ThreadId) (l : LockId) (a r : ℕ) (qs : List Closed) → AreSections log l qs
-      → Section (log ++ e ∷ []) u l a r → r < length log
+      → Section log u l a r
       → (number_of (log ++ e ∷ []) l r - 1 < length qs)
       × IsClosed (log ++ e ∷ []) u l a r (closed_at qs (number_of (log ++ e ∷ []) l r - 1))
-  old_entry u l a r qs are x lt =
-      let s : Section log u l a r = section_too (back (longer log (e ∷ []))) lt x in
-      let same = number_longer log e l r (omega arith) in
+  old_entry u l a r qs are s =
+      let same = number_longer log e l r (let lt = section_within s in omega (arith, lt)) in
       subst (λ n. (n - 1 < length qs) × IsClosed (log ++ e ∷ []) u l a r (closed_at qs (n - 1))) (sym same)
-      (place_within log l qs are u a r s, closed_longer u l a r _ (are.each u a r s))
+      (place_within log l qs are u a r s, closed_longer log e u l a r _ (are.each u a r s))
 
   -- where the event ends no section on the lock, the list is the same
   pub sections_same : (l : LockId) (qs : List Closed)
@@ -112,18 +86,12 @@ module _ (log : List Event) (e : Event) (ord : Orderly (log ++ e ∷ [])) where
       → AreSections log l qs → AreSections (log ++ e ∷ []) l qs
   sections_same l qs none are = record {
     count = are.count ∙ sym (ended_same log e l none);
-    each = λ u a r x. each u a r x (is_last log e r u (of_does x.closed.does));
+    each = each_section log e l Entry (λ u a r lt s. (old_entry u l a r qs are s).1)
+        (λ a s. absurd (none s.closed));
   }
     where
-      each : (u : ThreadId) (a r : ℕ) → Section (log ++ e ∷ []) u l a r
-          → (r < length log) ⊎ (r ≡ length log)
-          → IsClosed (log ++ e ∷ []) u l a r (closed_at qs (number_of (log ++ e ∷ []) l r - 1))
-      each u a r x (inl lt) = (old_entry u l a r qs are x lt).1
-      each u a r x (inr at) =
-          let th : e.thread ≡ u = last_thread log e r u at (of_does x.closed.does) in
-          absurd (none
-          (subst (λ v. OuterRelease (log ++ e ∷ []) (length log) v l) (sym th)
-          (subst (λ n. OuterRelease (log ++ e ∷ []) n u l) at x.closed)))
+      Entry : ThreadId → ℕ → ℕ → Type 0
+      Entry u a r = IsClosed (log ++ e ∷ []) u l a r (closed_at qs (number_of (log ++ e ∷ []) l r - 1))
 
   -- and where it ends one, the list has its entry more
   pub sections_more : (l : LockId) (qs : List Closed) (q : Closed)
@@ -133,24 +101,12 @@ module _ (log : List Event) (e : Event) (ord : Orderly (log ++ e ∷ [])) where
       → AreSections log l qs → AreSections (log ++ e ∷ []) l (qs ++ q ∷ [])
   sections_more l qs q closes thread position release are = record {
     count = length-append qs (q ∷ []) ∙ ap (λ n. n + 1) are.count ∙ sym (ended_one log e l closes);
-    each = λ u a r x. each u a r x (is_last log e r u (of_does x.closed.does));
+    each = each_section log e l Entry old new;
   }
     where
-      Entry : ThreadId → ℕ → ℕ → ℕ → Type 0
-      Entry u a r n = IsClosed (log ++ e ∷ []) u l a r (closed_at (qs ++ q ∷ []) (n - 1))
-
-      mine : (a : ℕ) → Section (log ++ e ∷ []) e.thread l a (length log)
-          → IsClosed (log ++ e ∷ []) e.thread l a (length log) q
-      mine a x =
-          let p = closing_open log e ord e.thread l a x in
-          let lt : a < length log = p.0 in
-          record {
-            section = x;
-            thread = thread;
-            position =
-                position a p.1 ∙ sym (ap (λ xs. events_of xs e.thread + 1) (front log e a (omega arith)));
-            release = release;
-          }
+      Entry : ThreadId → ℕ → ℕ → Type 0
+      Entry u a r =
+          IsClosed (log ++ e ∷ []) u l a r (closed_at (qs ++ q ∷ []) (number_of (log ++ e ∷ []) l r - 1))
 
       last_place : number_of (log ++ e ∷ []) l (length log) - 1 ≡ length qs
       last_place =
@@ -158,19 +114,14 @@ module _ (log : List Event) (e : Event) (ord : Orderly (log ++ e ∷ [])) where
           let count : length qs ≡ ended log l = are.count in
           omega (arith, n, count)
 
-      each : (u : ThreadId) (a r : ℕ) → Section (log ++ e ∷ []) u l a r
-          → (r < length log) ⊎ (r ≡ length log)
-          → Entry u a r (number_of (log ++ e ∷ []) l r)
-      each u a r x (inl lt) =
-          let old = old_entry u l a r qs are x lt in
+      old : (u : ThreadId) (a r : ℕ) → r < length log → Section log u l a r → Entry u a r
+      old u a r lt s =
+          let entry = old_entry u l a r qs are s in
           subst (λ c. IsClosed (log ++ e ∷ []) u l a r c)
-          (sym (at_front qs q (number_of (log ++ e ∷ []) l r - 1) old.0)) old.1
-      each u a r x (inr at) =
-          let th : e.thread ≡ u = last_thread log e r u at (of_does x.closed.does) in
-          let x' : Section (log ++ e ∷ []) e.thread l a (length log)
-          = subst (λ v. Section (log ++ e ∷ []) v l a (length log)) (sym th)
-          (subst (λ n. Section (log ++ e ∷ []) u l a n) at x) in
-          subst (λ m. Entry u a m (number_of (log ++ e ∷ []) l m)) (sym at)
-          (subst (λ v. Entry v a (length log) (number_of (log ++ e ∷ []) l (length log))) th
-          (subst (λ c. IsClosed (log ++ e ∷ []) e.thread l a (length log) c)
-          (sym (ap (closed_at (qs ++ q ∷ [])) last_place ∙ at_end qs q)) (mine a x')))
+          (sym (at_front qs q (number_of (log ++ e ∷ []) l r - 1) entry.0)) entry.1
+
+      new : (a : ℕ) → Section (log ++ e ∷ []) e.thread l a (length log) → Entry e.thread a (length log)
+      new a s =
+          subst (λ c. IsClosed (log ++ e ∷ []) e.thread l a (length log) c)
+          (sym (ap (closed_at (qs ++ q ∷ [])) last_place ∙ at_end qs q))
+          (closed_now log e ord l q thread position release a s)

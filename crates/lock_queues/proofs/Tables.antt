@@ -1,9 +1,10 @@
 -- What is kept of all locks stays so over each change of one.
 use Rattle.std.proofs.Common.{◌≡◌, ℕ, ◌+◌, ◌*◌, ◌<◌, ◌≤◌, zero, suc, true, List, length, map}
-use Rattle.std.proofs.Common.{set}
+use Rattle.std.proofs.Common.{set, get_or}
 use Rattle.std.proofs.Common.{sym, ap, subst, ◌∙◌, arith, length-set, length-append}
 use Rattle.std.proofs.Math.Nat.{suc-mul}
 use Rattle.std.proofs.lemmas.Bool.{cases_eq}
+use Rattle.std.proofs.lemmas.List.{get_or_read}
 use Rattle.std.proofs.lemmas.List.Sums.{sum_by-set}
 use mathlib.Core.Logic.{inl, inr}
 use Rattle.lock_queues.specs.declared.sections.Entry.{Entry}
@@ -70,30 +71,33 @@ kept_larger {w = w} {qs = qs} {ns = ns} {made = made} {more = more} kept same le
       spare = omega (arith, spare, le);
     })
 
--- a queue has other rooms
-pub kept_set : {w : ℕ} {qs : List Kept} {ns : List ℕ} {made most : ℕ} (l : ℕ) (q : Kept) (now : ℕ)
-    → AreKept w qs ns made most → l < length qs → q.width ≡ (queue_at qs l).width
-    → q.entries ≡ (queue_at qs l).entries → now + length (queue_at qs l).rooms ≡ made + length q.rooms
+-- a queue that was read has other rooms
+pub kept_set : {w : ℕ} {qs : List Kept} {ns : List ℕ} {made most : ℕ} {x : Kept} (l : ℕ) (q : Kept) (now : ℕ)
+    → AreKept w qs ns made most → l < length qs → x ≡ get_or qs l x → q.width ≡ x.width
+    → q.entries ≡ x.entries → now + length x.rooms ≡ made + length q.rooms
     → length ns + now * w ≤ most → AreKept w (set qs l q) ns now most
-kept_set {w = w} {qs = qs} {ns = ns} {made = made} l q now kept lt width entries rooms spare =
+kept_set {w = w} {qs = qs} {ns = ns} {made = made} {x = x} l q now kept lt read width entries rooms spare =
+    let is : x ≡ queue_at qs l = get_or_read qs l x lt read no_queue in
+    let same = entries ∙ ap (λ (k : Kept). k.entries) is in
+    let many = ap (λ (k : Kept). length k.rooms) is in
     let counted = kept.rooms in
     let sum = rooms_set qs l q lt in
     record {
-      wide = wide_set w qs l q lt kept.wide width;
+      wide = wide_set w qs l q lt kept.wide (width ∙ ap (λ (k : Kept). k.width) is);
       readable = each_set (λ (k : Kept). AreReadable ns k.entries) qs l q lt kept.readable
-          (subst (AreReadable ns) (sym entries) (kept.readable l));
+          (subst (AreReadable ns) (sym same) (kept.readable l));
       rising = each_set (λ (k : Kept). AreRising (sections_of ns k.entries)) qs l q lt kept.rising
-          (subst (λ (es : List Entry). AreRising (sections_of ns es)) (sym entries) (kept.rising l));
-      rooms = omega (arith, counted, sum, rooms);
+          (subst (λ (es : List Entry). AreRising (sections_of ns es)) (sym same) (kept.rising l));
+      rooms = omega (arith, counted, sum, rooms, many);
       spare = spare;
     }
 
 -- further queues have no sections
-pub kept_alike : {w : ℕ} {qs rs : List Kept} {ns : List ℕ} {made most : ℕ}
-    → AreKept w qs ns made most → AreAlike qs rs → AreWide w rs → count_rooms rs ≡ count_rooms qs
+pub kept_alike : {w v : ℕ} {qs rs : List Kept} {ns : List ℕ} {made most : ℕ}
+    → AreKept w qs ns made most → AreAlike qs rs → v ≡ w → AreWide v rs → count_rooms rs ≡ count_rooms qs
     → AreKept w rs ns made most
-kept_alike {ns = ns} kept alike wide rooms = record {
-  wide = wide;
+kept_alike {ns = ns} kept alike same wide rooms = record {
+  wide = λ m within. wide m within ∙ same;
   readable = λ l. subst (AreReadable ns) (sym (alike l).0) (kept.readable l);
   rising = λ l. subst (λ (es : List Entry). AreRising (sections_of ns es)) (sym (alike l).0) (kept.rising l);
   rooms = kept.rooms ∙ sym rooms;

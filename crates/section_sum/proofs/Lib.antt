@@ -8,7 +8,6 @@ mod Says
 mod Passing
 mod Sayings
 mod Meaning
-mod OpenAccesses
 mod ClosedAccesses
 mod Steps
 mod PairedSections

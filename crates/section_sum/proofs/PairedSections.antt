@@ -1,56 +1,35 @@
 -- The sections that rule (a) pairs with an access, and those that the summaries name.
 use Rattle.std.proofs.Common.{◌≡◌, ℕ, ◌<◌, ◌≤◌, List, [], ◌∷◌, ◌++◌, cond}
-use Rattle.std.proofs.Common.{length, refl, sym, ap, subst, ◌∙◌, arith, ◌⊎◌}
+use Rattle.std.proofs.Common.{refl, sym, ap, subst, ◌∙◌, arith, ◌⊎◌}
 use Rattle.std.proofs.lemmas.Bool.{cases_eq, cases_order, eq-eqb, ne_eqb}
-use Rattle.std.proofs.lemmas.Option.{slice_get_within}
-use Rattle.std.proofs.Math.Seq.{take-length}
 use mathlib.Core.Logic.{inl, inr}
 use Rattle.event_core.specs.declared.events.AccessKind.{AccessKind}
 use Rattle.event_core.specs.declared.events.AccessKind.TheVariants.{Read, Write}
 use Rattle.event_core.specs.declared.events.Event.{Event}
-use Rattle.event_core.specs.declared.events.Op.{Op}
-use Rattle.event_core.specs.declared.events.Op.TheVariants.{Load, Store, Acquire, Release, Fork, Join}
 use Rattle.event_core.specs.declared.ids.LockId.{LockId}
 use Rattle.event_core.specs.declared.ids.ThreadId.{ThreadId}
 use Rattle.event_core.specs.declared.ids.VarId.{VarId}
 use Rattle.event_core.specs.Closed.{OtherSection, Has, first, later, number_of}
-use Rattle.event_core.specs.Log.{Does, depth, Section, InSection, OpsConflict}
+use Rattle.event_core.specs.Log.{depth, Section, OpsConflict}
 use Rattle.event_core.specs.Order.{Hb, here}
-use Rattle.event_core.specs.Wcp.{Meets}
 use Rattle.event_core.specs.Orderly.{Orderly}
 use Rattle.event_core.specs.Effect.{access_of}
 use Rattle.event_core.specs.Rows.{join, Counted}
 use Rattle.event_core.proofs.Chains.{hb_trans, hb_thread}
-use Rattle.event_core.proofs.Counting.{last_of, last_does, counted_none, counted_join, counted_same}
-use Rattle.event_core.proofs.Depth.{Opener, opener}
+use Rattle.event_core.proofs.Counting.{counted_none, counted_join, counted_same}
 use Rattle.event_core.proofs.Legality.{orderly}
 use Rattle.event_core.proofs.Growth.{well_formed_front}
-use Rattle.event_core.proofs.LogFacts.{of_does, of_one, does_op, does_thread}
+use Rattle.event_core.proofs.LogFacts.{of_does}
 use Rattle.event_core.proofs.Members.{none_in, has_front, has_back, has_either}
 use Rattle.event_core.proofs.MoreLaws.{sections_ordered}
 use Rattle.event_core.proofs.SectionNumbers.{number_order, number_same}
-use Rattle.event_core.proofs.Stable.{longer, back, of, does, acquire, section_too}
+use Rattle.event_core.proofs.OtherSections.{meets_other, other_meets}
+use Rattle.event_core.proofs.Stable.{longer, back, section_too}
 use Rattle.section_sum.specs.Laws.{SourcesCount}
 use Rattle.section_sum.specs.Newest.{section}
 use Rattle.section_sum.specs.Paired.{Pairs, AreSources, AreReleaseClocks, joined, IsBelowPaired}
 use Rattle.section_sum.specs.Standing.{Stands, IsAccess}
 use Rattle.section_sum.specs.Sums.{Sums, others_of, sources_of}
-
--- what conflicts with an access is an access of its variable
-conflicting : (p : Op) (x : VarId) (k : AccessKind) → OpsConflict p (access_of x k)
-    → (j : AccessKind) × (p ≡ access_of x j)
-conflicting (Load y) x Write c = (Read, ap Load c)
-conflicting (Store y) x Read c = (Write, ap Store c)
-conflicting (Store y) x Write c = (Write, ap Store c)
-conflicting (Load y) x Read c = absurd c
-conflicting (Acquire y) x Read c = absurd c
-conflicting (Acquire y) x Write c = absurd c
-conflicting (Release y) x Read c = absurd c
-conflicting (Release y) x Write c = absurd c
-conflicting (Fork y) x Read c = absurd c
-conflicting (Fork y) x Write c = absurd c
-conflicting (Join y) x Read c = absurd c
-conflicting (Join y) x Write c = absurd c
 
 module _ (log : List Event) (e : Event) where
   -- a section whose release the rule pairs with the event stands in the log
@@ -66,102 +45,16 @@ module _ (log : List Event) (e : Event) where
   -- it has an access of the variable that conflicts, and is another thread's
   paired_other : (l : LockId) (x : VarId) (k : AccessKind) (r : ℕ) → e.op ≡ access_of x k → Pairs log e l r
       → (j : AccessKind) × OpsConflict (access_of x j) (access_of x k) × OtherSection log l x j e.thread r
-  paired_other l x k r o p = go (conflicting m.conflict.first x k ops)
-    where
-      m : Meets (log ++ e ∷ []) r (length log)
-      m = p.meets
-
-      lt : r < length log
-      lt = m.before
-
-      ops : OpsConflict m.conflict.first (access_of x k)
-      ops =
-          subst (λ q. OpsConflict m.conflict.first q)
-          (does_op m.conflict.does_second (last_does log e) ∙ o) m.conflict.ops
-
-      s : InSection (log ++ e ∷ []) m.lock r m.access
-      s = m.in_section
-
-      by : m.conflict.by ≡ s.thread
-      by = of_one (of_does m.conflict.does_first) s.of
-
-      theirs : m.conflict.other ≡ e.thread
-      theirs = does_thread m.conflict.does_second (last_does log e)
-
-      go : (j : AccessKind) × (m.conflict.first ≡ access_of x j)
-          → (j : AccessKind) × OpsConflict (access_of x j) (access_of x k) × OtherSection log l x j e.thread r
-      go c = (
-        c.0,
-        subst (λ q. OpsConflict q (access_of x k)) c.1 ops,
-        record {
-          thread = s.thread;
-          other = λ q. m.conflict.threads (by ∙ q ∙ sym theirs);
-          acquire = s.acquire;
-          section =
-              subst (λ y. Section log s.thread y s.acquire r) p.lock
-              (section_too (back (longer log (e ∷ []))) lt s.section);
-          access = m.access;
-          from = s.from;
-          to = s.to;
-          does =
-              subst (λ q. Does log m.access s.thread q) c.1
-              (subst (λ v. Does log m.access v m.conflict.first) by
-              (does (back (longer log (e ∷ [])))
-              (let to : m.access ≤ r = s.to in omega arith) m.conflict.does_first));
-        },
-      )
+  paired_other l x k r o p =
+      let q = meets_other log e x k r o p.meets in
+      (q.0, q.1, subst (λ y. OtherSection log y x q.0 e.thread r) p.lock q.2)
 
   -- and the rule pairs the release of each such section
   other_paired : (l : LockId) (x : VarId) (k j : AccessKind) (r : ℕ) → e.op ≡ access_of x k
       → 0 < depth log e.thread l → OpsConflict (access_of x j) (access_of x k)
       → OtherSection log l x j e.thread r → Pairs log e l r
-  other_paired l x k j r o held c q = record {
-    meets = record {
-      before = lt;
-      lock = l;
-      thread = e.thread;
-      acquire = p.index;
-      inside = record {
-        opened = acquire (longer log (e ∷ [])) p.below p.opened;
-        of = last_of log e;
-        from = (let b : p.index < length log = p.below in omega arith);
-        held =
-            λ n a b. subst (λ xs. 0 < depth xs e.thread l) ((longer log (e ∷ [])).fronts n b)
-            (p.held n a b);
-      };
-      access = q.access;
-      in_section = record {
-        thread = q.thread;
-        acquire = q.acquire;
-        section = section_too (longer log (e ∷ [])) lt q.section;
-        of = of (longer log (e ∷ [])) reached (of_does q.does);
-        from = q.from;
-        to = q.to;
-      };
-      conflict = record {
-        first = access_of x j;
-        second = access_of x k;
-        by = q.thread;
-        other = e.thread;
-        does_first = does (longer log (e ∷ [])) reached q.does;
-        does_second = subst (λ y. Does (log ++ e ∷ []) (length log) e.thread y) o (last_does log e);
-        ops = c;
-        threads = q.other;
-      };
-    };
-    lock = refl;
-  }
-    where
-      lt : r < length log
-      lt = slice_get_within log r q.section.closed.does.event q.section.closed.does.at
-
-      reached : q.access < length log
-      reached = let to : q.access ≤ r = q.to in let b = lt in omega arith
-
-      p : Opener log e.thread l (length log)
-      p =
-          opener log e.thread l (length log) (omega arith)
-          (subst (λ xs. 0 < depth xs e.thread l) (sym (take-length log)) held)
+  other_paired l x k j r o held c q =
+      let m = other_meets log e l x k j r o held c q in record { meets = m.0; lock = m.1 }
 
 -- a number of one section is that section's
 in_section_of : (m n : ℕ) → Has n (section m) → (0 < m) × (n ≡ m)

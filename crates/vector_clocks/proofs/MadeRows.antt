@@ -2,8 +2,10 @@
 use Rattle.std.proofs.Common.{◌≡◌, ℕ, ◌<◌, ◌≤◌, List, [], ◌∷◌, length, get_or, set}
 use Rattle.std.proofs.Common.{replicate, refl, sym, ap, subst, ◌∙◌, arith, inl, inr, ◌⊎◌}
 use Rattle.std.proofs.lemmas.Bool.{cases_lt, cases_eq}
-use Rattle.std.proofs.lemmas.List.{get_or_past, get_or_read}
+use Rattle.std.proofs.lemmas.List.{get_or_past, get_or_read, with_items_is}
 use Rattle.std.proofs.lemmas.List.{get_or-replicate, get_or-set_same, get_or-set_other, length-replicate}
+use Rattle.std.specs.Vec.{with_items}
+use Rattle.std.specs.declared.vec.Vec.{Vec}
 use Rattle.event_core.specs.Rows.{no_clock}
 use Rattle.event_core.proofs.Growing.{row_same, row_other}
 use Rattle.vector_clocks.specs.Counts.{counts_of}
@@ -45,6 +47,13 @@ wide_kept w old new e a = record {
   wide = λ t h. (let p : widths_of new t ≡ widths_of old t =
       ap (λ f. f t) e in let q : 0 < widths_of old t = omega arith in p ∙ a.wide t q);
 }
+
+-- rows that are written in their vector, and keep their widths
+pub written_widths : {Z : Type 0} (v : Vec (List ℕ) Z) (read rows : List (List ℕ)) → length read ≡ v.len
+    → read ≡ v.items → length rows ≡ length read → widths_of rows ≡ widths_of read
+    → widths_of (with_items v rows).items ≡ widths_of v.items
+written_widths v read rows len is same kept =
+    ap widths_of (with_items_is v rows (same ∙ len)) ∙ kept ∙ ap widths_of is
 
 -- one row is made with zeros
 module _ (w at : ℕ) (rows : List (List ℕ)) (row : List ℕ) (within : at < length rows)

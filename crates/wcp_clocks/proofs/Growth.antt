@@ -127,6 +127,14 @@ grown_parts old new g a = record {
   ordered = g.ordered a.ordered;
 }
 
+-- the same of the parts that are seen, where they are those within
+module _ {inside now new : Parts} (is : inside ≡ now) (grown : HasGrown inside new) where
+  pub seen_ready : KeepsReady now new
+  seen_ready = subst (λ (p : Parts). KeepsReady p new) is (grown_ready inside new grown)
+
+  pub seen_numbers : SameNumbers now new
+  seen_numbers = subst (λ (p : Parts). SameNumbers p new) is (grown_numbers inside new grown)
+
 -- a table with one place more that is true
 row_true : (t l : ℕ) (f : ℕ → ℕ → Bool) (u m : ℕ) → f u m ≡ true
     → with_row t (with_row l true (f t)) f u m ≡ true

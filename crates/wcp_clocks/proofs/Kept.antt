@@ -1,11 +1,11 @@
 -- Tables whose clocks keep their widths.
-use Rattle.std.proofs.Common.{◌≡◌, ℕ, ◌<◌, List, length, sym, subst}
+use Rattle.std.proofs.Common.{◌≡◌, ℕ, ◌<◌, List, length, refl, sym, subst}
 use Rattle.vector_clocks.specs.Rows.{widths_of, IsMade}
 use Rattle.vector_clocks.proofs.MadeRows.{made_kept, made_within, wide_kept}
 use Rattle.wcp_clocks.specs.StrictRows.{StrictTables, HasThread, HasLock, SameRoom, AreTables}
 
 -- the clocks have the widths that they had
-pub record SameWidths (old new : StrictTables) : Type 0 where
+record SameWidths (old new : StrictTables) : Type 0 where
   pub width : new.width ≡ old.width
   pub thread : widths_of new.thread ≡ widths_of old.thread
   pub lock : widths_of new.lock ≡ widths_of old.lock
@@ -28,7 +28,7 @@ module _ (old new : StrictTables) (same : SameWidths old new) where
   lock_made : (l : ℕ) → HasLock old l → HasLock new l
   lock_made l room = record { made = row_made l old.lock new.lock same.lock room.made }
 
-pub room_kept : (old new : StrictTables) → SameWidths old new → SameRoom old new
+room_kept : (old new : StrictTables) → SameWidths old new → SameRoom old new
 room_kept old new same =
     let back = same_back old new same in
     record {
@@ -39,15 +39,37 @@ room_kept old new same =
       had_lock = lock_made new old back;
     }
 
-pub tables_kept : (old new : StrictTables) (zeros : List ℕ) → SameWidths old new
-    → AreTables old.width zeros old.thread old.lock
-    → AreTables old.width zeros new.thread new.lock
-tables_kept old new zeros same a = record {
-  some = a.some;
-  only_zeros = a.only_zeros;
-  thread_wide = wide_kept old.width old.thread new.thread same.thread a.thread_wide;
-  lock_wide = wide_kept old.width old.lock new.lock same.lock a.lock_wide;
-}
+-- clocks of threads that are written, and clocks of locks
+module _ {found now : StrictTables} {rows : List (List ℕ)} (is : found ≡ now) where
+  pub threads_room : widths_of rows ≡ widths_of found.thread → SameRoom now (record found { thread = rows })
+  threads_room same =
+      let new = record found { thread = rows } in
+      subst (λ (v : StrictTables). SameRoom v new) is
+      (room_kept found new (record { width = refl; thread = same; lock = refl }))
+
+  pub locks_room : widths_of rows ≡ widths_of found.lock → SameRoom now (record found { lock = rows })
+  locks_room same =
+      let new = record found { lock = rows } in
+      subst (λ (v : StrictTables). SameRoom v new) is
+      (room_kept found new (record { width = refl; thread = refl; lock = same }))
+
+module _ {width : ℕ} {zeros : List ℕ} {thread lock rows : List (List ℕ)}
+    (a : AreTables width zeros thread lock) where
+  pub threads_kept : widths_of rows ≡ widths_of thread → AreTables width zeros rows lock
+  threads_kept same = record {
+    some = a.some;
+    only_zeros = a.only_zeros;
+    thread_wide = wide_kept width thread rows same a.thread_wide;
+    lock_wide = a.lock_wide;
+  }
+
+  pub locks_kept : widths_of rows ≡ widths_of lock → AreTables width zeros thread rows
+  locks_kept same = record {
+    some = a.some;
+    only_zeros = a.only_zeros;
+    thread_wide = a.thread_wide;
+    lock_wide = wide_kept width lock rows same a.lock_wide;
+  }
 
 -- the rows that are named are among those that are read
 module _ {found now : StrictTables} {zeros : List ℕ} {t : ℕ} {read : List (List ℕ)} (is : found ≡ now)

@@ -133,50 +133,32 @@ module _ (e : Event) (k : Effect) (old new : Parts) (told : effect e (state_of o
   }
 
 -- the effect of an acquire and of a release, by the depth that the thread holds the lock to
-outer_acquire : (d : ℕ → ℕ) (l : LockId) → d l.0 ≡ 0 → effect_of d (Acquire l) ≡ Opens l
-outer_acquire d l e = ap (λ b. cond b (Opens l) Inner) (eq-eqb (d l.0) 0 e)
+module _ (e : Event) (parts : Parts) (l : LockId) where
+  -- how often the thread holds a lock
+  abbrev pub depths : ℕ → ℕ
+  depths = (hb_of parts).depth e.thread.0
 
-inner_acquire : (d : ℕ → ℕ) (l : LockId) → (d l.0 ≡ 0 → ⊥) → effect_of d (Acquire l) ≡ Inner
-inner_acquire d l n = ap (λ b. cond b (Opens l) Inner) (ne_eqb (d l.0) 0 n)
+  pub outer_acquire : depths l.0 ≡ 0 → effect_of depths (Acquire l) ≡ Opens l
+  outer_acquire is = ap (λ b. cond b (Opens l) Inner) (eq-eqb (depths l.0) 0 is)
 
-outer_release : (d : ℕ → ℕ) (l : LockId) → d l.0 ≡ 1 → effect_of d (Release l) ≡ Closes l
-outer_release d l e = ap (λ b. cond b (Closes l) Inner) (eq-eqb (d l.0) 1 e)
+  pub inner_acquire : (depths l.0 ≡ 0 → ⊥) → effect_of depths (Acquire l) ≡ Inner
+  inner_acquire isnt = ap (λ b. cond b (Opens l) Inner) (ne_eqb (depths l.0) 0 isnt)
 
-inner_release : (d : ℕ → ℕ) (l : LockId) → (d l.0 ≡ 1 → ⊥) → effect_of d (Release l) ≡ Inner
-inner_release d l n = ap (λ b. cond b (Closes l) Inner) (ne_eqb (d l.0) 1 n)
+  pub outer_release : depths l.0 ≡ 1 → effect_of depths (Release l) ≡ Closes l
+  outer_release is = ap (λ b. cond b (Closes l) Inner) (eq-eqb (depths l.0) 1 is)
 
--- the step of an outer acquire
-pub opened : (e : Event) (l : LockId) (old new : Parts) → e.op ≡ Acquire l
-    → (hb_of old).depth e.thread.0 l.0 ≡ 0 → IsStepBy e (Opens l) old new
-    → AreParts old → IsReady old e → Fits e old → IsStep e old new
-opened e l old new op depth by parts ready fits =
-    stepped e (Opens l) old new
-    (ap (effect_of ((hb_of old).depth e.thread.0)) op ∙ outer_acquire ((hb_of old).depth e.thread.0) l depth)
-    by parts ready fits (λ a. absurd (subst IsAccess op a))
+  pub inner_release : (depths l.0 ≡ 1 → ⊥) → effect_of depths (Release l) ≡ Inner
+  inner_release isnt = ap (λ b. cond b (Closes l) Inner) (ne_eqb (depths l.0) 1 isnt)
 
--- and of an inner one
-pub acquired_again : (e : Event) (l : LockId) (old new : Parts) → e.op ≡ Acquire l
-    → ((hb_of old).depth e.thread.0 l.0 ≡ 0 → ⊥) → IsStepBy e Inner old new
-    → AreParts old → IsReady old e → Fits e old → IsStep e old new
-acquired_again e l old new op depth by parts ready fits =
-    stepped e Inner old new
-    (ap (effect_of ((hb_of old).depth e.thread.0)) op ∙ inner_acquire ((hb_of old).depth e.thread.0) l depth)
-    by parts ready fits (λ a. absurd (subst IsAccess op a))
+-- the step of an acquire or a release, which is rebuilt with its own operation
+pub rebuilt : (e : Event) (o : Op) (k : Effect) (old new : Parts) → e.op ≡ o
+    → effect_of ((hb_of old).depth e.thread.0) o ≡ k → (IsAccess o → ⊥)
+    → IsStepBy (record e { op = o }) k old new → AreParts old → IsReady old e → Fits e old → IsStep e old new
+rebuilt e o k old new op effect none by parts ready fits =
+    stepped e k old new (ap (effect_of ((hb_of old).depth e.thread.0)) op ∙ effect)
+    (subst (λ (x : Event). IsStepBy x k old new) (ap (λ (p : Op). record e { op = p }) (sym op)) by)
+    parts ready fits (λ a. absurd (none (subst IsAccess op a)))
 
--- the step of an outer release
-pub closed : (e : Event) (l : LockId) (old new : Parts) → e.op ≡ Release l
-    → (hb_of old).depth e.thread.0 l.0 ≡ 1 → IsStepBy e (Closes l) old new
-    → AreParts old → IsReady old e → Fits e old → IsStep e old new
-closed e l old new op depth by parts ready fits =
-    stepped e (Closes l) old new
-    (ap (effect_of ((hb_of old).depth e.thread.0)) op ∙ outer_release ((hb_of old).depth e.thread.0) l depth)
-    by parts ready fits (λ a. absurd (subst IsAccess op a))
-
--- and of an inner one
-pub released_again : (e : Event) (l : LockId) (old new : Parts) → e.op ≡ Release l
-    → ((hb_of old).depth e.thread.0 l.0 ≡ 1 → ⊥) → IsStepBy e Inner old new
-    → AreParts old → IsReady old e → Fits e old → IsStep e old new
-released_again e l old new op depth by parts ready fits =
-    stepped e Inner old new
-    (ap (effect_of ((hb_of old).depth e.thread.0)) op ∙ inner_release ((hb_of old).depth e.thread.0) l depth)
-    by parts ready fits (λ a. absurd (subst IsAccess op a))
+pub fits_rebuilt : (e : Event) (o : Op) (parts : Parts) → e.op ≡ o → Fits e parts
+    → Fits (record e { op = o }) parts
+fits_rebuilt e o parts op fits = subst (λ (p : Op). Fits (record e { op = p }) parts) op fits

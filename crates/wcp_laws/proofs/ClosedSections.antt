@@ -1,42 +1,23 @@
 -- The clock that rule (b) gives a closing release counts what is below the earlier sections on its lock.
-use Rattle.std.proofs.Common.{◌≡◌, ℕ, ◌<◌, ◌≤◌, ◌+◌, List, [], ◌∷◌, Bool, true, false, cond, refl, sym, ap}
-use Rattle.std.proofs.Common.{subst, arith, take, ◌⊎◌}
-use Rattle.std.proofs.lemmas.Bool.{cases_Bool, leb-true, le-leb}
+use Rattle.std.proofs.Common.{◌≡◌, ℕ, List, [], ◌∷◌, Bool, true, false, cond, refl, sym, subst, ◌⊎◌}
+use Rattle.std.proofs.lemmas.Bool.{cases_Bool}
 use mathlib.Core.Logic.{inl, inr}
 use Rattle.event_core.specs.declared.events.Event.{Event}
 use Rattle.event_core.specs.declared.ids.LockId.{LockId}
 use Rattle.event_core.specs.declared.ids.ThreadId.{ThreadId}
 use Rattle.event_core.specs.Closed.{Closed, is_counted, below_closed, Has, first, later, IsClosed}
-use Rattle.event_core.specs.Count.{events_of, Past}
+use Rattle.event_core.specs.Count.{Past}
 use Rattle.event_core.specs.Order.{Hb}
 use Rattle.event_core.specs.Rows.{join, no_clock, Counted}
 use Rattle.event_core.specs.Wcp.{Strict}
 use Rattle.event_core.proofs.CountLaws.{counts_same}
 use Rattle.event_core.proofs.Counting.{counted_none, counted_join, counted_same}
-use Rattle.event_core.proofs.LogFacts.{of_does}
 use Rattle.event_core.proofs.Members.{none_in}
+use Rattle.event_core.proofs.SectionSteps.{counted_is, is_counted_of}
 use Rattle.wcp_laws.specs.Standing.{Stands}
 use Rattle.wcp_laws.specs.State.{State}
 use Rattle.wcp_laws.proofs.StrictSteps.{Behind}
 use Rattle.event_core.proofs.Tests.{not_both}
-
--- the test of a section's acquire says whether the acquire is in the clock's set
-pub counted_is : (log : List Event) (P : ℕ → Type 0) (c : ℕ → ℕ) (u : ThreadId) (l : LockId) (a r : ℕ)
-    (q : Closed) → Counted log P c → IsClosed log u l a r q → is_counted c q ≡ true → P a
-counted_is log P c u l a r q n is h =
-    let le : q.position ≤ c q.thread = leb-true q.position (c q.thread) h in
-    let same : c q.thread ≡ c u.0 = ap c is.thread in
-    let at : q.position ≡ events_of (take a log) u + 1 = is.position in
-    ((n u).first a (of_does is.section.inside.opened.does)).1 (omega arith)
-
-pub is_counted_of : (log : List Event) (P : ℕ → Type 0) (c : ℕ → ℕ) (u : ThreadId) (l : LockId) (a r : ℕ)
-    (q : Closed) → Counted log P c → IsClosed log u l a r q → P a → is_counted c q ≡ true
-is_counted_of log P c u l a r q n is p =
-    let lt : events_of (take a log) u < c u.0
-    = ((n u).first a (of_does is.section.inside.opened.does)).0 p in
-    let same : c q.thread ≡ c u.0 = ap c is.thread in
-    let at : q.position ≡ events_of (take a log) u + 1 = is.position in
-    le-leb q.position (c q.thread) (omega arith)
 
 -- the entry is of a section whose acquire is in the set, and i is below its release
 record Entry (log : List Event) (P : ℕ → Type 0) (l : LockId) (q : Closed) (i : ℕ) : Type 0 where

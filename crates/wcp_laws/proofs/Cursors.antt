@@ -11,8 +11,7 @@ use Rattle.event_core.specs.Refusal.{WellFormed}
 use Rattle.event_core.specs.Rows.{with_row}
 use Rattle.event_core.specs.Effect.{Effect, Accesses, Opens, Closes, Forks, Joins, Inner}
 use Rattle.event_core.proofs.Depth.{lock_cases, same_lock_id, same_thread_id}
-use Rattle.event_core.proofs.Growing.{row_same, row_other}
-use Rattle.event_core.proofs.DepthSteps.{cell_same, cell_other}
+use Rattle.event_core.proofs.Growing.{row_same, row_other, cell_same, cell_other}
 use Rattle.wcp_laws.specs.Conditions.{CursorsStand, found_at}
 use Rattle.wcp_laws.specs.Standing.{Stands}
 use Rattle.wcp_laws.specs.State.{State}

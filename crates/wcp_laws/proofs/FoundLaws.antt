@@ -7,7 +7,7 @@ use Rattle.std.proofs.lemmas.Bool.{cases_lt, lt-ltb}
 use Rattle.event_core.specs.declared.events.Event.{Event}
 use Rattle.event_core.specs.declared.ids.LockId.{LockId}
 use Rattle.event_core.specs.declared.ids.ThreadId.{ThreadId}
-use Rattle.event_core.specs.Closed.{Closed, is_counted, number_counted}
+use Rattle.event_core.specs.Closed.{Closed, number_counted}
 use Rattle.event_core.specs.Count.{events_of}
 use Rattle.event_core.specs.Rows.{with_row}
 use Rattle.event_core.specs.declared.events.Op.{Op}
@@ -18,8 +18,8 @@ use Rattle.event_core.specs.declared.bounds.Limits.{Limits}
 use Rattle.event_core.specs.Refusal.{WellFormed}
 use Rattle.event_core.proofs.Counting.{events_own, events_other, grown_length}
 use Rattle.event_core.proofs.Depth.{thread_cases, same_thread_id}
-use Rattle.event_core.proofs.Growing.{row_same, row_other}
-use Rattle.event_core.proofs.DepthSteps.{cell_other}
+use Rattle.event_core.proofs.Growing.{row_same, row_other, cell_other}
+use Rattle.event_core.proofs.SectionSteps.{number_most}
 use Rattle.wcp_laws.specs.Conditions.{found_at}
 use Rattle.wcp_laws.specs.Found.{sum_below, total_found, total_closed, has_events, threads_in, FoundFits}
 use Rattle.wcp_laws.specs.Standing.{Stands}
@@ -192,20 +192,6 @@ found_at_close locks threads t l s f in_locks in_threads =
     row_kept : (b : ℕ) → (b ≡ t.0 → ⊥) → new l.0 b ≡ f l.0 b
     row_kept b ne = ap (λ (r : ℕ → ℕ). r b) is_row ∙ row_other t.0 found (f l.0) b ne
 
--- no more sections are counted than there are
-number_within : (c : ℕ → ℕ) (qs : List Closed) → number_counted c qs ≤ length qs
--- no more sections are counted than there are
-number_within c [] = omega arith
--- no more sections are counted than there are
-number_within c (q ∷ qs) =
-    let rest : number_counted c qs ≤ length qs = number_within c qs in
-    let head : cond {A = ℕ} (is_counted c q) 1 0 ≤ 1 = one (is_counted c q) in
-    omega arith
-  where
-    one : (b : Bool) → cond {A = ℕ} b 1 0 ≤ 1
-    one true = omega arith
-    one false = omega arith
-
 -- what a thread with events finds on a lock is at most its closed sections
 found_by : (log : List Event) (s : State) (f : ℕ → ℕ → ℕ) → FoundFits log s f → (l t : ℕ)
     → f l t ≤ has_events log t * length (s.closed l)
@@ -224,7 +210,7 @@ found_by log s f fits l t = go (cases_lt 0 (events_of log thread))
         = ap (λ (b : Bool). cond {A = ℕ} b 1 0) (lt-ltb 0 (events_of log thread) some) in
         let counted : f l t ≤ number_counted (s.strict.thread t) (s.closed l) = fits.counted lock thread in
         let within : number_counted (s.strict.thread t) (s.closed l) ≤ length (s.closed l)
-        = number_within (s.strict.thread t) (s.closed l) in
+        = number_most (s.strict.thread t) (s.closed l) in
         subst (λ n. f l t ≤ n * length (s.closed l)) (sym one) (omega arith)
     go (inr none) =
         let nothing : f l t ≡ 0 = fits.own lock thread (omega arith) in

@@ -1,8 +1,7 @@
 -- What an event adds to the strict clock of its thread, as sets.
 use Rattle.std.proofs.Common.{◌≡◌, ℕ, ◌<◌, ◌≤◌, List, [], ◌∷◌, ◌++◌, length, refl, sym, subst, ◌∙◌, arith}
 use Rattle.std.proofs.Common.{take, ◌⊎◌}
-use Rattle.std.proofs.Math.Seq.{take-append_seam, take-length}
-use Rattle.std.proofs.lemmas.Option.{slice_get_within}
+use Rattle.std.proofs.Math.Seq.{take-append_seam}
 use mathlib.Core.Logic.{inl, inr}
 use Rattle.event_core.specs.declared.events.AccessKind.{AccessKind}
 use Rattle.event_core.specs.declared.events.AccessKind.TheVariants.{Read, Write}
@@ -13,25 +12,21 @@ use Rattle.event_core.specs.declared.ids.ThreadId.{ThreadId}
 use Rattle.event_core.specs.declared.ids.VarId.{VarId}
 use Rattle.event_core.specs.Closed.{Others}
 use Rattle.event_core.specs.Count.{Past, LockPast}
-use Rattle.event_core.specs.Log.{Does, depth, OuterRelease, Section, InSection, OpsConflict}
+use Rattle.event_core.specs.Log.{Does, depth, Section, OpsConflict}
 use Rattle.event_core.specs.Order.{Hb}
 use Rattle.event_core.specs.Orderly.{Orderly}
 use Rattle.event_core.specs.Effect.{Effect, Accesses, Opens, Closes, Forks, Joins, Inner, access_of}
 use Rattle.event_core.specs.Wcp.{Meets, Strict}
 use Rattle.event_core.proofs.Counting.{last_of, last_does}
-use Rattle.event_core.proofs.Depth.{Opener, opener}
-use Rattle.event_core.proofs.LogFacts.{of_does, of_one, does_op, does_thread}
-use Rattle.event_core.proofs.Stable.{longer, back, of, does, acquire, releases_it, section_too, hb_too}
-use Rattle.event_core.proofs.Stable.{strict_too}
-use Rattle.event_core.proofs.StrictStep.{Comes, from_own, from_join, from_lock, from_access, from_release}
-use Rattle.event_core.proofs.StrictStep.{strict_comes, comes_strict}
+use Rattle.event_core.proofs.LogFacts.{of_one, does_op}
+use Rattle.event_core.specs.Newest.{StrictNew, from_thread, from_join, from_lock, from_access, from_release}
+use Rattle.event_core.proofs.NewestFacts.{strict_new, new_strict}
 use Rattle.event_core.proofs.Effects.{Fits, accesses, opens, closes, forks, joins, again, inner}
-use Rattle.event_core.proofs.Effects.{last_closes, last_opens, closes_at_one}
 use Rattle.event_core.proofs.Accesses.{access_no_acquire, access_no_release, access_no_fork, access_no_join}
 use Rattle.event_core.proofs.Accesses.{conflict_access}
+use Rattle.event_core.proofs.OtherSections.{meets_other, other_meets, other_of, others_by}
 use Rattle.wcp_laws.proofs.Accesses.{Met, met_by}
 use Rattle.event_core.proofs.Brings.{Brings, join_brings, acquire_brings}
-use Rattle.event_core.proofs.Pasts.{source_within, old_source, new_source}
 
 -- an earlier section whose acquire is strictly below the thread
 pub record Behind (log : List Event) (t : ThreadId) (l : LockId) (i : ℕ) : Type 0 where
@@ -62,13 +57,12 @@ brought_adds log t Inner i p = p
 module _ (log : List Event) (e : Event) (ord : Orderly (log ++ e ∷ [])) where
   -- what is below a release that an access meets is met under the lock of the two sections
   meets_adds : (x : VarId) (k : AccessKind) (i r : ℕ) → e.op ≡ access_of x k
-      → Meets (log ++ e ∷ []) r (length log) → Hb (log ++ e ∷ []) i r
+      → Meets (log ++ e ∷ []) r (length log) → Hb log i r
       → (l : LockId) × (0 < depth log e.thread l) × Met log x k e.thread l i
-  meets_adds x k i r o m h = (m.lock, held, met_by log x k e.thread m.lock i m.conflict.first ops other)
+  meets_adds x k i r o m h =
+      let q = meets_other log e x k r o m in
+      (m.lock, held, met_by log x k q.0 e.thread m.lock i q.1 (others_by q.2 h))
     where
-      lt : r < length log
-      lt = m.before
-
       thread : m.thread ≡ e.thread
       thread = of_one m.inside.of (last_of log e)
 
@@ -87,95 +81,17 @@ module _ (log : List Event) (e : Event) (ord : Orderly (log ++ e ∷ [])) where
           subst (λ v. 0 < depth log v m.lock) thread
           (subst (λ xs. 0 < depth xs m.thread m.lock) (take-append_seam log (e ∷ [])) h)
 
-      ops : OpsConflict m.conflict.first (access_of x k)
-      ops =
-          subst (λ q. OpsConflict m.conflict.first q)
-          (does_op m.conflict.does_second (last_does log e) ∙ o) m.conflict.ops
-
-      s : InSection (log ++ e ∷ []) m.lock r m.access
-      s = m.in_section
-
-      by : m.conflict.by ≡ s.thread
-      by = of_one (of_does m.conflict.does_first) s.of
-
-      theirs : m.conflict.other ≡ e.thread
-      theirs = does_thread m.conflict.does_second (last_does log e)
-
-      other : (j : AccessKind) → m.conflict.first ≡ access_of x j → Others log m.lock x j e.thread i
-      other j a = record {
-        thread = s.thread;
-        other = λ q. m.conflict.threads (by ∙ q ∙ sym theirs);
-        acquire = s.acquire;
-        release = r;
-        section = section_too (back (longer log (e ∷ []))) lt s.section;
-        access = m.access;
-        from = s.from;
-        to = s.to;
-        does =
-            subst (λ p. Does log m.access s.thread p) a
-            (subst (λ v. Does log m.access v m.conflict.first) by
-            (does (back (longer log (e ∷ [])))
-            (let to : m.access ≤ r = s.to in omega arith) m.conflict.does_first));
-        below = hb_too (back (longer log (e ∷ []))) lt h;
-      }
-
   -- and what is met under a lock that the thread holds strictly precedes the access
   adds_meets : (x : VarId) (k j : AccessKind) (l : LockId) (i : ℕ) → e.op ≡ access_of x k
       → 0 < depth log e.thread l → OpsConflict (access_of x j) (access_of x k)
       → Others log l x j e.thread i → Strict (log ++ e ∷ []) i (length log)
   adds_meets x k j l i o held c q =
-      comes_strict (log ++ e ∷ []) e.thread i (length log) ord (last_of log e)
-      (from_access q.release met (hb_too (longer log (e ∷ [])) lt q.below))
-    where
-      lt : q.release < length log
-      lt = slice_get_within log q.release q.section.closed.does.event q.section.closed.does.at
-
-      reached : q.access < length log
-      reached = let to : q.access ≤ q.release = q.to in let b = lt in omega arith
-
-      p : Opener log e.thread l (length log)
-      p =
-          opener log e.thread l (length log) (omega arith)
-          (subst (λ xs. 0 < depth xs e.thread l) (sym (take-length log)) held)
-
-      met : Meets (log ++ e ∷ []) q.release (length log)
-      met = record {
-        before = lt;
-        lock = l;
-        thread = e.thread;
-        acquire = p.index;
-        inside = record {
-          opened = acquire (longer log (e ∷ [])) p.below p.opened;
-          of = last_of log e;
-          from = (let b : p.index < length log = p.below in omega arith);
-          held =
-              λ n a b. subst (λ xs. 0 < depth xs e.thread l) ((longer log (e ∷ [])).fronts n b)
-              (p.held n a b);
-        };
-        access = q.access;
-        in_section = record {
-          thread = q.thread;
-          acquire = q.acquire;
-          section = section_too (longer log (e ∷ [])) lt q.section;
-          of = of (longer log (e ∷ [])) reached (of_does q.does);
-          from = q.from;
-          to = q.to;
-        };
-        conflict = record {
-          first = access_of x j;
-          second = access_of x k;
-          by = q.thread;
-          other = e.thread;
-          does_first = does (longer log (e ∷ [])) reached q.does;
-          does_second = subst (λ y. Does (log ++ e ∷ []) (length log) e.thread y) o (last_does log e);
-          ops = c;
-          threads = q.other;
-        };
-      }
+      new_strict log e i ord
+      (from_access q.release (other_meets log e l x k j q.release o held c (other_of q)).0 q.below)
 
   -- only an access meets a release
   access_adds : (k : Effect) → Fits log e k → (i r : ℕ) → Meets (log ++ e ∷ []) r (length log)
-      → Hb (log ++ e ∷ []) i r → Adds log e.thread k i
+      → Hb log i r → Adds log e.thread k i
   access_adds k f i r m h = go (conflict_access m.conflict.first m.conflict.second m.conflict.ops)
     where
       second : m.conflict.second ≡ e.op
@@ -194,69 +110,50 @@ module _ (log : List Event) (e : Event) (ord : Orderly (log ++ e ∷ [])) where
           by _ (joins u o) a = absurd (access_no_join c.0 c.1 u (sym a ∙ o))
 
   -- only a closing release comes after an earlier section
-  release_adds : (k : Effect) → Fits log e k → (l : LockId) (i : ℕ)
-      → OuterRelease (log ++ e ∷ []) (length log) e.thread l → Behind log e.thread l i
-      → Adds log e.thread k i
-  release_adds k f l i q b = by k f (does_op (last_does log e) q.does)
-    where
-      by : (k : Effect) → Fits log e k → e.op ≡ Release l → Adds log e.thread k i
-      by _ (closes n o d) a =
-          let h : Release l ≡ Release n = sym a ∙ o in
-          let r : l ≡ n = cc in
-          subst (λ x. Behind log e.thread x i) r b
-      by _ (inner n o d) a =
-          let h : Release l ≡ Release n = sym a ∙ o in
-          let r : l ≡ n = cc in
-          absurd (d (subst (λ x. depth log e.thread x ≡ 1) r (closes_at_one log e l ord q)))
-      by _ (accesses x j o) a = absurd (access_no_release x j l (sym o ∙ a))
-      by _ (opens n o d) a = absurd (let h : Release l ≡ Acquire n = sym a ∙ o in cc)
-      by _ (again n o d) a = absurd (let h : Release l ≡ Acquire n = sym a ∙ o in cc)
-      by _ (forks u o) a = absurd (let h : Release l ≡ Fork u = sym a ∙ o in cc)
-      by _ (joins u o) a = absurd (let h : Release l ≡ Join u = sym a ∙ o in cc)
+  release_adds : (k : Effect) → Fits log e k → (l : LockId) (i : ℕ) → e.op ≡ Release l
+      → depth log e.thread l ≡ 1 → Behind log e.thread l i → Adds log e.thread k i
+  release_adds _ (closes n o d) l i a z b =
+      let h : Release l ≡ Release n = sym a ∙ o in
+      let r : l ≡ n = cc in
+      subst (λ x. Behind log e.thread x i) r b
+  release_adds _ (inner n o d) l i a z b =
+      let h : Release l ≡ Release n = sym a ∙ o in
+      let r : l ≡ n = cc in
+      absurd (d (subst (λ x. depth log e.thread x ≡ 1) r z))
+  release_adds _ (accesses x j o) l i a z b = absurd (access_no_release x j l (sym o ∙ a))
+  release_adds _ (opens n o d) l i a z b = absurd (let h : Release l ≡ Acquire n = sym a ∙ o in cc)
+  release_adds _ (again n o d) l i a z b = absurd (let h : Release l ≡ Acquire n = sym a ∙ o in cc)
+  release_adds _ (forks u o) l i a z b = absurd (let h : Release l ≡ Fork u = sym a ∙ o in cc)
+  release_adds _ (joins u o) l i a z b = absurd (let h : Release l ≡ Join u = sym a ∙ o in cc)
 
   -- what strictly precedes the event is in its thread's past, or is added
   pub strict_to : (k : Effect) → Fits log e k → (i : ℕ) → Strict (log ++ e ∷ []) i (length log)
       → Past log (Strict log) e.thread i ⊎ Adds log e.thread k i
-  strict_to k f i s = go (strict_comes (log ++ e ∷ []) e.thread i (length log) ord (last_of log e) s)
+  strict_to k f i s = go (strict_new log e i ord s)
     where
-      go : Comes (log ++ e ∷ []) e.thread i (length log)
-          → Past log (Strict log) e.thread i ⊎ Adds log e.thread k i
-      go (from_own g lt a d) =
-          inl (g, old_source log e e.thread g lt a, strict_too (back (longer log (e ∷ []))) lt d)
-      go (from_join u g lt j a d) =
+      go : StrictNew log e i → Past log (Strict log) e.thread i ⊎ Adds log e.thread k i
+      go (from_thread p) = inl p
+      go (from_join u o p) =
           inr (brought_adds log e.thread k i
-          (join_brings log e (Strict log) (LockPast log (Strict log)) u i k f (does_op (last_does log e) j)
-          (g, old_source log e u g lt a, strict_too (back (longer log (e ∷ []))) lt d)))
-      go (from_lock l g lt j a d) =
+          (join_brings log e (Strict log) (LockPast log (Strict log)) u i k f o p))
+      go (from_lock l o z p) =
           inr (brought_adds log e.thread k i
-          (acquire_brings log e (Strict log) (LockPast log (Strict log)) l i k f
-          (does_op (last_does log e) j.does)
-          (subst (λ xs. depth xs e.thread l ≡ 0) (take-append_seam log (e ∷ [])) j.outer) (
-            g,
-            (a.0, releases_it (back (longer log (e ∷ []))) lt a.1),
-            strict_too (back (longer log (e ∷ []))) lt d,
-          )))
+          (acquire_brings log e (Strict log) (LockPast log (Strict log)) l i k f o z p))
       go (from_access r m h) = inr (access_adds k f i r m h)
-      go (from_release u l a r g lt x q b c d h) =
-          inr (release_adds k f l i q (record {
+      go (from_release u l a r o z x p h) =
+          inr (release_adds k f l i o z (record {
             thread = u;
             acquire = a;
             release = r;
-            section = section_too (back (longer log (e ∷ []))) lt x;
-            counted = (g, old_source log e e.thread g b c, strict_too (back (longer log (e ∷ []))) b d);
-            below = hb_too (back (longer log (e ∷ []))) lt h;
+            section = x;
+            counted = p;
+            below = h;
           }))
-
-  into : {i : ℕ} → Comes (log ++ e ∷ []) e.thread i (length log) → Strict (log ++ e ∷ []) i (length log)
-  into {i = i} c = comes_strict (log ++ e ∷ []) e.thread i (length log) ord (last_of log e) c
 
   -- and what is in the past or added strictly precedes it
   pub strict_from : (k : Effect) → Fits log e k → (i : ℕ)
       → Past log (Strict log) e.thread i ⊎ Adds log e.thread k i → Strict (log ++ e ∷ []) i (length log)
-  strict_from k f i (inl p) =
-      let lt = source_within log e.thread p.0 p.1 in
-      into (from_own p.0 lt (new_source log e e.thread p.0 lt p.1)
-      (strict_too (longer log (e ∷ [])) lt p.2))
+  strict_from k f i (inl p) = new_strict log e i ord (from_thread p)
   strict_from _ (accesses x Read o) i (inr p) = adds_meets x Read Write p.0 i o p.1 refl p.2
   strict_from _ (accesses x Write o) i (inr p) = by p.2
     where
@@ -264,24 +161,11 @@ module _ (log : List Event) (e : Event) (ord : Orderly (log ++ e ∷ [])) where
           → Strict (log ++ e ∷ []) i (length log)
       by (inl q) = adds_meets x Write Read p.0 i o p.1 refl q
       by (inr q) = adds_meets x Write Write p.0 i o p.1 refl q
-  strict_from _ (opens l o d) i (inr p) =
-      let lt : p.0 < length log = slice_get_within log p.0 p.1.1.does.event p.1.1.does.at in
-      into (from_lock l p.0 lt (last_opens log e l o d)
-      (p.1.0, releases_it (longer log (e ∷ [])) lt p.1.1) (strict_too (longer log (e ∷ [])) lt p.2))
-  strict_from _ (joins u o) i (inr p) =
-      let lt = source_within log u p.0 p.1 in
-      into (from_join u p.0 lt
-      (subst (λ q. Does (log ++ e ∷ []) (length log) e.thread q) o (last_does log e))
-      (new_source log e u p.0 lt p.1) (strict_too (longer log (e ∷ [])) lt p.2))
+  strict_from _ (opens l o d) i (inr p) = new_strict log e i ord (from_lock l o d p)
+  strict_from _ (joins u o) i (inr p) = new_strict log e i ord (from_join u o p)
   strict_from _ (closes l o d) i (inr b) =
-      let lt : b.release < length log
-      = slice_get_within log b.release b.section.closed.does.event b.section.closed.does.at in
-      let c = b.counted in
-      let lt' = source_within log e.thread c.0 c.1 in
-      into (from_release b.thread l b.acquire b.release c.0 lt
-      (section_too (longer log (e ∷ [])) lt b.section) (last_closes log e l o d) lt'
-      (new_source log e e.thread c.0 lt' c.1) (strict_too (longer log (e ∷ [])) lt' c.2)
-      (hb_too (longer log (e ∷ [])) lt b.below))
+      new_strict log e i ord
+      (from_release b.thread l b.acquire b.release o d b.section b.counted b.below)
   strict_from _ (forks u o) i (inr p) = absurd p
   strict_from _ (again l o d) i (inr p) = absurd p
   strict_from _ (inner l o d) i (inr p) = absurd p

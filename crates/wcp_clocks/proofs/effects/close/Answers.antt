@@ -93,6 +93,11 @@ returns c =
     → met_clocks old.sums (closed_of old.queues) l x k v u ≤ hb_row e (state_of old) u
     = λ x k v u. c.requires.fits.sound.above_others c.args.lock (record { 0 = x }) k (record { 0 = v })
     (record { 0 = u }) c.requires.effect in
+    let j = joins_told e k old taken.new.work c.advance.new.work c.requires.effect c.advance.ensures.work in
+    let d = ap (λ (d : Done). d.comparisons) c.advance.ensures.work in
+    let n = ap (λ (f : ℕ → ℕ → ℕ). f l t) (left.found ∙ taken.ensures.found.found)
+    ∙ ap (λ (f : ℕ → ℕ). f t) (row_same l _ (found_of old.queues))
+    ∙ row_same t _ (found_of old.queues l) in
     record {
       hb = c.advance.ensures.exact;
       order_room = c.advance.ensures.kept;
@@ -115,28 +120,10 @@ returns c =
           (ap₂ (λ (n : ℕ) (a : ℕ → ℕ). record { thread = t; position = n; release = a })
           (ap (λ (f : ℕ → ℕ → ℕ). f t l) taken.ensures.found.opened) g);
       found = left.found ∙ taken.ensures.found.found;
-      joins = (let w = taken.ensures.joins in
-          let j = joins_told e k old taken.new.work c.advance.new.work c.requires.effect
-          c.advance.ensures.work
-          in
-          omega arith);
-      joins_exact = (let w = taken.ensures.joins_exact in
-          let j = joins_told e k old taken.new.work c.advance.new.work c.requires.effect
-          c.advance.ensures.work
-          in
-          omega arith);
-      comparisons = (let w = taken.ensures.comparisons in
-          let d = ap (λ (d : Done). d.comparisons) c.advance.ensures.work in
-          let n = ap (λ (f : ℕ → ℕ → ℕ). f l t) (left.found ∙ taken.ensures.found.found)
-          ∙ ap (λ (f : ℕ → ℕ). f t) (row_same l _ (found_of old.queues))
-          ∙ row_same t _ (found_of old.queues l) in
-          omega arith);
-      no_fewer = (let w = taken.ensures.no_fewer in
-          let d = ap (λ (d : Done). d.comparisons) c.advance.ensures.work in
-          let n = ap (λ (f : ℕ → ℕ → ℕ). f l t) (left.found ∙ taken.ensures.found.found)
-          ∙ ap (λ (f : ℕ → ℕ). f t) (row_same l _ (found_of old.queues))
-          ∙ row_same t _ (found_of old.queues l) in
-          omega arith);
+      joins = (let w = taken.ensures.joins in omega arith);
+      joins_exact = (let w = taken.ensures.joins_exact in omega arith);
+      comparisons = (let w = taken.ensures.comparisons in omega arith);
+      no_fewer = (let w = taken.ensures.no_fewer in omega arith);
       room = room_then old.rows taken.new.rows c.give_lock.new.self taken.ensures.kept
           c.give_lock.ensures.kept;
       limits = record { width = c.advance.ensures.width; limits = left.limits ∙ taken.ensures.found.limits };

@@ -9,6 +9,7 @@ pub returns : goal.returns
 returns c =
     let e = c.args.event.now in
     let old = c.args.parts.now in
+    let j = joins_told e Inner old old.work c.advance.new.work c.requires.effect c.advance.ensures.work in
     record {
       hb = c.advance.ensures.exact;
       order_room = c.advance.ensures.kept;
@@ -21,11 +22,8 @@ returns c =
       numbers = c.requires.parts.numbers;
       closed = refl;
       found = refl;
-      joins = (let j = joins_told e Inner old old.work c.advance.new.work c.requires.effect
-          c.advance.ensures.work in
-          omega arith);
-      joins_exact = joins_told e Inner old old.work c.advance.new.work c.requires.effect
-          c.advance.ensures.work;
+      joins = omega arith;
+      joins_exact = j;
       comparisons = ap (λ (d : Done). d.comparisons) c.advance.ensures.work;
       no_fewer = tt;
       room = room_same old.rows;

@@ -11,6 +11,7 @@ returns c =
     let old = c.args.parts.now in
     let k : Effect = Forks c.args.child in
     let give = c.give_thread.ensures in
+    let j = joins_told e k old old.work c.advance.new.work c.requires.effect c.advance.ensures.work in
     record {
       hb = c.advance.ensures.exact;
       order_room = c.advance.ensures.kept;
@@ -25,10 +26,8 @@ returns c =
       numbers = c.requires.parts.numbers;
       closed = refl;
       found = refl;
-      joins = (let j = joins_told e k old old.work c.advance.new.work c.requires.effect c.advance.ensures.work
-          in
-          omega arith);
-      joins_exact = joins_told e k old old.work c.advance.new.work c.requires.effect c.advance.ensures.work;
+      joins = omega arith;
+      joins_exact = j;
       comparisons = ap (λ (d : Done). d.comparisons) c.advance.ensures.work;
       no_fewer = tt;
       room = give.kept;

@@ -15,6 +15,8 @@ returns c =
     let old = c.args.parts.now in
     let k : Effect = Joins c.args.child in
     let taken = c.take_thread in
+    let w = ap (λ (d : Done). d.joins) taken.ensures.work in
+    let j = joins_told e k old taken.new.work c.advance.new.work c.requires.effect c.advance.ensures.work in
     record {
       hb = c.advance.ensures.exact;
       order_room = c.advance.ensures.kept;
@@ -27,16 +29,8 @@ returns c =
       numbers = c.requires.parts.numbers;
       closed = refl;
       found = refl;
-      joins = (let w = ap (λ (d : Done). d.joins) taken.ensures.work in
-          let j = joins_told e k old taken.new.work c.advance.new.work c.requires.effect
-          c.advance.ensures.work
-          in
-          omega arith);
-      joins_exact = (let w = ap (λ (d : Done). d.joins) taken.ensures.work in
-          let j = joins_told e k old taken.new.work c.advance.new.work c.requires.effect
-          c.advance.ensures.work
-          in
-          omega arith);
+      joins = omega arith;
+      joins_exact = omega arith;
       comparisons = ap (λ (d : Done). d.comparisons) c.advance.ensures.work
           ∙ ap (λ (d : Done). d.comparisons) taken.ensures.work;
       no_fewer = tt;

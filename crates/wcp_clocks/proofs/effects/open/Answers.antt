@@ -38,6 +38,8 @@ returns c =
     ap (λ m. m.position) c.mark.ensures.exact
     ∙ ap (λ (f : ℕ → ℕ). f t) (own_program_order e (hb_of old) _ c.advance.ensures.exact)
     ∙ sym c.requires.fits.own_next in
+    let w = ap (λ (d : Done). d.joins) taken.ensures.work in
+    let j = joins_told e k old taken.new.work c.advance.new.work c.requires.effect c.advance.ensures.work in
     record {
       hb = c.advance.ensures.exact;
       order_room = c.advance.ensures.kept;
@@ -53,16 +55,8 @@ returns c =
       numbers = subst (AreNumbers old.sums) (sym c.enter.ensures.closed) c.requires.parts.numbers;
       closed = c.enter.ensures.closed;
       found = c.enter.ensures.found;
-      joins = (let w = ap (λ (d : Done). d.joins) taken.ensures.work in
-          let j = joins_told e k old taken.new.work c.advance.new.work c.requires.effect
-          c.advance.ensures.work
-          in
-          omega arith);
-      joins_exact = (let w = ap (λ (d : Done). d.joins) taken.ensures.work in
-          let j = joins_told e k old taken.new.work c.advance.new.work c.requires.effect
-          c.advance.ensures.work
-          in
-          omega arith);
+      joins = omega arith;
+      joins_exact = omega arith;
       comparisons = ap (λ (d : Done). d.comparisons) c.advance.ensures.work
           ∙ ap (λ (d : Done). d.comparisons) taken.ensures.work;
       no_fewer = tt;

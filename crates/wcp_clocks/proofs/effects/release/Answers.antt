@@ -1,35 +1,25 @@
-use Rattle.std.proofs.Common.{sym, ap, subst, ◌∙◌}
-use Rattle.event_core.specs.declared.events.Event.{Event}
-use Rattle.event_core.specs.declared.events.Op.{Op}
+use Rattle.std.proofs.Common.{sym, ◌∙◌}
+use Rattle.event_core.specs.declared.events.Op.TheVariants.{Release}
 use Rattle.event_core.specs.Effect.{Closes, Inner}
-use Rattle.wcp_clocks.specs.Parts.{Fits}
-use Rattle.wcp_clocks.specs.Stepping.{IsStepBy}
-use Rattle.wcp_clocks.proofs.Stepped.{closed, released_again}
+use Rattle.wcp_clocks.proofs.Stepped.{rebuilt, fits_rebuilt, outer_release, inner_release}
 use Rattle.wcp_clocks.proofs.effects.release.Goals as goal
 
--- the event is rebuilt with its own operation
 pub returns-then-depth-eq1 : goal.returns-then-depth-eq1
 returns-then-depth-eq1 c =
-    let rebuilt = ap (λ (o : Op). record c.args.event.now { op = o }) (sym c.requires.op) in
-    closed c.args.event.now c.args.lock c.args.parts.now c.close.new.parts c.requires.op
-    (sym c.depth.ensures ∙ c.if-depth-eq1.true)
-    (subst (λ (e : Event). IsStepBy e (Closes c.args.lock) c.args.parts.now c.close.new.parts) rebuilt
-    c.close.ensures) c.requires.parts c.requires.ready c.requires.fits
+    rebuilt c.args.event.now (Release c.args.lock) (Closes c.args.lock) c.args.parts.now c.close.new.parts
+    c.requires.op (outer_release c.args.event.now c.args.parts.now c.args.lock (sym c.depth.ensures ∙ c.if-depth-eq1.true)) (λ a. a)
+    c.close.ensures c.requires.parts c.requires.ready c.requires.fits
 
 pub returns-else-depth-eq1 : goal.returns-else-depth-eq1
 returns-else-depth-eq1 c =
-    let rebuilt = ap (λ (o : Op). record c.args.event.now { op = o }) (sym c.requires.op) in
-    released_again c.args.event.now c.args.lock c.args.parts.now c.count_inner.new.parts c.requires.op
-    (λ one. c.if-depth-eq1.false (c.depth.ensures ∙ one))
-    (subst (λ (e : Event). IsStepBy e Inner c.args.parts.now c.count_inner.new.parts) rebuilt
-    c.count_inner.ensures) c.requires.parts c.requires.ready c.requires.fits
+    rebuilt c.args.event.now (Release c.args.lock) Inner c.args.parts.now c.count_inner.new.parts c.requires.op
+    (inner_release c.args.event.now c.args.parts.now c.args.lock (λ one. c.if-depth-eq1.false (c.depth.ensures ∙ one))) (λ a. a)
+    c.count_inner.ensures c.requires.parts c.requires.ready c.requires.fits
 
 pub close-requires-clause-fits : goal.close-requires-clause-fits
 close-requires-clause-fits c =
-    subst (λ (o : Op). Fits (record c.args.event.now { op = o }) c.args.parts.now) c.requires.op
-    c.requires.fits
+    fits_rebuilt c.args.event.now (Release c.args.lock) c.args.parts.now c.requires.op c.requires.fits
 
 pub count_inner-requires-clause-fits : goal.count_inner-requires-clause-fits
 count_inner-requires-clause-fits c =
-    subst (λ (o : Op). Fits (record c.args.event.now { op = o }) c.args.parts.now) c.requires.op
-    c.requires.fits
+    fits_rebuilt c.args.event.now (Release c.args.lock) c.args.parts.now c.requires.op c.requires.fits

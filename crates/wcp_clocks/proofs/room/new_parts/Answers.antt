@@ -1,20 +1,24 @@
 use Rattle.std.proofs.Common.{ℕ, List, ◌∙◌, ap}
 use Rattle.event_core.specs.Bounds.{Bounds}
 use Rattle.event_core.specs.Closed.{Closed}
+use Rattle.wcp_clocks.specs.declared.parts.Parts.{Parts}
 use Rattle.wcp_clocks.specs.HeldLists.{held_of}
 use Rattle.wcp_clocks.proofs.Growth.{are_parts, empty_numbers}
 use Rattle.wcp_clocks.proofs.room.new_parts.Goals as goal
 
+abbrev parts : goal.After-new-5 → Parts
+parts c = record {
+  hb = c.in_ok-hb.hb;
+  rows = c.in_ok-rows.rows;
+  sums = c.new-4.result;
+  queues = c.in_ok-queues.queues;
+  held = c.new-5.result;
+  work = c.in_ok-hb.work;
+}
+
 pub returns-clause-parts : goal.returns-clause-parts
 returns-clause-parts c =
-    are_parts (record {
-      hb = c.in_ok-hb.hb;
-      rows = c.in_ok-rows.rows;
-      sums = c.new-4.result;
-      queues = c.in_ok-queues.queues;
-      held = c.new-5.result;
-      work = c.in_ok-hb.work;
-    }) c.args.limits.now.threads c.in_ok-hb.ensures.width c.in_ok-hb.ensures.empty
+    are_parts (parts c) c.args.limits.now.threads c.in_ok-hb.ensures.width c.in_ok-hb.ensures.empty
     (c.in_ok-rows.ensures.width ∙ c.threads.ensures.is) c.in_ok-rows.ensures.strict
     (ap (λ (b : Bounds). b.threads) c.in_ok-queues.ensures.limits)
     c.new-4.ensures.no_others (λ l. ap (λ (f : ℕ → List Closed). f l) c.in_ok-queues.ensures.closed)
@@ -22,13 +26,6 @@ returns-clause-parts c =
 
 pub returns-clause-state : goal.returns-clause-state
 returns-clause-state c =
-    empty_numbers (record {
-      hb = c.in_ok-hb.hb;
-      rows = c.in_ok-rows.rows;
-      sums = c.new-4.result;
-      queues = c.in_ok-queues.queues;
-      held = c.new-5.result;
-      work = c.in_ok-hb.work;
-    }) c.in_ok-hb.ensures.empty c.in_ok-rows.ensures.strict c.in_ok-queues.ensures.opened
+    empty_numbers (parts c) c.in_ok-hb.ensures.empty c.in_ok-rows.ensures.strict c.in_ok-queues.ensures.opened
     (ap held_of c.new-5.ensures)
     c.new-4.ensures.nothing_noted c.new-4.ensures.no_others c.in_ok-queues.ensures.closed

@@ -6,7 +6,7 @@ use Rattle.hb_clocks.specs.declared.holds.Hold.{Hold}
 use Rattle.hb_clocks.specs.Holds.{holds_after}
 use Rattle.hb_clocks.specs.Stands.{Stands}
 use Rattle.hb_clocks.specs.Tables.{Tables, state_of, IsReady}
-use Rattle.vector_clocks.specs.Rows.{widths_of}
+use Rattle.vector_clocks.proofs.MadeRows.{written_widths}
 use Rattle.hb_clocks.proofs.LegalSteps.{step_stands}
 use Rattle.hb_clocks.proofs.TableSteps.{IsStepped, stepped}
 use Rattle.hb_clocks.proofs.hb.HbClocks.advance.Goals as goal
@@ -45,13 +45,12 @@ step c =
     let t = c.args.event.now.thread in
     let op = c.args.event.now.op in
     stepped s.zeros (found c) (left c) t op refl
-    (ap widths_of (with_items_is s.po a.new.po (a.auto.po ∙ c.deref_mut.ensures.len)) ∙ a.ensures.po_widths
-    ∙ ap widths_of c.deref_mut.ensures.value)
-    (ap widths_of (with_items_is s.hb a.new.hb (a.auto.hb ∙ c.deref_mut-2.ensures.len)) ∙ a.ensures.hb_widths
-    ∙ ap widths_of c.deref_mut-2.ensures.value)
-    (ap widths_of (with_items_is s.locks a.new.locks (a.auto.locks ∙ c.deref_mut-3.ensures.len))
-    ∙ a.ensures.lock_widths
-    ∙ ap widths_of c.deref_mut-3.ensures.value)
+    (written_widths s.po _ a.new.po c.deref_mut.ensures.len c.deref_mut.ensures.value a.auto.po
+    a.ensures.po_widths)
+    (written_widths s.hb _ a.new.hb c.deref_mut-2.ensures.len c.deref_mut-2.ensures.value a.auto.hb
+    a.ensures.hb_widths)
+    (written_widths s.locks _ a.new.locks c.deref_mut-3.ensures.len c.deref_mut-3.ensures.value a.auto.locks
+    a.ensures.lock_widths)
     (with_items_is s.holds a.new.holds (a.auto.holds ∙ c.deref_mut-4.ensures.len) ∙ a.ensures.holds
     ∙ ap (λ (xs : List Hold). holds_after t.0 op xs) c.deref_mut-4.ensures.value)
     (subst (λ (v : Tables). IsReady v t op) (sym c.self.view_is) c.requires.ready) c.self.invariant

@@ -2,33 +2,29 @@ use Rattle.std.proofs.Common.{ap, sym, subst, ◌∙◌, arith, length, ◌<◌}
 use Rattle.std.specs.Prelude.{slice_index}
 use Rattle.std.proofs.lemmas.List.{get_or_read}
 use Rattle.event_core.specs.Rows.{with_row}
-use Rattle.lock_queues.specs.Rooms.{has_room_in}
 use Rattle.vector_clocks.specs.Marks.{Named}
 use Rattle.lock_queues.specs.Sections.{Counts, acquires_of}
 use Rattle.lock_queues.specs.Queue.{Kept}
 use Rattle.lock_queues.proofs.Listing.{mark_seen, count_seen}
-use Rattle.lock_queues.proofs.Keeping.{thread_within, kept_found}
+use Rattle.lock_queues.proofs.Keeping.{seen_within, kept_found}
 use Rattle.vector_clocks.proofs.Lowering.{counts_set}
 use Rattle.lock_queues.proofs.queue.Queue.find_counted.Goals as goal
 
 pub index-requires : goal.index-requires
 index-requires c =
-    let same = ap (λ (k : Kept). has_room_in k.rooms c.args.thread.0) c.self.view_is in
-    let lt = thread_within c.args.thread.0 c.self.invariant (same ∙ c.requires.room) in
+    let lt = seen_within c.args.thread.0 c.self.view_is c.self.invariant c.requires.room in
     let len = c.self.inside.found.ok.0 in
     omega arith
 
 pub index_mut-requires : goal.index_mut-requires
 index_mut-requires c =
-    let same = ap (λ (k : Kept). has_room_in k.rooms c.args.thread.0) c.self.view_is in
-    let lt = thread_within c.args.thread.0 c.self.invariant (same ∙ c.requires.room) in
+    let lt = seen_within c.args.thread.0 c.self.view_is c.self.invariant c.requires.room in
     let len = c.self.inside.found.ok.0 in
     omega arith
 
 pub search_from-more-requires-clause-within : goal.search_from-more-requires-clause-within
 search_from-more-requires-clause-within c =
-    let same = ap (λ (k : Kept). has_room_in k.rooms c.args.thread.0) c.self.view_is in
-    let lt = thread_within c.args.thread.0 c.self.invariant (same ∙ c.requires.room) in
+    let lt = seen_within c.args.thread.0 c.self.view_is c.self.invariant c.requires.room in
     let is = get_or_read c.self.inside.found.items c.args.thread.0 _ lt c.index.ensures 0 in
     let le = c.self.invariant.within c.args.thread.0 in
     let seen = count_seen _ c.acquires-acquires.ensures in
@@ -36,8 +32,7 @@ search_from-more-requires-clause-within c =
 
 pub search_from-more-requires-clause-before : goal.search_from-more-requires-clause-before
 search_from-more-requires-clause-before c k small =
-    let same = ap (λ (k : Kept). has_room_in k.rooms c.args.thread.0) c.self.view_is in
-    let lt = thread_within c.args.thread.0 c.self.invariant (same ∙ c.requires.room) in
+    let lt = seen_within c.args.thread.0 c.self.view_is c.self.invariant c.requires.room in
     let here = get_or_read c.self.inside.found.items c.args.thread.0 _ lt c.index.ensures 0 in
     let is = ap (λ (k : Kept). slice_index k.found c.args.thread.0) c.self.view_is in
     let are = c.acquires-acquires.ensures ∙ ap (λ (q : Kept). acquires_of q.entries) c.self.view_is in
@@ -61,16 +56,14 @@ returns-clause-counted c k small =
 
 pub returns-clause-found : goal.returns-clause-found
 returns-clause-found c =
-    let same = ap (λ (k : Kept). has_room_in k.rooms c.args.thread.0) c.self.view_is in
-    let lt = thread_within c.args.thread.0 c.self.invariant (same ∙ c.requires.room) in
+    let lt = seen_within c.args.thread.0 c.self.view_is c.self.invariant c.requires.room in
     counts_set c.self.inside.found.items c.args.thread.0 c.search_from-more.result lt
     ∙ ap (λ (k : Kept). with_row c.args.thread.0 c.search_from-more.result (slice_index k.found))
     c.self.view_is
 
 pub returns-clause-most : goal.returns-clause-most
 returns-clause-most c =
-    let same = ap (λ (k : Kept). has_room_in k.rooms c.args.thread.0) c.self.view_is in
-    let lt = thread_within c.args.thread.0 c.self.invariant (same ∙ c.requires.room) in
+    let lt = seen_within c.args.thread.0 c.self.view_is c.self.invariant c.requires.room in
     let here = get_or_read c.self.inside.found.items c.args.thread.0 _ lt c.index.ensures 0 in
     let is = ap (λ (k : Kept). slice_index k.found c.args.thread.0) c.self.view_is in
     let work = c.search_from-more.ensures.most in
@@ -78,8 +71,7 @@ returns-clause-most c =
 
 pub returns-clause-least : goal.returns-clause-least
 returns-clause-least c =
-    let same = ap (λ (k : Kept). has_room_in k.rooms c.args.thread.0) c.self.view_is in
-    let lt = thread_within c.args.thread.0 c.self.invariant (same ∙ c.requires.room) in
+    let lt = seen_within c.args.thread.0 c.self.view_is c.self.invariant c.requires.room in
     let here = get_or_read c.self.inside.found.items c.args.thread.0 _ lt c.index.ensures 0 in
     let is = ap (λ (k : Kept). slice_index k.found c.args.thread.0) c.self.view_is in
     let work = c.search_from-more.ensures.least in
@@ -87,8 +79,7 @@ returns-clause-least c =
 
 pub invariant_of-self : goal.invariant_of-self
 invariant_of-self c =
-    let same = ap (λ (k : Kept). has_room_in k.rooms c.args.thread.0) c.self.view_is in
-    let lt = thread_within c.args.thread.0 c.self.invariant (same ∙ c.requires.room) in
+    let lt = seen_within c.args.thread.0 c.self.view_is c.self.invariant c.requires.room in
     let seen = count_seen _ c.acquires-acquires.ensures in
     kept_found c.args.thread.0 c.search_from-more.result c.self.invariant lt
     (omega (arith, seen, c.search_from-more.ensures.within))

@@ -1,24 +1,21 @@
 use Rattle.std.proofs.Common.{◌≡◌, ◌-◌, ◌<◌, length, ap, subst, ◌∙◌, arith}
 use Rattle.std.specs.Prelude.{slice_index}
 use Rattle.std.proofs.lemmas.List.{get_or_read}
-use Rattle.lock_queues.specs.Rooms.{has_room_in}
 use Rattle.lock_queues.specs.Sections.{closed_as, section_of, entry_at}
 use Rattle.lock_queues.specs.Queue.{Kept}
 use Rattle.lock_queues.specs.Searched.{IsSection}
-use Rattle.lock_queues.proofs.Keeping.{thread_within}
+use Rattle.lock_queues.proofs.Keeping.{seen_within}
 use Rattle.lock_queues.proofs.queue.Queue.latest.Goals as goal
 
 pub index-number-requires : goal.index-number-requires
 index-number-requires c =
-    let same = ap (λ (k : Kept). has_room_in k.rooms c.args.thread.0) c.self.view_is in
-    let lt = thread_within c.args.thread.0 c.self.invariant (same ∙ c.requires.room) in
+    let lt = seen_within c.args.thread.0 c.self.view_is c.self.invariant c.requires.room in
     let len = c.self.inside.found.ok.0 in
     omega arith
 
 pub section-requires-clause-within : goal.section-requires-clause-within
 section-requires-clause-within c =
-    let same = ap (λ (k : Kept). has_room_in k.rooms c.args.thread.0) c.self.view_is in
-    let lt = thread_within c.args.thread.0 c.self.invariant (same ∙ c.requires.room) in
+    let lt = seen_within c.args.thread.0 c.self.view_is c.self.invariant c.requires.room in
     let is = get_or_read c.self.inside.found.items c.args.thread.0 _ lt c.index-number.ensures 0 in
     let le = c.self.invariant.within c.args.thread.0 in
     let some : 0 < c.index-number.result.now = omega (arith, c.if-number-eq0.false) in
@@ -27,8 +24,7 @@ section-requires-clause-within c =
 
 pub returns : goal.returns
 returns c =
-    let same = ap (λ (k : Kept). has_room_in k.rooms c.args.thread.0) c.self.view_is in
-    let lt = thread_within c.args.thread.0 c.self.invariant (same ∙ c.requires.room) in
+    let lt = seen_within c.args.thread.0 c.self.view_is c.self.invariant c.requires.room in
     let here : c.index-number.result.now ≡ slice_index c.self.inside.found.items c.args.thread.0
     = get_or_read c.self.inside.found.items c.args.thread.0 _ lt c.index-number.ensures 0 in
     let is : c.index-number.result.now ≡ slice_index c.args.self.now.found c.args.thread.0

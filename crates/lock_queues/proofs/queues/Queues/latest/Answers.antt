@@ -6,7 +6,7 @@ use Rattle.lock_queues.specs.Sections.{closed_as, closed_at, section_of, entry_a
 use Rattle.lock_queues.specs.Searched.{IsSection}
 use Rattle.lock_queues.specs.Queue.{Kept, queue_at}
 use Rattle.lock_queues.specs.Queues.{Tables, closed_of, opened_of, found_of}
-use Rattle.lock_queues.proofs.Lifting.{read_entered}
+use Rattle.lock_queues.proofs.Searching.{entered_read}
 use Rattle.lock_queues.proofs.Storing.{closed_is}
 use Rattle.lock_queues.proofs.queues.Queues.latest.Goals as goal
 
@@ -14,18 +14,14 @@ pub latest-requires-clause-room : goal.latest-requires-clause-room
 latest-requires-clause-room c =
     let t = c.args.thread.0 in
     let l = c.args.lock.0 in
-    let entered = subst (λ (v : Tables). 0 < opened_of v t l) (sym c.self.view_is) c.requires.entered in
-    let qs = c.self.inside.queues.items in
-    let read = read_entered qs t l c.index.result.now entered c.index.ensures in
+    let read = entered_read t l c.self.view_is c.requires.entered c.index.ensures in
     ap (λ (q : Kept). has_room_in q.rooms t) read.is ∙ read.has
 
 pub latest-requires-clause-readable : goal.latest-requires-clause-readable
 latest-requires-clause-readable c =
     let t = c.args.thread.0 in
     let l = c.args.lock.0 in
-    let entered = subst (λ (v : Tables). 0 < opened_of v t l) (sym c.self.view_is) c.requires.entered in
-    let qs = c.self.inside.queues.items in
-    let read = read_entered qs t l c.index.result.now entered c.index.ensures in
+    let read = entered_read t l c.self.view_is c.requires.entered c.index.ensures in
     subst (λ (q : Kept). AreReadable c.self.inside.releases.numbers q.entries) (sym read.is)
     (c.self.invariant.readable l)
 
@@ -33,10 +29,9 @@ pub returns : goal.returns
 returns c =
     let t = c.args.thread.0 in
     let l = c.args.lock.0 in
-    let entered = subst (λ (v : Tables). 0 < opened_of v t l) (sym c.self.view_is) c.requires.entered in
     let qs : List Kept = c.self.inside.queues.items in
     let ns : List ℕ = c.self.inside.releases.numbers in
-    let read = read_entered qs t l c.index.result.now entered c.index.ensures in
+    let read = entered_read t l c.self.view_is c.requires.entered c.index.ensures in
     let Tells : ℕ → ℕ → Closed → Type 0
     = λ n w x. MatchOption c.latest.result (n ≡ 0)
     (λ answer. (0 < n) × IsSection answer w x) in

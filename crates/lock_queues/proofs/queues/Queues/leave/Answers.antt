@@ -10,19 +10,17 @@ use Rattle.lock_queues.specs.Searched.{IsAboveAll}
 use Rattle.lock_queues.specs.Queue.{Kept, queue_at}
 use Rattle.lock_queues.specs.Queues.{Tables, closed_of, opened_of, found_of, has_room}
 use Rattle.lock_queues.proofs.LogSteps.{leave_stands}
-use Rattle.lock_queues.proofs.Lifting.{read_entered, lifted, lifted_same, lifted_cell}
+use Rattle.lock_queues.proofs.Lifting.{Read, lifted, lifted_same, lifted_cell}
 use Rattle.lock_queues.proofs.Storing.{sections_grown, joined_closed}
 use Rattle.lock_queues.proofs.Tables.{kept_joined, joined_at, some_made, one_fits}
-use Rattle.lock_queues.proofs.Searching.{entered_width, entered_made}
+use Rattle.lock_queues.proofs.Searching.{entered_read, entered_width, entered_made}
 use Rattle.lock_queues.proofs.queues.Queues.leave.Goals as goal
 
 pub leave-requires-clause-memory : goal.leave-requires-clause-memory
 leave-requires-clause-memory c =
     let l = c.args.lock.0 in
     let t = c.args.thread.0 in
-    let entered = subst (λ (v : Tables). 0 < opened_of v t l) (sym c.self.view_is) c.requires.entered in
-    let qs = c.self.inside.queues.items in
-    let read = read_entered qs t l c.index_mut-queue.result.now entered c.index_mut-queue.ensures.value in
+    let read = entered_read t l c.self.view_is c.requires.entered c.index_mut-queue.ensures.value in
     let width = ap (λ (q : Kept). q.width) read.is ∙ c.self.invariant.wide l read.within in
     let some = some_made c.self.inside.queues.items c.args.thread.0 l read.within read.has in
     let made = c.self.invariant.rooms in
@@ -40,13 +38,18 @@ overflow_sub-self c =
     entered_made c.args.thread.0 c.args.lock.0 c.self.view_is c.self.invariant c.requires.entered
     c.index_mut-queue.ensures.value
 
+-- the queue that is left
+queue : (c : goal.After-self-2-1)
+    → Read c.self.inside.queues.items c.args.thread.0 c.args.lock.0 c.index_mut-queue.result.now
+queue c =
+    entered_read c.args.thread.0 c.args.lock.0 c.self.view_is c.requires.entered
+    c.index_mut-queue.ensures.value
+
 pub invariant_of-self : goal.invariant_of-self
 invariant_of-self c =
     let l = c.args.lock.0 in
-    let t = c.args.thread.0 in
-    let entered = subst (λ (v : Tables). 0 < opened_of v t l) (sym c.self.view_is) c.requires.entered in
     let qs = c.self.inside.queues.items in
-    let read = read_entered qs t l c.index_mut-queue.result.now entered c.index_mut-queue.ensures.value in
+    let read = queue c in
     let many = c.leave.ensures.many in
     let same = ap (λ (q : Kept). length q.rooms) read.is in
     let some = some_made c.self.inside.queues.items c.args.thread.0 l read.within read.has in
@@ -64,8 +67,7 @@ returns-clause-closed c =
     let l = c.args.lock.0 in
     let qs : List Kept = c.self.inside.queues.items in
     let ns = c.self.inside.releases.numbers in
-    let entered = subst (λ (v : Tables). 0 < opened_of v t l) (sym c.self.view_is) c.requires.entered in
-    let read = read_entered qs t l c.index_mut-queue.result.now entered c.index_mut-queue.ensures.value in
+    let read = queue c in
     let left : ℕ → Closed
     = λ n. record { thread = t; position = n; release = counts_of c.args.clock.now } in
     let joins = joined_at qs l _ c.leave.new.self read.is (c.self.invariant.wide l read.within)
@@ -85,11 +87,9 @@ returns-clause-closed c =
 
 pub returns-clause-found : goal.returns-clause-found
 returns-clause-found c =
-    let t = c.args.thread.0 in
     let l = c.args.lock.0 in
-    let entered = subst (λ (v : Tables). 0 < opened_of v t l) (sym c.self.view_is) c.requires.entered in
     let qs = c.self.inside.queues.items in
-    let read = read_entered qs t l c.index_mut-queue.result.now entered c.index_mut-queue.ensures.value in
+    let read = queue c in
     let here = ap slice_index (c.leave.ensures.found ∙ ap (λ (q : Kept). q.found) read.is) in
     (λ i m. lifted_same (λ (q : Kept). slice_index q.found) qs l c.leave.new.self read.within here m i)
     ∙ ap found_of c.self.view_is
@@ -98,9 +98,7 @@ pub returns-clause-opened : goal.returns-clause-opened
 returns-clause-opened c =
     let t = c.args.thread.0 in
     let l = c.args.lock.0 in
-    let entered = subst (λ (v : Tables). 0 < opened_of v t l) (sym c.self.view_is) c.requires.entered in
-    let qs = c.self.inside.queues.items in
-    let read = read_entered qs t l c.index_mut-queue.result.now entered c.index_mut-queue.ensures.value in
+    let read = queue c in
     let here = c.leave.ensures.opened ∙ ap (λ (q : Kept). with_row {A = ℕ} t 0 (opened_in q.rooms)) read.is in
     (λ i v m. lifted_cell (λ (q : Kept). opened_in q.rooms) _ t l c.leave.new.self 0 read.within here v m i)
     ∙ ap (λ (v : Tables). with_row t (with_row {A = ℕ} l 0 (opened_of v t)) (opened_of v)) c.self.view_is
@@ -109,9 +107,7 @@ pub returns-clause-rooms : goal.returns-clause-rooms
 returns-clause-rooms c =
     let t = c.args.thread.0 in
     let l = c.args.lock.0 in
-    let entered = subst (λ (v : Tables). 0 < opened_of v t l) (sym c.self.view_is) c.requires.entered in
-    let qs = c.self.inside.queues.items in
-    let read = read_entered qs t l c.index_mut-queue.result.now entered c.index_mut-queue.ensures.value in
+    let read = queue c in
     let here = c.leave.ensures.rooms ∙ ap (λ (q : Kept). with_row t false (has_room_in q.rooms)) read.is in
     let row = λ (q : Kept). has_room_in q.rooms in
     (λ i v m. lifted_cell row _ t l c.leave.new.self false read.within here v m i)

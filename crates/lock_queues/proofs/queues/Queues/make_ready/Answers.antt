@@ -1,6 +1,4 @@
-use Rattle.std.proofs.Common.{ℕ, ◌+◌, ◌*◌, ◌<◌, Bool, cond, length, refl, ap, ◌∙◌, arith, List}
-use Rattle.std.proofs.lemmas.List.{get_or_read}
-use Rattle.lock_queues.specs.Queue.{Kept, no_queue}
+use Rattle.std.proofs.Common.{ℕ, ◌+◌, ◌*◌, ◌<◌, Bool, cond, length, refl, ap, ◌∙◌, arith}
 use Rattle.lock_queues.proofs.Sameness.{same_tables}
 use Rattle.lock_queues.proofs.Tables.{kept_set}
 use Rattle.lock_queues.proofs.queues.Queues.make_ready.Goals as goal
@@ -8,61 +6,48 @@ use Rattle.lock_queues.proofs.queues.Queues.make_ready.Goals as goal
 pub invariant_of-self : goal.invariant_of-self
 invariant_of-self c =
     let l = c.args.lock.0 in
-    let qs : List Kept = c.self.inside.queues.items in
     let len = c.len.ensures in
     let past = c.if-len-at.false in
     let queues = c.self.inside.queues.ok in
-    let lt : l < length qs = omega (arith, queues) in
-    let is = get_or_read qs l c.index_mut-queue.result.now lt c.index_mut-queue.ensures.value no_queue in
+    let lt : l < length c.self.inside.queues.items = omega (arith, queues) in
     let same = c.make_ready-is_made.ensures.same in
     let many = c.make_ready-is_made.ensures.many
     ∙ ap (λ (b : Bool). length c.index_mut-queue.result.now.rooms + cond {A = ℕ} b 1 0) c.if-is_made.true in
-    let rooms = ap (λ (q : Kept). length q.rooms) is in
     let next = c.in-Some.ensures.1 in
     let spare = c.ready-else-len-at.ensures.0 c.if-not-ready.false in
     let times = ap (λ w. c.in-Some.rooms * w) c.threads-width.ensures.is in
-    kept_set l c.make_ready-is_made.new.self _ c.self.invariant lt
-    (same.width ∙ ap (λ (q : Kept). q.width) is)
-    (same.entries ∙ ap (λ (q : Kept). q.entries) is) (omega (arith, next, rooms))
-    (omega (arith, spare, times))
+    kept_set l c.make_ready-is_made.new.self _ c.self.invariant lt c.index_mut-queue.ensures.value same.width
+    same.entries (omega (arith, next)) (omega (arith, spare, times))
 
 pub invariant_of-self-else-is_made : goal.invariant_of-self-else-is_made
 invariant_of-self-else-is_made c =
     let l = c.args.lock.0 in
-    let qs : List Kept = c.self.inside.queues.items in
     let len = c.len.ensures in
     let past = c.if-len-at.false in
     let queues = c.self.inside.queues.ok in
-    let lt : l < length qs = omega (arith, queues) in
-    let is = get_or_read qs l c.index_mut-queue.result.now lt c.index_mut-queue.ensures.value no_queue in
+    let lt : l < length c.self.inside.queues.items = omega (arith, queues) in
     let same = c.make_ready-is_made.ensures.same in
     let many = c.make_ready-is_made.ensures.many
     ∙ ap (λ (b : Bool). length c.index_mut-queue.result.now.rooms + cond {A = ℕ} b 1 0) c.if-is_made.false in
-    let rooms = ap (λ (q : Kept). length q.rooms) is in
     kept_set l c.make_ready-is_made.new.self c.self.inside.rooms c.self.invariant lt
-    (same.width ∙ ap (λ (q : Kept). q.width) is)
-    (same.entries ∙ ap (λ (q : Kept). q.entries) is) (omega arith) c.self.invariant.spare
+    c.index_mut-queue.ensures.value same.width same.entries (omega arith) c.self.invariant.spare
 
 pub returns-then-is_made-clause-same : goal.returns-then-is_made-clause-same
 returns-then-is_made-clause-same c =
     let l = c.args.lock.0 in
-    let qs : List Kept = c.self.inside.queues.items in
     let len = c.len.ensures in
     let past = c.if-len-at.false in
     let queues = c.self.inside.queues.ok in
-    let lt : l < length qs = omega (arith, queues) in
-    let is = get_or_read qs l c.index_mut-queue.result.now lt c.index_mut-queue.ensures.value no_queue in
-    same_tables _ _ qs qs _ _ l _ _ c.self.view_is (λ m. (refl, refl, refl)) refl lt is
-    c.make_ready-is_made.ensures.same
+    let lt : l < length c.self.inside.queues.items = omega (arith, queues) in
+    same_tables _ _ _ _ _ _ l _ _ c.self.view_is (λ m. (refl, refl, refl)) refl lt
+    c.index_mut-queue.ensures.value c.make_ready-is_made.ensures.same
 
 pub returns-else-is_made-clause-same : goal.returns-else-is_made-clause-same
 returns-else-is_made-clause-same c =
     let l = c.args.lock.0 in
-    let qs : List Kept = c.self.inside.queues.items in
     let len = c.len.ensures in
     let past = c.if-len-at.false in
     let queues = c.self.inside.queues.ok in
-    let lt : l < length qs = omega (arith, queues) in
-    let is = get_or_read qs l c.index_mut-queue.result.now lt c.index_mut-queue.ensures.value no_queue in
-    same_tables _ _ qs qs _ _ l _ _ c.self.view_is (λ m. (refl, refl, refl)) refl lt is
-    c.make_ready-is_made.ensures.same
+    let lt : l < length c.self.inside.queues.items = omega (arith, queues) in
+    same_tables _ _ _ _ _ _ l _ _ c.self.view_is (λ m. (refl, refl, refl)) refl lt
+    c.index_mut-queue.ensures.value c.make_ready-is_made.ensures.same

@@ -1,7 +1,4 @@
-use Rattle.std.proofs.Common.{◌*◌, ◌<◌, length, sym, ap, ◌∙◌, arith, List}
-use Rattle.std.proofs.lemmas.List.{get_or_read}
-use Rattle.lock_queues.specs.Queue.{Kept, no_queue}
-use Rattle.lock_queues.specs.Queues.{AreWide}
+use Rattle.std.proofs.Common.{◌*◌, ◌<◌, length, sym, ap, ◌∙◌, arith}
 use Rattle.lock_queues.proofs.Answering.{where_err}
 use Rattle.lock_queues.proofs.Sameness.{same_tables, room_made, rooms_same}
 use Rattle.lock_queues.proofs.Tables.{kept_larger, kept_alike, kept_set}
@@ -17,89 +14,65 @@ invariant_of-self c = kept_larger c.self.invariant c.make_room.ensures.same c.ma
 
 pub invariant_of-self-in_err-grow : goal.invariant_of-self-in_err-grow
 invariant_of-self-in_err-grow c =
-    let qs : List Kept = c.grow.new.queues.items in
-    let wide : AreWide c.self.inside.limits.threads qs
-    = λ m within. c.grow.ensures.wide m within ∙ c.threads-width.ensures.is in
-    let grown = kept_alike (kept_larger c.self.invariant c.make_room.ensures.same c.make_room.ensures.larger)
-    c.grow.ensures.same wide c.grow.ensures.rooms in
-    grown
+    kept_alike (kept_larger c.self.invariant c.make_room.ensures.same c.make_room.ensures.larger)
+    c.grow.ensures.same c.threads-width.ensures.is c.grow.ensures.wide c.grow.ensures.rooms
 
 pub invariant_of-self-in_err-make_room-2 : goal.invariant_of-self-in_err-make_room-2
 invariant_of-self-in_err-make_room-2 c =
     let l = c.args.lock.0 in
-    let qs : List Kept = c.grow.new.queues.items in
     let ok = c.in_ok-grow.ensures.ok in
-    let lt : l < length qs = omega arith in
-    let is = get_or_read qs l c.index_mut-queue.result.now lt c.index_mut-queue.ensures.value no_queue in
-    let wide : AreWide c.self.inside.limits.threads qs
-    = λ m within. c.grow.ensures.wide m within ∙ c.threads-width.ensures.is in
+    let lt : l < length c.grow.new.queues.items = omega arith in
     let grown = kept_alike (kept_larger c.self.invariant c.make_room.ensures.same c.make_room.ensures.larger)
-    c.grow.ensures.same wide c.grow.ensures.rooms in
+    c.grow.ensures.same c.threads-width.ensures.is c.grow.ensures.wide c.grow.ensures.rooms in
     let same = c.make_room-2.ensures.same in
-    let rooms = ap length c.in_err-make_room-2.ensures.err ∙ ap (λ (q : Kept). length q.rooms) is in
-    kept_set l c.make_room-2.new.self c.self.inside.rooms grown lt
-    (same.width ∙ ap (λ (q : Kept). q.width) is)
-    (same.entries ∙ ap (λ (q : Kept). q.entries) is) (omega arith) grown.spare
+    let rooms = ap length c.in_err-make_room-2.ensures.err in
+    kept_set l c.make_room-2.new.self c.self.inside.rooms grown lt c.index_mut-queue.ensures.value same.width
+    same.entries (omega arith) grown.spare
 
 pub invariant_of-self-2 : goal.invariant_of-self-2
 invariant_of-self-2 c =
     let l = c.args.lock.0 in
-    let qs : List Kept = c.grow.new.queues.items in
     let ok = c.in_ok-grow.ensures.ok in
-    let lt : l < length qs = omega arith in
-    let is = get_or_read qs l c.index_mut-queue.result.now lt c.index_mut-queue.ensures.value no_queue in
-    let wide : AreWide c.self.inside.limits.threads qs
-    = λ m within. c.grow.ensures.wide m within ∙ c.threads-width.ensures.is in
+    let lt : l < length c.grow.new.queues.items = omega arith in
     let grown = kept_alike (kept_larger c.self.invariant c.make_room.ensures.same c.make_room.ensures.larger)
-    c.grow.ensures.same wide c.grow.ensures.rooms in
+    c.grow.ensures.same c.threads-width.ensures.is c.grow.ensures.wide c.grow.ensures.rooms in
     let same = c.make_room-2.ensures.same in
     let one = c.in_ok-make_room-2.ensures.more in
-    let rooms = ap (λ (q : Kept). length q.rooms) is in
     let next = c.in-Some.ensures.1 in
     let spare = c.in_ok-make_room.ensures.ok in
     let times = ap (λ w. c.in-Some.rooms * w) c.threads-width.ensures.is in
-    kept_set l c.make_room-2.new.self _ grown lt (same.width ∙ ap (λ (q : Kept). q.width) is)
-    (same.entries ∙ ap (λ (q : Kept). q.entries) is) (omega (arith, next, rooms))
-    (omega (arith, spare, times))
+    kept_set l c.make_room-2.new.self _ grown lt c.index_mut-queue.ensures.value same.width same.entries
+    (omega (arith, next)) (omega (arith, spare, times))
 
 pub returns-in_err-make_room-2-clause-same : goal.returns-in_err-make_room-2-clause-same
 returns-in_err-make_room-2-clause-same c =
     let l = c.args.lock.0 in
-    let qs : List Kept = c.grow.new.queues.items in
     let ok = c.in_ok-grow.ensures.ok in
-    let lt : l < length qs = omega arith in
-    let is = get_or_read qs l c.index_mut-queue.result.now lt c.index_mut-queue.ensures.value no_queue in
-    same_tables _ _ _ qs _ _ l _ _ c.self.view_is c.grow.ensures.same c.make_room.ensures.same lt is
-    c.make_room-2.ensures.same
+    let lt : l < length c.grow.new.queues.items = omega arith in
+    same_tables _ _ _ _ _ _ l _ _ c.self.view_is c.grow.ensures.same c.make_room.ensures.same lt
+    c.index_mut-queue.ensures.value c.make_room-2.ensures.same
 
 pub returns-in_err-make_room-2-clause-err : goal.returns-in_err-make_room-2-clause-err
 returns-in_err-make_room-2-clause-err c =
     let l = c.args.lock.0 in
-    let qs : List Kept = c.grow.new.queues.items in
     let ok = c.in_ok-grow.ensures.ok in
-    let lt : l < length qs = omega arith in
-    let is = get_or_read qs l c.index_mut-queue.result.now lt c.index_mut-queue.ensures.value no_queue in
+    let lt : l < length c.grow.new.queues.items = omega arith in
     where_err c.from_residual-in_err-make_room-2.result _
-    (rooms_same _ _ _ qs _ c.make_room.new.self.numbers l _ c.make_room-2.new.self c.self.view_is
-    c.grow.ensures.same lt is c.in_err-make_room-2.ensures.err)
+    (rooms_same _ _ _ _ _ c.make_room.new.self.numbers l _ c.make_room-2.new.self c.self.view_is
+    c.grow.ensures.same lt c.index_mut-queue.ensures.value c.in_err-make_room-2.ensures.err)
 
 pub returns-clause-same : goal.returns-clause-same
 returns-clause-same c =
     let l = c.args.lock.0 in
-    let qs : List Kept = c.grow.new.queues.items in
     let ok = c.in_ok-grow.ensures.ok in
-    let lt : l < length qs = omega arith in
-    let is = get_or_read qs l c.index_mut-queue.result.now lt c.index_mut-queue.ensures.value no_queue in
-    same_tables _ _ _ qs _ _ l _ _ c.self.view_is c.grow.ensures.same c.make_room.ensures.same lt is
-    c.make_room-2.ensures.same
+    let lt : l < length c.grow.new.queues.items = omega arith in
+    same_tables _ _ _ _ _ _ l _ _ c.self.view_is c.grow.ensures.same c.make_room.ensures.same lt
+    c.index_mut-queue.ensures.value c.make_room-2.ensures.same
 
 pub returns-clause-ok : goal.returns-clause-ok
 returns-clause-ok c =
     let l = c.args.lock.0 in
-    let qs : List Kept = c.grow.new.queues.items in
     let ok = c.in_ok-grow.ensures.ok in
-    let lt : l < length qs = omega arith in
-    let is = get_or_read qs l c.index_mut-queue.result.now lt c.index_mut-queue.ensures.value no_queue in
-    room_made _ _ _ qs _ c.make_room.new.self.numbers c.args.thread.0 l _ c.make_room-2.new.self
-    c.self.view_is
-    c.grow.ensures.same lt is c.in_ok-make_room-2.ensures.ok
+    let lt : l < length c.grow.new.queues.items = omega arith in
+    room_made _ _ _ _ _ c.make_room.new.self.numbers c.args.thread.0 l _ c.make_room-2.new.self
+    c.self.view_is c.grow.ensures.same lt c.index_mut-queue.ensures.value c.in_ok-make_room-2.ensures.ok

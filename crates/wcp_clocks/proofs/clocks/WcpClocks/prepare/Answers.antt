@@ -1,19 +1,11 @@
-use Rattle.std.proofs.Common.{sym, subst}
-use Rattle.wcp_clocks.specs.declared.parts.Parts.{Parts}
-use Rattle.wcp_clocks.specs.Parts.{IsReady, SameNumbers}
-use Rattle.wcp_clocks.proofs.Growth.{grown_parts, grown_ready, grown_numbers}
+use Rattle.wcp_clocks.proofs.Growth.{grown_parts, seen_ready, seen_numbers}
 use Rattle.wcp_clocks.proofs.clocks.WcpClocks.prepare.Goals as goal
 
 pub invariant_of-self : goal.invariant_of-self
-invariant_of-self c =
-    grown_parts c.self.inside.parts c.prepare_parts.new.parts c.prepare_parts.ensures.grown c.self.invariant
+invariant_of-self c = grown_parts _ _ c.prepare_parts.ensures.grown c.self.invariant
 
 pub returns-clause-kept : goal.returns-clause-kept
-returns-clause-kept c e ready =
-    grown_ready c.self.inside.parts c.prepare_parts.new.parts c.prepare_parts.ensures.grown e
-    (subst (λ (p : Parts). IsReady p e) (sym c.self.view_is) ready)
+returns-clause-kept c = seen_ready c.self.view_is c.prepare_parts.ensures.grown
 
 pub returns-clause-same : goal.returns-clause-same
-returns-clause-same c =
-    subst (λ (p : Parts). SameNumbers p c.prepare_parts.new.parts) c.self.view_is
-    (grown_numbers c.self.inside.parts c.prepare_parts.new.parts c.prepare_parts.ensures.grown)
+returns-clause-same c = seen_numbers c.self.view_is c.prepare_parts.ensures.grown

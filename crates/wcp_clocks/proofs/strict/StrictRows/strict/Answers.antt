@@ -1,7 +1,8 @@
-use Rattle.std.proofs.Common.{ℕ, List, length, sym, ap, subst, ◌∙◌}
+use Rattle.std.proofs.Common.{ℕ, List, length, ap, ◌∙◌}
 use Rattle.std.proofs.lemmas.List.{length-replicate}
-use Rattle.vector_clocks.specs.Rows.{rows_of, AreWide}
+use Rattle.vector_clocks.specs.Rows.{rows_of}
 use Rattle.wcp_clocks.specs.StrictRows.{StrictTables, strict_of}
+use Rattle.hb_clocks.proofs.RowsWithin.{wide_by}
 use Rattle.wcp_clocks.proofs.Rows.{row_is}
 use Rattle.wcp_clocks.proofs.strict.StrictRows.strict.Goals as goal
 
@@ -23,6 +24,5 @@ returns-clause-row c has =
 
 pub row_or-requires-clause-wide : goal.row_or-requires-clause-wide
 row_or-requires-clause-wide c =
-    let width = ap length c.self.invariant.only_zeros ∙ length-replicate c.self.inside.width 0 in
-    subst (λ (w : ℕ). AreWide w c.deref.result.now) (sym width)
-    (subst (AreWide c.self.inside.width) (sym c.deref.ensures.value) c.self.invariant.thread_wide)
+    wide_by c.self.inside.width c.self.inside.zeros c.self.inside.threads.items c.deref.result.now
+    c.self.invariant.only_zeros c.self.invariant.thread_wide c.deref.ensures.value

@@ -1,37 +1,21 @@
-use Rattle.std.proofs.Common.{refl, ap, subst, ◌∙◌}
-use Rattle.std.proofs.lemmas.List.{with_items_is}
+use Rattle.std.proofs.Common.{◌≡◌}
 use Rattle.std.specs.Vec.{with_items}
 use Rattle.vector_clocks.specs.Rows.{widths_of}
-use Rattle.wcp_clocks.specs.StrictRows.{StrictTables, SameRoom}
-use Rattle.wcp_clocks.proofs.Kept.{SameWidths, room_kept, tables_kept, thread_within}
+use Rattle.vector_clocks.proofs.MadeRows.{written_widths}
+use Rattle.wcp_clocks.proofs.Kept.{threads_kept, threads_room, thread_within}
 use Rattle.wcp_clocks.proofs.strict.StrictRows.take_thread.Goals as goal
 
--- the tables as the step finds and as it leaves them
-abbrev found : goal.After-self-1 → StrictTables
-found c = record {
-  width = c.self.inside.width;
-  thread = c.self.inside.threads.items;
-  lock = c.self.inside.locks.items;
-}
-
-abbrev left : goal.After-self-1 → StrictTables
-left c = record (found c) { thread = (with_items c.self.inside.threads c.join_rows.new.rows).items }
-
-same : (c : goal.After-self-1) → SameWidths (found c) (left c)
-same c = record {
-  width = refl;
-  thread = ap widths_of (with_items_is c.self.inside.threads c.join_rows.new.rows
-      (c.join_rows.auto.rows ∙ c.deref_mut.ensures.len))
-      ∙ c.join_rows.ensures.widths ∙ ap widths_of c.deref_mut.ensures.value;
-  lock = refl;
-}
+same : (c : goal.After-self-1)
+    → widths_of (with_items c.self.inside.threads c.join_rows.new.rows).items ≡ widths_of c.self.inside.threads.items
+same c =
+    written_widths c.self.inside.threads _ c.join_rows.new.rows c.deref_mut.ensures.len
+    c.deref_mut.ensures.value c.join_rows.auto.rows c.join_rows.ensures.widths
 
 pub invariant_of-self : goal.invariant_of-self
-invariant_of-self c = tables_kept (found c) (left c) c.self.inside.zeros (same c) c.self.invariant
+invariant_of-self c = threads_kept c.self.invariant (same c)
 
 pub returns-clause-kept : goal.returns-clause-kept
-returns-clause-kept c = subst (λ (v : StrictTables). SameRoom v (left c)) c.self.view_is
-    (room_kept (found c) (left c) (same c))
+returns-clause-kept c = threads_room c.self.view_is (same c)
 
 pub join_rows-requires-clause-to : goal.join_rows-requires-clause-to
 join_rows-requires-clause-to c =
