@@ -7,16 +7,14 @@ use Rattle.std.proofs.Math.Seq.{take-append_seam}
 use mathlib.Core.Logic.{inl, inr}
 use Rattle.event_core.specs.declared.ids.ThreadId.{ThreadId}
 use Rattle.event_core.specs.declared.events.Event.{Event}
-use Rattle.event_core.specs.declared.events.Op.TheVariants.{Fork}
 use Rattle.event_core.specs.Log.{Does, Of, depth}
-use Rattle.event_core.specs.Order.{Hb, here}
 use Rattle.event_core.specs.Wcp.{Strict}
 use Rattle.event_core.specs.Orderly.{Orderly}
 use Rattle.event_core.specs.Count.{events_of, Counts}
 use Rattle.event_core.specs.Newest.{StrictNew, from_thread, from_join, from_lock, from_access, from_release}
 use Rattle.event_core.proofs.LogFacts.{does_op}
 use Rattle.event_core.proofs.Depth.{thread_cases}
-use Rattle.event_core.proofs.Stable.{Agree, longer, back, of, does, releases_it, section_too, hb_too}
+use Rattle.event_core.proofs.Stable.{Agree, longer, back, of, releases_it, section_too, hb_too}
 use Rattle.event_core.proofs.Stable.{strict_too}
 use Rattle.event_core.proofs.CountLaws.{rank_below}
 use Rattle.event_core.proofs.Counting.{nat_eq_same, nat_eq_other, last_of, last_does, is_last, last_thread}

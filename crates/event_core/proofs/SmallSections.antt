@@ -15,7 +15,7 @@ use Rattle.event_core.specs.Examples.{InnerReleaseEndsNoSection, ForkIsBelowJoin
 use Rattle.event_core.proofs.Chains.{chain_one, chain_trans, hb_thread, po_thread}
 use Rattle.event_core.proofs.SmallTests.{inside_at, clear_but, racy_with, is_left_by_none}
 use Rattle.event_core.proofs.SmallTests.{no_strict}
-use Rattle.event_core.proofs.SmallLogs.{is, at_thread, section_at, in_it, conflict_at, meets_at}
+use Rattle.event_core.proofs.SmallLogs.{is, at_thread, section_at, conflict_at, meets_at}
 use Rattle.event_core.proofs.SmallLogs.{main_not_child, po_stays_in}
 
 -- overlapping sections

@@ -13,14 +13,14 @@ use Rattle.event_core.specs.declared.events.Op.{Op}
 use Rattle.event_core.specs.declared.events.Op.TheVariants.{Load, Store, Acquire, Release, Fork, Join}
 use Rattle.event_core.specs.declared.replies.Refusal.TheVariants.{SelfTarget}
 use Rattle.event_core.specs.declared.bounds.Limits.{Limits}
-use Rattle.event_core.specs.Log.{depth, Of, Does, acquires}
-use Rattle.event_core.specs.Order.{Po, Hb, step, fork_to_event, program}
+use Rattle.event_core.specs.Log.{depth, Of, acquires}
+use Rattle.event_core.specs.Order.{Po, Hb}
 use Rattle.event_core.specs.Orderly.{Orderly}
 use Rattle.event_core.specs.Refusal.{WellFormed, self_target}
 use Rattle.event_core.specs.Count.{events_of, Past, LockPast}
 use Rattle.event_core.specs.Rows.{no_clock, Counted}
 use Rattle.event_core.proofs.Chains.{chain_trans, hb_of_po, hb_trans}
-use Rattle.event_core.proofs.CountLaws.{counts_same, rank_below, at_rank}
+use Rattle.event_core.proofs.CountLaws.{rank_below, at_rank}
 use Rattle.event_core.proofs.Growth.{well_formed_last}
 use Rattle.event_core.proofs.Legality.{orderly, legal_reasons, when_none}
 use Rattle.event_core.proofs.Effects.{depth_same, depth_up}
@@ -127,8 +127,8 @@ pub hb_latest : (limits : Limits) (log : List Event) (t : ThreadId) (j : ℕ) (f
     → WellFormed limits log → IsLatest log t j
     → Counted log (Past log (Hb log) t) f → Counted log (λ i. Hb log i j) f
 hb_latest limits log t j f w latest is u =
-    past_latest log (Hb log) t u j (f u.0) (orderly limits log w) (λ i g p q. hb_trans p (hb_of_po q)) latest.of
-    latest.last (is u)
+    past_latest log (Hb log) t u j (f u.0) (orderly limits log w) (λ i g p q. hb_trans p (hb_of_po q))
+    latest.of latest.last (is u)
 
 events_rise : (log : List Event) (u : ThreadId) (i j : ℕ) → i ≤ j
     → events_of (take i log) u ≤ events_of (take j log) u

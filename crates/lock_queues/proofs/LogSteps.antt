@@ -55,7 +55,8 @@ module _ (log : List Event) (e : Event) (ord : Orderly (log ++ e ∷ [])) where
       each_section log e l Found
       (λ u a r lt x le. let same = number_longer log e l r (omega (arith, lt)) in
       past_longer log e t a (was t l u a r x (omega (arith, same, le))))
-      (λ a x le. absurd (let last = number_last log e l in let few = most t l in omega (arith, last, few, le)))
+      (λ a x le. absurd (let last = number_last log e l in let few = most t l in
+      omega (arith, last, few, le)))
     where
       Found : ThreadId → ℕ → ℕ → Type 0
       Found u a r =

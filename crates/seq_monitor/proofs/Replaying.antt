@@ -45,12 +45,12 @@ use Rattle.traced_mem.specs.Tables.{Allows}
 use Rattle.traced_mem.specs.Tables.{Tables as MemoryTables}
 use Rattle.wcp_clocks.proofs.Conditions.{log_within}
 use Rattle.wcp_clocks.specs.declared.parts.Parts.{Parts as Clocks}
-use Rattle.wcp_clocks.specs.Parts.{hb_of, width_of, limits_of, Fits, NamesWithin, SameLimits}
+use Rattle.wcp_clocks.specs.Parts.{hb_of, width_of, limits_of, Fits, NamesWithin, SameLimits, event_by}
 use Rattle.wcp_clocks.specs.Parts.{IsWithin as ClocksAreWithin}
 use Rattle.wcp_clocks.specs.StandsFor.{FitsWhereLegal}
 use Rattle.wcp_clocks.specs.StandsFor.{StandsFor as ClocksStandFor}
 use Rattle.wcp_clocks.specs.WorkWithin.{IsWorkOf, WorkStep, LittleWork}
-use Rattle.seq_monitor.specs.Monitored.{Parts, IsReplay, IsClocksReplay, slots_for, event_by}
+use Rattle.seq_monitor.specs.Monitored.{Parts, IsReplay, IsClocksReplay, slots_for}
 use Rattle.seq_monitor.proofs.ClockLaws.{clocks_fit, clocks_advanced}
 use Rattle.seq_monitor.proofs.Releases.{release_open, release_held, release_counted}
 use Rattle.seq_monitor.proofs.JudgedMore.{one_verdict_more, no_verdicts}

@@ -18,7 +18,7 @@ use Rattle.access_check.specs.Tables.{Tables as AccessTables, HasRoom as AccessH
 use Rattle.access_check.specs.Standing.{Stands as AccessesStand}
 use Rattle.wcp_laws.specs.Found.{threads_in}
 use Rattle.wcp_clocks.specs.declared.parts.Parts.{Parts as Clocks}
-use Rattle.wcp_clocks.specs.Parts.{width_of, limits_of, work_of}
+use Rattle.wcp_clocks.specs.Parts.{width_of, limits_of, work_of, event_by}
 use Rattle.wcp_clocks.specs.Parts.{IsReady as ClocksIsReady}
 use Rattle.wcp_clocks.specs.StandsFor.{StandsFor as ClocksStandFor}
 use Rattle.wcp_clocks.specs.WorkWithin.{WorkWithin}
@@ -58,10 +58,6 @@ abbrev pub slots_for : ℕ → Op → ℕ
 slots_for open' (Acquire l) = open' + 2
 slots_for open' (Release l) = open'
 slots_for open' o = open' + 1
-
--- an event of the thread with the operation; room does not depend on its site and its value
-abbrev pub event_by : ThreadId → Op → Event
-event_by t o = record { thread = t; op = o; site = record { 0 = 0 }; value = 0 }
 
 -- there is room for the thread's operation
 pub record HasRoom (m : Monitored) (t : ThreadId) (o : Op) : Type 0 where

@@ -15,13 +15,12 @@ ghost use Rattle.access_check.specs.Tables.{HasRoom as AccessesHaveRoom};
 ghost use Rattle.access_check.specs.Tables.{HasRoomToSwap as AccessesHaveRoomToSwap};
 ghost use Rattle.event_core.specs.declared.events.Op.{Op as Operation};
 ghost use Rattle.wcp_clocks.specs.Parts.{width_of, SameNumbers, SameLimits, IsAccess, KeepsReady, Fits};
-ghost use Rattle.wcp_clocks.specs.Parts.{IsWithin as ClocksAreWithin};
+ghost use Rattle.wcp_clocks.specs.Parts.{IsWithin as ClocksAreWithin, event_by as an_event_by};
 ghost use Rattle.wcp_clocks.specs.Parts.{IsReady as ClocksAreReady};
 ghost use Rattle.wcp_clocks.specs.Parts.{IsReadyToSwap as ClocksAreReadyToSwap};
 ghost use Rattle.wcp_clocks.specs.StandsFor.{StandsFor as ClocksStandFor};
 ghost use Rattle.wcp_clocks.specs.WorkWithin.{IsWorkOf};
 ghost use Rattle.seq_monitor.specs.Monitored.{slots_for};
-ghost use Rattle.seq_monitor.specs.Monitored.{event_by as an_event_by};
 
 use access_check::Accesses;
 use event_core::{Call, Event, Log, Op, OutOfMemory, Reply, SiteId, ThreadId, VarId, Verdict};

@@ -35,7 +35,8 @@ kind_eq_same Write Read h = absurd cc
 pub noted_stand : (log : List Event) (e : Event) → Orderly (log ++ e ∷ []) → (k : Effect) → Fits log e k
     → (d : ℕ → ℕ → ℕ) → ((t : ThreadId) (l : LockId) → d t.0 l.0 ≡ depth log t l)
     → (f : ℕ → ℕ → ℕ → AccessKind → Bool)
-    → ((t : ThreadId) (l : LockId) (x : VarId) (j : AccessKind) → IsTrue (f t.0 l.0 x.0 j) ↔ Noted log t l x j)
+    → ((t : ThreadId) (l : LockId) (x : VarId) (j : AccessKind)
+    → IsTrue (f t.0 l.0 x.0 j) ↔ Noted log t l x j)
     → (t : ThreadId) (l : LockId) (x : VarId) (j : AccessKind)
     → IsTrue (noted_after e.thread.0 k d f t.0 l.0 x.0 j) ↔ Noted (log ++ e ∷ []) t l x j
 noted_stand log e ord k fit d is f was t l x j = go k fit

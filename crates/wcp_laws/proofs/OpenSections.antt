@@ -20,7 +20,8 @@ opened_stand log e ord k fit g own f was = go k fit
     same k fit none =
         positions_same log e ord f was (λ l o. none l (is_opens log e ord k fit l o.op o.outer))
 
-    go : (k : Effect) → Fits log e k → ArePositions (log ++ e ∷ []) (opened_after e.thread.0 k (g e.thread.0) f)
+    go : (k : Effect) → Fits log e k
+        → ArePositions (log ++ e ∷ []) (opened_after e.thread.0 k (g e.thread.0) f)
     go _ (opens n o d) =
         positions_more log e ord f n (g e.thread.0) was (record { thread = refl; op = o; outer = d }) own
     go _ (closes n o d) =

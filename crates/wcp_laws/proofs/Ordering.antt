@@ -1,13 +1,10 @@
 -- What the order of sections says of the clocks.
 use Rattle.std.proofs.Common.{ℕ, ◌<◌, ◌≤◌, [], ◌∷◌, ◌++◌, length, arith, List}
-use Rattle.std.proofs.Common.{◌⊎◌}
-use Rattle.std.proofs.lemmas.Bool.{cases_lt}
-use mathlib.Core.Logic.{inl, inr}
 use Rattle.event_core.specs.declared.ids.ThreadId.{ThreadId}
 use Rattle.event_core.specs.Closed.{Others}
 use Rattle.event_core.specs.Count.{Past}
 use Rattle.event_core.specs.Log.{Section}
-use Rattle.event_core.specs.Order.{Hb, Po, here}
+use Rattle.event_core.specs.Order.{Hb, Po}
 use Rattle.event_core.specs.Orderly.{Orderly}
 use Rattle.event_core.specs.Wcp.{Strict, rule_c_right}
 use Rattle.event_core.specs.declared.bounds.Limits.{Limits}

@@ -106,4 +106,5 @@ module _ (log : List Event) (e : Event) (ord : Orderly (log ++ e ∷ [])) where
 
           by : (test ≡ true) ⊎ (test ≡ false) → Goal (cond test (join was g) was)
           by (inl h) = subst (λ c. Goal (cond c (join was g) was)) (sym h) (grown (leaves.0 h))
-          by (inr h) = subst (λ c. Goal (cond c (join was g) was)) (sym h) (kept (λ q. not_both (leaves.1 q) h))
+          by (inr h) =
+              subst (λ c. Goal (cond c (join was g) was)) (sym h) (kept (λ q. not_both (leaves.1 q) h))

@@ -6,14 +6,18 @@ use Rattle.wcp_clocks.proofs.effects.release.Goals as goal
 
 pub returns-then-depth-eq1 : goal.returns-then-depth-eq1
 returns-then-depth-eq1 c =
-    rebuilt c.args.event.now (Release c.args.lock) (Closes c.args.lock) c.args.parts.now c.close.new.parts
-    c.requires.op (outer_release c.args.event.now c.args.parts.now c.args.lock (sym c.depth.ensures ∙ c.if-depth-eq1.true)) (λ a. a)
-    c.close.ensures c.requires.parts c.requires.ready c.requires.fits
+    let e = c.args.event.now in
+    let old = c.args.parts.now in
+    rebuilt e (Release c.args.lock) (Closes c.args.lock) old c.close.new.parts c.requires.op
+    (outer_release e old c.args.lock (sym c.depth.ensures ∙ c.if-depth-eq1.true)) (λ a. a) c.close.ensures
+    c.requires.parts c.requires.ready c.requires.fits
 
 pub returns-else-depth-eq1 : goal.returns-else-depth-eq1
 returns-else-depth-eq1 c =
-    rebuilt c.args.event.now (Release c.args.lock) Inner c.args.parts.now c.count_inner.new.parts c.requires.op
-    (inner_release c.args.event.now c.args.parts.now c.args.lock (λ one. c.if-depth-eq1.false (c.depth.ensures ∙ one))) (λ a. a)
+    let e = c.args.event.now in
+    let old = c.args.parts.now in
+    rebuilt e (Release c.args.lock) Inner old c.count_inner.new.parts c.requires.op
+    (inner_release e old c.args.lock (λ one. c.if-depth-eq1.false (c.depth.ensures ∙ one))) (λ a. a)
     c.count_inner.ensures c.requires.parts c.requires.ready c.requires.fits
 
 pub close-requires-clause-fits : goal.close-requires-clause-fits

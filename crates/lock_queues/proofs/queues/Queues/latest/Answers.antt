@@ -5,7 +5,7 @@ use Rattle.lock_queues.specs.Rooms.{has_room_in}
 use Rattle.lock_queues.specs.Sections.{closed_as, closed_at, section_of, entry_at, AreReadable}
 use Rattle.lock_queues.specs.Searched.{IsSection}
 use Rattle.lock_queues.specs.Queue.{Kept, queue_at}
-use Rattle.lock_queues.specs.Queues.{Tables, closed_of, opened_of, found_of}
+use Rattle.lock_queues.specs.Queues.{Tables, closed_of, found_of}
 use Rattle.lock_queues.proofs.Searching.{entered_read}
 use Rattle.lock_queues.proofs.Storing.{closed_is}
 use Rattle.lock_queues.proofs.queues.Queues.latest.Goals as goal

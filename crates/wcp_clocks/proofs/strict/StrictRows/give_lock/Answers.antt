@@ -6,7 +6,8 @@ use Rattle.wcp_clocks.proofs.Kept.{locks_kept, locks_room, lock_within}
 use Rattle.wcp_clocks.proofs.strict.StrictRows.give_lock.Goals as goal
 
 same : (c : goal.After-self-1)
-    → widths_of (with_items c.self.inside.locks c.copy_row.new.rows).items ≡ widths_of c.self.inside.locks.items
+    → widths_of (with_items c.self.inside.locks c.copy_row.new.rows).items
+    ≡ widths_of c.self.inside.locks.items
 same c =
     written_widths c.self.inside.locks _ c.copy_row.new.rows c.deref_mut.ensures.len
     c.deref_mut.ensures.value c.copy_row.auto.rows c.copy_row.ensures.widths

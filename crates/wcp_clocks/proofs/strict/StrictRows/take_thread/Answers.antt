@@ -6,7 +6,8 @@ use Rattle.wcp_clocks.proofs.Kept.{threads_kept, threads_room, thread_within}
 use Rattle.wcp_clocks.proofs.strict.StrictRows.take_thread.Goals as goal
 
 same : (c : goal.After-self-1)
-    → widths_of (with_items c.self.inside.threads c.join_rows.new.rows).items ≡ widths_of c.self.inside.threads.items
+    → widths_of (with_items c.self.inside.threads c.join_rows.new.rows).items
+    ≡ widths_of c.self.inside.threads.items
 same c =
     written_widths c.self.inside.threads _ c.join_rows.new.rows c.deref_mut.ensures.len
     c.deref_mut.ensures.value c.join_rows.auto.rows c.join_rows.ensures.widths
