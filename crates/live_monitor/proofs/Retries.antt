@@ -1,8 +1,7 @@
 -- A pass whose thread tries a call again.
-use Rattle.std.proofs.Common.{◌≡◌, [], ◌∷◌, ◌++◌, None, Result, Ok, Err, IfOk, IfErr, IsErr, ap, subst, ◌∙◌}
+use Rattle.std.proofs.Common.{◌≡◌, [], ◌∷◌, ◌++◌, None, Result, Ok, Err, IfOk, IfErr, ap, subst, ◌∙◌}
 use mathlib.Core.List.{IsPrefix}
 use Rattle.event_core.specs.declared.bounds.Limits.{Limits}
-use Rattle.event_core.specs.declared.events.Call.{Call}
 use Rattle.event_core.specs.declared.ids.LockId.{LockId}
 use Rattle.event_core.specs.declared.ids.SiteId.{SiteId}
 use Rattle.event_core.specs.declared.replies.Refusal.{Refusal}
@@ -20,16 +19,6 @@ pub record HasTried (before now : PassView) : Type 0 where
   pub none_due : now.due ≡ None
   pub begins : IsPrefix before.seen now.seen
   pub mine : now.mine ≡ before.mine
-
-pub tried_more : {m : Limits} {p q r : PassView} (c : Call) (answer : Result Reply Refusal) → HasTried p q
-    → HasComeTo m q r → IsErr answer → IfErr answer (λ why. Declined m c q r why) → HasTried p r
-tried_more c (Ok reply) tried later err declined = absurd (cc err)
-tried_more c (Err why) tried later err declined = record {
-  same_thread = later.same_thread ∙ tried.same_thread;
-  none_due = later.none_due;
-  begins = prefix_trans _ _ _ tried.begins later.begins;
-  mine = declined.mine ∙ tried.mine;
-}
 
 -- what the last try brings holds of all
 pub later_of_all : {m : Limits} {p q r : PassView} → HasTried p q → HasComeTo m q r → HasComeTo m p r

@@ -1,4 +1,4 @@
--- How often an acquire is tried.
+-- How often something is tried.
 use Rattle.std.specs.Prelude.{ℕ, ◌+◌, ◌≡◌, min}
 
 -- how many tries there may be, and how many of them were made

@@ -1,22 +1,16 @@
-//! How often an acquire is tried.
-ghost use Rattle.std.specs.Prelude.{◌≡◌, ◌<◌, ◌≤◌, None, IsTrue, IsFalse, IsErr, IfOk, IfErr};
-ghost use Rattle.event_core.specs.declared.ids.ThreadId.{ThreadId as Thread};
-ghost use Rattle.event_core.specs.declared.replies.Refusal.TheVariants.{Held};
-ghost use Rattle.live_monitor.specs.Calls.{acquire_by, Accepted, Declined, HasComeTo};
+//! Trying again: how often, with a wait in between.
+ghost use Rattle.std.specs.Prelude.{◌≡◌, ◌<◌, IsTrue, IsFalse};
 ghost use Rattle.live_monitor.specs.Tries.{one_more, AreUsedUp};
 
-use crate::shared::Shared;
-use event_core::{LockId, Refusal, Reply, SiteId};
-use log_pass::{Name, Pass};
+use crossbeam_utils::Backoff;
 use std::marker::Model;
-use std::sync::Wait;
 
-/// How many tries an acquire may have, and how many of them were made. Contracts see both as `most` and
-/// `made`. Nothing but a try is counted.
+/// How many tries there may be, and how many of them were made. Contracts see both as `most` and `made`.
 #[derive(Debug, Drop)]
 pub struct Tries {
     most: u32,
     made: u32,
+    backoff: Backoff,
 }
 
 impl Model for Tries {
@@ -35,7 +29,11 @@ impl Tries {
     pub fn of(most: u32) -> Tries
         ensures { result ≡ record { most = most; made = 0 } }
     {
-        Tries { most, made: 0 }
+        Tries {
+            most,
+            made: 0,
+            backoff: Backoff::new(),
+        }
     }
 
     /// How many were made.
@@ -45,38 +43,21 @@ impl Tries {
         self.made
     }
 
-    // Whether the acquire that was answered so is tried again: another thread holds the lock, and a try is
-    // left.
-    pub(crate) fn go_on_after(&self, answer: &Result<Reply, Refusal>) -> bool
-        ensures goes_on { IsTrue result → IsErr answer.now × (self.now.made < self.now.most) }
-        ensures used_up { IsFalse result → (by : Thread)
-            → IfErr answer.now (λ refusal. refusal ≡ Held by → AreUsedUp self.now) }
+    /// Whether one more may be made. It is then counted, and before each but the first the thread waits a
+    /// little.
+    pub fn another(&mut self) -> bool
+        ensures same_most { self.new.most ≡ self.old.most }
+        ensures counted { self.new.made ≡ (one_more self.old).made }
+        ensures left { IsTrue result → self.old.made < self.old.most }
+        ensures used_up { IsFalse result → AreUsedUp self.old }
     {
-        match answer {
-            Err(Refusal::Held { .. }) => self.made < self.most,
-            _ => false,
+        if self.made == self.most {
+            return false;
         }
-    }
-
-    // Acquires the lock, which is one try. Where none is left it is not counted.
-    pub(crate) fn acquire<N: Name, R: Wait>(
-        &mut self,
-        shared: &Shared<N>,
-        rt: &R,
-        pass: Pass<N>,
-        lock: LockId,
-        site: SiteId,
-    ) -> (Pass<N>, Result<Reply, Refusal>)
-        requires none_due { pass.due ≡ None }
-        ensures later { HasComeTo N.limits pass result.0 }
-        ensures accepted { IfOk result.1
-            (λ reply. Accepted N.limits (acquire_by pass.thread lock site) pass result.0 reply) }
-        ensures declined { IfErr result.1
-            (λ answer. Declined N.limits (acquire_by pass.thread lock site) pass result.0 answer) }
-        ensures counted { self.new ≡ one_more self.old }
-        ensures counts_up { self.old.made ≤ self.new.made }
-    {
-        self.made += (self.most - self.made).min(1);
-        shared.acquire(rt, pass, lock, site)
+        if self.made > 0 {
+            self.backoff.snooze();
+        }
+        self.made += 1;
+        true
     }
 }

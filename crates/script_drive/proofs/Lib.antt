@@ -1,4 +1,5 @@
 mod Calls
+mod ToldRefusals
 mod ScriptFaults
 mod Settling
 mod Progress

@@ -11,6 +11,7 @@ use Rattle.event_core.specs.declared.ids.SiteId.{SiteId}
 use Rattle.event_core.specs.declared.ids.VarId.{VarId}
 use Rattle.event_core.specs.declared.bounds.Limits.{Limits}
 use Rattle.event_core.specs.declared.events.Event.{Event}
+use Rattle.event_core.specs.declared.events.Act.{Act}
 use Rattle.event_core.specs.declared.events.Act.TheVariants.{One, Swap}
 use Rattle.event_core.specs.declared.events.Call.{Call}
 use Rattle.event_core.specs.declared.events.Op.{Op}
@@ -21,21 +22,23 @@ use Rattle.event_core.specs.declared.replies.Refusal.TheVariants.{TargetNotStart
 use Rattle.event_core.specs.declared.replies.Reply.{Reply}
 use Rattle.event_core.specs.declared.replies.SwapReply.{SwapReply}
 use Rattle.event_core.specs.Acts.{swap_refusal}
-use Rattle.event_core.specs.Refusal.{first_of, reasons, refusal}
+use Rattle.event_core.specs.Refusal.{first_of, op_is_acquire, reasons, refusal}
 use Rattle.event_core.specs.Steps.{log_of, own_events}
 use Rattle.live_monitor.specs.Calls.{call_by, Declined, HasComeTo}
 use Rattle.live_monitor.specs.Swaps.{DeclinedSwap}
+use Rattle.live_monitor.specs.Tries.{AreUsedUp, Tried}
 use Rattle.log_pass.specs.declared.views.PassView.{PassView}
 use Rattle.script_text.specs.declared.lines.ScriptLine.{ScriptLine}
 use Rattle.script_text.specs.Lines.{act_thread, is_of, thread_of}
 use Rattle.script_drive.specs.declared.faults.DriveFault.{DriveFault}
 use Rattle.script_drive.specs.declared.faults.Halt.{Halt}
 use Rattle.script_drive.specs.declared.faults.Halt.TheVariants.{Fault}
-use Rattle.script_drive.specs.Faults.{act_refusal, rank, refused_at, stuck_at, Fits, IsAnswer, IsAnswered}
-use Rattle.script_drive.specs.Faults.{IsEarlier, IsFaultOf, IsFirst, IsHaltOf, IsNext, Refuses}
+use Rattle.script_drive.specs.Faults.{act_refusal, is_told, rank, refused_at, stuck_at, Fits, IsAnswer}
+use Rattle.script_drive.specs.Faults.{IsAnswered, IsEarlier, IsFaultOf, IsFirst, IsHaltOf, IsNext, Refuses}
 use Rattle.script_drive.specs.Lines.{Follows, lines_by}
 use Rattle.script_drive.specs.Workers.{HasDone}
 use Rattle.script_drive.proofs.Progress.{own_place}
+use Rattle.script_drive.proofs.ToldRefusals.{call_told, swap_told}
 
 -- ---- which is answered
 
@@ -71,35 +74,39 @@ pub stuck_fits : (m : Limits) (script : List ScriptLine) (l : ScriptLine) → Co
 stuck_fits m script l line = ∣ (l, line, (refl, refl)) ∣₁
 
 refused_fits : (m : Limits) (script : List ScriptLine) (l : ScriptLine) (why : Refusal) → Contains script l
-    → Refuses m script l why → Fits m script (refused_at l why)
-refused_fits m script l ThreadRange line r = (refl, (l, line, (refl, refl, r)))
-refused_fits m script l NotStarted line r = (refl, (l, line, (refl, refl, r)))
-refused_fits m script l Ended line r = (refl, (l, line, (refl, refl, r)))
-refused_fits m script l TargetRange line r = (refl, (l, line, (refl, refl, r)))
-refused_fits m script l (Held by) line r = (l, line, (refl, refl))
-refused_fits m script l NotHolder line r = (refl, (l, line, (refl, refl, r)))
-refused_fits m script l SelfTarget line r = (refl, (l, line, (refl, refl, r)))
-refused_fits m script l AlreadyStarted line r = (refl, (l, line, (refl, refl, r)))
-refused_fits m script l TargetNotStarted line r = (refl, (l, line, (refl, refl, r)))
-refused_fits m script l LogFull line r = (refl, (l, line, (refl, refl, r)))
-refused_fits m script l OutOfMemory line r = tt
+    → is_told why ≡ true → Refuses m script l why → Fits m script (refused_at l why)
+refused_fits m script l ThreadRange line told r = (told, (l, line, (refl, refl, r)))
+refused_fits m script l NotStarted line told r = (told, (l, line, (refl, refl, r)))
+refused_fits m script l Ended line told r = (told, (l, line, (refl, refl, r)))
+refused_fits m script l TargetRange line told r = (told, (l, line, (refl, refl, r)))
+refused_fits m script l (Held by) line told r = absurd (cc told)
+refused_fits m script l NotHolder line told r = (told, (l, line, (refl, refl, r)))
+refused_fits m script l SelfTarget line told r = (told, (l, line, (refl, refl, r)))
+refused_fits m script l AlreadyStarted line told r = (told, (l, line, (refl, refl, r)))
+refused_fits m script l TargetNotStarted line told r = (told, (l, line, (refl, refl, r)))
+refused_fits m script l LogFull line told r = (told, (l, line, (refl, refl, r)))
+refused_fits m script l OutOfMemory line told r = tt
 
--- the act was refused so to a pass that had done the lines before, or memory ran out
+-- the definition refuses the act so, and not for another thread's hold; or memory ran out
+abbrev IsReason : Limits → List Event → Act → Refusal → Type 0
+IsReason m log act why = ((act_refusal m log act ≡ Some why) × (is_told why ≡ true)) ⊎ (why ≡ OutOfMemory)
+
+-- the act was refused so to a pass that had done the lines before
 declined_fits : (m : Limits) (script : List ScriptLine) (l : ScriptLine) (p q : PassView) (why : Refusal)
     → IsNext script l p → thread_of l ≡ p.thread → HasComeTo m p q → q.mine ≡ p.mine
-    → (act_refusal m (log_of q.seen) l.act ≡ Some why) ⊎ (why ≡ OutOfMemory)
+    → IsReason m (log_of q.seen) l.act why
     → IsFaultOf m script (refused_at l why)
 declined_fits m script l p q why next thread later mine reason =
     elim reason as (λ _. IsFaultOf m script (refused_at l why)) [
       | inl refused ↦
-          ∣ refused_fits m script l why next.line (record {
+          ∣ refused_fits m script l why next.line refused.1 (record {
             before = next.before;
             later = next.later;
             place = next.place;
             log = log_of q.seen;
             well_formed = later.formed.well_formed;
             own = subst (λ (es : List Event). Follows es next.before) events next.done;
-            refused = refused;
+            refused = refused.0;
           }) ∣₁
       | inr e ↦ subst (λ (w : Refusal). IsFaultOf m script (refused_at l w)) (sym e) ∣ tt ∣₁
     ]
@@ -117,17 +124,21 @@ same_refusal m log c d thread op = λ i.
     let call : Call = record { thread = thread i; op = op i; site = c.site; arg = c.arg } in
     first_of (reasons m log call)
 
--- of a line's call
+-- of a line's call; of an acquire the refusal is told where another thread's hold is not the answer
 pub call_fits : (m : Limits) (script : List ScriptLine) (l : ScriptLine) (call : Call) (op : Op)
     (site : SiteId) (arg : ℕ) (p q : PassView) (why : Refusal) → l.act ≡ One call → call.op ≡ op
     → IsNext script l p → thread_of l ≡ p.thread → HasComeTo m p q
-    → Declined m (call_by p.thread op site arg) p q why → IsFaultOf m script (refused_at l why)
-call_fits m script l call op site arg p q why act is next thread later declined =
+    → Declined m (call_by p.thread op site arg) p q why → (op_is_acquire op ≡ true → is_told why ≡ true)
+    → IsFaultOf m script (refused_at l why)
+call_fits m script l call op site arg p q why act is next thread later declined acquire =
     declined_fits m script l p q why next thread later declined.mine
-    (elim (declined.why) as (λ _. (act_refusal m (log_of q.seen) l.act ≡ Some why) ⊎ (why ≡ OutOfMemory)) [
-      | inl refused ↦ inl (ap (act_refusal m (log_of q.seen)) act
-          ∙ (same_refusal m (log_of q.seen) call (call_by p.thread op site arg)
-          (sym (ap act_thread act) ∙ thread) is ∙ refused))
+    (elim (declined.why) as (λ _. IsReason m (log_of q.seen) l.act why) [
+      | inl refused ↦ inl (
+        ap (act_refusal m (log_of q.seen)) act
+            ∙ (same_refusal m (log_of q.seen) call (call_by p.thread op site arg)
+            (sym (ap act_thread act) ∙ thread) is ∙ refused),
+        call_told m (log_of q.seen) (call_by p.thread op site arg) why acquire refused,
+      )
       | inr memory ↦ inr (memory.0)
     ])
 
@@ -140,20 +151,28 @@ answered_halts m script l answer (Ok p) refused fits = tt
 answered_halts m script l (Ok x) (Err halt) refused fits = absurd refused
 answered_halts m script l (Err why) (Err halt) refused fits = subst (IsHaltOf m script) (sym refused) fits
 
+-- an acquire that another thread's hold refused has used its tries up
+pub held_used_up : (tries : Tried) (answer : Result Reply Refusal)
+    → ((by : ThreadId) → IfErr answer (λ why. why ≡ Held by → AreUsedUp tries))
+    → (by : ThreadId) × (answer ≡ Err (Held by)) → AreUsedUp tries
+held_used_up tries answer used_up held =
+    (subst (λ a. IfErr a (λ why. why ≡ Held (held.0) → AreUsedUp tries)) held.1 (used_up held.0)) refl
+
 -- after a line's call
 pub call_halts : (m : Limits) (script : List ScriptLine) (l : ScriptLine) (call : Call) (op : Op)
     (site : SiteId) (arg : ℕ) (p q : PassView) (answer : Result Reply Refusal) (result : Result PassView Halt)
     → l.act ≡ One call → call.op ≡ op → IsNext script l p → thread_of l ≡ p.thread → HasComeTo m p q
     → IfErr answer (Declined m (call_by p.thread op site arg) p q)
     → IfErr result (λ halt. IsErrAnd answer (λ why. halt ≡ Fault (refused_at l why)))
-    → IfErr result (IsHaltOf m script)
-call_halts m script l call op site arg p q answer result act is next thread later declined refused =
-    answered_halts m script l answer result refused (fits answer declined)
+    → (op_is_acquire op ≡ true → IfErr answer (λ why. is_told why ≡ true)) → IfErr result (IsHaltOf m script)
+call_halts m script l call op site arg p q answer result act is next thread later declined refused acquire =
+    answered_halts m script l answer result refused (fits answer declined acquire)
   where
     fits : (a : Result Reply Refusal) → IfErr a (Declined m (call_by p.thread op site arg) p q)
+        → (op_is_acquire op ≡ true → IfErr a (λ why. is_told why ≡ true))
         → IfErr a (λ why. IsFaultOf m script (refused_at l why))
-    fits (Ok x) d = tt
-    fits (Err why) d = call_fits m script l call op site arg p q why act is next thread later d
+    fits (Ok x) d told = tt
+    fits (Err why) d told = call_fits m script l call op site arg p q why act is next thread later d told
 
 -- of a line's swap
 swap_fits : (m : Limits) (script : List ScriptLine) (l : ScriptLine) (t : ThreadId) (x : VarId)
@@ -162,10 +181,13 @@ swap_fits : (m : Limits) (script : List ScriptLine) (l : ScriptLine) (t : Thread
     → IsFaultOf m script (refused_at l why)
 swap_fits m script l t x site arg p q why act next thread later declined =
     declined_fits m script l p q why next thread later declined.mine
-    (elim (declined.why) as (λ _. (act_refusal m (log_of q.seen) l.act ≡ Some why) ⊎ (why ≡ OutOfMemory)) [
-      | inl refused ↦ inl (ap (act_refusal m (log_of q.seen)) act
-          ∙ (ap (λ (u : ThreadId). swap_refusal m (log_of q.seen) u x) (sym (ap act_thread act) ∙ thread)
-          ∙ refused))
+    (elim (declined.why) as (λ _. IsReason m (log_of q.seen) l.act why) [
+      | inl refused ↦ inl (
+        ap (act_refusal m (log_of q.seen)) act
+            ∙ (ap (λ (u : ThreadId). swap_refusal m (log_of q.seen) u x) (sym (ap act_thread act) ∙ thread)
+            ∙ refused),
+        swap_told m (log_of q.seen) p.thread x why refused,
+      )
       | inr memory ↦ inr (memory.0)
     ])
 

@@ -19,8 +19,6 @@ use Rattle.script_drive.specs.declared.faults.DriveFault.TheVariants.{Stuck, Ref
 use Rattle.script_drive.specs.declared.faults.Halt.{Halt}
 use Rattle.script_drive.specs.declared.faults.Halt.TheVariants.{Fault, Abandoned}
 use Rattle.script_drive.specs.Lines.{Follows, lines_by}
-use Rattle.crossbeam_channel.specs.declared.err.TryRecvError.{TryRecvError}
-use Rattle.crossbeam_channel.specs.declared.err.TryRecvError.TheVariants.{Empty, Disconnected}
 
 -- ---- one worker
 
@@ -28,23 +26,15 @@ use Rattle.crossbeam_channel.specs.declared.err.TryRecvError.TheVariants.{Empty,
 abbrev pub stuck_at : ScriptLine → DriveFault
 stuck_at l = Stuck (thread_of l) l.line
 
--- the fault of a line whose call was refused so; where another thread held the lock it was tried as often as
--- patience allows
+-- the fault of a line whose call was refused so
 abbrev pub refused_at : ScriptLine → Refusal → DriveFault
 refused_at l refusals.OutOfMemory = OutOfMemory
-refused_at l (refusals.Held by) = stuck_at l
 refused_at l why = Refused (thread_of l) l.line why
 
 -- a worker's own fault; one that ended because another did has none
 abbrev pub own_fault : Halt → Option DriveFault
 own_fault (Fault f) = Some f
 own_fault (Abandoned l) = None
-
--- how a worker ends to whose line a thread's last pass did not come: patience is used up, unless that thread
--- ended without one
-abbrev pub ended_wait : TryRecvError → ScriptLine → Halt
-ended_wait Empty l = Fault (stuck_at l)
-ended_wait Disconnected l = Abandoned l
 
 -- ---- which of several faults is answered
 

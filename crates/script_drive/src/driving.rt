@@ -177,6 +177,7 @@ fn drive_in<S: Text + Send + Sync, G: Gate + Sync, R: Threads + Wait + Sync>(
     requires table { unnamed.table ≡ S.table }
     requires limits { unnamed.limits ≡ S.limits }
     requires script { script.now ≡ S.script }
+    requires patience { patience ≡ S.patience }
     ensures limits { IfOk result (λ closed. closed.limits ≡ unnamed.limits) }
     ensures well_formed { IfOk result (λ closed. WellFormed unnamed.limits closed.log) }
     ensures main { IfOk result
@@ -218,9 +219,9 @@ fn drive_in<S: Text + Send + Sync, G: Gate + Sync, R: Threads + Wait + Sync>(
 /// The fault is one of a line of the script, or want of memory. A refusal is one that the line's call has
 /// after some well-formed log in which the line's thread has made just the calls of its lines before.
 ///
-/// No clause tells the rest: how often a line is tried, nor that the run ends. Where a worker cannot be
-/// started, no call is made. Where workers end by faults, want of memory is answered first, and else the
-/// fault with the least line.
+/// No clause tells the rest: how often a line is tried, nor that the run ends. A worker tells its line as
+/// stuck only where it counted `patience` tries. Where a worker cannot be started, no call is made. Where
+/// workers end by faults, want of memory is answered first, and else the fault with the least line.
 pub fn drive<G: Gate + Sync, R: Threads + Wait + Sync>(
     rt: &R,
     alloc: Global,

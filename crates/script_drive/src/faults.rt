@@ -1,9 +1,13 @@
 //! Why a drive ends before its script does.
-ghost use Rattle.std.specs.Prelude.{◌≡◌, [], None, IfSome};
+ghost use Rattle.std.specs.Prelude.{◌≡◌, [], None, Contains, IfSome};
+ghost use Rattle.live_monitor.specs.Tries.{AreUsedUp};
 ghost use Rattle.script_drive.specs.Faults.{own_fault, rank, refused_at, stuck_at};
-ghost use Rattle.script_drive.specs.Faults.{IsAnswer, IsEarlier, IsFirst};
+ghost use Rattle.script_drive.specs.Faults.{IsAnswer, IsEarlier, IsFirst, IsHaltOf};
 
+use crate::text::Text;
 use event_core::{Refusal, ThreadId};
+use live_monitor::Tries;
+use log_pass::Name;
 use script_text::ScriptLine;
 use thiserror::Error;
 
@@ -36,23 +40,11 @@ pub enum DriveFault {
 }
 
 impl DriveFault {
-    /// Patience with the line is used up.
-    pub(crate) fn stuck(line: &ScriptLine) -> DriveFault
-        ensures { result ≡ stuck_at line.now }
-    {
-        DriveFault::Stuck {
-            thread: line.thread(),
-            line: line.line,
-        }
-    }
-
-    /// The line's call was refused. It is refused a lock that another thread holds only once patience is used
-    /// up.
+    /// The line's call was refused, for another reason than that another thread holds the lock.
     pub(crate) fn refused(line: &ScriptLine, refusal: Refusal) -> DriveFault
         ensures { result ≡ refused_at line.now refusal }
     {
         match refusal {
-            Refusal::Held { .. } => DriveFault::stuck(line),
             Refusal::OutOfMemory => DriveFault::OutOfMemory,
             refusal => DriveFault::Refused {
                 thread: line.thread(),
@@ -108,6 +100,20 @@ pub(crate) enum Halt {
 }
 
 impl Halt {
+    /// The line was tried as often as patience allows, as its tries show.
+    pub(crate) fn stuck<S: Text>(line: &ScriptLine, tries: &Tries) -> Halt
+        requires line { Contains S.script.lines line.now }
+        requires patience { tries.now.most ≡ S.patience }
+        requires used_up { AreUsedUp tries.now }
+        ensures stuck { result ≡ Halt.Fault (stuck_at line.now) }
+        ensures halt { IsHaltOf S.limits S.script.lines result }
+    {
+        Halt::Fault(DriveFault::Stuck {
+            thread: line.thread(),
+            line: line.line,
+        })
+    }
+
     /// The worker's own fault. One that ended because another did has none.
     pub(crate) fn fault(self) -> Option<DriveFault>
         ensures { result ≡ own_fault self }
@@ -127,7 +133,10 @@ impl Halt {
             (Halt::Fault(own), None) => own,
             (Halt::Abandoned(_), Some(other)) => other,
             // A worker is abandoned by one that has a fault, so this does not occur. No clause tells so.
-            (Halt::Abandoned(line), None) => DriveFault::stuck(&line),
+            (Halt::Abandoned(line), None) => DriveFault::Stuck {
+                thread: line.thread(),
+                line: line.line,
+            },
         }
     }
 }

@@ -1,10 +1,12 @@
 //! What a worker does: the calls of its thread's lines, in order.
-ghost use Rattle.std.specs.Prelude.{◌≡◌, ◌∷◌, [], List, None, Contains};
-ghost use Rattle.std.specs.Prelude.{IfErr, IfOk, IsErrAnd, IsOk, IsSome, OnOk};
+ghost use Rattle.std.specs.Prelude.{◌≡◌, ◌∷◌, [], true, Err, List, None, Contains};
+ghost use Rattle.std.specs.Prelude.{IfErr, IfOk, IsErrAnd, IsFalse, IsOk, IsSome, IsTrue, OnOk};
+ghost use Rattle.event_core.specs.declared.ids.ThreadId.{ThreadId as Thread};
+ghost use Rattle.event_core.specs.declared.replies.Refusal.TheVariants.{Held};
 ghost use Rattle.event_core.specs.Steps.{log_of};
 ghost use Rattle.script_text.specs.declared.lines.ScriptLine.{ScriptLine as Line};
 ghost use Rattle.script_text.specs.Lines.{join_of, thread_of};
-ghost use Rattle.script_drive.specs.Faults.{refused_at, ended_wait, IsHaltOf, IsNext};
+ghost use Rattle.script_drive.specs.Faults.{is_told, refused_at, IsHaltOf, IsNext};
 ghost use Rattle.script_drive.specs.Lines.{lines_by};
 ghost use Rattle.script_drive.specs.Workers.{AreSettled, Does, Done, Serves};
 
@@ -12,42 +14,53 @@ use crate::faults::{DriveFault, Halt};
 use crate::gate::Gate;
 use crate::links::Links;
 use crate::text::{LastPasses, Text};
-use crossbeam_utils::Backoff;
-use event_core::{Act, Op, Refusal};
+use event_core::{Act, Op, Refusal, Reply};
 use live_monitor::{Shared, Tries};
 use log_pass::{Name, Pass};
 use pass_channel::{PassReceiver, TryRecvError};
 use script_text::{Script, ScriptLine};
 use std::sync::Wait;
 
+/// What the workers of a drive share.
+#[derive(Drop)]
+pub(crate) struct Drive<'a, S: Text, G: Gate, R> {
+    pub rt: &'a R,
+    pub shared: &'a Shared<S>,
+    pub script: &'a Script,
+    pub gate: &'a G,
+    pub patience: u32,
+    ghost of: { script.now ≡ S.script },
+    ghost patient: { patience ≡ S.patience },
+}
+
+impl<S: Text, G: Gate, R> Drive<'_, S, G, R> {
+    // The tries that patience allows, of which none was made.
+    fn tries(&self) -> Tries
+        ensures { result ≡ record { most = S.patience; made = 0 } }
+    {
+        Tries::of(self.patience)
+    }
+}
+
 // Asks the gate for the line, as often as patience allows.
-fn may_enter<G: Gate>(gate: &G, line: &ScriptLine, patience: u32) -> bool {
-    let backoff = Backoff::new();
-    for _ in 0..patience {
-        if gate.enter(line.thread(), line.line) {
-            return true;
-        }
-        backoff.snooze();
-    }
-    false
-}
-
-// How the wait for a pass ends where it did not come: patience is used up, or it cannot come any more.
-fn ended_wait(error: TryRecvError, line: &ScriptLine) -> Halt
-    ensures { result ≡ ended_wait error line.now }
+fn enter<S: Text, G: Gate, R>(drive: &Drive<'_, S, G, R>, line: &ScriptLine) -> Result<(), Halt>
+    requires line { Contains S.script.lines line.now }
+    ensures halt { IfErr result (IsHaltOf S.limits S.script.lines) }
 {
-    match error {
-        TryRecvError::Empty => Halt::Fault(DriveFault::stuck(line)),
-        TryRecvError::Disconnected => Halt::Abandoned(*line),
+    let mut tries = drive.tries();
+    'tries: while tries.another() {
+        if drive.gate.enter(line.thread(), line.line) {
+            return Ok(());
+        }
     }
+    Err(Halt::stuck::<S>(line, &tries))
 }
 
-// Waits for the pass of the thread that the line joins, as long as patience allows.
-fn await_end<S: Text, R: Wait>(
-    rt: &R,
+// Looks for the pass of the thread that the line joins, as often as patience allows.
+fn await_end<S: Text, G: Gate, R: Wait>(
+    drive: &Drive<'_, S, G, R>,
     receiver: PassReceiver<S, LastPasses<S>>,
     line: &ScriptLine,
-    patience: u32,
 ) -> Result<Pass<S>, Halt>
     requires line { Contains S.script.lines line.now }
     requires joins { IsSome (join_of line.now) }
@@ -55,10 +68,23 @@ fn await_end<S: Text, R: Wait>(
     ensures halt { IfErr result (IsHaltOf S.limits S.script.lines) }
 {
     let mut receiver = receiver;
-    match receiver.receive_within(rt, patience) {
-        Ok(pass) => Ok(pass),
-        Err(error) => Err(ended_wait(error, line)),
+    let mut looks = drive.tries();
+    'looks: while looks.another() {
+        match receiver.look(drive.rt) {
+            Ok(pass) => return Ok(pass),
+            Err(TryRecvError::Empty) => {}
+            Err(TryRecvError::Disconnected) => return Err(Halt::Abandoned(*line)),
+        }
     }
+    Err(Halt::stuck::<S>(line, &looks))
+}
+
+// Whether the acquire was refused since another thread holds the lock.
+fn is_held(answer: &Result<Reply, Refusal>) -> bool
+    ensures held { IsTrue result → (by : Thread) × (answer.now ≡ Err (Held by)) }
+    ensures told { IsFalse result → IfErr answer.now (λ why. is_told why ≡ true) }
+{
+    matches!(answer, Err(Refusal::Held { .. }))
 }
 
 // The pass after a call that was accepted.
@@ -78,13 +104,11 @@ fn answered<N: Name, T: Drop>(
 }
 
 // The call of one line.
-fn make_call<S: Text, R: Wait>(
-    rt: &R,
-    shared: &Shared<S>,
+fn make_call<S: Text, G: Gate, R: Wait>(
+    drive: &Drive<'_, S, G, R>,
     pass: Pass<S>,
     line: &ScriptLine,
     links: &mut Links<S>,
-    patience: u32,
 ) -> Result<Pass<S>, Halt>
     requires none_due { pass.due ≡ None }
     requires thread { thread_of line.now ≡ pass.thread }
@@ -95,16 +119,18 @@ fn make_call<S: Text, R: Wait>(
         → OnOk result (Serves links.new later) }
     ensures halt { IfErr result (IsHaltOf S.limits S.script.lines) }
 {
+    let Drive { rt, shared, .. } = *drive;
     match line.act {
         Act::One(call) => match call.op {
             Op::Load(var) => answered(line, shared.load(rt, pass, var, call.site)),
             Op::Store(var) => answered(line, shared.store(rt, pass, var, call.arg, call.site)),
             Op::Acquire(lock) => {
-                let mut tries = Tries::of(patience);
-                answered(
-                    line,
-                    shared.acquire_within(rt, pass, lock, call.site, &mut tries),
-                )
+                let mut tries = drive.tries();
+                let (pass, answer) = shared.acquire_within(rt, pass, lock, call.site, &mut tries);
+                if is_held(&answer) {
+                    return Err(Halt::stuck::<S>(line, &tries));
+                }
+                answered(line, (pass, answer))
             }
             Op::Release(lock) => answered(line, shared.release(rt, pass, lock, call.site)),
             Op::Fork(_) => {
@@ -119,7 +145,7 @@ fn make_call<S: Text, R: Wait>(
             }
             Op::Join(_) => {
                 let receiver = links.next_join();
-                let child = await_end(rt, receiver, line, patience)?;
+                let child = await_end(drive, receiver, line)?;
                 match shared.join(rt, pass, child, call.site) {
                     (pass, Ok(_)) => Ok(pass),
                     (_, Err((refusal, _))) => {
@@ -130,17 +156,6 @@ fn make_call<S: Text, R: Wait>(
         },
         Act::Swap { var, site, arg, .. } => answered(line, shared.swap(rt, pass, var, arg, site)),
     }
-}
-
-/// What the workers of a drive share.
-#[derive(Drop)]
-pub(crate) struct Drive<'a, S: Text, G: Gate, R> {
-    pub rt: &'a R,
-    pub shared: &'a Shared<S>,
-    pub script: &'a Script,
-    pub gate: &'a G,
-    pub patience: u32,
-    ghost of: { script.now ≡ S.script },
 }
 
 /// Makes the calls of the pass's thread, in the order of its lines.
@@ -163,10 +178,8 @@ pub(crate) fn run_lines<S: Text, G: Gate, R: Wait>(
         if !line.is_of(thread) {
             continue;
         }
-        if !may_enter(drive.gate, &line, drive.patience) {
-            return Err(Halt::Fault(DriveFault::stuck(&line)));
-        }
-        pass = make_call(drive.rt, drive.shared, pass, &line, links, drive.patience)?;
+        enter(drive, &line)?;
+        pass = make_call(drive, pass, &line, links)?;
         drive.gate.done(line.thread(), line.line);
     }
     Ok(pass)

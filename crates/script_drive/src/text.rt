@@ -3,17 +3,23 @@ use log_pass::Name;
 use pass_channel::Terms;
 use std::marker::{Brand, PhantomData};
 
-/// One script, with the table of the monitor over which it runs. Each drive picks them.
+/// One script, with the table of the monitor over which it runs, and the patience with its lines. Each drive
+/// picks them.
 pub(crate) trait Text: Name {
+    ghost use Rattle.std.specs.Prelude.{ℕ};
     ghost use Rattle.script_text.specs.Scripts.{Parsed};
 
     ghost script: { Parsed };
+
+    ghost patience: { ℕ };
 }
 
 impl Text for Brand {
     ghost use Rattle.script_drive.specs.Texts.{no_script};
 
     ghost script = { no_script };
+
+    ghost patience = { 0 };
 }
 
 /// The first pass of a thread, which its fork gives.

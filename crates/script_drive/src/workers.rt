@@ -126,7 +126,7 @@ impl<S: Text> UnclaimedEnds<S> {
         ensures { IfSome result (λ start. start.receiver.to ≡ thread) }
     {
         for at in 0..self.starts.len() {
-            if self.starts[at].receiver.to() == thread {
+            if self.starts[at].receiver.to == thread {
                 return Some(self.starts.swap_remove(at));
             }
         }

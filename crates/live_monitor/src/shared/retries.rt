@@ -7,7 +7,6 @@ ghost use Rattle.live_monitor.specs.Tries.{one_more, AreUsedUp};
 
 use crate::shared::Shared;
 use crate::tries::Tries;
-use crossbeam_utils::Backoff;
 use event_core::{LockId, Refusal, Reply, SiteId};
 use log_pass::{Name, Pass};
 use std::sync::Wait;
@@ -16,6 +15,7 @@ impl<N: Name> Shared<N> {
     /// Acquires the lock. It is tried once at least, and again while another thread holds it and tries are
     /// left. `Held` is the answer only where all were made. At least one is counted where one was left; no
     /// clause tells that no more are made than are counted.
+    #[tactic(auto, using(crate::proofs::Retries::later_of_all, crate::proofs::Retries::accepted_of_all, crate::proofs::Retries::declined_of_all))]
     pub fn acquire_within<R: Wait>(
         &self,
         rt: &R,
@@ -35,14 +35,13 @@ impl<N: Name> Shared<N> {
         ensures counts_up { (one_more tries.old).made ≤ tries.new.made }
     {
         let mut pass = pass;
-        let backoff = Backoff::new();
+        // The first try is made in any case.
+        tries.another();
         'tries: loop {
-            let (next, answer) = tries.acquire(self, rt, pass, lock, site);
-            if !tries.go_on_after(&answer) {
-                return (next, answer);
+            match self.acquire(rt, pass, lock, site) {
+                (next, Err(Refusal::Held { .. })) if tries.another() => pass = next,
+                answer => return answer,
             }
-            pass = next;
-            backoff.snooze();
         }
     }
 }

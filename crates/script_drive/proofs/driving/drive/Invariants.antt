@@ -4,4 +4,4 @@ abbrev pub ghosts-drive_in-S-Name : goal.ghosts-drive_in-S-Name
 ghosts-drive_in-S-Name g a = record { table = a.unnamed.table; limits = a.unnamed.limits }
 
 abbrev pub ghosts-drive_in-S-Text : goal.ghosts-drive_in-S-Text
-ghosts-drive_in-S-Text g a = record { script = a.script.now }
+ghosts-drive_in-S-Text g a = record { script = a.script.now; patience = a.patience }

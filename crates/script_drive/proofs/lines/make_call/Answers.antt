@@ -3,7 +3,7 @@ use Rattle.event_core.specs.declared.events.Op.TheVariants.{Load, Store, Acquire
 use Rattle.script_drive.specs.Faults.{IsFaultOf}
 use Rattle.script_drive.specs.Workers.{Done}
 use Rattle.script_drive.proofs.Calls.{join_does, next_forked, next_joined}
-use Rattle.script_drive.proofs.ScriptFaults.{call_fits, call_halts, swap_halts}
+use Rattle.script_drive.proofs.ScriptFaults.{call_fits, call_halts, held_used_up, swap_halts}
 use Rattle.script_drive.proofs.lines.make_call.Goals as goal
 
 -- the child is the one whom the line joins
@@ -30,22 +30,27 @@ returns-in-Load-clause-halt g c =
     call_halts g.S.Name.limits g.S.Text.script.lines c.args.line.now c.in-One.call (Load c.in-Load.var)
     c.in-One.call.site 0 c.args.pass c.load.result.0 c.load.result.1 c.answered.result c.in-One.is
     c.in-Load.is c.requires.next c.requires.thread c.load.ensures.later c.load.ensures.declined
-    c.answered.ensures.refused
+    c.answered.ensures.refused (λ is. absurd (cc is))
 
 pub returns-in-Store-clause-halt : goal.returns-in-Store-clause-halt
 returns-in-Store-clause-halt g c =
     call_halts g.S.Name.limits g.S.Text.script.lines c.args.line.now c.in-One.call (Store c.in-Store.var)
     c.in-One.call.site _ c.args.pass c.store.result.0 c.store.result.1 c.answered-in-Store.result
     c.in-One.is c.in-Store.is c.requires.next c.requires.thread c.store.ensures.later
-    c.store.ensures.declined c.answered-in-Store.ensures.refused
+    c.store.ensures.declined c.answered-in-Store.ensures.refused (λ is. absurd (cc is))
 
-pub returns-in-Acquire-clause-halt : goal.returns-in-Acquire-clause-halt
-returns-in-Acquire-clause-halt g c =
+pub stuck-requires-clause-used_up : goal.stuck-requires-clause-used_up
+stuck-requires-clause-used_up g c =
+    held_used_up c.acquire_within-pass.new.tries c.acquire_within-pass.result.1
+    c.acquire_within-pass.ensures.used_up (c.is_held.ensures.held c.if-is_held.true)
+
+pub returns-else-is_held-clause-halt : goal.returns-else-is_held-clause-halt
+returns-else-is_held-clause-halt g c =
     call_halts g.S.Name.limits g.S.Text.script.lines c.args.line.now c.in-One.call
-    (Acquire c.in-Acquire.lock) c.in-One.call.site 0 c.args.pass c.acquire_within.result.0
-    c.acquire_within.result.1 c.answered-in-Acquire.result c.in-One.is c.in-Acquire.is c.requires.next
-    c.requires.thread
-    c.acquire_within.ensures.later c.acquire_within.ensures.declined c.answered-in-Acquire.ensures.refused
+    (Acquire c.in-Acquire.lock) c.in-One.call.site 0 c.args.pass c.acquire_within-pass.result.0
+    c.acquire_within-pass.result.1 c.answered-in-Acquire.result c.in-One.is c.in-Acquire.is c.requires.next
+    c.requires.thread c.acquire_within-pass.ensures.later c.acquire_within-pass.ensures.declined
+    c.answered-in-Acquire.ensures.refused (λ _. c.is_held.ensures.told c.if-is_held.false)
 
 pub returns-in-Release-clause-halt : goal.returns-in-Release-clause-halt
 returns-in-Release-clause-halt g c =
@@ -53,6 +58,7 @@ returns-in-Release-clause-halt g c =
     (Release c.in-Release.lock) c.in-One.call.site 0 c.args.pass c.release.result.0 c.release.result.1
     c.answered-in-Release.result c.in-One.is c.in-Release.is c.requires.next c.requires.thread
     c.release.ensures.later c.release.ensures.declined c.answered-in-Release.ensures.refused
+    (λ is. absurd (cc is))
 
 pub returns-in_default-Err-clause-halt : goal.returns-in_default-Err-clause-halt
 returns-in_default-Err-clause-halt g c =
@@ -66,7 +72,7 @@ returns-in_default-Err-clause-halt g c =
     (call_fits g.S.Name.limits g.S.Text.script.lines line c.in-One.call (Fork to) c.in-One.call.site 0
     c.args.pass c.fork.result.0 c.in_default-Err.refusal c.in-One.is (c.in-Fork.is ∙ ap Fork (sym is))
     c.requires.next c.requires.thread c.fork.ensures.later
-    (rw c.in_default-Err.is-1 at c.fork.ensures.declined))
+    (rw c.in_default-Err.is-1 at c.fork.ensures.declined) (λ is. absurd (cc is)))
 
 pub returns-in_default-Err-join-clause-halt : goal.returns-in_default-Err-join-clause-halt
 returns-in_default-Err-join-clause-halt g c =
@@ -82,7 +88,7 @@ returns-in_default-Err-join-clause-halt g c =
     c.in-One.call.site 0 c.args.pass c.join.result.0 c.in_default-Err-join.refusal c.in-One.is
     (c.in-Join.is ∙ ap Join (sym (c.in_ok-child-in-Join.ensures.done.thread ∙ is))) c.requires.next
     c.requires.thread c.join.ensures.later
-    (rw c.in_default-Err-join.is-1 at c.join.ensures.declined))
+    (rw c.in_default-Err-join.is-1 at c.join.ensures.declined) (λ is. absurd (cc is)))
 
 pub returns-in-Swap-clause-halt : goal.returns-in-Swap-clause-halt
 returns-in-Swap-clause-halt g c =

@@ -1,10 +1,9 @@
 use Rattle.std.proofs.Common.{rules, ◌≡◌, ◌+◌, sym, ◌∙◌, subst, drop}
-use Rattle.script_drive.specs.Faults.{IsFaultOf}
 use Rattle.script_drive.specs.Lines.{lines_by}
 use Rattle.script_drive.specs.Workers.{HasDone, Serves}
 use Rattle.script_drive.proofs.Progress.{all_done, done_at, last_done, next_line, other_left}
 use Rattle.script_drive.proofs.Progress.{other_taken, own_thread}
-use Rattle.script_drive.proofs.ScriptFaults.{line_at, next_at, stuck_fits}
+use Rattle.script_drive.proofs.ScriptFaults.{line_at, next_at}
 use Rattle.script_drive.proofs.lines.run_lines.Goals as goal
 
 pub make_call-requires-clause-thread : goal.make_call-requires-clause-thread
@@ -30,15 +29,13 @@ make_call-requires-clause-serves g c =
           c.loop-line.invariant.1,
     )
 
-pub returns-then-not-may_enter-clause-halt : goal.returns-then-not-may_enter-clause-halt
-returns-then-not-may_enter-clause-halt g c =
+pub enter-requires : goal.enter-requires
+enter-requires g c =
     let script = g.S.Text.script.lines in
     let lines = c.lines-line-items.result.now in
-    let i = c.loop-line.line-index in
-    let same : lines ≡ script = cc in
-    subst (IsFaultOf g.S.Name.limits script) (sym c.stuck.ensures)
-    (stuck_fits g.S.Name.limits script c.get-line.result
-    (line_at script lines i c.get-line.result (search rules) same (search rules)))
+    let same : lines ≡ script = cc in record {
+      line = line_at script lines c.loop-line.line-index c.get-line.result (search rules) same (search rules);
+    }
 
 pub loop-line-preserved : goal.loop-line-preserved
 loop-line-preserved g c =
