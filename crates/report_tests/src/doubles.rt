@@ -91,8 +91,8 @@ impl Read for Pieces<'_> {
     }
 }
 
-/// How much a page takes: at most so many bytes a put, and no put after so many. A write of std then fails, or
-/// it takes nothing.
+/// How much a page takes: at most so many bytes a put, and no put after so many. A write of std then fails,
+/// or it takes nothing.
 #[derive(Clone, Copy)]
 pub struct Room {
     pub most: usize,
