@@ -1,5 +1,5 @@
 //! Each beginning of a legal trace, and what it comes to.
-use crate::doubles::{Text, keep};
+use crate::doubles::{Page, Room, Text};
 use crate::runs::expect_both;
 
 /// A part of a line, up to its second bar or from there on; what `check` and `replay` print of a text that
@@ -123,11 +123,17 @@ const PARTS: &[Part] = &[
 
 #[test]
 fn each_beginning_of_nested_sections_has_its_answer(rt: HostRuntime) {
-    let mut text = Vec::new(rt.alloc());
+    let mut text = Page::blank(Room::AMPLE);
     for (part, counts, report, status) in PARTS {
         for byte in part.as_bytes() {
-            keep(&mut text, &[*byte]);
-            expect_both(&rt, Text::whole(&text), (*counts, *report), "", *status);
+            text.keep(&[*byte]);
+            expect_both(
+                &rt,
+                Text::whole(text.bytes()),
+                (*counts, *report),
+                "",
+                *status,
+            );
         }
     }
 }

@@ -98,16 +98,15 @@ fn expect_log<G: Gate + Sync, R: Abort + AllocGlobal + Files + Threads + Wait + 
     case: &Case,
     gate: &G,
 ) {
-    let mut page = Page::blank(rt.alloc(), Room::AMPLE);
+    let mut page = Page::blank(Room::AMPLE);
     let mut is_written = write_log(rt, case, gate, &mut page);
     if is_written.is_none() {
         is_written = write_log(rt, case, gate, &mut page);
     }
-    let log = page.bytes.as_slice();
+    let log = page.bytes();
     let is_known = is_written == Some(true) && case.logs.contains(&log);
     expect(rt, is_known, case.script);
     Run::of(REPLAY, Text::whole(log)).expect(rt, case.report, "", 0);
-    drop(page);
 }
 
 /// And so does a run of the script.

@@ -4,7 +4,7 @@ ghost use Rattle.std.specs.Prelude.{◌≡◌};
 use crate::doubles::{Page, Room};
 use crate::expected::expect;
 use closed_report::{NameLists, NamingFault, ReportFault, names_of, report_closed};
-use event_core::{Limits, Refusal, Roots, SiteId, ThreadId, VarId};
+use event_core::{Limits, Roots, SiteId, ThreadId, VarId};
 use live_monitor::{Closed, Unnamed, start};
 use log_pass::Name;
 use rapid_text::Kind;
@@ -115,30 +115,26 @@ const FAULTS: &[(NameLists<'static>, NamingFault, &str)] = &[
     ),
 ];
 
-/// Two threads swap, and neither waits for the other.
-fn swap_both<N: Name, R: Wait>(rt: &R, main: &mut TracedThread<N>) -> Result<(), Refusal> {
-    let (mut child, _) = main.fork(rt, ThreadId(1), SiteId(0))?;
-    let by_child = child.swap(rt, VarId(0), 7, SiteId(1));
-    let by_main = main.swap(rt, VarId(0), 5, SiteId(2));
-    main.join(rt, child, SiteId(0))?;
-    by_child.and(by_main)?;
-    Ok(())
+/// Two threads swap, and neither waits for the other. Whether there was memory for it.
+fn swap_both<N: Name, R: Wait>(rt: &R, main: &mut TracedThread<N>) -> bool {
+    let Ok((mut child, _)) = main.fork(rt, ThreadId(1), SiteId(0)) else {
+        return false;
+    };
+    let by_child = child.swap(rt, VarId(0), 7, SiteId(1)).is_ok();
+    let by_main = main.swap(rt, VarId(0), 5, SiteId(2)).is_ok();
+    main.join(rt, child, SiteId(0)).is_ok() && by_child && by_main
 }
 
 /// The log of the swaps, or an empty one.
-fn run<N: Name, R: Wait>(rt: &R, unnamed: Unnamed, has_swaps: bool) -> (Closed, Result<(), Refusal>)
+fn run<N: Name, R: Wait>(rt: &R, unnamed: Unnamed, has_swaps: bool) -> (Closed, bool)
     requires table { unnamed.table ≡ N.table }
     requires limits { unnamed.limits ≡ N.limits }
 {
     let (shared, pass) = start::<N>(unnamed);
     let mut main = TracedThread::new(&shared, pass);
-    let made = if has_swaps {
-        swap_both(rt, &mut main)
-    } else {
-        Ok(())
-    };
+    let is_made = !has_swaps || swap_both(rt, &mut main);
     let pass = main.into_pass();
-    (shared.close(pass), made)
+    (shared.close(pass), is_made)
 }
 
 /// What is answered where such a log is reported with these names; none where memory ran out.
@@ -152,22 +148,23 @@ fn reported<R: Wait>(
     let limits = Limits::new(2, 1, 1, 16, Roots::OnlyMain).ok()?;
     let names = names_of(alloc, limits, lists).ok()?;
     let unnamed = Unnamed::new(alloc, limits).ok()?;
-    let (closed, made) = run::<Brand, _>(rt, unnamed, has_swaps);
+    let (closed, is_made) = run::<Brand, _>(rt, unnamed, has_swaps);
     let answer = report_closed(page, &closed, &names);
     drop(closed);
     drop(names);
-    made.ok()?;
-    Some(answer.map(|summary| summary.races))
+    match answer {
+        _ if !is_made => None,
+        Ok(summary) => Some(Ok(summary.races)),
+        Err(fault) => Some(Err(fault)),
+    }
 }
 
 /// Whether the log is reported so. None where memory ran out.
 fn is_reported<R: Wait + AllocGlobal>(rt: &R, case: &Case) -> Option<bool> {
     let (has_swaps, lists, room, races, written) = case;
-    let mut page = Page::blank(rt.alloc(), *room);
+    let mut page = Page::blank(*room);
     let answer = reported(rt, rt.alloc(), *has_swaps, lists, &mut page);
-    let is_written = page.bytes.as_slice() == written.as_bytes();
-    drop(page);
-    Some(answer? == *races && is_written)
+    Some(answer? == *races && page.is(written))
 }
 
 #[test]

@@ -161,9 +161,9 @@ fn is_narrow(text: &str) -> bool {
 /// Whether the one device has this part, the other nothing, and the status is this.
 fn is_said(ran: &Ran, part: &str, status: u8) -> bool {
     let (said, other) = if status == 2 {
-        (ran.errors.as_slice(), ran.output.as_slice())
+        (ran.errors.bytes(), ran.output.bytes())
     } else {
-        (ran.output.as_slice(), ran.errors.as_slice())
+        (ran.output.bytes(), ran.errors.bytes())
     };
     let text = str::from_utf8(said).unwrap_or("");
     let is_told = text.contains(part) && (status == 2 || is_narrow(text));
@@ -176,7 +176,6 @@ fn is_said(ran: &Ran, part: &str, status: u8) -> bool {
 fn each_command_line_is_answered(rt: HostRuntime) {
     for (words, part, status) in SAID {
         let ran = Run::of(Program::Words(words), Text::whole(TRACE)).ran_again(&rt);
-        let is_said = is_said(&ran, part, *status);
-        ran.held(&rt, is_said, part);
+        expect(&rt, is_said(&ran, part, *status), part);
     }
 }

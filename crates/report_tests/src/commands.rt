@@ -17,14 +17,14 @@ pub enum Command {
 impl Command {
     fn ends_once(self, alloc: Global, text: Text<'_>, turns: u32, output: &str) -> Told {
         let limits = Limits::new(2, 1, 2, 64, Roots::Free).ok()?;
-        let mut page = Page::blank(alloc, Room::AMPLE);
+        let mut page = Page::blank(Room::AMPLE);
         let mut reader = Pieces::of(text);
         let turns = u64::from(turns);
         let fault = match self {
             Command::Check => check(alloc, &mut reader, &mut page, limits, turns).err(),
             Command::Replay => replay(alloc, &mut reader, &mut page, limits, turns).err(),
         };
-        told(fault, page, output)
+        told(fault, &page, output)
     }
 
     /// What is told of the text, with names for two threads, one lock and two variables, where this is to be

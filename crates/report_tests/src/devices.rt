@@ -1,114 +1,38 @@
 //! Readers and writers of std under a device: they fail, or take no byte.
-use crate::doubles::{Page, Room};
+use crate::doubles::{Room, Text};
 use crate::expected::expect;
-use rapid_text::Device;
+use crate::runs::{Program, Run};
 use std::fs::Files;
-use std::io;
-use std::io::{ErrorKind, Read, Write};
 use std::process::Abort;
 use std::sync::Wait;
 use std::thread::Threads;
-use wcp_tool::tool;
 
-/// Gives a text byte by byte. At its end it says so, or it fails.
-#[derive(Clone, Copy)]
-struct Broken<'a> {
-    text: &'a [u8],
-    fails: bool,
-}
-
-impl Read for Broken<'_> {
-    fn read(&mut self, buf: &mut [u8]) -> io::Result<usize> {
-        if self.text.is_empty() && self.fails {
-            return Err(ErrorKind::Other.into());
-        }
-        let n = buf.len().min(self.text.len()).min(1);
-        buf[..n].copy_from_slice(&self.text[..n]);
-        self.text = &self.text[n..];
-        Ok(n)
-    }
-}
-
-/// Takes a byte a write, for so many writes, and then it fails or takes nothing. It looks whether the bytes
-/// are those that are wanted.
-#[derive(Clone, Copy)]
-struct Narrow<'a> {
-    wanted: &'a [u8],
-    writes: usize,
-    fails: bool,
-    is_wanted: bool,
-}
-
-impl<'a> Narrow<'a> {
-    fn of(wanted: &'a str, writes: usize, fails: bool) -> Narrow<'a> {
-        Narrow {
-            wanted: wanted.as_bytes(),
-            writes,
-            fails,
-            is_wanted: true,
-        }
-    }
-}
-
-impl Write for Narrow<'_> {
-    fn write(&mut self, bytes: &[u8]) -> io::Result<usize> {
-        let n = bytes.len().min(self.writes).min(1);
-        if n == 0 && self.fails {
-            return Err(ErrorKind::Other.into());
-        }
-        let (next, rest) = self.wanted.split_at(n.min(self.wanted.len()));
-        self.is_wanted = self.is_wanted && &bytes[..n] == next;
-        self.wanted = rest;
-        self.writes -= n;
-        Ok(n)
-    }
-
-    fn flush(&mut self) -> io::Result<()> {
-        Ok(())
-    }
-}
-
-/// The status of the command. And whether as much was written as there were writes, and standard error is
-/// this.
-fn end<R: AllocGlobal + Files + Threads + Wait + Sync>(
-    rt: &R,
-    words: &[&str],
-    reader: Broken<'_>,
-    writer: Narrow<'_>,
-    errors: &str,
-) -> (u8, bool) {
-    let mut reader = Device::new(reader);
-    let mut narrow = writer;
-    let mut told = Page::blank(rt.alloc(), Room::AMPLE);
-    let status = tool(
-        rt,
-        words,
-        &mut reader,
-        &mut Device::new(&mut narrow),
-        &mut told,
-    );
-    let is_told = told.bytes.as_slice() == errors.as_bytes();
-    drop(told);
-    (status, is_told && narrow.is_wanted && narrow.writes == 0)
-}
-
-/// The command ends so, at the second try where memory ran out.
-fn expect_end<R: Abort + AllocGlobal + Files + Threads + Wait + Sync>(
+/// A program whose text comes byte by byte, and whose output is taken so, for so many writes, writes just
+/// these bytes.
+fn expect_written<R: Abort + AllocGlobal + Files + Threads + Wait + Sync>(
     rt: &R,
     words: &[&str],
     (text, fails): (&str, bool),
-    writer: Narrow<'_>,
+    (output, writer_fails): (&[u8], bool),
     (errors, status): (&str, u8),
 ) {
-    let reader = Broken {
-        text: text.as_bytes(),
+    let text = Text {
         fails,
+        ..Text::cut(text.as_bytes(), 1, 1)
     };
-    let mut met = end(rt, words, reader, writer, errors);
-    if met.0 == 5 {
-        met = end(rt, words, reader, writer, errors);
-    }
-    expect(rt, met == (status, true), text);
+    let room = Room {
+        most: 1,
+        puts: output.len(),
+        fails: writer_fails,
+    };
+    let run = Run {
+        program: Program::Piped(words),
+        text,
+        rooms: (room, Room::AMPLE),
+    };
+    let ran = run.ran_again(rt);
+    let is_written = ran.output.bytes() == output && ran.errors.is(errors);
+    expect(rt, is_written && ran.status == status, errors);
 }
 
 /// A text whose reader fails, what is written to standard output and to standard error, and the status.
@@ -125,8 +49,14 @@ const BROKEN: &[(&str, &str, &str, u8)] = &[
 fn a_device_tells_of_a_reader_that_fails(rt: HostRuntime) {
     for command in ["check", "replay"] {
         for (text, output, errors, status) in BROKEN {
-            let writer = Narrow::of(output, output.len(), true);
-            expect_end(&rt, &[command], (*text, true), writer, (*errors, *status));
+            let output = output.as_bytes();
+            expect_written(
+                &rt,
+                &[command],
+                (text, true),
+                (output, true),
+                (errors, *status),
+            );
         }
     }
 }
@@ -161,8 +91,8 @@ fn a_device_tells_of_a_writer_that_takes_no_more(rt: HostRuntime) {
                 } else {
                     ("", *status)
                 };
-                let writer = Narrow::of(output, writes, fails);
-                expect_end(&rt, &[*command], (*text, false), writer, told);
+                let taken = (&output.as_bytes()[..writes], fails);
+                expect_written(&rt, &[*command], (text, false), taken, told);
             }
         }
     }

@@ -1,8 +1,9 @@
-//! A reader that gives a text in pieces, and a writer that keeps what it takes.
+//! A reader that gives a text in pieces, and a writer that keeps what it takes. They take no memory.
 ghost use Rattle.std.specs.Prelude.{◌≡◌, false, None};
 
 use rapid_text::{Input, Output, ReadFailed, WriteFailed};
-use std::alloc::Global;
+use std::io;
+use std::io::{ErrorKind, Read, Write};
 
 /// A text, and how it comes: first a piece of so many bytes, then all others of another size. At the end of
 /// the text the reader says so, or it fails.
@@ -45,7 +46,7 @@ pub fn letters(count: usize) -> &'static [u8] {
 }
 
 /// Gives a text in its pieces.
-#[derive(Drop)]
+#[derive(Clone, Copy)]
 pub struct Pieces<'a> {
     text: Text<'a>,
     failed: bool,
@@ -81,25 +82,40 @@ impl Input for Pieces<'_> {
     }
 }
 
-/// How much a page takes: at most so many bytes a put, and no put after so many.
+impl Read for Pieces<'_> {
+    fn read(&mut self, buf: &mut [u8]) -> io::Result<usize> {
+        match self.pull(buf) {
+            Ok(n) => Ok(n),
+            Err(ReadFailed) => Err(ErrorKind::Other.into()),
+        }
+    }
+}
+
+/// How much a page takes: at most so many bytes a put, and no put after so many. A write of std then fails,
+/// or it takes nothing.
 #[derive(Clone, Copy)]
 pub struct Room {
     pub most: usize,
     pub puts: usize,
+    pub fails: bool,
 }
 
 impl Room {
     pub const AMPLE: Room = Room {
         most: usize::MAX,
         puts: usize::MAX,
+        fails: true,
     };
 
     pub const ONE_PUT: Room = Room {
-        most: usize::MAX,
         puts: 1,
+        ..Room::AMPLE
     };
 
-    pub const NONE: Room = Room { most: 0, puts: 0 };
+    pub const NONE: Room = Room {
+        puts: 0,
+        ..Room::AMPLE
+    };
 
     pub const BY_SEVEN: Room = Room {
         most: 7,
@@ -112,35 +128,47 @@ impl Room {
     };
 }
 
+/// More bytes than any text of these tests has.
+const SIZE: usize = 16384;
+
 /// Keeps what is written to it.
-#[derive(Drop)]
+#[derive(Clone, Copy)]
 pub struct Page {
-    pub bytes: Vec<u8>,
+    kept: [u8; SIZE],
+    len: usize,
     room: Room,
     failed: bool,
 }
 
 impl Page {
-    /// A page with the memory for most of what is written in these tests.
-    pub fn blank(alloc: Global, room: Room) -> Page
+    pub fn blank(room: Room) -> Page
         ensures { result.failed ≡ false }
     {
-        let mut bytes = Vec::new(alloc);
-        // What is refused once is asked for again.
-        if bytes.reserve(256).is_err() {
-            let _ = bytes.reserve(256);
-        }
         Page {
-            bytes,
+            kept: [0; SIZE],
+            len: 0,
             room,
             failed: false,
         }
     }
-}
 
-/// Keeps the bytes too, and says whether. What is refused once is asked for again.
-pub fn keep(kept: &mut Vec<u8>, bytes: &[u8]) -> bool {
-    kept.extend_from_slice(bytes).is_ok() || kept.extend_from_slice(bytes).is_ok()
+    pub fn bytes(&self) -> &[u8] {
+        &self.kept[..self.len.min(SIZE)]
+    }
+
+    pub fn is(&self, text: &str) -> bool {
+        self.bytes() == text.as_bytes()
+    }
+
+    /// Appends the bytes, as far as there is space.
+    pub fn keep(&mut self, bytes: &[u8])
+        ensures { self.new.failed ≡ self.old.failed }
+    {
+        let start = self.len.min(SIZE);
+        let n = bytes.len().min(SIZE - start);
+        self.kept[start..start + n].copy_from_slice(&bytes[..n]);
+        self.len = start + n;
+    }
 }
 
 impl Output for Page {
@@ -150,12 +178,26 @@ impl Output for Page {
 
     fn put(&mut self, bytes: &[u8]) -> Result<usize, WriteFailed> {
         let n = bytes.len().min(self.room.most);
-        let is_full = self.room.puts == 0 || (n == 0 && !bytes.is_empty());
-        if is_full || !keep(&mut self.bytes, &bytes[..n]) {
+        if self.room.puts == 0 || (n == 0 && !bytes.is_empty()) {
             self.failed = true;
             return Err(WriteFailed);
         }
         self.room.puts -= 1;
+        self.keep(&bytes[..n]);
         Ok(n)
+    }
+}
+
+impl Write for Page {
+    fn write(&mut self, bytes: &[u8]) -> io::Result<usize> {
+        match self.put(bytes) {
+            Ok(n) => Ok(n),
+            Err(WriteFailed) if self.room.fails => Err(ErrorKind::Other.into()),
+            Err(WriteFailed) => Ok(0),
+        }
+    }
+
+    fn flush(&mut self) -> io::Result<()> {
+        Ok(())
     }
 }

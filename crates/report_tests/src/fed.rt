@@ -2,7 +2,6 @@
 use crate::doubles::{Page, Room, Text};
 use crate::expected::expect;
 use crate::told::{Told, is_judged, told};
-use crate::traces::{legal, refused};
 use event_core::{Limits, Refusal, Roots};
 use rapid_text::{Cause, Kind, TextFault};
 use std::alloc::Global;
@@ -33,9 +32,9 @@ fn fault_of(
 }
 
 fn told_once(alloc: Global, text: Text<'_>, threads: u32, output: &str) -> Told {
-    let mut page = Page::blank(alloc, Room::AMPLE);
+    let mut page = Page::blank(Room::AMPLE);
     let fault = fault_of(alloc, text, threads, &mut page)?;
-    told(fault, page, output)
+    told(fault, &page, output)
 }
 
 /// What a new replayer tells that is to write this, once more where memory ran out.
@@ -69,22 +68,6 @@ pub fn expect_however_fed(
     expect_told(rt, alloc, by_one, output, is_report);
     for first in 0..=text.bytes.len() {
         expect_told(rt, alloc, Text { first, ..text }, output, is_report);
-    }
-}
-
-#[test]
-fn legal_traces_have_their_report_however_they_are_fed(rt: HostRuntime) {
-    for (_, text, _, report, _) in legal() {
-        let text = Text::whole(text.as_bytes());
-        expect_however_fed(&rt, rt.alloc(), text, report, true);
-    }
-}
-
-#[test]
-fn refused_traces_have_their_line_however_they_are_fed(rt: HostRuntime) {
-    for (_, text, line) in refused() {
-        let text = Text::whole(text.as_bytes());
-        expect_however_fed(&rt, rt.alloc(), text, line, false);
     }
 }
 

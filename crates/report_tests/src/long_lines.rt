@@ -1,9 +1,8 @@
 //! Names and lines of the greatest length, and longer ones, cut in two at each place.
 use crate::commands::expect_wherever_cut;
-use crate::doubles::{Text, keep, letters};
+use crate::doubles::{Page, Room, Text, letters};
 use crate::fed::expect_however_fed;
 use crate::runs::expect_both;
-use std::alloc::Global;
 
 /// So many letters, and what follows them.
 type Part = (usize, &'static str);
@@ -67,11 +66,11 @@ fn cases() -> &'static [Case] {
     CASES
 }
 
-fn text_of(alloc: Global, parts: &[Part]) -> Vec<u8> {
-    let mut text = Vec::new(alloc);
+fn text_of(parts: &[Part]) -> Page {
+    let mut text = Page::blank(Room::AMPLE);
     for (count, rest) in parts {
-        keep(&mut text, letters(*count));
-        keep(&mut text, rest.as_bytes());
+        text.keep(letters(*count));
+        text.keep(rest.as_bytes());
     }
     text
 }
@@ -79,15 +78,14 @@ fn text_of(alloc: Global, parts: &[Part]) -> Vec<u8> {
 #[test]
 fn long_lines_are_judged_whole_and_byte_by_byte(rt: HostRuntime) {
     for (parts, fails, (printed, errors, status)) in cases() {
-        let bytes = text_of(rt.alloc(), parts);
+        let page = text_of(parts);
         for most in [usize::MAX, 1] {
             let text = Text {
                 fails: *fails,
-                ..Text::cut(&bytes, most, most)
+                ..Text::cut(page.bytes(), most, most)
             };
             expect_both(&rt, text, *printed, errors, *status);
         }
-        drop(bytes);
     }
 }
 
@@ -95,13 +93,12 @@ fn long_lines_are_judged_whole_and_byte_by_byte(rt: HostRuntime) {
 #[test]
 fn long_lines_are_judged_wherever_they_are_cut(rt: HostRuntime) {
     for (parts, fails, ((counts, report), _, status)) in cases() {
-        let bytes = text_of(rt.alloc(), parts);
+        let page = text_of(parts);
         let text = Text {
             fails: *fails,
-            ..Text::whole(&bytes)
+            ..Text::whole(page.bytes())
         };
         expect_wherever_cut(&rt, rt.alloc(), text, counts, *status == 0);
         expect_however_fed(&rt, rt.alloc(), text, report, *status == 0);
-        drop(bytes);
     }
 }

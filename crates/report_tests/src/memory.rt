@@ -1,5 +1,6 @@
 //! Runs of the program where memory is refused.
 use crate::doubles::Text;
+use crate::expected::expect;
 use crate::runs::{CHECK, Program, REPLAY, Ran, Run, SCRIPT};
 use crate::traces::legal;
 use std::fs::Files;
@@ -25,8 +26,7 @@ fn expect_whole<R: Abort + AllocGlobal + Files + Threads + Wait + Sync>(
     status: u8,
 ) {
     let ran = Run::of(program, Text::whole(text.as_bytes())).ran(rt);
-    let is_whole = is_whole(&ran, output, status);
-    ran.held(rt, is_whole, output);
+    expect(rt, is_whole(&ran, output, status), output);
 }
 
 #[test]

@@ -2,17 +2,20 @@
 ghost use Rattle.std.specs.Prelude.{◌≡◌, ◌≤◌, false};
 
 use crate::doubles::{Page, Pieces, Room, Text};
+use crate::expected::expect;
+use rapid_text::Device;
 use std::fs::Files;
 use std::process::Abort;
 use std::sync::Wait;
 use std::thread::Threads;
 use wcp_tool::{Command, Settings, run_script, tool};
 
-/// What is run: the program over its words, or a script, a line of which is tried so often, and at least
-/// once.
+/// What is run: the program over its words, by itself or with devices of std, or a script, a line of which is
+/// tried so often, and at least once.
 #[derive(Clone, Copy)]
 pub enum Program<'a> {
     Words(&'a [&'a str]),
+    Piped(&'a [&'a str]),
     Script(u32),
 }
 
@@ -31,36 +34,22 @@ pub struct Run<'a> {
 }
 
 /// What a run ended with, and what it wrote to standard output and to standard error.
-#[derive(Drop)]
+#[derive(Clone, Copy)]
 pub struct Ran {
     pub status: u8,
-    pub output: Vec<u8>,
-    pub errors: Vec<u8>,
+    pub output: Page,
+    pub errors: Page,
 }
 
 impl Ran {
     /// Whether memory ran out, or a thread of a script could not be started.
     fn is_short(&self) -> bool {
-        self.status == 5 || self.output.ends_with(b": NoWorker\n")
+        self.status == 5 || self.output.bytes().ends_with(b": NoWorker\n")
     }
 
     /// Whether it wrote this and ended so.
     pub fn is(&self, output: &str, errors: &str, status: u8) -> bool {
-        self.output.as_slice() == output.as_bytes()
-            && self.errors.as_slice() == errors.as_bytes()
-            && self.status == status
-    }
-
-    /// This holds of what was run.
-    pub fn held(self, rt: &impl Abort, holds: bool, what: &str) {
-        let Ran {
-            status,
-            output,
-            errors,
-        } = self;
-        assert!(rt; holds, "{what}: {status}, {output:?}, {errors:?}");
-        drop(output);
-        drop(errors);
+        self.output.is(output) && self.errors.is(errors) && self.status == status
     }
 }
 
@@ -97,18 +86,25 @@ impl<'a> Run<'a> {
 
     pub fn ran<R: AllocGlobal + Files + Threads + Wait + Sync>(&self, rt: &R) -> Ran {
         let mut reader = Pieces::of(self.text);
-        let mut output = Page::blank(rt.alloc(), self.rooms.0);
-        let mut errors = Page::blank(rt.alloc(), self.rooms.1);
+        let mut output = Page::blank(self.rooms.0);
+        let mut errors = Page::blank(self.rooms.1);
         let status = match self.program {
             Program::Words(words) => tool(rt, words, &mut reader, &mut output, &mut errors),
+            Program::Piped(words) => tool(
+                rt,
+                words,
+                &mut Device::new(reader),
+                &mut Device::new(&mut output),
+                &mut errors,
+            ),
             Program::Script(patience) => {
                 script_status(rt, patience, &mut reader, &mut output, &mut errors)
             }
         };
         Ran {
             status,
-            output: output.bytes,
-            errors: errors.bytes,
+            output,
+            errors,
         }
     }
 
@@ -118,7 +114,6 @@ impl<'a> Run<'a> {
         if !ran.is_short() {
             return ran;
         }
-        drop(ran);
         self.ran(rt)
     }
 
@@ -130,9 +125,8 @@ impl<'a> Run<'a> {
         errors: &str,
         status: u8,
     ) {
-        let ran = self.ran_again(rt);
-        let is_so = ran.is(output, errors, status);
-        ran.held(rt, is_so, str::from_utf8(self.text.bytes).unwrap_or(output));
+        let is_so = self.ran_again(rt).is(output, errors, status);
+        expect(rt, is_so, str::from_utf8(self.text.bytes).unwrap_or(output));
     }
 }
 

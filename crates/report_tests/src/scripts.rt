@@ -1,5 +1,6 @@
 //! Scripts, and what a run of their threads prints.
-use crate::doubles::{Room, Text, keep, letters};
+use crate::doubles::{Page, Room, Text, letters};
+use crate::expected::expect;
 use crate::runs::Program::{self, Script};
 use crate::runs::{Ran, Row, Run, SCRIPT, expect_rows};
 use std::fs;
@@ -114,10 +115,10 @@ fn the_worked_scripts_have_their_answers(rt: HostRuntime) {
 
 #[test]
 fn a_line_of_a_script_that_is_too_long_is_told(rt: HostRuntime) {
-    let mut text = Vec::new(rt.alloc());
-    keep(&mut text, letters(1025));
-    keep(&mut text, b"\n");
-    Run::of(SCRIPT, Text::whole(&text)).expect(&rt, "line 1: LineTooLong\n", "", 6);
+    let mut text = Page::blank(Room::AMPLE);
+    text.keep(letters(1025));
+    text.keep(b"\n");
+    Run::of(SCRIPT, Text::whole(text.bytes())).expect(&rt, "line 1: LineTooLong\n", "", 6);
 }
 
 /// Nothing orders the store and the load of `y`, in whichever order they come.
@@ -145,16 +146,51 @@ const ALL: (Room, Room) = (Room::AMPLE, Room::AMPLE);
 const ONE_PUT: (Room, Room) = (Room::ONE_PUT, Room::AMPLE);
 
 /// So many puts of at most seven bytes.
-const NEVER: (Room, Room) = (Room { most: 7, puts: 0 }, Room::AMPLE);
+const NEVER: (Room, Room) = (
+    Room {
+        most: 7,
+        puts: 0,
+        ..Room::AMPLE
+    },
+    Room::AMPLE,
+);
 
-const ONCE: (Room, Room) = (Room { most: 7, puts: 1 }, Room::AMPLE);
+const ONCE: (Room, Room) = (
+    Room {
+        most: 7,
+        puts: 1,
+        ..Room::AMPLE
+    },
+    Room::AMPLE,
+);
 
-const TWICE: (Room, Room) = (Room { most: 7, puts: 2 }, Room::AMPLE);
+const TWICE: (Room, Room) = (
+    Room {
+        most: 7,
+        puts: 2,
+        ..Room::AMPLE
+    },
+    Room::AMPLE,
+);
 
 /// So many puts of at most 17 bytes, as many as the line has that a thread was not started.
-const ONE_LINE: (Room, Room) = (Room { most: 17, puts: 1 }, Room::AMPLE);
+const ONE_LINE: (Room, Room) = (
+    Room {
+        most: 17,
+        puts: 1,
+        ..Room::AMPLE
+    },
+    Room::AMPLE,
+);
 
-const TWO_LINES: (Room, Room) = (Room { most: 17, puts: 2 }, Room::AMPLE);
+const TWO_LINES: (Room, Room) = (
+    Room {
+        most: 17,
+        puts: 2,
+        ..Room::AMPLE
+    },
+    Room::AMPLE,
+);
 
 const LESS: &str = "events 8 threads ";
 
@@ -211,8 +247,8 @@ const RACE_LINES: &[&[u8]] = &[
 
 /// Whether the report is the counts and one of the lines, and nothing else is said.
 fn is_race(ran: &Ran) -> bool {
-    match ran.output.strip_prefix(RACE_COUNTS) {
-        Some(line) => RACE_LINES.contains(&line) && ran.errors.is_empty() && ran.status == 1,
+    match ran.output.bytes().strip_prefix(RACE_COUNTS) {
+        Some(line) => RACE_LINES.contains(&line) && ran.errors.is("") && ran.status == 1,
         None => false,
     }
 }
@@ -221,8 +257,7 @@ fn is_race(ran: &Ran) -> bool {
 fn a_race_is_reported_whole_whatever_the_schedule(rt: HostRuntime) {
     for _ in 0..20 {
         let ran = Run::of(SCRIPT, Text::whole(RACE.as_bytes())).ran_again(&rt);
-        let is_race = is_race(&ran);
-        ran.held(&rt, is_race, "a race");
+        expect(&rt, is_race(&ran), "a race");
     }
 }
 
@@ -279,10 +314,8 @@ fn ran_in_a_file<R: AllocGlobal + Files + Threads + Wait + Sync>(
 fn a_script_in_a_file_is_run(rt: HostRuntime) {
     for (words, text, output, status) in IN_A_FILE {
         let ran = ran_in_a_file(&rt, words, text);
-        let is_so = ran.is(output, "", *status);
-        ran.held(&rt, is_so, text);
+        expect(&rt, ran.is(output, "", *status), text);
     }
     let ran = ran_in_a_file(&rt, &["run", "worked.script"], RACE);
-    let is_race = is_race(&ran);
-    ran.held(&rt, is_race, "a race");
+    expect(&rt, is_race(&ran), "a race");
 }

@@ -23,12 +23,10 @@ fn is_short(fault: &ReplayFault) -> bool {
 }
 
 /// What is told where the text has the fault, and the output was to be written to the page.
-pub fn told(fault: Option<ReplayFault>, page: Page, output: &str) -> Told {
-    let is_written = page.bytes.as_slice() == output.as_bytes();
-    drop(page);
+pub fn told(fault: Option<ReplayFault>, page: &Page, output: &str) -> Told {
     match fault {
         Some(fault) if is_short(&fault) => None,
-        fault => Some((fault, is_written)),
+        fault => Some((fault, page.is(output))),
     }
 }
 

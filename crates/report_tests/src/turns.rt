@@ -84,19 +84,15 @@ fn a_text_is_read_to_its_end_in_as_many_turns_as_it_takes(rt: HostRuntime) {
 }
 
 fn counts(alloc: Global, limits: Limits) -> Option<Counts> {
-    let mut page = Page::blank(alloc, Room::AMPLE);
+    let mut page = Page::blank(Room::AMPLE);
     let mut text = Pieces::of(Text::whole(LONG));
-    let counts = check(alloc, &mut text, &mut page, limits, 2);
-    drop(page);
-    counts.ok()
+    check(alloc, &mut text, &mut page, limits, 2).ok()
 }
 
 fn summary(alloc: Global, limits: Limits) -> Option<Summary> {
-    let mut page = Page::blank(alloc, Room::AMPLE);
+    let mut page = Page::blank(Room::AMPLE);
     let mut text = Pieces::of(Text::whole(LONG));
-    let summary = replay(alloc, &mut text, &mut page, limits, 2);
-    drop(page);
-    summary.ok()
+    replay(alloc, &mut text, &mut page, limits, 2).ok()
 }
 
 /// What `check` and `replay` answer for the long text.

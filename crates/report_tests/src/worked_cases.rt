@@ -1,17 +1,31 @@
 //! The program on traces, each whole and in pieces.
-use crate::doubles::{Text, keep, letters};
+use crate::doubles::{Page, Room, Text, letters};
+use crate::fed::expect_however_fed;
 use crate::runs::{Program, Run, expect_both};
 use crate::traces::{legal, refused};
-use std::alloc::Global;
+use std::fs::Files;
+use std::process::Abort;
+use std::sync::Wait;
+use std::thread::Threads;
 
-/// Whole, byte by byte, and cut in two at each place.
+/// A check and a replay of the text come to this, whole, byte by byte, and cut in two at each place; and so
+/// does a replayer, however it is fed.
+fn expect_however_cut<R: Abort + AllocGlobal + Files + Threads + Wait + Sync>(
+    rt: &R,
+    text: &[u8],
+    printed: (&str, &str),
+    status: u8,
+) {
+    for cut in 0..=text.len().max(1) {
+        expect_both(rt, Text::however_cut(text, cut), printed, "", status);
+    }
+    expect_however_fed(rt, rt.alloc(), Text::whole(text), printed.1, status <= 1);
+}
+
 #[test]
 fn legal_traces_have_their_answers_however_they_are_cut(rt: HostRuntime) {
     for (_, text, counts, report, status) in legal() {
-        for cut in 0..=text.len().max(1) {
-            let text = Text::however_cut(text.as_bytes(), cut);
-            expect_both(&rt, text, (*counts, *report), "", *status);
-        }
+        expect_however_cut(&rt, text.as_bytes(), (*counts, *report), *status);
     }
 }
 
@@ -19,18 +33,11 @@ fn legal_traces_have_their_answers_however_they_are_cut(rt: HostRuntime) {
 #[test]
 fn the_first_refused_line_is_named_however_a_text_is_cut(rt: HostRuntime) {
     for (_, text, line) in refused() {
-        let mut ended = Vec::new(rt.alloc());
-        keep(&mut ended, text.as_bytes());
-        keep(&mut ended, b"\n");
-        for cut in 0..=ended.len() {
-            let bytes = if cut < ended.len() {
-                text.as_bytes()
-            } else {
-                &ended
-            };
-            expect_both(&rt, Text::however_cut(bytes, cut), (*line, *line), "", 3);
-        }
-        drop(ended);
+        expect_however_cut(&rt, text.as_bytes(), (*line, *line), 3);
+        let mut ended = Page::blank(Room::AMPLE);
+        ended.keep(text.as_bytes());
+        ended.keep(b"\n");
+        expect_both(&rt, Text::whole(ended.bytes()), (*line, *line), "", 3);
     }
 }
 
@@ -67,28 +74,25 @@ const NUMBERS: &[&str] = &[
     "19", "20", "21",
 ];
 
-fn text_of_loads(alloc: Global) -> Vec<u8> {
-    let mut text = Vec::new(alloc);
-    keep(&mut text, b"T0|w(x)|1\n");
+fn text_of_loads() -> Page {
+    let mut text = Page::blank(Room::AMPLE);
+    text.keep(b"T0|w(x)|1\n");
     for _ in NUMBERS {
-        keep(&mut text, b"T1|r(x)|");
-        keep(&mut text, letters(255));
-        keep(&mut text, b"\n");
+        text.keep(b"T1|r(x)|");
+        text.keep(letters(255));
+        text.keep(b"\n");
     }
     text
 }
 
-fn report_of_loads(alloc: Global) -> Vec<u8> {
-    let mut report = Vec::new(alloc);
-    keep(
-        &mut report,
-        b"events 21 threads 2 locks 0 variables 1 races 20\n",
-    );
+fn report_of_loads() -> Page {
+    let mut report = Page::blank(Room::AMPLE);
+    report.keep(b"events 21 threads 2 locks 0 variables 1 races 20\n");
     for number in NUMBERS {
-        keep(&mut report, number.as_bytes());
-        keep(&mut report, b"|T1|r(x)|");
-        keep(&mut report, letters(255));
-        keep(&mut report, b" with 1|T0|w(x)|1\n");
+        report.keep(number.as_bytes());
+        report.keep(b"|T1|r(x)|");
+        report.keep(letters(255));
+        report.keep(b" with 1|T0|w(x)|1\n");
     }
     report
 }
@@ -96,25 +100,22 @@ fn report_of_loads(alloc: Global) -> Vec<u8> {
 /// A store, and twenty loads by another thread. The lines of the report fill more than a page.
 #[test]
 fn a_long_report_is_written_whole(rt: HostRuntime) {
-    let text = text_of_loads(rt.alloc());
-    let report = report_of_loads(rt.alloc());
+    let text = text_of_loads();
+    let report = report_of_loads();
     let counts = "events 21 threads 2 locks 0 variables 1\n";
-    let report = str::from_utf8(&report).unwrap_or("");
-    expect_both(&rt, Text::whole(&text), (counts, report), "", 1);
+    let report = str::from_utf8(report.bytes()).unwrap_or("");
+    expect_both(&rt, Text::whole(text.bytes()), (counts, report), "", 1);
 }
 
 /// A thousand lines in pieces that end within them.
 #[test]
 fn a_thousand_lines_are_judged(rt: HostRuntime) {
-    let mut text = Vec::new(rt.alloc());
+    let mut text = Page::blank(Room::AMPLE);
     for _ in 0..250 {
-        keep(
-            &mut text,
-            b"T0|acq(l)|1\nT0|w(x)|2\nT0|r(y)|3\nT0|rel(l)|4\n",
-        );
+        text.keep(b"T0|acq(l)|1\nT0|w(x)|2\nT0|r(y)|3\nT0|rel(l)|4\n");
     }
     let counts = "events 1000 threads 1 locks 1 variables 2\n";
     let report = "events 1000 threads 1 locks 1 variables 2 races 0\n";
-    let text = Text::cut(&text, 1001, 4001);
+    let text = Text::cut(text.bytes(), 1001, 4001);
     expect_both(&rt, text, (counts, report), "", 0);
 }

@@ -33,10 +33,10 @@ fn copy(alloc: Global, text: &str, page: &mut Page) -> Option<bool> {
 
 /// The lines of all events, which are asked for again where memory ran out, and whether all are written.
 fn copied(alloc: Global, text: &str) -> (Page, bool) {
-    let mut page = Page::blank(alloc, Room::AMPLE);
+    let mut page = Page::blank(Room::AMPLE);
     let mut is_copied = copy(alloc, text, &mut page);
     if is_copied.is_none() {
-        page.bytes.clear();
+        page = Page::blank(Room::AMPLE);
         is_copied = copy(alloc, text, &mut page);
     }
     (page, is_copied == Some(true))
@@ -47,7 +47,6 @@ fn a_trace_that_is_written_again_has_the_same_report(rt: HostRuntime) {
     for (_, text, _, report, status) in legal() {
         let (page, is_copied) = copied(rt.alloc(), text);
         expect(&rt, is_copied, text);
-        Run::of(REPLAY, Text::whole(&page.bytes)).expect(&rt, report, "", *status);
-        drop(page);
+        Run::of(REPLAY, Text::whole(page.bytes())).expect(&rt, report, "", *status);
     }
 }
