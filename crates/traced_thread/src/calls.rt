@@ -95,8 +95,8 @@ impl<'m, N: Name> TracedThread<'m, N> {
     }
 
     /// Acquires the lock. It is tried once at least, and again while another thread holds it and tries are
-    /// left. `Held` is the answer only where all were made. At least one is counted where one was left; no
-    /// clause tells that no more are made than are counted.
+    /// left. `Held` is the answer only where all are counted, and one is counted at least where one was left.
+    /// No clause tells that as many are made as are counted.
     pub fn acquire_within<R: Wait>(
         &mut self,
         rt: &R,

@@ -13,8 +13,8 @@ use std::sync::Wait;
 
 impl<N: Name> Shared<N> {
     /// Acquires the lock. It is tried once at least, and again while another thread holds it and tries are
-    /// left. `Held` is the answer only where all were made. At least one is counted where one was left; no
-    /// clause tells that no more are made than are counted.
+    /// left. `Held` is the answer only where all are counted, and one is counted at least where one was left.
+    /// No clause tells that as many are made as are counted.
     #[tactic(auto, using(crate::proofs::Retries::later_of_all, crate::proofs::Retries::accepted_of_all, crate::proofs::Retries::declined_of_all))]
     pub fn acquire_within<R: Wait>(
         &self,
