@@ -37,7 +37,7 @@ fields_barred bytes first second h =
     let len : length rest ≡ length bytes - (first + 1) = length-after first bytes in
     let cut_one : cut 124 bytes ≡ Some (take first bytes, rest) =
     cut_first_byte 124 bytes first (omega (arith, h.ordered, h.inside))
-    (λ k lt is. h.no_bar k (omega (arith, h.ordered, h.inside)) (omega arith) (omega (arith, h.ordered))
+    (λ k _ lt is. h.no_bar k (omega (arith, h.ordered, h.inside)) (omega arith) (omega (arith, h.ordered))
     (eqb-true (get_or bytes k 0) 124 is)) (eq-eqb (get_or bytes first 0) 124 h.first_bar) in
     let place : first + 1 + at ≡ second = omega (arith, h.ordered) in
     let bar : get_or rest at 0 ≡ 124 =
@@ -45,11 +45,11 @@ fields_barred bytes first second h =
     ∙ ap (λ j. get_or bytes j 0) place ∙ h.second_bar in
     let cut_two : cut 124 rest ≡ Some (take at rest, after at rest) =
     cut_first_byte 124 rest at (omega (arith, h.ordered, h.inside))
-    (λ k lt is. h.no_bar (first + 1 + k) (omega (arith, h.inside)) (omega arith) (omega arith)
+    (λ k _ lt is. h.no_bar (first + 1 + k) (omega (arith, h.inside)) (omega arith) (omega arith)
     (sym (get_or-after first bytes k (omega (arith, h.inside))) ∙ eqb-true (get_or rest k 0) 124 is))
     (eq-eqb (get_or rest at 0) 124 bar) in
     let last : has 124 (after at rest) ≡ false =
-    lacks_below 124 (drop (at + 1) rest) (length rest - (at + 1)) (λ k lt is.
+    lacks_below 124 (drop (at + 1) rest) (length rest - (at + 1)) (λ k _ lt is.
     h.no_bar (first + 1 + (at + 1 + k)) (omega (arith, h.ordered, h.inside)) (omega arith)
     (omega (arith, h.ordered))
     (sym (get_or-after first bytes (at + 1 + k) (omega arith))
@@ -71,7 +71,7 @@ pub cut_marked : (text : List ℕ) (m : Marks) → IsMarked text m
     → cut 10 text ≡ Some (take m.end text, after m.end text)
 cut_marked text m h =
     cut_first_byte 10 text m.end h.within
-    (λ k lt is. h.no_lf k lt (eqb-true (get_or text k 0) 10 is)) (eq-eqb (get_or text m.end 0) 10 h.end)
+    (λ k _ lt is. h.no_lf k lt (eqb-true (get_or text k 0) 10 is)) (eq-eqb (get_or text m.end 0) 10 h.end)
 
 pub barred_marked : (text : List ℕ) (m : Marks) → IsMarked text m
     → IsBarred (take m.end text) m.first_bar m.second_bar
@@ -86,7 +86,7 @@ barred_marked text m h =
       no_bar = λ k lt apart other is.
           h.no_bar k (omega arith) apart other (sym (get_or-take m.end text k 0 (omega arith)) ∙ is);
       no_cr = lacks_below 13 text m.end
-          (λ k lt is. h.no_cr k lt (eqb-true (get_or text k 0) 13 is));
+          (λ k _ lt is. h.no_cr k lt (eqb-true (get_or text k 0) 13 is));
     }
 
 -- a line that the bytes show has its marks

@@ -1,52 +1,14 @@
 -- Lists of bytes, cut at a byte.
-use Rattle.std.proofs.Common.{
-  ◌≡◌,
-  ℕ,
-  zero,
-  suc,
-  ◌+◌,
-  ◌-◌,
-  ◌<◌,
-  ◌≤◌,
-  true,
-  false,
-  List,
-  [],
-  ◌∷◌,
-  ◌++◌,
-  length,
-  get_or,
-  take,
-  drop,
-  Option,
-  Some,
-  None,
-  refl,
-  sym,
-  ap,
-  subst,
-  ◌∙◌,
-  arith,
-  inl,
-  inr,
-  add-one,
-  zero-add,
-}
+use Rattle.std.proofs.Common.{◌≡◌, ℕ, zero, suc, ◌+◌, ◌-◌, ◌<◌, true, false, List, [], ◌∷◌, ◌++◌, length}
+use Rattle.std.proofs.Common.{get_or, take, drop, Option, Some, None, refl, sym, ap, subst, ◌∙◌, arith, inl}
+use Rattle.std.proofs.Common.{inr, add-one, zero-add}
 use Rattle.std.specs.Prelude.{◌||◌, ◌==◌, ◌&&◌, nat_lt, option_map, IfSome}
+use Rattle.std.specs.Option.{is_some}
 use Rattle.std.proofs.Math.Bool.{or-false, or-true}
-use Rattle.std.proofs.lemmas.Bool.{
-  or_parts,
-  and_parts,
-  lt-ltb,
-  ltb-true,
-  eqb-true,
-  eq-eqb,
-  ne_eqb,
-  or_from,
-  cases_Bool,
-  false_from_ne_true,
-}
+use Rattle.std.proofs.lemmas.Bool.{or_parts, and_parts, lt-ltb, ltb-true, eqb-true, eq-eqb, or_from}
+use Rattle.std.proofs.lemmas.Bool.{cases_Bool, false_from_ne_true}
 use Rattle.std.proofs.lemmas.List.{take_more, take_all, take_rest, get_or_push, take_at, length_push}
+use Rattle.memchr.specs.Find.{Nowhere, Passes, IsFirstByte, is_byte}
 use Rattle.rapid_line.specs.Cut.{has, count, Lacks, cut, before_end, after_last}
 
 pub has-append : (b : ℕ) (xs ys : List ℕ) → has b (xs ++ ys) ≡ (has b xs || has b ys)
@@ -63,13 +25,6 @@ Lacks-left b xs ys p = (or_parts (has b xs) (has b ys) (sym (has-append b xs ys)
 pub Lacks-right : (b : ℕ) (xs ys : List ℕ) → Lacks b (xs ++ ys) → Lacks b ys
 Lacks-right b xs ys p = (or_parts (has b xs) (has b ys) (sym (has-append b xs ys) ∙ p)).1
 
--- one byte more
-pub lacks_more : (b : ℕ) (xs : List ℕ) (i : ℕ) → i < length xs → has b (take i xs) ≡ false
-    → (get_or xs i 0 ≡ b → ⊥) → has b (take (i + 1) xs) ≡ false
-lacks_more b xs i l h n = rw (take_more xs i 0 l)
-    (Lacks-append b (take i xs) (get_or xs i 0 ∷ []) h
-    (or_from (get_or xs i 0 == b) false (ne_eqb (get_or xs i 0) b n) refl))
-
 -- the byte was met
 pub has_here : (b : ℕ) (xs : List ℕ) (i : ℕ) → i < length xs → get_or xs i 0 ≡ b → has b xs ≡ true
 has_here b [] i l e = absurd (omega arith)
@@ -77,29 +32,27 @@ has_here b (x ∷ xs) zero l e = rw (eq-eqb x b e) refl
 has_here b (x ∷ xs) (suc i) l e = elim (x == b) as
     (λ t. (t || has b xs) ≡ true) [ true ↦ refl | false ↦ has_here b xs i (omega arith) e ]
 
-pub cut_first : (b : ℕ) (xs : List ℕ) (i : ℕ) → i < length xs → has b (take i xs) ≡ false
-    → get_or xs i 0 ≡ b → cut b xs ≡ Some (take i xs, drop (i + 1) xs)
-cut_first b [] i l h e = absurd (omega arith)
-cut_first b (x ∷ xs) zero l h e = rw (eq-eqb x b e) refl
-cut_first b (x ∷ xs) (suc i) l h e =
-    let parts = or_parts (x == b) (has b (take i xs)) h in
-    rw (parts.0, cut_first b xs i (omega arith) parts.1 e) (rw (add-one (suc i), add-one i) refl)
+cut_first : (b : ℕ) (xs : List ℕ) (i : ℕ) → i < length xs → Nowhere (Passes (is_byte b) xs) 0 i
+    → (get_or xs i 0 == b) ≡ true → cut b xs ≡ Some (take i xs, drop (i + 1) xs)
+cut_first b [] i l before here = absurd (omega arith)
+cut_first b (x ∷ xs) zero l before here = rw here refl
+cut_first b (x ∷ xs) (suc i) l before here =
+    let differs : (x == b) ≡ false = false_from_ne_true (x == b) (before 0 (omega arith) (omega arith)) in
+    let rest = cut_first b xs i (omega arith) (λ k _ lt. before (suc k) (omega arith) (omega arith)) here in
+    rw (differs, rest) (rw (add-one (suc i), add-one i) refl)
 
-pub cut_here : (b : ℕ) (xs : List ℕ) (i : ℕ) → i < length xs → has b (take i xs) ≡ false
-    → get_or xs i 0 ≡ b → cut b xs ≡ Some (take i xs, take (length xs - (i + 1)) (drop (i + 1) xs))
-cut_here b xs i l h e = rw (take_rest xs (i + 1)) (cut_first b xs i l h e)
+-- the byte was found there first
+pub cut_first_byte : (b : ℕ) (xs : List ℕ) (i : ℕ) → i < length xs → Nowhere (Passes (is_byte b) xs) 0 i
+    → (get_or xs i 0 == b) ≡ true
+    → cut b xs ≡ Some (take i xs, take (length xs - (i + 1)) (drop (i + 1) xs))
+cut_first_byte b xs i l before here = rw (take_rest xs (i + 1)) (cut_first b xs i l before here)
 
-pub cut_none : (b : ℕ) (xs : List ℕ) → has b xs ≡ false → cut b xs ≡ None
-cut_none b [] h = refl
-cut_none b (x ∷ xs) h = let parts = or_parts (x == b) (has b xs) h in rw
-    (parts.0, cut_none b xs parts.1) refl
-
-pub lacks_all : (b : ℕ) (xs : List ℕ) (n : ℕ) → length xs ≤ n → has b (take n xs) ≡ false → has b xs ≡ false
-lacks_all b xs n l h = rw (take_all n xs l) at h
-
-pub cut_none_all : (b : ℕ) (xs : List ℕ) (n : ℕ) → length xs ≤ n → has b (take n xs) ≡ false
-    → cut b xs ≡ None
-cut_none_all b xs n l h = cut_none b xs (lacks_all b xs n l h)
+-- and nowhere
+pub cut_nowhere : (b : ℕ) (xs : List ℕ) → Nowhere (Passes (is_byte b) xs) 0 (length xs) → cut b xs ≡ None
+cut_nowhere b [] h = refl
+cut_nowhere b (x ∷ xs) h =
+    let differs : (x == b) ≡ false = false_from_ne_true (x == b) (h 0 (omega arith) (omega arith)) in
+    rw (differs, cut_nowhere b xs (λ k _ lt. h (suc k) (omega arith) (omega arith))) refl
 
 pub cut_at : (b : ℕ) (a c : List ℕ) → Lacks b a → cut b (a ++ b ∷ c) ≡ Some (a, c)
 cut_at b [] c h = rw (eq-eqb b b refl) refl
@@ -167,23 +120,13 @@ before_end_lacks b k xs r e h =
     let is : xs ≡ r ++ k ∷ [] = before_end-Some k xs r (sym e) in
     Lacks-left b r (k ∷ []) (subst (λ (t : List ℕ). Lacks b t) is h)
 
-pub lacks_below : (b : ℕ) (xs : List ℕ) (n : ℕ) → ((k : ℕ) → k < n → (get_or xs k 0 == b) ≡ true → ⊥)
+pub lacks_below : (b : ℕ) (xs : List ℕ) (n : ℕ) → Nowhere (Passes (is_byte b) xs) 0 n
     → has b (take n xs) ≡ false
 lacks_below b xs zero h = refl
 lacks_below b [] (suc n) h = refl
 lacks_below b (x ∷ xs) (suc n) h =
-    or_from (x == b) (has b (take n xs)) (false_from_ne_true (x == b) (h 0 (omega arith)))
-    (lacks_below b xs n (λ k lt. h (suc k) (omega arith)))
-
-pub cut_first_byte : (b : ℕ) (xs : List ℕ) (i : ℕ) → i < length xs
-    → ((k : ℕ) → k < i → (get_or xs k 0 == b) ≡ true → ⊥) → (get_or xs i 0 == b) ≡ true
-    → cut b xs ≡ Some (take i xs, take (length xs - (i + 1)) (drop (i + 1) xs))
-cut_first_byte b xs i l before here = cut_here b xs i l (lacks_below b xs i before)
-    (eqb-true (get_or xs i 0) b here)
-
-pub cut_nowhere : (b : ℕ) (xs : List ℕ) → ((k : ℕ) → k < length xs → (get_or xs k 0 == b) ≡ true → ⊥)
-    → cut b xs ≡ None
-cut_nowhere b xs h = cut_none_all b xs (length xs) (omega arith) (lacks_below b xs (length xs) h)
+    or_from (x == b) (has b (take n xs)) (false_from_ne_true (x == b) (h 0 (omega arith) (omega arith)))
+    (lacks_below b xs n (λ k _ lt. h (suc k) (omega arith) (omega arith)))
 
 map_None : (x : ℕ) (o : Option (List ℕ × List ℕ))
     → option_map (λ (p : List ℕ × List ℕ). let q : List ℕ × List ℕ = (x ∷ p.0, p.1) in q) o ≡ None
@@ -199,6 +142,11 @@ cut_None b (x ∷ xs) e =
       | inr differs ↦ or_from (x == b) (has b xs) differs
           (cut_None b xs (map_None x (cut b xs) (rw differs at e)))
     ]
+
+-- a search tells whether the byte is there
+pub has_found : (b : ℕ) (xs : List ℕ) (r : Option ℕ) → IsFirstByte (is_byte b) xs r → is_some r ≡ has b xs
+has_found b xs None h = sym (cut_None b xs (cut_nowhere b xs h))
+has_found b xs (Some i) h = sym (has_here b xs i h.0.high (eqb-true (get_or xs i 0) b h.1))
 
 -- ---- how many, and what follows the last
 
@@ -237,7 +185,5 @@ pub after_last-end : (b : ℕ) (xs : List ℕ) → after_last b (xs ++ b ∷ [])
 after_last-end b [] = rw (eq-eqb b b refl) refl
 after_last-end b (x ∷ xs) = rw (has-last b xs, or-true (x == b)) (after_last-end b xs)
 
--- a loop that looks for a byte, and one that cuts at it
-pub ruleset scanning = (lacks_more, has_here, lacks_all)
-
-pub ruleset cutting = (lacks_more, cut_here, cut_none_all)
+-- a search that cuts at the byte
+pub ruleset cutting = (cut_first_byte, cut_nowhere)

@@ -2,17 +2,14 @@
 ghost use Rattle.std.specs.Prelude.{◌≡◌, option_map};
 ghost use Rattle.rapid_line.specs.Cut.{has, cut, before_end, content, Lacks};
 
+use memchr::memchr;
+
 /// Whether the byte stands in the bytes.
-#[tactic(auto, using(crate::proofs::Cuts::scanning))]
+#[tactic(auto, using(crate::proofs::Cuts::has_found))]
 pub fn contains(bytes: &[u8], byte: u8) -> bool
     ensures { result ≡ has byte bytes.now }
 {
-    for x in bytes {
-        if *x == byte {
-            return true;
-        }
-    }
-    false
+    memchr(byte, bytes).is_some()
 }
 
 /// What stands before the first such byte, and what after it.
@@ -20,12 +17,8 @@ pub fn contains(bytes: &[u8], byte: u8) -> bool
 pub fn cut_at(bytes: &[u8], byte: u8) -> Option<(&[u8], &[u8])>
     ensures { option_map (λ p. (p.0.now, p.1.now)) result ≡ cut byte bytes.now }
 {
-    for (i, x) in bytes.iter().enumerate() {
-        if *x == byte {
-            return Some((&bytes[..i], &bytes[i + 1..]));
-        }
-    }
-    None
+    let at = memchr(byte, bytes)?;
+    Some((&bytes[..at], &bytes[at + 1..]))
 }
 
 /// What stands before the byte at the end.

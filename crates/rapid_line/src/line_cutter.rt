@@ -13,9 +13,9 @@ ghost use Rattle.rapid_line.specs.Marks.{IsKnown};
 ghost use Rattle.rapid_line.specs.Lines.{Lines, no_bytes, most, text_of, whole_or, IsKnownCut, Cuts, Keeps};
 ghost use Rattle.rapid_line.specs.Lines.{Ends, IsTooLong};
 
+use crate::bytes::cut_at;
 use crate::marks::{Line, first_line, longer_first_line};
 use arrayvec::ArrayVec;
-use memchr::memchr;
 use std::marker::Model;
 
 /// The most bytes of an unfinished line that may still end as a content of 1,024 bytes: those and a CR.
@@ -66,8 +66,8 @@ fn search_line(bytes: &[u8]) -> Option<(Line<'_>, &[u8])>
     if let Some(found) = longer_first_line(bytes) {
         return Some(found);
     }
-    let at = memchr(b'\n', bytes)?;
-    Some((unmarked(&bytes[..at]), &bytes[at + 1..]))
+    let (line, rest) = cut_at(bytes, b'\n')?;
+    Some((unmarked(line), rest))
 }
 
 /// Adds the bytes to those that are kept.
