@@ -2,6 +2,7 @@ mod Basics
 mod Changed
 mod Counts
 mod Standing
+mod KnownCells
 mod Keeping
 mod Closing
 mod Says

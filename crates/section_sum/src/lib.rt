@@ -23,6 +23,7 @@ pub mod laws;
 mod lock;
 mod locks;
 mod newest;
+mod recent;
 mod sources;
 mod summaries;
 
