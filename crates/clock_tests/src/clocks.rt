@@ -120,7 +120,7 @@ impl Run {
         ensures marked { 0 < result.position }
     {
         assert!(rt; thread.0 < 3);
-        assert!(rt; 0 < self.clocks.po(thread).at(thread));
+        assert!(rt; 0 < self.clocks.hb(thread).at(thread));
         self.clocks.mark(thread)
     }
 

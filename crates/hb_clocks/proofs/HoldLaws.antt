@@ -1,9 +1,8 @@
 -- Who holds each lock after an operation, as how often each thread does.
-use Rattle.std.proofs.Common.{◌≡◌, ℕ, ◌<◌, ◌+◌, ◌-◌, List, Bool, true, false, ◌&&◌, length, set}
+use Rattle.std.proofs.Common.{◌≡◌, ℕ, ◌<◌, ◌+◌, ◌-◌, List, Bool, ◌&&◌, length, set}
 use Rattle.std.proofs.Common.{cond, nat_eq, refl, sym, ap, subst, ◌∙◌, arith, inl, inr, ◌⊎◌}
 use Rattle.std.proofs.lemmas.Bool.{cases_eq, eq-eqb}
 use Rattle.std.proofs.lemmas.List.{get_or-set_same, get_or-set_other, length-set}
-use Rattle.event_core.specs.declared.ids.LockId.{LockId}
 use Rattle.event_core.specs.declared.events.Op.{Op}
 use Rattle.event_core.specs.declared.events.Op.TheVariants.{Load, Store, Acquire, Release, Fork, Join}
 use Rattle.event_core.specs.Rows.{with_row}
@@ -156,81 +155,6 @@ module _ (holds : List Hold) where
   holds_length t (Store x) = refl
   holds_length t (Fork u) = refl
   holds_length t (Join u) = refl
-
-  -- a lock that is held after an operation was held by that thread, or is acquired now
-  pub record WasHeld (h : Hold) (l : ℕ) : Type 0 where
-    pub held : 0 < (hold_at holds l).depth
-    pub holder : h.holder ≡ (hold_at holds l).holder
-
-  pub record IsAcquired (t : ℕ) (op : Op) (h : Hold) (l : ℕ) : Type 0 where
-    pub lock : LockId
-    pub op_is : op ≡ Acquire lock
-    pub lock_is : l ≡ lock.0
-    pub holder : h.holder ≡ t
-
-  pub held_after : (t : ℕ) (op : Op) (l : ℕ) → HasHold (length holds) op
-      → 0 < (hold_at (holds_after t op holds) l).depth
-      → WasHeld (hold_at (holds_after t op holds) l) l
-      ⊎ IsAcquired t op (hold_at (holds_after t op holds) l) l
-  held_after t (Acquire n) l room h = go (cases_eq l n.0)
-    where
-      x : Hold
-      x = record { holder = t; depth = (hold_at holds n.0).depth + 1 }
-
-      go : (l ≡ n.0) ⊎ (l ≡ n.0 → ⊥) → WasHeld (hold_at (holds_after t (Acquire n) holds) l) l
-          ⊎ IsAcquired t (Acquire n) (hold_at (holds_after t (Acquire n) holds) l) l
-      go (inl e) = inr (record {
-        lock = n;
-        op_is = refl;
-        lock_is = e;
-        holder = ap (λ k. (hold_at (holds_after t (Acquire n) holds) k).holder) e
-            ∙ ap (λ (y : Hold). y.holder) (hold_same n.0 _ room);
-      })
-      go (inr ne) =
-          let kept : hold_at (holds_after t (Acquire n) holds) l ≡ hold_at holds l = hold_other n.0 l _ ne in
-          inl (record {
-            held = subst (λ (y : Hold). 0 < y.depth) kept h;
-            holder =
-                ap (λ (y : Hold). y.holder) kept;
-          })
-  held_after t (Release n) l room h = go (cases_eq l n.0)
-    where
-      low : Hold
-      low = lowered t (hold_at holds n.0)
-
-      lower : (b : Bool) (y : Hold) → 0 <
-          (cond b (record { holder = y.holder; depth = y.depth - 1 }) y).depth → 0 < y.depth
-      lower true y p = omega arith
-      lower false y p = p
-
-      same_holder : (b : Bool) (y : Hold)
-          → (cond b (record { holder = y.holder; depth = y.depth - 1 }) y).holder ≡ y.holder
-      same_holder true y = refl
-      same_holder false y = refl
-
-      go : (l ≡ n.0) ⊎ (l ≡ n.0 → ⊥) → WasHeld (hold_at (holds_after t (Release n) holds) l) l
-          ⊎ IsAcquired t (Release n) (hold_at (holds_after t (Release n) holds) l) l
-      go (inl e) =
-          let now : hold_at (holds_after t (Release n) holds) l ≡ lowered t (hold_at holds n.0) =
-          ap (λ k. hold_at (holds_after t (Release n) holds) k) e ∙ hold_same n.0 _ room in
-          let b : Bool = nat_eq (hold_at holds n.0).holder t in
-          inl (record {
-            held = subst (λ k. 0 < (hold_at holds k).depth) (sym e)
-                (lower b (hold_at holds n.0) (subst (λ (y : Hold). 0 < y.depth) now h));
-            holder = ap (λ (y : Hold). y.holder) now ∙ same_holder b (hold_at holds n.0)
-                ∙ sym (ap (λ k. (hold_at holds k).holder) e);
-          })
-      go (inr ne) =
-          let kept : hold_at (holds_after t (Release n) holds) l ≡ hold_at holds l = hold_other n.0 l _ ne in
-          inl (record {
-            held = subst (λ (y : Hold). 0 < y.depth) kept h;
-            holder =
-                ap (λ (y : Hold). y.holder) kept;
-          })
-  held_after t (Load x) l room h = inl (record { held = h; holder = refl })
-  held_after t (Store x) l room h = inl (record { held = h; holder = refl })
-  held_after t (Fork u) l room h = inl (record { held = h; holder = refl })
-  held_after t (Join u) l room h = inl (record { held = h; holder = refl })
 
 pub alone_holder : (holds : List Hold) (t l : ℕ) → (hold_at holds l).holder ≡ t → Alone holds t l
 alone_holder holds t l is u n = not_holder holds u l (λ e. n (e ∙ is))

@@ -5,5 +5,4 @@ pub mod LegalSteps
 pub mod PoSteps
 pub mod Room
 pub mod RowsWithin
-pub mod TableLaws
 pub mod TableSteps

@@ -15,11 +15,9 @@ use Rattle.hb_clocks.specs.Holds.{hold_at, holds_after, is_outer, effect_by, Has
 use Rattle.hb_clocks.specs.State.{HbState, effect, without_locks, after}
 use Rattle.hb_clocks.specs.Stands.{IsFew, Admits, IsAlone}
 use Rattle.hb_clocks.specs.Tables.{Tables, hb_rows, state_from, HasThread}
-use Rattle.vector_clocks.specs.Rows.{rows_of, widths_of, IsMade}
-use Rattle.hb_clocks.specs.Tables.{HasClocks, IsReady, KeepsRoom, ReleasesReady, AreTables}
-use Rattle.hb_clocks.proofs.HoldLaws.{AloneAt, of_holder, outer_effect, depths_after, holds_length, WasHeld}
-use Rattle.hb_clocks.proofs.HoldLaws.{IsAcquired, held_after}
-use Rattle.hb_clocks.proofs.TableLaws.{releases_ready}
+use Rattle.vector_clocks.specs.Rows.{rows_of, widths_of}
+use Rattle.hb_clocks.specs.Tables.{HasClocks, IsReady, KeepsRoom, AreTables}
+use Rattle.hb_clocks.proofs.HoldLaws.{AloneAt, of_holder, outer_effect, depths_after, holds_length}
 use Rattle.vector_clocks.proofs.MadeRows.{made_kept, wide_kept}
 
 -- a row that is written twice
@@ -157,38 +155,6 @@ hold_kept m n (Store x) le h = tt
 hold_kept m n (Fork u) le h = tt
 hold_kept m n (Join u) le h = tt
 
--- the tables after the step keep what tables keep
-pub tables_after : (w : ℕ) (zeros : List ℕ) (po hb lock po' hb' lock' : List (List ℕ)) (holds : List Hold)
-    (t : ThreadId) (op : Op)
-    → widths_of po' ≡ widths_of po → widths_of hb' ≡ widths_of hb → widths_of lock' ≡ widths_of lock
-    → HasThread w po hb t.0 → HasClocks w po hb lock op → HasHold (length holds) op
-    → AreTables w zeros po hb lock holds → AreTables w zeros po' hb' lock' (holds_after t.0 op holds)
-tables_after w zeros po hb lock po' hb' lock' holds t op p h l thread clocks room a = record {
-  some = a.some;
-  only_zeros = a.only_zeros;
-  po_wide = wide_kept w po po' p a.po_wide;
-  hb_wide = wide_kept w hb hb' h a.hb_wide;
-  lock_wide = wide_kept w lock lock' l a.lock_wide;
-  held_thread = λ n d. thread_kept w (hold_at (holds_after t.0 op holds) n).holder po hb po' hb' p h
-      (holder n (held_after holds t.0 op n room d));
-  held_lock = λ n d. made_kept w n lock lock' l (made n (held_after holds t.0 op n room d));
-}
-  where
-    new : ℕ → Hold
-    new n = hold_at (holds_after t.0 op holds) n
-
-    holder : (n : ℕ) → WasHeld holds (hold_at (holds_after t.0 op holds) n) n
-        ⊎ IsAcquired holds t.0 op (hold_at (holds_after t.0 op holds) n) n
-        → HasThread w po hb (hold_at (holds_after t.0 op holds) n).holder
-    holder n (inl x) = subst (HasThread w po hb) (sym x.holder) (a.held_thread n x.held)
-    holder n (inr x) = subst (HasThread w po hb) (sym x.holder) thread
-
-    made : (n : ℕ) → WasHeld holds (hold_at (holds_after t.0 op holds) n) n
-        ⊎ IsAcquired holds t.0 op (hold_at (holds_after t.0 op holds) n) n
-        → IsMade w lock n
-    made n (inl x) = a.held_lock n x.held
-    made n (inr x) = subst (IsMade w lock) (sym x.lock_is) (subst (HasClocks w po hb lock) x.op_is clocks)
-
 -- what was ready stays so
 pub ready_kept : (old new : Tables) → new.width ≡ old.width → widths_of new.po ≡ widths_of old.po
     → widths_of new.hb ≡ widths_of old.hb
@@ -204,25 +170,24 @@ ready_kept old new w p h l n t op r = record {
 
 -- what the step keeps of tables and their room
 pub record IsStepped (zeros : List ℕ) (old new : Tables) : Type 0 where
-  pub tables : AreTables new.width zeros new.po new.hb new.lock new.holds
+  pub tables : AreTables new.width zeros new.po new.hb new.lock
   pub kept : KeepsRoom old new
-  pub releases : ReleasesReady new
 
 pub stepped : (zeros : List ℕ) (old new : Tables) (t : ThreadId) (op : Op) → new.width ≡ old.width
     → widths_of new.po ≡ widths_of old.po → widths_of new.hb ≡ widths_of old.hb
     → widths_of new.lock ≡ widths_of old.lock
-    → new.holds ≡ holds_after t.0 op old.holds → IsReady old t op
-    → AreTables old.width zeros old.po old.hb old.lock old.holds
+    → new.holds ≡ holds_after t.0 op old.holds
+    → AreTables old.width zeros old.po old.hb old.lock
     → IsStepped zeros old new
-stepped zeros old new t op w p h l d ready a =
+stepped zeros old new t op w p h l d a =
     let same : length new.holds ≡ length old.holds = ap length d ∙ holds_length old.holds t.0 op in
-    let tables : AreTables new.width zeros new.po new.hb new.lock new.holds =
-    subst (λ k. AreTables k zeros new.po new.hb new.lock new.holds) (sym w)
-    (subst (λ (xs : List Hold). AreTables old.width zeros new.po new.hb new.lock xs) (sym d)
-    (tables_after old.width zeros old.po old.hb old.lock new.po new.hb new.lock old.holds t op p h l
-    ready.thread ready.clocks ready.hold a)) in
     record {
-      tables = tables;
+      tables = subst (λ k. AreTables k zeros new.po new.hb new.lock) (sym w) (record {
+        some = a.some;
+        only_zeros = a.only_zeros;
+        po_wide = wide_kept old.width old.po new.po p a.po_wide;
+        hb_wide = wide_kept old.width old.hb new.hb h a.hb_wide;
+        lock_wide = wide_kept old.width old.lock new.lock l a.lock_wide;
+      });
       kept = ready_kept old new w p h l same;
-      releases = releases_ready new zeros tables;
     }

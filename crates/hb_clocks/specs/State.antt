@@ -49,4 +49,4 @@ joins_of _ = 0
 
 -- the mark of a thread's latest event
 abbrev pub latest_mark : ThreadId → HbState → Named
-latest_mark t s = record { thread = t.0; position = s.po t.0 t.0 }
+latest_mark t s = record { thread = t.0; position = s.hb.thread t.0 t.0 }

@@ -7,8 +7,7 @@ use Rattle.event_core.specs.declared.events.Op.TheVariants.{Acquire, Release, Fo
 use Rattle.event_core.specs.Rows.{Rows}
 use Rattle.vector_clocks.specs.Rows.{rows_of, IsMade, AreWide}
 use Rattle.hb_clocks.specs.State.{HbState}
-use Rattle.hb_clocks.specs.Stands.{IsHeldRelease}
-use Rattle.hb_clocks.specs.Holds.{hold_at, depths_of, HasHold}
+use Rattle.hb_clocks.specs.Holds.{depths_of, HasHold}
 use Rattle.hb_clocks.specs.declared.holds.Hold.{Hold}
 
 -- the clocks of threads and of locks, none of numbers where none was made, and who holds each lock
@@ -60,10 +59,6 @@ pub record IsReady (c : Tables) (t : ThreadId) (op : Op) : Type 0 where
 abbrev pub KeepsRoom : Tables → Tables → Type 0
 KeepsRoom old new = (t : ThreadId) (op : Op) → IsReady old t op → IsReady new t op
 
--- each release by a holder is ready
-abbrev pub ReleasesReady : Tables → Type 0
-ReleasesReady c = (t : ThreadId) (op : Op) → IsHeldRelease (state_of c) t op → IsReady c t op
-
 -- the threads that are named are below the width
 abbrev pub NamesWithin : ℕ → Op → Type 0
 NamesWithin w (Fork u) = u.0 < w
@@ -74,13 +69,9 @@ abbrev pub IsWithin : ℕ → Event → Type 0
 IsWithin w e = (e.thread.0 < w) × NamesWithin w e.op
 
 -- what the fields keep
-pub record AreTables (width : ℕ) (zeros : List ℕ) (po hb lock : List (List ℕ))
-    (holds : List Hold) : Type 0 where
+pub record AreTables (width : ℕ) (zeros : List ℕ) (po hb lock : List (List ℕ)) : Type 0 where
   pub some : 0 < width
   pub only_zeros : zeros ≡ replicate width 0
   pub po_wide : AreWide width po
   pub hb_wide : AreWide width hb
   pub lock_wide : AreWide width lock
-  -- a lock that is held has room, and so has its holder
-  pub held_thread : (l : ℕ) → 0 < (hold_at holds l).depth → HasThread width po hb (hold_at holds l).holder
-  pub held_lock : (l : ℕ) → 0 < (hold_at holds l).depth → IsMade width lock l

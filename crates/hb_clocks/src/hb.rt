@@ -15,8 +15,8 @@ ghost use Rattle.vector_clocks.specs.Counts.{counts_of};
 ghost use Rattle.vector_clocks.specs.Marks.{IsLatest, Names};
 ghost use Rattle.vector_clocks.specs.Work.{more_joins};
 ghost use Rattle.hb_clocks.specs.State.{empty, after, effect, joins_of, latest_mark};
-ghost use Rattle.hb_clocks.specs.Stands.{Stands, Admits, IsFew, IsHeldRelease};
-ghost use Rattle.hb_clocks.specs.Tables.{state_of, IsReady, KeepsRoom, ReleasesReady, IsWithin, HasThread};
+ghost use Rattle.hb_clocks.specs.Stands.{Stands, Admits, IsFew};
+ghost use Rattle.hb_clocks.specs.Tables.{state_of, IsReady, KeepsRoom, IsWithin, HasThread};
 ghost use Rattle.vector_clocks.specs.Rows.{IsMade};
 
 use crate::holds::{Hold, NO_HOLD, may_enter};
@@ -50,7 +50,7 @@ impl Model for HbClocks {
 
     ghost view = { λ c. tables c.width c.po.items c.hb.items c.locks.items c.holds.items };
 
-    ghost invariant = { λ c. AreTables c.width c.zeros c.po.items c.hb.items c.locks.items c.holds.items };
+    ghost invariant = { λ c. AreTables c.width c.zeros c.po.items c.hb.items c.locks.items };
 }
 
 impl HbClocks {
@@ -60,7 +60,6 @@ impl HbClocks {
         ensures width { IfOk result (λ made. made.0.width ≡ limits.now.threads) }
         ensures empty { IfOk result (λ made. state_of made.0 ≡ empty) }
         ensures stands { IfOk result (λ made. Stands [] (state_of made.0)) }
-        ensures releases { IfOk result (λ made. ReleasesReady made.0) }
         ensures work { IfOk result (λ made. made.1 ≡ record { comparisons = 0; joins = 0 }) }
     {
         let width = limits.threads() as usize;
@@ -84,7 +83,6 @@ impl HbClocks {
         ensures same { state_of self.new ≡ state_of self.old }
         ensures ready { OnOk result (IsReady self.new event.now.thread event.now.op) }
         ensures kept { KeepsRoom self.old self.new }
-        ensures releases { ReleasesReady self.new }
         ensures width { self.new.width ≡ self.old.width }
     {
         self.make_thread(event.thread)?;
@@ -95,10 +93,9 @@ impl HbClocks {
         }
     }
 
-    /// Whether there is room for the event. There is for each release by a holder.
+    /// Whether there is room for the event. What is ready for an acquire is ready for its release too.
     pub fn ready(&self, event: &Event) -> bool
-        ensures ready { IsTrue result ↔ IsReady self.now event.now.thread event.now.op }
-        ensures releases { IsHeldRelease (state_of self.now) event.now.thread event.now.op → IsTrue result }
+        ensures { IsTrue result ↔ IsReady self.now event.now.thread event.now.op }
     {
         self.has_thread(event.thread)
             && match event.op {
@@ -132,7 +129,6 @@ impl HbClocks {
         ensures stands { (limits : Bounds) (log : List AnEvent) → WellFormed limits (log ++ event.now ∷ [])
             → Stands log (state_of self.old) → Stands (log ++ event.now ∷ []) (state_of self.new) }
         ensures kept { KeepsRoom self.old self.new }
-        ensures releases { ReleasesReady self.new }
         ensures width { self.new.width ≡ self.old.width }
         ensures work { work.new ≡ more_joins (joins_of (effect event.now (state_of self.old))) work.old }
     {
@@ -171,13 +167,13 @@ impl HbClocks {
 
     /// The mark of the thread's latest event.
     pub fn mark(&self, thread: ThreadId) -> Mark
-        requires some { 0 < (state_of self.now).po thread.0 thread.0 }
-        requires few { (state_of self.now).po thread.0 thread.0 ≤ 2 ^ 32 }
+        requires some { 0 < (state_of self.now).hb.thread thread.0 thread.0 }
+        requires few { (state_of self.now).hb.thread thread.0 thread.0 ≤ 2 ^ 32 }
         ensures exact { result ≡ latest_mark thread (state_of self.now) }
         ensures names { (log : List AnEvent) (j : ℕ) → Stands log (state_of self.now) → IsLatest log thread j
             → Names log result thread j }
     {
-        let row = &self.po[thread.0 as usize];
+        let row = &self.hb[thread.0 as usize];
         Mark::new(thread, (row.at(thread) - 1) as u32)
     }
 
@@ -199,7 +195,6 @@ impl HbClocks {
         ensures same { state_of self.new ≡ state_of self.old }
         ensures made { OnOk result (HasThread self.new.width self.new.po self.new.hb thread.0) }
         ensures kept { KeepsRoom self.old self.new }
-        ensures releases { ReleasesReady self.new }
         ensures width { self.new.width ≡ self.old.width }
     {
         make_row(&mut self.po, self.alloc, self.width, thread.0 as usize)?;
@@ -212,7 +207,6 @@ impl HbClocks {
         ensures clock { OnOk result (IsMade self.new.width self.new.lock lock.0) }
         ensures hold { OnOk result (lock.0 < length self.new.holds) }
         ensures kept { KeepsRoom self.old self.new }
-        ensures releases { ReleasesReady self.new }
         ensures width { self.new.width ≡ self.old.width }
     {
         let at = lock.0 as usize;
@@ -221,8 +215,7 @@ impl HbClocks {
     }
 
     fn has_thread(&self, thread: ThreadId) -> bool
-        ensures made { IsTrue result ↔ HasThread self.now.width self.now.po self.now.hb thread.0 }
-        ensures releases { ReleasesReady self.now }
+        ensures { IsTrue result ↔ HasThread self.now.width self.now.po self.now.hb thread.0 }
     {
         let at = thread.0 as usize;
         at < self.width && is_made(&self.po, self.width, at) && is_made(&self.hb, self.width, at)

@@ -18,9 +18,6 @@ use Rattle.event_core.proofs.Legality.{orderly}
 use Rattle.event_core.proofs.Members.{any_has}
 use Rattle.event_core.proofs.Slots.{slots}
 use Rattle.event_core.specs.Refusal.{open_acquires}
-use Rattle.hb_clocks.specs.State.{HbState, effect, hb_row, po_row, after}
-use Rattle.hb_clocks.specs.Stands.{Stands as OrderStands}
-use Rattle.hb_clocks.proofs.LegalSteps.{step_stands}
 use Rattle.hb_clocks.proofs.Conditions.{admits_legal, few_in_log, events_within}
 use Rattle.section_sum.specs.Sums.{IsAlone, noted_of}
 use Rattle.event_core.specs.Count.{events_of}
@@ -39,7 +36,6 @@ use Rattle.wcp_clocks.specs.HeldLists.{list_at, held_of}
 use Rattle.wcp_clocks.specs.Parts.{hb_of, state_of}
 use Rattle.wcp_clocks.specs.StandsFor.{StandsFor, FitsWhereLegal}
 use Rattle.wcp_clocks.proofs.Growth.{held_numbers}
-use Rattle.wcp_clocks.proofs.Rows.{own_row}
 
 -- a well-formed log has no more events than there may be
 pub log_within : (limits : Limits) (log : List Event) → WellFormed limits log → length log ≤ limits.events
@@ -88,18 +84,6 @@ alone limits log p t w st l u v k is other = go (cases_Bool (noted_of p.sums u l
         let one : thread ≡ t
         = (orderly limits log w).one_holder (length log) thread t lock (theirs noted) mine in
         absurd (other (ap (λ (x : ThreadId). x.0) one))
-
--- after the event too its thread's own numbers are both that of its events
-own_next : (limits : Limits) (log : List Event) (e : Event) (s : HbState) → WellFormed limits (log ++ e ∷ [])
-    → OrderStands log s → hb_row e s e.thread.0 ≡ po_row e s e.thread.0
-own_next limits log e s w st =
-    let next : OrderStands (log ++ e ∷ []) (after e s) = step_stands limits log e s w st in
-    let hb : (after e s).hb.thread e.thread.0 ≡ hb_row e s
-    = own_row (effect e s) e.thread.0 (hb_row e s) s.hb.thread in
-    let po : (after e s).po e.thread.0 ≡ po_row e s
-    = own_row (effect e s) e.thread.0 (po_row e s) s.po in
-    ap (λ (f : ℕ → ℕ). f e.thread.0) (sym hb) ∙ next.hb_own e.thread ∙ sym (next.po_own e.thread)
-    ∙ ap (λ (f : ℕ → ℕ). f e.thread.0) po
 
 -- no thread's own number falls
 own_grows : (limits : Limits) (log : List Event) (e : Event) (s : State) → WellFormed limits (log ++ e ∷ [])
@@ -169,8 +153,6 @@ fits_where_legal limits log e p bounds w st little =
       admits = admits_legal limits log e (hb_of p) w st.hb;
       few = few_in_log log (hb_of p) (omega arith) st.hb;
       sound = sound_where_legal limits log e (state_of p) w st.strict;
-      own = st.hb.hb_own e.thread ∙ sym (st.hb.po_own e.thread);
-      own_next = own_next limits log e (hb_of p) w st.hb;
       own_grows = own_grows limits log e (state_of p) w st.strict;
       alone = alone limits log p e.thread front st;
       held = λ l. held l;

@@ -1,5 +1,5 @@
 -- What an effect does to the clocks, in the words of the step.
-use Rattle.std.proofs.Common.{◌≡◌, ℕ, ◌+◌, ◌<◌, Bool, true, false, nat_eq, nat_lt, not, ◌&&◌, ◌||◌, cond}
+use Rattle.std.proofs.Common.{◌≡◌, ℕ, ◌+◌, ◌<◌, Bool, true, false, nat_eq, nat_lt, not, ◌&&◌, ◌||◌}
 use Rattle.std.proofs.Common.{List, [], ◌∷◌, max}
 use Rattle.std.proofs.Common.{sym, ap, ap₂, ◌∙◌, refl, arith, inl, inr, ◌⊎◌, ◌↔◌}
 use Rattle.std.proofs.lemmas.Bool.{cases_Bool, eqb-true, eq-eqb, ltb_from_iff}
@@ -10,9 +10,10 @@ use Rattle.event_core.specs.declared.events.Event.{Event}
 use Rattle.event_core.specs.declared.events.AccessKind.{AccessKind}
 use Rattle.event_core.specs.declared.events.AccessKind.TheVariants.{Read, Write}
 use Rattle.event_core.specs.Closed.{Closed, Has, first, later}
-use Rattle.event_core.specs.Rows.{join, bump, brought}
+use Rattle.event_core.specs.Rows.{join, brought}
 use Rattle.event_core.specs.Effect.{Accesses, Opens, Closes}
 use Rattle.hb_clocks.specs.State as hb
+use Rattle.vector_clocks.proofs.Releases.{bump_same}
 use Rattle.section_sum.specs.Cell.{is_kind}
 use Rattle.section_sum.specs.Sums.{Sums, noted_of, is_held, is_access, SameOthers}
 use Rattle.wcp_laws.specs.State.{State}
@@ -20,13 +21,6 @@ use Rattle.wcp_laws.specs.Step.{sources, kind_eq, noted_after}
 use Rattle.wcp_clocks.specs.HeldLists.{numbers_of}
 use Rattle.wcp_clocks.specs.Met.{release_at, met_clocks, met_under, AreNumbers}
 use Rattle.wcp_clocks.proofs.Rows.{own_row}
-
--- the thread's clock of program order after its event
-pub own_program_order : (e : Event) (old new : hb.HbState) → new ≡ hb.after e old
-    → new.po e.thread.0 ≡ hb.po_row e old
-own_program_order e old new is =
-    ap (λ (s : hb.HbState). s.po e.thread.0) is
-    ∙ own_row (hb.effect e old) e.thread.0 (hb.po_row e old) old.po
 
 -- the sources under a lock are those of the rule
 pub same_sources : (s : State) (x : VarId) (k : AccessKind) (t : ThreadId)
@@ -87,40 +81,22 @@ pub same_numbers : (old new : Sums) (closed : ℕ → List Closed) → SameOther
 same_numbers old new closed same are l v k t =
     let e = same l v k t in let n = are l v k t in omega arith
 
--- after its event the thread counts itself
-own_next : (e : Event) (old new : hb.HbState) → new ≡ hb.after e old
-    → new.po e.thread.0 e.thread.0
-    ≡ join (old.po e.thread.0) (brought (hb.effect e old) (hb.without_locks old.po)) e.thread.0 + 1
-own_next e old new is = ap (λ (g : ℕ → ℕ). g t) (own_program_order e old new is) ∙ bumped
-  where
-    t : ℕ
-    t = e.thread.0
-
-    f : ℕ → ℕ
-    f = join (old.po t) (brought (hb.effect e old) (hb.without_locks old.po))
-
-    bumped : bump t f t ≡ f t + 1
-    bumped = ap (λ b. cond b (f t + 1) (f t)) (eq-eqb t t refl)
-
-pub own_counted : (e : Event) (old new : hb.HbState) → new ≡ hb.after e old → 0 < new.po e.thread.0 e.thread.0
-own_counted e old new is = let next = own_next e old new is in omega arith
-
--- after an outer acquire it counts one event more of itself
-pub own_opened : (e : Event) (l : LockId) (old new : hb.HbState) → hb.effect e old ≡ Opens l
-    → new ≡ hb.after e old → new.po e.thread.0 e.thread.0 ≡ old.po e.thread.0 e.thread.0 + 1
-own_opened e l old new opens is =
-    let next = own_next e old new is in
-    let t = e.thread.0 in
-    let none : join (old.po t) (brought (hb.effect e old) (hb.without_locks old.po)) t ≡ max (old.po t t) 0
-    = ap (λ k. join (old.po t) (brought k (hb.without_locks old.po)) t) opens in
-    omega arith
-
 -- the thread's clock of happens-before after its event
 pub own_happens_before : (e : Event) (old new : hb.HbState) → new ≡ hb.after e old
     → new.hb.thread e.thread.0 ≡ hb.hb_row e old
 own_happens_before e old new is =
     ap (λ (s : hb.HbState). s.hb.thread e.thread.0) is
     ∙ own_row (hb.effect e old) e.thread.0 (hb.hb_row e old) old.hb.thread
+
+-- after an outer acquire the thread counts one event more of itself, where the lock's clock counts none beyond
+pub own_opened : (e : Event) (l : LockId) (old new : hb.HbState) → hb.effect e old ≡ Opens l
+    → new ≡ hb.after e old → new.hb.thread e.thread.0 e.thread.0
+    ≡ max (old.hb.thread e.thread.0 e.thread.0) (old.hb.lock l.0 e.thread.0) + 1
+own_opened e l old new opens is =
+    let t : ℕ = e.thread.0 in
+    ap (λ (f : ℕ → ℕ). f t) (own_happens_before e old new is)
+    ∙ bump_same t (join (old.hb.thread t) (brought (hb.effect e old) old.hb))
+    ∙ ap (λ k. join (old.hb.thread t) (brought k old.hb) t + 1) opens
 
 -- what a closing release forgets, in the words of the step
 pub closed_noted : (old new : Sums) (d : ℕ → ℕ → ℕ) (t : ThreadId) (m : LockId)

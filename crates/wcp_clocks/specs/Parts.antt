@@ -9,7 +9,7 @@ use Rattle.event_core.specs.declared.events.Event.{Event}
 use Rattle.event_core.specs.declared.bounds.Limits.{Limits}
 use Rattle.event_core.specs.Closed.{Has}
 use Rattle.event_core.specs.Effect.{Effect, Accesses, Opens, Closes, Joins}
-use Rattle.hb_clocks.specs.State.{HbState, po_row}
+use Rattle.hb_clocks.specs.State.{HbState}
 use Rattle.hb_clocks.specs.Stands.{Admits, IsFew}
 use Rattle.hb_clocks.specs.Tables as hb
 use Rattle.vector_clocks.specs.Work.{Done}
@@ -17,7 +17,7 @@ use Rattle.section_sum.specs.Sums.{noted_of, HasRoom, IsAlone}
 use Rattle.lock_queues.specs.Sections.{latest_counted}
 use Rattle.lock_queues.specs.Queues.{closed_of, opened_of, found_of, has_room}
 use Rattle.wcp_laws.specs.State.{State}
-use Rattle.wcp_laws.specs.Step.{effect, hb_row, after}
+use Rattle.wcp_laws.specs.Step.{effect, after}
 use Rattle.wcp_laws.specs.Conditions.{IsSound, CursorsStand}
 use Rattle.wcp_clocks.specs.declared.parts.Parts.{Parts}
 use Rattle.wcp_clocks.specs.HeldLists.{list_at, held_of, room_at}
@@ -112,11 +112,7 @@ pub record Fits (e : Event) (p : Parts) : Type 0 where
   pub admits : Admits (hb_of p) e.thread e.op
   pub few : IsFew (hb_of p)
   pub sound : IsSound e (state_of p)
-  -- the thread's own number is the same in happens-before and in program order
-  pub own : (hb_of p).hb.thread e.thread.0 e.thread.0 ≡ (hb_of p).po e.thread.0 e.thread.0
-  -- and so it is after the event
-  pub own_next : hb_row e (state_of p) e.thread.0 ≡ po_row e (hb_of p) e.thread.0
-  -- and no thread's own number falls
+  -- no thread's own number falls
   pub own_grows : (u : ℕ) → own_of (state_of p) u ≤ own_of (after e (state_of p)) u
   -- no other thread has an access in an open section on a lock that the thread holds
   pub alone : IsAlone p.sums e.thread.0 (list_at p.held e.thread.0).locks

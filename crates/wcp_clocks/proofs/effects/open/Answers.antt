@@ -1,4 +1,4 @@
-use Rattle.std.proofs.Common.{◌≡◌, ℕ, ap, sym, subst, ◌∙◌, arith, refl}
+use Rattle.std.proofs.Common.{◌≡◌, ℕ, ◌<◌, ap, sym, subst, ◌∙◌, arith, refl}
 use Rattle.event_core.specs.Rows.{with_row}
 use Rattle.event_core.specs.Effect.{Effect, Opens}
 use Rattle.vector_clocks.specs.Work.{Done}
@@ -6,7 +6,8 @@ use Rattle.lock_queues.specs.Queues.{opened_of}
 use Rattle.wcp_laws.specs.Step.{hb_row}
 use Rattle.wcp_clocks.specs.Met.{met_clocks, AreNumbers}
 use Rattle.wcp_clocks.specs.Parts.{hb_of, state_of}
-use Rattle.wcp_clocks.proofs.EffectWords.{own_program_order, own_counted, own_opened}
+use Rattle.wcp_clocks.proofs.Closing.{counts_itself}
+use Rattle.wcp_clocks.proofs.EffectWords.{own_happens_before, own_opened}
 use Rattle.wcp_clocks.proofs.Passing.{joins_told}
 use Rattle.wcp_clocks.proofs.effects.open.Goals as goal
 
@@ -16,7 +17,11 @@ advance-requires-clause-work c =
     let few = c.requires.fits.joins in omega arith
 
 pub mark-requires-clause-some : goal.mark-requires-clause-some
-mark-requires-clause-some c = own_counted c.args.event.now (hb_of c.args.parts.now) _ c.advance.ensures.exact
+mark-requires-clause-some c =
+    let e = c.args.event.now in
+    let old = hb_of c.args.parts.now in
+    subst (λ (f : ℕ → ℕ). 0 < f e.thread.0) (sym (own_happens_before e old _ c.advance.ensures.exact))
+    (counts_itself e old)
 
 pub mark-requires-clause-few : goal.mark-requires-clause-few
 mark-requires-clause-few c =
@@ -24,7 +29,7 @@ mark-requires-clause-few c =
     let old = hb_of c.args.parts.now in
     let next = own_opened e c.args.lock old _ c.requires.effect c.advance.ensures.exact in
     let few = c.requires.fits.few_counts e.thread.0 in
-    let own = c.requires.fits.own in
+    let within = (c.requires.parts.whole.hb_lock c.args.lock.0).within e.thread.0 in
     omega arith
 
 pub returns : goal.returns
@@ -36,8 +41,7 @@ returns c =
     let taken = c.take_lock in
     let position : c.mark.result.position ≡ hb_row e (state_of old) t =
     ap (λ m. m.position) c.mark.ensures.exact
-    ∙ ap (λ (f : ℕ → ℕ). f t) (own_program_order e (hb_of old) _ c.advance.ensures.exact)
-    ∙ sym c.requires.fits.own_next in
+    ∙ ap (λ (f : ℕ → ℕ). f t) (own_happens_before e (hb_of old) _ c.advance.ensures.exact) in
     let w = ap (λ (d : Done). d.joins) taken.ensures.work in
     let j = joins_told e k old taken.new.work c.advance.new.work c.requires.effect c.advance.ensures.work in
     record {

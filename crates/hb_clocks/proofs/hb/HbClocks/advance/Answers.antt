@@ -53,7 +53,7 @@ step c =
     a.ensures.lock_widths)
     (with_items_is s.holds a.new.holds (a.auto.holds ∙ c.deref_mut-4.ensures.len) ∙ a.ensures.holds
     ∙ ap (λ (xs : List Hold). holds_after t.0 op xs) c.deref_mut-4.ensures.value)
-    (subst (λ (v : Tables). IsReady v t op) (sym c.self.view_is) c.requires.ready) c.self.invariant
+    c.self.invariant
 
 pub invariant_of-self : goal.invariant_of-self
 invariant_of-self c = (step c).tables
@@ -61,6 +61,3 @@ invariant_of-self c = (step c).tables
 pub returns-clause-kept : goal.returns-clause-kept
 returns-clause-kept c t op ready =
     (step c).kept t op (subst (λ (v : Tables). IsReady v t op) (sym c.self.view_is) ready)
-
-pub returns-clause-releases : goal.returns-clause-releases
-returns-clause-releases c = (step c).releases

@@ -8,4 +8,4 @@ returns-clause-exact c = grind (arith, common_steps)
 
 pub returns-clause-names : goal.returns-clause-names
 returns-clause-names c log j st latest =
-    names_latest log c.args.thread j c.new.result _ (returns-clause-exact c) (st.po_own c.args.thread) latest
+    names_latest log c.args.thread j c.new.result _ (returns-clause-exact c) (st.hb_own c.args.thread) latest
