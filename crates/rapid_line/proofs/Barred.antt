@@ -1,16 +1,14 @@
 -- The fields between bars whose places are known.
-use Rattle.std.proofs.Common.{◌≡◌, ℕ, ◌+◌, ◌-◌, ◌<◌, ◌≤◌, false, true≢false, List, ◌∷◌, length}
+use Rattle.std.proofs.Common.{◌≡◌, ℕ, ◌+◌, ◌-◌, ◌<◌, ◌≤◌, false, List, length}
 use Rattle.std.proofs.Common.{get_or, take, drop, Some, Ok, refl, sym, ap, ◌∙◌, arith}
-use Rattle.std.specs.Prelude.{nat_lt, ◌≢◌}
-use Rattle.std.proofs.lemmas.List.{get_or-take, get_or-drop, get_or_append_left, length-take-le, length-drop}
-use Rattle.std.proofs.Math.Seq.{get_or-append_seam}
+use Rattle.std.specs.Prelude.{nat_lt}
+use Rattle.std.proofs.lemmas.List.{get_or-take, get_or-drop, length-take-le, length-drop}
 use Rattle.std.proofs.lemmas.Bool.{eqb-true, eq-eqb, le-ltb}
 use Rattle.rapid_line.specs.Cut.{has, Lacks, cut}
 use Rattle.rapid_line.specs.Reading.{fields_of, line_of, and_then, operation_of, names_of}
 use Rattle.rapid_line.specs.declared.marks.Marks.{Marks}
-use Rattle.rapid_line.specs.Marks.{IsMarked, IsBarred, ShowsLine}
-use Rattle.rapid_line.proofs.Cuts.{cut_first_byte, lacks_below, has_here, IsCut}
-use Rattle.rapid_line.proofs.Found.{IsCut-at}
+use Rattle.rapid_line.specs.Marks.{IsMarked, IsBarred}
+use Rattle.rapid_line.proofs.Cuts.{cut_first_byte, lacks_below}
 
 -- what stands after the first bar
 abbrev pub after : ℕ → List ℕ → List ℕ
@@ -88,32 +86,3 @@ barred_marked text m h =
       no_cr = lacks_below 13 text m.end
           (λ k _ lt is. h.no_cr k lt (eqb-true (get_or text k 0) 13 is));
     }
-
--- a line that the bytes show has its marks
-pub marked_shown : (seen : ℕ) (text : List ℕ) → seen ≤ 64 → ShowsLine seen text
-    → (m : Marks) × IsMarked text m × (m.end < seen) × (seen ≤ length text)
-marked_shown seen text few h =
-    let line = h.line in
-    let is : IsCut 10 text line h.rest =
-    IsCut-at 10 text (line, h.rest) h.cuts in
-    let b = h.barred in
-    let before : (k : ℕ) → k < length line → get_or text k 0 ≡ get_or line k 0 = λ k lt.
-    ap (λ xs. get_or xs k 0) is.is ∙ get_or_append_left line (10 ∷ h.rest) 0 k lt in
-    let at_end : get_or text (length line) 0 ≡ 10 =
-    ap (λ xs. get_or xs (length line) 0) is.is ∙ get_or-append_seam line 10 h.rest 0 in
-    let lacks : (x : ℕ) → Lacks x line → (k : ℕ) → k < length line → get_or text k 0 ≢ x = λ x none k lt e.
-    true≢false (sym (has_here x line k lt (sym (before k lt) ∙ e)) ∙ none) in
-    let m : Marks = record { first_bar = h.first_bar; second_bar = h.second_bar; end = length line } in
-    let marked : IsMarked text m = record {
-      ordered = b.ordered;
-      inside = b.inside;
-      near = omega (arith, h.ends);
-      within = omega (arith, h.ends, h.bytes);
-      first_bar = before h.first_bar (omega (arith, b.ordered, b.inside)) ∙ b.first_bar;
-      second_bar = before h.second_bar b.inside ∙ b.second_bar;
-      end = at_end;
-      no_bar = λ k lt apart other e. b.no_bar k lt apart other (sym (before k lt) ∙ e);
-      no_lf = lacks 10 is.lacks;
-      no_cr = lacks 13 b.no_cr;
-    } in
-    (m, marked, h.ends, h.bytes)

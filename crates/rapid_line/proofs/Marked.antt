@@ -1,106 +1,192 @@
 -- What the bits of a look at so many bytes tell.
-use Rattle.std.proofs.Common.{
-  ◌≡◌,
-  ℕ,
-  ◌+◌,
-  ◌<◌,
-  ◌≤◌,
-  Bool,
-  true,
-  true≢false,
-  false,
-  cond,
-  get_or,
-  List,
-  refl,
-  inl,
-  inr,
-  sym,
-  ap,
-  ◌∙◌,
-  arith,
+use Rattle.std.proofs.Common.{◌≡◌, ℕ, zero, suc, ◌+◌, ◌-◌, ◌/◌, ◌%◌, ◌^◌, ◌<◌, ◌≤◌, Bool, true, false, cond}
+use Rattle.std.proofs.Common.{true≢false, eqb, List, [], ◌∷◌, length, get_or, replicate, refl, sym, ap, ◌∙◌}
+use Rattle.std.proofs.Common.{arith, w64, inl, inr}
+use Rattle.std.specs.Prelude.{◌≢◌, ◌==◌, count_ones}
+use Rattle.std.specs.Int.{bit_at, trailing_zeros}
+use Rattle.std.specs.Int.Bits.{bit_and, and_step, and_self}
+use Rattle.std.specs.Int.Count.{count_trailing_zeros, under, ones_step}
+use Rattle.std.specs.Simd.Lanes.{chunk, zip2, mask_l}
+use Rattle.std.proofs.lemmas.Bool.{cases_lt, eqb-true, eq-eqb}
+use Rattle.std.proofs.lemmas.Nat.{ones_le_self, zero_from_ones}
+use Rattle.std.proofs.lemmas.Nat.Bits.{bit_at-suc, bit_at-zero, bit_at_lowest, bit_at_and, bit_at-lt}
+use Rattle.std.proofs.lemmas.Nat.Bits.{bit_at-trailing_zeros}
+use Rattle.std.proofs.lemmas.Simd.{length-chunk, length-replicate, length-zip2, get_or-chunk}
+use Rattle.std.proofs.lemmas.Simd.{get_or-replicate, get_or-zip2, bit_mask_l}
+use Rattle.rapid_line.specs.Marks.{Tell}
+
+-- ---- the lowest bit that is set
+
+-- the bits of the number before b, whose lowest bit is t
+record Before (b t : ℕ) : Type 0 where
+  below : (k : ℕ) → k < t → bit_at (b - 1) k ≡ 1
+  at : bit_at (b - 1) t ≡ 0
+  above : (k : ℕ) → t < k → bit_at (b - 1) k ≡ bit_at b k
+
+before_even : (b t : ℕ) → 0 < b → b % 2 ≡ 0 → Before (b / 2) t → Before b (suc t)
+before_even b t some even half = record {
+  below = below;
+  at = rw (bit_at-suc (b - 1) t, halves) half.at;
+  above = above;
 }
-use Rattle.std.specs.Prelude.{◌==◌, ◌≢◌, ◌⊎◌}
-use Rattle.std.specs.Int.{bit_at}
-use Rattle.std.specs.Simd.Lanes.{chunk}
-use Rattle.rapid_line.specs.declared.marks.Marks.{Marks}
-use Rattle.rapid_line.specs.Marks.{IsMarked}
-use Rattle.std.proofs.lemmas.Simd.{get_or-chunk}
-use Rattle.std.proofs.lemmas.Bool.{eqb-true, eq-eqb, ne_eqb, cases_Bool}
+  where
+    halves : (b - 1) / 2 ≡ b / 2 - 1
+    halves = omega (arith, even)
 
--- bit k tells whether byte k is b, for each byte that is seen
-abbrev pub Tells : ℕ → List ℕ → ℕ → ℕ → Type 0
-Tells seen text b bits =
-    (k : ℕ) → k < seen → bit_at bits k ≡ cond {A = ℕ} (get_or (chunk 0 seen text) k 0 == b) 1 0
+    below : (k : ℕ) → k < suc t → bit_at (b - 1) k ≡ 1
+    below zero lt = omega (arith, bit_at_lowest (b - 1), even, some)
+    below (suc k) lt = rw (bit_at-suc (b - 1) k, halves) (half.below k (omega (arith, lt)))
 
-set_is : (x : Bool) → cond {A = ℕ} x 1 0 ≡ 1 → x ≡ true
-set_is true e = refl
-set_is false e = absurd (omega arith)
+    above : (k : ℕ) → suc t < k → bit_at (b - 1) k ≡ bit_at b k
+    above zero lt = absurd (omega arith)
+    above (suc k) lt = rw (bit_at-suc (b - 1) k, bit_at-suc b k, halves) (half.above k (omega (arith, lt)))
 
-byte_at : (seen : ℕ) (text : List ℕ) (k : ℕ) → k < seen → get_or (chunk 0 seen text) k 0 ≡ get_or text k 0
-byte_at seen text k lt =
-    let same : 0 + k ≡ k = omega arith in
-    get_or-chunk 0 seen text k 0 lt ∙ ap (λ j. get_or text j 0) same
+before_odd : (b : ℕ) → b % 2 ≡ 1 → Before b 0
+before_odd b odd = record {
+  below = λ k lt. absurd (omega (arith, lt));
+  at = omega (arith, bit_at_lowest (b - 1), odd);
+  above = above;
+}
+  where
+    above : (k : ℕ) → 0 < k → bit_at (b - 1) k ≡ bit_at b k
+    above zero lt = absurd (omega arith)
+    above (suc k) lt =
+        let halves : (b - 1) / 2 ≡ b / 2 = omega (arith, odd) in
+        rw (bit_at-suc (b - 1) k, bit_at-suc b k, halves) refl
 
-pub stands : (seen : ℕ) (text : List ℕ) (b bits k : ℕ) → Tells seen text b bits → k < seen
-    → bit_at bits k ≡ 1 → get_or text k 0 ≡ b
-stands seen text b bits k tells lt set =
-    sym (byte_at seen text k lt)
-    ∙ eqb-true (get_or (chunk 0 seen text) k 0) b (set_is _ (sym (tells k lt) ∙ set))
+before_by : (b t d : ℕ) → 0 < b → b % 2 ≡ d → (d ≡ 0 → Before (b / 2) t) → Before b (under d t)
+before_by b t zero some is half = before_even b t some is (half refl)
+before_by b t (suc d) some is half = before_odd b (omega (arith, is))
 
-pub lacks : (seen : ℕ) (text : List ℕ) (b bits k : ℕ) → Tells seen text b bits → k < seen
-    → bit_at bits k ≡ 0 → get_or text k 0 ≢ b
-lacks seen text b bits k tells lt clear = λ is.
-    let here : get_or (chunk 0 seen text) k 0 ≡ b = byte_at seen text k lt ∙ is in
-    let one : bit_at bits k ≡ 1 = tells k lt
-    ∙ ap (λ t. cond {A = ℕ} t 1 0) (eq-eqb (get_or (chunk 0 seen text) k 0) b here) in
-    omega arith
+before : (w b : ℕ) → 0 < b → b < 2 ^ w → Before b (count_trailing_zeros w b)
+unfolding count_trailing_zeros
+before zero b some few = absurd (omega (arith, some, few))
+before (suc w) b some few =
+    before_by b (count_trailing_zeros w (b / 2)) (b % 2) some refl
+    (λ even. before w (b / 2) (omega (arith, even, some)) (omega (arith, few)))
 
-pub sets : (seen : ℕ) (text : List ℕ) (b bits k : ℕ) → Tells seen text b bits → k < seen
-    → get_or text k 0 ≡ b → bit_at bits k ≡ 1
-sets seen text b bits k tells lt is =
-    tells k lt ∙ ap (λ t. cond {A = ℕ} t 1 0)
-    (eq-eqb (get_or (chunk 0 seen text) k 0) b (byte_at seen text k lt ∙ is))
+-- ---- and a number without it
 
-pub clears : (seen : ℕ) (text : List ℕ) (b bits k : ℕ) → Tells seen text b bits → k < seen
-    → get_or text k 0 ≢ b → bit_at bits k ≡ 0
-clears seen text b bits k tells lt apart =
-    tells k lt ∙ ap (λ t. cond {A = ℕ} t 1 0)
-    (ne_eqb (get_or (chunk 0 seen text) k 0) b (λ is. apart (sym (byte_at seen text k lt) ∙ is)))
-
--- the place that was found is that of the lowest bit that is set
-pub lowest_is : (bits found at : ℕ) → at < 64 → (found < 64 → bit_at bits found ≡ 1)
-    → ((k : ℕ) → k < found → bit_at bits k ≡ 0) → bit_at bits at ≡ 1
-    → ((k : ℕ) → k < at → bit_at bits k ≡ 0) → found ≡ at
-lowest_is bits found at near set below one none =
-    let not_after : at < found → ⊥ = λ lt. let zero = below at lt in omega arith in
-    let not_before : found < at → ⊥ = λ lt.
-    let zero = none found lt in
-    let first = set (omega arith) in
-    omega arith in
-    omega (arith, not_after, not_before)
-
-pub marks_end : (seen : ℕ) (text : List ℕ) (bits found : ℕ) (m : Marks) → seen ≤ 64
-    → Tells seen text 10 bits → (found < 64 → bit_at bits found ≡ 1)
-    → ((k : ℕ) → k < found → bit_at bits k ≡ 0) → IsMarked text m → m.end < seen → found ≡ m.end
-marks_end seen text bits found m few tells set below h near =
-    lowest_is bits found m.end (omega (arith, near, few)) set below
-    (sets seen text 10 bits m.end tells near h.end)
-    (λ k lt. clears seen text 10 bits k tells (omega (arith, lt, near)) (h.no_lf k lt))
-
-pub marks_first : (seen : ℕ) (text : List ℕ) (bits found : ℕ) (m : Marks) → seen ≤ 64
-    → Tells seen text 124 bits → (found < 64 → bit_at bits found ≡ 1)
-    → ((k : ℕ) → k < found → bit_at bits k ≡ 0) → IsMarked text m → m.end < seen → found ≡ m.first_bar
-marks_first seen text bits found m few tells set below h near =
-    lowest_is bits found m.first_bar (omega (arith, h.ordered, h.inside, near, few)) set below
-    (sets seen text 124 bits m.first_bar tells (omega (arith, h.ordered, h.inside, near)) h.first_bar)
-    (λ k lt. clears seen text 124 bits k tells (omega (arith, lt, h.ordered, h.inside, near))
-    (h.no_bar k (omega (arith, lt, h.ordered, h.inside)) (λ e. omega (arith, e, lt))
-    (λ e. omega (arith, e, lt, h.ordered))))
-
-pub same_or_apart : (a b : ℕ) → (a ≡ b) ⊎ (a ≢ b)
-same_or_apart a b =
-    elim (cases_Bool (a == b)) [
-      | inl same ↦ inl (eqb-true a b same)
-      | inr differs ↦ inr (λ e. true≢false (sym (eq-eqb a b e) ∙ differs))
+-- the others stay
+pub others_kept : (b : ℕ) → 0 < b → b < 2 ^ 64 → (k : ℕ) → k ≢ trailing_zeros w64 b
+    → bit_at (bit_and b (b - 1)) k ≡ bit_at b k
+others_kept b some few k other =
+    let both = bit_at_and b (b - 1) k in
+    elim (cases_lt k (trailing_zeros w64 b)) [
+      | inl lt ↦ omega (arith, both, (bit_at-trailing_zeros w64 b some few).2 k lt)
+      | inr le ↦ omega (arith, both, (before 64 b some few).above k (omega (arith, le, other)))
     ]
+
+-- what is set then stands above it
+pub others_later : (b : ℕ) → 0 < b → b < 2 ^ 64 → (k : ℕ) → bit_at (bit_and b (b - 1)) k ≡ 1
+    → trailing_zeros w64 b < k
+others_later b some few k set =
+    let t = trailing_zeros w64 b in
+    let both = bit_at_and b (b - 1) k in
+    let apart : k ≢ t = λ is.
+    let none = ap (bit_at (b - 1)) is ∙ (before 64 b some few).at in
+    omega (arith, both, set, none) in
+    let not_below : k < t → ⊥ = λ lt.
+    omega (arith, both, set, (bit_at-trailing_zeros w64 b some few).2 k lt) in
+    omega (arith, apart, not_below)
+
+-- and it is one bit fewer
+pub one_fewer : (w b : ℕ) → 0 < b → b < 2 ^ w → count_ones b ≡ count_ones (bit_and b (b - 1)) + 1
+one_fewer zero b some few = absurd (omega (arith, some, few))
+one_fewer (suc w) b some few =
+    let rest = bit_and b (b - 1) in
+    let step = and_step b (b - 1) in
+    elim (cases_lt (b % 2) 1) [
+      | inl even ↦
+          let halves : (b - 1) / 2 ≡ b / 2 - 1 = omega (arith, even) in
+          let half : rest / 2 ≡ bit_and (b / 2) (b / 2 - 1) =
+          omega (arith, step, even) ∙ ap (bit_and (b / 2)) halves in
+          let later = one_fewer w (b / 2) (omega (arith, even, some)) (omega (arith, few)) in
+          omega (arith, ones_step b, ones_step rest, ap count_ones half, later, step, even)
+      | inr odd ↦
+          let halves : (b - 1) / 2 ≡ b / 2 = omega (arith, odd) in
+          let half : rest / 2 ≡ b / 2 =
+          omega (arith, step, odd) ∙ ap (bit_and (b / 2)) halves ∙ and_self (b / 2) in
+          omega (arith, ones_step b, ones_step rest, ap count_ones half, step, odd)
+    ]
+
+-- of one bit alone no other is set
+pub only_one : (b : ℕ) → b < 2 ^ 64 → count_ones b ≡ 1 → (k : ℕ) → k ≢ trailing_zeros w64 b
+    → bit_at b k ≡ 0
+only_one b few one k other =
+    let some : 0 < b = omega (arith, one, ones_le_self b) in
+    let none : bit_and b (b - 1) ≡ 0 =
+    zero_from_ones (bit_and b (b - 1)) (omega (arith, one, one_fewer 64 b some few)) in
+    sym (others_kept b some few k other) ∙ ap (λ n. bit_at n k) none ∙ bit_at-zero k
+
+-- ---- one look
+
+equal_at : (seen : ℕ) (text : List ℕ) (byte k : ℕ) → seen ≤ length text → k < seen
+    → get_or (zip2 eqb (chunk 0 seen text) (replicate seen byte)) k false ≡ (get_or text k 0 == byte)
+equal_at seen text byte k long lt =
+    let seen_bytes = length-chunk 0 seen text (omega (arith, long)) in
+    let splats = length-replicate seen byte in
+    let place : 0 + k ≡ k = omega arith in
+    let at : get_or (chunk 0 seen text) k 0 ≡ get_or text k 0 =
+    get_or-chunk 0 seen text k 0 lt ∙ ap (λ j. get_or text j 0) place in
+    get_or-zip2 eqb (chunk 0 seen text) (replicate seen byte) k 0 0 false (omega arith) (omega arith)
+    ∙ rw (at, get_or-replicate seen k byte 0 lt) refl
+
+lane_within : (xs : List Bool) (k : ℕ) → get_or xs k false ≡ true → k < length xs
+lane_within [] k e = absurd cc
+lane_within (x ∷ xs) zero e = omega arith
+lane_within (x ∷ xs) (suc k) e = let rest = lane_within xs k e in omega (arith, rest)
+
+bit_is : (x : Bool) → cond {A = ℕ} x 1 0 ≡ 1 → x ≡ true
+bit_is true e = refl
+bit_is false e = absurd (omega arith)
+
+no_bit : (x : Bool) → cond {A = ℕ} x 1 0 ≡ 0 → x ≡ false
+no_bit true e = absurd (omega arith)
+no_bit false e = refl
+
+-- the bits of a comparison with a byte tell where it stands
+pub compared : (seen : ℕ) (text : List ℕ) (byte : ℕ) → seen ≤ length text
+    → Tell seen text byte (mask_l (zip2 eqb (chunk 0 seen text) (replicate seen byte)))
+compared seen text byte long =
+    let same = zip2 eqb (chunk 0 seen text) (replicate seen byte) in
+    let lanes = length-zip2 eqb (chunk 0 seen text) (replicate seen byte)
+    (length-chunk 0 seen text (omega (arith, long)) ∙ sym (length-replicate seen byte)) in
+    let seen_bytes = length-chunk 0 seen text (omega (arith, long)) in
+    record {
+      set = λ k one.
+          let here : get_or same k false ≡ true =
+          bit_is (get_or same k false) (sym (bit_mask_l same k) ∙ one) in
+          let lt : k < seen = omega (arith, lane_within same k here, lanes, seen_bytes) in
+          (lt, eqb-true (get_or text k 0) byte (sym (equal_at seen text byte k long lt) ∙ here));
+      clear = λ k lt none is.
+          let there : get_or same k false ≡ false =
+          no_bit (get_or same k false) (sym (bit_mask_l same k) ∙ none) in
+          true≢false (sym (eq-eqb (get_or text k 0) byte is)
+          ∙ sym (equal_at seen text byte k long lt) ∙ there);
+    }
+
+-- and so do those of the first line
+pub told_in_line : (seen : ℕ) (text : List ℕ) (byte bits ends : ℕ) → byte ≢ 10 → ends ≢ 0 → ends < 2 ^ 64
+    → Tell seen text 10 ends → Tell seen text byte bits
+    → Tell (trailing_zeros w64 ends) text byte (bit_and bits (ends - 1))
+told_in_line seen text byte bits ends no_lf some few lfs h =
+    let t = trailing_zeros w64 ends in
+    let lowest = bit_at-trailing_zeros w64 ends (omega (arith, some)) few in
+    let prior = before 64 ends (omega (arith, some)) few in
+    record {
+      set = λ k one.
+          let both = bit_at_and bits (ends - 1) k in
+          let in_bits : bit_at bits k ≡ 1 =
+          omega (arith, both, one, bit_at-lt bits k, bit_at-lt (ends - 1) k) in
+          let in_ends : bit_at (ends - 1) k ≡ 1 =
+          omega (arith, both, one, bit_at-lt bits k, bit_at-lt (ends - 1) k) in
+          let is = (h.set k in_bits).1 in
+          let apart : k ≢ t = λ same. omega (arith, in_ends, ap (bit_at (ends - 1)) same ∙ prior.at) in
+          let not_after : t < k → ⊥ = λ lt.
+          no_lf (sym is ∙ (lfs.set k (sym (prior.above k lt) ∙ in_ends)).1) in
+          (omega (arith, apart, not_after), is);
+      clear = λ k lt none.
+          h.clear k (omega (arith, lt, (lfs.set t lowest.1).0))
+          (omega (arith, bit_at_and bits (ends - 1) k, none, prior.below k lt, bit_at-lt bits k));
+    }

@@ -1,8 +1,14 @@
 -- Where the bars of a line stand, and where it ends.
-use Rattle.std.specs.Prelude.{◌≡◌, ◌≢◌, ℕ, ◌<◌, ◌≤◌, List, length, slice_index, Some, IfSome}
+use Rattle.std.specs.Prelude.{◌≡◌, ◌≢◌, ℕ, ◌<◌, ◌≤◌, List, length, slice_index, IfSome}
+use Rattle.std.specs.Int.{bit_at}
 use Rattle.rapid_line.specs.declared.marks.Marks.{Marks}
 use Rattle.rapid_line.specs.declared.marks.Line.{Line}
-use Rattle.rapid_line.specs.Cut.{Lacks, cut}
+use Rattle.rapid_line.specs.Cut.{Lacks}
+
+-- bit k tells whether byte k of the text is this byte, for the bytes that are seen
+pub record Tell (seen : ℕ) (text : List ℕ) (byte bits : ℕ) : Type 0 where
+  pub set : (k : ℕ) → bit_at bits k ≡ 1 → (k < seen) × (slice_index text k ≡ byte)
+  pub clear : (k : ℕ) → k < seen → bit_at bits k ≡ 0 → slice_index text k ≢ byte
 
 -- the first line of the text ends at the end, has these two bars and no other, and no CR
 pub record IsMarked (text : List ℕ) (m : Marks) : Type 0 where
@@ -26,17 +32,6 @@ pub record IsBarred (bytes : List ℕ) (first second : ℕ) : Type 0 where
   pub second_bar : slice_index bytes second ≡ 124
   pub no_bar : (k : ℕ) → k < length bytes → k ≢ first → k ≢ second → slice_index bytes k ≢ 124
   pub no_cr : Lacks 13 bytes
-
--- so many bytes of the text are there, and show its first line whole: it has two bars and no CR
-pub record ShowsLine (seen : ℕ) (text : List ℕ) : Type 0 where
-  pub line : List ℕ
-  pub rest : List ℕ
-  pub first_bar : ℕ
-  pub second_bar : ℕ
-  pub cuts : cut 10 text ≡ Some (line, rest)
-  pub barred : IsBarred line first_bar second_bar
-  pub ends : length line < seen
-  pub bytes : seen ≤ length text
 
 -- what is said of the line's bars is so
 abbrev pub IsKnown : Line → Type 0

@@ -13,5 +13,5 @@ mod words;
 pub use bytes::{contains, cut_at, without_cr};
 pub use line_cutter::{CutLine, LineCutter, LineTooLong};
 pub use lines::{NamedLine, one_content, one_reading, read_barred, read_line, word_at};
-pub use marks::{Line, first_line};
+pub use marks::Line;
 pub use words::{LineFault, Word};

@@ -14,7 +14,7 @@ ghost use Rattle.rapid_line.specs.Lines.{Lines, no_bytes, most, text_of, whole_o
 ghost use Rattle.rapid_line.specs.Lines.{Ends, IsTooLong};
 
 use crate::bytes::cut_at;
-use crate::marks::{Line, first_line, longer_first_line};
+use crate::marks::{Line, first_line};
 use arrayvec::ArrayVec;
 use std::marker::Model;
 
@@ -51,7 +51,7 @@ fn cut_line(bytes: &[u8]) -> Option<(Line<'_>, &[u8])>
     ensures cut { option_map (λ p. (p.0.bytes.now, p.1.now)) result ≡ cut 10 bytes.now }
     ensures known { IfSome result (λ p. IsKnown p.0) }
 {
-    if let Some(found) = first_line(bytes) {
+    if let Some(found) = first_line::<32>(bytes) {
         return Some(found);
     }
     search_line(bytes)
@@ -63,7 +63,7 @@ fn search_line(bytes: &[u8]) -> Option<(Line<'_>, &[u8])>
     ensures cut { option_map (λ p. (p.0.bytes.now, p.1.now)) result ≡ cut 10 bytes.now }
     ensures known { IfSome result (λ p. IsKnown p.0) }
 {
-    if let Some(found) = longer_first_line(bytes) {
+    if let Some(found) = first_line::<64>(bytes) {
         return Some(found);
     }
     let (line, rest) = cut_at(bytes, b'\n')?;

@@ -1,41 +1,46 @@
 //! The first line of a text, found with its bars by one look at 32 or 64 bytes.
-ghost use Rattle.std.specs.Prelude.{◌≡◌, ◌≢◌, ◌==◌, ℕ, ◌<◌, ◌≤◌, slice_index, if◌then◌else◌};
-ghost use Rattle.std.specs.Prelude.{length, Some, None, IfSome};
-ghost use Rattle.std.specs.Int.{bit_at};
+ghost use Rattle.std.specs.Prelude.{◌≡◌, ◌≢◌, ℕ, ◌+◌, ◌<◌, ◌≤◌, count_ones, length, Some, IfSome};
+ghost use Rattle.std.specs.Int.{bit_at, trailing_zeros, w64};
 ghost use Rattle.rapid_line.specs.Cut.{cut};
-ghost use Rattle.rapid_line.specs.Marks.{IsMarked, IsKnown, ShowsLine};
-ghost use Rattle.rapid_line.specs.declared.marks.Marks.{Marks as AllMarks};
+ghost use Rattle.rapid_line.specs.Marks.{IsMarked, IsKnown, Tell};
 
 use std::simd::prelude::*;
 
-/// Bit k says whether byte k is this byte.
+/// Bit k says whether byte k of the text is this byte.
 #[inline(always)]
-fn places<const SEEN: usize>(bytes: Simd<u8, SEEN>, byte: u8) -> u64
-    requires { SEEN ≤ 64 }
-    ensures { (k : ℕ) → k < SEEN → bit_at result k ≡ (if slice_index bytes.entry k == byte then 1 else 0) }
+fn places<const SEEN: usize>(text: &[u8], byte: u8) -> u64
+    requires few { SEEN ≤ 64 }
+    requires long { SEEN ≤ length text.now }
+    ensures { Tell SEEN text.now byte result }
 {
-    bytes.simd_eq(Simd::splat(byte)).to_bitmask()
+    Simd::<u8, SEEN>::from_slice(text)
+        .simd_eq(Simd::splat(byte))
+        .to_bitmask()
 }
 
-/// The lowest bit that is set; 64 where none is.
+/// The bits without the lowest that is set.
 #[inline(always)]
-fn lowest(bits: u64) -> usize
-    ensures set { result < 64 → bit_at bits result ≡ 1 }
-    ensures below { (k : ℕ) → k < result → bit_at bits k ≡ 0 }
+fn without_lowest(bits: u64) -> u64
+    requires { bits ≢ 0 }
+    ensures later { (k : ℕ) → bit_at result k ≡ 1 → trailing_zeros w64 bits < k }
+    ensures kept { (k : ℕ) → k ≢ trailing_zeros w64 bits → bit_at result k ≡ bit_at bits k }
+    ensures fewer { count_ones bits ≡ count_ones result + 1 }
 {
-    if bits == 0 {
-        return 64;
-    }
-    bits.trailing_zeros() as usize
+    bits & (bits - 1)
 }
 
+/// Bit k says whether byte k of the first line is this byte, which is no LF. Where the LFs stand is known.
 #[inline(always)]
-fn without(bits: u64, bit: usize) -> u64
-    requires { bit < 64 }
-    ensures clear { bit_at result bit ≡ 0 }
-    ensures kept { (k : ℕ) → k < 64 → k ≢ bit → bit_at result k ≡ bit_at bits k }
+fn places_in_line<const SEEN: usize>(text: &[u8], byte: u8, ends: u64) -> u64
+    requires few { SEEN ≤ 64 }
+    requires long { SEEN ≤ length text.now }
+    requires ends { Tell SEEN text.now 10 ends }
+    requires some { ends ≢ 0 }
+    requires no_lf { byte ≢ 10 }
+    ensures { Tell (trailing_zeros w64 ends) text.now byte result }
 {
-    bits & !(1 << bit)
+    // The bits below the lowest LF's, and those of later LFs, which are no such byte.
+    places::<SEEN>(text, byte) & (ends - 1)
 }
 
 /// Where the two bars of the first line stand, and where it ends.
@@ -50,29 +55,23 @@ struct Marks {
 #[inline(always)]
 fn marks_of<const SEEN: usize>(text: &[u8]) -> Option<Marks>
     requires { SEEN ≤ 64 }
-    ensures some { IfSome result (IsMarked text.now) }
-    ensures none { result ≡ None → (m : AllMarks) → IsMarked text.now m → m.end < SEEN
-        → length text.now < SEEN }
+    ensures { IfSome result (IsMarked text.now) }
 {
     if text.len() < SEEN {
         return None;
     }
-    let bytes = Simd::<u8, SEEN>::from_slice(text);
-    let bars = places(bytes, b'|');
-    let end = lowest(places(bytes, b'\n'));
-    let first_bar = lowest(bars);
-    if end >= SEEN || first_bar >= end || lowest(places(bytes, b'\r')) < end {
+    let ends = places::<SEEN>(text, b'\n');
+    if ends == 0 {
         return None;
     }
-    let other_bars = without(bars, first_bar);
-    let second_bar = lowest(other_bars);
-    if second_bar >= end || lowest(without(other_bars, second_bar)) < end {
+    let bars = places_in_line::<SEEN>(text, b'|', ends);
+    if bars.count_ones() != 2 || places_in_line::<SEEN>(text, b'\r', ends) != 0 {
         return None;
     }
     Some(Marks {
-        first_bar,
-        second_bar,
-        end,
+        first_bar: bars.trailing_zeros() as usize,
+        second_bar: without_lowest(bars).trailing_zeros() as usize,
+        end: ends.trailing_zeros() as usize,
     })
 }
 
@@ -83,13 +82,15 @@ pub struct Line<'a> {
     pub bars: Option<(usize, usize)>,
 }
 
-/// The first line of the text with its bars, and what follows it, where so many bytes show it.
+/// The first line of the text with its bars, and what follows it.
+///
+/// None, unless the text has so many bytes, and the line ends within these, has two bars and no CR. Another
+/// line is found by its LF, and its bars when it is read.
 #[inline(always)]
-fn line_within<const SEEN: usize>(text: &[u8]) -> Option<(Line<'_>, &[u8])>
+pub(crate) fn first_line<const SEEN: usize>(text: &[u8]) -> Option<(Line<'_>, &[u8])>
     requires { SEEN ≤ 64 }
     ensures cut { IfSome result (λ p. cut 10 text.now ≡ Some (p.0.bytes.now, p.1.now)) }
     ensures known { IfSome result (λ p. IsKnown p.0) }
-    ensures none { result ≡ None → ShowsLine SEEN text.now → ⊥ }
 {
     let marks = marks_of::<SEEN>(text)?;
     let line = Line {
@@ -97,28 +98,4 @@ fn line_within<const SEEN: usize>(text: &[u8]) -> Option<(Line<'_>, &[u8])>
         bars: Some((marks.first_bar, marks.second_bar)),
     };
     Some((line, &text[marks.end + 1..]))
-}
-
-/// The first line of the text with its bars, and what follows it.
-///
-/// None, unless the text has 32 bytes at least, and the line ends within these, has two bars and no CR.
-/// Another line is found by its LF, and its bars when it is read.
-#[inline(always)]
-pub fn first_line(text: &[u8]) -> Option<(Line<'_>, &[u8])>
-    ensures cut { IfSome result (λ p. cut 10 text.now ≡ Some (p.0.bytes.now, p.1.now)) }
-    ensures known { IfSome result (λ p. IsKnown p.0) }
-    ensures none { result ≡ None → ShowsLine 32 text.now → ⊥ }
-{
-    line_within::<32>(text)
-}
-
-/// The same by a look at 64 bytes, for a line that 32 do not show.
-///
-/// None, unless the text has 64 bytes at least, and the line ends within these, has two bars and no CR.
-pub(crate) fn longer_first_line(text: &[u8]) -> Option<(Line<'_>, &[u8])>
-    ensures cut { IfSome result (λ p. cut 10 text.now ≡ Some (p.0.bytes.now, p.1.now)) }
-    ensures known { IfSome result (λ p. IsKnown p.0) }
-    ensures none { result ≡ None → ShowsLine 64 text.now → ⊥ }
-{
-    line_within::<64>(text)
 }
