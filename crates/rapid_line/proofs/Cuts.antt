@@ -1,7 +1,7 @@
 -- Lists of bytes, cut at a byte.
 use Rattle.std.proofs.Common.{◌≡◌, ℕ, zero, suc, ◌+◌, ◌-◌, ◌<◌, true, false, List, [], ◌∷◌, ◌++◌, length}
 use Rattle.std.proofs.Common.{get_or, take, drop, Option, Some, None, refl, sym, ap, subst, ◌∙◌, arith, inl}
-use Rattle.std.proofs.Common.{inr, add-one, zero-add}
+use Rattle.std.proofs.Common.{inr, add-one, zero-add, Bool}
 use Rattle.std.specs.Prelude.{◌||◌, ◌==◌, ◌&&◌, nat_lt, option_map, IfSome}
 use Rattle.std.specs.Option.{is_some}
 use Rattle.std.proofs.Math.Bool.{or-false, or-true}
@@ -184,6 +184,22 @@ has-last b (x ∷ xs) = elim (x == b) as
 pub after_last-end : (b : ℕ) (xs : List ℕ) → after_last b (xs ++ b ∷ []) ≡ []
 after_last-end b [] = rw (eq-eqb b b refl) refl
 after_last-end b (x ∷ xs) = rw (has-last b xs, or-true (x == b)) (after_last-end b xs)
+
+-- of the bytes before, what follows the last one counts alone
+pub after_last-append : (b : ℕ) (xs ys : List ℕ)
+    → after_last b (xs ++ ys) ≡ after_last b (after_last b xs ++ ys)
+after_last-append b [] ys = refl
+after_last-append b (x ∷ xs) ys =
+    elim (cases_Bool (x == b || has b xs)) [
+      | inl met ↦
+          let later : (x == b || has b (xs ++ ys)) ≡ true = has_longer (x == b) met in
+          rw (met, later) (after_last-append b xs ys)
+      | inr unmet ↦ rw unmet refl
+    ]
+  where
+    has_longer : (here : Bool) → (here || has b xs) ≡ true → (here || has b (xs ++ ys)) ≡ true
+    has_longer true h = refl
+    has_longer false h = has-append b xs ys ∙ ap (λ (t : Bool). t || has b ys) h
 
 -- a search that cuts at the byte
 pub ruleset cutting = (cut_first_byte, cut_nowhere)

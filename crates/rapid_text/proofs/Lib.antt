@@ -15,3 +15,4 @@ pub mod NameGrowth
 pub mod Joined
 pub mod Begins
 pub mod FeedLaws
+pub mod Taken

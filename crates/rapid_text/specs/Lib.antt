@@ -12,3 +12,5 @@ pub mod Pushing
 pub mod Pulling
 pub mod Reading
 pub mod Feeding
+pub mod Taking
+pub mod TakingLaws

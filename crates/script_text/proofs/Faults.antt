@@ -1,19 +1,19 @@
 -- Why there is no script.
-use Rattle.std.proofs.Common.{◌≡◌, ◌≢◌, ℕ, ◌≤◌, ◌++◌, List, [], Option, Some, None, Ok, ap, ◌∙◌, sym, subst}
+use Rattle.std.proofs.Common.{◌≡◌, ◌≢◌, ℕ, ◌≤◌, ◌++◌, List, [], Option, Some, None, Ok, Err, ap, ◌∙◌, sym, subst}
 use Rattle.std.proofs.Common.{Bool, true, ◌⊎◌, inl, inr, refl, arith, length, append-nil}
 use Rattle.std.specs.Prelude.{IfSome, IsSomeAnd}
 use Rattle.std.specs.Io.KnownBytes.{Consumes, IsAtEnd}
 use Rattle.event_core.specs.Bounds.{Bounds}
-use Rattle.rapid_line.specs.Cut.{Lacks, after_last}
 use Rattle.rapid_line.specs.Lines.{lines_of}
-use Rattle.rapid_line.proofs.Cuts.{after_last-Lacks}
 use Rattle.rapid_text.specs.Feeding.{Pulled, Whole}
+use Rattle.rapid_text.specs.Taking.{lines_place}
+use Rattle.rapid_text.proofs.Taken.{stops_short}
 use Rattle.script_text.specs.declared.causes.ScriptCause.{ScriptCause}
 use Rattle.script_text.specs.declared.causes.ScriptCause.TheVariants as causes
 use Rattle.script_text.specs.declared.causes.ScriptFault.{ScriptFault}
 use Rattle.script_text.specs.Scripts.{Parsed, IsDraft, begun, script_of}
 use Rattle.script_text.specs.Readings.{Progress, unread, judged, Takes, Stops, EndStops, is_of_line}
-use Rattle.script_text.specs.Readings.{HasFault, HasNoneBefore, Incomplete, IsFault}
+use Rattle.script_text.specs.Readings.{HasFault, HasNoneBefore, Incomplete, IsFault, ReadFails}
 use Rattle.script_text.proofs.Steps.{judge_from}
 use Rattle.script_text.proofs.Legal.{draft_judged, draft_begun}
 
@@ -112,19 +112,12 @@ module _ (limits : Bounds) (left rest : Option (List ℕ)) (turns : ℕ) (failed
           → n ≡ now.cutter.unfinished
           → IsFault limits left rest turns failed (record { line = n; cause = causes.Read }) causes.Read
       read_fault n p at =
-          let t = taken p.bytes p.so.0 in
-          let lf : Lacks 10 now.cutter.kept = t.unended refl in
-          let kept : now.cutter.kept ≡ after_last 10 p.bytes =
-          sym (after_last-Lacks 10 now.cutter.kept lf)
-          ∙ ap (λ (b : List ℕ). after_last 10 b) (sym (append-nil now.cutter.kept)) ∙ t.kept in
-          record {
-            came = p.bytes;
-            bytes = p.came;
-            why = p.so.1;
-            at = let lines = t.lines in omega (arith, lines, at);
-            short = subst (λ (b : List ℕ). length b ≤ 1025) kept (t.short (omega arith));
-            before = λ more g e.
-                let from = judge_from now.parsed now.cutter.unfinished (lines_of (now.cutter.kept ++ more)) g
-                (sym (t.law more) ∙ e) in
-                omega (arith, from, at);
-          }
+          subst (λ (m : ℕ). ReadFails limits left rest turns failed m) (sym at)
+          (stops_short left rest turns failed (lines_place now.cutter) IsRead
+          (λ came. (more : List ℕ) (g : ScriptFault) → script_of limits (came ++ more) ≡ Err g
+          → now.cutter.unfinished ≤ g.line) p (λ bytes is_read.
+          let t = taken bytes is_read in (
+            t.advances,
+            λ more g e. judge_from now.parsed now.cutter.unfinished
+                (lines_of (now.cutter.kept ++ more)) g (sym (t.law more) ∙ e),
+          )))

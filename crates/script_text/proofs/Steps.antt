@@ -2,17 +2,15 @@
 use Rattle.std.proofs.Common.{◌≡◌, ℕ, ◌+◌, ◌<◌, ◌≤◌, ◌++◌, true, List, [], ◌∷◌, length, Ok, Err, refl, ap}
 use Rattle.std.proofs.Common.{◌∙◌, sym, subst, arith, append_assoc, append-nil, ne_eqb, lt-ltb}
 use Rattle.std.specs.Prelude.{Result}
-use Rattle.rapid_line.specs.Cut.{Lacks, count, content, after_last}
+use Rattle.rapid_line.specs.Cut.{Lacks, content}
 use Rattle.rapid_line.specs.Lines.{Lines, lines_of, to_come, most, Cuts, Keeps, IsTooLong}
-use Rattle.rapid_line.proofs.Cuts.{count-append, count-Lacks, after_last-end}
-use Rattle.rapid_line.proofs.LineLaws.{first_cut, end_within}
 use Rattle.rapid_text.proofs.LongLines.{content_long}
+use Rattle.rapid_text.proofs.Taken.{cuts_advance, keeps_advance}
 use Rattle.script_text.specs.declared.causes.ScriptCause.{ScriptCause}
 use Rattle.script_text.specs.declared.causes.ScriptCause.TheVariants as causes
 use Rattle.script_text.specs.declared.causes.ScriptFault.{ScriptFault}
 use Rattle.script_text.specs.Forms.{Fails, line_of}
 use Rattle.script_text.specs.Scripts.{Parsed, judge, next_line, after_content}
-use Rattle.script_text.specs.ReadingLaws.{after_last-append}
 use Rattle.script_text.specs.Readings.{Progress, judged, Takes, StopsAt, Stops, is_of_line}
 
 -- ---- lines that are taken
@@ -30,27 +28,14 @@ module _ (p : Progress) (piece : List ℕ) where
       → after_content p.parsed p.cutter.unfinished (content line) ≡ Ok t
       → Takes p piece rest (record { parsed = t; cutter = new })
   takes_line t line rest new c is =
-      let cut = first_cut piece c.end rest (sym c.first) in
       let n = p.cutter.unfinished in
-      let front = p.cutter.kept ++ c.end in
       record {
         law = λ more.
             let others = to_come new (rest ++ more) in
             ap (λ (ls : List (List ℕ)). judge p.parsed n ls) (c.law more)
             ∙ first_judged p.parsed n line others (Ok t) is
             ∙ ap (λ (m : ℕ). judge t m others) (sym c.unfinished);
-        lines =
-            let parts = ap (λ (b : List ℕ). count 10 b) cut.is ∙ count-append 10 c.end (10 ∷ rest) in
-            let none = count-Lacks 10 c.end cut.lacks in
-            omega (arith, c.unfinished, parts, none);
-        kept = ap (λ (b : List ℕ). after_last 10 (b ++ rest)) (c.kept ∙ sym (after_last-end 10 front))
-            ∙ sym (after_last-append 10 (front ++ 10 ∷ []) rest)
-            ∙ ap (λ (b : List ℕ). after_last 10 b)
-            (append_assoc front (10 ∷ []) rest ∙ append_assoc p.cutter.kept c.end (10 ∷ rest)
-            ∙ ap (λ (b : List ℕ). p.cutter.kept ++ b) (sym cut.is));
-        unended = λ h. subst (λ (b : List ℕ). Lacks 10 b) (sym c.kept) refl;
-        short = λ h. subst (λ (b : List ℕ). length b ≤ 1025) (sym c.kept) (omega arith);
-        taken = let within = end_within piece c.end rest (sym c.first) in omega (arith, c.taken, within);
+        advances = cuts_advance p.cutter new piece line rest c;
       }
 
   -- no line ended
@@ -62,11 +47,7 @@ module _ (p : Progress) (piece : List ℕ) where
         ∙ ap (λ (b : List ℕ). judge p.parsed new.unfinished (lines_of b))
         (sym (append_assoc p.cutter.kept piece more))
         ∙ ap (λ (b : List ℕ). judge p.parsed new.unfinished (lines_of (b ++ more))) (sym k.kept);
-    lines = let none = count-Lacks 10 piece k.unended in omega (arith, k.unfinished, none);
-    kept = ap (λ (b : List ℕ). after_last 10 b) (append-nil new.kept ∙ k.kept);
-    unended = λ h. lf;
-    short = λ h. few;
-    taken = omega (arith, k.taken);
+    advances = keeps_advance p.cutter new piece k (lf, few);
   }
 
 -- ---- faults

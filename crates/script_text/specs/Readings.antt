@@ -1,11 +1,10 @@
 -- A script that is read in pieces: what is still to be judged, and why the reading stops.
 use Rattle.std.specs.Prelude.{◌≡◌, ◌≢◌, ℕ, ◌+◌, ◌<◌, ◌≤◌, ◌⊎◌, Bool, true, false, List, [], ◌++◌, length}
 use Rattle.std.specs.Prelude.{IfSome, Option, Result, Ok, Err}
-use Rattle.std.specs.Io.KnownBytes.{Consumes}
 use Rattle.event_core.specs.Bounds.{Bounds}
-use Rattle.rapid_line.specs.Cut.{Lacks, count, after_last}
 use Rattle.rapid_line.specs.Lines.{Lines, no_bytes, most, to_come}
 use Rattle.rapid_text.specs.Tables.{Tables}
+use Rattle.rapid_text.specs.Taking.{Advances, StopsShort, lines_place}
 use Rattle.script_text.specs.declared.lines.ScriptLine.{ScriptLine}
 use Rattle.script_text.specs.declared.causes.ScriptCause.{ScriptCause}
 use Rattle.script_text.specs.declared.causes.ScriptCause.TheVariants as causes
@@ -33,12 +32,7 @@ judged p more = judge p.parsed p.cutter.unfinished (to_come p.cutter more)
 -- the bytes were taken but for the rest, and what is still to be judged is the same
 pub record Takes (old : Progress) (bytes rest : List ℕ) (new : Progress) : Type 0 where
   pub law : (more : List ℕ) → judged old (bytes ++ more) ≡ judged new (rest ++ more)
-  -- each LF ends a line, and what follows the last one is kept
-  pub lines : new.cutter.unfinished + count 10 rest ≡ old.cutter.unfinished + count 10 bytes
-  pub kept : after_last 10 (new.cutter.kept ++ rest) ≡ after_last 10 (old.cutter.kept ++ bytes)
-  pub unended : Lacks 10 old.cutter.kept → Lacks 10 new.cutter.kept
-  pub short : length old.cutter.kept ≤ 1025 → length new.cutter.kept ≤ 1025
-  pub taken : new.cutter.taken + length rest ≡ old.cutter.taken + length bytes
+  pub advances : Advances (lines_place old.cutter) bytes rest (lines_place new.cutter)
 
 -- the cause is one that a line has
 abbrev pub is_of_line : ScriptCause → Bool
@@ -66,17 +60,11 @@ pub record EndStops (old : Progress) (f : ScriptFault) : Type 0 where
 
 -- ---- why there is no script
 
--- a read failed, or there were as many bytes as turns at least, and line n is the one whose end was not seen
-pub record ReadFails (limits : Bounds) (left rest : Option (List ℕ)) (turns : ℕ) (read_failed : Bool) (n : ℕ)
-    : Type 0 where
-  pub came : List ℕ
-  pub bytes : Consumes left rest came
-  pub why : (read_failed ≡ true) ⊎ (turns ≤ length came)
-  pub at : n ≡ 1 + count 10 came
-  -- with one byte more than this it is too long
-  pub short : length (after_last 10 came) ≤ 1025
-  -- whatever follows, no line that came whole has a cause
-  pub before : (more : List ℕ) (g : ScriptFault) → script_of limits (came ++ more) ≡ Err g → n ≤ g.line
+-- a read failed, or the turns are used up. Line n is the one whose end was not seen, and whatever follows, no
+-- line that came whole has a cause.
+abbrev pub ReadFails : Bounds → Option (List ℕ) → Option (List ℕ) → ℕ → Bool → ℕ → Type 0
+ReadFails limits left rest turns failed n = StopsShort left rest turns failed n (λ came.
+    (more : List ℕ) (g : ScriptFault) → script_of limits (came ++ more) ≡ Err g → n ≤ g.line)
 
 -- no line has a cause, and line n is the first that names a thread which is not reached
 pub record IsUnforked (limits : Bounds) (text : List ℕ) (n : ℕ) : Type 0 where

@@ -6,6 +6,7 @@ use Rattle.std.specs.Io.KnownBytes.{Appends, Consumes}
 use Rattle.std.proofs.Math.Logic.{∥∥₁_elim, ∥∥₁_map, ∥∥₁_prop}
 use Rattle.event_core.specs.declared.bounds.Limits.{Limits}
 use Rattle.rapid_text.specs.Faults.{fault_line}
+use Rattle.rapid_text.proofs.Taken.{why_short}
 use Rattle.script_drive.specs.Faults.{IsFaultOf}
 use Rattle.script_drive.specs.declared.faults.DriveFault.{DriveFault}
 use Rattle.script_drive.specs.declared.faults.DriveFault.TheVariants as drive
@@ -15,24 +16,16 @@ use Rattle.script_text.specs.declared.causes.ScriptCause.TheVariants as causes
 use Rattle.script_text.specs.declared.causes.ScriptFault.{ScriptFault}
 use Rattle.script_text.specs.declared.lines.ScriptLine.{ScriptLine}
 use Rattle.script_text.specs.Readings.{IsFault}
-use Rattle.trace_report.proofs.Whole.{many_bytes}
 use Rattle.trace_report.specs.Words.{refusal_word}
 use Rattle.wcp_tool.specs.Running.{PerformsRun}
 use Rattle.wcp_tool.specs.ScriptRuns.{IsOfText, NamesStop, TellsFault, TellsRefusal, TellsRefused, TellsStop}
-
--- a read failed, or there were as many bytes as turns
-why_short : (left rest : Option (List ℕ)) (turns : ℕ) (failed : Bool) (came : List ℕ)
-    → Consumes left rest came → (failed ≡ true) ⊎ (turns ≤ length came)
-    → (failed ≡ true) ⊎ IfSome left (λ text. turns ≤ length text)
-why_short left rest turns failed came bytes (inl bad) = inl bad
-why_short left rest turns failed came bytes (inr many) = inr (many_bytes left rest came turns bytes many)
 
 pub cut_short : (limits : Limits) (left rest : Option (List ℕ)) (turns : ℕ) (failed : Bool) (f : ScriptFault)
     → f.cause ≡ Read → IsFault limits left rest turns failed f f.cause
     → (failed ≡ true) ⊎ IfSome left (λ text. turns ≤ length text)
 cut_short limits left rest turns failed f read is =
     let r = subst (λ (c : ScriptCause). IsFault limits left rest turns failed f c) read is in
-    why_short left rest turns failed r.came r.bytes r.why
+    why_short left rest turns failed f.line _ r
 
 -- the refusal that is told is one of the script
 pub refusal_told : (m : Limits) (lines : List ScriptLine) (f : DriveFault) (old new : Option (List ℕ))
