@@ -1,5 +1,5 @@
 -- A pass whose thread tries a call again.
-use Rattle.std.proofs.Common.{◌≡◌, [], ◌∷◌, ◌++◌, None, Result, Ok, Err, IfOk, IfErr, ap, subst, ◌∙◌}
+use Rattle.std.proofs.Common.{◌≡◌, [], ◌∷◌, ◌++◌, Result, Ok, Err, IfOk, IfErr, ap, subst, ◌∙◌}
 use mathlib.Core.List.{IsPrefix}
 use Rattle.event_core.specs.declared.bounds.Limits.{Limits}
 use Rattle.event_core.specs.declared.ids.LockId.{LockId}
@@ -16,7 +16,6 @@ use Rattle.live_monitor.specs.Calls.{acquire_by, Accepted, Declined, HasComeTo}
 -- after tries that were not accepted the pass is the same thread's, has seen what it had, and made no step
 pub record HasTried (before now : PassView) : Type 0 where
   pub same_thread : now.thread ≡ before.thread
-  pub none_due : now.due ≡ None
   pub begins : IsPrefix before.seen now.seen
   pub mine : now.mine ≡ before.mine
 
@@ -24,11 +23,8 @@ pub record HasTried (before now : PassView) : Type 0 where
 pub later_of_all : {m : Limits} {p q r : PassView} → HasTried p q → HasComeTo m q r → HasComeTo m p r
 later_of_all tried later = record {
   same_thread = later.same_thread ∙ tried.same_thread;
-  none_due = later.none_due;
   begins = prefix_trans _ _ _ tried.begins later.begins;
-  formed = later.formed;
-  own = later.own;
-  own_events = later.own_events;
+  is_pass = later.is_pass;
 }
 
 pub accepted_of_all : (m : Limits) {p q : PassView} (r : PassView) (l : LockId) (site : SiteId)

@@ -1,7 +1,7 @@
 //! The start: a monitor before it has a name, and then the one that threads share.
 ghost use Rattle.std.specs.Prelude.{◌≡◌, ◌↔◌, [], IfOk, IfErr};
 ghost use Rattle.event_core.specs.declared.bounds.Roots.TheVariants.{Free, OnlyMain};
-ghost use Rattle.log_pass.specs.Views.{main, new_pass};
+ghost use Rattle.log_pass.specs.Passes.{main, new_pass};
 
 use crate::book::Book;
 use crate::shared::Shared;

@@ -1,3 +1,4 @@
+pub mod Passes
 pub mod Views
 pub mod Rule
 pub mod Kinds

@@ -2,13 +2,11 @@
 //! and a clause reads an array of theirs as a list of any length.
 use event_core::{Step, ThreadId};
 
-/// What one pass knows: the steps that it has seen, those of them that its thread made, and the thread
-/// that it forked and whose pass is not made yet.
+/// What one pass knows: the steps that it has seen, and those of them that its thread made.
 pub struct PassView {
     pub thread: ThreadId,
     pub seen: [Step; 0],
     pub mine: [Step; 0],
-    pub due: Option<ThreadId>,
 }
 
 /// What one seat knows: the keeper's list, if the keeper sits here, the passes that are here, and the

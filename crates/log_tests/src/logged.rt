@@ -8,7 +8,7 @@ ghost use Rattle.event_core.specs.Steps.{forked_by, log_of};
 ghost use Rattle.event_core.specs.declared.bounds.Roots.TheVariants.{OnlyMain};
 ghost use Rattle.traced_mem.specs.OfLog.{StandsFor};
 
-use event_core::{Call, Event, Limits, Op, Roots, SiteId, ThreadId};
+use event_core::{Call, Event, Limits, Op, Roots, SiteId, Step, ThreadId};
 use log_pass::{Blank, Keeper, Name, NoRoom, Pass, Published};
 use std::alloc::Global;
 use std::process::Abort;
@@ -69,7 +69,7 @@ pub fn make<R: Abort>(rt: &R, memory: &mut Memory, thread: ThreadId, op: Op, arg
     call.event_with(value)
 }
 
-/// The pass after a call of its thread, as under a lock.
+/// The pass after a call of its thread, as under a lock, but for a fork.
 pub fn perform<N: Name, R: Abort>(
     rt: &R,
     published: &Published<N>,
@@ -79,13 +79,31 @@ pub fn perform<N: Name, R: Abort>(
     op: Op,
     arg: u64,
 ) -> Pass<N>
-    requires none_due { pass.due ≡ None }
+    requires no_fork { forked_by op ≡ None }
     requires limits { memory.old.limits ≡ N.limits }
     requires stands { StandsFor memory.old (log_of keeper.old) }
-    ensures due { result.due ≡ forked_by op }
     ensures limits { memory.new.limits ≡ N.limits }
     ensures stands { StandsFor memory.new (log_of keeper.new) }
 {
     let event = make(rt, memory, pass.thread(), op, arg);
-    published.publish(keeper, pass, &event)
+    published.publish(keeper, pass, Step::One(event))
+}
+
+/// The pass after its thread forked the child, and the child's pass.
+pub fn perform_fork<N: Name, R: Abort>(
+    rt: &R,
+    published: &Published<N>,
+    keeper: &mut Keeper<N>,
+    memory: &mut Memory,
+    pass: Pass<N>,
+    child: ThreadId,
+) -> (Pass<N>, Pass<N>)
+    requires limits { memory.old.limits ≡ N.limits }
+    requires stands { StandsFor memory.old (log_of keeper.old) }
+    ensures child { result.1.thread ≡ child }
+    ensures limits { memory.new.limits ≡ N.limits }
+    ensures stands { StandsFor memory.new (log_of keeper.new) }
+{
+    let event = make(rt, memory, pass.thread(), Op::Fork(child), 0);
+    published.publish_fork(keeper, pass, event)
 }

@@ -1,9 +1,9 @@
 //! Passes of threads that run beside each other.
-ghost use Rattle.std.specs.Prelude.{◌≡◌, [], None, IfOk};
+ghost use Rattle.std.specs.Prelude.{◌≡◌, []};
 ghost use Rattle.event_core.specs.Steps.{log_of};
 ghost use Rattle.traced_mem.specs.OfLog.{StandsFor};
 
-use super::logged::{blank, limits, memory, perform};
+use super::logged::{blank, limits, memory, perform, perform_fork};
 use super::passes::expect_found;
 use event_core::{Op, ThreadId, VarId};
 use log_pass::{Blank, Keeper, Name, Pass, Published};
@@ -23,25 +23,14 @@ fn children<N: Name, R: Abort>(
     pass: Pass<N>,
     children: &mut Vec<Pass<N>>,
 ) -> Result<Pass<N>, AllocError>
-    requires none_due { pass.due ≡ None }
     requires limits { memory.old.limits ≡ N.limits }
     requires stands { StandsFor memory.old (log_of keeper.old) }
-    ensures none_due { IfOk result (λ pass. pass.due ≡ None) }
     ensures limits { memory.new.limits ≡ N.limits }
     ensures stands { StandsFor memory.new (log_of keeper.new) }
 {
     let mut pass = pass;
     for child in 1..9 {
-        let parent = perform(
-            rt,
-            published,
-            keeper,
-            memory,
-            pass,
-            Op::Fork(ThreadId(child)),
-            0,
-        );
-        let (parent, child) = published.split(parent);
+        let (parent, child) = perform_fork(rt, published, keeper, memory, pass, ThreadId(child));
         if children.push(child).is_err() {
             drop(parent);
             return Err(AllocError);
@@ -59,7 +48,6 @@ fn stores<N: Name, R: Abort>(
     memory: &mut Memory,
     pass: Pass<N>,
 ) -> Pass<N>
-    requires none_due { pass.due ≡ None }
     requires limits { memory.old.limits ≡ N.limits }
     requires stands { StandsFor memory.old (log_of keeper.old) }
 {
@@ -118,7 +106,6 @@ fn look_beside_stores<N: Name + Send + Sync, R: Threads + Abort + Sync>(
     memory: &mut Memory,
     pass: Pass<N>,
 ) -> Result<(), AllocError>
-    requires none_due { pass.due ≡ None }
     requires limits { memory.old.limits ≡ N.limits }
     requires stands { StandsFor memory.old (log_of keeper.old) }
 {

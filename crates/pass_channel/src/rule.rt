@@ -39,7 +39,7 @@ pub trait Addressee {
 }
 
 impl Addressee for Brand {
-    ghost use Rattle.log_pass.specs.Views.{main};
+    ghost use Rattle.log_pass.specs.Passes.{main};
 
     ghost thread = { main };
 }

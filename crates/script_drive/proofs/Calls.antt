@@ -76,9 +76,8 @@ pub join_does : (m : Limits) (script : List ScriptLine) (line : ScriptLine) (cal
 join_does m script line call p q child reply u act op own done later accepted its over =
     record {
       thread = later.same_thread;
-      none_due = later.none_due;
       begins = later.begins;
-      formed = later.formed;
+      formed = later.is_pass.formed;
       mine = event_more m (join_by p.thread child.thread call.site) p q reply accepted
           ∙ ap (λ (l : List Event). map unread (log_of p.mine) ++ l) event;
       settled = λ v test.
@@ -90,7 +89,7 @@ join_does m script line call p q child reply u act op own done later accepted it
         (op ∙ ap Join (sym done.thread))
 
     events : own_events u (log_of q.seen) ≡ log_of child.mine
-    events = sym (ap log_of its ∙ (own_logs child.thread q.seen later.formed.are_steps
+    events = sym (ap log_of its ∙ (own_logs child.thread q.seen later.is_pass.formed.are_steps
         ∙ ap (λ (t : ThreadId). own_events t (log_of q.seen)) done.thread))
 
     settled : Settled script (log_of q.seen) u

@@ -34,7 +34,6 @@ done_more : (m : Limits) (script : List ScriptLine) (t : ThreadId) (p q : PassVi
     (l : ScriptLine) → HasDone script t p lines → Does m script l p q → HasDone script t q (lines ++ l ∷ [])
 done_more m script t p q lines l h does = record {
   thread = does.thread ∙ h.thread;
-  none_due = does.none_due;
   follows = does.mine ∙ (ap (λ (es : List Event). es ++ asked_by l.act) h.follows ∙ sym (asked-snoc lines l));
   settled = settled;
 }
@@ -125,4 +124,4 @@ all_done script lines t p i same le h =
 
 pub last_done : (script : List ScriptLine) (t : ThreadId) (p : PassView)
     → HasDone script t p (lines_by t script) → Done script t p
-last_done script t p h = record { thread = h.thread; none_due = h.none_due; follows = h.follows }
+last_done script t p h = record { thread = h.thread; follows = h.follows }

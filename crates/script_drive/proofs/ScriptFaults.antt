@@ -104,7 +104,7 @@ declined_fits m script l p q why next thread later mine reason =
             later = next.later;
             place = next.place;
             log = log_of q.seen;
-            well_formed = later.formed.well_formed;
+            well_formed = later.is_pass.formed.well_formed;
             own = subst (λ (es : List Event). Follows es next.before) events next.done;
             refused = refused.0;
           }) ∣₁
@@ -113,7 +113,7 @@ declined_fits m script l p q why next thread later mine reason =
   where
     events : log_of p.mine ≡ own_events (thread_of l) (log_of q.seen)
     events = ap log_of (sym mine)
-        ∙ (later.own_events
+        ∙ (later.is_pass.own_events
         ∙ ap (λ (t : ThreadId). own_events t (log_of q.seen)) (later.same_thread ∙ sym thread))
 
 -- a call is refused by what it does and whose it is

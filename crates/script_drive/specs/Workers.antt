@@ -1,5 +1,5 @@
 -- What is known of a thread that runs its lines.
-use Rattle.std.specs.Prelude.{◌≡◌, true, List, [], ◌∷◌, ◌++◌, map, None}
+use Rattle.std.specs.Prelude.{◌≡◌, true, List, [], ◌∷◌, ◌++◌, map}
 use Rattle.std.specs.List.{filter_map, list_any}
 use mathlib.Core.List.{IsPrefix}
 use Rattle.event_core.specs.declared.ids.ThreadId.{ThreadId}
@@ -15,13 +15,11 @@ use Rattle.script_drive.specs.Lines.{unread, asked_by, Follows, lines_by}
 -- the first pass of a thread
 pub record IsFirst (t : ThreadId) (p : PassView) : Type 0 where
   pub thread : p.thread ≡ t
-  pub none_due : p.due ≡ None
   pub no_step : p.mine ≡ []
 
 -- the last pass of a thread: its steps are those of its lines of the script
 pub record Done (script : List ScriptLine) (t : ThreadId) (p : PassView) : Type 0 where
   pub thread : p.thread ≡ t
-  pub none_due : p.due ≡ None
   pub follows : Follows (log_of p.mine) (lines_by t script)
 
 -- u was joined, and its events are those of its lines of the script
@@ -38,7 +36,6 @@ AreSettled script log lines =
 pub record HasDone (script : List ScriptLine) (t : ThreadId) (p : PassView) (lines : List ScriptLine)
     : Type 0 where
   pub thread : p.thread ≡ t
-  pub none_due : p.due ≡ None
   pub follows : Follows (log_of p.mine) lines
   pub settled : AreSettled script (log_of p.seen) lines
 
@@ -46,7 +43,6 @@ pub record HasDone (script : List ScriptLine) (t : ThreadId) (p : PassView) (lin
 pub record Does (limits : Limits) (script : List ScriptLine) (line : ScriptLine) (p q : PassView)
     : Type 0 where
   pub thread : q.thread ≡ p.thread
-  pub none_due : q.due ≡ None
   pub begins : IsPrefix p.seen q.seen
   pub formed : Formed limits q.seen
   pub mine : map unread (log_of q.mine) ≡ map unread (log_of p.mine) ++ asked_by line.act

@@ -5,7 +5,7 @@ ghost use Rattle.event_core.specs.declared.bounds.Roots.TheVariants.{OnlyMain};
 ghost use Rattle.event_core.specs.declared.ids.ThreadId.{ThreadId as Thread};
 ghost use Rattle.event_core.specs.Refusal.{WellFormed};
 ghost use Rattle.event_core.specs.Steps.{log_of, own_events};
-ghost use Rattle.log_pass.specs.Views.{main, new_pass};
+ghost use Rattle.log_pass.specs.Passes.{main, new_pass};
 ghost use Rattle.script_text.specs.Lines.{joins as line_joins};
 ghost use Rattle.script_drive.specs.Faults.{IsAnswered, IsFaultOf, IsHaltOf};
 ghost use Rattle.script_drive.specs.Lines.{lines_by, Follows};

@@ -1,5 +1,5 @@
 //! What a worker does: the calls of its thread's lines, in order.
-ghost use Rattle.std.specs.Prelude.{◌≡◌, ◌∷◌, [], true, Err, List, None, Contains};
+ghost use Rattle.std.specs.Prelude.{◌≡◌, ◌∷◌, [], true, Err, List, Contains};
 ghost use Rattle.std.specs.Prelude.{IfErr, IfOk, IsErrAnd, IsFalse, IsOk, IsSome, IsTrue, OnOk};
 ghost use Rattle.event_core.specs.declared.ids.ThreadId.{ThreadId as Thread};
 ghost use Rattle.event_core.specs.declared.replies.Refusal.TheVariants.{Held};
@@ -110,7 +110,6 @@ fn make_call<S: Text, G: Gate, R: Wait>(
     line: &ScriptLine,
     links: &mut Links<S>,
 ) -> Result<Pass<S>, Halt>
-    requires none_due { pass.due ≡ None }
     requires thread { thread_of line.now ≡ pass.thread }
     requires next { IsNext S.script.lines line.now pass }
     requires serves { (later : List Line) × Serves links.old (line.now ∷ later) }
@@ -164,7 +163,7 @@ pub(crate) fn run_lines<S: Text, G: Gate, R: Wait>(
     pass: Pass<S>,
     links: &mut Links<S>,
 ) -> Result<Pass<S>, Halt>
-    requires new { (pass.due ≡ None) × (pass.mine ≡ []) }
+    requires new { pass.mine ≡ [] }
     requires serves { Serves links.old (lines_by pass.thread S.script.lines) }
     ensures done { IfOk result (Done S.script.lines pass.thread) }
     ensures settled { IfOk result

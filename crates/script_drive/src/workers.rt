@@ -1,7 +1,7 @@
 //! What workers are started with. All channels are made before the first line.
 ghost use Rattle.std.specs.Prelude.{◌≡◌, ◌∷◌, ◌++◌, [], Contains, IfOk, IfSome, OnOk};
 ghost use Rattle.std.specs.Option.{ForSome};
-ghost use Rattle.log_pass.specs.Views.{main};
+ghost use Rattle.log_pass.specs.Passes.{main};
 ghost use Rattle.script_drive.specs.Faults.{IsForkLine};
 ghost use Rattle.script_drive.specs.Lines.{lines_by};
 ghost use Rattle.script_drive.specs.Workers.{forked, joined, Serves};

@@ -4,7 +4,7 @@ ghost use Rattle.std.specs.List.{list_any};
 ghost use mathlib.Core.List.{IsPrefix};
 ghost use Rattle.event_core.specs.Refusal.{joins};
 ghost use Rattle.event_core.specs.Steps.{log_of, own, own_events};
-ghost use Rattle.log_pass.specs.Views.{new_pass};
+ghost use Rattle.log_pass.specs.Passes.{new_pass};
 ghost use Rattle.live_monitor.specs.Calls.{fork_by, join_by, Accepted, Declined, HasComeTo};
 
 use crate::handle::{TracedThread, take};

@@ -2,8 +2,7 @@
 //!
 //! A handle is the pass of one thread beside the monitor that it belongs to. Its calls take it by `&mut` and
 //! answer, so that `?` loses nothing: a call that is refused leaves the handle as it was, but for what it has
-//! seen. What is proved of the calls of a pass is said here of the handle. No call but `new` asks for
-//! anything: it asks that the pass has no child due.
+//! seen. What is proved of the calls of a pass is said here of the handle. No call asks for anything.
 //!
 //! Contracts see a handle as its pass: the `thread`, the steps that it has `seen`, and its own as `mine`.
 #![tactic(auto)]

@@ -1,5 +1,5 @@
 //! An acquire that is tried again.
-ghost use Rattle.std.specs.Prelude.{◌≡◌, ◌≤◌, None, IfOk, IfErr};
+ghost use Rattle.std.specs.Prelude.{◌≡◌, ◌≤◌, IfOk, IfErr};
 ghost use Rattle.event_core.specs.declared.ids.ThreadId.{ThreadId as Thread};
 ghost use Rattle.event_core.specs.declared.replies.Refusal.TheVariants.{Held};
 ghost use Rattle.live_monitor.specs.Calls.{acquire_by, Accepted, Declined, HasComeTo};
@@ -24,7 +24,6 @@ impl<N: Name> Shared<N> {
         site: SiteId,
         tries: &mut Tries,
     ) -> (Pass<N>, Result<Reply, Refusal>)
-        requires none_due { pass.due ≡ None }
         ensures later { HasComeTo N.limits pass result.0 }
         ensures accepted { IfOk result.1
             (λ reply. Accepted N.limits (acquire_by pass.thread lock site) pass result.0 reply) }

@@ -1,6 +1,6 @@
 use Rattle.std.proofs.Common.{sym, subst}
 use Rattle.event_core.specs.Steps.{log_of}
-use Rattle.log_pass.specs.Views.{main}
+use Rattle.log_pass.specs.Passes.{main}
 use Rattle.script_text.specs.Scripts.{Parsed}
 use Rattle.script_drive.specs.Lines.{lines_by}
 use Rattle.script_drive.specs.Workers.{AreSettled}
