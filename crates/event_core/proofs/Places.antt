@@ -1,5 +1,5 @@
 -- What stands at a place of a list that grows at its end.
-use Rattle.std.proofs.Common.{◌≡◌, ℕ, zero, suc, List, [], ◌∷◌, ◌++◌, ◌⊎◌, Some, length, refl, ap}
+use Rattle.std.proofs.Common.{◌≡◌, ℕ, zero, suc, List, [], ◌∷◌, ◌++◌, ◌⊎◌, Some, length, refl, sym, ap, subst}
 use Rattle.std.specs.Prelude.{slice_get}
 use mathlib.Core.Logic.{inl, inr}
 
@@ -25,3 +25,13 @@ front_or_last (z ∷ zs) x (suc j) y is = go (front_or_last zs x j y is)
         → (slice_get zs j ≡ Some y) ⊎ ((suc j ≡ length (z ∷ zs)) × (y ≡ x))
     go (inl h) = inl h
     go (inr h) = inr (ap suc h.0, h.1)
+
+-- a fact of each element, and of one more
+pub each_push : {A : Type 0} (P : A → Type 0) (xs : List A) (y : A)
+    → ((i : ℕ) (x : A) → slice_get xs i ≡ Some x → P x) → P y
+    → (i : ℕ) (x : A) → slice_get (xs ++ y ∷ []) i ≡ Some x → P x
+each_push P xs y h last i x at = go (front_or_last xs y i x at)
+  where
+    go : (slice_get xs i ≡ Some x) ⊎ ((i ≡ length xs) × (x ≡ y)) → P x
+    go (inl old) = h i x old
+    go (inr new) = subst P (sym new.1) last

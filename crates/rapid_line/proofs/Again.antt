@@ -1,22 +1,6 @@
 -- What was spelled is read.
-use Rattle.std.proofs.Common.{
-  ◌≡◌,
-  ℕ,
-  ◌≤◌,
-  false,
-  List,
-  [],
-  ◌∷◌,
-  ◌++◌,
-  length,
-  Some,
-  Ok,
-  refl,
-  sym,
-  ap,
-  ◌∙◌,
-  arith,
-}
+use Rattle.std.proofs.Common.{◌≡◌, ℕ, ◌≤◌, false, List, [], ◌∷◌, ◌++◌, length, Some, Ok, refl, sym, ap, ◌∙◌}
+use Rattle.std.proofs.Common.{arith}
 use Rattle.std.specs.Prelude.{◌==◌, nat_lt}
 use Rattle.std.proofs.lemmas.Bool.{le-ltb, ne_eqb, or_from}
 use Rattle.std.proofs.lemmas.List.{length-append}
@@ -62,8 +46,9 @@ operation_ahead field w rest e = rw e (rw (word_again w) refl)
 pub operation_again : (w : Word) (argument : List ℕ)
     → operation_of (operation w argument) ≡ Ok (w, argument)
 operation_again w argument =
-    rw (cut_at 40 (spelling w) (argument ++ 41 ∷ []) (spelling_lacks w))
-    (rw (before_end_at 41 argument) (rw (word_again w) refl))
+    operation_ahead (operation w argument) w (argument ++ 41 ∷ [])
+    (cut_at 40 (spelling w) (argument ++ 41 ∷ []) (spelling_lacks w))
+    ∙ rw (before_end_at 41 argument) refl
 
 pub fields_again : (bytes t o l : List ℕ) → HasFields bytes t o l → fields_of bytes ≡ Ok (t, o, l)
 fields_again bytes t o l h =

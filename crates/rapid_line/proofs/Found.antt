@@ -1,52 +1,18 @@
 -- What was read was spelled so.
-use Rattle.std.proofs.Common.{
-  ◌≡◌,
-  ℕ,
-  cond,
-  List,
-  [],
-  ◌∷◌,
-  ◌++◌,
-  length,
-  Option,
-  Some,
-  None,
-  Ok,
-  refl,
-  sym,
-  ap,
-  subst,
-  ◌∙◌,
-  inl,
-  inr,
-}
+use Rattle.std.proofs.Common.{◌≡◌, ℕ, cond, List, [], ◌∷◌, ◌++◌, length, Option, Some, None, Ok, refl, sym}
+use Rattle.std.proofs.Common.{ap, subst, ◌∙◌, inl, inr}
 use Rattle.std.specs.Prelude.{◌||◌, ◌==◌, nat_lt, IfSome}
 use Rattle.std.proofs.lemmas.Bool.{or_parts, ltb-false, cases_Bool}
 use Rattle.std.specs.Str.{bytes_eq}
 use Rattle.std.proofs.lemmas.Slice.Eq.{bytes_eq-Decides}
 use Rattle.rapid_line.specs.declared.words.Word.{Word}
 use Rattle.rapid_line.specs.declared.words.Word.TheVariants.{Load, Store, Acquire, Release, Fork, Join}
-use Rattle.rapid_line.specs.declared.words.LineFault.TheVariants.{
-  LineTooLong,
-  StrayCr,
-  FewFields,
-  ManyFields,
-  BadOp,
-  EmptyName,
-  LongName,
-}
+use Rattle.rapid_line.specs.declared.words.LineFault.TheVariants.{LineTooLong, StrayCr, FewFields, ManyFields}
+use Rattle.rapid_line.specs.declared.words.LineFault.TheVariants.{BadOp, EmptyName, LongName}
 use Rattle.rapid_line.specs.Cut.{has, Lacks, cut, before_end}
 use Rattle.rapid_line.specs.Grammar.{Named, IsNamed, spelling, operation, content_of}
 use Rattle.rapid_line.specs.Causes.{HasFields}
-use Rattle.rapid_line.specs.Reading.{
-  word_of,
-  or_fault,
-  unless,
-  fields_of,
-  operation_of,
-  line_of,
-  ok_named,
-}
+use Rattle.rapid_line.specs.Reading.{word_of, fields_of, operation_of, line_of, ok_named}
 use Rattle.rapid_line.proofs.Cuts.{Lacks-left, Lacks-right, IsCut, IsCut-from, before_end-Some}
 use Rattle.rapid_line.proofs.Steps.{unless_ok, or_fault_ok, and_then_ok, ok_inj, positive}
 
@@ -90,12 +56,9 @@ IsCut-at b xs p e = let P : Option (List ℕ × List ℕ) → Type 0 = λ o. IfS
 pub fields_found : (bytes : List ℕ) (f : List ℕ × List ℕ × List ℕ) → fields_of bytes ≡ Ok f
     → HasFields bytes f.0 f.1 f.2
 fields_found bytes f e =
-    let p = or_fault_ok FewFields (cut 124 bytes)
-    (λ p. or_fault FewFields (cut 124 p.1) (λ q. unless ManyFields (has 124 q.1)
-    (Ok (p.0, q.0, q.1)))) f e in
-    let q = or_fault_ok FewFields (cut 124 p.0.1)
-    (λ q. unless ManyFields (has 124 q.1) (Ok (p.0.0, q.0, q.1))) f p.2 in
-    let r = unless_ok ManyFields (has 124 q.0.1) (Ok (p.0.0, q.0.0, q.0.1)) f q.2 in
+    let p = or_fault_ok FewFields (cut 124 bytes) _ f e in
+    let q = or_fault_ok FewFields (cut 124 p.0.1) _ f p.2 in
+    let r = unless_ok ManyFields (has 124 q.0.1) _ f q.2 in
     let c = IsCut-at 124 bytes p.0 p.1 in
     let d = IsCut-at 124 p.0.1 q.0 q.1 in
     let lack : Lacks 124 q.0.1 = r.0 in
@@ -124,17 +87,15 @@ word_found bytes w e =
 pub operation_found : (field : List ℕ) (o : Word × List ℕ) → operation_of field ≡ Ok o
     → field ≡ operation o.0 o.1
 operation_found field o e =
-    let p = or_fault_ok BadOp (cut 40 field) (λ p. or_fault BadOp (before_end 41 p.1)
-    (λ argument. or_fault BadOp (word_of p.0) (λ w. Ok (w, argument)))) o e in
-    let q = or_fault_ok BadOp (before_end 41 p.0.1)
-    (λ argument. or_fault BadOp (word_of p.0.0) (λ w. Ok (w, argument))) o p.2 in
-    let r = or_fault_ok BadOp (word_of p.0.0) (λ w. Ok (w, q.0)) o q.2 in
+    let p = or_fault_ok BadOp (cut 40 field) _ o e in
+    let r = or_fault_ok BadOp (word_of p.0.0) _ o p.2 in
+    let q = or_fault_ok BadOp (before_end 41 p.0.1) _ o r.2 in
     let c = IsCut-at 40 field p.0 p.1 in
     let d = before_end-Some 41 p.0.1 q.0 q.1 in
     let w = word_found p.0.0 r.0 r.1 in
     let whole : field ≡ operation r.0 q.0 = c.is ∙ ap (λ (t : List ℕ). p.0.0 ++ 40 ∷ t) d ∙ ap
     (λ (t : List ℕ). t ++ 40 ∷ (q.0 ++ 41 ∷ [])) w in
-    let same : (r.0, q.0) ≡ o = ok_inj (r.0, q.0) o r.2 in
+    let same : (r.0, q.0) ≡ o = ok_inj (r.0, q.0) o q.2 in
     let P : Word × List ℕ → Type 0 = λ g. field ≡ operation g.0 g.1 in subst P same whole
 
 pub read_found : (bytes : List ℕ) (e : Named) → Lacks 10 bytes → line_of bytes ≡ ok_named e

@@ -1,25 +1,6 @@
 -- A content has one split into its parts, and no split says why.
-use Rattle.std.proofs.Common.{
-  ◌≡◌,
-  ℕ,
-  ◌+◌,
-  ◌<◌,
-  true,
-  List,
-  [],
-  ◌∷◌,
-  ◌++◌,
-  Result,
-  Ok,
-  Err,
-  refl,
-  sym,
-  ap,
-  ◌∙◌,
-  arith,
-  inl,
-  inr,
-}
+use Rattle.std.proofs.Common.{◌≡◌, ℕ, ◌+◌, ◌<◌, true, List, [], ◌∷◌, ◌++◌, Ok, Err, refl, sym, ap, ◌∙◌, arith}
+use Rattle.std.proofs.Common.{inl, inr}
 use Rattle.std.specs.Prelude.{◌==◌, ◌⊎◌}
 use Rattle.std.proofs.lemmas.Bool.{cases_Bool}
 use Rattle.rapid_line.specs.declared.words.Word.{Word}
@@ -28,7 +9,7 @@ use Rattle.rapid_line.specs.declared.words.LineFault.TheVariants.{FewFields, Man
 use Rattle.rapid_line.specs.Cut.{has, count, cut, before_end}
 use Rattle.rapid_line.specs.Grammar.{operation}
 use Rattle.rapid_line.specs.Causes.{HasFields}
-use Rattle.rapid_line.specs.Reading.{word_of, or_fault, unless, fields_of, operation_of}
+use Rattle.rapid_line.specs.Reading.{word_of, fields_of, operation_of}
 use Rattle.rapid_line.proofs.Cuts.{cut_None, IsCut, count-append, count-Lacks}
 use Rattle.rapid_line.proofs.Steps.{unless_err, or_fault_err, ok_inj}
 use Rattle.rapid_line.proofs.Again.{fields_again, operation_again}
@@ -58,24 +39,19 @@ bars_cut xs a c h =
 pub fields_err : (bytes : List ℕ) (f : LineFault) → fields_of bytes ≡ Err f
     → ((f ≡ FewFields) × (count 124 bytes < 2)) ⊎ ((f ≡ ManyFields) × (2 < count 124 bytes))
 fields_err bytes f e =
-    elim (or_fault_err FewFields (cut 124 bytes) (λ p. or_fault FewFields (cut 124 p.1)
-    (λ q. unless ManyFields (has 124 q.1) (let r : List ℕ × List ℕ × List ℕ = (p.0, q.0, q.1) in
-    Ok r))) f e) [
-      | inl few ↦ let z = count-Lacks 124 bytes (cut_None 124 bytes few.0) in inl
-          (sym few.1, omega (arith, z))
+    elim (or_fault_err FewFields (cut 124 bytes) _ f e) [
+      | inl few ↦
+          let z = count-Lacks 124 bytes (cut_None 124 bytes few.0) in
+          inl (sym few.1, omega (arith, z))
       | inr p ↦
-          let c = IsCut-at 124 bytes p.0 p.1 in
-          let n = bars_cut bytes p.0.0 p.0.1 c in
-          elim (or_fault_err FewFields (cut 124 p.0.1)
-          (λ q. unless ManyFields (has 124 q.1) (let r : List ℕ × List ℕ × List ℕ = (p.0.0, q.0, q.1) in
-          Ok r)) f p.2) [
-            | inl few ↦ let z = count-Lacks 124 p.0.1 (cut_None 124 p.0.1 few.0) in inl
-                (sym few.1, omega (arith, n, z))
+          let n = bars_cut bytes p.0.0 p.0.1 (IsCut-at 124 bytes p.0 p.1) in
+          elim (or_fault_err FewFields (cut 124 p.0.1) _ f p.2) [
+            | inl few ↦
+                let z = count-Lacks 124 p.0.1 (cut_None 124 p.0.1 few.0) in
+                inl (sym few.1, omega (arith, n, z))
             | inr q ↦
-                let d = IsCut-at 124 p.0.1 q.0 q.1 in
-                let m = bars_cut p.0.1 q.0.0 q.0.1 d in
-                elim (unless_err ManyFields (has 124 q.0.1)
-                (let r : Result (List ℕ × List ℕ × List ℕ) LineFault = Ok (p.0.0, q.0.0, q.0.1) in r) f q.2) [
+                let m = bars_cut p.0.1 q.0.0 q.0.1 (IsCut-at 124 p.0.1 q.0 q.1) in
+                elim (unless_err ManyFields (has 124 q.0.1) _ f q.2) [
                   | inl many ↦ let z = bars-has q.0.1 many.0 in inr (sym many.1, omega (arith, n, m, z))
                   | inr fine ↦ absurd cc
                 ]
@@ -91,20 +67,15 @@ two_bars bytes t o l h =
 
 pub operation_err : (field : List ℕ) (f : LineFault) → operation_of field ≡ Err f → f ≡ BadOp
 operation_err field f e =
-    elim (or_fault_err BadOp (cut 40 field) (λ p. or_fault BadOp (before_end 41 p.1)
-    (λ argument. or_fault BadOp (word_of p.0) (λ w. let r : Word × List ℕ = (w, argument) in
-    Ok r))) f e) [
+    elim (or_fault_err BadOp (cut 40 field) _ f e) [
       | inl h ↦ sym h.1
-      | inr p ↦ elim (or_fault_err BadOp (before_end 41 p.0.1)
-          (λ argument. or_fault BadOp (word_of p.0.0)
-          (λ w. let r : Word × List ℕ = (w, argument) in Ok r)) f p.2) [
-            | inl h ↦ sym h.1
-            | inr q ↦ elim (or_fault_err BadOp (word_of p.0.0)
-                (λ w. let r : Result (Word × List ℕ) LineFault = Ok (w, q.0) in r) f q.2) [
-                  | inl h ↦ sym h.1
-                  | inr r ↦ absurd cc
-                ]
-          ]
+      | inr p ↦ elim (or_fault_err BadOp (word_of p.0.0) _ f p.2) [
+        | inl h ↦ sym h.1
+        | inr w ↦ elim (or_fault_err BadOp (before_end 41 p.0.1) _ f w.2) [
+          | inl h ↦ sym h.1
+          | inr argument ↦ absurd cc
+        ]
+      ]
     ]
 
 -- the decomposition is the one

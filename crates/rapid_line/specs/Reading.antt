@@ -1,37 +1,13 @@
 -- A content as it is read from left to right. That this is the grammar, and its fault the first cause,
 -- is the law `one_reading`.
-use Rattle.std.specs.Prelude.{
-  ◌≡◌,
-  ℕ,
-  ◌==◌,
-  ◌||◌,
-  Bool,
-  true,
-  false,
-  List,
-  length,
-  Option,
-  Some,
-  None,
-  Result,
-  Ok,
-  Err,
-  nat_lt,
-  if◌then◌else◌,
-}
+use Rattle.std.specs.Prelude.{◌≡◌, ℕ, ◌==◌, ◌||◌, Bool, true, false, List, length, Option, Some, None, Result}
+use Rattle.std.specs.Prelude.{Ok, Err, nat_lt, if◌then◌else◌}
 use Rattle.std.specs.Str.{bytes_eq}
 use Rattle.rapid_line.specs.declared.words.Word.{Word}
 use Rattle.rapid_line.specs.declared.words.Word.TheVariants.{Load, Store, Acquire, Release, Fork, Join}
 use Rattle.rapid_line.specs.declared.words.LineFault.{LineFault}
-use Rattle.rapid_line.specs.declared.words.LineFault.TheVariants.{
-  LineTooLong,
-  StrayCr,
-  FewFields,
-  ManyFields,
-  BadOp,
-  EmptyName,
-  LongName,
-}
+use Rattle.rapid_line.specs.declared.words.LineFault.TheVariants.{LineTooLong, StrayCr, FewFields, ManyFields}
+use Rattle.rapid_line.specs.declared.words.LineFault.TheVariants.{BadOp, EmptyName, LongName}
 use Rattle.rapid_line.specs.declared.lines.NamedLine.{NamedLine}
 use Rattle.rapid_line.specs.Cut.{has, cut, before_end}
 use Rattle.rapid_line.specs.Grammar.{Named, spelling}
@@ -68,16 +44,14 @@ fields_of bytes =
     or_fault FewFields (cut 124 p.1) (λ q.
     unless ManyFields (has 124 q.1) (Ok (p.0, q.0, q.1))))
 
--- the word before the first ( and the argument after it, up to the ) at the end
-abbrev pub operation_of : List ℕ → Result (Word × List ℕ) LineFault
-operation_of field =
-    or_fault BadOp (cut 40 field) (λ p.
-    or_fault BadOp (before_end 41 p.1) (λ argument.
-    or_fault BadOp (word_of p.0) (λ w. Ok (w, argument))))
-
--- the word and its argument, of what follows the parenthesis
+-- the word and its argument, of what follows the parenthesis: up to the ) at the end
 abbrev pub argument_of : Word → List ℕ → Result (Word × List ℕ) LineFault
 argument_of w rest = or_fault BadOp (before_end 41 rest) (λ argument. Ok (w, argument))
+
+-- the word before the first ( and the argument after it
+abbrev pub operation_of : List ℕ → Result (Word × List ℕ) LineFault
+operation_of field =
+    or_fault BadOp (cut 40 field) (λ p. or_fault BadOp (word_of p.0) (λ w. argument_of w p.1))
 
 -- the named event, where its names have the lengths of names
 abbrev pub names_of : List ℕ → List ℕ → Word → List ℕ → Result Named LineFault

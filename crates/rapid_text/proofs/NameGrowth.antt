@@ -1,13 +1,10 @@
 -- Names are only added, and the numbers of an event have the names that its line gave.
-use Rattle.std.proofs.Common.{◌≡◌, ℕ, suc, ◌+◌, ◌<◌, ◌≤◌, List, [], ◌∷◌, ◌++◌, length, Option, Some, None}
-use Rattle.std.proofs.Common.{Result, Ok, Err, Bool, true, false, cond, refl, sym, ap, subst, ◌∙◌, append-nil}
-use Rattle.std.proofs.Common.{append_assoc, arith, inl, inr}
-use Rattle.std.specs.Prelude.{IfOk, OnErr, ◌↔◌, unwrap_or, slice_get, nat_lt, not}
+use Rattle.std.proofs.Common.{◌≡◌, ℕ, ◌<◌, ◌≤◌, List, [], ◌++◌, length, Option, Some, None}
+use Rattle.std.proofs.Common.{Result, Ok, Err, refl, sym, ap, subst, ◌∙◌, append-nil}
+use Rattle.std.proofs.Common.{append_assoc, arith}
+use Rattle.std.specs.Prelude.{IfOk, OnErr, ◌↔◌, unwrap_or, slice_get}
 use Rattle.std.specs.Result.{IsErrOf}
-use Rattle.std.specs.List.{position, prefix_len}
-use Rattle.std.specs.Str.{bytes_eq}
-use Rattle.std.proofs.lemmas.Slice.Eq.{bytes_eq-Decides}
-use Rattle.std.proofs.lemmas.Bool.{cases_Bool, ltb-true, lt-ltb}
+use Rattle.std.proofs.lemmas.Bool.{lt-ltb}
 use Rattle.std.proofs.lemmas.List.{length-append}
 use Rattle.std.proofs.lemmas.Option.{slice_get_within}
 use Rattle.event_core.specs.declared.events.Event.{Event}
@@ -24,8 +21,8 @@ use Rattle.rapid_text.specs.Numbers.{Numbered, with_name, found_or, place_of, nu
 use Rattle.rapid_text.specs.Tables.{Tables, space, with_space, put_back, number_in, name_at, TablesGrow}
 use Rattle.rapid_text.specs.Events.{kind_of, op_of, event_of, number_or_fault, named_event}
 use Rattle.rapid_text.specs.Events.{word_of_op, target_of, named_by, HasNames}
-use Rattle.rapid_text.proofs.NameLaws.{numbers, grows}
-use Rattle.event_core.proofs.Places.{get_before, get_last}
+use Rattle.rapid_text.proofs.NameLaws.{numbers, grows, first_number, with_each}
+use Rattle.event_core.proofs.Places.{get_before}
 
 -- ---- names are only added
 
@@ -50,86 +47,17 @@ TablesGrow-same t u e = subst (λ (v : Tables). TablesGrow t v) (sym e) (TablesG
 
 space_grows : (t : Tables) (kind : Kind) (s : Numbered) → Grows (space t kind) s
     → TablesGrow t (with_space t kind s)
-space_grows t kinds.Thread s h kinds.Thread = h
-space_grows t kinds.Thread s h kinds.Lock = Grows-refl t.locks
-space_grows t kinds.Thread s h kinds.Variable = Grows-refl t.variables
-space_grows t kinds.Thread s h kinds.Site = Grows-refl t.sites
-space_grows t kinds.Lock s h kinds.Thread = Grows-refl t.threads
-space_grows t kinds.Lock s h kinds.Lock = h
-space_grows t kinds.Lock s h kinds.Variable = Grows-refl t.variables
-space_grows t kinds.Lock s h kinds.Site = Grows-refl t.sites
-space_grows t kinds.Variable s h kinds.Thread = Grows-refl t.threads
-space_grows t kinds.Variable s h kinds.Lock = Grows-refl t.locks
-space_grows t kinds.Variable s h kinds.Variable = h
-space_grows t kinds.Variable s h kinds.Site = Grows-refl t.sites
-space_grows t kinds.Site s h kinds.Thread = Grows-refl t.threads
-space_grows t kinds.Site s h kinds.Lock = Grows-refl t.locks
-space_grows t kinds.Site s h kinds.Variable = Grows-refl t.variables
-space_grows t kinds.Site s h kinds.Site = h
-
--- ---- the number of a name is its place
-
-place_at : (name : List ℕ) (xs : List (List ℕ)) → prefix_len (λ n. not (bytes_eq name n)) xs < length xs
-    → slice_get xs (prefix_len (λ n. not (bytes_eq name n)) xs) ≡ Some name
-place_at name [] h = absurd (omega arith)
-place_at name (x ∷ xs) h =
-    elim (cases_Bool (bytes_eq name x)) [
-      | inl same ↦
-          let is : name ≡ x = (bytes_eq-Decides name x).0 same in
-          rw same (ap (λ (n : List ℕ). let o : Option (List ℕ) = Some n in o) (sym is))
-      | inr differs ↦
-          let k = prefix_len (λ n. not (bytes_eq name n)) xs in
-          let step : cond (not (bytes_eq name x)) (1 + k) 0 ≡ suc k = rw differs (omega arith) in
-          let within : suc k < length (x ∷ xs) = subst (λ (m : ℕ). m < length (x ∷ xs)) step h in
-          ap (slice_get (x ∷ xs)) step ∙ place_at name xs (omega (arith, within))
-    ]
-
-placed : (name : List ℕ) (xs : List (List ℕ)) (i : ℕ) → position (λ n. bytes_eq name n) xs ≡ Some i
-    → slice_get xs i ≡ Some name
-placed name xs i e =
-    let k = prefix_len (λ n. not (bytes_eq name n)) xs in
-    elim (cases_Bool (nat_lt k (length xs))) [
-      | inl within ↦
-          let some : Some k ≡ Some i = rw within at e in
-          let is : k ≡ i = cc in
-          subst (λ (m : ℕ). slice_get xs m ≡ Some name) is (place_at name xs (ltb-true k (length xs) within))
-      | inr past ↦ let none : None ≡ Some i = rw past at e in absurd cc
-    ]
-
-new_placed : (b : Bool) (s : Numbered) (name : List ℕ) (i : ℕ) (t : Numbered)
-    → cond b (let o : Option (ℕ × Numbered) = Some (length s.names, with_name s name) in o) None ≡ Some
-    (i, t)
-    → slice_get t.names i ≡ Some name
-new_placed true s name i t e =
-    let number : length s.names ≡ i = ap (λ (o : Option (ℕ × Numbered)). (unwrap_or o (i, t)).0) e in
-    let names : with_name s name ≡ t = ap (λ (o : Option (ℕ × Numbered)). (unwrap_or o (i, t)).1) e in
-    subst (λ (m : ℕ). slice_get t.names m ≡ Some name) number
-    (subst (λ (u : Numbered). slice_get u.names (length s.names) ≡ Some name) names
-    (get_last s.names name))
-new_placed false s name i t e = absurd cc
-
-found_placed : (o : Option ℕ) (s : Numbered) (name : List ℕ) (i : ℕ) (t : Numbered) → place_of s name ≡ o
-    → found_or o s name ≡ Some (i, t) → slice_get t.names i ≡ Some name
-found_placed (Some j) s name i t p e =
-    let number : j ≡ i = ap (λ (o : Option (ℕ × Numbered)). (unwrap_or o (i, t)).0) e in
-    let names : s ≡ t = ap (λ (o : Option (ℕ × Numbered)). (unwrap_or o (i, t)).1) e in
-    subst (λ (m : ℕ). slice_get t.names m ≡ Some name) number
-    (subst (λ (u : Numbered). slice_get u.names j ≡ Some name) names (placed name s.names j p))
-found_placed None s name i t p e = new_placed (nat_lt (length s.names) s.limit) s name i t e
-
-pub number_placed : (s : Numbered) (name : List ℕ) (i : ℕ) (t : Numbered) → number_of s name ≡ Some (i, t)
-    → slice_get t.names i ≡ Some name
-unfolding number_of
-number_placed s name i t e = found_placed (place_of s name) s name i t refl e
+space_grows t kind s = with_each (λ k u. Grows (space t k) u) t kind s (λ k. Grows-refl (space t k))
 
 -- ---- in the four spaces
 
--- the number has the name, and names were only added
+-- the number has the name, and names were only added; the first of its kind has the number 0
 pub record Gives (t : Tables) (kind : Kind) (name : List ℕ) (n : ℕ) (u : Tables) : Type 0 where
   pub placed : slice_get (space u kind).names n ≡ Some name
   pub grows : TablesGrow t u
+  pub first : (space t kind).names ≡ [] → n ≡ 0
 
-with_space_of : (t : Tables) (kind : Kind) (s : Numbered) → space (with_space t kind s) kind ≡ s
+pub with_space_of : (t : Tables) (kind : Kind) (s : Numbered) → space (with_space t kind s) kind ≡ s
 with_space_of t kinds.Thread s = refl
 with_space_of t kinds.Lock s = refl
 with_space_of t kinds.Variable s = refl
@@ -139,16 +67,13 @@ gives_by : (t : Tables) (kind : Kind) (name : List ℕ) (n : ℕ) (u : Tables) (
     → number_of (space t kind) name ≡ o → put_back t kind o ≡ Some (n, u) → Gives t kind name n u
 gives_by t kind name n u None p e = absurd cc
 gives_by t kind name n u (Some q) p e =
-    let number : q.0 ≡ n = ap (λ (o : Option (ℕ × Tables)). (unwrap_or o (n, u)).0) e in
-    let tables : with_space t kind q.1 ≡ u = ap (λ (o : Option (ℕ × Tables)). (unwrap_or o (n, u)).1) e in
-    let here = number_placed (space t kind) name q.0 q.1 p in
-    let more = grows (space t kind) name q.1 (numbers (space t kind) name q.0 q.1 p) in
-    let named : slice_get (space (with_space t kind q.1) kind).names q.0 ≡ Some name =
-    ap (λ (s : Numbered). slice_get s.names q.0) (with_space_of t kind q.1) ∙ here in
-    let at_first : Gives t kind name q.0 (with_space t kind q.1) =
-    record { placed = named; grows = space_grows t kind q.1 more } in
-    subst (λ (m : ℕ). Gives t kind name m u) number
-    (subst (λ (v : Tables). Gives t kind name q.0 v) tables at_first)
+    let same : (q.0, with_space t kind q.1) ≡ (n, u) = cc in
+    let done = numbers (space t kind) name q.0 q.1 p in
+    subst (λ (r : ℕ × Tables). Gives t kind name r.0 r.1) same (record {
+      placed = ap (λ (s : Numbered). slice_get s.names q.0) (with_space_of t kind q.1) ∙ done.placed;
+      grows = space_grows t kind q.1 (grows (space t kind) name q.0 q.1 done);
+      first = first_number (space t kind) name q.0 q.1 done;
+    })
 
 pub gives : (t : Tables) (kind : Kind) (name : List ℕ) (n : ℕ) (u : Tables)
     → number_in t kind name ≡ Some (n, u) → Gives t kind name n u

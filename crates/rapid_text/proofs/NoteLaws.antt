@@ -1,15 +1,11 @@
 -- What notes hold stays right as names are added and noted.
 use Rattle.std.proofs.Common.{◌≡◌, ℕ, ◌<◌, ◌++◌, [], ◌∷◌, ◌⊎◌, List, Some}
-use Rattle.std.proofs.Common.{get_or, set, length-set, sym, ◌∙◌, ap, arith}
+use Rattle.std.proofs.Common.{set, length-set, sym, ◌∙◌, ap, arith}
 use Rattle.std.specs.Prelude.{slice_get}
-use Rattle.std.specs.List.{position}
-use Rattle.std.specs.Str.{bytes_eq}
-use Rattle.std.proofs.lemmas.List.Quantifiers.{position-Some}
 use Rattle.std.proofs.lemmas.Bool.{cases_eq}
 use Rattle.std.proofs.lemmas.Grind.{get_or-set_at}
 use Rattle.std.proofs.lemmas.List.{get_or-set_other}
 use Rattle.std.proofs.lemmas.Option.{slice_get-get_or, slice_get_within, get_or_from_slice_get}
-use Rattle.std.proofs.lemmas.Slice.Eq.{bytes_eq-Decides}
 use mathlib.Core.Logic.{inl, inr}
 use Rattle.rapid_text.specs.declared.number_cache.Note.{Note}
 use Rattle.rapid_text.specs.NumberCache.{HoldsNone, IsOneOf, IsNoteOf, IsFound, IsRight, AreRight}
@@ -55,15 +51,6 @@ pub right_more : (names : List (List ℕ)) (name : List ℕ) (notes : List Note)
 right_more names name notes right note one some =
     let found = right note one some in
     (found.0, get_before names (name ∷ []) note.number found.0 found.1, found.2)
-
--- the name stands at the place where it was found
-pub found_name : (names : List (List ℕ)) (name : List ℕ) (i : ℕ)
-    → position (bytes_eq name) names ≡ Some i → slice_get names i ≡ Some name
-found_name [] name i is = absurd cc
-found_name (n ∷ names) name i is =
-    let found = position-Some (bytes_eq name) (n ∷ names) i n is in
-    let same : name ≡ get_or (n ∷ names) i n = (bytes_eq-Decides name _).0 found.1 in
-    slice_get-get_or (n ∷ names) i n found.0 ∙ ap Some (sym same)
 
 -- a note that holds the name tells where it stands
 pub name_held : (names : List (List ℕ)) (notes : List Note) (number : ℕ) (name : List ℕ)

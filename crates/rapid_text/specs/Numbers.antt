@@ -1,22 +1,7 @@
 -- Names of one kind, numbered from 0 in the order of their first appearance.
-use Rattle.std.specs.Prelude.{
-  ◌≡◌,
-  ℕ,
-  List,
-  [],
-  ◌∷◌,
-  ◌++◌,
-  length,
-  slice_get,
-  Option,
-  Some,
-  None,
-  nat_lt,
-  if◌then◌else◌,
-}
+use Rattle.std.specs.Prelude.{◌≡◌, ℕ, List, [], ◌∷◌, ◌++◌, length, Option, Some, None, nat_lt, if◌then◌else◌}
 use Rattle.std.specs.List.{position}
 use Rattle.std.specs.Str.{bytes_eq}
-use Rattle.rapid_line.specs.Grammar.{IsField, IsName}
 
 -- the names by their numbers, and how many there may be
 pub record Numbered : Type 0 where
@@ -48,11 +33,3 @@ pub record Grows (old new : Numbered) : Type 0 where
   pub more : List (List ℕ)
   pub names : new.names ≡ old.names ++ more
   pub limit : new.limit ≡ old.limit
-
--- each of them is a name
-abbrev pub AreNames : List (List ℕ) → Type 0
-AreNames names = (i : ℕ) (name : List ℕ) → slice_get names i ≡ Some name → IsName name
-
--- each of them is a field, which may be empty
-abbrev pub AreFields : List (List ℕ) → Type 0
-AreFields names = (i : ℕ) (name : List ℕ) → slice_get names i ≡ Some name → IsField name

@@ -1,10 +1,10 @@
 -- The names of a text, in four spaces: threads, locks, variables and locations.
-use Rattle.std.specs.Prelude.{ℕ, List, [], slice_get, Option, Some, None, unwrap_or}
+use Rattle.std.specs.Prelude.{◌≡◌, ℕ, List, [], slice_get, Option, Some, None, unwrap_or}
 use Rattle.event_core.specs.Bounds.{Bounds}
 use Rattle.rapid_text.specs.declared.causes.Kind.{Kind}
 use Rattle.rapid_text.specs.declared.causes.Kind.TheVariants as kinds
 use Rattle.rapid_line.specs.Grammar.{IsField, IsName}
-use Rattle.rapid_text.specs.Numbers.{Numbered, number_of, Grows, AreNames, AreFields}
+use Rattle.rapid_text.specs.Numbers.{Numbered, number_of, Grows}
 
 -- the names of the four kinds
 pub record Tables : Type 0 where
@@ -63,9 +63,10 @@ name_at t kind n = unwrap_or (slice_get (space t kind).names n) []
 abbrev pub TablesGrow : Tables → Tables → Type 0
 TablesGrow old new = (kind : Kind) → Grows (space old kind) (space new kind)
 
--- what stands in the tables are names
-pub record AreNamed (t : Tables) : Type 0 where
-  pub threads : AreNames t.threads.names
-  pub locks : AreNames t.locks.names
-  pub variables : AreNames t.variables.names
-  pub sites : AreFields t.sites.names
+-- each of them is a name of the kind
+abbrev pub AreNamesOf : Kind → List (List ℕ) → Type 0
+AreNamesOf kind names = (i : ℕ) (name : List ℕ) → slice_get names i ≡ Some name → IsNameOf kind name
+
+-- what stands in the tables are names of their kinds
+abbrev pub AreNamed : Tables → Type 0
+AreNamed t = (kind : Kind) → AreNamesOf kind (space t kind).names

@@ -1,52 +1,21 @@
 -- Lines that were judged keep the rules of forks and joins, and their numbers have names.
-use Rattle.std.proofs.Common.{
-  ◌≡◌,
-  ℕ,
-  ◌+◌,
-  ◌<◌,
-  ◌≤◌,
-  ◌==◌,
-  ◌||◌,
-  ◌++◌,
-  List,
-  [],
-  ◌∷◌,
-  length,
-  Option,
-  Some,
-  None,
-  Ok,
-  Err,
-  zero,
-  suc,
-  refl,
-  ap,
-  ◌∙◌,
-  sym,
-  subst,
-  arith,
-  inl,
-  inr,
-  ◌⊎◌,
-  true,
-  false,
-  Bool,
-  length-append,
-}
+use Rattle.std.proofs.Common.{◌≡◌, ℕ, ◌+◌, ◌<◌, ◌≤◌, ◌==◌, ◌||◌, ◌++◌, List, [], ◌∷◌, length, Option, Some}
+use Rattle.std.proofs.Common.{None, Ok, Err, zero, suc, refl, ap, ◌∙◌, sym, subst, arith, inl, inr, ◌⊎◌, true}
+use Rattle.std.proofs.Common.{false, Bool, length-append}
 use Rattle.std.specs.Prelude.{slice_get, unwrap_or, nat_lt, Result, decimal, if◌then◌else◌}
 use Rattle.std.specs.List.{list_any}
 use Rattle.std.proofs.lemmas.Bool.{eqb-true, cases_Bool, or_parts}
 use Rattle.std.proofs.lemmas.Option.{slice_get_within}
 use Rattle.event_core.specs.declared.ids.ThreadId.{ThreadId}
 use Rattle.event_core.specs.Bounds.{Bounds}
-use Rattle.event_core.proofs.Places.{front_or_last}
+use Rattle.event_core.proofs.Places.{front_or_last, each_push}
 use Rattle.rapid_text.specs.declared.causes.Kind.{Kind}
 use Rattle.rapid_text.specs.declared.causes.Kind.TheVariants as kinds
 use Rattle.rapid_text.specs.Numbers.{Numbered, number_of, with_name}
 use Rattle.rapid_text.specs.Tables.{Tables, TablesGrow, number_in, space, put_back}
 use Rattle.rapid_line.specs.Cut.{content}
 use Rattle.rapid_line.specs.Reading.{and_then, unless}
-use Rattle.rapid_line.proofs.Steps.{and_then_ok, unless_ok}
+use Rattle.rapid_line.proofs.Steps.{and_then_ok, unless_ok, ok_inj}
 use Rattle.rapid_text.specs.Events.{HasNames}
 use Rattle.rapid_text.proofs.NameGrowth.{gives, TablesGrow-refl, TablesGrow-trans, HasNames-kept}
 use Rattle.script_text.specs.declared.causes.ScriptCause.{ScriptCause}
@@ -64,16 +33,9 @@ use Rattle.script_text.specs.Scripts.{act_event, act_of, kind_of, begun}
 
 -- ---- what an Ok says
 
-abbrev ok_or : {A E : Type 0} → A → Result A E → A
-ok_or x (Ok y) = y
-ok_or x (Err e) = x
-
-ok_same : {A E : Type 0} (x y : A) → (let r : Result A E = Ok x in r) ≡ Ok y → x ≡ y
-ok_same x y e = ap (ok_or x) e
-
 number_ok : (o : Option (ℕ × Tables)) (p : ℕ × Tables) → number_or_cause o ≡ Ok p → o ≡ Some p
 number_ok None p e = absurd cc
-number_ok (Some q) p e = ap (λ (r : Result (ℕ × Tables) ScriptCause). Some (ok_or q r)) e
+number_ok (Some q) p e = ap Some (ok_inj q p e)
 
 -- ---- one line more
 
@@ -154,16 +116,6 @@ join_not_own lines own (Some v) h =
     let later = (or_parts (v.0 == 0) ((v.0 == own.0) || list_any (joins v.0) lines) h).1 in
     (or_parts (v.0 == own.0) (list_any (joins v.0) lines) later).0
 
--- a fact of each line, and of one more
-each_more : (P : ScriptLine → Type 0) (lines : List ScriptLine) (new : ScriptLine)
-    → ((k : ℕ) (l : ScriptLine) → slice_get lines k ≡ Some l → P l) → P new
-    → (k : ℕ) (l : ScriptLine) → slice_get (lines ++ new ∷ []) k ≡ Some l → P l
-each_more P lines new h last k l at = by (front_or_last lines new k l at)
-  where
-    by : (slice_get lines k ≡ Some l) ⊎ ((k ≡ length lines) × (l ≡ new)) → P l
-    by (inl a) = h k l a
-    by (inr a) = subst P (sym a.1) last
-
 first_more : (lines : List ScriptLine) (new : ScriptLine)
     → ((l : ScriptLine) → slice_get lines 0 ≡ Some l → (thread_of l).0 ≡ 0)
     → (lines ≡ [] → (thread_of new).0 ≡ 0)
@@ -178,12 +130,12 @@ legal_more : (lines : List ScriptLine) (new : ScriptLine) → AreLegal lines
     → (lines ≡ [] → (thread_of new).0 ≡ 0) → AreLegal (lines ++ new ∷ [])
 legal_more lines new h fork join first = record {
   main = first_more lines new h.main first;
-  fork_main = each_more (λ l. forks 0 l ≡ false) lines new h.fork_main
+  fork_main = each_push (λ l. forks 0 l ≡ false) lines new h.fork_main
       (fork_not_main lines (fork_of new) fork);
   fork_once = once_more fork_of lines new h.fork_once (fork_new lines new (fork_of new) refl fork);
-  join_main = each_more (λ l. joins 0 l ≡ false) lines new h.join_main
+  join_main = each_push (λ l. joins 0 l ≡ false) lines new h.join_main
       (join_not_main lines (thread_of new) (join_of new) join);
-  join_self = each_more (λ l. joins (thread_of l).0 l ≡ false) lines new h.join_self
+  join_self = each_push (λ l. joins (thread_of l).0 l ≡ false) lines new h.join_self
       (join_not_own lines (thread_of new) (join_of new) join);
   join_once = once_more join_of lines new h.join_once (join_new lines new (join_of new) refl join);
 }
@@ -221,32 +173,6 @@ thread_of_act : (w : Word) (a b c number n : ℕ)
     → (thread_of (record { act = act_of w a b c number; line = n })).0 ≡ a
 thread_of_act (One w) a b c number n = refl
 thread_of_act Swap a b c number n = refl
-
-new_is_first : (b : Bool) (s u : Numbered) (i : ℕ)
-    → (if b then (let o : Option (ℕ × Numbered) = Some (0, s) in o) else None) ≡ Some (i, u) → i ≡ 0
-new_is_first true s u i e = sym (ap (λ (o : Option (ℕ × Numbered)). (unwrap_or o (0, s)).0) e)
-new_is_first false s u i e = absurd cc
-
-first_of_none : (limit : ℕ) (names : List (List ℕ)) (name : List ℕ) (i : ℕ) (u : Numbered) → names ≡ []
-    → number_of (record { limit = limit; names = names }) name ≡ Some (i, u) → i ≡ 0
-unfolding number_of
-first_of_none limit [] name i u none e =
-    new_is_first (nat_lt 0 limit) (with_name (record { limit = limit; names = [] }) name) u i e
-first_of_none limit (x ∷ xs) name i u none e = absurd cc
-
-put_back_number : (t : Tables) (o : Option (ℕ × Numbered)) (n : ℕ) (u : Tables)
-    → put_back t kinds.Thread o ≡ Some (n, u) → (s : Numbered) × (o ≡ Some (n, s))
-put_back_number t None n u e = absurd cc
-put_back_number t (Some q) n u e =
-    let same : q.0 ≡ n = ap (λ (o : Option (ℕ × Tables)). (unwrap_or o (n, u)).0) e in
-    (q.1, ap (λ (m : ℕ). Some (m, q.1)) same)
-
-first_thread : (t : Tables) (name : List ℕ) (n : ℕ) (u : Tables) → t.threads.names ≡ []
-    → number_in t kinds.Thread name ≡ Some (n, u) → n ≡ 0
-unfolding number_in
-first_thread t name n u none e =
-    let number = put_back_number t (number_of t.threads name) n u e in
-    first_of_none t.threads.limit t.threads.names name n number.0 none number.1
 
 some_line : (lines : List ScriptLine) (l : ScriptLine) → lines ++ l ∷ [] ≡ [] → ⊥
 some_line [] l e = cc
@@ -293,9 +219,9 @@ numbered_is t n said l u e =
           (placed_within q.1 kinds.Site (decimal n) r.0 r.1 r.1 three (TablesGrow-refl r.1));
       grows = TablesGrow-trans t p.1 r.1 (gives t kinds.Thread said.thread p.0 p.1 one).grows grows_later;
       first = λ none. thread_of_act said.word p.0 q.0 r.0 said.number n
-          ∙ first_thread t said.thread p.0 p.1 none one;
+          ∙ (gives t kinds.Thread said.thread p.0 p.1 one).first none;
     } in
-    let same : last ≡ (l, u) = ok_same last (l, u) site.2 in
+    let same : last ≡ (l, u) = ok_inj last (l, u) site.2 in
     subst (λ (x : ScriptLine × Tables). IsNumbered t x.0 x.1) same here
 
 -- ---- all lines
@@ -311,12 +237,12 @@ draft_line s l u t h numbered e =
     let last : Parsed = record { names = u; lines = s.lines ++ l ∷ [] } in
     let here : IsDraft last = record {
       legal = legal_more s.lines l h.legal fork.0 join.0 (λ none. numbered.first (h.fresh none));
-      named = each_more (λ x. HasNames u (act_event x.act)) s.lines l
+      named = each_push (λ x. HasNames u (act_event x.act)) s.lines l
           (λ k x at. HasNames-kept s.names u (act_event x.act) numbered.grows
           (h.named k x at)) numbered.names;
       fresh = λ none. absurd (some_line s.lines l none);
     } in
-    subst IsDraft (ok_same last t join.1) here
+    subst IsDraft (ok_inj last t join.1) here
 
 draft_content : (s : Parsed) (n : ℕ) (bytes : List ℕ) (t : Parsed) → IsDraft s
     → after_content s n bytes ≡ Ok t
@@ -324,7 +250,7 @@ draft_content : (s : Parsed) (n : ℕ) (bytes : List ℕ) (t : Parsed) → IsDra
 unfolding after_content
 draft_content s n bytes t h e =
     elim (cases_Bool (length bytes == 0)) [
-      | inl empty ↦ subst IsDraft (ok_same s t (rw empty at e)) h
+      | inl empty ↦ subst IsDraft (ok_inj s t (rw empty at e)) h
       | inr some ↦
           let read = and_then_ok (line_of bytes) (λ said.
           and_then (numbered_line s.names n said) (λ p. with_line s p.0 p.1)) t (rw some at e) in
@@ -341,7 +267,7 @@ draft_next n (Ok s) go t e = (s, refl, e)
 -- what was judged keeps the rules
 pub draft_judged : (s : Parsed) (n : ℕ) (ls : List (List ℕ)) (t : Parsed) → IsDraft s → judge s n ls ≡ Ok t
     → IsDraft t
-draft_judged s n [] t h e = subst IsDraft (ok_same s t e) h
+draft_judged s n [] t h e = subst IsDraft (ok_inj s t e) h
 draft_judged s n (l ∷ ls) t h e =
     let first = draft_next n (after_content s n (content l)) (λ x. judge x (n + 1) ls) t e in
     draft_judged first.0 (n + 1) ls t (draft_content s n (content l) first.0 h first.1) first.2

@@ -3,6 +3,7 @@ use Rattle.std.proofs.Common.{zero, suc, List, [], ◌∷◌}
 use Rattle.std.proofs.Common.{◌++◌, Option, subst, ap, unwrap_or}
 use Rattle.event_core.specs.declared.events.Event.{Event}
 use Rattle.event_core.specs.Refusal.{event_of}
+use Rattle.event_core.proofs.Places.{each_push}
 use Rattle.rapid_text.specs.Tables.{Tables, TablesGrow}
 use Rattle.rapid_text.specs.Events.{HasNames, IsOfNames}
 use Rattle.rapid_text.proofs.NameGrowth.{HasNames-kept}
@@ -14,21 +15,13 @@ use Rattle.trace_report.proofs.Playing.{with_line}
 pub named_kept : (t u : Tables) (log : List Event) → TablesGrow t u → AreNamed t log → AreNamed u log
 named_kept t u log g h j e at = HasNames-kept t u e g (h j e at)
 
-pub named_push : (t : Tables) (log : List Event) (e : Event) → AreNamed t log → HasNames t e
-    → AreNamed t (log ++ e ∷ [])
-named_push t [] e h k zero x at = subst (λ (y : Event). HasNames t y) (ap (λ
-    (o : Option Event). unwrap_or o e) at) k
-named_push t [] e h k (suc j) x at = absurd (cc)
-named_push t (y ∷ ys) e h k zero x at = h zero x at
-named_push t (y ∷ ys) e h k (suc j) x at = named_push t ys e (λ i z is. h (suc i) z is) k j x at
-
 -- the event of a line is the one that its call makes
 pub named_line : (t u : Tables) (log : List Event) (e : Event) → TablesGrow t u → AreNamed t log
     → IsOfNames u e
     → AreNamed u (with_line log e)
 named_line t u log e g h k =
     let n = k.names in
-    named_push u log (event_of log (call_of e)) (named_kept t u log g h)
+    each_push (HasNames u) log (event_of log (call_of e)) (named_kept t u log g h)
     (record { thread = n.thread; target = n.target; site = n.site })
 
 pub nothing_named : (t : Tables) → AreNamed t []

@@ -5,7 +5,8 @@ use Rattle.std.proofs.lemmas.List.{length_push}
 use Rattle.std.specs.Option.{is_some}
 use Rattle.rapid_text.specs.NumberCache.{AreRight}
 use Rattle.rapid_text.proofs.SpaceLaws.{numbered_found, numbered_full, numbered_new, added}
-use Rattle.rapid_text.proofs.NoteLaws.{right_noted, right_more, found_name}
+use Rattle.rapid_text.proofs.NameLaws.{found_name}
+use Rattle.rapid_text.proofs.NoteLaws.{right_noted, right_more}
 use Rattle.event_core.proofs.Places.{get_last}
 use Rattle.rapid_text.proofs.interner.Interner.number.Goals as goal
 
