@@ -17,7 +17,7 @@ use std::marker::Model;
 /// How many places there are for the first names.
 const FEWEST_PLACES: usize = 256;
 
-/// The most places: so many as a processor's own caches hold.
+/// The most places. Their notes take 1.5 MB.
 const MOST_PLACES: usize = 65536;
 
 /// How many places a name may have, which lie side by side.
@@ -32,12 +32,13 @@ const WORD: usize = 8;
 /// What the last four bytes of a word count in it.
 const HALF: u64 = 4294967296;
 
-/// Whether words tell the name.
+/// Whether a name has notes, where those of up to so many bytes have.
 #[inline(always)]
-fn is_short(name: &[u8]) -> bool
-    ensures { IsTrue result ↔ (0 < length name.now) × (length name.now ≤ 16) }
+fn is_noted(name: &[u8], most: usize) -> bool
+    ensures { IsTrue result ↔ (0 < length name.now) × (length name.now ≤ most) }
 {
-    !name.is_empty() && name.len() <= MOST_HELD
+    // One test: for an empty name the left side is the greatest number.
+    name.len().wrapping_sub(1) < most
 }
 
 /// The word whose bytes are those of the first and then those of the last.
@@ -101,8 +102,8 @@ pub struct Words {
 }
 
 impl Words {
-    // The words of the name, and one word of both. The factor is odd, so that no bit of the last is lost. A
-    // name of up to eight bytes needs no product.
+    /// The words of the name, and one word of both. The factor is odd, so that no bit of the last is lost. A
+    /// name of up to eight bytes needs no product.
     #[inline(always)]
     fn of(name: &[u8]) -> (Words, u64)
         requires { 0 < length name.now }
@@ -119,27 +120,25 @@ impl Words {
     }
 }
 
-// The place of the one word of a name among so many, which are a power of two.
+/// The place of the one word of a name. The mask is one less than a power of two, that of the places.
 #[inline(always)]
-fn place_of(mixed: u64, places: usize) -> usize
-    requires { 0 < places }
-    ensures { result < places }
+fn place_by(mixed: u64, mask: usize) -> usize
+    ensures { result ≤ mask }
 {
     // The factor has the bits of the golden ratio. Both halves of the product together depend on all of the
     // word, also where its bytes are few digits.
     let product = mixed as u128 * 0x9e37_79b9_7f4a_7c15;
     let high = (product >> 64) as usize;
     let low = (product & 0xffff_ffff_ffff_ffff) as usize;
-    (high ^ low) & (places - 1)
+    (high ^ low) & mask
 }
 
-/// A place beside another, or that itself for step 0, among so many, which are a power of two.
+/// A place beside another, or that itself for step 0.
 #[inline(always)]
-fn beside(place: usize, step: usize, places: usize) -> usize
-    requires { 0 < places }
-    ensures { result < places }
+fn beside(place: usize, step: usize, mask: usize) -> usize
+    ensures { result ≤ mask }
 {
-    (place ^ step) & (places - 1)
+    (place ^ step) & mask
 }
 
 /// A short name's number, its length and its words. Where there is no name, the length is 0.
@@ -151,7 +150,7 @@ pub struct Note {
 }
 
 impl Note {
-    // A note of no name.
+    /// A note of no name.
     fn none() -> Note
         ensures { result.length ≡ 0 }
     {
@@ -162,26 +161,51 @@ impl Note {
         }
     }
 
-    // Whether it holds the name of the length with the words.
+    /// Whether it holds a name with the words and the length. Of names of up to eight bytes the last word is
+    /// not looked at.
     #[inline(always)]
-    fn is_of(&self, words: Words, length: usize) -> bool
-        ensures { IsTrue result ↔ (self.now.words ≡ words) × (self.now.length ≡ length) }
+    fn is_of<const LONG: bool>(&self, words: Words, length: u8) -> bool
+        ensures { IsTrue result ↔ (self.now.words.first ≡ words.first) × (self.now.length ≡ length)
+            × (IsTrue LONG → self.now.words.last ≡ words.last) }
     {
         self.words.first == words.first
-            && self.words.last == words.last
-            && self.length as usize == length
+            && self.length == length
+            && (!LONG || self.words.last == words.last)
     }
 }
 
+/// The number of the name, if a note of it is found. A note may be missed.
+#[inline(always)]
+fn find_among<const LONG: bool>(notes: &[Note], mask: usize, name: &[u8]) -> Option<u32>
+    requires places { mask < length notes.now }
+    requires some { 0 < length name.now }
+    requires short { length name.now ≤ 16 }
+    requires long { 8 < length name.now → IsTrue LONG }
+    ensures { IfSome result (λ number. IsFound notes.now number name.now) }
+{
+    let (words, mixed) = Words::of(name);
+    let place = place_by(mixed, mask);
+    for step in 0..STEPS {
+        let note = &notes[beside(place, step, mask)];
+        if note.is_of::<LONG>(words, name.len() as u8) {
+            return Some(note.number);
+        }
+        // A note goes to the first empty place, so there is none further on.
+        if note.length == 0 {
+            return None;
+        }
+    }
+    None
+}
+
 /// Where a note with the words goes: to the first empty one of their places, or else to the first.
-fn place_to_note(notes: &[Note], mixed: u64) -> usize
-    requires { 0 < length notes.now }
+fn place_to_note(notes: &[Note], mask: usize, mixed: u64) -> usize
+    requires { mask < length notes.now }
     ensures { result < length notes.now }
 {
-    let places = notes.len();
-    let place = place_of(mixed, places);
+    let place = place_by(mixed, mask);
     for step in 0..STEPS {
-        let other = beside(place, step, places);
+        let other = beside(place, step, mask);
         if notes[other].length == 0 {
             return other;
         }
@@ -193,12 +217,18 @@ fn place_to_note(notes: &[Note], mixed: u64) -> usize
 #[derive(Drop)]
 pub struct NumberCache {
     list: Vec<Note>,
+    /// One less than the number of places.
+    mask: usize,
+    /// Notes are made of names of up to so many bytes: of none, while there are no places.
+    most: usize,
 }
 
 impl Model for NumberCache {
     ghost Value = { List ANote };
 
     ghost view = { λ n. n.list.items };
+
+    ghost invariant = { λ n. (n.most ≤ 16) × (0 < n.most → n.mask < length n.list.items) };
 }
 
 impl NumberCache {
@@ -208,6 +238,8 @@ impl NumberCache {
     {
         NumberCache {
             list: Vec::new(alloc),
+            mask: 0,
+            most: 0,
         }
     }
 
@@ -216,23 +248,14 @@ impl NumberCache {
     pub fn find(&self, name: &[u8]) -> Option<u32>
         ensures { IfSome result (λ number. IsFound self.now number name.now) }
     {
-        let places = self.list.len();
-        if places == 0 || !is_short(name) {
+        if !is_noted(name, self.most) {
             return None;
         }
-        let (words, mixed) = Words::of(name);
-        let place = place_of(mixed, places);
-        for step in 0..STEPS {
-            let note = &self.list[beside(place, step, places)];
-            if note.is_of(words, name.len()) {
-                return Some(note.number);
-            }
-            // A note goes to the first empty place, so there is none further on.
-            if note.length == 0 {
-                return None;
-            }
+        if name.len() <= WORD {
+            find_among::<false>(self.list.as_slice(), self.mask, name)
+        } else {
+            find_among::<true>(self.list.as_slice(), self.mask, name)
         }
-        None
     }
 
     /// Notes the number of the name, if that is short. The note may be left out.
@@ -240,11 +263,11 @@ impl NumberCache {
         ensures { (note : ANote) → IsOneOf self.new note
             → IsOneOf self.old note ⊎ IsNoteOf number name.now note }
     {
-        if self.list.is_empty() || !is_short(name) {
+        if !is_noted(name, self.most) {
             return;
         }
         let (words, mixed) = Words::of(name);
-        let place = place_to_note(&self.list, mixed);
+        let place = place_to_note(&self.list, self.mask, mixed);
         self.list[place] = Note {
             words,
             number,
@@ -262,9 +285,12 @@ impl NumberCache {
         ensures { (note : ANote) → IsOneOf self.new note → HoldsNone note }
     {
         let places = (names as usize * 4).next_power_of_two().max(FEWEST_PLACES);
+        self.most = 0;
         // The old places go first, so that both are never there at once.
         self.list = Vec::new(alloc);
         self.list = vec![in alloc; Note::none(); places]?;
+        self.mask = places - 1;
+        self.most = MOST_HELD;
         Ok(())
     }
 }
