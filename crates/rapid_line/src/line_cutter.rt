@@ -171,7 +171,8 @@ impl LineCutter {
     }
 
     /// The first line that ends in the piece, with what was kept of it, and the rest of the piece; none,
-    /// where no line ends in the piece, and then all of it is kept.
+    /// where no line ends in the piece, and then all of it is kept. A line that lies whole in the piece may
+    /// have any length; the answers of `line` for earlier lines no longer hold after the call.
     #[inline(always)]
     #[tactic(auto, using(crate::proofs::LineLaws::next_lines))]
     pub fn next_line<'a>(

@@ -1,12 +1,12 @@
 -- What the steps of a cutter take of a text, and where a text stands that was not read to its end.
-use Rattle.std.proofs.Common.{◌≡◌, ℕ, ◌+◌, ◌≤◌, ◌⊎◌, List, [], ◌∷◌, ◌++◌, length, length-append, take, drop}
+use Rattle.std.proofs.Common.{◌≡◌, ℕ, ◌≤◌, ◌⊎◌, List, [], ◌∷◌, ◌++◌, length, length-append, take, drop}
 use Rattle.std.proofs.Common.{Option, Some, None, Bool, true, refl, sym, ap, subst, ◌∙◌, append_assoc}
 use Rattle.std.proofs.Common.{append-nil, arith, inl, inr}
 use Rattle.std.proofs.lemmas.List.{length-drop, take-append-drop}
 use Rattle.std.specs.Prelude.{IfSome}
 use Rattle.std.specs.Io.KnownBytes.{Consumes}
 use Rattle.event_core.specs.declared.events.Event.{Event}
-use Rattle.rapid_line.specs.Cut.{Lacks, count, after_last}
+use Rattle.rapid_line.specs.Cut.{count, after_last}
 use Rattle.rapid_line.specs.Lines.{Lines, Cuts, Keeps}
 use Rattle.rapid_line.proofs.Cuts.{after_last-append, after_last-end, after_last-Lacks, count-append}
 use Rattle.rapid_line.proofs.Cuts.{count-Lacks}

@@ -1,6 +1,6 @@
 -- A text in pieces: what a cutter holds, and what a push and the end of the text do to it.
 use Rattle.std.specs.Prelude.{◌≡◌, ℕ, ◌+◌, ◌≤◌, ◌<◌, List, [], ◌++◌, length, take, drop, Option, Some, None}
-use Rattle.std.specs.Prelude.{IfSome}
+use Rattle.std.specs.Prelude.{IfSome, ◌==◌, if◌then◌else◌}
 use Rattle.event_core.specs.declared.events.Event.{Event}
 use Rattle.event_core.specs.Bounds.{Bounds}
 use Rattle.rapid_text.specs.declared.causes.Cause.{Cause}
@@ -72,6 +72,8 @@ FailsAt s piece f (causes.TooManyNames k) = Stops s piece f
 pub record Closes (old new : Cutting) (event : Option Event) : Type 0 where
   pub sound : judged old [] ≡ with_event new.line event (ended new.names)
   pub kept : new.kept ≡ []
+  -- it ended, if there was one
+  pub unfinished : new.unfinished ≡ (if length old.kept == 0 then old.unfinished else old.unfinished + 1)
   pub taken : new.taken ≡ old.taken
   pub line : event ≡ None → new.line ≡ old.line
   pub live : (old.failed ≡ None) × (new.failed ≡ None)

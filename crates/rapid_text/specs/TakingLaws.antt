@@ -1,5 +1,5 @@
 -- Pieces of a text that were taken, one after another, are one piece.
-use Rattle.std.proofs.Common.{◌≡◌, ℕ, ◌+◌, List, [], ◌∷◌, ◌++◌, length, length-append, refl, sym, ap, ◌∙◌}
+use Rattle.std.proofs.Common.{ℕ, List, [], ◌++◌, length-append, refl, sym, ap, ◌∙◌}
 use Rattle.std.proofs.Common.{append_assoc, append-nil, arith}
 use Rattle.rapid_line.proofs.Cuts.{after_last-append, count-append}
 use Rattle.rapid_line.specs.Cut.{after_last}

@@ -9,7 +9,7 @@ ghost use Rattle.std.specs.Result.{IsErrOf};
 ghost use Rattle.rapid_text.specs.Cutting.{most, failed_at};
 ghost use Rattle.rapid_text.specs.Tables.{TablesGrow};
 ghost use Rattle.rapid_text.specs.Events.{IsOfNames};
-ghost use Rattle.rapid_text.specs.Turns.{TakeBytes};
+ghost use Rattle.rapid_text.specs.Turns.{TakeBytes, TakeFew};
 ghost use Rattle.rapid_text.specs.Pulling.{unpulled, Answers, NoAnswer, pulling_of, to_judge};
 ghost use Rattle.rapid_text.specs.Texts.{BeginsAt};
 ghost use Rattle.rapid_text.specs.Reading.{Reading};
@@ -51,6 +51,7 @@ fn next_event<I: Input>(
     ensures told { IfErr result (λ f. f.cause ≢ Cause.Read → I.failed input.new ≡ I.failed input.old) }
     ensures room { OnOk result (cutter.new.taken + length window.new + 4096 * turns.new ≤ most) }
     ensures turns { turns.new ≤ turns.old }
+    ensures few { TakeFew turns.old (I.left input.old) turns.new (I.left input.new) }
     ensures bytes { OnOk result (ended.new ≡ false
         → TakeBytes turns.old (I.left input.old) turns.new (I.left input.new)) }
     ensures read { IfErr result (λ f. f.cause ≡ Cause.Read → I.failed input.new ≡ false
@@ -157,6 +158,8 @@ impl<I: Input> Reader<I> {
         ensures told { IfErr result (λ f.
             f.cause ≢ Cause.Read → self.new.read_failed ≡ self.old.read_failed) }
         ensures turns { self.new.text.turns ≤ self.old.text.turns }
+        // However it ends, no more than 4,096 bytes were pulled for each turn.
+        ensures few { TakeFew self.old.text.turns self.old.left self.new.text.turns self.new.left }
         // Each turn took a byte, but for the one that found the end of the text or a failure.
         ensures bytes { OnOk result (self.new.text.ended ≡ false
             → TakeBytes self.old.text.turns self.old.left self.new.text.turns self.new.left) }

@@ -5,7 +5,7 @@ use Rattle.rapid_text.specs.Pulling.{pulling_of}
 use Rattle.rapid_text.proofs.NameGrowth.{TablesGrow-trans, TablesGrow-same}
 use Rattle.rapid_text.proofs.Pulls.{runs_on, no_event, grown, handed_on, after_push, closes_text}
 use Rattle.rapid_text.proofs.Pulls.{push_fails, end_fails, end_begins}
-use Rattle.rapid_text.proofs.Turns.{takes_more}
+use Rattle.rapid_text.proofs.Turns.{takes_more, takes_few}
 use Rattle.rapid_text.proofs.reader.next_event.Goals as goal
 
 pub returns-in_err-event-in-Ok-eq0-clause-grows : goal.returns-in_err-event-in-Ok-eq0-clause-grows
@@ -60,6 +60,8 @@ pulls-preserved g c =
           ∙ (or-false (g.I.Input.failed c.pulls.input) ∙ c.pulls.invariant.healthy);
       bytes = takes_more c.args.turns.now c.pulls.turns _ _ _ _ c.pulls.invariant.bytes c.in-Ok.ensures.bytes
           (omega (arith, c.in-Ok.ensures.len, c.in-Ok.field-0-test.1)) (omega (arith, c.if-turns-eq0.false));
+      few = takes_few c.args.turns.now c.pulls.turns _ _ _ _ c.pulls.invariant.few c.in-Ok.ensures.bytes
+          c.in-Ok.ensures.short (omega (arith, c.if-turns-eq0.false));
       going = c.pulls.invariant.going;
       grows = TablesGrow-trans c.args.cutter.now.names c.pulls.cutter.names c.push.new.self.names
           c.pulls.invariant.grows c.push.ensures.grows;
