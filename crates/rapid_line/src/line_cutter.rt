@@ -6,7 +6,7 @@
 //!
 //! The way of a line that lies whole in a piece is inlined, since an answer that is handed up through memory
 //! costs more than the cut. What is rare stands in functions of its own.
-ghost use Rattle.std.specs.Prelude.{◌≡◌, ◌+◌, ◌<◌, ◌≤◌, ◌↔◌, ◌++◌, [], length, option_map, None, IsTrue};
+ghost use Rattle.std.specs.Prelude.{◌≡◌, ◌≢◌, ◌+◌, ◌<◌, ◌≤◌, ◌↔◌, ◌++◌, [], length, option_map, None, IsTrue};
 ghost use Rattle.std.specs.Prelude.{IfOk, IfSome, IfNone, OnOk, OnErr};
 ghost use Rattle.rapid_line.specs.Cut.{Lacks, cut};
 ghost use Rattle.rapid_line.specs.Marks.{IsKnown};
@@ -95,6 +95,7 @@ fn whole_line<'a>(
     ensures line { IfOk result (λ l. whole_or joined.new.items l ≡ kept.old.items ++ end.entry.bytes.now) }
     ensures known { IfOk result (λ l. IfSome l IsKnown) }
     ensures empty { OnOk result (kept.new.items ≡ []) }
+    ensures parted { OnErr result (kept.old.items ≢ []) }
     ensures long { OnErr result (1025 < length (kept.old.items ++ end.entry.bytes.now)) }
     ensures err { OnErr result ((kept.new ≡ kept.old) × (joined.new ≡ joined.old)) }
 {
@@ -189,6 +190,8 @@ impl LineCutter {
         // It is too long only where more than 1,025 bytes came of it, and then nothing changes.
         ensures too_long { OnErr result (IsTooLong self.old piece.entry.now) }
         ensures err { OnErr result (self.new ≡ self.old) }
+        // It does not lie whole in the piece: bytes of it were kept, or its end was not seen.
+        ensures parted { OnErr result (self.old.kept ≡ [] → Lacks 10 piece.entry.now) }
         // Of a line whose end was not seen no more is kept than this, and no LF.
         ensures kept { length self.new.kept ≤ 1025 }
         ensures unended { Lacks 10 self.new.kept }
