@@ -27,7 +27,7 @@ use Rattle.std.proofs.Common.{
   append_assoc,
   arith,
 }
-use Rattle.std.specs.Prelude.{◌≢◌, unwrap_or}
+use Rattle.std.specs.Prelude.{unwrap_or, IsSome}
 use Rattle.std.proofs.lemmas.List.{length-append, append-nil, take-append-le, drop_at, drop_all, take_all}
 use Rattle.event_core.specs.declared.events.Event.{Event}
 use Rattle.rapid_line.specs.declared.words.LineFault.TheVariants.{LineTooLong}
@@ -39,7 +39,7 @@ use Rattle.rapid_line.proofs.LineLaws.{first_cut}
 use Rattle.rapid_text.specs.declared.causes.Cause.{Cause}
 use Rattle.rapid_text.specs.declared.causes.Cause.TheVariants as causes
 use Rattle.rapid_text.specs.Tables.{Tables, TablesGrow}
-use Rattle.rapid_text.specs.Events.{content, reading, Fails}
+use Rattle.rapid_text.specs.Events.{content, reading, Fails, TakesNames}
 use Rattle.rapid_text.specs.Texts.{Judgement, stopped, with_event, after_line, judge, ended, FirstAt}
 use Rattle.rapid_text.specs.Cutting.{Cutting, judged, Stops, Pushes, FailsAt, ClosesAt}
 use Rattle.rapid_text.proofs.LongLines.{reading_long}
@@ -301,25 +301,27 @@ long_at start piece names lines rest n at g long more =
     let told : ℕ → Option (ℕ × Cause) = λ m. Some (m, causes.Line LineTooLong) in
     (both.0, both.1 ∙ ap told (sym at))
 
-event_first : (o : Option Event) (n : ℕ) (j : Judgement) → o ≢ None → FirstAt n (with_event n o j)
-event_first None n j some = absurd (some refl)
+event_first : (o : Option Event) (n : ℕ) (j : Judgement) → IsSome o → FirstAt n (with_event n o j)
+event_first None n j some = absurd cc
 event_first (Some e) n j some = refl
 
--- a line that is not without an event is the first
+-- a line that takes names is the first
 read_first : (read : Result (Option Event × Tables) Cause) (names : Tables) (n : ℕ)
-    (go : Tables → Judgement) → ((t : Tables) → read ≢ Ok (None, t)) → FirstAt n (after_line names n read go)
-read_first (Err f) names n go told = refl
-read_first (Ok p) names n go told =
-    let read : Option Event → Result (Option Event × Tables) Cause = λ o. Ok (o, p.1) in
-    event_first p.0 n (go p.1) (λ none. told p.1 (ap read none))
+    (go : Tables → Judgement) → TakesNames read → FirstAt n (after_line names n read go)
+read_first (Err (causes.TooManyNames k)) names n go takes = refl
+read_first (Err (causes.Line f)) names n go takes = absurd takes
+read_first (Err causes.OutOfMemory) names n go takes = absurd takes
+read_first (Err causes.Read) names n go takes = absurd takes
+read_first (Err causes.Failed) names n go takes = absurd takes
+read_first (Ok p) names n go takes = event_first p.0 n (go p.1) takes
 
 -- the text begins with this line
 first_there : (j : Judgement) (names : Tables) (line : List ℕ) (n m : ℕ) (go : Tables → Judgement)
     → n ≡ m → j ≡ after_line names m (reading names (content line)) go
-    → ((t : Tables) → reading names (content line) ≢ Ok (None, t)) → FirstAt n j
-first_there j names line n m go at is told =
+    → TakesNames (reading names (content line)) → FirstAt n j
+first_there j names line n m go at is takes =
     subst (λ (k : ℕ). FirstAt k j) (sym at) (subst (λ (i : Judgement). FirstAt m i) (sym is)
-    (read_first (reading names (content line)) names m go told))
+    (read_first (reading names (content line)) names m go takes))
 
 stopped_there : (j : Judgement) (names : Tables) (line : List ℕ) (n m : ℕ) (go : Tables → Judgement)
     (k : Cause) → n ≡ m → j ≡ after_line names m (reading names (content line)) go
@@ -344,17 +346,18 @@ next_judged start piece names lines next rest line after more g c =
 pub fails_at : (start : Cutting) (piece : List ℕ) (names : Tables) (lines next : Lines)
     (rest line after : List ℕ) (n : ℕ) (k : Cause) → n ≡ lines.unfinished
     → Going start piece names lines rest → Cuts lines rest line after next
-    → Fails k (reading names (content line)) → ((t : Tables) → reading names (content line) ≢ Ok (None, t))
+    → Fails k (reading names (content line))
+    → (k ≡ causes.OutOfMemory → TakesNames (reading names (content line)))
     → FailsAt start piece (record { line = n; cause = k }) k
-fails_at start piece names lines next rest line after n causes.OutOfMemory at g c fails told =
+fails_at start piece names lines next rest line after n causes.OutOfMemory at g c fails takes =
     λ more. first_there _ names line n lines.unfinished _ at
-    (next_judged start piece names lines next rest line after more g c) told
-fails_at start piece names lines next rest line after n causes.Read at g c fails told = absurd fails
-fails_at start piece names lines next rest line after n causes.Failed at g c fails told = absurd fails
-fails_at start piece names lines next rest line after n (causes.Line x) at g c fails told =
+    (next_judged start piece names lines next rest line after more g c) (takes refl)
+fails_at start piece names lines next rest line after n causes.Read at g c fails takes = absurd fails
+fails_at start piece names lines next rest line after n causes.Failed at g c fails takes = absurd fails
+fails_at start piece names lines next rest line after n (causes.Line x) at g c fails takes =
     λ more. stopped_there _ names line n lines.unfinished _ (causes.Line x) at
     (next_judged start piece names lines next rest line after more g c) fails
-fails_at start piece names lines next rest line after n (causes.TooManyNames x) at g c fails told =
+fails_at start piece names lines next rest line after n (causes.TooManyNames x) at g c fails takes =
     λ more. stopped_there _ names line n lines.unfinished _ (causes.TooManyNames x) at
     (next_judged start piece names lines next rest line after more g c) fails
 
@@ -367,16 +370,16 @@ last_judged names lines next told line e =
 -- the fault of the last line
 pub closes_at : (names : Tables) (lines next : Lines) (last : ℕ) (line : List ℕ) (n : ℕ) (k : Cause)
     → n ≡ lines.unfinished → Ends lines line next → Fails k (reading names (content line))
-    → ((t : Tables) → reading names (content line) ≢ Ok (None, t))
+    → (k ≡ causes.OutOfMemory → TakesNames (reading names (content line)))
     → ClosesAt (cutting_of names lines last) (record { line = n; cause = k }) k
-closes_at names lines next last line n causes.OutOfMemory at e fails told =
+closes_at names lines next last line n causes.OutOfMemory at e fails takes =
     first_there _ names line n lines.unfinished (λ t. ended t) at (last_judged names lines next last line e)
-    told
-closes_at names lines next last line n causes.Read at e fails told = absurd fails
-closes_at names lines next last line n causes.Failed at e fails told = absurd fails
-closes_at names lines next last line n (causes.Line x) at e fails told =
+    (takes refl)
+closes_at names lines next last line n causes.Read at e fails takes = absurd fails
+closes_at names lines next last line n causes.Failed at e fails takes = absurd fails
+closes_at names lines next last line n (causes.Line x) at e fails takes =
     stopped_there _ names line n lines.unfinished (λ t. ended t) (causes.Line x) at
     (last_judged names lines next last line e) fails
-closes_at names lines next last line n (causes.TooManyNames x) at e fails told =
+closes_at names lines next last line n (causes.TooManyNames x) at e fails takes =
     stopped_there _ names line n lines.unfinished (λ t. ended t) (causes.TooManyNames x) at
     (last_judged names lines next last line e) fails

@@ -12,6 +12,7 @@ use Rattle.std.specs.Prelude.{
   Result,
   Ok,
   Err,
+  IsSome,
   if◌then◌else◌,
 }
 use Rattle.event_core.specs.declared.events.Op.{Op}
@@ -77,6 +78,12 @@ event_or t (Ok e) = some_event (named_event t e)
 -- what a content comes to, and the names after it: no event where it is empty
 unfoldable pub reading : Tables → List ℕ → Result (Option Event × Tables) Cause
 reading t bytes = if length bytes == 0 then Ok (None, t) else event_or t (line_of bytes)
+
+-- what a line comes to takes names: it is an event, or has a name too many
+abbrev pub TakesNames : Result (Option Event × Tables) Cause → Type 0
+TakesNames (Ok p) = IsSome p.0
+TakesNames (Err (causes.TooManyNames k)) = Unit {0}
+TakesNames (Err f) = ⊥
 
 -- the cause is the one that was read, unless memory ran out
 abbrev pub Fails : {Y : Type 0} → Cause → Result Y Cause → Type 0

@@ -87,8 +87,11 @@ impl Cutter {
         // What is still to be judged is the same text, but for the event.
         ensures ok { IfOk result (λ r. Pushes self.old self.new piece.now r.0 r.1) }
         // A fault is the one at which the text stops, whatever follows. A growth is refused at the first line
-        // with an event or a fault.
+        // with an event or a fault, and there only where names are looked up.
         ensures fault { IfErr result (λ f. FailsAt self.old piece.now f f.cause) }
+        // A piece with which the text would pass 2^60 bytes is `Read`.
+        ensures full { self.old.failed ≡ None → most < self.old.taken + length piece.now →
+            IsErrOf result (record { line = self.old.unfinished; cause = Read }) }
         // No line before it has an event or a fault, and their names are numbered.
         ensures before { IfErr result (λ f. JudgedUpTo self.old piece.now f.line self.new.names) }
         // After a fault it fails from then on, and nothing changes.

@@ -1,12 +1,12 @@
 //! What a line comes to: an event with its names numbered, or the cause why it has none.
-ghost use Rattle.std.specs.Prelude.{◌≡◌, ◌≢◌, IfOk, IfErr, IfSome, OnErr, Ok, None};
+ghost use Rattle.std.specs.Prelude.{◌≡◌, IfOk, IfErr, IfSome, Ok};
 ghost use Rattle.rapid_line.specs.Cut.{Lacks};
 ghost use Rattle.rapid_line.specs.Grammar.{IsWellFormed};
 ghost use Rattle.rapid_line.specs.Marks.{IsKnown};
 ghost use Rattle.rapid_line.specs.Reading.{named_of, line_of, Gives};
-ghost use Rattle.rapid_text.specs.Tables.{Tables, IsNameOf, TablesGrow, number_in};
+ghost use Rattle.rapid_text.specs.Tables.{IsNameOf, TablesGrow, number_in};
 ghost use Rattle.rapid_text.specs.Events.{kind_of, op_of, number_or_fault, named_event, content, reading};
-ghost use Rattle.rapid_text.specs.Events.{Fails, IsOfNames};
+ghost use Rattle.rapid_text.specs.Events.{Fails, IsOfNames, TakesNames};
 
 use crate::causes::{Cause, Kind, NameFault};
 use crate::names::Names;
@@ -90,15 +90,15 @@ fn read_content(line: Line<'_>) -> Result<NamedLine<'_>, LineFault>
 
 /// What a line comes to, which stands without its LF.
 #[inline(always)]
-#[tactic(auto, unfolding(crate::specs::Events::reading))]
+#[tactic(auto, using(crate::proofs::NameGrowth::event_takes), unfolding(crate::specs::Events::reading))]
 pub fn line_event(names: &mut Names, line: Line<'_>) -> Result<Option<Event>, Cause>
     requires lf { Lacks 10 line.bytes.now }
     requires known { IsKnown line }
     ensures ok { IfOk result (λ e. reading names.old (content line.entry.bytes.now) ≡ Ok (e, names.new)) }
     ensures fault { IfErr result (λ f. Fails f (reading names.old (content line.entry.bytes.now))) }
-    // It fails at no line without an event.
-    ensures told { OnErr result ((t : Tables) →
-        reading names.old (content line.entry.bytes.now) ≢ Ok (None, t)) }
+    // Memory is refused only where names are looked up.
+    ensures memory { IfErr result (λ f. f ≡ Cause.OutOfMemory →
+        TakesNames (reading names.old (content line.entry.bytes.now))) }
     ensures grows { TablesGrow names.old names.new }
     ensures named { IfOk result (λ e. IfSome e (IsOfNames names.new)) }
 {

@@ -5,8 +5,8 @@
 //! words, and at each place stands a note of one name: most names are found by one read of memory. Where two
 //! names have one place, the second goes to a place beside it; where all those are taken, the note of an
 //! earlier name goes. Of a longer name there is no note.
-ghost use Rattle.std.specs.Prelude.{◌≡◌, ◌↔◌, ◌<◌, ◌≤◌, ◌⊎◌, ◌++◌, ◌-◌, List, [], length, take, drop};
-ghost use Rattle.std.specs.Prelude.{IfSome, IsTrue};
+ghost use Rattle.std.specs.Prelude.{◌≡◌, ◌↔◌, ◌<◌, ◌≤◌, ◌⊎◌, ◌++◌, ◌-◌, ◌/◌, List, [], length};
+ghost use Rattle.std.specs.Prelude.{take, drop, IfSome, IsTrue, OnOk};
 ghost use Rattle.std.specs.Int.{to_le_bytes, w32, w64};
 ghost use Rattle.rapid_text.specs.NumberCache.{IsOneOf, IsNoteOf, IsFound, HoldsNone, Tell, ends_of};
 ghost use Rattle.rapid_text.specs.declared.number_cache.Note.{Note as ANote};
@@ -276,13 +276,16 @@ impl NumberCache {
     }
 
     /// Whether there are two places or more for each of so many names, or as many as there may be.
-    pub fn have_room(&self, names: usize) -> bool {
+    pub fn have_room(&self, names: usize) -> bool
+        ensures { IsTrue result ↔ (65536 ≤ length self.now) ⊎ (names ≤ length self.now / 2) }
+    {
         self.list.len() >= MOST_PLACES || self.list.len() / 2 >= names
     }
 
     /// Makes two places or more for each of so many names, and forgets what was noted.
     pub fn make_room(&mut self, alloc: Global, names: u32) -> Result<(), AllocError>
-        ensures { (note : ANote) → IsOneOf self.new note → HoldsNone note }
+        ensures room { OnOk result (names ≤ length self.new / 2) }
+        ensures none { (note : ANote) → IsOneOf self.new note → HoldsNone note }
     {
         let places = (names as usize * 4).next_power_of_two().max(FEWEST_PLACES);
         self.most = 0;

@@ -1,5 +1,5 @@
 //! A page of fixed size between a text and its writer, so that a short piece of text is no write of its own.
-ghost use Rattle.std.specs.Prelude.{◌≡◌, [], List, ℕ, OnOk, OnErr, true};
+ghost use Rattle.std.specs.Prelude.{◌≡◌, ◌+◌, ◌≤◌, ◌++◌, [], List, ℕ, length, Ok, OnOk, OnErr, true};
 ghost use Rattle.rapid_text.specs.Pages.{Puts};
 
 use crate::output::{Output, WriteFault, write_all};
@@ -50,6 +50,9 @@ impl Page {
     pub fn put<W: Output>(&mut self, writer: &mut W, bytes: &[u8]) -> Result<(), WriteFault>
         ensures ok { OnOk result
             (Puts (W.written writer.old) self.old (W.written writer.new) self.new bytes.now) }
+        // Where they find room they wait, and nothing is written.
+        ensures waits { length self.old + length bytes.now ≤ 4096 →
+            (result ≡ Ok tt) × (self.new ≡ self.old ++ bytes.now) × (writer.new ≡ writer.old) }
         ensures healthy { OnOk result (W.failed writer.new ≡ W.failed writer.old) }
         ensures failed { OnErr result (W.failed writer.new ≡ true) }
     {

@@ -141,7 +141,7 @@ impl<I: Input> Reader<I> {
         // The event is the next of the text that is still to be judged, or that text has none left.
         ensures ok { IfOk result (Answers self.old.text self.old.left self.new.text self.new.left) }
         // The fault is the one at which that text stops, or a read failed, the turns are used up or a growth
-        // was refused at the first line with an event or a fault.
+        // was refused at the first line with an event or a fault, and there only where names are looked up.
         ensures fault { IfErr result (λ f.
             NoAnswer self.old.text self.old.left self.new.text self.new.left self.new.read_failed f f.cause) }
         // No line before it has an event or a fault, and their names are numbered.

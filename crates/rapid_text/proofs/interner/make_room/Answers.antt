@@ -5,10 +5,10 @@ use Rattle.rapid_text.proofs.NoteLaws.{right_empty, right_noted}
 use Rattle.rapid_text.proofs.interner.make_room.Goals as goal
 
 pub returns-in_err-make_room : goal.returns-in_err-make_room
-returns-in_err-make_room c = right_empty c.args.names.now c.make_room.new.self c.make_room.ensures
+returns-in_err-make_room c = right_empty c.args.names.now c.make_room.new.self c.make_room.ensures.none
 
 pub loop-number-init : goal.loop-number-init
-loop-number-init c = right_empty c.args.names.now c.make_room.new.self c.make_room.ensures
+loop-number-init c = right_empty c.args.names.now c.make_room.new.self c.make_room.ensures.none
 
 pub loop-number-preserved : goal.loop-number-preserved
 loop-number-preserved c =

@@ -15,4 +15,4 @@ returns-in-Err-clause-fault c =
     (subst (λ (s : Cutting). ClosesAt s (record { line = line; cause = cause }) cause) start
     (closes_at inside.names inside.lines c.last_line.new.self inside.line _ line cause
     c.in-Some-last_line.ensures.number c.in-Some-last_line.ensures.line
-    (rw c.line.ensures.bytes at c.in-Err.ensures.fault) (rw c.line.ensures.bytes at c.in-Err.ensures.told)))
+    (rw c.line.ensures.bytes at c.in-Err.ensures.fault) (rw c.line.ensures.bytes at c.in-Err.ensures.memory)))

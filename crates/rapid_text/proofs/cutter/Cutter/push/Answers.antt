@@ -52,7 +52,7 @@ returns-in-Err-line_event-clause-fault c =
     c.in-Ok-Some.cut.1.now c.in-Ok-Some.cut.0.number c.in-Err-line_event.cause
     (rw c.in-Ok-Some.field-0-is at c.in-Ok-Some.ensures.number) c.lines.invariant.going cut
     (rw c.line.ensures.bytes at c.in-Err-line_event.ensures.fault)
-    (rw c.line.ensures.bytes at c.in-Err-line_event.ensures.told))
+    (rw c.line.ensures.bytes at c.in-Err-line_event.ensures.memory))
 
 pub lines-smaller : goal.lines-smaller
 lines-smaller c =
