@@ -60,7 +60,7 @@ pub struct ReleaseClock<'a> {
 }
 
 impl ReleaseClocks {
-    ghost use Rattle.std.specs.Prelude.{◌≡◌, ℕ, ◌+◌, ◌*◌, ◌<◌, ◌≤◌, ◌^◌, ◌↔◌, [], length, OnOk, IsTrue};
+    ghost use Rattle.std.specs.Prelude.{◌≡◌, ℕ, ◌+◌, ◌*◌, ◌<◌, ◌≤◌, ◌^◌, ◌↔◌, [], length, OnOk, IsTrue, IsOk};
     ghost use Rattle.vector_clocks.specs.Counts.{counts_of};
     ghost use Rattle.vector_clocks.specs.Released.{thread_of, before_of};
     ghost use Rattle.vector_clocks.specs.Releases.{before, numbers_at, IsReadable, IsAdded};
@@ -74,12 +74,17 @@ impl ReleaseClocks {
         }
     }
 
-    /// Makes room for so many clocks more of the width. A refused growth is answered by `OutOfMemory`.
+    /// Makes room for so many clocks more of the width, where there is none. A refused growth is answered by
+    /// `OutOfMemory`.
     pub fn make_room(&mut self, more: usize, width: usize) -> Result<(), OutOfMemory>
         ensures same { self.new.numbers ≡ self.old.numbers }
         ensures larger { self.old.most ≤ self.new.most }
         ensures ok { OnOk result (length self.new.numbers + more * width ≤ self.new.most) }
+        ensures again { length self.old.numbers + more * width ≤ self.old.most → IsOk result }
     {
+        if self.ready(more, width) {
+            return Ok(());
+        }
         let Some(count) = more.checked_mul(width) else {
             return Err(OutOfMemory);
         };

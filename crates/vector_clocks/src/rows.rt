@@ -1,5 +1,6 @@
 //! Steps on tables of clocks, a row a thread or a lock. A row without numbers was not made yet.
 ghost use Rattle.std.specs.Prelude.{◌≡◌, ◌≢◌, ℕ, ◌+◌, ◌<◌, ◌^◌, ◌≤◌, ◌↔◌, length, replicate, OnOk, IsTrue};
+ghost use Rattle.std.specs.Prelude.{max, IsOk};
 ghost use Rattle.event_core.specs.Rows.{join, bump, with_row};
 ghost use Rattle.vector_clocks.specs.Counts.{counts_of};
 ghost use Rattle.vector_clocks.specs.Released.{before_of, clock_of};
@@ -125,8 +126,8 @@ pub fn row_or<'a>(rows: &'a [Clock], at: usize, zeros: &'a Clock) -> &'a Clock
     row
 }
 
-/// Makes the row's clock, with zeros, where it was not made. A refused growth is answered by
-/// `OutOfMemory`, and changes no number.
+/// Makes the row's clock, with zeros, where it was not made, and no other clock. A refused growth is answered
+/// by `OutOfMemory`, and changes no number.
 pub fn make_row(
     rows: &mut Vec<Clock>,
     alloc: Global,
@@ -139,7 +140,9 @@ pub fn make_row(
     ensures wide { AreWide width rows.new.items }
     ensures kept { (t : ℕ) → IsMade width rows.old.items t → IsMade width rows.new.items t }
     ensures others { (t : ℕ) → t ≢ at → widths_of rows.new.items t ≡ widths_of rows.old.items t }
+    ensures most { length rows.new.items ≤ max (length rows.old.items) (at + 1) }
     ensures made { OnOk result (IsMade width rows.new.items at) }
+    ensures again { 0 < width → IsMade width rows.old.items at → IsOk result }
 {
     grow_to(rows, at + 1, || Clock::unmade(alloc))?;
     if rows[at].width() == 0 {
