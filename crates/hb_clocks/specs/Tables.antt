@@ -1,11 +1,11 @@
 -- The tables of clocks: what they mean, and the room in them.
-use Rattle.std.specs.Prelude.{◌≡◌, ℕ, ◌<◌, List, length, replicate}
+use Rattle.std.specs.Prelude.{◌≡◌, ℕ, ◌+◌, ◌<◌, ◌≤◌, ◌⊎◌, List, length, max, replicate}
 use Rattle.event_core.specs.declared.ids.ThreadId.{ThreadId}
 use Rattle.event_core.specs.declared.events.Event.{Event}
 use Rattle.event_core.specs.declared.events.Op.{Op}
 use Rattle.event_core.specs.declared.events.Op.TheVariants.{Acquire, Release, Fork, Join}
 use Rattle.event_core.specs.Rows.{Rows}
-use Rattle.vector_clocks.specs.Rows.{rows_of, IsMade, AreWide}
+use Rattle.vector_clocks.specs.Rows.{rows_of, widths_of, IsMade, AreWide}
 use Rattle.hb_clocks.specs.State.{HbState}
 use Rattle.hb_clocks.specs.Holds.{depths_of, HasHold}
 use Rattle.hb_clocks.specs.declared.holds.Hold.{Hold}
@@ -58,6 +58,47 @@ pub record IsReady (c : Tables) (t : ThreadId) (op : Op) : Type 0 where
 -- what was ready stays so
 abbrev pub KeepsRoom : Tables → Tables → Type 0
 KeepsRoom old new = (t : ThreadId) (op : Op) → IsReady old t op → IsReady new t op
+
+-- the operation names the thread, or the lock
+abbrev pub IsThreadOf : Op → ℕ → Type 0
+IsThreadOf (Fork v) u = u ≡ v.0
+IsThreadOf (Join v) u = u ≡ v.0
+IsThreadOf _ u = ⊥
+
+abbrev pub IsLockOf : Op → ℕ → Type 0
+IsLockOf (Acquire m) l = l ≡ m.0
+IsLockOf (Release m) l = l ≡ m.0
+IsLockOf _ l = ⊥
+
+-- the thread is the operation's, or named by it
+abbrev pub IsThreadFor : ThreadId → Op → ℕ → Type 0
+IsThreadFor t op u = (u ≡ t.0) ⊎ IsThreadOf op u
+
+-- how many rows the operation needs in a table of threads, and in one of locks
+abbrev pub named_threads : Op → ℕ
+named_threads (Fork v) = v.0 + 1
+named_threads (Join v) = v.0 + 1
+named_threads _ = 0
+
+abbrev pub threads_for : ThreadId → Op → ℕ
+threads_for t op = max (t.0 + 1) (named_threads op)
+
+abbrev pub locks_for : Op → ℕ
+locks_for (Acquire l) = l.0 + 1
+locks_for (Release l) = l.0 + 1
+locks_for _ = 0
+
+-- the table has not grown beyond so many rows, and no clock was made but of those that are named
+pub record HasGrown (rows : ℕ) (IsNamed : ℕ → Type 0) (old new : List (List ℕ)) : Type 0 where
+  pub most : length new ≤ max (length old) rows
+  pub others : (u : ℕ) → (IsNamed u → ⊥) → widths_of new u ≡ widths_of old u
+
+-- no table has grown beyond the numbers that the operation names, and clocks were made of these alone
+pub record GrownFor (old new : Tables) (t : ThreadId) (op : Op) : Type 0 where
+  pub po : HasGrown (threads_for t op) (IsThreadFor t op) old.po new.po
+  pub hb : HasGrown (threads_for t op) (IsThreadFor t op) old.hb new.hb
+  pub lock : HasGrown (locks_for op) (IsLockOf op) old.lock new.lock
+  pub holds : length new.holds ≤ max (length old.holds) (locks_for op)
 
 -- the threads that are named are below the width
 abbrev pub NamesWithin : ℕ → Op → Type 0

@@ -5,8 +5,10 @@
 //! a fork gives its clocks to the child at once. A lock's clock counts what is below its latest outer
 //! release. The log itself is not kept.
 ghost use Rattle.std.specs.Prelude.{◌≡◌, ℕ, ◌+◌, ◌<◌, ◌≤◌, ◌^◌, ◌↔◌, List, [], ◌∷◌, ◌++◌, length, IfOk};
-ghost use Rattle.std.specs.Prelude.{IsTrue, OnOk};
+ghost use Rattle.std.specs.Prelude.{IsTrue, IsOk, OnOk};
 ghost use Rattle.event_core.specs.declared.events.Event.{Event as AnEvent};
+ghost use Rattle.event_core.specs.declared.events.Op.{Op as Operation};
+ghost use Rattle.event_core.specs.declared.ids.ThreadId.{ThreadId as AThread};
 ghost use Rattle.event_core.specs.declared.bounds.Limits.{Limits as Bounds};
 ghost use Rattle.event_core.specs.Order.{Po, Hb};
 ghost use Rattle.event_core.specs.Refusal.{WellFormed};
@@ -16,7 +18,8 @@ ghost use Rattle.vector_clocks.specs.Marks.{IsLatest, Names};
 ghost use Rattle.vector_clocks.specs.Work.{more_joins};
 ghost use Rattle.hb_clocks.specs.State.{empty, after, effect, joins_of, latest_mark};
 ghost use Rattle.hb_clocks.specs.Stands.{Stands, Admits, IsFew};
-ghost use Rattle.hb_clocks.specs.Tables.{state_of, IsReady, KeepsRoom, IsWithin, HasThread};
+ghost use Rattle.hb_clocks.specs.Tables.{tables, state_of, IsReady, KeepsRoom, IsWithin, HasThread};
+ghost use Rattle.hb_clocks.specs.Tables.{GrownFor, IsThreadFor, IsLockOf, threads_for, locks_for};
 ghost use Rattle.vector_clocks.specs.Rows.{IsMade};
 
 use crate::holds::{Hold, NO_HOLD, may_enter};
@@ -55,9 +58,10 @@ impl Model for HbClocks {
 
 impl HbClocks {
     /// The clocks of the empty log, of the width of the limit of threads, and the one `Work` beside
-    /// them.
+    /// them. No thread or lock has a clock yet.
     pub fn new(alloc: Global, limits: &Limits) -> Result<(HbClocks, Work), OutOfMemory>
         ensures width { IfOk result (λ made. made.0.width ≡ limits.now.threads) }
+        ensures unmade { IfOk result (λ made. made.0 ≡ tables limits.now.threads [] [] [] []) }
         ensures empty { IfOk result (λ made. state_of made.0 ≡ empty) }
         ensures stands { IfOk result (λ made. Stands [] (state_of made.0)) }
         ensures work { IfOk result (λ made. made.1 ≡ record { comparisons = 0; joins = 0 }) }
@@ -77,14 +81,20 @@ impl HbClocks {
     }
 
     /// Makes room for the event, whose threads are below the width. No number changes, whether there
-    /// is memory or not.
+    /// is memory or not. Where there is room nothing changes, and none is needed.
     pub fn prepare(&mut self, event: &Event) -> Result<(), OutOfMemory>
         requires { IsWithin self.old.width event.now }
         ensures same { state_of self.new ≡ state_of self.old }
         ensures ready { OnOk result (IsReady self.new event.now.thread event.now.op) }
+        ensures again { IsReady self.old event.now.thread event.now.op
+            → IsOk result × (self.new ≡ self.old) }
         ensures kept { KeepsRoom self.old self.new }
+        ensures grown { GrownFor self.old self.new event.now.thread event.now.op }
         ensures width { self.new.width ≡ self.old.width }
     {
+        if self.ready(event) {
+            return Ok(());
+        }
         self.make_thread(event.thread)?;
         match event.op {
             Op::Fork(child) | Op::Join(child) => self.make_thread(child),
@@ -195,6 +205,8 @@ impl HbClocks {
         ensures same { state_of self.new ≡ state_of self.old }
         ensures made { OnOk result (HasThread self.new.width self.new.po self.new.hb thread.0) }
         ensures kept { KeepsRoom self.old self.new }
+        ensures grown { (t : AThread) (o : Operation) → thread.0 < threads_for t o
+            → IsThreadFor t o thread.0 → GrownFor self.old self.new t o }
         ensures width { self.new.width ≡ self.old.width }
     {
         make_row(&mut self.po, self.alloc, self.width, thread.0 as usize)?;
@@ -207,6 +219,8 @@ impl HbClocks {
         ensures clock { OnOk result (IsMade self.new.width self.new.lock lock.0) }
         ensures hold { OnOk result (lock.0 < length self.new.holds) }
         ensures kept { KeepsRoom self.old self.new }
+        ensures grown { (t : AThread) (o : Operation) → lock.0 < locks_for o → IsLockOf o lock.0
+            → GrownFor self.old self.new t o }
         ensures width { self.new.width ≡ self.old.width }
     {
         let at = lock.0 as usize;

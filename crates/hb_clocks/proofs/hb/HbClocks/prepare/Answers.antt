@@ -1,7 +1,8 @@
-use Rattle.std.proofs.Common.{◌<◌, length}
+use Rattle.std.proofs.Common.{◌<◌, length, inl, refl, arith}
 use Rattle.hb_clocks.specs.Tables.{HasThread, IsReady}
 use Rattle.vector_clocks.specs.Rows.{IsMade}
 use Rattle.hb_clocks.proofs.Room.{on_ok, on_both, thread_stays, ready_lock, ready_thread}
+use Rattle.hb_clocks.proofs.Room.{grown_then, lock_grown, thread_grown}
 use Rattle.hb_clocks.proofs.hb.HbClocks.prepare.Goals as goal
 
 pub returns-in-Acquire-clause-kept : goal.returns-in-Acquire-clause-kept
@@ -34,3 +35,25 @@ returns-in-Fork-clause-ready c =
     (thread_stays c.make_thread.new.self new t c.make_thread-in-Fork.ensures.kept
     c.in_ok-make_thread.ensures.made))
     c.make_thread-in-Fork.ensures.made
+
+pub returns-in_err-make_thread-clause-grown : goal.returns-in_err-make_thread-clause-grown
+returns-in_err-make_thread-clause-grown c =
+    c.make_thread.ensures.grown c.args.event.now.thread c.args.event.now.op (omega arith) (inl refl)
+
+pub returns-in-Load-clause-grown : goal.returns-in-Load-clause-grown
+returns-in-Load-clause-grown c =
+    c.make_thread.ensures.grown c.args.event.now.thread c.args.event.now.op (omega arith) (inl refl)
+
+pub returns-in-Acquire-clause-grown : goal.returns-in-Acquire-clause-grown
+returns-in-Acquire-clause-grown c =
+    let t = c.args.event.now.thread in
+    let op = c.args.event.now.op in
+    grown_then _ _ _ t op (c.make_thread.ensures.grown t op (omega arith) (inl refl))
+    (lock_grown _ _ t op c.in-Acquire.lock c.in-Acquire.is (c.make_lock.ensures.grown t))
+
+pub returns-in-Fork-clause-grown : goal.returns-in-Fork-clause-grown
+returns-in-Fork-clause-grown c =
+    let t = c.args.event.now.thread in
+    let op = c.args.event.now.op in
+    grown_then _ _ _ t op (c.make_thread.ensures.grown t op (omega arith) (inl refl))
+    (thread_grown _ _ t op c.in-Fork.child c.in-Fork.is (c.make_thread-in-Fork.ensures.grown t))
