@@ -1,7 +1,8 @@
 -- What the tables mean where a queue has other room.
-use Rattle.std.proofs.Common.{◌≡◌, ℕ, ◌<◌, Bool, true, List, length, get_or, map, set, ap, ◌∙◌}
+use Rattle.std.proofs.Common.{◌≡◌, ℕ, ◌+◌, ◌<◌, ◌≤◌, Bool, true, List, length, get_or, map, set, ap, ◌∙◌}
+use Rattle.std.proofs.Common.{refl, arith, length-set}
 use Rattle.std.proofs.lemmas.List.{get_or_read}
-use Rattle.std.specs.Prelude.{slice_index}
+use Rattle.std.specs.Prelude.{max, slice_index}
 use Rattle.event_core.specs.Bounds.{Bounds}
 use Rattle.event_core.specs.Rows.{with_row}
 use Rattle.lock_queues.specs.Sections.{closed_as, sections_of}
@@ -9,7 +10,8 @@ use Rattle.lock_queues.specs.Rooms.{has_room_in, opened_in}
 use Rattle.lock_queues.specs.Queue.{Kept, queue_at, no_queue, AreAlike}
 use Rattle.lock_queues.specs.Queue.{SameMeaning as SameQueue}
 use Rattle.lock_queues.specs.Queues.{Tables, SameMeaning, closed_of, opened_of, found_of, has_room}
-use Rattle.lock_queues.proofs.Lifting.{lifted_same, lifted_cell}
+use Rattle.lock_queues.specs.Queues.{GrownFor}
+use Rattle.lock_queues.proofs.Lifting.{at_same, at_other, lifted_same, lifted_cell}
 use Rattle.lock_queues.proofs.Searching.{tables}
 
 -- the queues rs hold the same as qs, and x of them is replaced by q
@@ -57,3 +59,34 @@ rooms_same v b qs rs ns ms l x q is alike lt found same =
     (λ i u m. lifted_same (λ (y : Kept). has_room_in y.rooms) rs l q lt
     (ap has_room_in same ∙ ap (λ (y : Kept). has_room_in y.rooms) read) m i u)
     ∙ (λ i u m. has_room_in ((alike m).1 i) u) ∙ ap has_room is
+
+-- the queues rs are no more than up to the lock, and so are the numbers of q up to the thread
+pub grown_tables : (v : Tables) (b : Bounds) (qs rs : List Kept) (ns ms : List ℕ) (t l : ℕ) (x q : Kept)
+    → tables b qs ns ≡ v → AreAlike qs rs → ms ≡ ns → l < length rs → x ≡ get_or rs l x
+    → length rs ≤ max (length qs) (l + 1) → length q.found ≤ max (length x.found) (t + 1)
+    → GrownFor v (tables b (set rs l q) ms) t l
+grown_tables v b qs rs ns ms t l x q is alike numbers lt found most few =
+    let read : x ≡ queue_at rs l = get_or_read rs l x lt found no_queue in
+    rw (← is) (record {
+      queues = omega (arith, most, length-set rs l q);
+      found = omega (
+        arith,
+        few,
+        ap (λ (y : Kept). length y.found) (at_same rs l l q lt refl),
+        ap (λ (y : Kept). length y.found) read,
+        ap length (alike l).2,
+      );
+      others = λ m away. ap (λ (y : Kept). y.found) (at_other rs l m q away) ∙ (alike m).2;
+      numbers = numbers;
+    })
+
+-- the same where there are further queues alone
+pub grown_queues : (v : Tables) (b : Bounds) (qs rs : List Kept) (ns ms : List ℕ) (t l : ℕ)
+    → tables b qs ns ≡ v → AreAlike qs rs → ms ≡ ns → length rs ≤ max (length qs) (l + 1)
+    → GrownFor v (tables b rs ms) t l
+grown_queues v b qs rs ns ms t l is alike numbers most = rw (← is) (record {
+  queues = most;
+  found = omega (arith, ap length (alike l).2);
+  others = λ m away. (alike m).2;
+  numbers = numbers;
+})

@@ -1,5 +1,5 @@
 -- What is kept of all locks, and what it means.
-use Rattle.std.specs.Prelude.{ℕ, ◌≡◌, ◌+◌, ◌*◌, ◌<◌, ◌≤◌, List, length, map, slice_index, Bool}
+use Rattle.std.specs.Prelude.{ℕ, ◌≡◌, ◌+◌, ◌*◌, ◌<◌, ◌≤◌, List, length, map, max, slice_index, Bool}
 use Rattle.std.specs.Prelude.{sum_by}
 use Rattle.event_core.specs.Bounds.{Bounds}
 use Rattle.event_core.specs.Closed.{Closed, number_counted}
@@ -61,3 +61,12 @@ pub record SameMeaning (old new : Tables) : Type 0 where
   pub opened : opened_of new ≡ opened_of old
   pub found : found_of new ≡ found_of old
   pub limits : new.limits ≡ old.limits
+
+-- the queues have grown up to the lock at most, and in its own the numbers found up to the thread; no clause
+-- bounds the memory that is reserved
+pub record GrownFor (old new : Tables) (thread lock : ℕ) : Type 0 where
+  pub queues : length new.queues ≤ max (length old.queues) (lock + 1)
+  pub found : length (queue_at new.queues lock).found
+      ≤ max (length (queue_at old.queues lock).found) (thread + 1)
+  pub others : (l : ℕ) → (l ≡ lock → ⊥) → (queue_at new.queues l).found ≡ (queue_at old.queues l).found
+  pub numbers : new.numbers ≡ old.numbers

@@ -42,7 +42,7 @@ impl Model for Queue {
 }
 
 impl Queue {
-    ghost use Rattle.std.specs.Prelude.{◌≡◌, ℕ, ◌+◌, ◌-◌, ◌<◌, ◌≤◌, ◌^◌, length, cond};
+    ghost use Rattle.std.specs.Prelude.{◌≡◌, ℕ, ◌+◌, ◌-◌, ◌<◌, ◌≤◌, ◌^◌, length, max, cond};
     ghost use Rattle.std.specs.Prelude.{true, false, MatchOption, IsTrue, OnOk, OnErr, slice_index};
     ghost use Rattle.event_core.specs.Rows.{with_row};
     ghost use Rattle.vector_clocks.specs.Counts.{counts_of};
@@ -81,6 +81,7 @@ impl Queue {
             (has_room_in self.new.rooms ≡ with_row thread.0 true (has_room_in self.old.rooms)) }
         ensures more { OnOk result (length self.new.rooms ≡ length self.old.rooms + 1) }
         ensures err { OnErr result (self.new.rooms ≡ self.old.rooms) }
+        ensures most { length self.new.found ≤ max (length self.old.found) (thread.0 + 1) }
     {
         self.reserve(thread)?;
         let room = Room {
@@ -100,6 +101,7 @@ impl Queue {
         ensures many { length self.new.rooms ≡ length self.old.rooms + cond {A = ℕ} result 1 0 }
         ensures kept { (t : ℕ) → IsTrue (has_room_in self.old.rooms t)
             → IsTrue (has_room_in self.new.rooms t) }
+        ensures found { self.new.found ≡ self.old.found }
     {
         let more = self.rooms.len() + 1;
         if self.found.len() <= thread.0 as usize || self.rooms.capacity() < more {
@@ -120,6 +122,7 @@ impl Queue {
         requires within { thread.0 < self.old.width }
         ensures same { SameMeaning self.old self.new }
         ensures rooms { self.new.rooms ≡ self.old.rooms }
+        ensures most { length self.new.found ≤ max (length self.old.found) (thread.0 + 1) }
         ensures found { OnOk result (thread.0 < length self.new.found) }
         ensures spare { OnOk result
             (length self.new.entries + (length self.new.rooms + 1) ≤ self.new.most) }

@@ -10,7 +10,7 @@
 //!
 //! Rule (a) asks for single sections, by their numbers: so what names a section keeps its number alone, and
 //! the clock of its release is kept once, here.
-ghost use Rattle.std.specs.Prelude.{◌≡◌, ℕ, ◌≤◌, length, OnOk};
+ghost use Rattle.std.specs.Prelude.{◌≡◌, ℕ, ◌≤◌, length, max, OnOk};
 ghost use Rattle.lock_queues.specs.Queue.{AreAlike};
 ghost use Rattle.lock_queues.specs.Queues.{AreWide, count_rooms};
 
@@ -69,7 +69,7 @@ impl Queues {
     ghost use Rattle.vector_clocks.specs.Released.{thread_of, before_of, clock_of};
     ghost use Rattle.vector_clocks.specs.Releases.{before};
     ghost use Rattle.lock_queues.specs.Queues.{closed_of, opened_of, found_of, has_room, counted_of};
-    ghost use Rattle.lock_queues.specs.Queues.{SameMeaning};
+    ghost use Rattle.lock_queues.specs.Queues.{SameMeaning, GrownFor};
     ghost use Rattle.lock_queues.specs.Sections.{closed_at, latest_counted};
     ghost use Rattle.lock_queues.specs.Searched.{CountsEarlier, FindsCounted, IsAboveAll, IsLatestBefore};
     ghost use Rattle.lock_queues.specs.Searched.{IsSection};
@@ -107,6 +107,7 @@ impl Queues {
             ≡ with_row thread.0 (with_row lock.0 true (has_room self.old thread.0)) (has_room self.old)) }
         ensures err { OnErr result (has_room self.new ≡ has_room self.old) }
         ensures again { IsTrue (has_room self.old thread.0 lock.0) → IsOk result }
+        ensures grown { GrownFor self.old self.new thread.0 lock.0 }
     {
         if self.ready(thread, lock) {
             return Ok(());
@@ -133,12 +134,13 @@ impl Queues {
         at < self.queues.len() && self.queues[at].ready(thread)
     }
 
-    /// Makes room for the thread's next section on the lock where that takes no memory; no clause tells whether
-    /// it does. Tells whether there is room for it now, or for the open one, as `ready` does.
+    /// Makes room for the thread's next section on the lock where that takes no memory; no clause tells
+    /// whether it does. Tells whether there is room for it now, or for the open one, as `ready` does.
     pub fn make_ready(&mut self, thread: ThreadId, lock: LockId) -> bool
         ensures room { result ≡ has_room self.new thread.0 lock.0 }
         ensures same { SameMeaning self.old self.new }
         ensures kept { (t l : ℕ) → IsTrue (has_room self.old t l) → IsTrue (has_room self.new t l) }
+        ensures grown { GrownFor self.old self.new thread.0 lock.0 }
     {
         if self.ready(thread, lock) {
             return true;
@@ -330,6 +332,7 @@ fn grow(
     ensures wide { AreWide width queues.new.items }
     ensures rooms { count_rooms queues.new.items ≡ count_rooms queues.old.items }
     ensures more { length queues.old.items ≤ length queues.new.items }
+    ensures most { length queues.new.items ≤ max (length queues.old.items) count }
     ensures ok { OnOk result (count ≤ length queues.new.items) }
 {
     grow_to(queues, count, || Queue::new(alloc, width))

@@ -1,5 +1,5 @@
 use Rattle.std.proofs.Common.{ℕ, ◌+◌, ◌*◌, ◌<◌, Bool, cond, length, refl, ap, ◌∙◌, arith}
-use Rattle.lock_queues.proofs.Sameness.{same_tables}
+use Rattle.lock_queues.proofs.Sameness.{same_tables, grown_tables}
 use Rattle.lock_queues.proofs.Tables.{kept_set}
 use Rattle.lock_queues.proofs.queues.Queues.make_ready.Goals as goal
 
@@ -51,3 +51,25 @@ returns-else-is_made-clause-same c =
     let lt : l < length c.self.inside.queues.items = omega (arith, queues) in
     same_tables _ _ _ _ _ _ l _ _ c.self.view_is (λ m. (refl, refl, refl)) refl lt
     c.index_mut-queue.ensures.value c.make_ready-is_made.ensures.same
+
+pub returns-then-is_made-clause-grown : goal.returns-then-is_made-clause-grown
+returns-then-is_made-clause-grown c =
+    let l = c.args.lock.0 in
+    let len = c.len.ensures in
+    let past = c.if-len-at.false in
+    let queues = c.self.inside.queues.ok in
+    let lt : l < length c.self.inside.queues.items = omega (arith, queues) in
+    let same = ap length c.make_ready-is_made.ensures.found in
+    grown_tables _ _ _ _ _ _ c.args.thread.0 l _ _ c.self.view_is (λ m. (refl, refl, refl)) refl lt
+    c.index_mut-queue.ensures.value (omega arith) (omega (arith, same))
+
+pub returns-else-is_made-clause-grown : goal.returns-else-is_made-clause-grown
+returns-else-is_made-clause-grown c =
+    let l = c.args.lock.0 in
+    let len = c.len.ensures in
+    let past = c.if-len-at.false in
+    let queues = c.self.inside.queues.ok in
+    let lt : l < length c.self.inside.queues.items = omega (arith, queues) in
+    let same = ap length c.make_ready-is_made.ensures.found in
+    grown_tables _ _ _ _ _ _ c.args.thread.0 l _ _ c.self.view_is (λ m. (refl, refl, refl)) refl lt
+    c.index_mut-queue.ensures.value (omega arith) (omega (arith, same))

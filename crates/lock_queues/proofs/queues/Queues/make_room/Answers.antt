@@ -1,6 +1,6 @@
-use Rattle.std.proofs.Common.{◌*◌, ◌<◌, length, sym, ap, ◌∙◌, arith}
+use Rattle.std.proofs.Common.{◌*◌, ◌<◌, length, refl, sym, ap, ◌∙◌, arith}
 use Rattle.lock_queues.proofs.Answering.{where_err}
-use Rattle.lock_queues.proofs.Sameness.{same_tables, room_made, rooms_same}
+use Rattle.lock_queues.proofs.Sameness.{same_tables, room_made, rooms_same, grown_tables, grown_queues}
 use Rattle.lock_queues.proofs.Tables.{kept_larger, kept_alike, kept_set}
 use Rattle.lock_queues.proofs.queues.Queues.make_room.Goals as goal
 
@@ -76,3 +76,31 @@ returns-clause-ok c =
     let lt : l < length c.grow.new.queues.items = omega arith in
     room_made _ _ _ _ _ c.make_room.new.self.numbers c.args.thread.0 l _ c.make_room-2.new.self
     c.self.view_is c.grow.ensures.same lt c.index_mut-queue.ensures.value c.in_ok-make_room-2.ensures.ok
+
+pub returns-in_err-make_room-clause-grown : goal.returns-in_err-make_room-clause-grown
+returns-in_err-make_room-clause-grown c =
+    grown_queues _ _ _ _ _ _ c.args.thread.0 c.args.lock.0 c.self.view_is (λ m. (refl, refl, refl))
+    c.make_room.ensures.same (omega arith)
+
+pub returns-in_err-grow-clause-grown : goal.returns-in_err-grow-clause-grown
+returns-in_err-grow-clause-grown c =
+    grown_queues _ _ _ _ _ _ c.args.thread.0 c.args.lock.0 c.self.view_is c.grow.ensures.same
+    c.make_room.ensures.same c.grow.ensures.most
+
+pub returns-in_err-make_room-2-clause-grown : goal.returns-in_err-make_room-2-clause-grown
+returns-in_err-make_room-2-clause-grown c =
+    let l = c.args.lock.0 in
+    let ok = c.in_ok-grow.ensures.ok in
+    let lt : l < length c.grow.new.queues.items = omega arith in
+    grown_tables _ _ _ _ _ _ c.args.thread.0 l _ _ c.self.view_is c.grow.ensures.same
+    c.make_room.ensures.same lt c.index_mut-queue.ensures.value c.grow.ensures.most
+    c.make_room-2.ensures.most
+
+pub returns-clause-grown : goal.returns-clause-grown
+returns-clause-grown c =
+    let l = c.args.lock.0 in
+    let ok = c.in_ok-grow.ensures.ok in
+    let lt : l < length c.grow.new.queues.items = omega arith in
+    grown_tables _ _ _ _ _ _ c.args.thread.0 l _ _ c.self.view_is c.grow.ensures.same
+    c.make_room.ensures.same lt c.index_mut-queue.ensures.value c.grow.ensures.most
+    c.make_room-2.ensures.most
