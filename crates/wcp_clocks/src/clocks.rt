@@ -7,7 +7,7 @@
 //! its lock whose acquire is strictly below it. All else is handed on as happens-before is: by forks and
 //! joins, and from a release to a later acquire. The log itself is not kept.
 ghost use Rattle.std.specs.Prelude.{◌≡◌, ℕ, ◌<◌, ◌≤◌, ◌+◌, ◌↔◌, List, [], ◌∷◌, ◌++◌, length, max, IfOk};
-ghost use Rattle.std.specs.Prelude.{OnOk, IsTrue};
+ghost use Rattle.std.specs.Prelude.{IsOk, OnOk, IsTrue};
 ghost use Rattle.event_core.specs.declared.events.Event.{Event as AnEvent};
 ghost use Rattle.event_core.specs.declared.ids.ThreadId.{ThreadId as AThread};
 ghost use Rattle.event_core.specs.declared.bounds.Limits.{Limits as Bounds};
@@ -70,11 +70,12 @@ impl WcpClocks {
     }
 
     /// Makes room for the event, whose numbers are within the limits. No number changes, whether there
-    /// is memory or not.
+    /// is memory or not. Where there is room nothing changes, and none is needed.
     pub fn prepare(&mut self, event: &Event) -> Result<(), OutOfMemory>
         requires { IsWithin self.old event.now }
         ensures same { SameNumbers self.old self.new }
         ensures ready { OnOk result (IsReady self.new event.now) }
+        ensures again { IsReady self.old event.now → IsOk result × (self.new ≡ self.old) }
         ensures kept { KeepsReady self.old self.new }
         ensures limits { SameLimits self.old self.new }
     {
@@ -106,11 +107,12 @@ impl WcpClocks {
     }
 
     /// Makes room for both events of a swap, a load and then a store of the variable. No number changes,
-    /// whether there is memory or not.
+    /// whether there is memory or not. Where there is room nothing changes, and none is needed.
     pub fn prepare_swap(&mut self, thread: ThreadId, var: VarId) -> Result<(), OutOfMemory>
         requires { thread.0 < width_of self.old }
         ensures same { SameNumbers self.old self.new }
         ensures ready { OnOk result (IsReadyToSwap self.new thread var) }
+        ensures again { IsReadyToSwap self.old thread var → IsOk result × (self.new ≡ self.old) }
         ensures kept { KeepsReady self.old self.new }
         ensures limits { SameLimits self.old self.new }
     {

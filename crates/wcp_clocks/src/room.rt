@@ -1,5 +1,5 @@
 //! Room for an event, part by part.
-ghost use Rattle.std.specs.Prelude.{◌≡◌, ◌<◌, ◌↔◌, IfOk, OnOk, IsTrue};
+ghost use Rattle.std.specs.Prelude.{◌≡◌, ◌<◌, ◌↔◌, IsOk, IfOk, OnOk, IsTrue};
 ghost use Rattle.hb_clocks.specs.State.{empty as hb_empty};
 ghost use Rattle.hb_clocks.specs.Stands.{IsHeldRelease};
 ghost use Rattle.hb_clocks.specs.Tables as hb;
@@ -47,14 +47,18 @@ pub(crate) fn new_parts(alloc: Global, limits: &Limits) -> Result<Parts, OutOfMe
     })
 }
 
-// Makes room for the event.
+// Makes room for the event, where there is none.
 #[tactic(auto, using(crate::proofs::Growth::grown_then))]
 pub(crate) fn prepare_parts(parts: &mut Parts, event: &Event) -> Result<(), OutOfMemory>
     requires parts { AreParts parts.old }
     requires within { IsWithin parts.old event.now }
     ensures grown { HasGrown parts.old parts.new }
     ensures ready { OnOk result (IsReady parts.new event.now) }
+    ensures again { IsReady parts.old event.now → IsOk result × (parts.new ≡ parts.old) }
 {
+    if are_ready(parts, event) {
+        return Ok(());
+    }
     make_clocks(parts, event)?;
     make_places(parts, event.thread, event.op)
 }
@@ -91,6 +95,7 @@ pub(crate) fn prepare_both(
     requires within { thread.0 < parts.old.hb.width }
     ensures grown { HasGrown parts.old parts.new }
     ensures ready { OnOk result (IsReadyToSwap parts.new thread var) }
+    ensures again { IsReadyToSwap parts.old thread var → IsOk result × (parts.new ≡ parts.old) }
 {
     prepare_parts(parts, &event_by(thread, Op::Load(var)))
 }
