@@ -3,6 +3,7 @@ use Rattle.std.proofs.Common.{◌≡◌, List, [], ◌∷◌, ◌++◌, Bool, tr
 use Rattle.std.proofs.Common.{subst}
 use Rattle.std.proofs.Common.{map, Option, ◌||◌}
 use Rattle.std.specs.List.{cons_option, list_any}
+use mathlib.Core.List.{IsPrefix}
 use Rattle.std.proofs.lemmas.Bool.{eqb-true}
 use Rattle.std.proofs.lemmas.List.{map-append}
 use Rattle.event_core.specs.declared.ids.ThreadId.{ThreadId}
@@ -25,8 +26,10 @@ use Rattle.log_pass.specs.declared.views.PassView.{PassView}
 use Rattle.script_text.specs.declared.lines.ScriptLine.{ScriptLine}
 use Rattle.script_text.specs.Lines.{act_fork, act_join, op_fork, op_join, act_thread, is_thread}
 use Rattle.script_text.specs.Lines.{fork_of, join_of, thread_of}
+use Rattle.live_monitor.proofs.Beginnings.{log_begins}
 use Rattle.script_drive.specs.Lines.{Follows, asked_by, given, lines_by, unread}
 use Rattle.script_drive.specs.Workers.{Does, Done, Reach, Serves, Settled, forked, joined}
+use Rattle.script_drive.proofs.Settling.{joined_over, over_more}
 
 -- the steps of a pass that a call's event joins, without what was read
 event_more : (m : Limits) (call : Call) (p q : PassView) (reply : Reply) (a : Accepted m call p q reply)
@@ -69,11 +72,11 @@ joined_by line call u v act op test =
 -- a join line was done: the one whom it joins is settled
 pub join_does : (m : Limits) (script : List ScriptLine) (line : ScriptLine) (call : Call)
     (p q child : PassView) (reply : Reply) (u : ThreadId) → line.act ≡ One call → call.op ≡ Join u
-    → thread_of line ≡ p.thread → Done script u child → HasComeTo m p q
+    → thread_of line ≡ p.thread → Done script u child → HasComeTo m p q → IsPrefix child.seen q.seen
     → Accepted m (join_by p.thread child.thread call.site) p q reply
     → child.mine ≡ own child.thread q.seen → list_any (joins child.thread) (log_of q.seen) ≡ true
     → Does m script line p q
-join_does m script line call p q child reply u act op own done later accepted its over =
+join_does m script line call p q child reply u act op own done later begins accepted its over =
     record {
       thread = later.same_thread;
       begins = later.begins;
@@ -94,8 +97,13 @@ join_does m script line call p q child reply u act op own done later accepted it
 
     settled : Settled script (log_of q.seen) u
     settled = record {
-      joined = subst (λ (t : ThreadId). list_any (joins t) (log_of q.seen) ≡ true) done.thread over;
-      follows = subst (λ (l : List Event). Follows l (lines_by u script)) (sym events) done.follows;
+      is_over = record {
+        joined = subst (λ (t : ThreadId). list_any (joins t) (log_of q.seen) ≡ true) done.thread over;
+        follows = subst (λ (l : List Event). Follows l (lines_by u script)) (sym events) done.follows;
+      };
+      others = λ v from. over_more m script (log_of child.seen) (log_of q.seen) v
+          (log_begins child.seen q.seen begins) later.is_pass.formed.well_formed
+          (joined_over script (log_of child.seen) u v done.settled from);
     }
 
 -- whom the next end reaches is whom the line joins

@@ -117,11 +117,6 @@ module _ (t : ThreadId) (lines : List ScriptLine) (i : ℕ) (line : ScriptLine)
 
 -- after the last one
 pub all_done : (script lines : List ScriptLine) (t : ThreadId) (p : PassView) (i : ℕ) → lines ≡ script
-    → length lines ≤ i → HasDone script t p (lines_by t (take i lines))
-    → HasDone script t p (lines_by t script)
+    → length lines ≤ i → HasDone script t p (lines_by t (take i lines)) → Done script t p
 all_done script lines t p i same le h =
     subst (λ (l : List ScriptLine). HasDone script t p (lines_by t l)) (take_all i lines le ∙ same) h
-
-pub last_done : (script : List ScriptLine) (t : ThreadId) (p : PassView)
-    → HasDone script t p (lines_by t script) → Done script t p
-last_done script t p h = record { thread = h.thread; follows = h.follows }

@@ -1,6 +1,6 @@
 -- The lines of a script as events: which events are those of which lines.
-use Rattle.std.specs.Prelude.{◌≡◌, ℕ, List, [], ◌∷◌, map, filter}
-use Rattle.std.specs.List.{flat_map}
+use Rattle.std.specs.Prelude.{◌≡◌, ℕ, true, List, [], ◌∷◌, map, filter}
+use Rattle.std.specs.List.{flat_map, list_any}
 use Rattle.event_core.specs.declared.ids.ThreadId.{ThreadId}
 use Rattle.event_core.specs.declared.events.Event.{Event}
 use Rattle.event_core.specs.declared.events.Op.{Op}
@@ -8,7 +8,7 @@ use Rattle.event_core.specs.declared.events.Op.TheVariants.{Load, Store, Acquire
 use Rattle.event_core.specs.declared.events.Act.{Act}
 use Rattle.event_core.specs.declared.events.Act.TheVariants.{One, Swap}
 use Rattle.script_text.specs.declared.lines.ScriptLine.{ScriptLine}
-use Rattle.script_text.specs.Lines.{is_of}
+use Rattle.script_text.specs.Lines.{is_of, joins}
 
 -- the value that an operation is given: that of a store, and 0 for others
 abbrev pub given : Op → ℕ → ℕ
@@ -43,3 +43,9 @@ Follows events lines = map unread events ≡ asked lines
 -- the lines of one thread, in order
 abbrev pub lines_by : ThreadId → List ScriptLine → List ScriptLine
 lines_by t = filter (is_of t.0)
+
+-- u is joined from t: a line of t joins u, or joins a thread from which u is joined
+pub data IsJoinedFrom (script : List ScriptLine) : ThreadId → ThreadId → Type 0 where
+  itself : {t u : ThreadId} → list_any (joins u.0) (lines_by t script) ≡ true → IsJoinedFrom script t u
+  through : {t u : ThreadId} (v : ThreadId) → list_any (joins v.0) (lines_by t script) ≡ true
+      → IsJoinedFrom script v u → IsJoinedFrom script t u

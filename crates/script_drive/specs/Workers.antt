@@ -10,22 +10,22 @@ use Rattle.event_core.specs.Steps.{log_of, own_events, Formed}
 use Rattle.log_pass.specs.declared.views.PassView.{PassView}
 use Rattle.script_text.specs.declared.lines.ScriptLine.{ScriptLine}
 use Rattle.script_text.specs.Lines.{fork_of, join_of, joins as line_joins}
-use Rattle.script_drive.specs.Lines.{unread, asked_by, Follows, lines_by}
+use Rattle.script_drive.specs.Lines.{unread, asked_by, Follows, IsJoinedFrom, lines_by}
 
 -- the first pass of a thread
 pub record IsFirst (t : ThreadId) (p : PassView) : Type 0 where
   pub thread : p.thread ≡ t
   pub no_step : p.mine ≡ []
 
--- the last pass of a thread: its steps are those of its lines of the script
-pub record Done (script : List ScriptLine) (t : ThreadId) (p : PassView) : Type 0 where
-  pub thread : p.thread ≡ t
-  pub follows : Follows (log_of p.mine) (lines_by t script)
-
 -- u was joined, and its events are those of its lines of the script
-pub record Settled (script : List ScriptLine) (log : List Event) (u : ThreadId) : Type 0 where
+pub record IsOver (script : List ScriptLine) (log : List Event) (u : ThreadId) : Type 0 where
   pub joined : list_any (joins u) log ≡ true
   pub follows : Follows (own_events u log) (lines_by u script)
+
+-- u is over, and so is each thread that is joined from it
+pub record Settled (script : List ScriptLine) (log : List Event) (u : ThreadId) : Type 0 where
+  pub is_over : IsOver script log u
+  pub others : (v : ThreadId) → IsJoinedFrom script u v → IsOver script log v
 
 -- who is joined by these lines is settled
 abbrev pub AreSettled : List ScriptLine → List Event → List ScriptLine → Type 0
@@ -38,6 +38,10 @@ pub record HasDone (script : List ScriptLine) (t : ThreadId) (p : PassView) (lin
   pub thread : p.thread ≡ t
   pub follows : Follows (log_of p.mine) lines
   pub settled : AreSettled script (log_of p.seen) lines
+
+-- the last pass of a thread, which has done all its lines of the script
+abbrev pub Done : List ScriptLine → ThreadId → PassView → Type 0
+Done script t p = HasDone script t p (lines_by t script)
 
 -- the pass p did one more line, and is q
 pub record Does (limits : Limits) (script : List ScriptLine) (line : ScriptLine) (p q : PassView)

@@ -1,15 +1,13 @@
 //! One worker for each thread of a script.
-ghost use Rattle.std.specs.Prelude.{◌≡◌, [], true, All, IfErr, IfOk, OnOk};
-ghost use Rattle.std.specs.List.{list_any};
+ghost use Rattle.std.specs.Prelude.{◌≡◌, [], All, IfErr, IfOk, OnOk};
 ghost use Rattle.event_core.specs.declared.bounds.Roots.TheVariants.{OnlyMain};
 ghost use Rattle.event_core.specs.declared.ids.ThreadId.{ThreadId as Thread};
 ghost use Rattle.event_core.specs.Refusal.{WellFormed};
-ghost use Rattle.event_core.specs.Steps.{log_of, own_events};
+ghost use Rattle.event_core.specs.Steps.{own_events};
 ghost use Rattle.log_pass.specs.Passes.{main, new_pass};
-ghost use Rattle.script_text.specs.Lines.{joins as line_joins};
 ghost use Rattle.script_drive.specs.Faults.{IsAnswered, IsFaultOf, IsHaltOf};
-ghost use Rattle.script_drive.specs.Lines.{lines_by, Follows};
-ghost use Rattle.script_drive.specs.Workers.{AreSettled, Done, Serves};
+ghost use Rattle.script_drive.specs.Lines.{lines_by, Follows, IsJoinedFrom};
+ghost use Rattle.script_drive.specs.Workers.{Done, Serves};
 
 use crate::faults::{DriveFault, Halt, first_fault};
 use crate::gate::Gate;
@@ -138,8 +136,6 @@ fn run_all<S: Text + Send + Sync, G: Gate + Sync, R: Threads + Wait + Sync>(
     requires pass { pass ≡ new_pass main [] }
     requires serves { Serves links (lines_by main S.script.lines) }
     ensures done { IfOk result (Done S.script.lines main) }
-    ensures settled { IfOk result
-        (λ last. AreSettled S.script.lines (log_of last.seen) (lines_by main S.script.lines)) }
     ensures fault { IfErr result (IsFaultOf S.limits S.script.lines) }
 {
     thread::scope(
@@ -149,8 +145,6 @@ fn run_all<S: Text + Send + Sync, G: Gate + Sync, R: Threads + Wait + Sync>(
             requires pass { pass ≡ new_pass main [] }
             requires serves { Serves links (lines_by main S.script.lines) }
             ensures done { IfOk result (Done S.script.lines main) }
-            ensures settled { IfOk result
-                (λ last. AreSettled S.script.lines (log_of last.seen) (lines_by main S.script.lines)) }
             ensures fault { IfErr result (IsFaultOf S.limits S.script.lines) }
         {
             let started = start_workers(scope, drive, alloc, workers)?;
@@ -183,7 +177,7 @@ fn drive_in<S: Text + Send + Sync, G: Gate + Sync, R: Threads + Wait + Sync>(
     ensures main { IfOk result
         (λ closed. Follows (own_events main closed.log) (lines_by main script.now.lines)) }
     ensures joined { IfOk result (λ closed. (u : Thread)
-        → list_any (line_joins u.0) (lines_by main script.now.lines) ≡ true
+        → IsJoinedFrom script.now.lines main u
         → Follows (own_events u closed.log) (lines_by u script.now.lines)) }
     ensures fault { IfErr result (IsFaultOf unnamed.limits script.now.lines) }
 {
@@ -213,8 +207,9 @@ fn drive_in<S: Text + Send + Sync, G: Gate + Sync, R: Threads + Wait + Sync>(
 /// its gate does not admit it, and then anew while another thread holds the lock that it acquires, or the
 /// thread that it joins has not ended.
 ///
-/// The closed log is well formed, and its events of thread 0, and of each thread that thread 0 joins, are
-/// that thread's lines in order.
+/// The closed log is well formed, and its events of thread 0, and of each thread that is joined from it, are
+/// that thread's lines in order. A thread is joined from thread 0 where thread 0 joins it, or joins a thread
+/// from which it is joined.
 ///
 /// The fault is one of a line of the script, or want of memory. A refusal is one that the line's call has
 /// after some well-formed log in which the line's thread has made just the calls of its lines before.
@@ -236,7 +231,7 @@ pub fn drive<G: Gate + Sync, R: Threads + Wait + Sync>(
     ensures main { IfOk result
         (λ closed. Follows (own_events main closed.log) (lines_by main script.now.lines)) }
     ensures joined { IfOk result (λ closed. (u : Thread)
-        → list_any (line_joins u.0) (lines_by main script.now.lines) ≡ true
+        → IsJoinedFrom script.now.lines main u
         → Follows (own_events u closed.log) (lines_by u script.now.lines)) }
     ensures fault { IfErr result (IsFaultOf limits.now script.now.lines) }
 {

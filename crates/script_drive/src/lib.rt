@@ -6,8 +6,9 @@
 //! what comes out is the first pass of a thread, or the pass of one that has made the calls of all its lines.
 //!
 //! What is proved of every schedule: the closed log is well formed, and its events of thread 0, and of each
-//! thread that thread 0 joins, are that thread's lines in order; and a fault is one of a line of the script.
-//! It is not proved that a drive returns, nor which of the script's faults it meets.
+//! thread that is joined from it, by itself or through others, are that thread's lines in order; and a fault
+//! is one of a line of the script. It is not proved that a drive returns, nor which of the script's faults it
+//! meets.
 #![tactic(auto)]
 
 mod driving;

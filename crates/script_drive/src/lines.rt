@@ -3,12 +3,11 @@ ghost use Rattle.std.specs.Prelude.{◌≡◌, ◌∷◌, [], true, Err, List, C
 ghost use Rattle.std.specs.Prelude.{IfErr, IfOk, IsErrAnd, IsFalse, IsOk, IsSome, IsTrue, OnOk};
 ghost use Rattle.event_core.specs.declared.ids.ThreadId.{ThreadId as Thread};
 ghost use Rattle.event_core.specs.declared.replies.Refusal.TheVariants.{Held};
-ghost use Rattle.event_core.specs.Steps.{log_of};
 ghost use Rattle.script_text.specs.declared.lines.ScriptLine.{ScriptLine as Line};
 ghost use Rattle.script_text.specs.Lines.{join_of, thread_of};
 ghost use Rattle.script_drive.specs.Faults.{is_told, refused_at, IsHaltOf, IsNext};
 ghost use Rattle.script_drive.specs.Lines.{lines_by};
-ghost use Rattle.script_drive.specs.Workers.{AreSettled, Does, Done, Serves};
+ghost use Rattle.script_drive.specs.Workers.{Does, Done, Serves};
 
 use crate::faults::{DriveFault, Halt};
 use crate::gate::Gate;
@@ -166,8 +165,6 @@ pub(crate) fn run_lines<S: Text, G: Gate, R: Wait>(
     requires new { pass.mine ≡ [] }
     requires serves { Serves links.old (lines_by pass.thread S.script.lines) }
     ensures done { IfOk result (Done S.script.lines pass.thread) }
-    ensures settled { IfOk result
-        (λ last. AreSettled S.script.lines (log_of last.seen) (lines_by pass.thread S.script.lines)) }
     ensures halt { IfErr result (IsHaltOf S.limits S.script.lines) }
 {
     let thread = pass.thread();

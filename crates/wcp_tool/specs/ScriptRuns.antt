@@ -1,7 +1,7 @@
 -- What a run of a script writes, and the status that it ends with.
 use Rattle.std.specs.Prelude.{◌≡◌, ◌⊎◌, ℕ, List, Option, Ok, true, IfSome, IsSome, codes}
 use Rattle.std.specs.Io.KnownBytes.{Appends}
-use Rattle.std.specs.List.{Contains, list_any}
+use Rattle.std.specs.List.{Contains}
 use Rattle.event_core.specs.declared.bounds.Limits.{Limits}
 use Rattle.event_core.specs.declared.events.Event.{Event}
 use Rattle.event_core.specs.declared.ids.ThreadId.{ThreadId}
@@ -12,7 +12,7 @@ use Rattle.closed_report.specs.Closed.{IsReportOf}
 use Rattle.rapid_text.specs.Faults.{fault_line}
 use Rattle.rapid_text.specs.Tables.{Tables}
 use Rattle.script_drive.specs.Faults.{Refuses, is_told}
-use Rattle.script_drive.specs.Lines.{Follows, lines_by}
+use Rattle.script_drive.specs.Lines.{Follows, IsJoinedFrom, lines_by}
 use Rattle.script_drive.specs.declared.faults.DriveFault.{DriveFault}
 use Rattle.script_drive.specs.declared.faults.DriveFault.TheVariants.{NoWorker, Refused, Stuck}
 use Rattle.script_text.specs.declared.causes.ScriptCause.{ScriptCause}
@@ -20,7 +20,7 @@ use Rattle.script_text.specs.declared.causes.ScriptCause.TheVariants as causes
 use Rattle.script_text.specs.declared.causes.ScriptFault.{ScriptFault}
 use Rattle.script_text.specs.declared.lines.ScriptLine.{ScriptLine}
 use Rattle.script_text.specs.Faults.{cause_word}
-use Rattle.script_text.specs.Lines.{fork_of, joins}
+use Rattle.script_text.specs.Lines.{fork_of}
 use Rattle.script_text.specs.Readings.{HasFault, LacksFork}
 use Rattle.script_text.specs.Scripts.{IsScript, Parsed, script_of}
 use Rattle.trace_report.specs.declared.summary.Summary.{Summary}
@@ -49,11 +49,11 @@ abbrev pub first_thread : ThreadId
 first_thread = record { 0 = 0 }
 
 -- the threads of the script were run, and this is the well-formed log of what they did. Its events of the
--- first thread, and of each thread that this one joins, are those of that thread's lines in order.
+-- first thread, and of each thread that is joined from it, are those of that thread's lines in order.
 pub record IsRun (m : Limits) (script : Parsed) (log : List Event) : Type 0 where
   pub well_formed : WellFormed m log
   pub first : Follows (own_events first_thread log) (lines_by first_thread script.lines)
-  pub joined : (u : ThreadId) → list_any (joins u.0) (lines_by first_thread script.lines) ≡ true
+  pub joined : (u : ThreadId) → IsJoinedFrom script.lines first_thread u
       → Follows (own_events u log) (lines_by u script.lines)
 
 -- the threads of the script were run, and the log of what they did was reported

@@ -162,7 +162,7 @@ fn run_lines<R: AllocGlobal + Threads + Wait + Sync, I: Input, O: Output>(
 /// status.
 ///
 /// What the threads did depends on the schedule, and so does the status: of the log it is said only that it
-/// is well formed, and which events the first thread has, and each thread that this one joins.
+/// is well formed, and which events the first thread has, and each thread that is joined from it.
 pub fn run_script<R: AllocGlobal + Threads + Wait + Sync, I: Input, O: Output, E: Output>(
     rt: &R,
     script: &mut I,
@@ -176,7 +176,7 @@ pub fn run_script<R: AllocGlobal + Threads + Wait + Sync, I: Input, O: Output, E
     requires writes { O.failed writer.old ≡ false }
     // With status 0 or 1 it wrote the report of a well-formed log, and nothing else. The log is of the script
     // that the reader had left: the report has the script's names, and the log the lines of the first thread,
-    // and of each that this one joins, in order.
+    // and of each that is joined from it, in order.
     ensures ran { (result ≡ 0) ⊎ (result ≡ 1) → RunsText (limits_with settings.now.threads OnlyMain)
         (I.left script.old) (O.written writer.old) (O.written writer.new) result }
     // With status 3 it wrote the one line that tells which call of that script is refused, and why. The

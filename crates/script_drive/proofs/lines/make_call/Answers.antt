@@ -20,7 +20,8 @@ returns-in_default-Ok-join-clause-does g c =
     = subst (λ t. Done g.S.Text.script.lines t child) is c.in_ok-child-in-Join.ensures.done in
     join_does g.S.Name.limits g.S.Text.script.lines line c.in-One.call c.args.pass c.join.result.0 child
     c.in_default-Ok-join.field-0-1 u c.in-One.is c.in-Join.is c.requires.thread done
-    c.join.ensures.later (rw c.in_default-Ok-join.is-1 at c.join.ensures.accepted)
+    c.join.ensures.later (rw c.in_default-Ok-join.is-1 at c.join.ensures.child_begins)
+    (rw c.in_default-Ok-join.is-1 at c.join.ensures.accepted)
     (rw c.in_default-Ok-join.is-1 at c.join.ensures.child_own)
     (rw c.in_default-Ok-join.is-1 at c.join.ensures.joined)
 

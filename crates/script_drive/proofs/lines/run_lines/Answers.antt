@@ -1,7 +1,7 @@
 use Rattle.std.proofs.Common.{rules, ◌≡◌, ◌+◌, sym, ◌∙◌, subst, drop}
 use Rattle.script_drive.specs.Lines.{lines_by}
 use Rattle.script_drive.specs.Workers.{HasDone, Serves}
-use Rattle.script_drive.proofs.Progress.{all_done, done_at, last_done, next_line, other_left}
+use Rattle.script_drive.proofs.Progress.{all_done, done_at, next_line, other_left}
 use Rattle.script_drive.proofs.Progress.{other_taken, own_thread}
 use Rattle.script_drive.proofs.ScriptFaults.{line_at, next_at}
 use Rattle.script_drive.proofs.lines.run_lines.Goals as goal
@@ -69,17 +69,5 @@ returns-clause-done g c =
     let script = g.S.Text.script.lines in
     let lines = c.lines-line-items.result.now in
     let same : lines ≡ script = cc in
-    last_done script c.args.pass.thread c.loop-line.pass
-    (all_done script lines c.args.pass.thread c.loop-line.pass c.loop-line.line-index same (search rules)
-    c.loop-line.invariant.0)
-
-pub returns-clause-settled : goal.returns-clause-settled
-returns-clause-settled g c =
-    let script = g.S.Text.script.lines in
-    let lines = c.lines-line-items.result.now in
-    let t = c.args.pass.thread in
-    let same : lines ≡ script = cc in
-    let done : HasDone script t c.loop-line.pass (lines_by t script)
-    = all_done script lines t c.loop-line.pass c.loop-line.line-index same (search rules)
-    c.loop-line.invariant.0 in
-    done.settled
+    all_done script lines c.args.pass.thread c.loop-line.pass c.loop-line.line-index same (search rules)
+    c.loop-line.invariant.0
