@@ -198,6 +198,18 @@ fn find_among<const LONG: bool>(notes: &[Note], mask: usize, name: &[u8]) -> Opt
     None
 }
 
+/// The same of a name of more than eight bytes. It is a function by itself, so that the way of a line stays
+/// small enough to be inlined.
+#[inline(never)]
+fn find_long(notes: &[Note], mask: usize, name: &[u8]) -> Option<u32>
+    requires places { mask < length notes.now }
+    requires some { 0 < length name.now }
+    requires short { length name.now ≤ 16 }
+    ensures { IfSome result (λ number. IsFound notes.now number name.now) }
+{
+    find_among::<true>(notes, mask, name)
+}
+
 /// Where a note with the words goes: to the first empty one of their places, or else to the first.
 fn place_to_note(notes: &[Note], mask: usize, mixed: u64) -> usize
     requires { mask < length notes.now }
@@ -254,7 +266,7 @@ impl NumberCache {
         if name.len() <= WORD {
             find_among::<false>(self.list.as_slice(), self.mask, name)
         } else {
-            find_among::<true>(self.list.as_slice(), self.mask, name)
+            find_long(self.list.as_slice(), self.mask, name)
         }
     }
 

@@ -55,7 +55,6 @@ impl Cells {
     }
 
     /// Where the variable's cell under the lock stands.
-    #[inline(always)]
     pub fn find(&self, lock: LockId, var: VarId) -> Option<usize>
         ensures { MatchOption result (length self.now.places ≤ place_of self.now.places lock.0 var.0)
             (λ i. (i ≡ place_of self.now.places lock.0 var.0) × (i < length self.now.places)) }
@@ -71,7 +70,6 @@ impl Cells {
 
     /// The variable's cell under the lock stands there, as `find` says. The next calls of `find` for it take no
     /// hash, until two others of the variable's are remembered.
-    #[inline(always)]
     pub fn remember(&mut self, lock: LockId, var: VarId, at: usize)
         requires is { at ≡ place_of self.old.places lock.0 var.0 }
         requires within { at < length self.old.places }
