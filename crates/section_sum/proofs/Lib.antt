@@ -2,7 +2,6 @@ mod Basics
 mod Changed
 mod Counts
 mod Standing
-mod KnownCells
 mod Keeping
 mod Closing
 mod Says

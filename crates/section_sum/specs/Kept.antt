@@ -6,7 +6,6 @@ use Rattle.std.specs.Prelude.{
   ◌≤◌,
   Bool,
   true,
-  false,
   ◌&&◌,
   List,
   [],
@@ -15,7 +14,6 @@ use Rattle.std.specs.Prelude.{
   slice_index_or,
   Option,
   None,
-  Some,
   IfSome,
 }
 use Rattle.std.specs.List.{list_any}
@@ -46,11 +44,6 @@ is_own l s i = nat_eq (lock_at s.places i) l
 -- and has an access in the open section
 abbrev pub is_marked : ℕ → Stored → ℕ → Bool
 is_marked l s i = is_own l s i && is_noted (cell_at s.cells i)
-
--- the variable was sought
-abbrev pub is_sought : ℕ → Option Sought → Bool
-is_sought v None = false
-is_sought v (Some s) = nat_eq s.var v
 
 -- what was sought stands there
 abbrev pub IsSought : ℕ → List Place → Option Sought → Type 0

@@ -1,7 +1,6 @@
 pub mod Newest
 pub mod Cell
 pub mod Cells
-pub mod Recent
 pub mod Kept
 pub mod Entries
 pub mod Sums

@@ -1,14 +1,12 @@
 //! The cells of all locks, one for each variable that was accessed in a section on a lock.
 //!
-//! A cell's number is its place among those pairs of a lock and a variable. It is known where the variable was
-//! sought under one of its last two locks, and else found by one hash.
+//! A cell's number is its place among those pairs of a lock and a variable. It is found by one hash.
 ghost use Rattle.std.specs.Prelude.{◌≡◌, ℕ, ◌<◌, ◌≤◌, length, not, nat_eq, MatchOption, MatchResult};
 ghost use Rattle.section_sum.specs.Cell.{cell_at, closed_as, marked_as, is_noted};
 ghost use Rattle.section_sum.specs.Cells.{place_of, no_cells, with_place};
 
 use crate::cell::{Cell, close_cell, mark_cell, new_cell};
-use crate::recent::Recent;
-use event_core::{AccessKind, LockId, OutOfMemory, ThreadId, VarId, grow_to};
+use event_core::{AccessKind, LockId, OutOfMemory, ThreadId, VarId};
 use indexmap::IndexSet;
 use std::alloc::Global;
 use std::marker::Model;
@@ -25,21 +23,17 @@ pub struct Place {
 pub struct Cells {
     places: IndexSet<Place>,
     cells: Vec<Cell>,
-    // Of each variable, where its cells stand that were sought last.
-    recent: Vec<Recent>,
 }
 
 impl Model for Cells {
     ghost use Rattle.std.specs.Prelude.{◌≡◌, length};
     ghost use Rattle.section_sum.specs.Cells.{Stored};
-    ghost use Rattle.section_sum.specs.Recent.{AllKnown};
 
     ghost Value = { Stored };
 
     ghost view = { λ a. record { places = a.places.keys; cells = a.cells.items } };
 
-    ghost invariant = { λ a. (length a.cells.items ≡ length a.places.keys)
-        × AllKnown a.places.keys a.recent.items };
+    ghost invariant = { λ a. length a.cells.items ≡ length a.places.keys };
 }
 
 impl Cells {
@@ -50,7 +44,6 @@ impl Cells {
         Cells {
             places: IndexSet::new(alloc),
             cells: Vec::new(alloc),
-            recent: Vec::new(alloc),
         }
     }
 
@@ -59,26 +52,7 @@ impl Cells {
         ensures { MatchOption result (length self.now.places ≤ place_of self.now.places lock.0 var.0)
             (λ i. (i ≡ place_of self.now.places lock.0 var.0) × (i < length self.now.places)) }
     {
-        let at = var.0 as usize;
-        if at < self.recent.len() {
-            if let Some(found) = self.recent[at].find(lock) {
-                return Some(found);
-            }
-        }
         self.places.get_index_of(&Place { lock, var })
-    }
-
-    /// The variable's cell under the lock stands there, as `find` says. The next calls of `find` for it take no
-    /// hash, until two others of the variable's are remembered.
-    pub fn remember(&mut self, lock: LockId, var: VarId, at: usize)
-        requires is { at ≡ place_of self.old.places lock.0 var.0 }
-        requires within { at < length self.old.places }
-        ensures { self.new ≡ self.old }
-    {
-        let row = var.0 as usize;
-        if row < self.recent.len() {
-            self.recent[row].note(lock, at);
-        }
     }
 
     /// A variable without a cell under the lock gets one. Answers its number.
@@ -90,10 +64,8 @@ impl Cells {
     {
         let at = self.cells.len();
         self.cells.reserve(1)?;
-        grow_to(&mut self.recent, var.0 as usize + 1, || Recent::nothing())?;
         self.places.insert(Place { lock, var })?;
         self.cells.push_reserved(new_cell());
-        self.remember(lock, var, at);
         Ok(at)
     }
 

@@ -23,7 +23,6 @@ pub mod laws;
 mod lock;
 mod locks;
 mod newest;
-mod recent;
 mod sources;
 mod summaries;
 

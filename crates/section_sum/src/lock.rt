@@ -5,7 +5,7 @@
 ghost use Rattle.std.specs.Prelude.{◌≡◌, ℕ, ◌<◌, ◌≤◌, length, nat_eq, nat_lt, true, is_ok, MatchOption};
 ghost use Rattle.section_sum.specs.Cell.{cell_at, closed_as, marked_as};
 ghost use Rattle.section_sum.specs.Cells.{place_of, lock_at, HasGrown};
-ghost use Rattle.section_sum.specs.Kept.{no_kept, is_sought, IsSought, IsKept};
+ghost use Rattle.section_sum.specs.Kept.{no_kept, IsSought, IsKept};
 
 use crate::cells::Cells;
 use event_core::{AccessKind, LockId, OutOfMemory, ThreadId, VarId};
@@ -80,17 +80,6 @@ impl Lock {
         cells.find(lock, var)
     }
 
-    // Whether the variable was sought last.
-    #[inline(always)]
-    fn has_sought(&self, var: VarId) -> bool
-        ensures { result ≡ is_sought var.0 self.now.sought }
-    {
-        match self.sought {
-            Some(known) => known.var == var.0,
-            None => false,
-        }
-    }
-
     /// Makes room for accesses to the variable in sections on the lock, and for the ends of those sections.
     /// Where there is room it takes no memory. The next calls for the variable find its cell by no hash.
     pub fn make_room(
@@ -106,11 +95,7 @@ impl Lock {
         ensures room { is_ok result
             ≡ nat_lt (place_of cells.new.places lock.0 var.0) (length cells.new.places) }
     {
-        if self.has_sought(var) {
-            return Ok(());
-        }
-        if let Some(at) = cells.find(lock, var) {
-            cells.remember(lock, var, at);
+        if let Some(at) = self.find(cells, lock, var) {
             self.sought = Some(Sought { var: var.0, at });
             return Ok(());
         }

@@ -1,9 +1,7 @@
-use Rattle.std.proofs.Common.{rules, ◌≡◌, ◌++◌, ◌∷◌, [], length, sym, ap, subst, ◌∙◌, arith, if◌then◌else◌}
+use Rattle.std.proofs.Common.{rules, ◌≡◌, ◌++◌, ◌∷◌, [], length, sym, ap, ◌∙◌, arith, if◌then◌else◌}
 use Rattle.std.proofs.lemmas.List.{length_push}
 use Rattle.section_sum.specs.Cells.{Stored, place, place_of}
-use Rattle.section_sum.specs.Recent.{no_recent, AllKnown}
-use Rattle.section_sum.proofs.Standing.{absent, place_new}
-use Rattle.section_sum.proofs.KnownCells.{all_more}
+use Rattle.section_sum.proofs.Standing.{absent}
 use Rattle.section_sum.proofs.cells.Cells.add.Goals as goal
 
 pub invariant_of-self-2 : goal.invariant_of-self-2
@@ -16,28 +14,10 @@ invariant_of-self-2 c =
     let grew : c.insert.new.self.keys ≡ keys ++ new ∷ []
     = c.in_ok-insert.ensures.keys ∙ ap (λ b. if b then keys else keys ++ new ∷ []) none in
     let long = ap length grew ∙ length_push keys new in
-    let was = c.self.invariant.0 in
+    let was = c.self.invariant in
     let pushed = ap length c.push_reserved.ensures.items ∙ length_push _ _ in
     let kept = ap length c.reserve.ensures.items in
-    let known = all_more keys new c.self.inside.recent.items c.grow_to.new.list.items
-    (c.grow_to.ensures.same no_recent (λ recent given. search rules)) c.self.invariant.1 in
-    (omega (arith, long, was, pushed, kept), subst (λ ks. AllKnown ks c.grow_to.new.list.items) (sym grew) known)
-
-pub remember-requires : goal.remember-requires
-remember-requires c =
-    let keys = c.self.inside.places.keys in
-    let new = place c.args.lock.0 c.args.var.0 in
-    let end : place_of keys c.args.lock.0 c.args.var.0 ≡ length keys
-    = ap (λ (s : Stored). place_of s.places c.args.lock.0 c.args.var.0) c.self.view_is ∙ c.requires.new
-    ∙ sym (ap (λ (s : Stored). length s.places) c.self.view_is) in
-    let none = absent keys c.args.lock.0 c.args.var.0 end in
-    let grew : c.insert.new.self.keys ≡ keys ++ new ∷ []
-    = c.in_ok-insert.ensures.keys ∙ ap (λ b. if b then keys else keys ++ new ∷ []) none in
-    let there : place_of c.insert.new.self.keys c.args.lock.0 c.args.var.0 ≡ length keys
-    = ap (λ ks. place_of ks c.args.lock.0 c.args.var.0) grew ∙ place_new keys c.args.lock.0 c.args.var.0 end in
-    let long = ap length grew ∙ length_push keys new in
-    let was = c.self.invariant.0 in
-    search (rules, there, long, was)
+    omega (arith, long, was, pushed, kept)
 
 pub returns : goal.returns
 returns c =
