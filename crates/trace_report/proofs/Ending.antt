@@ -1,16 +1,17 @@
 -- The end of a text that was judged in pieces.
-use Rattle.std.proofs.Common.{◌≡◌, List, Option, Some, None, subst}
+use Rattle.std.proofs.Common.{◌≡◌, List, Option, Some, None, subst, ap, ◌∙◌}
 use Rattle.std.specs.Prelude.{IfSome}
 use Rattle.event_core.specs.declared.bounds.Limits.{Limits}
 use Rattle.event_core.specs.declared.events.Event.{Event}
 use Rattle.event_core.specs.Refusal.{refusal}
 use Rattle.rapid_text.specs.Tables.{TablesGrow}
+use Rattle.rapid_text.specs.Texts.{ended}
 use Rattle.rapid_text.specs.Events.{IsOfNames}
 use Rattle.rapid_text.specs.Cutting.{Cutting, Closes}
-use Rattle.trace_report.specs.Findings.{call_of}
+use Rattle.trace_report.specs.Findings.{call_of, finding_after}
 use Rattle.trace_report.specs.Feeding.{Ends}
 use Rattle.trace_report.proofs.Naming.{named_kept, named_line}
-use Rattle.trace_report.proofs.Playing.{with_line, closed_event, closed_nothing}
+use Rattle.trace_report.proofs.Playing.{with_line, goes_on, event_closed, closed_nothing}
 
 pub ends_nothing : (m : Limits) (After : List Event → Type 0) (s t : Cutting) (log : List Event)
     (o : Option Event) → Closes s t o → o ≡ None → TablesGrow s.names t.names → After log
@@ -31,5 +32,6 @@ ends_event m After s t log o e p is grows named allowed a = record {
   after = a;
   named = λ h. named_line s.names t.names log e grows h
       (subst (λ (x : Option Event). IfSome x (IsOfNames t.names)) is named);
-  finds = closed_event m log s t o e p is allowed;
+  finds = ap (finding_after m log) (event_closed s t o e p is)
+      ∙ goes_on m log t.line e (ended t.names) allowed;
 }

@@ -2,15 +2,15 @@
 use Rattle.std.proofs.Common.{◌≡◌, ◌≢◌, List, ℕ, [], ◌++◌, Option, Some, None, Bool, true, false, refl, sym}
 use Rattle.std.proofs.Common.{ap}
 use Rattle.std.proofs.Common.{subst, ◌∙◌}
-use Rattle.std.specs.Prelude.{IsSomeAnd}
+use Rattle.std.specs.Prelude.{IfSome, IsSomeAnd}
 use Rattle.event_core.specs.declared.bounds.Limits.{Limits}
 use Rattle.event_core.specs.declared.events.Event.{Event}
 use Rattle.rapid_text.specs.Cutting.{Cutting, judged}
 use Rattle.trace_report.specs.declared.faults.ReplayFault.{ReplayFault}
-use Rattle.trace_report.specs.Findings.{finding_after}
+use Rattle.trace_report.specs.Findings.{finding_after, IsReached}
 use Rattle.trace_report.specs.Replayed.{fault_gives_up}
 use Rattle.trace_report.specs.Replaying.{fault_or}
-use Rattle.trace_report.specs.Feeding.{Takes, Stops}
+use Rattle.trace_report.specs.Feeding.{RanOut, Takes, Stops, line_of}
 
 -- these are its limits and its log
 abbrev pub IsOf : Limits → List Event → Limits → List Event → Type 0
@@ -30,7 +30,7 @@ module _ (m n : Limits) (log longer : List Event) (s t : Cutting) (piece more : 
   stopped : (o : Option ReplayFault) → IsSomeAnd o (Stops (IsOf m log) s piece) → fault_gives_up o ≡ false
       → fault_or o (finding_after n longer (judged t more)) ≡ finding_after m log (judged s (piece ++ more))
   stopped None bad gives = absurd bad
-  stopped (Some f) stop gives = sym (stop.finds m log (refl, refl) gives more)
+  stopped (Some f) stop gives = sym ((stop.says m log (refl, refl) more).finds gives)
 
   pub fed_law : (took : Bool) (before now : Option ReplayFault)
       → (before ≢ None → (took ≡ false) × (now ≡ before))
@@ -50,3 +50,13 @@ module _ (m n : Limits) (log longer : List Event) (s t : Cutting) (piece more : 
       ∙ ap (λ (l : List Event). finding_after m l (judged t more)) on.after.1
       ∙ sym (on.same more)
   fed_law false None now again takes stops gives = stopped now (stops refl refl) gives
+
+pub fed_reached : (m : Limits) (log : List Event) (s : Cutting) (piece : List ℕ) (took : Bool)
+    (now : Option ReplayFault) → (took ≡ true → now ≡ None)
+    → (took ≡ false → IsSomeAnd now (Stops (IsOf m log) s piece))
+    → IfSome now (λ f. RanOut f → (more : List ℕ) → IsReached m log (judged s (piece ++ more)) (line_of f))
+fed_reached m log s piece took None takes stops = tt
+fed_reached m log s piece true (Some f) takes stops =
+    absurd (let bad : Some f ≡ None = takes refl in cc)
+fed_reached m log s piece false (Some f) takes stops =
+    λ out more. ((stops refl).says m log (refl, refl) more).reached out

@@ -1,5 +1,5 @@
 -- One push of a piece: what it takes, and where the text stops.
-use Rattle.std.proofs.Common.{◌≡◌, ℕ, ◌+◌, ◌<◌, List, [], Option, Some, None, length}
+use Rattle.std.proofs.Common.{◌≡◌, ℕ, ◌+◌, ◌<◌, List, [], ◌++◌, Option, Some, None, length, inr}
 use Rattle.std.proofs.Common.{take, drop, subst, sym, ap, ◌∙◌, arith}
 use Rattle.std.proofs.Math.Seq.{take-length}
 use Rattle.std.proofs.lemmas.List.{length-drop, take-append-drop}
@@ -10,16 +10,18 @@ use Rattle.event_core.specs.declared.replies.Refusal.{Refusal}
 use Rattle.event_core.specs.Refusal.{refusal}
 use Rattle.rapid_line.proofs.Cuts.{count-append}
 use Rattle.rapid_line.specs.Cut.{count}
+use Rattle.rapid_text.specs.declared.causes.Cause.{Cause}
 use Rattle.rapid_text.specs.declared.causes.TextFault.{TextFault}
 use Rattle.rapid_text.specs.Tables.{TablesGrow}
 use Rattle.rapid_text.specs.Events.{IsOfNames}
-use Rattle.rapid_text.specs.Cutting.{Cutting, Pushes, FailsAt}
+use Rattle.rapid_text.specs.Cutting.{Cutting, judged, Pushes, FailsAt}
+use Rattle.rapid_text.specs.Texts.{Judgement}
 use Rattle.trace_report.specs.declared.faults.ReplayFault.TheVariants.{Text, Refused}
-use Rattle.trace_report.specs.Findings.{call_of}
+use Rattle.trace_report.specs.Findings.{call_of, finding_after, IsReached}
 use Rattle.trace_report.specs.Feeding.{Declines, Takes, Stops}
 use Rattle.trace_report.proofs.Naming.{named_kept, named_line}
-use Rattle.trace_report.proofs.Playing.{with_line, pushed_event, pushed_nothing, pushed_refused, push_stops}
-use Rattle.trace_report.proofs.Playing.{push_read}
+use Rattle.trace_report.proofs.Playing.{with_line, goes_on, event_pushed, nothing_pushed, declined}
+use Rattle.trace_report.proofs.Playing.{push_stops, push_read, first_reached}
 
 taken_lines : (used : ℕ) (piece : List ℕ)
     → count 10 (take used piece) + count 10 (drop used piece) ≡ count 10 piece
@@ -46,7 +48,10 @@ takes_event A B s t piece used o e p is grows named allowed after = record {
     after = after m log a;
     named = λ h. named_line s.names t.names log e grows h
         (subst (λ (x : Option Event). IfSome x (IsOfNames t.names)) is named);
-    same = pushed_event m log s t piece used o e p is (allowed m log a);
+    same = λ more. ap (finding_after m log) (event_pushed s t piece used o e p is more)
+        ∙ goes_on m log t.line e (judged t (drop used piece ++ more)) (allowed m log a);
+    reached = λ more n h. subst (λ (j : Judgement). IsReached m log j n)
+        (sym (event_pushed s t piece used o e p is more)) (inr (allowed m log a, h));
   };
 }
 
@@ -61,7 +66,9 @@ takes_rest A s t piece used o p is grows = record {
     longer = log;
     after = a;
     named = named_kept s.names t.names log grows;
-    same = pushed_nothing m log s t piece used o p is;
+    same = λ more. ap (finding_after m log) (nothing_pushed s t piece used o p is more);
+    reached = λ more n h. subst (λ (j : Judgement). IsReached m log j n)
+        (sym (nothing_pushed s t piece used o p is more)) h;
   };
 }
 
@@ -78,7 +85,11 @@ fewer s t piece used o e p is =
 pub text_stops : (A : Limits → List Event → Type 0) (s : Cutting) (piece : List ℕ) (f : TextFault)
     → s.failed ≡ None → FailsAt s piece f f.cause → Stops A s piece (Text f)
 text_stops A s piece f live fails = record {
-  finds = λ m log a g more. push_stops m log s piece f f.cause live fails g more;
+  says = λ m log a more. record {
+    finds = λ g. push_stops m log s piece f f.cause live fails g more;
+    reached = λ out. first_reached m log (judged s (piece ++ more)) f.line
+        (subst (λ (c : Cause). FailsAt s piece f c) out fails more);
+  };
   read = λ short. push_read s piece f f.cause fails short;
   unwritten = λ e. absurd (cc);
 }
@@ -88,7 +99,8 @@ pub event_stops : (A : Limits → List Event → Type 0) (s t : Cutting) (piece 
     → ((m : Limits) (log : List Event) → A m log → Declines m log e r) → line ≡ t.line
     → Stops A s piece (Refused line r)
 event_stops A s t piece used line o e r p is declines at = record {
-  finds = λ m log a g more. pushed_refused m log s t piece used o e r line p is (declines m log a) at g more;
+  says = λ m log a more. declined m log line t.line e r (judged t (drop used piece ++ more)) _
+      (event_pushed s t piece used o e p is more) (declines m log a) at;
   read = λ short. absurd (cc);
   unwritten = λ e. absurd (cc);
 }

@@ -1,6 +1,5 @@
 -- A log whose numbers have names, and one event more.
-use Rattle.std.proofs.Common.{zero, suc, List, [], ◌∷◌}
-use Rattle.std.proofs.Common.{◌++◌, Option, subst, ap, unwrap_or}
+use Rattle.std.proofs.Common.{List, []}
 use Rattle.event_core.specs.declared.events.Event.{Event}
 use Rattle.event_core.specs.Refusal.{event_of}
 use Rattle.event_core.proofs.Places.{each_push}

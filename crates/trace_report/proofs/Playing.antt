@@ -1,7 +1,7 @@
 -- What a text comes to, line by line.
 use Rattle.std.proofs.Common.{◌≡◌, ℕ, ◌+◌, ◌<◌, List, [], ◌∷◌, ◌++◌, true, false, Option, Some, None, Ok}
-use Rattle.std.proofs.Common.{Err, length, drop, refl, sym, ap, ap₂, ◌∙◌}
-use Rattle.std.proofs.Common.{inl, inr}
+use Rattle.std.proofs.Common.{Err, length, drop, refl, sym, ap, ap₂, subst, ◌∙◌}
+use Rattle.std.proofs.Common.{inl, inr, unwrap_or}
 use Rattle.std.proofs.Math.Seq.{drop-length}
 use Rattle.event_core.specs.declared.bounds.Limits.{Limits}
 use Rattle.event_core.specs.declared.events.Event.{Event}
@@ -10,12 +10,13 @@ use Rattle.event_core.specs.Refusal.{refusal, event_of}
 use Rattle.rapid_text.specs.declared.causes.Cause.{Cause}
 use Rattle.rapid_text.specs.declared.causes.Cause.TheVariants as causes
 use Rattle.rapid_text.specs.declared.causes.TextFault.{TextFault}
-use Rattle.rapid_text.specs.Texts.{Judgement, with_event, ended}
+use Rattle.rapid_text.specs.Texts.{Judgement, with_event, ended, first_line, FirstAt}
 use Rattle.rapid_text.specs.Cutting.{Cutting, judged, most, Pushes, FailsAt, Closes, ClosesAt}
 use Rattle.trace_report.specs.declared.faults.ReplayFault.TheVariants.{Text, Refused}
-use Rattle.trace_report.specs.Findings.{call_of, ended_with, refused_or, played, finding_after}
+use Rattle.trace_report.specs.Findings.{call_of, ended_with, refused_or, played, finding_after, IsReached}
+use Rattle.trace_report.specs.Findings.{Reaches}
 use Rattle.trace_report.specs.Replayed.{cause_gives_up, refusal_gives_up}
-use Rattle.trace_report.specs.Feeding.{Declines, is_read}
+use Rattle.trace_report.specs.Feeding.{Declines, is_read, Says}
 
 -- ---- a judgement after a log
 
@@ -39,39 +40,43 @@ stops_with m log j f p q =
     ap₂ (λ (lines : List (ℕ × Event)) (o : Option (ℕ × Cause)).
     played m log lines (λ end. ended_with j.names end o)) p q
 
+-- the line that has the next event or a name too many is reached
+pub first_reached : (m : Limits) (log : List Event) (j : Judgement) (n : ℕ) → FirstAt n j
+    → IsReached m log j n
+first_reached m log j n = go j.events
+  where
+    go : (lines : List (ℕ × Event)) → first_line lines j.fault ≡ Some n → Reaches m log lines j.fault n
+    go [] is = is
+    go (p ∷ ps) is = inl (ap (λ (o : Option ℕ). unwrap_or o n) is)
+
+-- the next event was not accepted
+pub declined : (m : Limits) (log : List Event) (line n : ℕ) (e : Event) (r : Refusal) (rest j : Judgement)
+    → j ≡ with_event n (Some e) rest → Declines m log e r → line ≡ n → Says m log j (Refused line r)
+declined m log line n e r rest j is declines at =
+    subst (λ (k : Judgement). Says m log k (Refused line r))
+    (ap (λ (k : ℕ). with_event k (Some e) rest) at ∙ sym is)
+    (record { finds = finds declines; reached = λ out. inl refl })
+  where
+    finds : Declines m log e r → refusal_gives_up r ≡ false
+        → finding_after m log (with_event line (Some e) rest) ≡ Err (Refused line r)
+    finds (inl a) g = is_refused m log line e r rest a
+    finds (inr out) g = absurd (let bad : true ≡ false = sym (ap refusal_gives_up out) ∙ g in cc)
+
 -- ---- a push
 
-pub pushed_event : (m : Limits) (log : List Event) (s t : Cutting) (piece : List ℕ) (used : ℕ)
-    (o : Option Event)
-    (e : Event) → Pushes s t piece used o → o ≡ Some e → refusal m log (call_of e) ≡ None → (more : List ℕ)
-    → finding_after m log (judged s (piece ++ more))
-    ≡ finding_after m (with_line log e) (judged t (drop used piece ++ more))
-pushed_event m log s t piece used o e p is a more =
+pub event_pushed : (s t : Cutting) (piece : List ℕ) (used : ℕ) (o : Option Event) (e : Event)
+    → Pushes s t piece used o → o ≡ Some e → (more : List ℕ)
+    → judged s (piece ++ more) ≡ with_event t.line (Some e) (judged t (drop used piece ++ more))
+event_pushed s t piece used o e p is more =
     let rest : Judgement = judged t (drop used piece ++ more) in
-    ap (finding_after m log) (p.sound more ∙ ap (λ (x : Option Event). with_event t.line x rest) is)
-    ∙ goes_on m log t.line e rest a
+    p.sound more ∙ ap (λ (x : Option Event). with_event t.line x rest) is
 
-pub pushed_refused : (m : Limits) (log : List Event) (s t : Cutting) (piece : List ℕ) (used : ℕ)
-    (o : Option Event)
-    (e : Event) (r : Refusal) (line : ℕ) → Pushes s t piece used o → o ≡ Some e → Declines m log e r
-    → line ≡ t.line
-    → refusal_gives_up r ≡ false → (more : List ℕ)
-    → finding_after m log (judged s (piece ++ more)) ≡ Err (Refused line r)
-pushed_refused m log s t piece used o e r line p is (inr ran_out) at g more =
-    absurd (let bad : true ≡ false = sym (ap refusal_gives_up ran_out) ∙ g in cc)
-pushed_refused m log s t piece used o e r line p is (inl a) at g more =
-    let rest : Judgement = judged t (drop used piece ++ more) in
-    ap (finding_after m log) (p.sound more ∙ ap (λ (x : Option Event). with_event t.line x rest) is)
-    ∙ is_refused m log t.line e r rest a ∙ ap (λ (n : ℕ). Err (Refused n r)) (sym at)
-
-pub pushed_nothing : (m : Limits) (log : List Event) (s t : Cutting) (piece : List ℕ) (used : ℕ)
-    (o : Option Event)
-    → Pushes s t piece used o → o ≡ None → (more : List ℕ)
-    → finding_after m log (judged s (piece ++ more)) ≡ finding_after m log (judged t more)
-pushed_nothing m log s t piece used o p is more =
+pub nothing_pushed : (s t : Cutting) (piece : List ℕ) (used : ℕ) (o : Option Event)
+    → Pushes s t piece used o → o ≡ None → (more : List ℕ) → judged s (piece ++ more) ≡ judged t more
+nothing_pushed s t piece used o p is more =
     let none : drop used piece ≡ [] = ap (λ (n : ℕ). drop n piece) (p.all_used is) ∙ drop-length piece in
-    ap (finding_after m log) (p.sound more
-    ∙ ap₂ (λ (x : Option Event) (rest : List ℕ). with_event t.line x (judged t (rest ++ more))) is none)
+    p.sound more
+    ∙ ap₂ (λ (x : Option Event) (rest : List ℕ). with_event t.line x (judged t (rest ++ more))) is none
 
 pub push_stops : (m : Limits) (log : List Event) (s : Cutting) (piece : List ℕ) (f : TextFault) (c : Cause)
     → s.failed ≡ None → FailsAt s piece f c → cause_gives_up c ≡ false → (more : List ℕ)
@@ -95,23 +100,9 @@ push_read s piece f causes.Failed h e = absurd (cc)
 
 -- ---- the end of the text
 
-pub closed_event : (m : Limits) (log : List Event) (s t : Cutting) (o : Option Event) (e : Event)
-    → Closes s t o
-    → o ≡ Some e → refusal m log (call_of e) ≡ None
-    → finding_after m log (judged s []) ≡ Ok (record { names = t.names; log = with_line log e })
-closed_event m log s t o e p is a =
-    ap (finding_after m log) (p.sound ∙ ap (λ (x : Option Event). with_event t.line x (ended t.names)) is)
-    ∙ goes_on m log t.line e (ended t.names) a
-
-pub closed_refused : (m : Limits) (log : List Event) (s t : Cutting) (o : Option Event) (e : Event)
-    (r : Refusal)
-    (line : ℕ) → Closes s t o → o ≡ Some e → Declines m log e r → line ≡ t.line → refusal_gives_up r ≡ false
-    → finding_after m log (judged s []) ≡ Err (Refused line r)
-closed_refused m log s t o e r line p is (inr ran_out) at g =
-    absurd (let bad : true ≡ false = sym (ap refusal_gives_up ran_out) ∙ g in cc)
-closed_refused m log s t o e r line p is (inl a) at g =
-    ap (finding_after m log) (p.sound ∙ ap (λ (x : Option Event). with_event t.line x (ended t.names)) is)
-    ∙ is_refused m log t.line e r (ended t.names) a ∙ ap (λ (n : ℕ). Err (Refused n r)) (sym at)
+pub event_closed : (s t : Cutting) (o : Option Event) (e : Event) → Closes s t o → o ≡ Some e
+    → judged s [] ≡ with_event t.line (Some e) (ended t.names)
+event_closed s t o e p is = p.sound ∙ ap (λ (x : Option Event). with_event t.line x (ended t.names)) is
 
 pub closed_nothing : (m : Limits) (log : List Event) (s t : Cutting) (o : Option Event) → Closes s t o
     → o ≡ None

@@ -1,7 +1,7 @@
 -- What an answer tells of a finding.
 use Rattle.std.proofs.Common.{◌≡◌, ◌⊎◌, inl, inr, ℕ, List, Option, Some, None, Result, Ok, Err, true, false}
 use Rattle.std.proofs.Common.{length, refl, sym, ap, ap₂, subst, ◌∙◌, arith}
-use Rattle.std.specs.Prelude.{IfErr, IfSome}
+use Rattle.std.specs.Prelude.{IfSome}
 use Rattle.std.specs.Io.KnownBytes.{Appends}
 use Rattle.std.proofs.lemmas.Option.{slice_get_within}
 use Rattle.event_core.specs.declared.bounds.Limits.{Limits}
@@ -18,7 +18,7 @@ use Rattle.trace_report.specs.Reports.{AreWithin}
 use Rattle.trace_report.specs.Findings.{Trace}
 use Rattle.trace_report.specs.Replayed.{gives_up, fault_text, Told, TellsText}
 use Rattle.trace_report.specs.Replaying.{fault_or}
-use Rattle.trace_report.specs.Feeding.{FindsTrace, FindsFault, is_short}
+use Rattle.trace_report.specs.Feeding.{FindsTrace, FindsFault, RanOut, ReachesLine, is_short}
 use Rattle.trace_report.specs.Checked.{AnswersText, ChecksText, counted, counts_of, told}
 
 -- the verdicts on a log name earlier events of it
@@ -45,16 +45,11 @@ short_is_the_fault r f (inl same) short = same
 short_is_the_fault r f (inr write) short =
     absurd (let bad : false ≡ true = sym (ap is_short write) ∙ short in cc)
 
-pub short_stays : (P : ReplayFault → Type 0) (r f : ReplayFault) → (r ≡ f) ⊎ (r ≡ Write)
-    → (is_short f ≡ true → P f) → is_short r ≡ true → P r
-short_stays P r f is so short =
-    let same = short_is_the_fault r f is short in
-    subst P (sym same) (so (sym (ap is_short same) ∙ short))
-
-pub never_short : {A : Type 0} (answer : Result A ReplayFault) (P : ReplayFault → Type 0)
-    → IfErr answer (λ f. is_short f ≡ false) → IfErr answer (λ f. is_short f ≡ true → P f)
-never_short (Ok a) P whole = tt
-never_short (Err f) P whole = λ short. absurd (let bad : false ≡ true = sym whole ∙ short in cc)
+-- what is said of the faults of a kind, of which a fault of the writer is none, is said of the answer
+pub kind_stays : (K P : ReplayFault → Type 0) → (K Write → ⊥) → (r f : ReplayFault) → (r ≡ f) ⊎ (r ≡ Write)
+    → (K f → P f) → K r → P r
+kind_stays K P none r f (inl same) so k = subst P (sym same) (so (subst K same k))
+kind_stays K P none r f (inr write) so k = absurd (none (subst K write k))
 
 -- the fault that stands is what the text comes to, and else that of its end
 pub ended_fault : (o : Option ReplayFault) (later : Result Trace ReplayFault) (r f : ReplayFault) → r ≡ f
@@ -108,15 +103,20 @@ fault_told found old new f e a = subst (λ (x : Result Trace ReplayFault). Told 
     (record { text = fault_text f; tells = (refl, refl); written = a })
 
 pub fault_tells : (m : Limits) (left old new : Option (List ℕ)) (r f : ReplayFault) → r ≡ f
-    → (gives_up f ≡ false → FindsFault m left f) → Appends old new (fault_text r) → gives_up r ≡ false
+    → FindsFault m left f → Appends old new (fault_text r) → gives_up r ≡ false
     → TellsText m left old new (Err r)
-fault_tells m left old new r f is finds written g =
-    let found = finds (sym (ap gives_up is) ∙ g) in
+fault_tells m left old new r f is found written g =
     record {
       text = found.text;
       is_left = found.is_left;
-      holds = fault_told _ old new r (found.finds ∙ ap (λ (x : ReplayFault). Err x) (sym is)) written;
+      holds = fault_told _ old new r
+          (found.finds (sym (ap gives_up is) ∙ g) ∙ ap (λ (x : ReplayFault). Err x) (sym is)) written;
     }
+
+pub found_reached : (m : Limits) (left : Option (List ℕ)) (f : ReplayFault) → FindsFault m left f → RanOut f
+    → ReachesLine m left f
+found_reached m left f found out =
+    record { text = found.text; is_left = found.is_left; holds = found.reached out }
 
 -- ---- a check
 

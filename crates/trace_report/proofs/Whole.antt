@@ -1,5 +1,5 @@
 -- A text that was pulled whole, and what it comes to.
-use Rattle.std.proofs.Common.{◌≡◌, ℕ, ◌*◌, ◌≤◌, List, [], ◌++◌, Option, Some, None, Err, true, false}
+use Rattle.std.proofs.Common.{◌≡◌, ℕ, ◌*◌, ◌≤◌, List, [], ◌++◌, Option, Some, None, true}
 use Rattle.std.proofs.Common.{length, length-append, append-nil, refl, sym, ap, subst, ◌∙◌, arith, ◌⊎◌, inl}
 use Rattle.std.proofs.Common.{inr}
 use Rattle.std.specs.Prelude.{IfSome, IsSomeAnd}
@@ -12,9 +12,11 @@ use Rattle.rapid_text.specs.Tables.{Tables}
 use Rattle.rapid_text.specs.declared.feeding.Fed.{Fed}
 use Rattle.rapid_text.specs.declared.feeding.Fed.TheVariants as fed
 use Rattle.trace_report.specs.declared.faults.ReplayFault.{ReplayFault}
-use Rattle.trace_report.specs.Findings.{finding, finding_after}
-use Rattle.trace_report.specs.Replayed.{gives_up}
-use Rattle.trace_report.specs.Feeding.{Takes, Stops, Ends, IsFed, FindsTrace, FindsFault, is_short}
+use Rattle.trace_report.specs.Findings.{finding, finding_after, IsReached}
+use Rattle.trace_report.specs.Feeding.{Says, Takes, Stops, Ends, IsFed, FindsTrace, FindsFault, is_short}
+use Rattle.trace_report.specs.Feeding.{line_of}
+use Rattle.rapid_text.specs.declared.causes.Cause.TheVariants.{Read}
+use Rattle.trace_report.specs.declared.faults.ReplayFault.TheVariants.{Text}
 use Rattle.trace_report.proofs.Naming.{nothing_named}
 
 -- the bytes up to the end are the text that was left
@@ -70,19 +72,19 @@ module _ (m : Limits) (A : Limits → List Event → Type 0) (left rest : Option
         same = ap (λ (c : Cutting). finding_after m [] (judged c bytes)) (sym is)
             ∙ ap (λ (text : List ℕ). finding_after m [] (judged s text)) (sym (append-nil bytes))
             ∙ on.same [];
+        reached = λ n h. subst (λ (text : List ℕ). IsReached m [] (judged (begun m) text) n)
+            (append-nil bytes)
+            (subst (λ (c : Cutting). IsReached m [] (judged c (bytes ++ [])) n) is (on.reached [] n h));
       }
 
   found_fault : (f : ReplayFault) (bytes : List ℕ) → Consumes left rest bytes → Stops A s bytes f
-      → gives_up f ≡ false → FindsFault m left f
+      → FindsFault m left f
   unfolding finding
-  found_fault f bytes came stops g =
+  found_fault f bytes came stops =
       let b = begins left rest bytes came in
-      record {
-        text = bytes ++ b.more;
-        is_left = b.is_left;
-        finds = ap (λ (c : Cutting). finding_after m [] (judged c (bytes ++ b.more))) (sym is)
-            ∙ stops.finds m [] a g b.more;
-      }
+      let says = subst (λ (c : Cutting). Says m [] (judged c (bytes ++ b.more)) f) is
+      (stops.says m [] a b.more) in
+      record { text = bytes ++ b.more; is_left = b.is_left; finds = says.finds; reached = says.reached }
 
   pub is_fed : (B : Limits → List Event → Type 0) (t : Cutting) (r : Fed) (before now : Option ReplayFault)
       → before ≡ None → (r ≡ fed.Cut → ⊥)
@@ -103,18 +105,17 @@ module _ (m : Limits) (A : Limits → List Event → Type 0) (left rest : Option
       → (r ≡ fed.Whole → Whole left rest turns (λ bytes. before ≡ None → (now ≡ None) × Takes A B s bytes []
       t))
       → (r ≡ fed.Stopped → Pulled left rest turns (λ bytes. before ≡ None → IsSomeAnd now (Stops A s bytes)))
-      → IfSome now (λ f. gives_up f ≡ false → FindsFault m left f)
+      → IfSome now (FindsFault m left)
   fault_is_found B t fed.Whole before now none other whole stopped =
       let w = whole refl in
-      subst (λ (o : Option ReplayFault). IfSome o (λ f. gives_up f ≡ false → FindsFault m left f))
-      (sym (w.pulled.so none).0) tt
+      subst (λ (o : Option ReplayFault). IfSome o (FindsFault m left)) (sym (w.pulled.so none).0) tt
   fault_is_found B t fed.Stopped before now none other whole stopped =
       let p = stopped refl in
       go now p.bytes p.came (p.so none)
     where
       go : (o : Option ReplayFault) (bytes : List ℕ) → Consumes left rest bytes → IsSomeAnd o
           (Stops A s bytes)
-          → IfSome o (λ f. gives_up f ≡ false → FindsFault m left f)
+          → IfSome o (FindsFault m left)
       go None bytes came stops = absurd stops
       go (Some f) bytes came stops = found_fault f bytes came stops
   fault_is_found B t fed.Cut before now none other whole stopped = absurd (other refl)
@@ -171,16 +172,29 @@ stood_short P o f h is short =
 -- the fault that stood, or the one at the end
 pub end_is_found : (m : Limits) (left : Option (List ℕ)) (B : List Event → Type 0) (s : Cutting)
     (o : Option ReplayFault) (f : ReplayFault) → (o ≡ None → IsFed m left B s)
-    → IfSome o (λ g. gives_up g ≡ false → FindsFault m left g)
-    → (o ≡ None → (log : List Event) → B log → gives_up f ≡ false → finding_after m log (judged s []) ≡ Err f)
-    → IfSome o (λ g. f ≡ g) → gives_up f ≡ false → FindsFault m left f
-end_is_found m left B s None f fed stood at_end same g =
+    → IfSome o (FindsFault m left)
+    → (o ≡ None → (log : List Event) → B log → Says m log (judged s []) f)
+    → IfSome o (λ g. f ≡ g) → FindsFault m left f
+end_is_found m left B s None f fed stood at_end same =
     let is = fed refl in
+    let says = at_end refl is.log is.after in
     record {
       text = is.text;
       is_left = is.is_left;
-      finds = is.same ∙ at_end refl is.log is.after g;
+      finds = λ g. is.same ∙ says.finds g;
+      reached = λ out. is.reached (line_of f) (says.reached out);
     }
-end_is_found m left B s (Some h) f fed stood at_end same g =
-    subst (λ (k : ReplayFault). FindsFault m left k) (sym same)
-    (stood (subst (λ (k : ReplayFault). gives_up k ≡ false) same g))
+end_is_found m left B s (Some h) f fed stood at_end same =
+    subst (λ (k : ReplayFault). FindsFault m left k) (sym same) stood
+
+-- a read that failed says nothing of the text
+pub cut_says_nothing : (m : Limits) (left rest : Option (List ℕ)) (bytes : List ℕ) (n : ℕ)
+    → Consumes left rest bytes → FindsFault m left (Text (record { line = n; cause = Read }))
+cut_says_nothing m left rest bytes n came =
+    let b = begins left rest bytes came in
+    record {
+      text = bytes ++ b.more;
+      is_left = b.is_left;
+      finds = λ g. absurd (cc);
+      reached = λ out. absurd (cc);
+    }

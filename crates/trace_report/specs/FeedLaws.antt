@@ -9,8 +9,8 @@ use Rattle.rapid_line.specs.Cut.{count}
 use Rattle.rapid_line.proofs.Cuts.{count-append}
 use Rattle.rapid_text.specs.Cutting.{Cutting, judged, most}
 use Rattle.trace_report.specs.declared.faults.ReplayFault.{ReplayFault}
-use Rattle.trace_report.specs.Findings.{finding_after}
-use Rattle.trace_report.specs.Feeding.{Takes, Stops}
+use Rattle.trace_report.specs.Findings.{finding_after, IsReached}
+use Rattle.trace_report.specs.Feeding.{Takes, Stops, line_of}
 
 pub takes_none : (A : Limits → List Event → Type 0) (s : Cutting) (bytes : List ℕ) → s.failed ≡ None
     → Takes A A s bytes bytes s
@@ -18,7 +18,8 @@ takes_none A s bytes live = record {
   live = live;
   taken = refl;
   lines = refl;
-  goes_on = λ m log a. record { longer = log; after = a; named = λ h. h; same = λ more. refl };
+  goes_on = λ m log a.
+      record { longer = log; after = a; named = λ h. h; same = λ more. refl; reached = λ more n h. h };
 }
 
 pub takes_more : (A B C : Limits → List Event → Type 0) (s t u : Cutting) (bytes rest left : List ℕ)
@@ -35,6 +36,7 @@ takes_more A B C s t u bytes rest left p q = record {
         after = back.after;
         named = λ h. back.named (front.named h);
         same = λ more. front.same more ∙ back.same more;
+        reached = λ more n h. front.reached more n (back.reached more n h);
       };
 }
 
@@ -60,6 +62,8 @@ fed_before A B s t front rest p = record {
         same = λ more. ap (λ (text : List ℕ). finding_after m log (judged s text))
             (append_assoc front rest more)
             ∙ on.same (rest ++ more);
+        reached = λ more n h. subst (λ (text : List ℕ). IsReached m log (judged s text) n)
+            (sym (append_assoc front rest more)) (on.reached (rest ++ more) n h);
       };
 }
 
@@ -71,9 +75,13 @@ takes_both A B C s t u front rest p q =
 pub stops_later : (A B : Limits → List Event → Type 0) (s t : Cutting) (bytes rest : List ℕ) (f : ReplayFault)
     → Takes A B s bytes rest t → Stops B t rest f → Stops A s bytes f
 stops_later A B s t bytes rest f p q = record {
-  finds = λ m log a g more.
+  says = λ m log a more.
       let on = p.goes_on m log a in
-      on.same more ∙ q.finds m on.longer on.after g more;
+      let later = q.says m on.longer on.after more in
+      record {
+        finds = λ g. on.same more ∙ later.finds g;
+        reached = λ out. on.reached more (line_of f) (later.reached out);
+      };
   read = λ short. subst (λ (n : ℕ). most < n) p.taken (q.read short);
   unwritten = q.unwritten;
 }

@@ -31,13 +31,14 @@ use Rattle.event_core.specs.declared.replies.Refusal.TheVariants.{OutOfMemory}
 use Rattle.event_core.specs.Refusal.{refusal}
 use Rattle.rapid_line.specs.Cut.{count}
 use Rattle.rapid_text.specs.declared.causes.Cause.{Cause}
-use Rattle.rapid_text.specs.declared.causes.Cause.TheVariants.{Read}
+use Rattle.rapid_text.specs.declared.causes.Cause.TheVariants as causes
 use Rattle.rapid_text.specs.Cutting.{Cutting, judged, most}
-use Rattle.rapid_text.specs.Tables.{Tables}
+use Rattle.rapid_text.specs.Tables.{Tables, no_names}
+use Rattle.rapid_text.specs.Texts.{Judgement, judgement}
 use Rattle.trace_report.specs.declared.faults.ReplayFault.{ReplayFault}
 use Rattle.trace_report.specs.declared.faults.ReplayFault.TheVariants.{Text, Refused, Write}
-use Rattle.trace_report.specs.Findings.{call_of, finding, finding_after}
-use Rattle.trace_report.specs.Replayed.{gives_up}
+use Rattle.trace_report.specs.Findings.{call_of, finding, finding_after, IsReached}
+use Rattle.trace_report.specs.Replayed.{gives_up, OfText}
 use Rattle.trace_report.specs.Reports.{AreNamed}
 
 -- why an event was not accepted
@@ -46,12 +47,28 @@ Declines m log e r = (refusal m log (call_of e) ≡ Some r) ⊎ (r ≡ OutOfMemo
 
 -- the text was not read to its end
 abbrev pub is_read : Cause → Bool
-is_read Read = true
+is_read causes.Read = true
 is_read _ = false
 
 abbrev pub is_short : ReplayFault → Bool
 is_short (Text f) = is_read f.cause
 is_short _ = false
+
+-- a growth was refused
+abbrev pub RanOut : ReplayFault → Type 0
+RanOut (Text f) = f.cause ≡ causes.OutOfMemory
+RanOut (Refused line r) = r ≡ OutOfMemory
+RanOut Write = ⊥
+
+abbrev pub line_of : ReplayFault → ℕ
+line_of (Text f) = f.line
+line_of (Refused line r) = line
+line_of Write = 0
+
+-- what a fault says of a judged text after this log: that it comes to it, or where memory ran out
+pub record Says (m : Limits) (log : List Event) (j : Judgement) (f : ReplayFault) : Type 0 where
+  pub finds : gives_up f ≡ false → finding_after m log j ≡ Err f
+  pub reached : RanOut f → IsReached m log j (line_of f)
 
 -- ---- one piece
 
@@ -64,6 +81,8 @@ pub record GoesOn (m : Limits) (After : List Event → Type 0) (old : Cutting) (
   pub named : AreNamed old.names log → AreNamed new.names longer
   pub same : (more : List ℕ)
       → finding_after m log (judged old (bytes ++ more)) ≡ finding_after m longer (judged new (rest ++ more))
+  pub reached : (more : List ℕ) (n : ℕ) → IsReached m longer (judged new (rest ++ more)) n
+      → IsReached m log (judged old (bytes ++ more)) n
 
 -- the bytes were taken but for the rest, by a judge that was as after a log and is as after a longer one
 pub record Takes (Before After : Limits → List Event → Type 0) (old : Cutting) (bytes rest : List ℕ)
@@ -74,11 +93,11 @@ pub record Takes (Before After : Limits → List Event → Type 0) (old : Cuttin
   pub lines : new.unfinished + count 10 rest ≡ old.unfinished + count 10 bytes
   pub goes_on : (m : Limits) (log : List Event) → Before m log → GoesOn m (After m) old log bytes rest new
 
--- the text comes to this fault, whatever follows the bytes
+-- the text stops with this fault, whatever follows the bytes
 pub record Stops (Before : Limits → List Event → Type 0) (old : Cutting) (bytes : List ℕ) (f : ReplayFault)
     : Type 0 where
-  pub finds : (m : Limits) (log : List Event) → Before m log → gives_up f ≡ false → (more : List ℕ)
-      → finding_after m log (judged old (bytes ++ more)) ≡ Err f
+  pub says : (m : Limits) (log : List Event) → Before m log → (more : List ℕ)
+      → Says m log (judged old (bytes ++ more)) f
   pub read : is_short f ≡ true → most < old.taken + length bytes
   pub unwritten : f ≢ Write
 
@@ -104,6 +123,7 @@ pub record IsFed (m : Limits) (left : Option (List ℕ)) (After : List Event →
   pub after : After log
   pub named : AreNamed now.names log
   pub same : finding m text ≡ finding_after m log (judged now [])
+  pub reached : (n : ℕ) → IsReached m log (judged now []) n → IsReached m [] (judgement (no_names m) text) n
 
 -- it is a legal trace, and the judge is as after its log
 pub record FindsTrace (m : Limits) (left : Option (List ℕ)) (After : List Event → Type 0) (names : Tables)
@@ -115,11 +135,16 @@ pub record FindsTrace (m : Limits) (left : Option (List ℕ)) (After : List Even
   pub named : AreNamed names log
   pub finds : finding m text ≡ Ok (record { names = names; log = log })
 
--- it comes to this fault
+-- the line at which memory ran out has an event or a name too many, and no event of a line before is refused
+abbrev pub ReachesLine : Limits → Option (List ℕ) → ReplayFault → Type 0
+ReachesLine m left f = OfText left (λ text. IsReached m [] (judgement (no_names m) text) (line_of f))
+
+-- it comes to this fault, or memory ran out
 pub record FindsFault (m : Limits) (left : Option (List ℕ)) (f : ReplayFault) : Type 0 where
   pub text : List ℕ
   pub is_left : IfSome left (λ whole. text ≡ whole)
-  pub finds : finding m text ≡ Err f
+  pub finds : gives_up f ≡ false → finding m text ≡ Err f
+  pub reached : RanOut f → IsReached m [] (judgement (no_names m) text) (line_of f)
 
 -- ---- a text that was not read to its end
 
@@ -134,5 +159,5 @@ IsFrom n Write = ⊥
 pub record IsCutAt (m : Limits) (left rest : Option (List ℕ)) (f : ReplayFault) : Type 0 where
   pub came : List ℕ
   pub bytes : Consumes left rest came
-  pub at : f ≡ Text (record { line = 1 + count 10 came; cause = Read })
+  pub at : f ≡ Text (record { line = 1 + count 10 came; cause = causes.Read })
   pub before : (more : List ℕ) → IfErr (finding m (came ++ more)) (IsFrom (1 + count 10 came))

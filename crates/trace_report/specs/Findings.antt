@@ -2,6 +2,7 @@
 use Rattle.std.specs.Prelude.{
   ◌≡◌,
   ℕ,
+  ◌⊎◌,
   List,
   [],
   ◌∷◌,
@@ -24,7 +25,7 @@ use Rattle.event_core.specs.Refusal.{refusal, event_of, WellFormed}
 use Rattle.rapid_text.specs.declared.causes.Cause.{Cause}
 use Rattle.rapid_text.specs.declared.causes.TextFault.{TextFault}
 use Rattle.rapid_text.specs.Tables.{Tables, no_names}
-use Rattle.rapid_text.specs.Texts.{Judgement, judgement}
+use Rattle.rapid_text.specs.Texts.{Judgement, judgement, first_line}
 use Rattle.trace_report.specs.declared.faults.ReplayFault.{ReplayFault}
 use Rattle.trace_report.specs.declared.faults.ReplayFault.TheVariants.{Text, Refused}
 
@@ -62,6 +63,15 @@ finding_after m log j = played m log j.events (λ end. ended_with j.names end j.
 -- what a whole text comes to
 unfoldable pub finding : Limits → List ℕ → Result Trace ReplayFault
 finding m text = finding_after m [] (judgement (no_names m) text)
+
+-- line n has an event or a name too many, and no event of a line before it is refused after this log
+abbrev pub Reaches : Limits → List Event → List (ℕ × Event) → Option (ℕ × Cause) → ℕ → Type 0
+Reaches m log [] fault n = first_line [] fault ≡ Some n
+Reaches m log (p ∷ ps) fault n = (p.0 ≡ n)
+    ⊎ ((refusal m log (call_of p.1) ≡ None) × Reaches m (log ++ event_of log (call_of p.1) ∷ []) ps fault n)
+
+abbrev pub IsReached : Limits → List Event → Judgement → ℕ → Type 0
+IsReached m log j n = Reaches m log j.events j.fault n
 
 -- ---- the same, said of the log that the lines make
 

@@ -3,7 +3,7 @@ ghost use Rattle.std.specs.Prelude.{◌≡◌, ◌≢◌, ◌≤◌, ◌⊎◌, 
 ghost use Rattle.std.specs.Io.KnownBytes.{Appends};
 ghost use Rattle.rapid_text.specs.Turns.{WithinTurns};
 ghost use Rattle.trace_report.specs.Replayed.{answer_gives_up};
-ghost use Rattle.trace_report.specs.Feeding.{IsCutAt, is_short};
+ghost use Rattle.trace_report.specs.Feeding.{IsCutAt, RanOut, ReachesLine, is_short};
 ghost use Rattle.trace_report.specs.Checked.{told, AnswersText, ChecksText};
 
 use crate::counts::Counts;
@@ -48,6 +48,8 @@ pub fn check<I: Input, O: Output>(
     // A read fault is at the line whose end was not seen, and no line before has a fault or a refused event.
     ensures cut { IfErr result (λ f. is_short f ≡ true
         → IsCutAt limits (I.left reader.old) (I.left reader.new) f) }
+    // Memory ran out at a line with an event or a name too many, and no event of a line before is refused.
+    ensures memory { IfErr result (λ f. RanOut f → ReachesLine limits (I.left reader.old) f) }
     // However it ends, no more than 65,536 bytes were read for each turn.
     ensures few { WithinTurns turns (I.left reader.old) (I.left reader.new) }
     // No failure of the reader is passed over where there are counts.

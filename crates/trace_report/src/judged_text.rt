@@ -7,9 +7,7 @@ ghost use Rattle.event_core.specs.declared.events.Event.{Event as Entry};
 ghost use Rattle.rapid_text.specs.Cutting.{begun, judged};
 ghost use Rattle.rapid_text.specs.declared.causes.Cause.TheVariants.{Read};
 ghost use Rattle.trace_report.specs.declared.faults.ReplayFault.TheVariants.{Write};
-ghost use Rattle.trace_report.specs.Findings.{finding_after};
-ghost use Rattle.trace_report.specs.Replayed.{gives_up};
-ghost use Rattle.trace_report.specs.Feeding.{Takes, Stops, Ends, is_short};
+ghost use Rattle.trace_report.specs.Feeding.{Says, Takes, Stops, Ends, is_short};
 
 use crate::faults::ReplayFault;
 use crate::judge::Judge;
@@ -59,7 +57,7 @@ fn finish_lines<J: Judge>(cutter: &mut Cutter, judge: &mut J) -> Result<(), Repl
     ensures ok { OnOk result ((m : Bounds) (log : List Entry) → J.is_after judge.old m log
         → Ends m (J.is_after judge.new m) cutter.old log cutter.new.names) }
     ensures fault { IfErr result (λ f. (m : Bounds) (log : List Entry) → J.is_after judge.old m log
-        → gives_up f ≡ false → finding_after m log (judged cutter.old []) ≡ Err f) }
+        → Says m log (judged cutter.old []) f) }
     ensures whole { IfErr result (λ f. is_short f ≡ false) }
     ensures unwritten { result ≢ Err ReplayFault.Write }
 {
@@ -140,8 +138,7 @@ impl<J: Judge> JudgedText<J> {
         ensures ok { OnOk result ((m : Bounds) (log : List Entry) → J.is_after self.old.judge m log
             → Ends m (J.is_after self.new.judge m) self.old.cutter log self.new.cutter.names) }
         ensures fault { self.old.fault ≡ None → IfErr result (λ f. (m : Bounds) (log : List Entry)
-            → J.is_after self.old.judge m log → gives_up f ≡ false
-            → finding_after m log (judged self.old.cutter []) ≡ Err f) }
+            → J.is_after self.old.judge m log → Says m log (judged self.old.cutter []) f) }
         ensures whole { IfErr result (λ f. is_short f ≡ true → self.old.fault ≡ Some f) }
         ensures stands { OnOk result (self.old.fault ≡ None) }
         ensures answered { IfErr result (λ f. IfSome self.old.fault (λ g. f ≡ g)) }

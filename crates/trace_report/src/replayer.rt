@@ -5,8 +5,8 @@ ghost use Rattle.std.specs.Prelude.{IfOk, IfErr, IfSome, IsTrue, ◌<◌};
 ghost use Rattle.rapid_text.specs.Cutting.{most};
 ghost use Rattle.rapid_text.specs.declared.causes.Cause.TheVariants.{Read};
 ghost use Rattle.trace_report.specs.Replayed.{fault_gives_up, answer_gives_up, Told};
-ghost use Rattle.trace_report.specs.Replaying.{unfed, after};
-ghost use Rattle.trace_report.specs.Feeding.{is_short};
+ghost use Rattle.trace_report.specs.Replaying.{unfed, after, ReachesIn};
+ghost use Rattle.trace_report.specs.Feeding.{RanOut, is_short};
 
 use crate::faults::ReplayFault;
 use crate::judged_text::JudgedText;
@@ -62,6 +62,10 @@ impl Replayer {
         // It is a read fault only where the pieces have more bytes than a cutter takes.
         ensures read { self.old.fault ≡ None → IfSome self.new.fault (λ f. is_short f ≡ true
             → most < self.old.text.taken + length piece.now) }
+        // Memory ran out at a line still to be judged, with an event or a name too many, whatever follows. No
+        // event of a line before is refused.
+        ensures memory { self.old.fault ≡ None → IfSome self.new.fault (λ f. RanOut f
+            → (more : List ℕ) → ReachesIn self.old (piece.now ++ more) f) }
         ensures taken { self.new.fault ≡ None → self.new.text.taken ≡ self.old.text.taken + length piece.now }
     {
         self.text.take(piece)
@@ -88,6 +92,8 @@ impl Replayer {
             → writer.new ≡ writer.old }
         // A read fault is answered only where one stands.
         ensures read { IfErr result (λ f. is_short f ≡ true → self.fault ≡ Some f) }
+        // Memory ran out at the last line, which has an event or a name too many, or its fault stands.
+        ensures memory { self.fault ≡ None → IfErr result (λ f. RanOut f → ReachesIn self [] f) }
         // A fault that stands is the answer, unless its line could not be written.
         ensures answered { IfSome self.fault (λ f. (result ≡ Err f) ⊎ (result ≡ Err ReplayFault.Write)) }
         // It is a fault of the writer exactly where the writer failed or took no byte.

@@ -2,7 +2,7 @@
 ghost use Rattle.std.specs.Prelude.{◌≡◌, ◌≢◌, ◌⊎◌, ◌≤◌, Err, true, false, IfErr, IfSome, OnOk, length};
 ghost use Rattle.rapid_text.specs.Turns.{WithinTurns};
 ghost use Rattle.trace_report.specs.Replayed.{answer_gives_up, TellsText};
-ghost use Rattle.trace_report.specs.Feeding.{IsCutAt, is_short};
+ghost use Rattle.trace_report.specs.Feeding.{IsCutAt, RanOut, ReachesLine, is_short, line_of};
 
 use crate::faults::ReplayFault;
 use crate::summary::Summary;
@@ -40,6 +40,10 @@ pub fn replay<I: Input, O: Output>(
     // A read fault is at the line whose end was not seen, and no line before has a fault or a refused event.
     ensures cut { IfErr result (λ f. is_short f ≡ true
         → IsCutAt limits (I.left reader.old) (I.left reader.new) f) }
+    // Memory ran out at a line with an event or a name too many, and no event of a line before is refused; or
+    // at line 1, before the first read.
+    ensures memory { IfErr result (λ f. RanOut f → ReachesLine limits (I.left reader.old) f
+        ⊎ ((line_of f ≡ 1) × (reader.new ≡ reader.old))) }
     // However it ends, no more than 65,536 bytes were read for each turn.
     ensures few { WithinTurns turns (I.left reader.old) (I.left reader.new) }
     ensures read_whole { OnOk result (I.failed reader.new ≡ false) }

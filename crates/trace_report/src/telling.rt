@@ -3,7 +3,6 @@ ghost use Rattle.std.specs.Prelude.{◌≡◌, ◌≢◌, ◌⊎◌, Ok, Err, tr
 ghost use Rattle.std.specs.Io.KnownBytes.{Appends};
 ghost use Rattle.trace_report.specs.Reports.{AreNamed};
 ghost use Rattle.trace_report.specs.Replayed.{answer_gives_up, fault_text, gives_up, Told};
-ghost use Rattle.trace_report.specs.Feeding.{is_short};
 
 use crate::faults::ReplayFault;
 use crate::reporting::report;
@@ -20,8 +19,7 @@ pub fn tell_trace<W: Output>(
     requires named { AreNamed names.now monitor.now.log }
     ensures tells { answer_gives_up result ≡ false → Told (W.written writer.old) (W.written writer.new)
         (Ok (record { names = names.now; log = monitor.now.log })) result }
-    ensures only { answer_gives_up result ≡ true → result ≡ Err ReplayFault.Write }
-    ensures whole { IfErr result (λ f. is_short f ≡ false) }
+    ensures only { IfErr result (λ f. f ≡ ReplayFault.Write) }
     ensures healthy { result ≢ Err ReplayFault.Write → W.failed writer.new ≡ W.failed writer.old }
     ensures failed { result ≡ Err ReplayFault.Write → W.failed writer.new ≡ true }
 {

@@ -2,7 +2,6 @@
 ghost use Rattle.std.specs.Prelude.{◌≡◌, ◌≢◌, ◌⊎◌, ◌≤◌, [], Err, None, true, false, IfErr, IfOk, IfSome};
 ghost use Rattle.std.specs.Prelude.{OnOk, length};
 ghost use Rattle.rapid_text.specs.Turns.{WithinTurns};
-ghost use Rattle.trace_report.specs.Replayed.{gives_up};
 ghost use Rattle.trace_report.specs.Feeding.{IsFed, FindsTrace, FindsFault, IsCutAt, is_short};
 
 use crate::faults::ReplayFault;
@@ -25,7 +24,7 @@ fn read_text<I: Input, J: Judge>(
     requires turns { turns ≤ 17592186044416 }
     ensures fed { result.fault ≡ None
         → IsFed limits (I.left reader.old) (J.is_after result.judge limits) result.cutter }
-    ensures fault { IfSome result.fault (λ f. gives_up f ≡ false → FindsFault limits (I.left reader.old) f) }
+    ensures fault { IfSome result.fault (FindsFault limits (I.left reader.old)) }
     ensures short { IfSome result.fault (λ f. is_short f ≡ true
         → (I.failed reader.new ≡ true) ⊎ IfSome (I.left reader.old) (λ text. turns ≤ length text)) }
     ensures cut { IfSome result.fault (λ f. is_short f ≡ true
@@ -55,8 +54,9 @@ pub fn judge_text<I: Input, J: Judge + Drop>(
     // The text is a legal trace, and the judge is as after its log.
     ensures trace { IfOk result (λ t.
         FindsTrace limits (I.left reader.old) (J.is_after t.judge limits) t.cutter.names) }
-    // The fault is what the text comes to, unless it could not be read to its end or a growth was refused.
-    ensures fault { IfErr result (λ f. gives_up f ≡ false → FindsFault limits (I.left reader.old) f) }
+    // The fault is what the text comes to, unless it could not be read to its end or a growth was refused, which
+    // is at a line that is reached.
+    ensures fault { IfErr result (FindsFault limits (I.left reader.old)) }
     // It is a read fault only where a read failed, or the text has as many bytes as there are turns.
     ensures short { IfErr result (λ f. is_short f ≡ true
         → (I.failed reader.new ≡ true) ⊎ IfSome (I.left reader.old) (λ text. turns ≤ length text)) }

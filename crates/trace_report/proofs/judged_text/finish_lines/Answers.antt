@@ -1,12 +1,19 @@
-use Rattle.trace_report.proofs.Playing.{closed_refused, close_stops, close_whole}
+use Rattle.std.proofs.Common.{[], subst}
+use Rattle.rapid_text.specs.Cutting.{judged, ClosesAt}
+use Rattle.rapid_text.specs.Texts.{ended}
+use Rattle.trace_report.proofs.Playing.{declined, event_closed, close_stops, close_whole, first_reached}
 use Rattle.trace_report.proofs.Ending.{ends_event, ends_nothing}
 use Rattle.trace_report.proofs.judged_text.finish_lines.Goals as goal
 
 pub returns-in-Err-clause-fault : goal.returns-in-Err-clause-fault
-returns-in-Err-clause-fault g c m log a gives =
-    close_stops m log c.args.cutter.now c.in-Err.fault c.in-Err.fault.cause c.requires.live
-    c.in-Err.ensures.fault
-    gives
+returns-in-Err-clause-fault g c m log a =
+    let s = c.args.cutter.now in
+    let f = c.in-Err.fault in
+    record {
+      finds = close_stops m log s f f.cause c.requires.live c.in-Err.ensures.fault;
+      reached = λ out. first_reached m log (judged s []) f.line
+          (subst (ClosesAt s f) out c.in-Err.ensures.fault);
+    }
 
 pub returns-in-Err-clause-whole : goal.returns-in-Err-clause-whole
 returns-in-Err-clause-whole g c =
@@ -19,10 +26,11 @@ returns-in_default-clause-ok g c m log a =
     c.in-Ok.ensures.ok c.in_default.is c.finish.ensures.grows a
 
 pub returns-in-Err-judge-clause-fault : goal.returns-in-Err-judge-clause-fault
-returns-in-Err-judge-clause-fault g c m log a gives =
-    closed_refused m log c.args.cutter.now c.finish.new.self c.in-Ok.event c.in-Some.event
-    c.in-Err-judge.refusal c.line.result c.in-Ok.ensures.ok c.in-Some.is
-    (c.in-Err-judge.ensures.refused m log a) c.line.ensures gives
+returns-in-Err-judge-clause-fault g c m log a =
+    let t = c.finish.new.self in
+    declined m log c.line.result t.line c.in-Some.event c.in-Err-judge.refusal (ended t.names) _
+    (event_closed c.args.cutter.now t c.in-Ok.event c.in-Some.event c.in-Ok.ensures.ok c.in-Some.is)
+    (c.in-Err-judge.ensures.refused m log a) c.line.ensures
 
 pub returns-clause-ok : goal.returns-clause-ok
 returns-clause-ok g c m log a =

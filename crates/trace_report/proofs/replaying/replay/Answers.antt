@@ -1,9 +1,10 @@
-use Rattle.std.proofs.Common.{◌≡◌, List, sym, subst, ◌∙◌}
+use Rattle.std.proofs.Common.{◌≡◌, List, true, inl, sym, subst, ◌∙◌}
 use Rattle.event_core.specs.declared.events.Event.{Event}
 use Rattle.rapid_text.specs.Tables.{Tables}
-use Rattle.trace_report.specs.Feeding.{IsCutAt}
+use Rattle.trace_report.specs.Feeding.{IsCutAt, RanOut, ReachesLine, is_short}
 use Rattle.trace_report.specs.Reports.{AreNamed}
-use Rattle.trace_report.proofs.TellingLaws.{trace_tells, fault_tells, is_the_fault, never_short, short_stays}
+use Rattle.trace_report.proofs.TellingLaws.{trace_tells, fault_tells, is_the_fault, kind_stays}
+use Rattle.trace_report.proofs.TellingLaws.{found_reached}
 use Rattle.trace_report.proofs.replaying.replay.Goals as goal
 
 pub tell_trace-answer-requires : goal.tell_trace-answer-requires
@@ -26,23 +27,20 @@ returns-clause-tells g c gives =
     (λ log a. a.1)
     c.names.ensures (c.tell_trace-answer.ensures.tells gives)
 
-pub returns-clause-quiet : goal.returns-clause-quiet
-returns-clause-quiet g c gives other = absurd (other (c.tell_trace-answer.ensures.only gives))
-
-pub returns-clause-short : goal.returns-clause-short
-returns-clause-short g c = never_short c.tell_trace-answer.result (λ _. _) c.tell_trace-answer.ensures.whole
-
 pub returns-clause-written : goal.returns-clause-written
 returns-clause-written g c other = c.tell_trace-answer.ensures.healthy other ∙ c.requires.writes
 
 pub returns-in-Err-clause-cut : goal.returns-in-Err-clause-cut
 returns-in-Err-clause-cut g c =
-    short_stays (IsCutAt c.args.limits (g.I.Input.left c.args.reader.now)
-    (g.I.Input.left c.judge_text.new.reader))
+    kind_stays (λ f. is_short f ≡ true) (IsCutAt c.args.limits (g.I.Input.left c.args.reader.now)
+    (g.I.Input.left c.judge_text.new.reader)) (λ e. absurd (cc))
     c.tell_failure.result c.in-Err.fault c.tell_failure.ensures.is c.in-Err.ensures.cut
 
-pub returns-clause-cut : goal.returns-clause-cut
-returns-clause-cut g c = never_short c.tell_trace-answer.result (λ _. _) c.tell_trace-answer.ensures.whole
+pub returns-in-Err-clause-memory : goal.returns-in-Err-clause-memory
+returns-in-Err-clause-memory g c out =
+    let left = g.I.Input.left c.args.reader.now in
+    inl (kind_stays RanOut (ReachesLine c.args.limits left) (λ o. o) c.tell_failure.result c.in-Err.fault
+    c.tell_failure.ensures.is (found_reached c.args.limits left c.in-Err.fault c.in-Err.ensures.fault) out)
 
 pub returns-in-Err-clause-tells : goal.returns-in-Err-clause-tells
 returns-in-Err-clause-tells g c gives =

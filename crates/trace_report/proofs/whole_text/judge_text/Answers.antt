@@ -3,12 +3,12 @@ use Rattle.trace_report.specs.Feeding.{IsCutAt}
 use Rattle.trace_report.proofs.whole_text.judge_text.Goals as goal
 
 pub returns-in-Err-clause-fault : goal.returns-in-Err-clause-fault
-returns-in-Err-clause-fault g c gives =
+returns-in-Err-clause-fault g c =
     let text = c.read_text-text.result in
     end_is_found c.args.limits (g.I.Input.left c.args.reader.now)
     (g.J.Judge.is_after text.judge c.args.limits) text.cutter text.fault c.in-Err.fault
     c.read_text-text.ensures.fed c.read_text-text.ensures.fault
-    (λ none log. c.in-Err.ensures.fault none c.args.limits log) c.in-Err.ensures.answered gives
+    (λ none log. c.in-Err.ensures.fault none c.args.limits log) c.in-Err.ensures.answered
 
 pub returns-in-Err-clause-short : goal.returns-in-Err-clause-short
 returns-in-Err-clause-short g c short =

@@ -1,5 +1,6 @@
 use Rattle.std.proofs.Common.{[], sym, subst}
 use Rattle.trace_report.proofs.Whole.{is_fed, fault_is_found, failed_or_many, if_stands, never_short}
+use Rattle.trace_report.proofs.Whole.{cut_says_nothing}
 use Rattle.trace_report.proofs.CutTexts.{cut_text}
 use Rattle.trace_report.proofs.whole_text.read_text.Goals as goal
 
@@ -46,6 +47,14 @@ returns-in_default-clause-cut g c =
     (after c.feed_all.new.sink.judge) c.feed_all.new.sink.cutter _ c.feed_all.result c.new-text.result.fault
     c.feed_all.new.sink.fault c.requires.turns c.new-text.ensures.fault c.in_default.not-Cut
     c.feed_all.ensures.whole c.feed_all.ensures.stopped
+
+pub returns-clause-fault : goal.returns-clause-fault
+returns-clause-fault g c =
+    let left = g.I.Input.left in
+    let pulled = c.feed_all.ensures.cut c.in-Cut.is in
+    if_stands _ (c.read_failed.ensures.fault (pulled.so.0 c.new-text.ensures.fault).0)
+    (cut_says_nothing c.args.limits (left c.args.reader.now) (left c.feed_all.new.input) pulled.bytes _
+    pulled.came)
 
 pub returns-clause-cut : goal.returns-clause-cut
 returns-clause-cut g c =

@@ -1,10 +1,12 @@
-use Rattle.std.proofs.Common.{◌++◌, List, sym, ap, subst, refl, ◌∙◌}
+use Rattle.std.proofs.Common.{◌≡◌, ◌++◌, ℕ, List, None, sym, ap, subst, refl, ◌∙◌}
+use Rattle.std.specs.Prelude.{IfSome}
 use Rattle.event_core.specs.declared.events.Event.{Event}
 use Rattle.seq_monitor.specs.declared.monitor.Monitor.{Monitor}
 use Rattle.trace_report.specs.declared.judged_text.JudgedText.{JudgedText}
 use Rattle.trace_report.specs.Reports.{AreNamed}
-use Rattle.trace_report.specs.Replaying.{Replaying, after}
-use Rattle.trace_report.proofs.FedLaws.{was_taken, fed_law}
+use Rattle.trace_report.specs.Feeding.{RanOut}
+use Rattle.trace_report.specs.Replaying.{Replaying, ReachesIn, after}
+use Rattle.trace_report.proofs.FedLaws.{was_taken, fed_law, fed_reached}
 use Rattle.trace_report.proofs.replayer.Replayer.feed.Goals as goal
 
 pub invariant_of-self : goal.invariant_of-self
@@ -29,3 +31,13 @@ returns-clause-law c gives more =
     (same.0, ap (λ (x : JudgedText Monitor). x.fault) same.1))
     c.take.ensures.takes c.take.ensures.stops gives
     ∙ ap (λ (r : Replaying). after r (c.args.piece.now ++ more)) c.self.view_is
+
+pub returns-clause-memory : goal.returns-clause-memory
+returns-clause-memory c none =
+    let s = c.self.inside.text in
+    let t = c.take.new.self in
+    let stood : s.fault ≡ None = ap (λ (r : Replaying). r.fault) c.self.view_is ∙ none in
+    subst (λ (r : Replaying). IfSome t.fault (λ f. RanOut f → (more : List ℕ)
+    → ReachesIn r (c.args.piece.now ++ more) f)) c.self.view_is
+    (fed_reached s.judge.limits s.judge.log s.cutter c.args.piece.now c.take.result t.fault
+    (λ took. (c.take.ensures.takes took).0) (c.take.ensures.stops stood))

@@ -1,5 +1,5 @@
-use Rattle.std.proofs.Common.{◌≡◌, ◌⊎◌, List, [], Option, Some, Result, Ok, Err, refl, sym, ap, ap₂, subst}
-use Rattle.std.proofs.Common.{◌∙◌}
+use Rattle.std.proofs.Common.{◌≡◌, ◌⊎◌, List, [], Option, Some, None, Result, Ok, Err, refl, sym, ap, ap₂}
+use Rattle.std.proofs.Common.{subst, ◌∙◌}
 use Rattle.std.specs.Prelude.{IfSome}
 use Rattle.event_core.specs.declared.events.Event.{Event}
 use Rattle.rapid_text.specs.Cutting.{judged}
@@ -7,14 +7,14 @@ use Rattle.rapid_text.specs.Tables.{Tables}
 use Rattle.trace_report.specs.declared.faults.ReplayFault.{ReplayFault}
 use Rattle.trace_report.specs.declared.faults.ReplayFault.TheVariants.{Write}
 use Rattle.trace_report.specs.declared.summary.Summary.{Summary}
-use Rattle.trace_report.specs.Findings.{Trace, finding_after}
-use Rattle.trace_report.specs.Feeding.{is_short}
+use Rattle.trace_report.specs.Findings.{Trace, finding_after, IsReached}
+use Rattle.trace_report.specs.Feeding.{RanOut, is_short, line_of}
 use Rattle.trace_report.specs.Replayed.{Told}
-use Rattle.trace_report.specs.Replaying.{Replaying, after}
+use Rattle.trace_report.specs.Replaying.{Replaying, after, ReachesIn}
 use Rattle.trace_report.specs.Reports.{AreNamed}
 use Rattle.trace_report.proofs.TellingLaws.{is_the_fault, short_is_the_fault, fault_told, ended_fault}
 use Rattle.trace_report.proofs.TellingLaws.{ended_trace}
-use Rattle.trace_report.proofs.TellingLaws.{never_short, answered_or, refused, same_fault}
+use Rattle.trace_report.proofs.TellingLaws.{kind_stays, answered_or, refused, same_fault}
 use Rattle.trace_report.proofs.replayer.Replayer.finish.Goals as goal
 
 pub returns-in-Err-clause-tells : goal.returns-in-Err-clause-tells
@@ -28,7 +28,7 @@ returns-in-Err-clause-tells g c gives =
     (fault_told _ (written c.args.writer.now) (written c.tell_failure.new.writer) fault
     (ended_fault text.fault (finding_after text.judge.limits text.judge.log (judged text.cutter [])) fault
     c.in-Err.fault (is_the_fault fault c.in-Err.fault c.tell_failure.ensures.is gives)
-    (λ none. c.in-Err.ensures.fault none text.judge.limits text.judge.log (refl, refl))
+    (λ none. (c.in-Err.ensures.fault none text.judge.limits text.judge.log (refl, refl)).finds)
     c.in-Err.ensures.answered gives)
     (c.tell_failure.ensures.tells gives))
 
@@ -52,6 +52,16 @@ returns-in-Err-clause-answered g c =
     (answered_or Summary c.self.inside.text.fault c.tell_failure.result c.in-Err.fault
     c.tell_failure.ensures.is
     c.in-Err.ensures.answered)
+
+pub returns-in-Err-clause-memory : goal.returns-in-Err-clause-memory
+returns-in-Err-clause-memory g c none out =
+    let text = c.self.inside.text in
+    let answer = c.tell_failure.result in
+    let stood : text.fault ≡ None = ap (λ (r : Replaying). r.fault) c.self.view_is ∙ none in
+    let says = c.in-Err.ensures.fault stood text.judge.limits text.judge.log (refl, refl) in
+    subst (λ (r : Replaying). ReachesIn r [] answer) c.self.view_is
+    (kind_stays RanOut (λ f. IsReached text.judge.limits text.judge.log (judged text.cutter []) (line_of f))
+    (λ o. o) answer c.in-Err.fault c.tell_failure.ensures.is says.reached out)
 
 pub returns-in-Err-clause-healthy : goal.returns-in-Err-clause-healthy
 returns-in-Err-clause-healthy g c other =
@@ -87,10 +97,3 @@ returns-clause-tells g c gives =
     ∙ sym (ended_trace text.fault (finding_after text.judge.limits text.judge.log (judged text.cutter []))
     c.in_default.ensures.stands))
     (c.tell_trace-answer.ensures.tells gives))
-
-pub returns-clause-quiet : goal.returns-clause-quiet
-returns-clause-quiet g c gives other = absurd (other (c.tell_trace-answer.ensures.only gives))
-
-pub returns-clause-read : goal.returns-clause-read
-returns-clause-read g c =
-    never_short c.tell_trace-answer.result (λ f. c.args.self.fault ≡ Some f) c.tell_trace-answer.ensures.whole
