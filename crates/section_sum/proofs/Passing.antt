@@ -147,3 +147,12 @@ is_held_at (x ∷ xs) zero m h = ap (λ b. b || is_held xs x.0) (eq-eqb x.0 x.0 
 is_held_at (x ∷ xs) (suc i) m h =
     ap (λ b. nat_eq (get_or xs i m).0 x.0 || b) (is_held_at xs i m (omega (arith, h)))
     ∙ or_true (nat_eq (get_or xs i m).0 x.0)
+
+-- what is none of the locks is not the one at an index
+pub not_held : (held : List LockId) (i : ℕ) (m : LockId) → i < length held → (l : ℕ) (b : Bool)
+    → (is_held held l && b) ≡ false → (nat_eq l (get_or held i m).0 && b) ≡ false
+not_held held i m h l b off = elim (cases_eq l (get_or held i m).0) [
+  | inl e ↦ ap (λ x. x && b) (eq-eqb _ _ e)
+      ∙ sym (ap (λ x. x && b) (ap (is_held held) e ∙ is_held_at held i m h)) ∙ off
+  | inr n ↦ ap (λ x. x && b) (ne_eqb _ _ n)
+]

@@ -1,25 +1,27 @@
 -- What is said of each lock after a call on one of them.
-use Rattle.std.proofs.Common.{◌≡◌, ℕ, ◌<◌, ◌≤◌, Bool, true, false, ◌⊎◌, inl, inr, List, [], ◌++◌, cond}
+use Rattle.std.proofs.Common.{◌≡◌, ℕ, ◌<◌, ◌≤◌, Bool, true, false, ◌&&◌, ◌⊎◌, inl, inr, List, [], ◌++◌, cond}
 use Rattle.std.proofs.Common.{length, get_or}
 use Rattle.std.proofs.Common.{nat_eq, set, refl, sym, ap, subst, ◌∙◌, arith}
 use Rattle.std.specs.Prelude.{nat_lt}
-use Rattle.std.proofs.lemmas.Bool.{cases_lt, eq-eqb, ltb-true, lt-ltb}
+use Rattle.std.proofs.lemmas.Bool.{cases_lt, eq-eqb, ltb-true, lt-ltb, le-ltb}
 use Rattle.std.proofs.lemmas.List.{get_or-set_same, get_or-set_other, get_or_past, get_or_default}
 use Rattle.std.proofs.lemmas.List.{length_push}
+use Rattle.event_core.specs.declared.ids.LockId.{LockId}
 use Rattle.event_core.specs.declared.events.AccessKind.{AccessKind}
 use Rattle.event_core.specs.declared.events.AccessKind.TheVariants.{Read, Write}
 use Rattle.section_sum.specs.declared.cells.Place.{Place}
 use Rattle.section_sum.specs.Newest.{section}
 use Rattle.section_sum.specs.Cell.{no_cell, cell_at, closed_as, marked_as, sources_in}
-use Rattle.section_sum.specs.Cells.{Stored, place_of, place, lock_at, with_place, HasGrown}
+use Rattle.section_sum.specs.Cells.{Stored, is_place, place_of, has_cell, place, lock_at, with_place}
+use Rattle.section_sum.specs.Cells.{HasGrown}
 use Rattle.section_sum.specs.Kept.{Kept, no_kept, kept_at, IsKept, AreKept}
 use Rattle.section_sum.specs.Entries.{entries_of, IsAlone, SaysSame, HasNoted, HasClosed}
-use Rattle.section_sum.specs.Locks.{SaySame, HaveClosed}
+use Rattle.section_sum.specs.Locks.{SaySame, HaveGrown, HaveClosed}
 use Rattle.section_sum.proofs.Basics.{at_set}
-use Rattle.section_sum.proofs.Standing.{own_place, same_place, place_left, joined}
+use Rattle.section_sum.proofs.Standing.{own_place, same_place, place_high, place_left, place_end, joined}
 use Rattle.section_sum.proofs.Keeping.{Changed, not_own, kept_more, has_lock}
 use Rattle.section_sum.proofs.Says.{says_same, says_noted, says_closed, says_none}
-use Rattle.section_sum.proofs.Passing.{same_said, closed_one}
+use Rattle.section_sum.proofs.Passing.{same_said, closed_one, not_held}
 
 -- one lock's is changed
 pub kept_set : (l : ℕ) (s : Stored) (locks : List Kept) (k : Kept) → l < length locks → IsKept l s k
@@ -112,6 +114,35 @@ says_ended l thread number old new locks k h by own was places exact =
         same true = refl
         same false = refl
 
+-- what had a cell has it still
+cell_stays : (s : Stored) (l v m x : ℕ) → place_of s.places m x < length s.places
+    → has_cell (with_place s l v) m x ≡ true
+cell_stays s l v m x h =
+    let left = place_left s.places (place l v) m x h in
+    let long = length_push s.places (place l v) in
+    lt-ltb _ _ (omega (arith, left, long, h))
+
+-- and no other pair of a lock and a variable got one
+no_more : (s : Stored) (l v m x : ℕ) → (nat_eq m l && nat_eq x v) ≡ false
+    → has_cell (with_place s l v) m x ≡ has_cell s m x
+no_more s l v m x off = elim (cases_lt (place_of s.places m x) (length s.places)) [
+  | inl h ↦ cell_stays s l v m x h ∙ sym (lt-ltb _ _ h)
+  | inr g ↦
+      let end = place_end s.places (place l v) m x (place_high s.places m x g) in
+      let one : cond {A = ℕ} (is_place m x (place l v)) 0 1 ≡ 1 = ap (λ b. cond {A = ℕ} b 0 1) off in
+      let long = length_push s.places (place l v) in
+      le-ltb _ _ (omega (arith, end, one, long)) ∙ sym (le-ltb _ _ g)
+]
+
+-- room is made under one of the locks
+pub held_grown : (held : List LockId) (var i : ℕ) (m : LockId) (before old new : Stored) → i < length held
+    → HaveGrown held var before old → HasGrown (get_or held i m).0 var old new → HaveGrown held var before new
+held_grown held var i m before old new h had (inl e) l v off =
+    ap (λ (s : Stored). has_cell s l v) e ∙ had l v off
+held_grown held var i m before old new h had (inr (n, e)) l v off =
+    ap (λ (s : Stored). has_cell s l v) e
+    ∙ no_more old (get_or held i m).0 var l v (not_held held i m h l (nat_eq v var) off) ∙ had l v off
+
 -- a cell that joins says nothing new
 pub says_more : (l v m : ℕ) (old new : Stored) (locks after : List Kept)
     → length old.cells ≡ length old.places → HasGrown l v old new
@@ -124,14 +155,7 @@ says_more l v m old new locks after same (inr (n, e)) by =
     says_same (entries_of old locks m) (entries_of new after m)
     (λ x. ap (λ (s : Stored). cell_at s.cells (place_of s.places m x)) e ∙ joined old l v same m x) by
     (λ x r. subst (λ (s : Stored). nat_lt (place_of s.places m x) (length s.places) ≡ true) (sym e)
-    (further x (ltb-true _ _ r)))
-  where
-    further : (x : ℕ) → place_of old.places m x < length old.places
-        → nat_lt (place_of (with_place old l v).places m x) (length (with_place old l v).places) ≡ true
-    further x h =
-        let left = place_left old.places (place l v) m x h in
-        let long = length_push old.places (place l v) in
-        lt-ltb _ _ (omega (arith, left, long, h))
+    (cell_stays old l v m x (ltb-true _ _ r)))
 
 pub kept_grown : (l v m : ℕ) (old new : Stored) (k : Kept) → (m ≡ l → ⊥) → HasGrown l v old new
     → IsKept m old k → IsKept m new k

@@ -51,7 +51,7 @@ place_left places p l v h =
     ∙ ap (λ b. cond b (length places + cond (is_place l v p) 0 1) (place_of places l v))
     (ne_eqb _ _ (λ e. omega (arith, e, h)))
 
-place_end : (places : List Place) (p : Place) (l v : ℕ) → place_of places l v ≡ length places
+pub place_end : (places : List Place) (p : Place) (l v : ℕ) → place_of places l v ≡ length places
     → place_of (places ++ p ∷ []) l v ≡ length places + cond {A = ℕ} (is_place l v p) 0 1
 place_end places p l v e =
     position_or_len_push (is_place l v) places p

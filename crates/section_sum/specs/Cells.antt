@@ -15,6 +15,7 @@ use Rattle.std.specs.Prelude.{
   ◌∷◌,
   length,
   nat_eq,
+  nat_lt,
   slice_index_or,
 }
 use Rattle.std.specs.List.{position_or_len}
@@ -35,6 +36,10 @@ is_place l v p = nat_eq l p.lock.0 && nat_eq v p.var.0
 
 abbrev pub place_of : List Place → ℕ → ℕ → ℕ
 place_of places l v = position_or_len (is_place l v) places
+
+-- the variable has a cell under the lock
+abbrev pub has_cell : Stored → ℕ → ℕ → Bool
+has_cell s l v = nat_lt (place_of s.places l v) (length s.places)
 
 abbrev pub place : ℕ → ℕ → Place
 place l v = record { lock = record { 0 = l }; var = record { 0 = v } }

@@ -1,8 +1,8 @@
 -- What is kept of a lock, as what it says of each variable.
-use Rattle.std.specs.Prelude.{ℕ, ◌≡◌, Bool, true, false, not, ◌&&◌, ◌||◌, cond, List, length, nat_eq, nat_lt}
+use Rattle.std.specs.Prelude.{ℕ, ◌≡◌, Bool, true, false, not, ◌&&◌, ◌||◌, cond, List, nat_eq}
 use Rattle.section_sum.specs.Newest.{others_at}
 use Rattle.section_sum.specs.Cell.{cell_at, side, is_kind, sources_in}
-use Rattle.section_sum.specs.Cells.{Stored, place_of}
+use Rattle.section_sum.specs.Cells.{Stored, place_of, has_cell}
 use Rattle.section_sum.specs.Kept.{Kept, kept_at}
 use Rattle.section_sum.specs.declared.cell.Cell.{Cell}
 use Rattle.event_core.specs.declared.events.AccessKind.{AccessKind}
@@ -16,7 +16,7 @@ pub record Entries : Type 0 where
 abbrev pub entries_of : Stored → List Kept → ℕ → Entries
 entries_of s locks l = record {
   cell = λ v. cell_at s.cells (place_of s.places l v);
-  room = λ v. nat_lt (place_of s.places l v) (length s.places);
+  room = has_cell s l;
   by = (kept_at locks l).by;
 }
 

@@ -62,6 +62,11 @@ SameOthers old new = (l v : ℕ) (k : AccessKind) (t : ℕ) → others_of new l 
 abbrev pub KeepsRoom : Sums → Sums → Type 0
 KeepsRoom old new = (l v : ℕ) → room_of old l v ≡ true → room_of new l v ≡ true
 
+-- no other pair of a lock and a variable got room than the variable under one of the locks
+abbrev pub GrownFor : Sums → Sums → List LockId → ℕ → Type 0
+GrownFor old new held var = (l v : ℕ) → (is_held held l && nat_eq v var) ≡ false
+    → room_of new l v ≡ room_of old l v
+
 -- the numbers of the sections that an access of the kind by the thread meets under the lock: a load meets
 -- the newest with a store, and a store that and the newest with a load
 unfoldable pub sources_of : Sums → ℕ → ℕ → AccessKind → ℕ → List ℕ

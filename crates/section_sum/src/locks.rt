@@ -3,7 +3,8 @@ ghost use Rattle.std.specs.Prelude.{◌≡◌, ℕ, ◌+◌, ◌<◌, ◌≤◌,
 ghost use Rattle.section_sum.specs.Kept.{kept_at, AreKept};
 ghost use Rattle.section_sum.specs.Entries.{entries_of, sources_on, IsAlone};
 ghost use Rattle.section_sum.specs.Sums.{is_held};
-ghost use Rattle.section_sum.specs.Locks.{SaySame, HaveNoted, HaveClosed};
+ghost use Rattle.section_sum.specs.Cells.{HasGrown};
+ghost use Rattle.section_sum.specs.Locks.{SaySame, HaveGrown, HaveNoted, HaveClosed};
 ghost use Rattle.section_sum.specs.Sources.{left};
 
 use crate::cell::sources;
@@ -28,6 +29,7 @@ pub fn make_room_held(
         → (entries_of cells.new locks.new.items l).room var.0 ≡ true) }
     ensures refused { OnErr result (((l : ℕ) → is_held held.now l ≡ true
         → (entries_of cells.new locks.new.items l).room var.0 ≡ true) → ⊥) }
+    ensures grown { HaveGrown held.now var.0 cells.old cells.new }
 {
     for lock in held {
         make_room_under(cells, locks, alloc, *lock, var)?;
@@ -47,6 +49,7 @@ fn make_room_under(
     ensures kept { AreKept cells.new locks.new.items }
     ensures same { SaySame (entries_of cells.old locks.old.items) (entries_of cells.new locks.new.items) }
     ensures room { is_ok result ≡ (entries_of cells.new locks.new.items lock.0).room var.0 }
+    ensures grown { HasGrown lock.0 var.0 cells.old cells.new }
 {
     make_lock(locks, alloc, lock)?;
     let kept = &mut locks[lock.0 as usize];

@@ -9,7 +9,7 @@ ghost use Rattle.event_core.specs.Log.{depth};
 ghost use Rattle.event_core.specs.Refusal.{WellFormed};
 ghost use Rattle.event_core.specs.Closed.{EndsSection, ended};
 ghost use Rattle.section_sum.specs.Sums.{noted_of, others_of, sources_of, is_access, HasRoom};
-ghost use Rattle.section_sum.specs.Sums.{IsAlone, SameNoted, SameOthers, KeepsRoom};
+ghost use Rattle.section_sum.specs.Sums.{IsAlone, SameNoted, SameOthers, KeepsRoom, GrownFor};
 ghost use Rattle.section_sum.specs.Sources.{left, most_sources};
 ghost use Rattle.section_sum.specs.Standing.{Stands, IsAccess, AreHeld};
 ghost use Rattle.section_sum.specs.Paired.{AreSources};
@@ -65,6 +65,7 @@ impl Summaries {
         ensures room { OnOk result (HasRoom self.new held.now var.0) }
         ensures refused { OnErr result (HasRoom self.new held.now var.0 → ⊥) }
         ensures kept { KeepsRoom self.old self.new }
+        ensures grown { GrownFor self.old self.new held.now var.0 }
 
         // In any case the same is known.
         ensures noted { SameNoted self.old self.new }

@@ -5,6 +5,7 @@ use Rattle.section_sum.specs.Entries.{entries_of}
 use Rattle.section_sum.specs.Sums.{is_held}
 use Rattle.section_sum.proofs.Basics.{false_true, refused}
 use Rattle.section_sum.proofs.Passing.{same_then, held_each, is_held_at}
+use Rattle.section_sum.proofs.Sayings.{held_grown}
 use Rattle.section_sum.proofs.locks.make_room_held.Goals as goal
 
 pub returns-in_err-make_room_under-clause-same : goal.returns-in_err-make_room_under-clause-same
@@ -21,7 +22,14 @@ loop-lock-preserved c = record {
       c.args.held.now c.loop-lock.lock-index (record { 0 = 0 }) c.loop-lock-test.true
       (λ l e. (c.make_room_under.ensures.same l).room c.args.var.0 (c.loop-lock.invariant.room l e))
       (sym c.in_ok-make_room_under.ensures.room);
+  grown = held_grown c.args.held.now c.args.var.0 c.loop-lock.lock-index (record { 0 = 0 })
+      c.args.cells.now c.loop-lock.cells c.make_room_under.new.cells c.loop-lock-test.true c.loop-lock.invariant.grown c.make_room_under.ensures.grown;
 }
+
+pub returns-in_err-make_room_under-clause-grown : goal.returns-in_err-make_room_under-clause-grown
+returns-in_err-make_room_under-clause-grown c =
+    held_grown c.args.held.now c.args.var.0 c.loop-lock.lock-index (record { 0 = 0 })
+    c.args.cells.now c.loop-lock.cells c.make_room_under.new.cells c.loop-lock-test.true c.loop-lock.invariant.grown c.make_room_under.ensures.grown
 
 pub returns-in_err-make_room_under-clause-refused : goal.returns-in_err-make_room_under-clause-refused
 returns-in_err-make_room_under-clause-refused c =

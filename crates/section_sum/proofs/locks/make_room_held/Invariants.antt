@@ -2,7 +2,7 @@ use Rattle.std.proofs.Common.{◌≡◌, ℕ, true, take}
 use Rattle.section_sum.specs.Kept.{AreKept}
 use Rattle.section_sum.specs.Entries.{entries_of}
 use Rattle.section_sum.specs.Sums.{is_held}
-use Rattle.section_sum.specs.Locks.{SaySame}
+use Rattle.section_sum.specs.Locks.{SaySame, HaveGrown}
 use Rattle.section_sum.proofs.locks.make_room_held.Given as goal
 
 abbrev pub invariant-loop-lock : goal.invariant-loop-lock
@@ -11,4 +11,5 @@ invariant-loop-lock l = record {
   same : SaySame (entries_of l.fn.cells l.fn.locks.items) (entries_of l.cells l.locks.items);
   room : (m : ℕ) → is_held (take l.lock-index l.held) m ≡ true
       → (entries_of l.cells l.locks.items m).room l.var.0 ≡ true;
+  grown : HaveGrown l.held l.var.0 l.fn.cells l.cells;
 }
