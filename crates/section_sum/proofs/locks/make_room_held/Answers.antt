@@ -23,13 +23,15 @@ loop-lock-preserved c = record {
       (λ l e. (c.make_room_under.ensures.same l).room c.args.var.0 (c.loop-lock.invariant.room l e))
       (sym c.in_ok-make_room_under.ensures.room);
   grown = held_grown c.args.held.now c.args.var.0 c.loop-lock.lock-index (record { 0 = 0 })
-      c.args.cells.now c.loop-lock.cells c.make_room_under.new.cells c.loop-lock-test.true c.loop-lock.invariant.grown c.make_room_under.ensures.grown;
+      c.args.cells.now c.loop-lock.cells c.make_room_under.new.cells c.loop-lock-test.true
+      c.loop-lock.invariant.grown c.make_room_under.ensures.grown;
 }
 
 pub returns-in_err-make_room_under-clause-grown : goal.returns-in_err-make_room_under-clause-grown
 returns-in_err-make_room_under-clause-grown c =
     held_grown c.args.held.now c.args.var.0 c.loop-lock.lock-index (record { 0 = 0 })
-    c.args.cells.now c.loop-lock.cells c.make_room_under.new.cells c.loop-lock-test.true c.loop-lock.invariant.grown c.make_room_under.ensures.grown
+    c.args.cells.now c.loop-lock.cells c.make_room_under.new.cells c.loop-lock-test.true
+    c.loop-lock.invariant.grown c.make_room_under.ensures.grown
 
 pub returns-in_err-make_room_under-clause-refused : goal.returns-in_err-make_room_under-clause-refused
 returns-in_err-make_room_under-clause-refused c =

@@ -7,15 +7,16 @@ use Rattle.section_sum.proofs.summaries.Summaries.make_room.Goals as goal
 pub returns : goal.returns
 unfolding room_of
 returns c =
-    let grown =
-    subst (λ (s : Sums). Grows s (sums c.make_room_held.new.cells c.make_room_held.new.locks.items))
-    c.self.view_is (grows _ _ c.make_room_held.ensures.same) in
+    let cells = c.make_room_held.new.cells in
+    let locks = c.make_room_held.new.locks.items in
+    let grown = subst (λ (s : Sums). Grows s (sums cells locks)) c.self.view_is
+    (grows _ _ c.make_room_held.ensures.same) in
     record {
       room = c.make_room_held.ensures.room;
       refused = c.make_room_held.ensures.refused;
       kept = grown.kept;
-      grown = subst (λ (s : Sums). GrownFor s (sums c.make_room_held.new.cells c.make_room_held.new.locks.items)
-          c.args.held.now c.args.var.0) c.self.view_is c.make_room_held.ensures.grown;
+      grown = subst (λ (s : Sums). GrownFor s (sums cells locks) c.args.held.now c.args.var.0) c.self.view_is
+          c.make_room_held.ensures.grown;
       noted = grown.noted;
       others = grown.others;
       stands = λ log. same_stands log _ _ grown.noted grown.others;
