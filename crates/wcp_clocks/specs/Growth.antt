@@ -1,10 +1,13 @@
 -- What making room does to the parts.
-use Rattle.std.specs.Prelude.{◌≡◌, ℕ, IsTrue}
+use Rattle.std.specs.Prelude.{◌≡◌, ℕ, Bool, false, ◌&&◌, nat_eq, IsTrue}
+use Rattle.event_core.specs.declared.ids.ThreadId.{ThreadId}
+use Rattle.event_core.specs.declared.events.Op.{Op}
+use Rattle.event_core.specs.declared.events.Op.TheVariants.{Load, Store}
 use Rattle.hb_clocks.specs.Tables.{state_of as order_of, KeepsRoom as KeepsOrder}
-use Rattle.section_sum.specs.Sums.{SameNoted, SameOthers, KeepsRoom as KeepsSums}
+use Rattle.section_sum.specs.Sums.{SameNoted, SameOthers, KeepsRoom as KeepsSums, is_held, room_of}
 use Rattle.lock_queues.specs.Queues.{SameMeaning, has_room}
 use Rattle.wcp_clocks.specs.declared.parts.Parts.{Parts}
-use Rattle.wcp_clocks.specs.HeldLists.{held_of, KeepsPlaces}
+use Rattle.wcp_clocks.specs.HeldLists.{list_at, held_of, KeepsPlaces}
 use Rattle.wcp_clocks.specs.StrictRows.{SameClocks, KeepsRoom}
 use Rattle.wcp_clocks.specs.Parts.{AreOrdered}
 
@@ -24,3 +27,22 @@ pub record HasGrown (old new : Parts) : Type 0 where
   pub held : held_of new.held ≡ held_of old.held
   pub held_room : KeepsPlaces old.held new.held
   pub work : new.work ≡ old.work
+
+-- the operation is an access to the variable
+abbrev pub is_access_to : Op → ℕ → Bool
+is_access_to (Load y) x = nat_eq x y.0
+is_access_to (Store y) x = nat_eq x y.0
+is_access_to _ x = false
+
+-- no access got room but the operation's under the locks that its thread holds
+abbrev pub GrownFor : Parts → Parts → ThreadId → Op → Type 0
+GrownFor old new t op = (l x : ℕ) → (is_held (list_at old.held t.0).locks l && is_access_to op x) ≡ false
+    → room_of new.sums l x ≡ room_of old.sums l x
+
+-- no access got room, and the same locks are held
+abbrev pub SameAccesses : Parts → Parts → Type 0
+SameAccesses old new = (new.sums ≡ old.sums) × (new.held ≡ old.held)
+
+-- no clock was made
+abbrev pub SameMade : Parts → Parts → Type 0
+SameMade old new = (new.hb ≡ old.hb) × (new.rows ≡ old.rows)

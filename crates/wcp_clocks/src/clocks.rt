@@ -10,6 +10,7 @@ ghost use Rattle.std.specs.Prelude.{◌≡◌, ℕ, ◌<◌, ◌≤◌, ◌+◌,
 ghost use Rattle.std.specs.Prelude.{IsOk, OnOk, IsTrue};
 ghost use Rattle.event_core.specs.declared.events.Event.{Event as AnEvent};
 ghost use Rattle.event_core.specs.declared.ids.ThreadId.{ThreadId as AThread};
+ghost use Rattle.event_core.specs.declared.events.Op.TheVariants.{Load};
 ghost use Rattle.event_core.specs.declared.bounds.Limits.{Limits as Bounds};
 ghost use Rattle.event_core.specs.Refusal.{WellFormed};
 ghost use Rattle.event_core.specs.Count.{Counts};
@@ -26,6 +27,7 @@ ghost use Rattle.wcp_clocks.specs.Parts.{hb_of, state_of, width_of, limits_of, w
 ghost use Rattle.wcp_clocks.specs.Parts.{IsReady, Fits, KeepsReady, SameLimits, SameNumbers, most_joins};
 ghost use Rattle.wcp_clocks.specs.Parts.{joins_at, FewComparisons, NoFewer, IsWithin, IsAccess};
 ghost use Rattle.wcp_clocks.specs.Parts.{IsReadyToSwap};
+ghost use Rattle.wcp_clocks.specs.Growth.{GrownFor, SameMade};
 ghost use Rattle.wcp_clocks.specs.StandsFor.{StandsFor};
 
 use crate::effects::step;
@@ -77,6 +79,7 @@ impl WcpClocks {
         ensures ready { OnOk result (IsReady self.new event.now) }
         ensures again { IsReady self.old event.now → IsOk result × (self.new ≡ self.old) }
         ensures kept { KeepsReady self.old self.new }
+        ensures grown { GrownFor self.old self.new event.now.thread event.now.op }
         ensures limits { SameLimits self.old self.new }
     {
         prepare_parts(&mut self.parts, event)
@@ -101,6 +104,8 @@ impl WcpClocks {
         ensures releases { IsHeldRelease (hb_of self.old) event.now.thread event.now.op → IsTrue result }
         ensures same { SameNumbers self.old self.new }
         ensures kept { KeepsReady self.old self.new }
+        ensures grown { GrownFor self.old self.new event.now.thread event.now.op }
+        ensures made { SameMade self.old self.new }
         ensures limits { SameLimits self.old self.new }
     {
         make_ready(&mut self.parts, event)
@@ -114,6 +119,7 @@ impl WcpClocks {
         ensures ready { OnOk result (IsReadyToSwap self.new thread var) }
         ensures again { IsReadyToSwap self.old thread var → IsOk result × (self.new ≡ self.old) }
         ensures kept { KeepsReady self.old self.new }
+        ensures grown { GrownFor self.old self.new thread (Load var) }
         ensures limits { SameLimits self.old self.new }
     {
         prepare_both(&mut self.parts, thread, var)

@@ -3,6 +3,7 @@ ghost use Rattle.std.specs.Prelude.{◌≡◌, ◌<◌, ◌↔◌, IsOk, IfOk, O
 ghost use Rattle.hb_clocks.specs.State.{empty as hb_empty};
 ghost use Rattle.hb_clocks.specs.Stands.{IsHeldRelease};
 ghost use Rattle.hb_clocks.specs.Tables as hb;
+ghost use Rattle.section_sum.specs.Sums as sums;
 ghost use Rattle.section_sum.specs.Sums.{HasRoom};
 ghost use Rattle.lock_queues.specs.Queues.{has_room};
 ghost use Rattle.wcp_laws.specs.State.{empty};
@@ -12,8 +13,8 @@ ghost use Rattle.wcp_clocks.specs.Parts.{hb_of, state_of, found_in, IsReady, Has
 ghost use Rattle.wcp_clocks.specs.Parts.{event_by, IsReadyToSwap, NamesWithin, HasClocks};
 ghost use Rattle.wcp_clocks.specs.Parts.{HasPlaces, HasNamedClock};
 ghost use Rattle.event_core.specs.declared.ids.ThreadId.{ThreadId as AThread};
-ghost use Rattle.event_core.specs.declared.events.Op.TheVariants.{Release};
-ghost use Rattle.wcp_clocks.specs.Growth.{HasGrown};
+ghost use Rattle.event_core.specs.declared.events.Op.TheVariants.{Load, Release};
+ghost use Rattle.wcp_clocks.specs.Growth.{HasGrown, GrownFor, SameAccesses};
 
 use crate::holdings::Holdings;
 use crate::parts::Parts;
@@ -53,6 +54,7 @@ pub(crate) fn prepare_parts(parts: &mut Parts, event: &Event) -> Result<(), OutO
     requires parts { AreParts parts.old }
     requires within { IsWithin parts.old event.now }
     ensures grown { HasGrown parts.old parts.new }
+    ensures only { GrownFor parts.old parts.new event.now.thread event.now.op }
     ensures ready { OnOk result (IsReady parts.new event.now) }
     ensures again { IsReady parts.old event.now → IsOk result × (parts.new ≡ parts.old) }
 {
@@ -94,6 +96,7 @@ pub(crate) fn prepare_both(
     requires parts { AreParts parts.old }
     requires within { thread.0 < parts.old.hb.width }
     ensures grown { HasGrown parts.old parts.new }
+    ensures only { GrownFor parts.old parts.new thread (Load var) }
     ensures ready { OnOk result (IsReadyToSwap parts.new thread var) }
     ensures again { IsReadyToSwap parts.old thread var → IsOk result × (parts.new ≡ parts.old) }
 {
@@ -137,7 +140,10 @@ pub(crate) fn make_ready(parts: &mut Parts, event: &Event) -> bool
     requires parts { AreParts parts.old }
     ensures ready { IsTrue result ↔ IsReady parts.new event.now }
     ensures releases { IsHeldRelease (hb_of parts.old) event.now.thread event.now.op → IsTrue result }
+    ensures hb { parts.new.hb ≡ parts.old.hb }
+    ensures rows { parts.new.rows ≡ parts.old.rows }
     ensures grown { HasGrown parts.old parts.new }
+    ensures only { GrownFor parts.old parts.new event.now.thread event.now.op }
 {
     parts.rows.has_thread(event.thread) && make_named_ready(parts, event.thread, event.op)
 }
@@ -150,6 +156,7 @@ fn make_named_ready(parts: &mut Parts, thread: ThreadId, op: Op) -> bool
     ensures hb { parts.new.hb ≡ parts.old.hb }
     ensures rows { parts.new.rows ≡ parts.old.rows }
     ensures grown { HasGrown parts.old parts.new }
+    ensures only { GrownFor parts.old parts.new thread op }
 {
     match op {
         Op::Load(var) | Op::Store(var) => make_access_ready(parts, thread, var),
@@ -165,6 +172,7 @@ fn make_section_ready(parts: &mut Parts, thread: ThreadId, lock: LockId) -> bool
     ensures hb { parts.new.hb ≡ parts.old.hb }
     ensures rows { parts.new.rows ≡ parts.old.rows }
     ensures grown { HasGrown parts.old parts.new }
+    ensures sums { parts.new.sums ≡ parts.old.sums }
 {
     parts.rows.has_lock(lock) && parts.held.ready(thread) && parts.queues.make_ready(thread, lock)
 }
@@ -177,6 +185,7 @@ fn make_access_ready(parts: &mut Parts, thread: ThreadId, var: VarId) -> bool
     ensures hb { parts.new.hb ≡ parts.old.hb }
     ensures rows { parts.new.rows ≡ parts.old.rows }
     ensures grown { HasGrown parts.old parts.new }
+    ensures only { sums.GrownFor parts.old.sums parts.new.sums (list_at parts.old.held thread.0).locks var.0 }
 {
     let held = parts.held.of(thread);
     held.is_empty() || parts.sums.make_room(held, var).is_ok()
@@ -208,6 +217,7 @@ fn has_clocks(rows: &StrictRows, thread: ThreadId, op: Op) -> bool
 fn make_clocks(parts: &mut Parts, event: &Event) -> Result<(), OutOfMemory>
     requires { hb.IsWithin parts.old.hb.width event.now }
     ensures grown { HasGrown parts.old parts.new }
+    ensures same { SameAccesses parts.old parts.new }
     ensures made { OnOk result (HasClocks parts.new.rows event.now.thread event.now.op) }
 {
     if has_clocks(&parts.rows, event.thread, event.op) {
@@ -222,6 +232,7 @@ fn make_clocks(parts: &mut Parts, event: &Event) -> Result<(), OutOfMemory>
 fn make_named(parts: &mut Parts, op: Op) -> Result<(), OutOfMemory>
     requires { (t : AThread) × hb.IsReady parts.old.hb t op }
     ensures grown { HasGrown parts.old parts.new }
+    ensures same { SameAccesses parts.old parts.new }
     ensures made { OnOk result (HasNamedClock parts.new.rows op) }
 {
     match op {
@@ -235,6 +246,7 @@ fn make_named(parts: &mut Parts, op: Op) -> Result<(), OutOfMemory>
 fn make_order(parts: &mut Parts, event: &Event) -> Result<(), OutOfMemory>
     requires { hb.IsWithin parts.old.hb.width event.now }
     ensures grown { HasGrown parts.old parts.new }
+    ensures same { SameAccesses parts.old parts.new }
     ensures made { OnOk result (hb.IsReady parts.new.hb event.now.thread event.now.op) }
 {
     parts.hb.prepare(event)
@@ -244,6 +256,7 @@ fn make_order(parts: &mut Parts, event: &Event) -> Result<(), OutOfMemory>
 fn make_thread(parts: &mut Parts, thread: ThreadId) -> Result<(), OutOfMemory>
     requires { hb.HasThread parts.old.hb.width parts.old.hb.po parts.old.hb.hb thread.0 }
     ensures grown { HasGrown parts.old parts.new }
+    ensures same { SameAccesses parts.old parts.new }
     ensures made { OnOk result (HasThread parts.new.rows thread.0) }
 {
     parts.rows.make_thread(thread)
@@ -253,6 +266,7 @@ fn make_thread(parts: &mut Parts, thread: ThreadId) -> Result<(), OutOfMemory>
 fn make_lock(parts: &mut Parts, lock: LockId) -> Result<(), OutOfMemory>
     requires { (t : AThread) × hb.IsReady parts.old.hb t (Release lock) }
     ensures grown { HasGrown parts.old parts.new }
+    ensures same { SameAccesses parts.old parts.new }
     ensures made { OnOk result (HasLock parts.new.rows lock.0) }
 {
     parts.rows.make_lock(lock)
@@ -263,6 +277,7 @@ fn make_places(parts: &mut Parts, thread: ThreadId, op: Op) -> Result<(), OutOfM
     requires thread { thread.0 < parts.old.queues.limits.threads }
     requires named { NamesWithin parts.old op }
     ensures grown { HasGrown parts.old parts.new }
+    ensures only { GrownFor parts.old parts.new thread op }
     ensures made { OnOk result (HasPlaces parts.new thread op) }
 {
     match op {
@@ -275,6 +290,7 @@ fn make_places(parts: &mut Parts, thread: ThreadId, op: Op) -> Result<(), OutOfM
 // Makes room for the access in each section that is open at it, and for those sections' ends.
 fn make_access(parts: &mut Parts, thread: ThreadId, var: VarId) -> Result<(), OutOfMemory>
     ensures grown { HasGrown parts.old parts.new }
+    ensures only { sums.GrownFor parts.old.sums parts.new.sums (list_at parts.old.held thread.0).locks var.0 }
     ensures made { OnOk result (HasRoom parts.new.sums (list_at parts.new.held thread.0).locks var.0) }
 {
     let held = parts.held.of(thread);
@@ -287,6 +303,7 @@ fn make_section(parts: &mut Parts, thread: ThreadId, lock: LockId) -> Result<(),
     requires thread { thread.0 < parts.old.queues.limits.threads }
     requires lock { lock.0 < parts.old.queues.limits.locks }
     ensures grown { HasGrown parts.old parts.new }
+    ensures sums { parts.new.sums ≡ parts.old.sums }
     ensures made { OnOk result (IsTrue (has_room parts.new.queues thread.0 lock.0)
         × (0 < room_at parts.new.held thread.0)) }
 {
@@ -299,6 +316,7 @@ fn make_queue(parts: &mut Parts, thread: ThreadId, lock: LockId) -> Result<(), O
     requires thread { thread.0 < parts.old.queues.limits.threads }
     requires lock { lock.0 < parts.old.queues.limits.locks }
     ensures grown { HasGrown parts.old parts.new }
+    ensures sums { parts.new.sums ≡ parts.old.sums }
     ensures made { OnOk result (IsTrue (has_room parts.new.queues thread.0 lock.0)) }
 {
     parts.queues.make_room(thread, lock)
@@ -307,6 +325,7 @@ fn make_queue(parts: &mut Parts, thread: ThreadId, lock: LockId) -> Result<(), O
 // Makes room for one lock more that the thread holds.
 fn make_place(parts: &mut Parts, thread: ThreadId) -> Result<(), OutOfMemory>
     ensures grown { HasGrown parts.old parts.new }
+    ensures sums { parts.new.sums ≡ parts.old.sums }
     ensures made { OnOk result (0 < room_at parts.new.held thread.0) }
 {
     parts.held.make_room(thread)
