@@ -16,6 +16,7 @@ use Rattle.event_core.specs.Bounds.{Bounds}
 use Rattle.event_core.specs.Rows.{Rows, with_row, no_rows}
 use Rattle.hb_clocks.specs.State.{HbState, empty as hb_empty}
 use Rattle.hb_clocks.specs.Tables as hb
+use Rattle.hb_clocks.proofs.Room.{grown_then as order_then}
 use Rattle.section_sum.specs.Sums.{HasRoom, is_held, noted_of, others_of}
 use Rattle.lock_queues.specs.Queues.{Tables as Queues, SameMeaning, closed_of, opened_of, has_room}
 use Rattle.wcp_laws.specs.State.{empty}
@@ -29,7 +30,7 @@ use Rattle.wcp_clocks.specs.Whole.{AreWhole}
 use Rattle.wcp_clocks.proofs.Wholeness.{none_whole}
 use Rattle.wcp_clocks.specs.Parts.{hb_of, state_of, HasNamed, KeepsReady, SameLimits, SameNumbers, AreParts}
 use Rattle.wcp_clocks.specs.Parts.{AreOrdered, HasNamedClock, HasClocks}
-use Rattle.wcp_clocks.specs.Growth.{HasGrown}
+use Rattle.wcp_clocks.specs.Growth.{HasGrown, MadeFor}
 use Rattle.wcp_clocks.proofs.Ordered.{ordered_more}
 
 pub grown_then : (a b c : Parts) → HasGrown a b → HasGrown b c → HasGrown a c
@@ -57,6 +58,14 @@ grown_then a b c p q = record {
   held = q.held ∙ p.held;
   held_room = λ t r. q.held_room t (p.held_room t r);
   work = q.work ∙ p.work;
+}
+
+pub made_then : (a b c : Parts) (t : ThreadId) (op : Op) → MadeFor a b t op → MadeFor b c t op
+    → MadeFor a c t op
+made_then a b c t op p q = record {
+  order = order_then a.hb b.hb c.hb t op p.order q.order;
+  thread = λ u away has. p.thread u away (q.thread u away has);
+  lock = λ l away has. p.lock l away (q.lock l away has);
 }
 
 pub grown_numbers : (old new : Parts) → HasGrown old new → SameNumbers old new

@@ -1,5 +1,5 @@
 -- What has a strict clock has those of happens-before.
-use Rattle.std.proofs.Common.{◌≡◌, ℕ, ◌<◌, length, inl, inr, ◌⊎◌, sym, subst}
+use Rattle.std.proofs.Common.{◌≡◌, ℕ, ◌<◌, length, inl, inr, ◌⊎◌, refl, sym, subst}
 use Rattle.std.proofs.lemmas.Bool.{cases_eq}
 use Rattle.event_core.specs.declared.ids.ThreadId.{ThreadId}
 use Rattle.event_core.specs.declared.ids.LockId.{LockId}
@@ -135,3 +135,12 @@ names_kept old new (Acquire l) same n = subst (λ (b : Bounds). l.0 < b.locks) (
 names_kept old new (Release l) same n = subst (λ (b : Bounds). l.0 < b.locks) (sym same.limits) n
 names_kept old new (Fork u) same n = subst (λ w. u.0 < w) (sym same.width) n
 names_kept old new (Join u) same n = subst (λ w. u.0 < w) (sym same.width) n
+
+-- the lock or the thread is one that the operation names
+pub names_lock : (op : Op) (l : LockId) → (op ≡ Acquire l) ⊎ (op ≡ Release l) → hb.IsLockOf op l.0
+names_lock op l (inl is) = subst (λ (o : Op). hb.IsLockOf o l.0) (sym is) refl
+names_lock op l (inr is) = subst (λ (o : Op). hb.IsLockOf o l.0) (sym is) refl
+
+pub names_thread : (op : Op) (u : ThreadId) → (op ≡ Fork u) ⊎ (op ≡ Join u) → hb.IsThreadOf op u.0
+names_thread op u (inl is) = subst (λ (o : Op). hb.IsThreadOf o u.0) (sym is) refl
+names_thread op u (inr is) = subst (λ (o : Op). hb.IsThreadOf o u.0) (sym is) refl

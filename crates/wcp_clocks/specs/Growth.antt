@@ -4,11 +4,12 @@ use Rattle.event_core.specs.declared.ids.ThreadId.{ThreadId}
 use Rattle.event_core.specs.declared.events.Op.{Op}
 use Rattle.event_core.specs.declared.events.Op.TheVariants.{Load, Store}
 use Rattle.hb_clocks.specs.Tables.{state_of as order_of, KeepsRoom as KeepsOrder}
+use Rattle.hb_clocks.specs.Tables.{GrownFor as OrderGrownFor, IsThreadFor, IsLockOf}
 use Rattle.section_sum.specs.Sums.{SameNoted, SameOthers, KeepsRoom as KeepsSums, is_held, room_of}
 use Rattle.lock_queues.specs.Queues.{SameMeaning, has_room}
 use Rattle.wcp_clocks.specs.declared.parts.Parts.{Parts}
 use Rattle.wcp_clocks.specs.HeldLists.{list_at, held_of, KeepsPlaces}
-use Rattle.wcp_clocks.specs.StrictRows.{SameClocks, KeepsRoom}
+use Rattle.wcp_clocks.specs.StrictRows.{HasThread, HasLock, SameClocks, KeepsRoom}
 use Rattle.wcp_clocks.specs.Parts.{AreOrdered}
 
 -- each part has as much room as before, or more, and its numbers are as they were
@@ -42,6 +43,12 @@ GrownFor old new t op = (l x : ℕ) → (is_held (list_at old.held t.0).locks l 
 -- no access got room, and the same locks are held
 abbrev pub SameAccesses : Parts → Parts → Type 0
 SameAccesses old new = (new.sums ≡ old.sums) × (new.held ≡ old.held)
+
+-- no clock was made but of the threads and the lock that the operation names
+pub record MadeFor (old new : Parts) (t : ThreadId) (op : Op) : Type 0 where
+  pub order : OrderGrownFor old.hb new.hb t op
+  pub thread : (u : ℕ) → (IsThreadFor t op u → ⊥) → HasThread new.rows u → HasThread old.rows u
+  pub lock : (l : ℕ) → (IsLockOf op l → ⊥) → HasLock new.rows l → HasLock old.rows l
 
 -- no clock was made
 abbrev pub SameMade : Parts → Parts → Type 0

@@ -27,7 +27,7 @@ ghost use Rattle.wcp_clocks.specs.Parts.{hb_of, state_of, width_of, limits_of, w
 ghost use Rattle.wcp_clocks.specs.Parts.{IsReady, Fits, KeepsReady, SameLimits, SameNumbers, most_joins};
 ghost use Rattle.wcp_clocks.specs.Parts.{joins_at, FewComparisons, NoFewer, IsWithin, IsAccess};
 ghost use Rattle.wcp_clocks.specs.Parts.{IsReadyToSwap};
-ghost use Rattle.wcp_clocks.specs.Growth.{GrownFor, SameMade};
+ghost use Rattle.wcp_clocks.specs.Growth.{GrownFor, MadeFor, SameMade};
 ghost use Rattle.wcp_clocks.specs.StandsFor.{StandsFor};
 
 use crate::effects::step;
@@ -80,6 +80,7 @@ impl WcpClocks {
         ensures again { IsReady self.old event.now → IsOk result × (self.new ≡ self.old) }
         ensures kept { KeepsReady self.old self.new }
         ensures grown { GrownFor self.old self.new event.now.thread event.now.op }
+        ensures made { MadeFor self.old self.new event.now.thread event.now.op }
         ensures limits { SameLimits self.old self.new }
     {
         prepare_parts(&mut self.parts, event)
@@ -120,6 +121,7 @@ impl WcpClocks {
         ensures again { IsReadyToSwap self.old thread var → IsOk result × (self.new ≡ self.old) }
         ensures kept { KeepsReady self.old self.new }
         ensures grown { GrownFor self.old self.new thread (Load var) }
+        ensures made { MadeFor self.old self.new thread (Load var) }
         ensures limits { SameLimits self.old self.new }
     {
         prepare_both(&mut self.parts, thread, var)

@@ -3,6 +3,7 @@ ghost use Rattle.std.specs.Prelude.{◌≡◌, ◌<◌, ◌↔◌, IsOk, IfOk, O
 ghost use Rattle.hb_clocks.specs.State.{empty as hb_empty};
 ghost use Rattle.hb_clocks.specs.Stands.{IsHeldRelease};
 ghost use Rattle.hb_clocks.specs.Tables as hb;
+ghost use Rattle.hb_clocks.specs.Tables.{IsThreadFor, IsLockOf};
 ghost use Rattle.section_sum.specs.Sums as sums;
 ghost use Rattle.section_sum.specs.Sums.{HasRoom};
 ghost use Rattle.lock_queues.specs.Queues.{has_room};
@@ -13,8 +14,9 @@ ghost use Rattle.wcp_clocks.specs.Parts.{hb_of, state_of, found_in, IsReady, Has
 ghost use Rattle.wcp_clocks.specs.Parts.{event_by, IsReadyToSwap, NamesWithin, HasClocks};
 ghost use Rattle.wcp_clocks.specs.Parts.{HasPlaces, HasNamedClock};
 ghost use Rattle.event_core.specs.declared.ids.ThreadId.{ThreadId as AThread};
+ghost use Rattle.event_core.specs.declared.events.Op.{Op as Operation};
 ghost use Rattle.event_core.specs.declared.events.Op.TheVariants.{Load, Release};
-ghost use Rattle.wcp_clocks.specs.Growth.{HasGrown, GrownFor, SameAccesses};
+ghost use Rattle.wcp_clocks.specs.Growth.{HasGrown, GrownFor, MadeFor, SameAccesses, SameMade};
 
 use crate::holdings::Holdings;
 use crate::parts::Parts;
@@ -55,6 +57,7 @@ pub(crate) fn prepare_parts(parts: &mut Parts, event: &Event) -> Result<(), OutO
     requires within { IsWithin parts.old event.now }
     ensures grown { HasGrown parts.old parts.new }
     ensures only { GrownFor parts.old parts.new event.now.thread event.now.op }
+    ensures clocks { MadeFor parts.old parts.new event.now.thread event.now.op }
     ensures ready { OnOk result (IsReady parts.new event.now) }
     ensures again { IsReady parts.old event.now → IsOk result × (parts.new ≡ parts.old) }
 {
@@ -97,6 +100,7 @@ pub(crate) fn prepare_both(
     requires within { thread.0 < parts.old.hb.width }
     ensures grown { HasGrown parts.old parts.new }
     ensures only { GrownFor parts.old parts.new thread (Load var) }
+    ensures clocks { MadeFor parts.old parts.new thread (Load var) }
     ensures ready { OnOk result (IsReadyToSwap parts.new thread var) }
     ensures again { IsReadyToSwap parts.old thread var → IsOk result × (parts.new ≡ parts.old) }
 {
@@ -218,6 +222,7 @@ fn make_clocks(parts: &mut Parts, event: &Event) -> Result<(), OutOfMemory>
     requires { hb.IsWithin parts.old.hb.width event.now }
     ensures grown { HasGrown parts.old parts.new }
     ensures same { SameAccesses parts.old parts.new }
+    ensures clocks { MadeFor parts.old parts.new event.now.thread event.now.op }
     ensures made { OnOk result (HasClocks parts.new.rows event.now.thread event.now.op) }
 {
     if has_clocks(&parts.rows, event.thread, event.op) {
@@ -233,6 +238,7 @@ fn make_named(parts: &mut Parts, op: Op) -> Result<(), OutOfMemory>
     requires { (t : AThread) × hb.IsReady parts.old.hb t op }
     ensures grown { HasGrown parts.old parts.new }
     ensures same { SameAccesses parts.old parts.new }
+    ensures clocks { (t : AThread) → MadeFor parts.old parts.new t op }
     ensures made { OnOk result (HasNamedClock parts.new.rows op) }
 {
     match op {
@@ -247,6 +253,7 @@ fn make_order(parts: &mut Parts, event: &Event) -> Result<(), OutOfMemory>
     requires { hb.IsWithin parts.old.hb.width event.now }
     ensures grown { HasGrown parts.old parts.new }
     ensures same { SameAccesses parts.old parts.new }
+    ensures clocks { MadeFor parts.old parts.new event.now.thread event.now.op }
     ensures made { OnOk result (hb.IsReady parts.new.hb event.now.thread event.now.op) }
 {
     parts.hb.prepare(event)
@@ -257,6 +264,7 @@ fn make_thread(parts: &mut Parts, thread: ThreadId) -> Result<(), OutOfMemory>
     requires { hb.HasThread parts.old.hb.width parts.old.hb.po parts.old.hb.hb thread.0 }
     ensures grown { HasGrown parts.old parts.new }
     ensures same { SameAccesses parts.old parts.new }
+    ensures clocks { (t : AThread) (o : Operation) → IsThreadFor t o thread.0 → MadeFor parts.old parts.new t o }
     ensures made { OnOk result (HasThread parts.new.rows thread.0) }
 {
     parts.rows.make_thread(thread)
@@ -267,6 +275,7 @@ fn make_lock(parts: &mut Parts, lock: LockId) -> Result<(), OutOfMemory>
     requires { (t : AThread) × hb.IsReady parts.old.hb t (Release lock) }
     ensures grown { HasGrown parts.old parts.new }
     ensures same { SameAccesses parts.old parts.new }
+    ensures clocks { (t : AThread) (o : Operation) → IsLockOf o lock.0 → MadeFor parts.old parts.new t o }
     ensures made { OnOk result (HasLock parts.new.rows lock.0) }
 {
     parts.rows.make_lock(lock)
@@ -278,6 +287,7 @@ fn make_places(parts: &mut Parts, thread: ThreadId, op: Op) -> Result<(), OutOfM
     requires named { NamesWithin parts.old op }
     ensures grown { HasGrown parts.old parts.new }
     ensures only { GrownFor parts.old parts.new thread op }
+    ensures clocks { SameMade parts.old parts.new }
     ensures made { OnOk result (HasPlaces parts.new thread op) }
 {
     match op {
@@ -291,6 +301,7 @@ fn make_places(parts: &mut Parts, thread: ThreadId, op: Op) -> Result<(), OutOfM
 fn make_access(parts: &mut Parts, thread: ThreadId, var: VarId) -> Result<(), OutOfMemory>
     ensures grown { HasGrown parts.old parts.new }
     ensures only { sums.GrownFor parts.old.sums parts.new.sums (list_at parts.old.held thread.0).locks var.0 }
+    ensures clocks { SameMade parts.old parts.new }
     ensures made { OnOk result (HasRoom parts.new.sums (list_at parts.new.held thread.0).locks var.0) }
 {
     let held = parts.held.of(thread);
@@ -304,6 +315,7 @@ fn make_section(parts: &mut Parts, thread: ThreadId, lock: LockId) -> Result<(),
     requires lock { lock.0 < parts.old.queues.limits.locks }
     ensures grown { HasGrown parts.old parts.new }
     ensures sums { parts.new.sums ≡ parts.old.sums }
+    ensures clocks { SameMade parts.old parts.new }
     ensures made { OnOk result (IsTrue (has_room parts.new.queues thread.0 lock.0)
         × (0 < room_at parts.new.held thread.0)) }
 {
@@ -317,6 +329,7 @@ fn make_queue(parts: &mut Parts, thread: ThreadId, lock: LockId) -> Result<(), O
     requires lock { lock.0 < parts.old.queues.limits.locks }
     ensures grown { HasGrown parts.old parts.new }
     ensures sums { parts.new.sums ≡ parts.old.sums }
+    ensures clocks { SameMade parts.old parts.new }
     ensures made { OnOk result (IsTrue (has_room parts.new.queues thread.0 lock.0)) }
 {
     parts.queues.make_room(thread, lock)
@@ -326,6 +339,7 @@ fn make_queue(parts: &mut Parts, thread: ThreadId, lock: LockId) -> Result<(), O
 fn make_place(parts: &mut Parts, thread: ThreadId) -> Result<(), OutOfMemory>
     ensures grown { HasGrown parts.old parts.new }
     ensures sums { parts.new.sums ≡ parts.old.sums }
+    ensures clocks { SameMade parts.old parts.new }
     ensures made { OnOk result (0 < room_at parts.new.held thread.0) }
 {
     parts.held.make_room(thread)

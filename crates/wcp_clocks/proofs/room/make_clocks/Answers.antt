@@ -1,6 +1,7 @@
+use Rattle.std.proofs.Common.{inl, refl}
 use Rattle.hb_clocks.proofs.Room.{on_ok}
 use Rattle.wcp_clocks.specs.Parts.{HasNamedClock, HasClocks}
-use Rattle.wcp_clocks.proofs.Growth.{grown_then}
+use Rattle.wcp_clocks.proofs.Growth.{grown_then, made_then}
 use Rattle.wcp_clocks.proofs.room.make_clocks.Goals as goal
 
 pub make_named-requires : goal.make_named-requires
@@ -16,6 +17,19 @@ pub returns-clause-grown : goal.returns-clause-grown
 returns-clause-grown c =
     grown_then _ _ _ c.make_order.ensures.grown
     (grown_then _ _ _ c.make_thread.ensures.grown c.make_named.ensures.grown)
+
+pub returns-in_err-make_thread-clause-clocks : goal.returns-in_err-make_thread-clause-clocks
+returns-in_err-make_thread-clause-clocks c =
+    let t = c.args.event.now.thread in
+    let op = c.args.event.now.op in
+    made_then _ _ _ t op c.make_order.ensures.clocks (c.make_thread.ensures.clocks t op (inl refl))
+
+pub returns-clause-clocks : goal.returns-clause-clocks
+returns-clause-clocks c =
+    let t = c.args.event.now.thread in
+    let op = c.args.event.now.op in
+    made_then _ _ _ t op c.make_order.ensures.clocks
+    (made_then _ _ _ t op (c.make_thread.ensures.clocks t op (inl refl)) (c.make_named.ensures.clocks t))
 
 pub returns-clause-made : goal.returns-clause-made
 returns-clause-made c =
