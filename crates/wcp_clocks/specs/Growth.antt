@@ -2,11 +2,11 @@
 use Rattle.std.specs.Prelude.{◌≡◌, ℕ, Bool, false, ◌&&◌, nat_eq, IsTrue}
 use Rattle.event_core.specs.declared.ids.ThreadId.{ThreadId}
 use Rattle.event_core.specs.declared.events.Op.{Op}
-use Rattle.event_core.specs.declared.events.Op.TheVariants.{Load, Store}
+use Rattle.event_core.specs.declared.events.Op.TheVariants.{Load, Store, Acquire}
 use Rattle.hb_clocks.specs.Tables.{state_of as order_of, KeepsRoom as KeepsOrder}
 use Rattle.hb_clocks.specs.Tables.{GrownFor as OrderGrownFor, IsThreadFor, IsLockOf}
 use Rattle.section_sum.specs.Sums.{SameNoted, SameOthers, KeepsRoom as KeepsSums, is_held, room_of}
-use Rattle.lock_queues.specs.Queues.{SameMeaning, has_room}
+use Rattle.lock_queues.specs.Queues.{Tables as Queues, GrownFor as QueuesGrownFor, SameMeaning, has_room}
 use Rattle.wcp_clocks.specs.declared.parts.Parts.{Parts}
 use Rattle.wcp_clocks.specs.HeldLists.{list_at, held_of, KeepsPlaces}
 use Rattle.wcp_clocks.specs.StrictRows.{HasThread, HasLock, SameClocks, KeepsRoom}
@@ -35,14 +35,20 @@ is_access_to (Load y) x = nat_eq x y.0
 is_access_to (Store y) x = nat_eq x y.0
 is_access_to _ x = false
 
--- no access got room but the operation's under the locks that its thread holds
-abbrev pub GrownFor : Parts → Parts → ThreadId → Op → Type 0
-GrownFor old new t op = (l x : ℕ) → (is_held (list_at old.held t.0).locks l && is_access_to op x) ≡ false
-    → room_of new.sums l x ≡ room_of old.sums l x
+-- the queues of sections have grown for the acquire alone
+abbrev pub SectionsGrownFor : Queues → Queues → ThreadId → Op → Type 0
+SectionsGrownFor old new t (Acquire l) = QueuesGrownFor old new t.0 l.0
+SectionsGrownFor old new t _ = new ≡ old
 
--- no access got room, and the same locks are held
-abbrev pub SameAccesses : Parts → Parts → Type 0
-SameAccesses old new = (new.sums ≡ old.sums) × (new.held ≡ old.held)
+-- room was made for the operation alone: for an access under the locks that its thread holds, or for a section
+pub record GrownFor (old new : Parts) (t : ThreadId) (op : Op) : Type 0 where
+  pub accesses : (l x : ℕ) → (is_held (list_at old.held t.0).locks l && is_access_to op x) ≡ false
+      → room_of new.sums l x ≡ room_of old.sums l x
+  pub sections : SectionsGrownFor old.queues new.queues t op
+
+-- no room was made but for clocks
+abbrev pub SamePlaces : Parts → Parts → Type 0
+SamePlaces old new = (new.sums ≡ old.sums) × (new.queues ≡ old.queues) × (new.held ≡ old.held)
 
 -- no clock was made but of the threads and the lock that the operation names
 pub record MadeFor (old new : Parts) (t : ThreadId) (op : Op) : Type 0 where

@@ -96,7 +96,7 @@ impl WcpClocks {
     }
 
     /// Whether there is room for the event, as `ready` tells, once room for an access is made, and room for a
-    /// section where that takes no memory; no clause tells what is made. A growth that is refused is answered
+    /// section where that takes no memory; no clause tells which is made. A growth that is refused is answered
     /// `false`. Where there is room, an `advance` that comes next does not search again for the places of an
     /// access.
     #[inline(always)]

@@ -6,7 +6,7 @@ ghost use Rattle.hb_clocks.specs.Tables as hb;
 ghost use Rattle.hb_clocks.specs.Tables.{IsThreadFor, IsLockOf};
 ghost use Rattle.section_sum.specs.Sums as sums;
 ghost use Rattle.section_sum.specs.Sums.{HasRoom};
-ghost use Rattle.lock_queues.specs.Queues.{has_room};
+ghost use Rattle.lock_queues.specs.Queues.{has_room, GrownFor as QueuesGrownFor};
 ghost use Rattle.wcp_laws.specs.State.{empty};
 ghost use Rattle.wcp_clocks.specs.HeldLists.{list_at, room_at};
 ghost use Rattle.wcp_clocks.specs.StrictRows.{HasThread, HasLock};
@@ -16,7 +16,7 @@ ghost use Rattle.wcp_clocks.specs.Parts.{HasPlaces, HasNamedClock};
 ghost use Rattle.event_core.specs.declared.ids.ThreadId.{ThreadId as AThread};
 ghost use Rattle.event_core.specs.declared.events.Op.{Op as Operation};
 ghost use Rattle.event_core.specs.declared.events.Op.TheVariants.{Load, Release};
-ghost use Rattle.wcp_clocks.specs.Growth.{HasGrown, GrownFor, MadeFor, SameAccesses, SameMade};
+ghost use Rattle.wcp_clocks.specs.Growth.{HasGrown, GrownFor, MadeFor, SamePlaces, SameMade};
 
 use crate::holdings::Holdings;
 use crate::parts::Parts;
@@ -177,6 +177,7 @@ fn make_section_ready(parts: &mut Parts, thread: ThreadId, lock: LockId) -> bool
     ensures rows { parts.new.rows ≡ parts.old.rows }
     ensures grown { HasGrown parts.old parts.new }
     ensures sums { parts.new.sums ≡ parts.old.sums }
+    ensures queues { QueuesGrownFor parts.old.queues parts.new.queues thread.0 lock.0 }
 {
     parts.rows.has_lock(lock) && parts.held.ready(thread) && parts.queues.make_ready(thread, lock)
 }
@@ -190,6 +191,7 @@ fn make_access_ready(parts: &mut Parts, thread: ThreadId, var: VarId) -> bool
     ensures rows { parts.new.rows ≡ parts.old.rows }
     ensures grown { HasGrown parts.old parts.new }
     ensures only { sums.GrownFor parts.old.sums parts.new.sums (list_at parts.old.held thread.0).locks var.0 }
+    ensures queues { parts.new.queues ≡ parts.old.queues }
 {
     let held = parts.held.of(thread);
     held.is_empty() || parts.sums.make_room(held, var).is_ok()
@@ -221,7 +223,7 @@ fn has_clocks(rows: &StrictRows, thread: ThreadId, op: Op) -> bool
 fn make_clocks(parts: &mut Parts, event: &Event) -> Result<(), OutOfMemory>
     requires { hb.IsWithin parts.old.hb.width event.now }
     ensures grown { HasGrown parts.old parts.new }
-    ensures same { SameAccesses parts.old parts.new }
+    ensures same { SamePlaces parts.old parts.new }
     ensures clocks { MadeFor parts.old parts.new event.now.thread event.now.op }
     ensures made { OnOk result (HasClocks parts.new.rows event.now.thread event.now.op) }
 {
@@ -237,7 +239,7 @@ fn make_clocks(parts: &mut Parts, event: &Event) -> Result<(), OutOfMemory>
 fn make_named(parts: &mut Parts, op: Op) -> Result<(), OutOfMemory>
     requires { (t : AThread) × hb.IsReady parts.old.hb t op }
     ensures grown { HasGrown parts.old parts.new }
-    ensures same { SameAccesses parts.old parts.new }
+    ensures same { SamePlaces parts.old parts.new }
     ensures clocks { (t : AThread) → MadeFor parts.old parts.new t op }
     ensures made { OnOk result (HasNamedClock parts.new.rows op) }
 {
@@ -252,7 +254,7 @@ fn make_named(parts: &mut Parts, op: Op) -> Result<(), OutOfMemory>
 fn make_order(parts: &mut Parts, event: &Event) -> Result<(), OutOfMemory>
     requires { hb.IsWithin parts.old.hb.width event.now }
     ensures grown { HasGrown parts.old parts.new }
-    ensures same { SameAccesses parts.old parts.new }
+    ensures same { SamePlaces parts.old parts.new }
     ensures clocks { MadeFor parts.old parts.new event.now.thread event.now.op }
     ensures made { OnOk result (hb.IsReady parts.new.hb event.now.thread event.now.op) }
 {
@@ -263,7 +265,7 @@ fn make_order(parts: &mut Parts, event: &Event) -> Result<(), OutOfMemory>
 fn make_thread(parts: &mut Parts, thread: ThreadId) -> Result<(), OutOfMemory>
     requires { hb.HasThread parts.old.hb.width parts.old.hb.po parts.old.hb.hb thread.0 }
     ensures grown { HasGrown parts.old parts.new }
-    ensures same { SameAccesses parts.old parts.new }
+    ensures same { SamePlaces parts.old parts.new }
     ensures clocks { (t : AThread) (o : Operation) → IsThreadFor t o thread.0 → MadeFor parts.old parts.new t o }
     ensures made { OnOk result (HasThread parts.new.rows thread.0) }
 {
@@ -274,7 +276,7 @@ fn make_thread(parts: &mut Parts, thread: ThreadId) -> Result<(), OutOfMemory>
 fn make_lock(parts: &mut Parts, lock: LockId) -> Result<(), OutOfMemory>
     requires { (t : AThread) × hb.IsReady parts.old.hb t (Release lock) }
     ensures grown { HasGrown parts.old parts.new }
-    ensures same { SameAccesses parts.old parts.new }
+    ensures same { SamePlaces parts.old parts.new }
     ensures clocks { (t : AThread) (o : Operation) → IsLockOf o lock.0 → MadeFor parts.old parts.new t o }
     ensures made { OnOk result (HasLock parts.new.rows lock.0) }
 {
@@ -301,6 +303,7 @@ fn make_places(parts: &mut Parts, thread: ThreadId, op: Op) -> Result<(), OutOfM
 fn make_access(parts: &mut Parts, thread: ThreadId, var: VarId) -> Result<(), OutOfMemory>
     ensures grown { HasGrown parts.old parts.new }
     ensures only { sums.GrownFor parts.old.sums parts.new.sums (list_at parts.old.held thread.0).locks var.0 }
+    ensures queues { parts.new.queues ≡ parts.old.queues }
     ensures clocks { SameMade parts.old parts.new }
     ensures made { OnOk result (HasRoom parts.new.sums (list_at parts.new.held thread.0).locks var.0) }
 {
@@ -315,6 +318,7 @@ fn make_section(parts: &mut Parts, thread: ThreadId, lock: LockId) -> Result<(),
     requires lock { lock.0 < parts.old.queues.limits.locks }
     ensures grown { HasGrown parts.old parts.new }
     ensures sums { parts.new.sums ≡ parts.old.sums }
+    ensures queues { QueuesGrownFor parts.old.queues parts.new.queues thread.0 lock.0 }
     ensures clocks { SameMade parts.old parts.new }
     ensures made { OnOk result (IsTrue (has_room parts.new.queues thread.0 lock.0)
         × (0 < room_at parts.new.held thread.0)) }
@@ -329,6 +333,7 @@ fn make_queue(parts: &mut Parts, thread: ThreadId, lock: LockId) -> Result<(), O
     requires lock { lock.0 < parts.old.queues.limits.locks }
     ensures grown { HasGrown parts.old parts.new }
     ensures sums { parts.new.sums ≡ parts.old.sums }
+    ensures queues { QueuesGrownFor parts.old.queues parts.new.queues thread.0 lock.0 }
     ensures clocks { SameMade parts.old parts.new }
     ensures made { OnOk result (IsTrue (has_room parts.new.queues thread.0 lock.0)) }
 {
@@ -339,6 +344,7 @@ fn make_queue(parts: &mut Parts, thread: ThreadId, lock: LockId) -> Result<(), O
 fn make_place(parts: &mut Parts, thread: ThreadId) -> Result<(), OutOfMemory>
     ensures grown { HasGrown parts.old parts.new }
     ensures sums { parts.new.sums ≡ parts.old.sums }
+    ensures queues { parts.new.queues ≡ parts.old.queues }
     ensures clocks { SameMade parts.old parts.new }
     ensures made { OnOk result (0 < room_at parts.new.held thread.0) }
 {
