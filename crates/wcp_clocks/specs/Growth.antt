@@ -40,7 +40,7 @@ abbrev pub SectionsGrownFor : Queues → Queues → ThreadId → Op → Type 0
 SectionsGrownFor old new t (Acquire l) = QueuesGrownFor old new t.0 l.0
 SectionsGrownFor old new t _ = new ≡ old
 
--- room was made for the operation alone: for an access under the locks that its thread holds, or for a section
+-- room was made for the operation alone: its access, under the locks that its thread holds, or its section
 pub record GrownFor (old new : Parts) (t : ThreadId) (op : Op) : Type 0 where
   pub accesses : (l x : ℕ) → (is_held (list_at old.held t.0).locks l && is_access_to op x) ≡ false
       → room_of new.sums l x ≡ room_of old.sums l x

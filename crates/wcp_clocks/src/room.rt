@@ -266,7 +266,8 @@ fn make_thread(parts: &mut Parts, thread: ThreadId) -> Result<(), OutOfMemory>
     requires { hb.HasThread parts.old.hb.width parts.old.hb.po parts.old.hb.hb thread.0 }
     ensures grown { HasGrown parts.old parts.new }
     ensures same { SamePlaces parts.old parts.new }
-    ensures clocks { (t : AThread) (o : Operation) → IsThreadFor t o thread.0 → MadeFor parts.old parts.new t o }
+    ensures clocks { (t : AThread) (o : Operation) → IsThreadFor t o thread.0
+        → MadeFor parts.old parts.new t o }
     ensures made { OnOk result (HasThread parts.new.rows thread.0) }
 {
     parts.rows.make_thread(thread)
