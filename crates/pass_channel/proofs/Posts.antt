@@ -1,15 +1,15 @@
 -- Each step at a channel keeps its rule.
 use Rattle.std.proofs.Common.{◌≡◌, ℕ, zero, suc, List, [], ◌∷◌, ◌++◌, length, set, sym, refl, ap, ◌∙◌, subst}
-use Rattle.std.proofs.Common.{Option, Some, None, arith}
+use Rattle.std.proofs.Common.{Option, Some, None, ⊎_elim, length-set, arith}
 use Rattle.std.specs.List.{AllByRecursion}
 use mathlib.Core.Option.{some, some-ne-none, some-injective}
 use lib.ListN.{get_elem?}
 use Rattle.crossbeam_channel.specs.Fifo.{Pushes, Pops, Forks}
-use Rattle.atomic_table.proofs.Lists.{set_again}
+use Rattle.atomic_table.proofs.Lists.{at_set, set_again}
 use Rattle.event_core.specs.declared.ids.ThreadId.{ThreadId}
 use Rattle.log_pass.specs.declared.views.PassView.{PassView}
 use Rattle.pass_channel.specs.declared.rule.Address.{Address}
-use Rattle.pass_channel.specs.Posts.{nobody, somebody, MayGo, Posted}
+use Rattle.pass_channel.specs.Posts.{nobody, somebody, one_more, MayGo, Posted}
 
 module _ (Good : ThreadId → PassView → Type 0) where
   all_snoc : (P : PassView → Type 0) (xs : List PassView) (x : PassView) → AllByRecursion P xs → P x
@@ -41,17 +41,25 @@ module _ (Good : ThreadId → PassView → Type 0) where
         refl,
       )
 
+  -- the end by which a pass came out still knows for whom the channel is
+  still_known : (views : List Address) (seat : ℕ) (v : Address) (to : Option ThreadId)
+      → ((n : ℕ) (w : Address) → get_elem? views n ≡ some w → w.to ≡ to) → get_elem? views seat ≡ some v
+      → (n : ℕ) (w : Address) → get_elem? (set views seat (one_more v)) n ≡ some w → w.to ≡ to
+  still_known views seat v to known at n w there =
+      ⊎_elim (λ here. sym (ap (λ (a : Address). a.to) here.1) ∙ known seat v at) (λ other. known n w other.1)
+      (at_set views seat n (one_more v) w there)
+
   -- what is received is a pass that may go to the channel's thread
   pub receives : (seat : ℕ) (v : Address)
-      → Pops (Posted Good) seat v (λ x w. (w ≡ v) × MayGo Good v.to x)
+      → Pops (Posted Good) seat v (λ x w. (w ≡ one_more v) × MayGo Good v.to x)
   receives seat v x items views h at = (
-    v,
-    subst (λ l. Posted Good items l) (sym (set_again views seat v at)) (record {
+    one_more v,
+    record {
       to = h.to;
-      known = h.known;
+      known = still_known views seat v h.to h.known at;
       good = h.good.1;
-      one_end = h.one_end;
-    }),
+      one_end = λ none. length-set views seat (one_more v) ∙ h.one_end none;
+    },
     (refl, subst (λ (o : Option ThreadId). MayGo Good o x) (sym (h.known seat v at)) h.good.0),
   )
 

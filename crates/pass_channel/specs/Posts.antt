@@ -1,5 +1,5 @@
 -- The rule of a channel that carries passes to one thread.
-use Rattle.std.specs.Prelude.{◌≡◌, ℕ, List, length, Option, Some, None, IsSomeAnd}
+use Rattle.std.specs.Prelude.{◌≡◌, ℕ, ◌+◌, List, length, Option, Some, None, IsSomeAnd}
 use Rattle.std.specs.List.{AllByRecursion}
 use mathlib.Core.Option.{some}
 use lib.ListN.{get_elem?}
@@ -9,10 +9,14 @@ use Rattle.pass_channel.specs.declared.rule.Address.{Address}
 
 -- it is not known yet for whom the channel is
 abbrev pub nobody : Address
-nobody = record { to = None }
+nobody = record { to = None; taken = 0 }
 
 abbrev pub somebody : ThreadId → Address
-somebody t = record { to = Some t }
+somebody t = record { to = Some t; taken = 0 }
+
+-- one more pass came out by this end
+abbrev pub one_more : Address → Address
+one_more v = record v { taken = v.taken + 1 }
 
 -- the channel's thread is known, and the pass may go to it
 abbrev pub MayGo : (ThreadId → PassView → Type 0) → Option ThreadId → PassView → Type 0

@@ -1,5 +1,5 @@
 //! The two ends of a channel.
-ghost use Rattle.std.specs.Prelude.{◌≡◌, IfOk, IfSome};
+ghost use Rattle.std.specs.Prelude.{◌≡◌, ◌+◌, IfOk, IfSome, OnErr, OnOk, Some};
 ghost use Rattle.crossbeam_channel.specs.Claims.{view, IsSeatAt};
 ghost use Rattle.crossbeam_channel.specs.Ends.{receives_on, sends_on};
 ghost use Rattle.pass_channel.specs.Posts.{somebody};
@@ -30,7 +30,7 @@ pub struct PassReceiver<N: Name, T: Terms> {
     receiver: RuledReceiver<Pass<N>, Address, Ruled<T>>,
     ticket: Ticket<N>,
     ghost seated: { IsSeatAt (receives_on receiver) ticket },
-    ghost knows: { view ticket ≡ somebody to },
+    ghost knows: { (view ticket).to ≡ Some to },
 }
 
 // By hand, so that a crate that drops an end does not prove the drop of each type within again.
@@ -103,6 +103,8 @@ impl<N: Name, T: Terms> PassSender<N, T> {
 }
 
 impl<N: Name, T: Terms> PassReceiver<N, T> {
+    ghost use Rattle.pass_channel.specs.Ends.{taken};
+
     /// Waits for the pass. There is none where the other end was let go without one; no clause tells
     /// when that is.
     pub fn receive<R: Wait>(self, rt: &R) -> Option<Pass<N>>
@@ -117,10 +119,13 @@ impl<N: Name, T: Terms> PassReceiver<N, T> {
     }
 
     /// Looks once whether the pass has come. `Empty` is the answer where it has not yet, and `Disconnected`
-    /// where the other end was let go without a pass; no clause tells which.
+    /// where the other end was let go without a pass; no clause tells which. With either answer no pass was
+    /// taken.
     pub fn look<R: Wait>(&mut self, rt: &R) -> Result<Pass<N>, TryRecvError>
         ensures to { self.new.to ≡ self.old.to }
         ensures good { IfOk result (λ pass. T.good self.old.to pass) }
+        ensures one { OnOk result (taken self.new ≡ taken self.old + 1) }
+        ensures none { OnErr result (taken self.new ≡ taken self.old) }
     {
         self.receiver
             .try_recv_as::<Receives<T>, R>(rt, &mut self.ticket)

@@ -4,10 +4,11 @@ use event_core::ThreadId;
 use log_pass::{Name, Pass};
 use std::marker::{Brand, PhantomData};
 
-/// For which thread a channel is, once that is known. It is for contracts and proofs alone: no value of it
-/// is made.
+/// What an end knows: for which thread the channel is, once that is known, and how many passes came out by
+/// it. It is for contracts and proofs alone: no value of it is made.
 pub struct Address {
     pub to: Option<ThreadId>,
+    pub taken: u64,
 }
 
 /// Which passes may go to a thread.
@@ -79,9 +80,9 @@ pub(crate) struct Receives<T: Terms> {
 
 impl<N: Name, T: Terms> Outcome<Pass<N>, Address> for Receives<T> {
     ghost use Rattle.std.specs.Prelude.{◌≡◌};
-    ghost use Rattle.pass_channel.specs.Posts.{MayGo};
+    ghost use Rattle.pass_channel.specs.Posts.{one_more, MayGo};
 
-    ghost then = { λ v x w. (w ≡ v) × MayGo T.good v.to x };
+    ghost then = { λ v x w. (w ≡ one_more v) × MayGo T.good v.to x };
 }
 
 impl<N: Name, T: Terms> Lesson<Pass<N>, Address> for Receives<T> {
