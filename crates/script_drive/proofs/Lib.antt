@@ -3,4 +3,5 @@ mod ToldRefusals
 mod ScriptFaults
 mod Settling
 mod Progress
+mod LinkLines
 mod Whole

@@ -33,7 +33,7 @@ use Rattle.script_text.specs.Lines.{act_thread, is_of, thread_of}
 use Rattle.script_drive.specs.declared.faults.DriveFault.{DriveFault}
 use Rattle.script_drive.specs.declared.faults.Halt.{Halt}
 use Rattle.script_drive.specs.declared.faults.Halt.TheVariants.{Fault}
-use Rattle.script_drive.specs.Faults.{act_refusal, is_told, rank, refused_at, stuck_at, Fits, IsAnswer}
+use Rattle.script_drive.specs.Faults.{act_refusal, is_told, rank, refused_at, Fits, IsAnswer}
 use Rattle.script_drive.specs.Faults.{IsAnswered, IsEarlier, IsFaultOf, IsFirst, IsHaltOf, IsNext, Refuses}
 use Rattle.script_drive.specs.Lines.{Follows, lines_by}
 use Rattle.script_drive.specs.Workers.{HasDone}
@@ -68,10 +68,6 @@ answered_by halt (g ∷ gs) None f none is answer = absurd (cc (none refl))
 answered_by halt (g ∷ gs) (Some other) f none is answer = (other, is, answer)
 
 -- ---- the faults of a script
-
-pub stuck_fits : (m : Limits) (script : List ScriptLine) (l : ScriptLine) → Contains script l
-    → IsFaultOf m script (stuck_at l)
-stuck_fits m script l line = ∣ (l, line, (refl, refl)) ∣₁
 
 refused_fits : (m : Limits) (script : List ScriptLine) (l : ScriptLine) (why : Refusal) → Contains script l
     → is_told why ≡ true → Refuses m script l why → Fits m script (refused_at l why)

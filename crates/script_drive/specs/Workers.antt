@@ -1,5 +1,5 @@
 -- What is known of a thread that runs its lines.
-use Rattle.std.specs.Prelude.{◌≡◌, true, List, [], ◌∷◌, ◌++◌, map}
+use Rattle.std.specs.Prelude.{◌≡◌, ◌||◌, Bool, true, List, [], ◌∷◌, ◌++◌, map, is_some}
 use Rattle.std.specs.List.{filter_map, list_any}
 use mathlib.Core.List.{IsPrefix}
 use Rattle.event_core.specs.declared.ids.ThreadId.{ThreadId}
@@ -58,6 +58,10 @@ forked = filter_map fork_of
 
 abbrev pub joined : List ScriptLine → List ThreadId
 joined = filter_map join_of
+
+-- the line forks or joins a thread
+abbrev pub is_link : ScriptLine → Bool
+is_link l = is_some (fork_of l) || is_some (join_of l)
 
 -- whom a worker's ends reach: who is to be forked, and who is to be joined
 pub record Reach : Type 0 where

@@ -170,10 +170,10 @@ pub(crate) fn run_lines<S: Text, G: Gate, R: Wait>(
     let thread = pass.thread();
     let mut pass = pass;
     for line in drive.script.lines() {
-        let line = line.get();
         if !line.is_of(thread) {
             continue;
         }
+        let line = line.get();
         enter(drive, &line)?;
         pass = make_call(drive, pass, &line, links)?;
         drive.gate.done(line.thread(), line.line);

@@ -1,10 +1,10 @@
 //! What workers are started with. All channels are made before the first line.
-ghost use Rattle.std.specs.Prelude.{◌≡◌, ◌∷◌, ◌++◌, [], Contains, IfOk, IfSome, OnOk};
+ghost use Rattle.std.specs.Prelude.{◌≡◌, ◌∷◌, ◌++◌, [], filter, Contains, IfOk, IfSome, OnOk};
 ghost use Rattle.std.specs.Option.{ForSome};
 ghost use Rattle.log_pass.specs.Passes.{main};
 ghost use Rattle.script_drive.specs.Faults.{IsForkLine};
 ghost use Rattle.script_drive.specs.Lines.{lines_by};
-ghost use Rattle.script_drive.specs.Workers.{forked, joined, Serves};
+ghost use Rattle.script_drive.specs.Workers.{forked, is_link, joined, Serves};
 
 use crate::links::Links;
 use crate::text::{FirstPasses, LastPasses, Text};
@@ -50,6 +50,20 @@ pub(crate) struct Worker<S: Text> {
     pub end: Option<PassSender<S, LastPasses<S>>>,
     ghost begins: { start.receiver.to ≡ own.thread },
     ghost ends: { ForSome end (λ sender. sender.to ≡ own.thread) },
+}
+
+// The lines of the script that fork or join a thread, in order.
+fn link_lines(alloc: Global, script: &Script) -> Result<Vec<ScriptLine>, AllocError>
+    ensures { IfOk result (λ lines. lines.items ≡ filter is_link script.now.lines) }
+{
+    let mut lines = Vec::new(alloc);
+    for line in script.lines() {
+        let line = line.get();
+        if line.fork().is_some() || line.join().is_some() {
+            lines.push(line)?;
+        }
+    }
+    Ok(lines)
 }
 
 // The ends of channels that no worker has yet.
@@ -100,24 +114,24 @@ impl<S: Text> UnclaimedEnds<S> {
         Ok(())
     }
 
-    // The links of the thread, with a channel for each thread that its lines fork or join.
+    // The links of the thread, with a channel for each thread that its lines fork or join, among the lines of
+    // the script that do.
     fn connect(
         &mut self,
         alloc: Global,
-        script: &Script,
+        lines: &[ScriptLine],
         thread: ThreadId,
     ) -> Result<Links<S>, AllocError>
-        requires { script.now ≡ S.script }
+        requires { lines.now ≡ filter is_link S.script.lines }
         ensures { IfOk result (λ links. Serves links (lines_by thread S.script.lines)) }
     {
         let mut links = Links::new(alloc);
-        for line in script.lines() {
-            let line = line.get();
+        for line in lines {
             if !line.is_of(thread) {
                 continue;
             }
-            self.add_fork(alloc, &line, &mut links)?;
-            self.add_join(alloc, &line, &mut links)?;
+            self.add_fork(alloc, line, &mut links)?;
+            self.add_join(alloc, line, &mut links)?;
         }
         Ok(links)
     }
@@ -165,15 +179,16 @@ impl<S: Text> UnclaimedEnds<S> {
 // The links of all threads but thread 0.
 fn other_links<S: Text>(
     alloc: Global,
-    script: &Script,
+    threads: u32,
+    lines: &[ScriptLine],
     unclaimed: &mut UnclaimedEnds<S>,
 ) -> Result<Vec<OwnLinks<S>>, AllocError>
-    requires script { script.now ≡ S.script }
+    requires { lines.now ≡ filter is_link S.script.lines }
 {
     let mut others = Vec::new(alloc);
-    for number in 1..script.threads() {
+    for number in 1..threads {
         let thread = ThreadId(number);
-        let links = unclaimed.connect(alloc, script, thread)?;
+        let links = unclaimed.connect(alloc, lines, thread)?;
         others.push(OwnLinks { thread, links })?;
     }
     Ok(others)
@@ -191,8 +206,9 @@ pub(crate) fn all_workers<S: Text>(
         starts: Vec::new(alloc),
         ends: Vec::new(alloc),
     };
-    let main_links = unclaimed.connect(alloc, script, ThreadId(0))?;
-    let others = other_links(alloc, script, &mut unclaimed)?;
+    let lines = link_lines(alloc, script)?;
+    let main_links = unclaimed.connect(alloc, lines.as_slice(), ThreadId(0))?;
+    let others = other_links(alloc, script.threads(), lines.as_slice(), &mut unclaimed)?;
     let workers = unclaimed.make_workers(alloc, others)?;
     Ok((main_links, workers))
 }

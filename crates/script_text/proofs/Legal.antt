@@ -2,7 +2,7 @@
 use Rattle.std.proofs.Common.{◌≡◌, ℕ, ◌+◌, ◌<◌, ◌≤◌, ◌==◌, ◌||◌, ◌++◌, List, [], ◌∷◌, length, Option, Some}
 use Rattle.std.proofs.Common.{None, Ok, Err, zero, suc, refl, ap, ◌∙◌, sym, subst, arith, inl, inr, ◌⊎◌, true}
 use Rattle.std.proofs.Common.{false, Bool, length-append}
-use Rattle.std.specs.Prelude.{slice_get, unwrap_or, nat_lt, Result, decimal, if◌then◌else◌}
+use Rattle.std.specs.Prelude.{slice_get, unwrap_or, Result, decimal}
 use Rattle.std.specs.List.{list_any}
 use Rattle.std.proofs.lemmas.Bool.{eqb-true, cases_Bool, or_parts}
 use Rattle.std.proofs.lemmas.Option.{slice_get_within}
@@ -11,8 +11,7 @@ use Rattle.event_core.specs.Bounds.{Bounds}
 use Rattle.event_core.proofs.Places.{front_or_last, each_push}
 use Rattle.rapid_text.specs.declared.causes.Kind.{Kind}
 use Rattle.rapid_text.specs.declared.causes.Kind.TheVariants as kinds
-use Rattle.rapid_text.specs.Numbers.{Numbered, number_of, with_name}
-use Rattle.rapid_text.specs.Tables.{Tables, TablesGrow, number_in, space, put_back}
+use Rattle.rapid_text.specs.Tables.{Tables, TablesGrow, number_in, space}
 use Rattle.rapid_line.specs.Cut.{content}
 use Rattle.rapid_line.specs.Reading.{and_then, unless}
 use Rattle.rapid_line.proofs.Steps.{and_then_ok, unless_ok, ok_inj}

@@ -1,6 +1,6 @@
 -- A line is taken, or the text stops at it.
 use Rattle.std.proofs.Common.{◌≡◌, ℕ, ◌+◌, ◌<◌, ◌≤◌, ◌++◌, true, List, [], ◌∷◌, length, Ok, Err, refl, ap}
-use Rattle.std.proofs.Common.{◌∙◌, sym, subst, arith, append_assoc, append-nil, ne_eqb, lt-ltb}
+use Rattle.std.proofs.Common.{◌∙◌, sym, subst, arith, append_assoc, ne_eqb, lt-ltb}
 use Rattle.std.specs.Prelude.{Result}
 use Rattle.rapid_line.specs.Cut.{Lacks, content}
 use Rattle.rapid_line.specs.Lines.{Lines, lines_of, to_come, most, Cuts, Keeps, IsTooLong}

@@ -1,5 +1,6 @@
 //! A line as a script keeps it.
 ghost use Rattle.std.specs.Prelude.{◌≡◌};
+ghost use Rattle.script_text.specs.Lines.{is_of};
 ghost use Rattle.script_text.specs.Scripts.{act_of};
 
 use crate::forms::Word;
@@ -55,6 +56,13 @@ impl Model for StoredLine {
 }
 
 impl StoredLine {
+    /// Whether it is the thread's.
+    pub fn is_of(&self, thread: ThreadId) -> bool
+        ensures { result ≡ is_of thread.0 self.now }
+    {
+        self.thread == thread.0
+    }
+
     /// The line.
     pub fn get(&self) -> ScriptLine
         ensures { result ≡ self.now }

@@ -54,8 +54,8 @@ pub fn judge_text<I: Input, J: Judge + Drop>(
     // The text is a legal trace, and the judge is as after its log.
     ensures trace { IfOk result (λ t.
         FindsTrace limits (I.left reader.old) (J.is_after t.judge limits) t.cutter.names) }
-    // The fault is what the text comes to, unless it could not be read to its end or a growth was refused, which
-    // is at a line that is reached.
+    // The fault is what the text comes to, unless it could not be read to its end or a growth was refused,
+    // which is at a line that is reached.
     ensures fault { IfErr result (FindsFault limits (I.left reader.old)) }
     // It is a read fault only where a read failed, or the text has as many bytes as there are turns.
     ensures short { IfErr result (λ f. is_short f ≡ true

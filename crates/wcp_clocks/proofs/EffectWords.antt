@@ -88,7 +88,8 @@ own_happens_before e old new is =
     ap (λ (s : hb.HbState). s.hb.thread e.thread.0) is
     ∙ own_row (hb.effect e old) e.thread.0 (hb.hb_row e old) old.hb.thread
 
--- after an outer acquire the thread counts one event more of itself, where the lock's clock counts none beyond
+-- after an outer acquire the thread counts one event more of itself, where the lock's clock counts none
+-- beyond
 pub own_opened : (e : Event) (l : LockId) (old new : hb.HbState) → hb.effect e old ≡ Opens l
     → new ≡ hb.after e old → new.hb.thread e.thread.0 e.thread.0
     ≡ max (old.hb.thread e.thread.0 e.thread.0) (old.hb.lock l.0 e.thread.0) + 1

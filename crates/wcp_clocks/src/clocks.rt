@@ -95,10 +95,10 @@ impl WcpClocks {
         are_ready(&self.parts, event)
     }
 
-    /// Whether there is room for the event, as `ready` tells, once room for an access is made, and room for a
-    /// section where that takes no memory; no clause tells which is made. A growth that is refused is answered
-    /// `false`. Where there is room, an `advance` that comes next does not search again for the places of an
-    /// access.
+    /// Whether there is room for the event, as `ready` tells, once room for an access is made, and room for
+    /// a section where that takes no memory; no clause tells which is made. A growth that is refused is
+    /// answered `false`. Where there is room, an `advance` that comes next does not search again for the
+    /// places of an access.
     #[inline(always)]
     pub fn make_ready(&mut self, event: &Event) -> bool
         ensures ready { IsTrue result ↔ IsReady self.new event.now }

@@ -57,10 +57,10 @@ loop-line-preserved-then-not-is_of g c =
     let t = c.args.pass.thread in
     let i = c.loop-line.line-index in (
       subst (HasDone g.S.Text.script.lines t c.loop-line.pass)
-          (sym (other_taken t lines i c.get-line.result (search rules) (search rules) (search rules)))
+          (sym (other_taken t lines i c.line-item.result (search rules) (search rules) (search rules)))
           c.loop-line.invariant.0,
       subst (Serves c.loop-line.links)
-          (other_left t lines i c.get-line.result (search rules) (search rules) (search rules))
+          (other_left t lines i c.line-item.result (search rules) (search rules) (search rules))
           c.loop-line.invariant.1,
     )
 
