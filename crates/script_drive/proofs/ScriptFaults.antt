@@ -1,6 +1,6 @@
 -- The faults of workers are those of lines of the script.
 use Rattle.std.proofs.Common.{◌≡◌, ℕ, ◌+◌, ◌<◌, ◌≤◌, ◌⊎◌, List, ◌∷◌, Some, refl, sym, ap}
-use Rattle.std.specs.Prelude.{[], true, Option, None, IfErr, IfSome, IsErrAnd, Result, Ok, Err}
+use Rattle.std.specs.Prelude.{[], Bool, true, Option, None, IfErr, IfSome, IsErrAnd, Result, Ok, Err}
 use Rattle.std.proofs.Common.{◌∙◌, subst, length, get_or, take, drop, arith}
 use Rattle.std.specs.List.{All, Contains}
 use Rattle.std.proofs.lemmas.List.Elements.{All-more, All-weaker}
@@ -69,33 +69,33 @@ answered_by halt (g ∷ gs) (Some other) f none is answer = (other, is, answer)
 
 -- ---- the faults of a script
 
-refused_fits : (m : Limits) (script : List ScriptLine) (l : ScriptLine) (why : Refusal) → Contains script l
-    → is_told why ≡ true → Refuses m script l why → Fits m script (refused_at l why)
-refused_fits m script l ThreadRange line told r = (told, (l, line, (refl, refl, r)))
-refused_fits m script l NotStarted line told r = (told, (l, line, (refl, refl, r)))
-refused_fits m script l Ended line told r = (told, (l, line, (refl, refl, r)))
-refused_fits m script l TargetRange line told r = (told, (l, line, (refl, refl, r)))
-refused_fits m script l (Held by) line told r = absurd (cc told)
-refused_fits m script l NotHolder line told r = (told, (l, line, (refl, refl, r)))
-refused_fits m script l SelfTarget line told r = (told, (l, line, (refl, refl, r)))
-refused_fits m script l AlreadyStarted line told r = (told, (l, line, (refl, refl, r)))
-refused_fits m script l TargetNotStarted line told r = (told, (l, line, (refl, refl, r)))
-refused_fits m script l LogFull line told r = (told, (l, line, (refl, refl, r)))
-refused_fits m script l OutOfMemory line told r = tt
+refused_fits : (m : Limits) (ahead : Bool) (script : List ScriptLine) (l : ScriptLine) (why : Refusal)
+    → Contains script l → is_told why ≡ true → Refuses m script l why → Fits m ahead script (refused_at l why)
+refused_fits m ahead script l ThreadRange line told r = (told, (l, line, (refl, refl, r)))
+refused_fits m ahead script l NotStarted line told r = (told, (l, line, (refl, refl, r)))
+refused_fits m ahead script l Ended line told r = (told, (l, line, (refl, refl, r)))
+refused_fits m ahead script l TargetRange line told r = (told, (l, line, (refl, refl, r)))
+refused_fits m ahead script l (Held by) line told r = absurd (cc told)
+refused_fits m ahead script l NotHolder line told r = (told, (l, line, (refl, refl, r)))
+refused_fits m ahead script l SelfTarget line told r = (told, (l, line, (refl, refl, r)))
+refused_fits m ahead script l AlreadyStarted line told r = (told, (l, line, (refl, refl, r)))
+refused_fits m ahead script l TargetNotStarted line told r = (told, (l, line, (refl, refl, r)))
+refused_fits m ahead script l LogFull line told r = (told, (l, line, (refl, refl, r)))
+refused_fits m ahead script l OutOfMemory line told r = tt
 
 -- the definition refuses the act so, and not for another thread's hold; or memory ran out
 abbrev IsReason : Limits → List Event → Act → Refusal → Type 0
 IsReason m log act why = ((act_refusal m log act ≡ Some why) × (is_told why ≡ true)) ⊎ (why ≡ OutOfMemory)
 
 -- the act was refused so to a pass that had done the lines before
-declined_fits : (m : Limits) (script : List ScriptLine) (l : ScriptLine) (p q : PassView) (why : Refusal)
-    → IsNext script l p → thread_of l ≡ p.thread → HasComeTo m p q → q.mine ≡ p.mine
+declined_fits : (m : Limits) (ahead : Bool) (script : List ScriptLine) (l : ScriptLine) (p q : PassView)
+    (why : Refusal) → IsNext script l p → thread_of l ≡ p.thread → HasComeTo m p q → q.mine ≡ p.mine
     → IsReason m (log_of q.seen) l.act why
-    → IsFaultOf m script (refused_at l why)
-declined_fits m script l p q why next thread later mine reason =
-    elim reason as (λ _. IsFaultOf m script (refused_at l why)) [
+    → IsFaultOf m ahead script (refused_at l why)
+declined_fits m ahead script l p q why next thread later mine reason =
+    elim reason as (λ _. IsFaultOf m ahead script (refused_at l why)) [
       | inl refused ↦
-          ∣ refused_fits m script l why next.line refused.1 (record {
+          ∣ refused_fits m ahead script l why next.line refused.1 (record {
             before = next.before;
             later = next.later;
             place = next.place;
@@ -104,7 +104,7 @@ declined_fits m script l p q why next thread later mine reason =
             own = subst (λ (es : List Event). Follows es next.before) events next.done;
             refused = refused.0;
           }) ∣₁
-      | inr e ↦ subst (λ (w : Refusal). IsFaultOf m script (refused_at l w)) (sym e) ∣ tt ∣₁
+      | inr e ↦ subst (λ (w : Refusal). IsFaultOf m ahead script (refused_at l w)) (sym e) ∣ tt ∣₁
     ]
   where
     events : log_of p.mine ≡ own_events (thread_of l) (log_of q.seen)
@@ -121,13 +121,13 @@ same_refusal m log c d thread op = λ i.
     first_of (reasons m log call)
 
 -- of a line's call; of an acquire the refusal is told where another thread's hold is not the answer
-pub call_fits : (m : Limits) (script : List ScriptLine) (l : ScriptLine) (call : Call) (op : Op)
-    (site : SiteId) (arg : ℕ) (p q : PassView) (why : Refusal) → l.act ≡ One call → call.op ≡ op
+pub call_fits : (m : Limits) (ahead : Bool) (script : List ScriptLine) (l : ScriptLine) (call : Call)
+    (op : Op) (site : SiteId) (arg : ℕ) (p q : PassView) (why : Refusal) → l.act ≡ One call → call.op ≡ op
     → IsNext script l p → thread_of l ≡ p.thread → HasComeTo m p q
     → Declined m (call_by p.thread op site arg) p q why → (op_is_acquire op ≡ true → is_told why ≡ true)
-    → IsFaultOf m script (refused_at l why)
-call_fits m script l call op site arg p q why act is next thread later declined acquire =
-    declined_fits m script l p q why next thread later declined.mine
+    → IsFaultOf m ahead script (refused_at l why)
+call_fits m ahead script l call op site arg p q why act is next thread later declined acquire =
+    declined_fits m ahead script l p q why next thread later declined.mine
     (elim (declined.why) as (λ _. IsReason m (log_of q.seen) l.act why) [
       | inl refused ↦ inl (
         ap (act_refusal m (log_of q.seen)) act
@@ -139,13 +139,15 @@ call_fits m script l call op site arg p q why act is next thread later declined 
     ])
 
 -- a worker whose line was answered so
-answered_halts : {T : Type 0} (m : Limits) (script : List ScriptLine) (l : ScriptLine)
+answered_halts : {T : Type 0} (m : Limits) (ahead : Bool) (script : List ScriptLine) (l : ScriptLine)
     (answer : Result T Refusal) (result : Result PassView Halt)
     → IfErr result (λ halt. IsErrAnd answer (λ why. halt ≡ Fault (refused_at l why)))
-    → IfErr answer (λ why. IsFaultOf m script (refused_at l why)) → IfErr result (IsHaltOf m script)
-answered_halts m script l answer (Ok p) refused fits = tt
-answered_halts m script l (Ok x) (Err halt) refused fits = absurd refused
-answered_halts m script l (Err why) (Err halt) refused fits = subst (IsHaltOf m script) (sym refused) fits
+    → IfErr answer (λ why. IsFaultOf m ahead script (refused_at l why))
+    → IfErr result (IsHaltOf m ahead script)
+answered_halts m ahead script l answer (Ok p) refused fits = tt
+answered_halts m ahead script l (Ok x) (Err halt) refused fits = absurd refused
+answered_halts m ahead script l (Err why) (Err halt) refused fits =
+    subst (IsHaltOf m ahead script) (sym refused) fits
 
 -- an acquire that another thread's hold refused has used its tries up
 pub held_used_up : (tries : Tried) (answer : Result Reply Refusal)
@@ -155,28 +157,32 @@ held_used_up tries answer used_up held =
     (subst (λ a. IfErr a (λ why. why ≡ Held (held.0) → AreUsedUp tries)) held.1 (used_up held.0)) refl
 
 -- after a line's call
-pub call_halts : (m : Limits) (script : List ScriptLine) (l : ScriptLine) (call : Call) (op : Op)
-    (site : SiteId) (arg : ℕ) (p q : PassView) (answer : Result Reply Refusal) (result : Result PassView Halt)
-    → l.act ≡ One call → call.op ≡ op → IsNext script l p → thread_of l ≡ p.thread → HasComeTo m p q
+pub call_halts : (m : Limits) (ahead : Bool) (script : List ScriptLine) (l : ScriptLine) (call : Call)
+    (op : Op) (site : SiteId) (arg : ℕ) (p q : PassView) (answer : Result Reply Refusal)
+    (result : Result PassView Halt) → l.act ≡ One call → call.op ≡ op → IsNext script l p
+    → thread_of l ≡ p.thread → HasComeTo m p q
     → IfErr answer (Declined m (call_by p.thread op site arg) p q)
     → IfErr result (λ halt. IsErrAnd answer (λ why. halt ≡ Fault (refused_at l why)))
-    → (op_is_acquire op ≡ true → IfErr answer (λ why. is_told why ≡ true)) → IfErr result (IsHaltOf m script)
-call_halts m script l call op site arg p q answer result act is next thread later declined refused acquire =
-    answered_halts m script l answer result refused (fits answer declined acquire)
+    → (op_is_acquire op ≡ true → IfErr answer (λ why. is_told why ≡ true))
+    → IfErr result (IsHaltOf m ahead script)
+call_halts m ahead script l call op site arg p q answer result act is next thread later declined refused
+    acquire =
+    answered_halts m ahead script l answer result refused (fits answer declined acquire)
   where
     fits : (a : Result Reply Refusal) → IfErr a (Declined m (call_by p.thread op site arg) p q)
         → (op_is_acquire op ≡ true → IfErr a (λ why. is_told why ≡ true))
-        → IfErr a (λ why. IsFaultOf m script (refused_at l why))
+        → IfErr a (λ why. IsFaultOf m ahead script (refused_at l why))
     fits (Ok x) d told = tt
-    fits (Err why) d told = call_fits m script l call op site arg p q why act is next thread later d told
+    fits (Err why) d told =
+        call_fits m ahead script l call op site arg p q why act is next thread later d told
 
 -- of a line's swap
-swap_fits : (m : Limits) (script : List ScriptLine) (l : ScriptLine) (t : ThreadId) (x : VarId)
+swap_fits : (m : Limits) (ahead : Bool) (script : List ScriptLine) (l : ScriptLine) (t : ThreadId) (x : VarId)
     (site : SiteId) (arg : ℕ) (p q : PassView) (why : Refusal) → l.act ≡ Swap t x site arg
     → IsNext script l p → thread_of l ≡ p.thread → HasComeTo m p q → DeclinedSwap m p.thread x p q why
-    → IsFaultOf m script (refused_at l why)
-swap_fits m script l t x site arg p q why act next thread later declined =
-    declined_fits m script l p q why next thread later declined.mine
+    → IsFaultOf m ahead script (refused_at l why)
+swap_fits m ahead script l t x site arg p q why act next thread later declined =
+    declined_fits m ahead script l p q why next thread later declined.mine
     (elim (declined.why) as (λ _. IsReason m (log_of q.seen) l.act why) [
       | inl refused ↦ inl (
         ap (act_refusal m (log_of q.seen)) act
@@ -187,19 +193,19 @@ swap_fits m script l t x site arg p q why act next thread later declined =
       | inr memory ↦ inr (memory.0)
     ])
 
-pub swap_halts : (m : Limits) (script : List ScriptLine) (l : ScriptLine) (t : ThreadId) (x : VarId)
-    (site : SiteId) (arg : ℕ) (p q : PassView) (answer : Result SwapReply Refusal)
+pub swap_halts : (m : Limits) (ahead : Bool) (script : List ScriptLine) (l : ScriptLine) (t : ThreadId)
+    (x : VarId) (site : SiteId) (arg : ℕ) (p q : PassView) (answer : Result SwapReply Refusal)
     (result : Result PassView Halt) → l.act ≡ Swap t x site arg → IsNext script l p
     → thread_of l ≡ p.thread → HasComeTo m p q → IfErr answer (DeclinedSwap m p.thread x p q)
     → IfErr result (λ halt. IsErrAnd answer (λ why. halt ≡ Fault (refused_at l why)))
-    → IfErr result (IsHaltOf m script)
-swap_halts m script l t x site arg p q answer result act next thread later declined refused =
-    answered_halts m script l answer result refused (fits answer declined)
+    → IfErr result (IsHaltOf m ahead script)
+swap_halts m ahead script l t x site arg p q answer result act next thread later declined refused =
+    answered_halts m ahead script l answer result refused (fits answer declined)
   where
     fits : (a : Result SwapReply Refusal) → IfErr a (DeclinedSwap m p.thread x p q)
-        → IfErr a (λ why. IsFaultOf m script (refused_at l why))
+        → IfErr a (λ why. IsFaultOf m ahead script (refused_at l why))
     fits (Ok y) d = tt
-    fits (Err why) d = swap_fits m script l t x site arg p q why act next thread later d
+    fits (Err why) d = swap_fits m ahead script l t x site arg p q why act next thread later d
 
 -- ---- the lines of a thread
 

@@ -1,9 +1,11 @@
 -- Why a drive ends before its script does: which faults a script has, and which of several is answered.
-use Rattle.std.specs.Prelude.{◌≡◌, ℕ, ◌+◌, ◌≤◌, ◌⊎◌, Bool, true, false, List, ◌∷◌, ◌++◌, Option, Some}
-use Rattle.std.specs.Prelude.{None, IsSome, Result, Ok, Err, []}
+use Rattle.std.specs.Prelude.{◌≡◌, ℕ, ◌+◌, ◌≤◌, ◌⊎◌, ◌==◌, ◌&&◌, Bool, true, false, not, List, [], ◌∷◌, ◌++◌}
+use Rattle.std.specs.Prelude.{Option, Some, None, IsSome, Result, Ok, Err}
 use Rattle.std.specs.List.{All, Contains}
 use Rattle.event_core.specs.declared.events.Act.{Act}
 use Rattle.event_core.specs.declared.events.Act.TheVariants.{One, Swap}
+use Rattle.event_core.specs.declared.events.Op.{Op}
+use Rattle.event_core.specs.declared.events.Op.TheVariants.{Acquire, Join}
 use Rattle.event_core.specs.declared.events.Event.{Event}
 use Rattle.event_core.specs.declared.bounds.Limits.{Limits}
 use Rattle.event_core.specs.declared.replies.Refusal.{Refusal}
@@ -96,26 +98,45 @@ pub record Refuses (m : Limits) (script : List ScriptLine) (l : ScriptLine) (why
 abbrev pub SomeLine : List ScriptLine → (ScriptLine → Type 0) → Type 0
 SomeLine script P = (l : ScriptLine) × Contains script l × P l
 
+-- the operation may have to wait for another thread: it acquires a lock, or joins a thread
+abbrev pub op_waits : Op → Bool
+op_waits (Acquire l) = true
+op_waits (Join u) = true
+op_waits _ = false
+
+abbrev pub act_waits : Act → Bool
+act_waits (One c) = op_waits c.op
+act_waits (Swap t x site arg) = false
+
+-- the line acquires a lock, or joins a thread
+abbrev pub waits : ScriptLine → Bool
+waits l = act_waits l.act
+
+-- each line is let go ahead at its first try, by a gate that is free and so much patience
+abbrev pub goes_ahead : Bool → ℕ → Bool
+goes_ahead free patience = free && not (patience == 0)
+
 -- a line of the script with this number forks a thread
 abbrev pub IsForkLine : List ScriptLine → ℕ → Type 0
 IsForkLine script n = ∥ SomeLine script (λ l. (l.line ≡ n) × IsSome (fork_of l)) ∥₁
 
--- the fault fits a line of the script
-abbrev pub Fits : Limits → List ScriptLine → DriveFault → Type 0
-Fits m script OutOfMemory = Unit {0}
-Fits m script (Stuck t n) = SomeLine script (λ l. (thread_of l ≡ t) × (l.line ≡ n))
-Fits m script (Refused t n why) = (is_told why ≡ true)
+-- the fault fits a line of the script. Where each line goes ahead at its first try, a stuck one waits.
+abbrev pub Fits : Limits → Bool → List ScriptLine → DriveFault → Type 0
+Fits m ahead script OutOfMemory = Unit {0}
+Fits m ahead script (Stuck t n) =
+    SomeLine script (λ l. (thread_of l ≡ t) × (l.line ≡ n) × (ahead ≡ true → waits l ≡ true))
+Fits m ahead script (Refused t n why) = (is_told why ≡ true)
     × SomeLine script (λ l. (thread_of l ≡ t) × (l.line ≡ n) × Refuses m script l why)
-Fits m script (NoWorker n) = IsForkLine script n
+Fits m ahead script (NoWorker n) = IsForkLine script n
 
 -- the fault is one of the script (truncated, so that it is a fact of which a worker's fault can keep a proof)
-abbrev pub IsFaultOf : Limits → List ScriptLine → DriveFault → Type 0
-IsFaultOf m script f = ∥ Fits m script f ∥₁
+abbrev pub IsFaultOf : Limits → Bool → List ScriptLine → DriveFault → Type 0
+IsFaultOf m ahead script f = ∥ Fits m ahead script f ∥₁
 
 -- the worker's own fault is one of the script; or the line of the script at which it ended joins a thread
-abbrev pub IsHaltOf : Limits → List ScriptLine → Halt → Type 0
-IsHaltOf m script (Fault f) = IsFaultOf m script f
-IsHaltOf m script (Abandoned l) = Contains script l × IsSome (join_of l)
+abbrev pub IsHaltOf : Limits → Bool → List ScriptLine → Halt → Type 0
+IsHaltOf m ahead script (Fault f) = IsFaultOf m ahead script f
+IsHaltOf m ahead script (Abandoned l) = Contains script l × IsSome (join_of l)
 
 -- the line is the next of the pass's thread: the pass has done those before it
 pub record IsNext (script : List ScriptLine) (l : ScriptLine) (p : PassView) : Type 0 where

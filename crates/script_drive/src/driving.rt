@@ -5,7 +5,7 @@ ghost use Rattle.event_core.specs.declared.ids.ThreadId.{ThreadId as Thread};
 ghost use Rattle.event_core.specs.Refusal.{WellFormed};
 ghost use Rattle.event_core.specs.Steps.{own_events};
 ghost use Rattle.log_pass.specs.Passes.{main, new_pass};
-ghost use Rattle.script_drive.specs.Faults.{IsAnswered, IsFaultOf, IsHaltOf};
+ghost use Rattle.script_drive.specs.Faults.{goes_ahead, IsAnswered, IsFaultOf, IsHaltOf};
 ghost use Rattle.script_drive.specs.Lines.{lines_by, Follows, IsJoinedFrom};
 ghost use Rattle.script_drive.specs.Workers.{Done, Serves};
 
@@ -30,7 +30,7 @@ use std::thread::{JoinHandle, Scope, Threads};
 struct OwnFault<S: Text> {
     fault: DriveFault,
     script: PhantomData<S>,
-    ghost fits: { IsFaultOf S.limits S.script.lines fault },
+    ghost fits: { IsFaultOf S.limits S.ahead S.script.lines fault },
 }
 
 // Waits for the thread's pass, makes the calls of its lines, and sends the pass to who joins the thread. A
@@ -73,7 +73,7 @@ fn start_workers<'s, 'e, S: Text + Send + Sync, G: Gate + Sync, R: Threads + Wai
     alloc: Global,
     workers: Vec<Worker<S>>,
 ) -> Result<Vec<JoinHandle<Option<OwnFault<S>>>>, DriveFault>
-    ensures { IfErr result (IsFaultOf S.limits S.script.lines) }
+    ensures { IfErr result (IsFaultOf S.limits S.ahead S.script.lines) }
 {
     let mut started = Vec::new(alloc);
     for worker in workers {
@@ -94,7 +94,7 @@ fn own_faults<S: Text, R: Threads>(
     alloc: Global,
     workers: Vec<JoinHandle<Option<OwnFault<S>>>>,
 ) -> Result<Vec<DriveFault>, AllocError>
-    ensures { IfOk result (λ faults. All (IsFaultOf S.limits S.script.lines) faults.items) }
+    ensures { IfOk result (λ faults. All (IsFaultOf S.limits S.ahead S.script.lines) faults.items) }
 {
     let mut faults = Vec::new(alloc);
     for worker in workers {
@@ -111,12 +111,12 @@ fn outcome<S: Text>(
     main: Result<Pass<S>, Halt>,
     faults: &[DriveFault],
 ) -> Result<Pass<S>, DriveFault>
-    requires halt { IfErr main (IsHaltOf S.limits S.script.lines) }
-    requires faults { All (IsFaultOf S.limits S.script.lines) faults.now }
+    requires halt { IfErr main (IsHaltOf S.limits S.ahead S.script.lines) }
+    requires faults { All (IsFaultOf S.limits S.ahead S.script.lines) faults.now }
     ensures last { IfOk result (λ last. main ≡ Ok last) }
     ensures none { OnOk result (faults.now ≡ []) }
     ensures first { IfErr result (IsAnswered main faults.now) }
-    ensures fault { IfErr result (IsFaultOf S.limits S.script.lines) }
+    ensures fault { IfErr result (IsFaultOf S.limits S.ahead S.script.lines) }
 {
     match (main, first_fault(faults)) {
         (Ok(last), None) => Ok(last),
@@ -136,7 +136,7 @@ fn run_all<S: Text + Send + Sync, G: Gate + Sync, R: Threads + Wait + Sync>(
     requires pass { pass ≡ new_pass main [] }
     requires serves { Serves links (lines_by main S.script.lines) }
     ensures done { IfOk result (Done S.script.lines main) }
-    ensures fault { IfErr result (IsFaultOf S.limits S.script.lines) }
+    ensures fault { IfErr result (IsFaultOf S.limits S.ahead S.script.lines) }
 {
     thread::scope(
         thread::scope_env(),
@@ -145,7 +145,7 @@ fn run_all<S: Text + Send + Sync, G: Gate + Sync, R: Threads + Wait + Sync>(
             requires pass { pass ≡ new_pass main [] }
             requires serves { Serves links (lines_by main S.script.lines) }
             ensures done { IfOk result (Done S.script.lines main) }
-            ensures fault { IfErr result (IsFaultOf S.limits S.script.lines) }
+            ensures fault { IfErr result (IsFaultOf S.limits S.ahead S.script.lines) }
         {
             let started = start_workers(scope, drive, alloc, workers)?;
             let mut links = links;
@@ -172,6 +172,7 @@ fn drive_in<S: Text + Send + Sync, G: Gate + Sync, R: Threads + Wait + Sync>(
     requires limits { unnamed.limits ≡ S.limits }
     requires script { script.now ≡ S.script }
     requires patience { patience ≡ S.patience }
+    requires ahead { S.ahead ≡ goes_ahead G.free S.patience }
     ensures limits { IfOk result (λ closed. closed.limits ≡ unnamed.limits) }
     ensures well_formed { IfOk result (λ closed. WellFormed unnamed.limits closed.log) }
     ensures main { IfOk result
@@ -179,7 +180,7 @@ fn drive_in<S: Text + Send + Sync, G: Gate + Sync, R: Threads + Wait + Sync>(
     ensures joined { IfOk result (λ closed. (u : Thread)
         → IsJoinedFrom script.now.lines main u
         → Follows (own_events u closed.log) (lines_by u script.now.lines)) }
-    ensures fault { IfErr result (IsFaultOf unnamed.limits script.now.lines) }
+    ensures fault { IfErr result (IsFaultOf unnamed.limits S.ahead script.now.lines) }
 {
     let (shared, pass) = start::<S>(unnamed);
     let Ok((links, workers)) = all_workers::<S>(alloc, script) else {
@@ -212,7 +213,9 @@ fn drive_in<S: Text + Send + Sync, G: Gate + Sync, R: Threads + Wait + Sync>(
 /// from which it is joined.
 ///
 /// The fault is one of a line of the script, or want of memory. A refusal is one that the line's call has
-/// after some well-formed log in which the line's thread has made just the calls of its lines before.
+/// after some well-formed log in which the line's thread has made just the calls of its lines before. A line
+/// that is stuck acquires or joins, where the gate is one that lets each line go ahead at once, and patience
+/// is not 0.
 ///
 /// No clause tells the rest: how often a line is tried, nor that the run ends. A worker tells its line as
 /// stuck only where it counted `patience` tries. Where a worker cannot be started, no call is made. Where
@@ -233,7 +236,7 @@ pub fn drive<G: Gate + Sync, R: Threads + Wait + Sync>(
     ensures joined { IfOk result (λ closed. (u : Thread)
         → IsJoinedFrom script.now.lines main u
         → Follows (own_events u closed.log) (lines_by u script.now.lines)) }
-    ensures fault { IfErr result (IsFaultOf limits.now script.now.lines) }
+    ensures fault { IfErr result (IsFaultOf limits.now (goes_ahead G.free patience) script.now.lines) }
 {
     let Ok(unnamed) = Unnamed::new(alloc, *limits) else {
         return Err(DriveFault::OutOfMemory);

@@ -1,7 +1,7 @@
 //! Why a drive ends before its script does.
-ghost use Rattle.std.specs.Prelude.{◌≡◌, [], None, Contains, IfSome};
+ghost use Rattle.std.specs.Prelude.{◌≡◌, [], true, None, Contains, IfSome};
 ghost use Rattle.live_monitor.specs.Tries.{AreUsedUp};
-ghost use Rattle.script_drive.specs.Faults.{own_fault, rank, refused_at, stuck_at};
+ghost use Rattle.script_drive.specs.Faults.{own_fault, rank, refused_at, stuck_at, waits};
 ghost use Rattle.script_drive.specs.Faults.{IsAnswer, IsEarlier, IsFirst, IsHaltOf};
 
 use crate::text::Text;
@@ -105,8 +105,9 @@ impl Halt {
         requires line { Contains S.script.lines line.now }
         requires patience { tries.now.most ≡ S.patience }
         requires used_up { AreUsedUp tries.now }
+        requires waits { S.ahead ≡ true → waits line.now ≡ true }
         ensures stuck { result ≡ Halt.Fault (stuck_at line.now) }
-        ensures halt { IsHaltOf S.limits S.script.lines result }
+        ensures halt { IsHaltOf S.limits S.ahead S.script.lines result }
     {
         Halt::Fault(DriveFault::Stuck {
             thread: line.thread(),

@@ -5,7 +5,7 @@ ghost use Rattle.event_core.specs.declared.ids.ThreadId.{ThreadId as Thread};
 ghost use Rattle.event_core.specs.declared.replies.Refusal.TheVariants.{Held};
 ghost use Rattle.script_text.specs.declared.lines.ScriptLine.{ScriptLine as Line};
 ghost use Rattle.script_text.specs.Lines.{join_of, thread_of};
-ghost use Rattle.script_drive.specs.Faults.{is_told, refused_at, IsHaltOf, IsNext};
+ghost use Rattle.script_drive.specs.Faults.{goes_ahead, is_told, refused_at, IsHaltOf, IsNext};
 ghost use Rattle.script_drive.specs.Lines.{lines_by};
 ghost use Rattle.script_drive.specs.Workers.{Does, Done, Serves};
 
@@ -30,6 +30,7 @@ pub(crate) struct Drive<'a, S: Text, G: Gate, R> {
     pub patience: u32,
     ghost of: { script.now ≡ S.script },
     ghost patient: { patience ≡ S.patience },
+    ghost ahead: { S.ahead ≡ goes_ahead G.free S.patience },
 }
 
 impl<S: Text, G: Gate, R> Drive<'_, S, G, R> {
@@ -44,7 +45,7 @@ impl<S: Text, G: Gate, R> Drive<'_, S, G, R> {
 // Asks the gate for the line, as often as patience allows.
 fn enter<S: Text, G: Gate, R>(drive: &Drive<'_, S, G, R>, line: &ScriptLine) -> Result<(), Halt>
     requires line { Contains S.script.lines line.now }
-    ensures halt { IfErr result (IsHaltOf S.limits S.script.lines) }
+    ensures halt { IfErr result (IsHaltOf S.limits S.ahead S.script.lines) }
 {
     let mut tries = drive.tries();
     'tries: while tries.another() {
@@ -64,7 +65,7 @@ fn await_end<S: Text, G: Gate, R: Wait>(
     requires line { Contains S.script.lines line.now }
     requires joins { IsSome (join_of line.now) }
     ensures done { IfOk result (Done S.script.lines receiver.to) }
-    ensures halt { IfErr result (IsHaltOf S.limits S.script.lines) }
+    ensures halt { IfErr result (IsHaltOf S.limits S.ahead S.script.lines) }
 {
     let mut receiver = receiver;
     let mut looks = drive.tries();
@@ -115,7 +116,7 @@ fn make_call<S: Text, G: Gate, R: Wait>(
     ensures does { IfOk result (Does S.limits S.script.lines line.now pass) }
     ensures serves { (later : List Line) → Serves links.old (line.now ∷ later)
         → OnOk result (Serves links.new later) }
-    ensures halt { IfErr result (IsHaltOf S.limits S.script.lines) }
+    ensures halt { IfErr result (IsHaltOf S.limits S.ahead S.script.lines) }
 {
     let Drive { rt, shared, .. } = *drive;
     match line.act {
@@ -165,7 +166,7 @@ pub(crate) fn run_lines<S: Text, G: Gate, R: Wait>(
     requires new { pass.mine ≡ [] }
     requires serves { Serves links.old (lines_by pass.thread S.script.lines) }
     ensures done { IfOk result (Done S.script.lines pass.thread) }
-    ensures halt { IfErr result (IsHaltOf S.limits S.script.lines) }
+    ensures halt { IfErr result (IsHaltOf S.limits S.ahead S.script.lines) }
 {
     let thread = pass.thread();
     let mut pass = pass;

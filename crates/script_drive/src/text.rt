@@ -6,20 +6,26 @@ use std::marker::{Brand, PhantomData};
 /// One script, with the table of the monitor over which it runs, and the patience with its lines. Each drive
 /// picks them.
 pub(crate) trait Text: Name {
-    ghost use Rattle.std.specs.Prelude.{ℕ};
+    ghost use Rattle.std.specs.Prelude.{ℕ, Bool};
     ghost use Rattle.script_text.specs.Scripts.{Parsed};
 
     ghost script: { Parsed };
 
     ghost patience: { ℕ };
+
+    // Whether each line is let go ahead at its first try.
+    ghost ahead: { Bool };
 }
 
 impl Text for Brand {
+    ghost use Rattle.std.specs.Prelude.{false};
     ghost use Rattle.script_drive.specs.Texts.{no_script};
 
     ghost script = { no_script };
 
     ghost patience = { 0 };
+
+    ghost ahead = { false };
 }
 
 /// The first pass of a thread, which its fork gives.

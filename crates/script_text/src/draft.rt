@@ -61,13 +61,13 @@ fn number_line(names: &mut Names, line: u64, said: &NamedAct<'_>) -> Result<Stor
 fn is_forked(before: &[StoredLine], thread: ThreadId) -> bool
     ensures { result ≡ list_any (forks thread.0) before.now }
 {
-    before.iter().any(|line| line.get().forks(thread))
+    before.iter().any(|line| line.forks(thread))
 }
 
 fn is_joined(before: &[StoredLine], thread: ThreadId) -> bool
     ensures { result ≡ list_any (joins thread.0) before.now }
 {
-    before.iter().any(|line| line.get().joins(thread))
+    before.iter().any(|line| line.joins(thread))
 }
 
 /// Whether the line forks thread 0, or a thread that a line before it forks.

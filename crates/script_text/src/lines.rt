@@ -1,6 +1,6 @@
 //! A line of a script: what its thread does, with its names numbered.
 ghost use Rattle.std.specs.Prelude.{◌≡◌};
-ghost use Rattle.script_text.specs.Lines.{thread_of, fork_of, join_of, forks, joins, is_of};
+ghost use Rattle.script_text.specs.Lines.{thread_of, fork_of, join_of, is_of};
 
 use event_core::{Act, Op, ThreadId};
 
@@ -52,26 +52,6 @@ impl ScriptLine {
                 _ => None,
             },
             Act::Swap { .. } => None,
-        }
-    }
-
-    /// Whether it forks the thread.
-    pub fn forks(&self, thread: ThreadId) -> bool
-        ensures { result ≡ forks thread.0 self.now }
-    {
-        match self.fork() {
-            Some(child) => child.0 == thread.0,
-            None => false,
-        }
-    }
-
-    /// Whether it joins the thread.
-    pub fn joins(&self, thread: ThreadId) -> bool
-        ensures { result ≡ joins thread.0 self.now }
-    {
-        match self.join() {
-            Some(target) => target.0 == thread.0,
-            None => false,
         }
     }
 }

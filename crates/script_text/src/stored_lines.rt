@@ -1,6 +1,6 @@
 //! A line as a script keeps it.
 ghost use Rattle.std.specs.Prelude.{◌≡◌};
-ghost use Rattle.script_text.specs.Lines.{is_of};
+ghost use Rattle.script_text.specs.Lines.{is_of, forks, joins};
 ghost use Rattle.script_text.specs.Scripts.{act_of};
 
 use crate::forms::Word;
@@ -61,6 +61,20 @@ impl StoredLine {
         ensures { result ≡ is_of thread.0 self.now }
     {
         self.thread == thread.0
+    }
+
+    /// Whether it forks the thread.
+    pub fn forks(&self, thread: ThreadId) -> bool
+        ensures { result ≡ forks thread.0 self.now }
+    {
+        self.target == thread.0 && self.word == Word::One(rapid_line::Word::Fork)
+    }
+
+    /// Whether it joins the thread.
+    pub fn joins(&self, thread: ThreadId) -> bool
+        ensures { result ≡ joins thread.0 self.now }
+    {
+        self.target == thread.0 && self.word == Word::One(rapid_line::Word::Join)
     }
 
     /// The line.

@@ -28,12 +28,13 @@ cut_short limits left rest turns failed f read is =
     why_short left rest turns failed f.line _ r
 
 -- the refusal that is told is one of the script
-pub refusal_told : (m : Limits) (lines : List ScriptLine) (f : DriveFault) (old new : Option (List ℕ))
-    → IsFaultOf m lines f → TellsRefused f old new → TellsRefusal m lines old new
-refusal_told m lines drive.OutOfMemory old new fits told = absurd told
-refusal_told m lines (drive.Stuck t n) old new fits told = absurd told
-refusal_told m lines (drive.NoWorker n) old new fits told = absurd told
-refusal_told m lines (drive.Refused t n why) old new fits told =
+pub refusal_told : (m : Limits) (ahead : Bool) (lines : List ScriptLine) (f : DriveFault)
+    (old new : Option (List ℕ)) → IsFaultOf m ahead lines f → TellsRefused f old new
+    → TellsRefusal m lines old new
+refusal_told m ahead lines drive.OutOfMemory old new fits told = absurd told
+refusal_told m ahead lines (drive.Stuck t n) old new fits told = absurd told
+refusal_told m ahead lines (drive.NoWorker n) old new fits told = absurd told
+refusal_told m ahead lines (drive.Refused t n why) old new fits told =
     ∥∥₁_map fits (λ p. record {
       line = p.1.0;
       one = p.1.1;
@@ -80,18 +81,22 @@ fault_told m left rest turns failed f old new status (inr gave_up) hindered is =
   broken = λ h. absurd (omega (arith, gave_up, h));
 }
 
--- the stop that is told is one of the script
-pub stop_told : (m : Limits) (lines : List ScriptLine) (f : DriveFault) (old new : Option (List ℕ))
-    → IsFaultOf m lines f → TellsStop f old new → ∥ NamesStop lines old new ∥₁
-stop_told m lines drive.OutOfMemory old new fits told = absurd told
-stop_told m lines (drive.Refused t n why) old new fits told = absurd told
-stop_told m lines (drive.Stuck t n) old new fits told =
+-- the stop that is told is one of the script, each of whose lines goes ahead at its first try
+pub stop_told : (m : Limits) (ahead : Bool) (lines : List ScriptLine) (f : DriveFault)
+    (old new : Option (List ℕ)) → ahead ≡ true → IsFaultOf m ahead lines f → TellsStop f old new
+    → ∥ NamesStop lines old new ∥₁
+stop_told m ahead lines drive.OutOfMemory old new goes fits told = absurd told
+stop_told m ahead lines (drive.Refused t n why) old new goes fits told = absurd told
+stop_told m ahead lines (drive.Stuck t n) old new goes fits told =
     ∥∥₁_map fits (λ p. record {
       line = p.0;
       one = p.1;
-      written = inl (subst (λ (k : ℕ). Appends old new (fault_line k (codes "Stuck"))) (sym p.2.1) told);
+      written = inl (
+        p.2.2 goes,
+        subst (λ (k : ℕ). Appends old new (fault_line k (codes "Stuck"))) (sym p.2.1) told,
+      );
     })
-stop_told m lines (drive.NoWorker n) old new fits told =
+stop_told m ahead lines (drive.NoWorker n) old new goes fits told =
     ∥∥₁_elim fits ∥∥₁_prop (λ forks. ∥∥₁_map forks (λ p. record {
       line = p.0;
       one = p.1;

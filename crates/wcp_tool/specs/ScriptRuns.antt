@@ -11,7 +11,7 @@ use Rattle.event_core.specs.Steps.{own_events}
 use Rattle.closed_report.specs.Closed.{IsReportOf}
 use Rattle.rapid_text.specs.Faults.{fault_line}
 use Rattle.rapid_text.specs.Tables.{Tables}
-use Rattle.script_drive.specs.Faults.{Refuses, is_told}
+use Rattle.script_drive.specs.Faults.{Refuses, is_told, waits}
 use Rattle.script_drive.specs.Lines.{Follows, IsJoinedFrom, lines_by}
 use Rattle.script_drive.specs.declared.faults.DriveFault.{DriveFault}
 use Rattle.script_drive.specs.declared.faults.DriveFault.TheVariants.{NoWorker, Refused, Stuck}
@@ -121,12 +121,12 @@ TellsStop (Stuck t n) old new = Appends old new (fault_line n (codes "Stuck"))
 TellsStop (NoWorker n) old new = Appends old new (fault_line n (codes "NoWorker"))
 TellsStop _ old new = ⊥
 
--- one line was written, which names a line of the script that is stuck, or that forks a thread for which no
--- worker could be started
+-- one line was written, which names a line of the script: one that acquires or joins and is stuck, or one
+-- that forks a thread for which no worker could be started
 pub record NamesStop (lines : List ScriptLine) (old new : Option (List ℕ)) : Type 0 where
   pub line : ScriptLine
   pub one : Contains lines line
-  pub written : Appends old new (fault_line line.line (codes "Stuck"))
+  pub written : ((waits line ≡ true) × Appends old new (fault_line line.line (codes "Stuck")))
       ⊎ (IsSome (fork_of line) × Appends old new (fault_line line.line (codes "NoWorker")))
 
 -- the threads of the script were run, but the log has a number to which the script gives no name, and nothing

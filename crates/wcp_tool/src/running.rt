@@ -32,6 +32,7 @@ fn run<R: AllocGlobal + Files + Threads + Wait + Sync, I: Input, O: Output>(
     writer: &mut O,
 ) -> Ending
     requires threads { (1 ≤ settings.threads) × (settings.threads ≤ 1024) }
+    requires patience { 1 ≤ settings.patience }
     requires reads { I.failed reader.old ≡ false }
     requires writes { O.failed writer.old ≡ false }
     ensures performs { result ≢ Ending.ReadFault → result ≢ Ending.WriteFault → result ≢ Ending.OutOfMemory

@@ -106,6 +106,7 @@ fn run_threads<R: AllocGlobal + Threads + Wait + Sync, O: Output>(
     writer: &mut O,
 ) -> Ending
     requires only_main { limits.now.roots ≡ OnlyMain }
+    requires patience { 1 ≤ patience }
     requires writes { O.failed writer.old ≡ false }
     ensures ran { (status_of result ≡ 0) ⊎ (status_of result ≡ 1) → Ran limits.now script.now
         (O.written writer.old) (O.written writer.new) (status_of result) }
@@ -135,6 +136,7 @@ fn run_lines<R: AllocGlobal + Threads + Wait + Sync, I: Input, O: Output>(
     patience: u32,
 ) -> Ending
     requires threads { (1 ≤ threads) × (threads ≤ 1024) }
+    requires patience { 1 ≤ patience }
     requires reads { I.failed script.old ≡ false }
     requires writes { O.failed writer.old ≡ false }
     ensures performs { PerformsRun (limits_with threads OnlyMain) (I.left script.old) (O.written writer.old)
@@ -158,8 +160,8 @@ fn run_lines<R: AllocGlobal + Threads + Wait + Sync, I: Input, O: Output>(
 }
 
 /// The command `run` over a reader of the script: its threads are run, each line is tried as often as the
-/// patience of the settings says (in no clause), and what the threads did is reported. The answer is the exit
-/// status.
+/// patience of the settings says, and what the threads did is reported. The answer is the exit status. Of
+/// patience the clauses tell that a line which neither acquires nor joins is not stuck.
 ///
 /// What the threads did depends on the schedule, and so does the status: of the log it is said only that it
 /// is well formed, and which events the first thread has, and each thread that is joined from it.
@@ -184,9 +186,9 @@ pub fn run_script<R: AllocGlobal + Threads + Wait + Sync, I: Input, O: Output, E
     ensures refused { result ≡ 3 → RefusesText (limits_with settings.now.threads OnlyMain)
         (I.left script.old) (O.written writer.old) (O.written writer.new) }
     // With status 6 it wrote the one line that tells why the text is no script, or which of its lines is
-    // stuck or can start no worker. That a stuck line acquires or joins, no clause tells. It wrote nothing
-    // only where the log has a number to which the script gives no name, and the numbers of the script's
-    // lines all have one.
+    // stuck or can start no worker. A stuck line is one that acquires or joins. It wrote nothing only where
+    // the log has a number to which the script gives no name, and the numbers of the script's lines all have
+    // one.
     ensures broken { result ≡ 6 → BreaksText (limits_with settings.now.threads OnlyMain)
         (I.left script.old) (O.written writer.old) (O.written writer.new) }
     // The first fault of the script's lines is told, unless memory ran out or a device failed.
@@ -219,6 +221,7 @@ pub(crate) fn run_file<R: AllocGlobal + Files + Threads + Wait + Sync, O: Output
     patience: u32,
 ) -> Ending
     requires threads { (1 ≤ threads) × (threads ≤ 1024) }
+    requires patience { 1 ≤ patience }
     requires writes { O.failed writer.old ≡ false }
     ensures performs { PerformsRun (limits_with threads OnlyMain) None (O.written writer.old)
         (O.written writer.new) (status_of result) }

@@ -28,17 +28,17 @@ returns-in_default-Ok-join-clause-does g c =
 -- a call that is declined is so by the definition
 pub returns-in-Load-clause-halt : goal.returns-in-Load-clause-halt
 returns-in-Load-clause-halt g c =
-    call_halts g.S.Name.limits g.S.Text.script.lines c.args.line.now c.in-One.call (Load c.in-Load.var)
-    c.in-One.call.site 0 c.args.pass c.load.result.0 c.load.result.1 c.answered.result c.in-One.is
-    c.in-Load.is c.requires.next c.requires.thread c.load.ensures.later c.load.ensures.declined
+    call_halts g.S.Name.limits g.S.Text.ahead g.S.Text.script.lines c.args.line.now c.in-One.call
+    (Load c.in-Load.var) c.in-One.call.site 0 c.args.pass c.load.result.0 c.load.result.1 c.answered.result
+    c.in-One.is c.in-Load.is c.requires.next c.requires.thread c.load.ensures.later c.load.ensures.declined
     c.answered.ensures.refused (λ is. absurd (cc is))
 
 pub returns-in-Store-clause-halt : goal.returns-in-Store-clause-halt
 returns-in-Store-clause-halt g c =
-    call_halts g.S.Name.limits g.S.Text.script.lines c.args.line.now c.in-One.call (Store c.in-Store.var)
-    c.in-One.call.site _ c.args.pass c.store.result.0 c.store.result.1 c.answered-in-Store.result
-    c.in-One.is c.in-Store.is c.requires.next c.requires.thread c.store.ensures.later
-    c.store.ensures.declined c.answered-in-Store.ensures.refused (λ is. absurd (cc is))
+    call_halts g.S.Name.limits g.S.Text.ahead g.S.Text.script.lines c.args.line.now c.in-One.call
+    (Store c.in-Store.var) c.in-One.call.site _ c.args.pass c.store.result.0 c.store.result.1
+    c.answered-in-Store.result c.in-One.is c.in-Store.is c.requires.next c.requires.thread
+    c.store.ensures.later c.store.ensures.declined c.answered-in-Store.ensures.refused (λ is. absurd (cc is))
 
 pub stuck-requires-clause-used_up : goal.stuck-requires-clause-used_up
 stuck-requires-clause-used_up g c =
@@ -47,7 +47,7 @@ stuck-requires-clause-used_up g c =
 
 pub returns-else-is_held-clause-halt : goal.returns-else-is_held-clause-halt
 returns-else-is_held-clause-halt g c =
-    call_halts g.S.Name.limits g.S.Text.script.lines c.args.line.now c.in-One.call
+    call_halts g.S.Name.limits g.S.Text.ahead g.S.Text.script.lines c.args.line.now c.in-One.call
     (Acquire c.in-Acquire.lock) c.in-One.call.site 0 c.args.pass c.acquire_within-pass.result.0
     c.acquire_within-pass.result.1 c.answered-in-Acquire.result c.in-One.is c.in-Acquire.is c.requires.next
     c.requires.thread c.acquire_within-pass.ensures.later c.acquire_within-pass.ensures.declined
@@ -55,7 +55,7 @@ returns-else-is_held-clause-halt g c =
 
 pub returns-in-Release-clause-halt : goal.returns-in-Release-clause-halt
 returns-in-Release-clause-halt g c =
-    call_halts g.S.Name.limits g.S.Text.script.lines c.args.line.now c.in-One.call
+    call_halts g.S.Name.limits g.S.Text.ahead g.S.Text.script.lines c.args.line.now c.in-One.call
     (Release c.in-Release.lock) c.in-One.call.site 0 c.args.pass c.release.result.0 c.release.result.1
     c.answered-in-Release.result c.in-One.is c.in-Release.is c.requires.next c.requires.thread
     c.release.ensures.later c.release.ensures.declined c.answered-in-Release.ensures.refused
@@ -69,10 +69,10 @@ returns-in_default-Err-clause-halt g c =
     let is : to ≡ u
     = next_forked line c.in-One.call u to c.args.links.now c.next_fork-sender.new.self c.in-One.is
     c.in-Fork.is c.requires.serves.0 c.requires.serves.1 c.next_fork-sender.ensures.forks in
-    subst (IsFaultOf g.S.Name.limits g.S.Text.script.lines) (sym c.refused.ensures)
-    (call_fits g.S.Name.limits g.S.Text.script.lines line c.in-One.call (Fork to) c.in-One.call.site 0
-    c.args.pass c.fork.result.0 c.in_default-Err.refusal c.in-One.is (c.in-Fork.is ∙ ap Fork (sym is))
-    c.requires.next c.requires.thread c.fork.ensures.later
+    subst (IsFaultOf g.S.Name.limits g.S.Text.ahead g.S.Text.script.lines) (sym c.refused.ensures)
+    (call_fits g.S.Name.limits g.S.Text.ahead g.S.Text.script.lines line c.in-One.call (Fork to)
+    c.in-One.call.site 0 c.args.pass c.fork.result.0 c.in_default-Err.refusal c.in-One.is
+    (c.in-Fork.is ∙ ap Fork (sym is)) c.requires.next c.requires.thread c.fork.ensures.later
     (rw c.in_default-Err.is-1 at c.fork.ensures.declined) (λ is. absurd (cc is)))
 
 pub returns-in_default-Err-join-clause-halt : goal.returns-in_default-Err-join-clause-halt
@@ -84,8 +84,9 @@ returns-in_default-Err-join-clause-halt g c =
     = next_joined line c.in-One.call u c.next_join-receiver.result.to c.args.links.now
     c.next_join-receiver.new.self
     c.in-One.is c.in-Join.is c.requires.serves.0 c.requires.serves.1 c.next_join-receiver.ensures.joins in
-    subst (IsFaultOf g.S.Name.limits g.S.Text.script.lines) (sym c.refused-in_default-Err-join.ensures)
-    (call_fits g.S.Name.limits g.S.Text.script.lines line c.in-One.call (Join child.thread)
+    subst (IsFaultOf g.S.Name.limits g.S.Text.ahead g.S.Text.script.lines)
+    (sym c.refused-in_default-Err-join.ensures)
+    (call_fits g.S.Name.limits g.S.Text.ahead g.S.Text.script.lines line c.in-One.call (Join child.thread)
     c.in-One.call.site 0 c.args.pass c.join.result.0 c.in_default-Err-join.refusal c.in-One.is
     (c.in-Join.is ∙ ap Join (sym (c.in_ok-child-in-Join.ensures.done.thread ∙ is))) c.requires.next
     c.requires.thread c.join.ensures.later
@@ -93,7 +94,7 @@ returns-in_default-Err-join-clause-halt g c =
 
 pub returns-in-Swap-clause-halt : goal.returns-in-Swap-clause-halt
 returns-in-Swap-clause-halt g c =
-    swap_halts g.S.Name.limits g.S.Text.script.lines c.args.line.now c.in-Swap.thread c.in-Swap.var
-    c.in-Swap.site c.in-Swap.arg c.args.pass c.swap.result.0 c.swap.result.1 c.answered-in-Swap.result
-    c.in-Swap.is c.requires.next c.requires.thread c.swap.ensures.later c.swap.ensures.declined
-    c.answered-in-Swap.ensures.refused
+    swap_halts g.S.Name.limits g.S.Text.ahead g.S.Text.script.lines c.args.line.now c.in-Swap.thread
+    c.in-Swap.var c.in-Swap.site c.in-Swap.arg c.args.pass c.swap.result.0 c.swap.result.1
+    c.answered-in-Swap.result c.in-Swap.is c.requires.next c.requires.thread c.swap.ensures.later
+    c.swap.ensures.declined c.answered-in-Swap.ensures.refused

@@ -1,4 +1,4 @@
-use Rattle.std.proofs.Common.{subst, inl, inr, ap}
+use Rattle.std.proofs.Common.{rules, subst, inl, inr, ap}
 use Rattle.rapid_text.specs.Tables.{Tables}
 use Rattle.trace_report.specs.Reports.{AreNamed}
 use Rattle.wcp_tool.specs.Endings.{status_of}
@@ -22,7 +22,7 @@ returns-in-Ok-clause-ran g c h = record {
 
 pub returns-in-Err-clause-refused : goal.returns-in-Err-clause-refused
 returns-in-Err-clause-refused g c h =
-    refusal_told _ _ c.in-Err.fault _ _ c.in-Err.ensures.fault (c.explain_drive.ensures.refused h)
+    refusal_told _ _ _ c.in-Err.fault _ _ c.in-Err.ensures.fault (c.explain_drive.ensures.refused h)
 
 pub returns-in-Ok-clause-broken : goal.returns-in-Ok-clause-broken
 returns-in-Ok-clause-broken g c h =
@@ -40,4 +40,5 @@ returns-in-Ok-clause-broken g c h =
 
 pub returns-in-Err-clause-broken : goal.returns-in-Err-clause-broken
 returns-in-Err-clause-broken g c h =
-    inl (stop_told _ _ c.in-Err.fault _ _ c.in-Err.ensures.fault (c.explain_drive.ensures.broken h))
+    inl (stop_told _ _ _ c.in-Err.fault _ _ (search rules) c.in-Err.ensures.fault
+    (c.explain_drive.ensures.broken h))
