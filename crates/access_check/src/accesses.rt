@@ -43,14 +43,14 @@ impl Accesses {
     ghost use Rattle.access_check.specs.Standing.{Stands};
 
     /// The accesses of the empty log. It takes no memory, and so succeeds.
-    pub fn new(alloc: Global, limits: &Limits) -> Result<Accesses, OutOfMemory>
+    pub fn new(alloc: Global, limits: Limits) -> Result<Accesses, OutOfMemory>
         ensures succeeds { IsOk result }
-        ensures exact { IfOk result (λ made. made ≡ no_tables limits.now) }
+        ensures exact { IfOk result (λ made. made ≡ no_tables limits) }
         ensures stands { IfOk result (λ made. Stands [] made) }
     {
         Ok(Accesses {
             alloc,
-            limits: *limits,
+            limits,
             counts: Vec::new(alloc),
             vars: Vec::new(alloc),
         })

@@ -87,7 +87,7 @@ impl Log {
     // It takes no memory.
     fn new(rt: &impl Abort, alloc: Global) -> Log {
         let limits = Limits::new(3, 1, 2, 64, Roots::Free).expect(rt, "small limits");
-        let accesses = Accesses::new(alloc, &limits).expect(rt, "no memory is taken");
+        let accesses = Accesses::new(alloc, limits).expect(rt, "no memory is taken");
         Log {
             limits,
             accesses,

@@ -32,8 +32,8 @@ pub struct Run {
 }
 
 // Where a growth is refused, the same call is made again.
-fn begin_clocks(alloc: Global, limits: &Limits) -> Result<(HbClocks, Work), OutOfMemory>
-    ensures width { IfOk result (λ made. made.0.width ≡ limits.now.threads) }
+fn begin_clocks(alloc: Global, limits: Limits) -> Result<(HbClocks, Work), OutOfMemory>
+    ensures width { IfOk result (λ made. made.0.width ≡ limits.threads) }
     ensures empty { IfOk result (λ made. state_of made.0 ≡ empty) }
 {
     match HbClocks::new(alloc, limits) {
@@ -95,7 +95,7 @@ fn expect_numbers(rt: &impl Abort, clock: &Clock, wanted: &[u64; 3])
 impl Run {
     pub fn new(rt: &impl Abort, alloc: Global) -> Run {
         let limits = Limits::new(3, 2, 2, 64, Roots::Free).expect(rt, "small limits");
-        let (clocks, _work) = begin_clocks(alloc, &limits).expect(rt, "memory");
+        let (clocks, _work) = begin_clocks(alloc, limits).expect(rt, "memory");
         Run {
             clocks,
             beside: zeros(alloc).expect(rt, "memory"),

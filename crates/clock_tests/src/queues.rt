@@ -95,7 +95,7 @@ impl Sections {
     fn new(rt: &impl Abort, alloc: Global) -> Sections {
         let limits = Limits::new(3, 2, 1, 8, Roots::Free).expect(rt, "small limits");
         Sections {
-            queues: Queues::new(alloc, &limits).expect(rt, "no memory is taken"),
+            queues: Queues::new(alloc, limits).expect(rt, "no memory is taken"),
             run: Run::new(rt, alloc),
         }
     }

@@ -33,9 +33,9 @@ fn small_limits(rt: &impl Abort) -> Limits
 }
 
 // Clocks of the empty log. Where a growth is refused, the same call is made again.
-fn begin_clocks(alloc: Global, limits: &Limits) -> Result<WcpClocks, OutOfMemory>
-    ensures width { IfOk result (λ clocks. width_of clocks ≡ limits.now.threads) }
-    ensures limits { IfOk result (λ clocks. limits_of clocks ≡ limits.now) }
+fn begin_clocks(alloc: Global, limits: Limits) -> Result<WcpClocks, OutOfMemory>
+    ensures width { IfOk result (λ clocks. width_of clocks ≡ limits.threads) }
+    ensures limits { IfOk result (λ clocks. limits_of clocks ≡ limits) }
     ensures stands { IfOk result (λ clocks. StandsFor [] clocks) }
     ensures no_work { IfOk result (λ clocks. work_of clocks ≡ record { comparisons = 0; joins = 0 }) }
 {
@@ -149,7 +149,7 @@ fn expect_below(rt: &impl Abort, clocks: &WcpClocks, thread: ThreadId, wanted: [
 fn follow(rt: &impl Abort, alloc: Global, lines: &[Line], last: ThreadId, below: [u64; 3]) {
     let limits = small_limits(rt);
     let mut memory = Memory::new(alloc, limits).expect(rt, "no memory is taken");
-    let mut clocks = begin_clocks(alloc, &limits).expect(rt, "memory");
+    let mut clocks = begin_clocks(alloc, limits).expect(rt, "memory");
     for index in 0..lines.len() {
         let (thread, op, wanted) = lines[index];
         take(rt, &mut memory, &mut clocks, thread, op);
@@ -189,7 +189,7 @@ fn an_inner_release_ends_no_section(rt: HostRuntime) {
 #[test]
 fn room_for_a_swap_serves_its_load_and_its_store(rt: HostRuntime) {
     let limits = small_limits(&rt);
-    let mut clocks = begin_clocks(rt.alloc(), &limits).expect(&rt, "memory");
+    let mut clocks = begin_clocks(rt.alloc(), limits).expect(&rt, "memory");
     assert!(rt; !clocks.ready_swap(MAIN, Y));
     assert!(rt; make_room_to_swap(&mut clocks, MAIN, Y).is_ok(), "memory");
     assert!(rt; clocks.ready_swap(MAIN, Y));

@@ -50,7 +50,7 @@ fn increase(count: &mut u64) {
 fn draw(rt: &impl Abort, alloc: Global, generator: &mut Generator) -> Told {
     let limits = Limits::new(3, 2, 2, MOST_EVENTS as u64, Roots::Free).expect(rt, "small limits");
     let acts = generator.acts(alloc);
-    let told = tell(rt, alloc, &limits, &acts, Way::Steps(u64::MAX));
+    let told = tell(rt, alloc, limits, &acts, Way::Steps(u64::MAX));
     drop(acts);
     compare(rt, alloc, &told, "a log of a template");
     told

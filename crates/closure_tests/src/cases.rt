@@ -111,7 +111,7 @@ impl Worked {
         let limits = self.limits.expect(rt, self.name);
         let acts = self.acts(alloc);
         for way in ways {
-            let told = tell(rt, alloc, &limits, &acts, *way);
+            let told = tell(rt, alloc, limits, &acts, *way);
             let is_told = self.has_answers(&told.answers)
                 && told.log.len() == self.events
                 && told.races.as_slice() == self.races;

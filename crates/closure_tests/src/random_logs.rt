@@ -80,7 +80,7 @@ impl Occurrences {
 // Compares the verdicts on the log that the acts make, and adds what occurs in it.
 fn compare_log(rt: &impl Abort, alloc: Global, acts: &[Act], occurred: &mut Occurrences) {
     let limits = Limits::new(3, 4, 3, 64, Roots::Free).expect(rt, "small limits");
-    let told = tell(rt, alloc, &limits, acts, Way::Steps(EVENTS));
+    let told = tell(rt, alloc, limits, acts, Way::Steps(EVENTS));
     let closure = compare(rt, alloc, &told, "a random log");
     occurred.add_pairs(&closure);
     occurred.add_verdicts(&told.verdicts);

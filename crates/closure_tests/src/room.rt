@@ -50,7 +50,7 @@ fn make(rt: &impl Abort, monitor: &mut Monitor) {
 #[test]
 fn no_release_is_refused_for_memory(rt: HostRuntime) -> Result<(), Fail> {
     let limits = Limits::new(2, 2, 2, 64, Roots::OnlyMain)?;
-    let mut monitor = Monitor::new(rt.alloc(), &limits)?;
+    let mut monitor = Monitor::new(rt.alloc(), limits)?;
     make(&rt, &mut monitor);
     drop(monitor);
     Ok(())

@@ -31,7 +31,7 @@ pub struct Told {
     pub races: Vec<Race>,
 }
 
-fn monitor(rt: &impl Abort, alloc: Global, limits: &Limits) -> Monitor {
+fn monitor(rt: &impl Abort, alloc: Global, limits: Limits) -> Monitor {
     match Monitor::new(alloc, limits) {
         Ok(monitor) => monitor,
         Err(OutOfMemory) => Monitor::new(alloc, limits).expect(rt, "memory"),
@@ -107,7 +107,7 @@ fn run_acts(monitor: &mut Monitor, acts: &[Act], answers: &mut Vec<Done>) {
 }
 
 /// What a new monitor makes of the acts.
-pub fn tell(rt: &impl Abort, alloc: Global, limits: &Limits, acts: &[Act], way: Way) -> Told {
+pub fn tell(rt: &impl Abort, alloc: Global, limits: Limits, acts: &[Act], way: Way) -> Told {
     let mut told = Told {
         answers: Vec::new(alloc),
         log: Vec::new(alloc),

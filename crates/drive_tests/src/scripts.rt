@@ -59,11 +59,11 @@ fn run<G: Gate + Sync, R: Threads + Wait + Abort + Sync>(
     rt: &R,
     alloc: Global,
     script: &Script,
-    limits: &Limits,
+    limits: Limits,
     gate: &G,
     patience: u32,
 ) -> Result<Closed, DriveFault>
-    requires { limits.now.roots ≡ OnlyMain }
+    requires { limits.roots ≡ OnlyMain }
 {
     match drive(rt, alloc, script, limits, gate, patience) {
         Err(DriveFault::OutOfMemory | DriveFault::NoWorker { .. }) => {
@@ -132,7 +132,7 @@ pub fn expect_answer<G: Gate + Sync, R: Threads + Wait + Abort + Sync>(
 ) {
     let limits = limits(rt, case.events);
     let script = script_of(alloc, case.text, limits).expect(rt, "a script");
-    let ran = run(rt, alloc, &script, &limits, gate, case.patience);
+    let ran = run(rt, alloc, &script, limits, gate, case.patience);
     expect_ran(rt, ran, &case.answer);
     drop(script);
 }

@@ -48,7 +48,7 @@ fn line_without_worker<R: AllocGlobal + Threads + Wait + Abort + Sync>(
     let mut blocks = Vec::new(rt.alloc());
     take_all(rt.alloc(), &mut blocks);
     drop(stacks);
-    let answer = drive(rt, rt.alloc(), script, &limits(rt, EVENTS), gate, 1);
+    let answer = drive(rt, rt.alloc(), script, limits(rt, EVENTS), gate, 1);
     drop(blocks);
     match answer {
         Err(DriveFault::NoWorker { line }) => Ok(Some(line)),

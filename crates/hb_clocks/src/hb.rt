@@ -59,9 +59,9 @@ impl Model for HbClocks {
 impl HbClocks {
     /// The clocks of the empty log, of the width of the limit of threads, and the one `Work` beside
     /// them. No thread or lock has a clock yet.
-    pub fn new(alloc: Global, limits: &Limits) -> Result<(HbClocks, Work), OutOfMemory>
-        ensures width { IfOk result (λ made. made.0.width ≡ limits.now.threads) }
-        ensures unmade { IfOk result (λ made. made.0 ≡ tables limits.now.threads [] [] [] []) }
+    pub fn new(alloc: Global, limits: Limits) -> Result<(HbClocks, Work), OutOfMemory>
+        ensures width { IfOk result (λ made. made.0.width ≡ limits.threads) }
+        ensures unmade { IfOk result (λ made. made.0 ≡ tables limits.threads [] [] [] []) }
         ensures empty { IfOk result (λ made. state_of made.0 ≡ empty) }
         ensures stands { IfOk result (λ made. Stands [] (state_of made.0)) }
         ensures work { IfOk result (λ made. made.1 ≡ record { comparisons = 0; joins = 0 }) }

@@ -59,7 +59,7 @@ impl Unnamed {
         let Ok(blank) = Blank::new(alloc, limits) else {
             return Err(StartFault::NoRoom);
         };
-        let Ok(monitor) = Monitor::new(alloc, &limits) else {
+        let Ok(monitor) = Monitor::new(alloc, limits) else {
             return Err(StartFault::NoRoom);
         };
         Ok(Unnamed { blank, monitor })

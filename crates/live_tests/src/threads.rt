@@ -209,7 +209,7 @@ fn expect_same<R: Abort>(rt: &R, monitor: &Monitor, outcomes: &[Outcome], closed
 /// The same calls, taken by a sequential monitor, are accepted with the same verdicts. Whether there was
 /// memory for it.
 fn replays<R: Abort>(rt: &R, alloc: Global, closed: &Closed, calls: &[Call]) -> bool {
-    let Ok(mut monitor) = Monitor::new(alloc, &limits(rt)) else {
+    let Ok(mut monitor) = Monitor::new(alloc, limits(rt)) else {
         return false;
     };
     let mut outcomes = Vec::new(alloc);

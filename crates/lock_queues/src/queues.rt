@@ -77,9 +77,9 @@ impl Queues {
     ghost use Rattle.lock_queues.specs.contracts.queues.Queues.{the_row};
 
     /// No sections. It takes no memory.
-    pub fn new(alloc: Global, limits: &Limits) -> Result<Queues, OutOfMemory>
+    pub fn new(alloc: Global, limits: Limits) -> Result<Queues, OutOfMemory>
         ensures made { IsOk result }
-        ensures limits { IfOk result (λ v. v.limits ≡ limits.now) }
+        ensures limits { IfOk result (λ v. v.limits ≡ limits) }
         ensures closed { IfOk result (λ v. closed_of v ≡ (λ _. [])) }
         ensures opened { IfOk result (λ v. opened_of v ≡ (λ _ _. 0)) }
         ensures found { IfOk result (λ v. found_of v ≡ (λ _ _. 0)) }
@@ -88,7 +88,7 @@ impl Queues {
     {
         Ok(Queues {
             alloc,
-            limits: *limits,
+            limits,
             queues: Vec::new(alloc),
             releases: ReleaseClocks::new(alloc),
             rooms: 0,

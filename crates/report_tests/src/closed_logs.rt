@@ -81,7 +81,7 @@ fn write_log<G: Gate + Sync, R: AllocGlobal + Threads + Wait + Sync>(
     let limits = Limits::new(2, 1, 2, 64, Roots::OnlyMain).ok()?;
     let mut reader = Device::new(case.script.as_bytes());
     let script = Script::read(rt.alloc(), &mut reader, limits, 100).ok()?;
-    let driven = drive(rt, rt.alloc(), &script, &limits, gate, case.patience);
+    let driven = drive(rt, rt.alloc(), &script, limits, gate, case.patience);
     let is_written = match &driven {
         Ok(closed) => Some(write_events(page, closed, script.names())),
         Err(DriveFault::OutOfMemory | DriveFault::NoWorker { .. }) => None,

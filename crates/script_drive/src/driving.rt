@@ -224,21 +224,21 @@ pub fn drive<G: Gate + Sync, R: Threads + Wait + Sync>(
     rt: &R,
     alloc: Global,
     script: &Script,
-    limits: &Limits,
+    limits: Limits,
     gate: &G,
     patience: u32,
 ) -> Result<Closed, DriveFault>
-    requires only_main { limits.now.roots ≡ OnlyMain }
-    ensures limits { IfOk result (λ closed. closed.limits ≡ limits.now) }
-    ensures well_formed { IfOk result (λ closed. WellFormed limits.now closed.log) }
+    requires only_main { limits.roots ≡ OnlyMain }
+    ensures limits { IfOk result (λ closed. closed.limits ≡ limits) }
+    ensures well_formed { IfOk result (λ closed. WellFormed limits closed.log) }
     ensures main { IfOk result
         (λ closed. Follows (own_events main closed.log) (lines_by main script.now.lines)) }
     ensures joined { IfOk result (λ closed. (u : Thread)
         → IsJoinedFrom script.now.lines main u
         → Follows (own_events u closed.log) (lines_by u script.now.lines)) }
-    ensures fault { IfErr result (IsFaultOf limits.now (goes_ahead G.free patience) script.now.lines) }
+    ensures fault { IfErr result (IsFaultOf limits (goes_ahead G.free patience) script.now.lines) }
 {
-    let Ok(unnamed) = Unnamed::new(alloc, *limits) else {
+    let Ok(unnamed) = Unnamed::new(alloc, limits) else {
         return Err(DriveFault::OutOfMemory);
     };
     drive_in::<Brand, G, R>(rt, alloc, script, unnamed, gate, patience)

@@ -46,7 +46,7 @@ impl Replayer {
     pub fn new(alloc: Global, limits: Limits) -> Result<Replayer, OutOfMemory>
         ensures { IfOk result (λ r. r ≡ unfed limits) }
     {
-        let monitor = Monitor::new(alloc, &limits)?;
+        let monitor = Monitor::new(alloc, limits)?;
         Ok(Replayer {
             text: JudgedText::new(alloc, limits, monitor),
         })

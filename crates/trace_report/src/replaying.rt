@@ -51,7 +51,7 @@ pub fn replay<I: Input, O: Output>(
     ensures write_fault { result ≡ Err ReplayFault.Write → O.failed writer.new ≡ true }
     ensures written { result ≢ Err ReplayFault.Write → O.failed writer.new ≡ false }
 {
-    let Ok(monitor) = Monitor::new(alloc, &limits) else {
+    let Ok(monitor) = Monitor::new(alloc, limits) else {
         return Err(ReplayFault::Refused {
             line: 1,
             refusal: Refusal::OutOfMemory,

@@ -59,9 +59,9 @@ impl Model for WcpClocks {
 
 impl WcpClocks {
     /// The clocks of the empty log. A refused growth is answered by `OutOfMemory`.
-    pub fn new(alloc: Global, limits: &Limits) -> Result<WcpClocks, OutOfMemory>
-        ensures width { IfOk result (λ made. width_of made ≡ limits.now.threads) }
-        ensures limits { IfOk result (λ made. limits_of made ≡ limits.now) }
+    pub fn new(alloc: Global, limits: Limits) -> Result<WcpClocks, OutOfMemory>
+        ensures width { IfOk result (λ made. width_of made ≡ limits.threads) }
+        ensures limits { IfOk result (λ made. limits_of made ≡ limits) }
         ensures empty { IfOk result (λ made. state_of made ≡ empty) }
         ensures stands { IfOk result (λ made. StandsFor [] made) }
         ensures no_work { IfOk result (λ made. work_of made ≡ record { comparisons = 0; joins = 0 }) }

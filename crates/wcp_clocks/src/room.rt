@@ -28,10 +28,10 @@ use section_sum::Summaries;
 use std::alloc::Global;
 
 // The parts of the empty log.
-pub(crate) fn new_parts(alloc: Global, limits: &Limits) -> Result<Parts, OutOfMemory>
+pub(crate) fn new_parts(alloc: Global, limits: Limits) -> Result<Parts, OutOfMemory>
     ensures parts { IfOk result AreParts }
-    ensures width { IfOk result (λ made. made.hb.width ≡ limits.now.threads) }
-    ensures limits { IfOk result (λ made. made.queues.limits ≡ limits.now) }
+    ensures width { IfOk result (λ made. made.hb.width ≡ limits.threads) }
+    ensures limits { IfOk result (λ made. made.queues.limits ≡ limits) }
     ensures state { IfOk result (λ made. state_of made ≡ empty) }
     ensures hb { IfOk result (λ made. hb_of made ≡ hb_empty) }
     ensures found { IfOk result (λ made. found_in made ≡ (λ _ _. 0)) }

@@ -101,18 +101,18 @@ fn tell_report<O: Output>(writer: &mut O, closed: &Closed, names: &Names) -> End
 fn run_threads<R: AllocGlobal + Threads + Wait + Sync, O: Output>(
     rt: &R,
     script: &Script,
-    limits: &Limits,
+    limits: Limits,
     patience: u32,
     writer: &mut O,
 ) -> Ending
-    requires only_main { limits.now.roots ≡ OnlyMain }
+    requires only_main { limits.roots ≡ OnlyMain }
     requires patience { 1 ≤ patience }
     requires writes { O.failed writer.old ≡ false }
-    ensures ran { (status_of result ≡ 0) ⊎ (status_of result ≡ 1) → Ran limits.now script.now
+    ensures ran { (status_of result ≡ 0) ⊎ (status_of result ≡ 1) → Ran limits script.now
         (O.written writer.old) (O.written writer.new) (status_of result) }
-    ensures refused { status_of result ≡ 3 → TellsRefusal limits.now script.now.lines
+    ensures refused { status_of result ≡ 3 → TellsRefusal limits script.now.lines
         (O.written writer.old) (O.written writer.new) }
-    ensures broken { status_of result ≡ 6 → Stops limits.now script.now (O.written writer.old)
+    ensures broken { status_of result ≡ 6 → Stops limits script.now (O.written writer.old)
         (O.written writer.new) }
     ensures whole { result ≢ Ending.ReadFault }
     ensures ends { HasEnded (writer.new ≡ writer.old) (O.failed writer.new) result }
@@ -151,7 +151,7 @@ fn run_lines<R: AllocGlobal + Threads + Wait + Sync, I: Input, O: Output>(
     let limits = limits_of(threads, Roots::OnlyMain);
     match Script::read(rt.alloc(), script, limits, TURNS) {
         Ok(script) => {
-            let ending = run_threads(rt, &script, &limits, patience, writer);
+            let ending = run_threads(rt, &script, limits, patience, writer);
             drop(script);
             ending
         }

@@ -18,7 +18,7 @@ parts c = record {
 
 pub returns-clause-parts : goal.returns-clause-parts
 returns-clause-parts c =
-    are_parts (parts c) c.args.limits.now.threads c.in_ok-hb.ensures.width c.in_ok-hb.ensures.empty
+    are_parts (parts c) c.args.limits.threads c.in_ok-hb.ensures.width c.in_ok-hb.ensures.empty
     (c.in_ok-rows.ensures.width ∙ c.threads.ensures.is) c.in_ok-rows.ensures.strict
     (ap (λ (b : Bounds). b.threads) c.in_ok-queues.ensures.limits)
     c.new-4.ensures.no_others (λ l. ap (λ (f : ℕ → List Closed). f l) c.in_ok-queues.ensures.closed)
