@@ -1,4 +1,5 @@
 pub mod Digits
+pub mod NameBytes
 pub mod Locations
 pub mod Steps
 pub mod Marking

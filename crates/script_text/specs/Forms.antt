@@ -4,6 +4,7 @@ use Rattle.std.specs.Prelude.{
   ℕ,
   ◌||◌,
   ◌&&◌,
+  ◌==◌,
   not,
   Bool,
   true,
@@ -21,6 +22,7 @@ use Rattle.std.specs.Prelude.{
   option_map,
   if◌then◌else◌,
 }
+use Rattle.std.specs.List.{list_all}
 use Rattle.std.specs.Str.{bytes_eq}
 use Rattle.rapid_line.specs.Cut.{has, cut}
 use Rattle.rapid_line.specs.Grammar.{IsName}
@@ -53,11 +55,13 @@ takes_number (One words.Store) = true
 takes_number (One w) = false
 takes_number Swap = true
 
--- a name is 1 to 255 bytes, any but blank, |, LF and CR
+-- the byte may stand in a name: any but blank, |, LF and CR
+abbrev pub is_name_byte : ℕ → Bool
+is_name_byte b = not (b == 32) && not (b == 124) && not (b == 10) && not (b == 13)
+
+-- a name is 1 to 255 of these bytes
 abbrev pub is_name : List ℕ → Bool
-is_name bytes =
-    nat_lt 0 (length bytes) && nat_lt (length bytes) 256 && not (has 32 bytes) && not (has 124 bytes)
-    && not (has 10 bytes) && not (has 13 bytes)
+is_name bytes = nat_lt 0 (length bytes) && nat_lt (length bytes) 256 && list_all is_name_byte bytes
 
 -- the thread and the argument are names
 pub record AreNames (said : Named) : Type 0 where

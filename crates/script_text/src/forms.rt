@@ -1,6 +1,8 @@
 //! The forms of a line: `thread word argument` and `thread word argument number`.
 ghost use Rattle.std.specs.Prelude.{◌≡◌, IfOk, IfErr, IsTrue};
-ghost use Rattle.script_text.specs.Forms.{word_of, takes_number, is_name, line_of, plain, numbered};
+ghost use Rattle.std.specs.List.{list_all};
+ghost use Rattle.script_text.specs.Forms.{word_of, takes_number, is_name, is_name_byte};
+ghost use Rattle.script_text.specs.Forms.{line_of, plain, numbered};
 ghost use Rattle.rapid_line.specs.Grammar.{IsName};
 ghost use Rattle.rapid_line.specs.Reading.{Gives};
 ghost use Rattle.script_text.specs.Forms.{form, named_of, AreNames, Fails};
@@ -49,17 +51,20 @@ impl Word {
     }
 }
 
-/// Whether the bytes are a name: 1 to 255 of them, and no blank, bar, LF or CR.
+/// Whether each byte may stand in a name: any but a blank, a bar, an LF and a CR.
+fn are_name_bytes(bytes: &[u8]) -> bool
+    ensures { result ≡ list_all is_name_byte bytes.now }
+{
+    bytes.iter().all(|byte| *byte != b' ' && *byte != b'|' && *byte != b'\n' && *byte != b'\r')
+}
+
+/// Whether the bytes are a name: 1 to 255 that may stand in one.
+#[tactic(auto, using(crate::proofs::NameBytes::name_bytes_lack))]
 fn is_name(bytes: &[u8]) -> bool
     ensures is { result ≡ is_name bytes.now }
     ensures named { IsTrue result → IsName bytes.now }
 {
-    !bytes.is_empty()
-        && bytes.len() <= 255
-        && !contains(bytes, b' ')
-        && !contains(bytes, b'|')
-        && !contains(bytes, b'\n')
-        && !contains(bytes, b'\r')
+    !bytes.is_empty() && bytes.len() <= 255 && are_name_bytes(bytes)
 }
 
 /// A line whose word takes no number.
