@@ -1,11 +1,13 @@
-//! Tests of the monitor that threads share: worked cases with the handles in one hand, and threads that call
-//! it at once.
+//! Tests of the monitor that threads share: worked cases with the handles in one hand, threads that call it
+//! at once, and the reports of closed logs.
 //!
 //! The crate has tests alone, and they see no more of the monitor than any caller does.
 #![tactic(auto)]
 
 #[cfg(test)]
 mod calls;
+#[cfg(test)]
+mod closed_reports;
 #[cfg(test)]
 mod example;
 #[cfg(test)]

@@ -9,8 +9,6 @@ mod beginnings;
 #[cfg(test)]
 mod closed_logs;
 #[cfg(test)]
-mod closed_reports;
-#[cfg(test)]
 mod command_lines;
 #[cfg(test)]
 mod commands;

@@ -1,4 +1,4 @@
-use Rattle.report_tests.proofs.closed_reports.reported.Given as goal
+use Rattle.live_tests.proofs.closed_reports.reported.Given as goal
 
 -- the monitor that was just made
 abbrev pub ghosts-run : goal.ghosts-run
