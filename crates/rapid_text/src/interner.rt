@@ -30,12 +30,23 @@ fn make_room(cache: &mut NumberCache, alloc: Global, names: &[StoredName]) -> Re
 }
 
 /// The names of one kind, each with its number.
-#[derive(Drop)]
 pub struct Interner {
     names: IndexSet<StoredName>,
     cache: NumberCache,
     alloc: Global,
     limit: u32,
+}
+
+// By hand, so that `Names`, which has four, does not prove the drop of each type within four times.
+impl Drop for Interner {
+    fn drop(self) {
+        let Interner {
+            names: _,
+            cache: _,
+            alloc: _,
+            limit: _,
+        } = self;
+    }
 }
 
 impl Model for Interner {

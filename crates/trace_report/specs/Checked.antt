@@ -35,6 +35,14 @@ AnswersText m left answer = OfText left (λ text. answer ≡ answer_for m text)
 
 -- ---- what a check prints
 
+-- events E threads T locks L variables V
+abbrev pub counts_text : Counts → List ℕ
+counts_text c =
+    labelled (codes "events ") c.events
+    ++ labelled (codes " threads ") c.threads
+    ++ labelled (codes " locks ") c.locks
+    ++ labelled (codes " variables ") c.vars
+
 -- events E threads T locks L variables V, and an LF
 abbrev pub counts_line : Counts → List ℕ
 counts_line c =

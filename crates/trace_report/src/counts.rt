@@ -15,7 +15,7 @@ pub struct Counts {
 }
 
 impl Counts {
-    ghost use Rattle.trace_report.specs.Checked.{counts_of, counts_line};
+    ghost use Rattle.trace_report.specs.Checked.{counts_of, counts_text, counts_line};
     ghost use Rattle.rapid_text.specs.Pages.{Puts};
 
     /// The counts of a trace with so many events and these names.
@@ -30,17 +30,17 @@ impl Counts {
         }
     }
 
-    fn put<W: Output>(&self, page: &mut Page, writer: &mut W) -> Result<(), WriteFault>
+    /// Puts the counts, without an ending.
+    pub(crate) fn put<W: Output>(&self, page: &mut Page, writer: &mut W) -> Result<(), WriteFault>
         ensures ok { OnOk result (Puts (W.written writer.old) page.old (W.written writer.new) page.new
-            (counts_line self.now)) }
+            (counts_text self.now)) }
         ensures healthy { OnOk result (W.failed writer.new ≡ W.failed writer.old) }
         ensures failed { OnErr result (W.failed writer.new ≡ true) }
     {
         put_count(page, writer, "events ", self.events)?;
         put_count(page, writer, " threads ", u64::from(self.threads))?;
         put_count(page, writer, " locks ", u64::from(self.locks))?;
-        put_count(page, writer, " variables ", u64::from(self.vars))?;
-        page.put(writer, b"\n")
+        put_count(page, writer, " variables ", u64::from(self.vars))
     }
 
     /// Writes the line of counts. The writer is given the whole line at once, but no clause tells how it is
@@ -54,6 +54,7 @@ impl Counts {
     {
         let mut page = Page::new();
         self.put(&mut page, writer)?;
+        page.put(writer, b"\n")?;
         page.flush(writer)
     }
 }

@@ -4,6 +4,7 @@ ghost use Rattle.event_core.specs.declared.replies.Verdict.TheVariants.{Racy};
 ghost use Rattle.rapid_text.specs.Pages.{Puts};
 ghost use Rattle.trace_report.specs.Reports.{labelled, summary_line, event_at, race_line, AreNamed};
 
+use crate::counts::Counts;
 use crate::summary::Summary;
 use event_core::Log;
 use itoa::Buffer;
@@ -38,10 +39,13 @@ pub fn put_summary<W: Output>(
     ensures healthy { OnOk result (W.failed writer.new ≡ W.failed writer.old) }
     ensures failed { OnErr result (W.failed writer.new ≡ true) }
 {
-    put_count(page, writer, "events ", summary.events)?;
-    put_count(page, writer, " threads ", u64::from(summary.threads))?;
-    put_count(page, writer, " locks ", u64::from(summary.locks))?;
-    put_count(page, writer, " variables ", u64::from(summary.vars))?;
+    let counts = Counts {
+        events: summary.events,
+        threads: summary.threads,
+        locks: summary.locks,
+        vars: summary.vars,
+    };
+    counts.put(page, writer)?;
     put_count(page, writer, " races ", summary.races)?;
     page.put(writer, b"\n")
 }

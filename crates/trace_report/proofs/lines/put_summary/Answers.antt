@@ -1,14 +1,9 @@
 use Rattle.std.proofs.lemmas.Result.{on_ok_weaker}
-use Rattle.rapid_text.proofs.Putting.{put_both, put_same}
-use Rattle.trace_report.proofs.Texts.{counts_parts}
+use Rattle.rapid_text.proofs.Putting.{put_both}
 use Rattle.trace_report.proofs.lines.put_summary.Goals as goal
 
 pub returns-clause-ok : goal.returns-clause-ok
 returns-clause-ok g c =
-    let is = counts_parts c.args.summary.now c.from.result c.from-2.result c.from-3.result c.from.ensures
-    c.from-2.ensures c.from-3.ensures in
-    on_ok_weaker c.put.result
-    (λ h. put_same is (put_both (put_both (put_both (put_both (put_both c.in_ok-put_count.ensures.ok
-    c.in_ok-put_count-2.ensures.ok) c.in_ok-put_count-3.ensures.ok) c.in_ok-put_count-4.ensures.ok)
-    c.in_ok-put_count-5.ensures.ok) h))
-    c.put.ensures.ok
+    on_ok_weaker c.put-2.result
+    (λ h. put_both (put_both c.in_ok-put.ensures.ok c.in_ok-put_count.ensures.ok) h)
+    c.put-2.ensures.ok
