@@ -31,7 +31,7 @@ fn expect_whole<R: Abort + AllocGlobal + Files + Threads + Wait + Sync>(
 
 #[test]
 fn a_trace_is_answered_whole_or_not_at_all(rt: HostRuntime) {
-    for (_, text, counts, report, status) in legal() {
+    for (text, counts, report, status) in legal() {
         expect_whole(&rt, CHECK, text, counts, 0);
         expect_whole(&rt, REPLAY, text, report, *status);
     }

@@ -8,97 +8,70 @@ use std::fs::Files;
 use std::sync::Wait;
 use std::thread::Threads;
 
-/// What the script is, its text, what a run of it prints, and the status with which it ends.
-type Case = (&'static str, &'static str, &'static str, u8);
+/// The text of a script, what a run of it prints, and the status with which it ends.
+type Case = (&'static str, &'static str, u8);
 
 const SCRIPTS: &[Case] = &[
+    // An empty script.
+    ("", "events 0 threads 0 locks 0 variables 0 races 0\n", 0),
+    // A thread that is joined before its store is loaded.
     (
-        "an empty script",
-        "",
-        "events 0 threads 0 locks 0 variables 0 races 0\n",
-        0,
-    ),
-    (
-        "a thread that is joined before its store is loaded",
         "m fork a\na w x 5\nm join a\nm r x\n",
         "events 4 threads 2 locks 0 variables 1 races 0\n",
         0,
     ),
+    // A lock that is never released.
     (
-        "a lock that is never released",
         "m acq l\nm fork a\na acq l\nm join a\n",
         "line 3: Stuck\n",
         6,
     ),
+    // A thread that no line forks.
+    ("m r x\na r x\n", "line 2: NoFork\n", 6),
+    // A thread that is forked twice.
+    ("m fork a\nm fork a\n", "line 2: BadFork\n", 6),
+    // A number above the greatest.
+    ("m w x 18446744073709551616\n", "line 1: BadNumber\n", 6),
+    // A release of a lock that is free.
+    ("m rel l\n", "line 1: NotHolder\n", 3),
+    // A thread that joins itself.
+    ("m fork a\nm join m\n", "line 2: BadJoin\n", 6),
+    // Two blanks.
+    ("m  r x\n", "line 1: BadLine\n", 6),
+    // A thread that is not joined.
     (
-        "a thread that no line forks",
-        "m r x\na r x\n",
-        "line 2: NoFork\n",
-        6,
-    ),
-    (
-        "a thread that is forked twice",
-        "m fork a\nm fork a\n",
-        "line 2: BadFork\n",
-        6,
-    ),
-    (
-        "a number above the greatest",
-        "m w x 18446744073709551616\n",
-        "line 1: BadNumber\n",
-        6,
-    ),
-    (
-        "a release of a lock that is free",
-        "m rel l\n",
-        "line 1: NotHolder\n",
-        3,
-    ),
-    (
-        "a thread that joins itself",
-        "m fork a\nm join m\n",
-        "line 2: BadJoin\n",
-        6,
-    ),
-    ("two blanks", "m  r x\n", "line 1: BadLine\n", 6),
-    (
-        "a thread that is not joined",
         "m fork a\nm join a\nm fork b\nb r x\n",
         "events 4 threads 3 locks 0 variables 1 races 0\n",
         0,
     ),
+    // A lock that its holder acquires again.
     (
-        "a lock that its holder acquires again",
         "m acq l\nm acq l\n",
         "events 2 threads 1 locks 1 variables 0 races 0\n",
         0,
     ),
+    // Swaps in turn.
     (
-        "swaps in turn",
         "m fork a\na swap x 4\nm join a\nm swap x 5\n",
         "events 6 threads 2 locks 0 variables 1 races 0\n",
         0,
     ),
+    // A swap of no number.
+    ("m swap x -1\n", "line 1: BadNumber\n", 6),
+    // A fault that two threads wait for.
     (
-        "a swap of no number",
-        "m swap x -1\n",
-        "line 1: BadNumber\n",
-        6,
-    ),
-    (
-        "a fault that two threads wait for",
         "m fork a\nm fork b\na rel l\nb join a\nm join b\n",
         "line 3: NotHolder\n",
         3,
     ),
+    // Loads that nothing orders.
     (
-        "loads that nothing orders",
         "m fork a\nm r x\na r y\n",
         "events 3 threads 2 locks 0 variables 2 races 0\n",
         0,
     ),
+    // Stores under one lock.
     (
-        "stores under one lock",
         "m fork a\nm acq l\nm w x 1\nm rel l\na acq l\na w x 2\na rel l\nm join a\nm r x\n",
         "events 9 threads 2 locks 1 variables 1 races 0\n",
         0,
@@ -107,7 +80,7 @@ const SCRIPTS: &[Case] = &[
 
 #[test]
 fn the_worked_scripts_have_their_answers(rt: HostRuntime) {
-    for (_, text, output, status) in SCRIPTS {
+    for (text, output, status) in SCRIPTS {
         let run = Run::of(SCRIPT, Text::cut(text.as_bytes(), 5, 3));
         run.expect(&rt, output, "", *status);
     }

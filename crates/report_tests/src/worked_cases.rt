@@ -24,7 +24,7 @@ fn expect_however_cut<R: Abort + AllocGlobal + Files + Threads + Wait + Sync>(
 
 #[test]
 fn legal_traces_have_their_answers_however_they_are_cut(rt: HostRuntime) {
-    for (_, text, counts, report, status) in legal() {
+    for (text, counts, report, status) in legal() {
         expect_however_cut(&rt, text.as_bytes(), (*counts, *report), *status);
     }
 }
@@ -32,7 +32,7 @@ fn legal_traces_have_their_answers_however_they_are_cut(rt: HostRuntime) {
 /// The line of the refusal is printed. An LF after the text changes nothing.
 #[test]
 fn the_first_refused_line_is_named_however_a_text_is_cut(rt: HostRuntime) {
-    for (_, text, line) in refused() {
+    for (text, line) in refused() {
         expect_however_cut(&rt, text.as_bytes(), (*line, *line), 3);
         let mut ended = Page::blank(Room::AMPLE);
         ended.keep(text.as_bytes());

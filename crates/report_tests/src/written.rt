@@ -44,7 +44,7 @@ fn copied(alloc: Global, text: &str) -> (Page, bool) {
 
 #[test]
 fn a_trace_that_is_written_again_has_the_same_report(rt: HostRuntime) {
-    for (_, text, _, report, status) in legal() {
+    for (text, _, report, status) in legal() {
         let (page, is_copied) = copied(rt.alloc(), text);
         expect(&rt, is_copied, text);
         Run::of(REPLAY, Text::whole(page.bytes())).expect(&rt, report, "", *status);
