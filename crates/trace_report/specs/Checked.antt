@@ -45,7 +45,12 @@ counts_text c =
 
 -- events E threads T locks L variables V, and an LF
 abbrev pub counts_line : Counts → List ℕ
-counts_line c = counts_text c ++ 10 ∷ []
+counts_line c =
+    labelled (codes "events ") c.events
+    ++ labelled (codes " threads ") c.threads
+    ++ labelled (codes " locks ") c.locks
+    ++ labelled (codes " variables ") c.vars
+    ++ 10 ∷ []
 
 -- the one line that tells an answer
 abbrev pub told : Result Counts ReplayFault → List ℕ
