@@ -10,7 +10,7 @@ trap 'rm -rf "$work"' EXIT
 # The program is built in a repository of its own, beside a copy of the crates that it times.
 program=$work/crates/hb_clocks_bench
 mkdir -p "$program/src" "$program/specs" "$program/proofs/Run/new" "$program/proofs/Run/step"
-for crate in event_core vector_clocks hb_clocks
+for crate in event_core hb_clocks
 do
     cp -r "$top/crates/$crate" "$work/crates"
     grep "^$crate:" "$top/crates.txt"

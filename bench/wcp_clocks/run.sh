@@ -11,7 +11,7 @@ trap 'rm -rf "$work"' EXIT
 # The program is built in a repository of its own, beside a copy of the crates that it times.
 program=$work/crates/wcp_clocks_bench
 mkdir -p "$program/src" "$program/specs" "$program/proofs/replay"
-for crate in event_core traced_mem vector_clocks hb_clocks section_sum lock_queues wcp_laws wcp_clocks \
+for crate in event_core traced_mem hb_clocks section_sum lock_queues wcp_laws wcp_clocks \
     access_check verdict_list seq_monitor
 do
     cp -r "$top/crates/$crate" "$work/crates"

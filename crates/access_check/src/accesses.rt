@@ -3,9 +3,9 @@ use crate::last_accesses::Access;
 use crate::tables::{count_event, grow_at, grow_counts, note_access, verdict_at_var};
 use crate::variable_accesses::VariableAccesses;
 use event_core::{AccessKind, Event, Limits, Op, OutOfMemory, ThreadId, VarId, Verdict};
+use hb_clocks::JoinedClocks;
 use std::alloc::Global;
 use std::marker::Model;
-use vector_clocks::JoinedClocks;
 
 /// The last accesses of each variable. Contracts see the tables.
 #[derive(Drop)]
@@ -36,7 +36,7 @@ impl Accesses {
     ghost use Rattle.event_core.specs.Refusal.{WellFormed};
     ghost use Rattle.event_core.specs.Effect.{access_of};
     ghost use Rattle.event_core.specs.Verdict.{IsVerdict};
-    ghost use Rattle.vector_clocks.specs.Counts.{counts_of};
+    ghost use Rattle.hb_clocks.specs.Counts.{counts_of};
     ghost use Rattle.access_check.specs.Tables.{HasRoom, HasRoomToSwap, KeepsRoom, Notes, Grown, GrownFor};
     ghost use Rattle.access_check.specs.Tables.{count_at, no_tables, verdict_of, RoomAt};
     ghost use Rattle.event_core.specs.declared.events.Op.{Op as Operation};

@@ -3,14 +3,14 @@
 //! takes no memory beside it.
 ghost use Rattle.std.specs.Prelude.{◌≡◌, ◌<◌, ◌-◌, ◌||◌, length, nat_lt, vec_len, vec_capacity, IsTrue};
 ghost use Rattle.std.specs.List.{list_any, position};
-ghost use Rattle.vector_clocks.specs.Counts.{counts_of};
+ghost use Rattle.hb_clocks.specs.Counts.{counts_of};
 ghost use Rattle.access_check.specs.LastAccesses.{is_of, later, racing, latest_from, put, AreNarrow};
 
 use crate::packed::PackedAccess;
 use event_core::{OutOfMemory, ThreadId};
+use hb_clocks::JoinedClocks;
 use std::alloc::Global;
 use std::marker::Model;
-use vector_clocks::JoinedClocks;
 
 /// An access: its index in the log, and its position among its thread's events, from 1.
 #[derive(Clone, Copy, Debug, PartialEq, Eq)]
@@ -147,7 +147,7 @@ impl Model for LastAccesses {
 impl LastAccesses {
     ghost use Rattle.std.specs.Prelude.{◌≡◌, [], length, IsTrue, IsOk, OnOk};
     ghost use Rattle.event_core.specs.declared.ids.ThreadId.{ThreadId as Thread};
-    ghost use Rattle.vector_clocks.specs.Counts.{counts_of};
+    ghost use Rattle.hb_clocks.specs.Counts.{counts_of};
     ghost use Rattle.access_check.specs.LastAccesses.{latest, put, has_room, no_last_accesses};
     ghost use Rattle.access_check.specs.LastAccesses.{AreNarrow, IsShort};
 

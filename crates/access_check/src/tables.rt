@@ -3,7 +3,7 @@ ghost use Rattle.std.specs.Prelude.{◌≡◌, ℕ, ◌+◌, ◌<◌, ◌≤◌,
 ghost use Rattle.event_core.specs.declared.ids.ThreadId.{ThreadId as Thread};
 ghost use Rattle.event_core.specs.declared.events.AccessKind.{AccessKind as Kind};
 ghost use Rattle.event_core.specs.declared.events.Op.{Op as Operation};
-ghost use Rattle.vector_clocks.specs.Counts.{counts_of};
+ghost use Rattle.hb_clocks.specs.Counts.{counts_of};
 ghost use Rattle.access_check.specs.LastAccesses.{AreNarrow, IsShort};
 ghost use Rattle.access_check.specs.VariableAccesses.{kept, latest_racing, kept_after};
 ghost use Rattle.access_check.specs.Tables.{last_of};
@@ -13,8 +13,8 @@ ghost use Rattle.access_check.specs.Tables.{RoomAt, RoomFor};
 use crate::last_accesses::{Access, LastAccess};
 use crate::variable_accesses::VariableAccesses;
 use event_core::{AccessKind, Event, Op, OutOfMemory, ThreadId, Verdict, grow_to};
+use hb_clocks::JoinedClocks;
 use std::alloc::Global;
-use vector_clocks::JoinedClocks;
 
 // So many variables get a table at once.
 const VARS_AT_ONCE: usize = 64;

@@ -2,9 +2,9 @@
 //! does not race nothing that was before it.
 use crate::last_accesses::{LastAccess, LastAccesses, greater};
 use event_core::{AccessKind, OutOfMemory, ThreadId, Verdict};
+use hb_clocks::JoinedClocks;
 use std::alloc::Global;
 use std::mem::size_of;
-use vector_clocks::JoinedClocks;
 
 // A variable takes so many bytes, and no other memory while it is accessed by one thread alone.
 const _: () = prove!(size_of::<VariableAccesses>() == 80);
@@ -20,7 +20,7 @@ impl VariableAccesses {
     ghost use Rattle.std.specs.Prelude.{◌≡◌, length, IsTrue, IsOk, OnOk};
     ghost use Rattle.event_core.specs.declared.ids.ThreadId.{ThreadId as Thread};
     ghost use Rattle.event_core.specs.declared.events.AccessKind.{AccessKind as Kind};
-    ghost use Rattle.vector_clocks.specs.Counts.{counts_of};
+    ghost use Rattle.hb_clocks.specs.Counts.{counts_of};
     ghost use Rattle.access_check.specs.LastAccesses.{has_room, AreNarrow, IsShort};
     ghost use Rattle.access_check.specs.VariableAccesses.{no_accesses, of_kind, kept, latest_racing};
     ghost use Rattle.access_check.specs.VariableAccesses.{kept_after};

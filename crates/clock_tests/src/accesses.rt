@@ -7,9 +7,9 @@ ghost use Rattle.access_check.specs.Tables.{count_at};
 use crate::clocks::{Run, event};
 use access_check::Accesses;
 use event_core::{Event, Limits, LockId, Op, OutOfMemory, Roots, ThreadId, VarId, Verdict};
+use hb_clocks::JoinedClocks;
 use std::alloc::Global;
 use std::process::Abort;
-use vector_clocks::JoinedClocks;
 
 const T0: ThreadId = ThreadId(0);
 

@@ -2,7 +2,7 @@
 //!
 //! Where memory is refused once, the same call is made again and gives the same numbers.
 ghost use Rattle.std.specs.Prelude.{◌≡◌, ℕ, ◌<◌, ◌≤◌, ◌↔◌, length, IfOk, OnOk, IsTrue};
-ghost use Rattle.vector_clocks.specs.Counts.{counts_of};
+ghost use Rattle.hb_clocks.specs.Counts.{counts_of};
 ghost use Rattle.hb_clocks.specs.State.{empty};
 ghost use Rattle.hb_clocks.specs.Stands.{IsAtMost};
 ghost use Rattle.hb_clocks.specs.Tables.{state_of, IsReady, IsWithin};
@@ -13,10 +13,9 @@ use cases::{
     EMPTY_CHILD, GREATER, INNER_RELEASE, MARKED, NESTED_SECTIONS, READ_AS_ONE, Row, T0, T1, T2,
 };
 use event_core::{Event, Limits, Op, OutOfMemory, Roots, SiteId, ThreadId};
-use hb_clocks::HbClocks;
+use hb_clocks::{Clock, HbClocks, JoinedClocks, Mark, ReleaseClock, Work};
 use std::alloc::Global;
 use std::process::Abort;
-use vector_clocks::{Clock, JoinedClocks, Mark, ReleaseClock, Work};
 
 /// The clocks of three threads after some events, and one beside them.
 #[derive(Drop)]

@@ -2,7 +2,7 @@
 //!
 //! On each lock at most one section is closed, and at most one release asks for it.
 ghost use Rattle.std.specs.Prelude.{◌≡◌, ℕ, ◌<◌, ◌≤◌, length};
-ghost use Rattle.vector_clocks.specs.Counts.{counts_of};
+ghost use Rattle.hb_clocks.specs.Counts.{counts_of};
 ghost use Rattle.lock_queues.specs.Queues.{closed_of, found_of, has_room, SameMeaning};
 
 mod cases;
@@ -10,10 +10,10 @@ mod cases;
 use crate::clocks::{Run, event};
 use cases::{L, ONE_SECTION, RELEASES, Row, T0, T1, TWO_THREADS};
 use event_core::{Limits, LockId, Op, Roots, ThreadId, VarId};
+use hb_clocks::{Clock, Mark, Work};
 use lock_queues::Queues;
 use std::alloc::Global;
 use std::process::Abort;
-use vector_clocks::{Clock, Mark, Work};
 
 /// The sections of three threads on two locks, and the clocks of those threads.
 #[derive(Drop)]

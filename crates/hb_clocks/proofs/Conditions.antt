@@ -27,7 +27,7 @@ use Rattle.event_core.proofs.Effects.{depth_same, depth_up}
 use Rattle.event_core.proofs.Pasts.{past_latest}
 use Rattle.hb_clocks.specs.State.{HbState, empty}
 use Rattle.hb_clocks.specs.Stands.{Stands, IsAlone, IsApart, AdmitsLegal, FewInLog}
-use Rattle.vector_clocks.specs.Marks.{IsLatest, Named, Names}
+use Rattle.hb_clocks.specs.Marks.{IsLatest, Named, Names}
 
 -- two threads with the lock would be one
 alone : (limits : Limits) (log : List Event) (e : Event) (s : HbState) → WellFormed limits (log ++ e ∷ [])

@@ -1,8 +1,14 @@
 pub mod Conditions
 pub mod Growth
 pub mod HoldLaws
+pub mod JoinLaws
 pub mod LegalSteps
+pub mod Lowering
+pub mod MadeRows
 pub mod PoSteps
+pub mod Releases
 pub mod Room
+pub mod RowLaws
 pub mod RowsWithin
 pub mod TableSteps
+pub mod Unused

@@ -9,7 +9,7 @@ use Rattle.event_core.specs.declared.events.Op.TheVariants.{Load, Acquire, Relea
 use Rattle.event_core.specs.declared.replies.OutOfMemory.{OutOfMemory}
 use Rattle.hb_clocks.specs.Tables.{Tables, HasThread, IsReady, KeepsRoom}
 use Rattle.hb_clocks.specs.Tables.{HasGrown, GrownFor, IsThreadFor, IsLockOf, threads_for, locks_for}
-use Rattle.vector_clocks.specs.Rows.{widths_of, IsMade}
+use Rattle.hb_clocks.specs.Rows.{widths_of, IsMade}
 
 pub on_ok : (r : Result (Unit {0}) OutOfMemory) (P Q : Type 0) → (P → Q) → OnOk r P → OnOk r Q
 on_ok (Ok x) P Q f p = f p

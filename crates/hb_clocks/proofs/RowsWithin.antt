@@ -1,8 +1,8 @@
 -- The rows of a thread lie within their tables, which are as wide as the clock of zeros.
 use Rattle.std.proofs.Common.{◌≡◌, ℕ, ◌<◌, List, length, replicate, ap, sym, subst, ◌∙◌, arith}
 use Rattle.std.proofs.lemmas.List.{length-replicate}
-use Rattle.vector_clocks.specs.Rows.{AreWide}
-use Rattle.vector_clocks.proofs.MadeRows.{made_within}
+use Rattle.hb_clocks.specs.Rows.{AreWide}
+use Rattle.hb_clocks.proofs.MadeRows.{made_within}
 use Rattle.hb_clocks.specs.Tables.{HasThread}
 
 pub some_width : {w : ℕ} {po hb : List (List ℕ)} {t : ℕ} → HasThread w po hb t → 0 < w

@@ -15,10 +15,10 @@ use Rattle.hb_clocks.specs.Holds.{hold_at, holds_after, is_outer, effect_by, Has
 use Rattle.hb_clocks.specs.State.{HbState, effect, without_locks, after}
 use Rattle.hb_clocks.specs.Stands.{IsFew, Admits, IsAlone}
 use Rattle.hb_clocks.specs.Tables.{Tables, hb_rows, state_from, HasThread}
-use Rattle.vector_clocks.specs.Rows.{rows_of, widths_of}
+use Rattle.hb_clocks.specs.Rows.{rows_of, widths_of}
 use Rattle.hb_clocks.specs.Tables.{HasClocks, IsReady, KeepsRoom, AreTables}
 use Rattle.hb_clocks.proofs.HoldLaws.{AloneAt, of_holder, outer_effect, depths_after, holds_length}
-use Rattle.vector_clocks.proofs.MadeRows.{made_kept, wide_kept}
+use Rattle.hb_clocks.proofs.MadeRows.{made_kept, wide_kept}
 
 -- a row that is written twice
 row_again : (t : ℕ) (g h : ℕ → ℕ) (f : ℕ → ℕ → ℕ) → with_row t g (with_row t h f) ≡ with_row t g f

@@ -1,4 +1,10 @@
+pub mod Counts
 pub mod Holds
+pub mod Marks
+pub mod Released
+pub mod Releases
+pub mod Rows
 pub mod Stands
 pub mod State
 pub mod Tables
+pub mod Work

@@ -2,7 +2,7 @@
 use Rattle.std.specs.Prelude.{ℕ}
 use Rattle.event_core.specs.declared.ids.ThreadId.{ThreadId}
 use Rattle.event_core.specs.declared.events.Event.{Event}
-use Rattle.vector_clocks.specs.Marks.{Named}
+use Rattle.hb_clocks.specs.Marks.{Named}
 use Rattle.event_core.specs.Effect.{Effect, effect_of, Opens, Joins}
 use Rattle.event_core.specs.Rows.{no_clock, no_rows, with_row, Rows, to_child, rows_after, clock_after}
 use Rattle.event_core.specs.Rows.{depth_after}

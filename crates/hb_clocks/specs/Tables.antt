@@ -5,7 +5,7 @@ use Rattle.event_core.specs.declared.events.Event.{Event}
 use Rattle.event_core.specs.declared.events.Op.{Op}
 use Rattle.event_core.specs.declared.events.Op.TheVariants.{Acquire, Release, Fork, Join}
 use Rattle.event_core.specs.Rows.{Rows}
-use Rattle.vector_clocks.specs.Rows.{rows_of, widths_of, IsMade, AreWide}
+use Rattle.hb_clocks.specs.Rows.{rows_of, widths_of, IsMade, AreWide}
 use Rattle.hb_clocks.specs.State.{HbState}
 use Rattle.hb_clocks.specs.Holds.{depths_of, HasHold}
 use Rattle.hb_clocks.specs.declared.holds.Hold.{Hold}

@@ -13,22 +13,24 @@ ghost use Rattle.event_core.specs.declared.bounds.Limits.{Limits as Bounds};
 ghost use Rattle.event_core.specs.Order.{Po, Hb};
 ghost use Rattle.event_core.specs.Refusal.{WellFormed};
 ghost use Rattle.event_core.specs.Rows.{join, Counted};
-ghost use Rattle.vector_clocks.specs.Counts.{counts_of};
-ghost use Rattle.vector_clocks.specs.Marks.{IsLatest, Names};
-ghost use Rattle.vector_clocks.specs.Work.{more_joins};
+ghost use Rattle.hb_clocks.specs.Counts.{counts_of};
+ghost use Rattle.hb_clocks.specs.Marks.{IsLatest, Names};
+ghost use Rattle.hb_clocks.specs.Work.{more_joins};
 ghost use Rattle.hb_clocks.specs.State.{empty, after, effect, joins_of, latest_mark};
 ghost use Rattle.hb_clocks.specs.Stands.{Stands, Admits, IsFew};
 ghost use Rattle.hb_clocks.specs.Tables.{tables, state_of, IsReady, KeepsRoom, IsWithin, HasThread};
 ghost use Rattle.hb_clocks.specs.Tables.{GrownFor, IsThreadFor, IsLockOf, threads_for, locks_for};
-ghost use Rattle.vector_clocks.specs.Rows.{IsMade};
+ghost use Rattle.hb_clocks.specs.Rows.{IsMade};
 
+use crate::clock::Clock;
 use crate::holds::{Hold, NO_HOLD, may_enter};
+use crate::mark::Mark;
+use crate::rows::{is_made, make_row, row_or};
 use crate::step::advance_tables;
+use crate::work::Work;
 use event_core::{Event, Limits, LockId, Op, OutOfMemory, ThreadId, grow_to};
 use std::alloc::Global;
 use std::marker::Model;
-use vector_clocks::rows::{is_made, make_row, row_or};
-use vector_clocks::{Clock, Mark, Work};
 
 /// The clocks of all threads and locks.
 ///

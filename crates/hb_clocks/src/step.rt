@@ -4,15 +4,16 @@ ghost use Rattle.std.specs.Prelude.{◌≡◌, ◌+◌, ◌<◌, ◌^◌, length
 ghost use Rattle.event_core.specs.Rows.{join, with_row, brought, to_child, to_lock};
 ghost use Rattle.hb_clocks.specs.Holds.{effect_by, holds_after, HasHold};
 ghost use Rattle.hb_clocks.specs.State.{without_locks, joins_of, after, effect};
-ghost use Rattle.vector_clocks.specs.Work.{more_joins};
+ghost use Rattle.hb_clocks.specs.Work.{more_joins};
 ghost use Rattle.hb_clocks.specs.Stands.{Admits, IsApart, IsFew};
 ghost use Rattle.hb_clocks.specs.Tables.{hb_rows, state_from, HasThread, HasClocks};
-ghost use Rattle.vector_clocks.specs.Rows.{rows_of, widths_of};
+ghost use Rattle.hb_clocks.specs.Rows.{rows_of, widths_of};
 
+use crate::clock::Clock;
 use crate::holds::{Hold, count_depth};
+use crate::rows::{bump_row, copy_row, copy_rows, join_row, join_rows};
+use crate::work::Work;
 use event_core::{Event, Op, ThreadId};
-use vector_clocks::rows::{bump_row, copy_row, copy_rows, join_row, join_rows};
-use vector_clocks::{Clock, Work};
 
 // An outer acquire takes the clock of the lock's latest outer release, and a join the clocks of the
 // thread that it names.

@@ -8,7 +8,7 @@ use Rattle.std.proofs.lemmas.Bool.{cases_eq}
 use mathlib.Core.Logic.{inl, inr}
 use Rattle.event_core.specs.Rows.{with_row}
 use Rattle.event_core.proofs.Growing.{row_same, row_other}
-use Rattle.vector_clocks.specs.Marks.{Named}
+use Rattle.hb_clocks.specs.Marks.{Named}
 use Rattle.lock_queues.specs.declared.rooms.Room.{Room}
 use Rattle.lock_queues.specs.Rooms.{has_room_in, opened_in, position_of, AreRooms}
 use Rattle.lock_queues.proofs.Lookup.{row_kept, looked_past, looked_set, looked_push, looked_remove}

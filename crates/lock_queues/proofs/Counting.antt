@@ -5,7 +5,7 @@ use Rattle.std.proofs.Common.{refl, ap, arith}
 use Rattle.std.proofs.lemmas.Bool.{cases_Bool, leb-true, le-leb}
 use mathlib.Core.Logic.{inl, inr}
 use Rattle.event_core.specs.Closed.{Has, first, later, is_counted, number_counted}
-use Rattle.vector_clocks.specs.Counts.{counts_of}
+use Rattle.hb_clocks.specs.Counts.{counts_of}
 use Rattle.lock_queues.specs.Sections.{Section, closed_as, section_at, closed_at, IsCounted, AreRising}
 use Rattle.lock_queues.specs.Searched.{CountsEarlier}
 

@@ -7,7 +7,7 @@ use Rattle.std.specs.Option.{option_or}
 use mathlib.Core.Logic.{inl, inr}
 use Rattle.event_core.specs.Closed.{Closed, below_closed}
 use Rattle.event_core.specs.Rows.{no_clock}
-use Rattle.vector_clocks.specs.Counts.{counts_of}
+use Rattle.hb_clocks.specs.Counts.{counts_of}
 use Rattle.lock_queues.specs.Sections.{Section, closed_as, section_at, closed_at, AreRising, latest_counted}
 use Rattle.lock_queues.specs.Searched.{IsLatestBefore}
 use Rattle.lock_queues.proofs.Counting.{CountsBefore, number, counts, counts_head, skips_head, rest_before}

@@ -30,7 +30,7 @@ use Rattle.event_core.proofs.Pasts.{past_longer}
 use Rattle.event_core.proofs.SectionNumbers.{number_longer, number_last}
 use Rattle.event_core.proofs.SectionNumbers.{ended_none, ended_snoc}
 use Rattle.event_core.proofs.SectionSteps.{each_section}
-use Rattle.vector_clocks.specs.Marks.{Named, Names}
+use Rattle.hb_clocks.specs.Marks.{Named, Names}
 use Rattle.lock_queues.specs.Queues.{Tables, closed_of, opened_of, found_of}
 use Rattle.lock_queues.specs.Standing.{AreSections, AreOf, Stands, IsOther}
 use Rattle.lock_queues.specs.Laws.{SameStand, OthersLeaveThem, HoldersHaveEntered}

@@ -3,7 +3,7 @@ use Rattle.std.proofs.Common.{◌≡◌, ℕ, ◌<◌, ◌≤◌, true, List, le
 use Rattle.std.proofs.lemmas.List.{get_or_read}
 use Rattle.event_core.specs.Bounds.{Bounds}
 use Rattle.event_core.specs.Closed.{number_counted}
-use Rattle.vector_clocks.specs.Counts.{counts_of}
+use Rattle.hb_clocks.specs.Counts.{counts_of}
 use Rattle.lock_queues.specs.Sections.{closed_as, closed_at, section_of, section_at, entry_at, Counts}
 use Rattle.lock_queues.specs.Sections.{CountsEntry, AreRising}
 use Rattle.lock_queues.specs.Searched.{CountsEarlier}

@@ -7,8 +7,8 @@ use Rattle.std.proofs.lemmas.List.{take-append-le, drop-append-le, get_or_append
 use Rattle.std.proofs.lemmas.List.{length_push, map_push}
 use mathlib.Core.Logic.{inl, inr}
 use Rattle.event_core.specs.Closed.{Closed}
-use Rattle.vector_clocks.specs.Counts.{counts_of}
-use Rattle.vector_clocks.specs.Releases.{Place, numbers_at, raised, IsReadable}
+use Rattle.hb_clocks.specs.Counts.{counts_of}
+use Rattle.hb_clocks.specs.Releases.{Place, numbers_at, raised, IsReadable}
 use Rattle.lock_queues.specs.declared.sections.Entry.{Entry}
 use Rattle.lock_queues.specs.Sections.{Section, closed_as, section_at, no_section, section_of, sections_of}
 use Rattle.lock_queues.specs.Sections.{closed_at, entry_at, AreRising}

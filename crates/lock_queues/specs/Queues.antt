@@ -3,7 +3,7 @@ use Rattle.std.specs.Prelude.{ℕ, ◌≡◌, ◌+◌, ◌*◌, ◌<◌, ◌≤�
 use Rattle.std.specs.Prelude.{sum_by}
 use Rattle.event_core.specs.Bounds.{Bounds}
 use Rattle.event_core.specs.Closed.{Closed, number_counted}
-use Rattle.vector_clocks.specs.Counts.{counts_of}
+use Rattle.hb_clocks.specs.Counts.{counts_of}
 use Rattle.lock_queues.specs.Sections.{Section, closed_as, sections_of, AreReadable, AreRising}
 use Rattle.lock_queues.specs.Rooms.{opened_in, has_room_in}
 use Rattle.lock_queues.specs.Queue.{Kept, queue_at}

@@ -1,7 +1,7 @@
 -- The rooms that threads have made on one lock. Each thread has one at most.
 use Rattle.std.specs.Prelude.{ℕ, ◌≡◌, ◌<◌, List, [], ◌∷◌, cond, nat_eq, suc, Bool, true, false}
 use Rattle.std.specs.Prelude.{Option, Some, None, IfSome, slice_index_or}
-use Rattle.vector_clocks.specs.Marks.{Named}
+use Rattle.hb_clocks.specs.Marks.{Named}
 use Rattle.lock_queues.specs.declared.rooms.Room.{Room}
 
 abbrev pub position_of : Option Named → ℕ

@@ -2,8 +2,8 @@
 use Rattle.std.specs.Prelude.{ℕ, ◌≡◌, ◌-◌, ◌<◌, ◌≤◌, List, length, IsTrue, Some, None}
 use Rattle.event_core.specs.Closed.{Closed, Has, is_counted, below_closed}
 use Rattle.event_core.specs.Rows.{with_row, no_clock}
-use Rattle.vector_clocks.specs.declared.release.ReleaseClock.{ReleaseClock}
-use Rattle.vector_clocks.specs.Released.{thread_of, before_of, clock_of}
+use Rattle.hb_clocks.specs.declared.release.ReleaseClock.{ReleaseClock}
+use Rattle.hb_clocks.specs.Released.{thread_of, before_of, clock_of}
 use Rattle.lock_queues.specs.Sections.{closed_at, latest_counted}
 use Rattle.lock_queues.specs.Queues.{Tables, closed_of, opened_of, found_of, has_room}
 

@@ -4,9 +4,9 @@ use Rattle.std.specs.Prelude.{slice_index_or, Option, Some, None, cond}
 use Rattle.std.specs.Option.{option_or}
 use Rattle.std.specs.Simd.Lanes.{zip2}
 use Rattle.event_core.specs.Closed.{Closed, is_counted}
-use Rattle.vector_clocks.specs.Counts.{counts_of}
-use Rattle.vector_clocks.specs.Marks.{Named}
-use Rattle.vector_clocks.specs.Releases.{Place, numbers_at, raised, IsReadable, IsAdded}
+use Rattle.hb_clocks.specs.Counts.{counts_of}
+use Rattle.hb_clocks.specs.Marks.{Named}
+use Rattle.hb_clocks.specs.Releases.{Place, numbers_at, raised, IsReadable, IsAdded}
 use Rattle.lock_queues.specs.declared.sections.Entry.{Entry}
 
 -- the mark of the acquire, and the numbers of the release's clock, beyond which each is 0

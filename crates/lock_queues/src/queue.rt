@@ -9,9 +9,9 @@ use crate::rooms::{Room, find};
 use crate::search::search_from;
 use crate::sections::{ClosedSections, Entry};
 use event_core::{OutOfMemory, ThreadId, grow_to};
+use hb_clocks::{Clock, Mark, ReleaseClock, ReleaseClocks, Work};
 use std::alloc::Global;
 use std::marker::Model;
-use vector_clocks::{Clock, Mark, ReleaseClock, ReleaseClocks, Work};
 
 #[derive(Drop)]
 pub(crate) struct Queue {
@@ -45,9 +45,9 @@ impl Queue {
     ghost use Rattle.std.specs.Prelude.{◌≡◌, ℕ, ◌+◌, ◌-◌, ◌<◌, ◌≤◌, ◌^◌, length, max, cond};
     ghost use Rattle.std.specs.Prelude.{true, false, MatchOption, IsTrue, OnOk, OnErr, slice_index};
     ghost use Rattle.event_core.specs.Rows.{with_row};
-    ghost use Rattle.vector_clocks.specs.Counts.{counts_of};
+    ghost use Rattle.hb_clocks.specs.Counts.{counts_of};
     ghost use Rattle.lock_queues.specs.Rooms.{has_room_in, opened_in};
-    ghost use Rattle.vector_clocks.specs.Releases.{before};
+    ghost use Rattle.hb_clocks.specs.Releases.{before};
     ghost use Rattle.lock_queues.specs.Sections.{entry_at, closed_as, section_of, CountsEntry};
     ghost use Rattle.lock_queues.specs.Sections.{AreReadable, HasJoined};
     ghost use Rattle.lock_queues.specs.Searched.{IsSection};

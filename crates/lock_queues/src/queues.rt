@@ -16,9 +16,9 @@ ghost use Rattle.lock_queues.specs.Queues.{AreWide, count_rooms};
 
 use crate::queue::Queue;
 use event_core::{Limits, LockId, OutOfMemory, ThreadId, grow_to};
+use hb_clocks::{Clock, Mark, ReleaseClock, ReleaseClocks, Work};
 use std::alloc::Global;
 use std::marker::Model;
-use vector_clocks::{Clock, Mark, ReleaseClock, ReleaseClocks, Work};
 
 /// Of each lock its closed critical sections in the order of their releases, and of each thread how
 /// many of them it has found counted.
@@ -64,10 +64,10 @@ impl Queues {
     ghost use Rattle.event_core.specs.Order.{Hb};
     ghost use Rattle.event_core.specs.Closed.{OpensSection, EndsSection, below_closed};
     ghost use Rattle.event_core.specs.Rows.{no_clock, with_row, Counted};
-    ghost use Rattle.vector_clocks.specs.Counts.{counts_of};
-    ghost use Rattle.vector_clocks.specs.Marks.{Names};
-    ghost use Rattle.vector_clocks.specs.Released.{thread_of, before_of, clock_of};
-    ghost use Rattle.vector_clocks.specs.Releases.{before};
+    ghost use Rattle.hb_clocks.specs.Counts.{counts_of};
+    ghost use Rattle.hb_clocks.specs.Marks.{Names};
+    ghost use Rattle.hb_clocks.specs.Released.{thread_of, before_of, clock_of};
+    ghost use Rattle.hb_clocks.specs.Releases.{before};
     ghost use Rattle.lock_queues.specs.Queues.{closed_of, opened_of, found_of, has_room, counted_of};
     ghost use Rattle.lock_queues.specs.Queues.{SameMeaning, GrownFor};
     ghost use Rattle.lock_queues.specs.Sections.{closed_at, latest_counted};

@@ -3,7 +3,7 @@ ghost use Rattle.std.specs.Prelude.{◌≡◌, ℕ, ◌<◌, length, Some};
 ghost use Rattle.lock_queues.specs.Rooms.{place_in};
 
 use event_core::ThreadId;
-use vector_clocks::Mark;
+use hb_clocks::Mark;
 
 /// Room for a thread's next section on the lock, with the mark of its acquire once it is entered.
 #[derive(Drop)]

@@ -2,8 +2,8 @@
 ghost use Rattle.std.specs.Prelude.{◌≡◌, ℕ, ◌+◌, ◌<◌, ◌≤◌, ◌^◌, length};
 ghost use Rattle.lock_queues.specs.Sections.{mark_at, first_of, Counts};
 
+use hb_clocks::{Clock, Mark, Work};
 use std::mem::replace;
-use vector_clocks::{Clock, Mark, Work};
 
 // How many of the acquires the clock counts one after another from the first, of which so many are known
 // to be. The first of the others that is not counted ends the search.

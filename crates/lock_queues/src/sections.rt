@@ -9,10 +9,10 @@
 ghost use Rattle.std.specs.Prelude.{◌≡◌};
 
 use event_core::OutOfMemory;
+use hb_clocks::{Mark, ReleasePlace};
 use std::alloc::Global;
 use std::marker::Model;
 use std::mem::size_of;
-use vector_clocks::{Mark, ReleasePlace};
 
 /// A closed section: the mark of its acquire, and where the clock of its release stands.
 #[derive(Clone, Copy)]

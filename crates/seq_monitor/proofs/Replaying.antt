@@ -25,7 +25,7 @@ use Rattle.event_core.proofs.Growth.{well_formed_grown}
 use Rattle.event_core.proofs.Legality.{AllNone, all_none, when_none}
 use Rattle.event_core.proofs.LogFacts.{of_does}
 use Rattle.event_core.proofs.RunFacts.{allowed_legal}
-use Rattle.vector_clocks.specs.Marks.{IsLatest}
+use Rattle.hb_clocks.specs.Marks.{IsLatest}
 use Rattle.traced_mem.specs.Meaning.{Meaning}
 use Rattle.traced_mem.specs.Refusals.{refusal_at, reasons_at}
 use Rattle.traced_mem.specs.After.{after, holds_after}

@@ -13,7 +13,7 @@ use Rattle.event_core.specs.Rows.{join, with_row}
 use Rattle.event_core.specs.Effect.{Accesses}
 use Rattle.hb_clocks.specs.State as hb
 use Rattle.hb_clocks.specs.Tables as hb_tables
-use Rattle.vector_clocks.specs.Work.{Done, more_joins}
+use Rattle.hb_clocks.specs.Work.{Done, more_joins}
 use Rattle.lock_queues.specs.Queues.{closed_of}
 use Rattle.section_sum.specs.Sums.{Sums, noted_of, is_access, SameOthers}
 use Rattle.section_sum.specs.Sums.{KeepsRoom as sum_rooms}

@@ -13,11 +13,11 @@ use Rattle.event_core.specs.Effect.{Effect, Closes}
 use Rattle.event_core.specs.declared.events.Event.{Event}
 use Rattle.event_core.specs.declared.ids.LockId.{LockId}
 use Rattle.hb_clocks.specs.State.{HbState, effect, hb_row}
-use Rattle.vector_clocks.proofs.Releases.{bump_same}
+use Rattle.hb_clocks.proofs.Releases.{bump_same}
 use Rattle.event_core.proofs.Growing.{row_same, row_other}
 use Rattle.lock_queues.specs.Sections.{closed_as, no_section}
-use Rattle.vector_clocks.specs.Releases.{before}
-use Rattle.vector_clocks.proofs.Lowering.{before_bumped}
+use Rattle.hb_clocks.specs.Releases.{before}
+use Rattle.hb_clocks.proofs.Lowering.{before_bumped}
 use Rattle.section_sum.specs.Sums.{Sums, noted_of, others_of}
 use Rattle.wcp_clocks.specs.Met.{release_at, met_clocks, AreNumbers}
 

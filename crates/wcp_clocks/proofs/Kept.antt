@@ -1,7 +1,7 @@
 -- Tables whose clocks keep their widths.
 use Rattle.std.proofs.Common.{◌≡◌, ℕ, ◌<◌, List, length, refl, sym, subst}
-use Rattle.vector_clocks.specs.Rows.{widths_of, IsMade}
-use Rattle.vector_clocks.proofs.MadeRows.{made_kept, made_within, wide_kept}
+use Rattle.hb_clocks.specs.Rows.{widths_of, IsMade}
+use Rattle.hb_clocks.proofs.MadeRows.{made_kept, made_within, wide_kept}
 use Rattle.wcp_clocks.specs.StrictRows.{StrictTables, HasThread, HasLock, SameRoom, AreTables}
 
 -- the clocks have the widths that they had

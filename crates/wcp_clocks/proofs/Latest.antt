@@ -6,7 +6,7 @@ use Rattle.event_core.specs.declared.ids.ThreadId.{ThreadId}
 use Rattle.event_core.specs.Refusal.{WellFormed}
 use Rattle.event_core.specs.Rows.{Counted, join}
 use Rattle.event_core.specs.Wcp.{Below}
-use Rattle.vector_clocks.specs.Marks.{IsLatest}
+use Rattle.hb_clocks.specs.Marks.{IsLatest}
 use Rattle.hb_clocks.proofs.Conditions.{po_latest}
 use Rattle.wcp_laws.proofs.Ordering.{below_is_latest}
 use Rattle.wcp_clocks.specs.declared.parts.Parts.{Parts}

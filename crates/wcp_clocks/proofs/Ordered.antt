@@ -7,7 +7,7 @@ use Rattle.event_core.specs.declared.events.Event.{Event}
 use Rattle.event_core.specs.declared.events.Op.{Op}
 use Rattle.event_core.specs.declared.events.Op.TheVariants.{Load, Store, Acquire, Release, Fork, Join}
 use Rattle.event_core.specs.Bounds.{Bounds}
-use Rattle.vector_clocks.specs.Rows.{IsMade}
+use Rattle.hb_clocks.specs.Rows.{IsMade}
 use Rattle.hb_clocks.specs.Tables as hb
 use Rattle.hb_clocks.proofs.Room.{thread_stays}
 use Rattle.wcp_clocks.specs.declared.parts.Parts.{Parts}

@@ -5,7 +5,7 @@ use Rattle.event_core.specs.Rows.{join, no_clock, with_row}
 use Rattle.event_core.specs.Effect.{Effect}
 use Rattle.event_core.proofs.Growing.{row_same}
 use Rattle.hb_clocks.specs.State as hb
-use Rattle.vector_clocks.specs.Work.{Done, more_joins}
+use Rattle.hb_clocks.specs.Work.{Done, more_joins}
 use Rattle.wcp_laws.specs.Step.{effect, extra}
 use Rattle.wcp_clocks.specs.declared.parts.Parts.{Parts}
 use Rattle.wcp_clocks.specs.StrictRows.{StrictTables, strict_of}

@@ -2,8 +2,8 @@
 use Rattle.std.proofs.Common.{◌≡◌, ℕ, max, sym, subst, ◌∙◌, arith}
 use Rattle.std.proofs.Common.{List, length, ap}
 use Rattle.std.proofs.lemmas.List.{ext_get_or}
-use Rattle.vector_clocks.specs.Counts.{counts_of}
-use Rattle.vector_clocks.specs.Rows.{row_at, rows_of, IsMade}
+use Rattle.hb_clocks.specs.Counts.{counts_of}
+use Rattle.hb_clocks.specs.Rows.{row_at, rows_of, IsMade}
 use Rattle.std.proofs.Common.{inl, inr, ◌⊎◌}
 use Rattle.std.proofs.lemmas.Bool.{cases_eq}
 use Rattle.event_core.specs.Rows.{no_clock, join, with_row, to_child}

@@ -7,8 +7,8 @@ use Rattle.std.proofs.lemmas.List.Elements.{All-head, All-tail, All-nil, All-con
 use Rattle.std.proofs.lemmas.Bool.{ne_eqb, leb-true}
 use Rattle.event_core.specs.Rows.{join, with_row}
 use Rattle.event_core.proofs.Growing.{row_same}
-use Rattle.vector_clocks.specs.Rows.{rows_of}
-use Rattle.vector_clocks.specs.Work.{Done}
+use Rattle.hb_clocks.specs.Rows.{rows_of}
+use Rattle.hb_clocks.specs.Work.{Done}
 use Rattle.event_core.specs.declared.events.AccessKind.{AccessKind}
 use Rattle.event_core.specs.declared.events.AccessKind.TheVariants.{Read, Write}
 use Rattle.event_core.specs.Closed.{Closed, Has, first, later}

@@ -12,7 +12,7 @@ use Rattle.event_core.specs.Effect.{Effect, Accesses, Opens, Closes, Forks, Join
 use Rattle.event_core.proofs.Counting.{grown_length}
 use Rattle.event_core.proofs.Growing.{row_same}
 use Rattle.event_core.proofs.Growth.{well_formed_front}
-use Rattle.vector_clocks.specs.Work.{Done}
+use Rattle.hb_clocks.specs.Work.{Done}
 use Rattle.wcp_laws.specs.Conditions.{found_at}
 use Rattle.wcp_laws.specs.Found.{total_found, threads_in}
 use Rattle.wcp_laws.specs.Step.{effect}

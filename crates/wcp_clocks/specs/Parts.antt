@@ -12,7 +12,7 @@ use Rattle.event_core.specs.Effect.{Effect, Accesses, Opens, Closes, Joins}
 use Rattle.hb_clocks.specs.State.{HbState}
 use Rattle.hb_clocks.specs.Stands.{Admits, IsFew}
 use Rattle.hb_clocks.specs.Tables as hb
-use Rattle.vector_clocks.specs.Work.{Done}
+use Rattle.hb_clocks.specs.Work.{Done}
 use Rattle.section_sum.specs.Sums.{noted_of, HasRoom, IsAlone}
 use Rattle.lock_queues.specs.Sections.{latest_counted}
 use Rattle.lock_queues.specs.Queues.{closed_of, opened_of, found_of, has_room}

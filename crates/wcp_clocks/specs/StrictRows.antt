@@ -1,7 +1,7 @@
 -- The tables of strict clocks: what they mean, and the room in them.
 use Rattle.std.specs.Prelude.{◌≡◌, ℕ, ◌<◌, List, replicate}
 use Rattle.event_core.specs.Rows.{Rows}
-use Rattle.vector_clocks.specs.Rows.{rows_of, IsMade, AreWide}
+use Rattle.hb_clocks.specs.Rows.{rows_of, IsMade, AreWide}
 
 -- a clock for each thread and one for each lock; none of numbers where none was made
 pub record StrictTables : Type 0 where

@@ -16,8 +16,8 @@ ghost use Rattle.event_core.specs.Refusal.{WellFormed};
 ghost use Rattle.event_core.specs.Count.{Counts};
 ghost use Rattle.event_core.specs.Rows.{Counted, join};
 ghost use Rattle.event_core.specs.Wcp.{Strict, Below};
-ghost use Rattle.vector_clocks.specs.Counts.{counts_of};
-ghost use Rattle.vector_clocks.specs.Marks.{IsLatest};
+ghost use Rattle.hb_clocks.specs.Counts.{counts_of};
+ghost use Rattle.hb_clocks.specs.Marks.{IsLatest};
 ghost use Rattle.hb_clocks.specs.State.{empty as hb_empty, after as hb_after};
 ghost use Rattle.hb_clocks.specs.Stands.{IsHeldRelease};
 ghost use Rattle.wcp_laws.specs.State.{empty};
@@ -34,9 +34,9 @@ use crate::effects::step;
 use crate::parts::Parts;
 use crate::room::{are_both_ready, are_ready, make_ready, new_parts, prepare_both, prepare_parts};
 use event_core::{Event, Limits, OutOfMemory, ThreadId, VarId};
+use hb_clocks::JoinedClocks;
 use std::alloc::Global;
 use std::marker::Model;
-use vector_clocks::JoinedClocks;
 
 /// The clocks of the strict relation, and of all that it stands on.
 ///

@@ -22,9 +22,9 @@ use crate::parts::Parts;
 use crate::sources::take_sources;
 use crate::strict::StrictRows;
 use event_core::{AccessKind, Event, LockId, Op, ThreadId, VarId};
+use hb_clocks::Work;
 use lock_queues::Queues;
 use section_sum::Summaries;
-use vector_clocks::Work;
 
 /// The step of the event.
 #[inline(always)]

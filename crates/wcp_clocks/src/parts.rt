@@ -1,10 +1,9 @@
 //! The parts that the clocks stand on.
 use crate::holdings::Holdings;
 use crate::strict::StrictRows;
-use hb_clocks::HbClocks;
+use hb_clocks::{HbClocks, Work};
 use lock_queues::Queues;
 use section_sum::Summaries;
-use vector_clocks::Work;
 
 /// Clocks of program order and happens-before, of the strict relation, what closed sections saw, and
 /// the work that was done.

@@ -14,9 +14,9 @@ ghost use Rattle.wcp_clocks.specs.StrictRows.{strict_of, HasThread, SameRoom};
 
 use crate::strict::StrictRows;
 use event_core::{AccessKind, LockId, ThreadId, VarId};
+use hb_clocks::Work;
 use lock_queues::Queues;
 use section_sum::Summaries;
-use vector_clocks::Work;
 
 // The thread's strict clock takes what its access meets under the lock, at most two clocks. A clock that
 // counts a release counts all that is below it, so a release that is counted already brings nothing.

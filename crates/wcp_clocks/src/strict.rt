@@ -2,19 +2,19 @@
 ghost use Rattle.std.specs.Prelude.{◌≡◌, ◌≢◌, ℕ, ◌+◌, ◌*◌, ◌<◌, ◌≤◌, ◌^◌, ◌↔◌, length, IfOk, OnOk, IsTrue};
 ghost use Rattle.std.specs.Prelude.{nat_le};
 ghost use Rattle.event_core.specs.Rows.{join, with_row, no_rows};
-ghost use Rattle.vector_clocks.specs.Counts.{counts_of};
-ghost use Rattle.vector_clocks.specs.Released.{thread_of, before_of, clock_of};
-ghost use Rattle.vector_clocks.specs.Rows.{row_at};
+ghost use Rattle.hb_clocks.specs.Counts.{counts_of};
+ghost use Rattle.hb_clocks.specs.Released.{thread_of, before_of, clock_of};
+ghost use Rattle.hb_clocks.specs.Rows.{row_at};
 ghost use Rattle.wcp_clocks.specs.StrictRows.{strict_of, HasThread, HasLock, KeepsRoom, SameRoom};
 ghost use Rattle.wcp_clocks.specs.StrictRows.{SameClocks};
 
 use event_core::{LockId, OutOfMemory, ThreadId};
-use std::alloc::Global;
-use std::marker::Model;
-use vector_clocks::rows::{
+use hb_clocks::rows::{
     copy_row, copy_rows, is_made, join_row, join_row_release, join_rows, make_row, row_or,
 };
-use vector_clocks::{Clock, ReleaseClock, Work};
+use hb_clocks::{Clock, ReleaseClock, Work};
+use std::alloc::Global;
+use std::marker::Model;
 
 /// The clocks of the strict relation. Only `new` and the calls that make room take memory.
 #[derive(Drop)]

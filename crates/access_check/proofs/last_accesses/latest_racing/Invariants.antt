@@ -1,5 +1,5 @@
 use Rattle.std.proofs.Common.{◌≡◌, take}
-use Rattle.vector_clocks.specs.Counts.{counts_of}
+use Rattle.hb_clocks.specs.Counts.{counts_of}
 use Rattle.access_check.specs.LastAccesses.{latest_from}
 use Rattle.access_check.proofs.last_accesses.latest_racing.Given as goal
 

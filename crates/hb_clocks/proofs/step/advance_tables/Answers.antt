@@ -5,12 +5,12 @@ use Rattle.event_core.specs.Rows.{clock_after, brought, with_row, to_child, to_l
 use Rattle.event_core.specs.Effect.{Effect}
 use Rattle.hb_clocks.specs.Holds.{effect_by}
 use Rattle.hb_clocks.specs.State.{without_locks, joins_of}
-use Rattle.vector_clocks.specs.Work.{Done}
+use Rattle.hb_clocks.specs.Work.{Done}
 use Rattle.hb_clocks.specs.Tables.{hb_rows, HasThread, HasClocks}
-use Rattle.vector_clocks.specs.Rows.{rows_of, widths_of}
+use Rattle.hb_clocks.specs.Rows.{rows_of, widths_of}
 use Rattle.hb_clocks.proofs.TableSteps.{child_step, lock_step, own_few, brought_few, depth_few, exact_step}
 use Rattle.hb_clocks.proofs.TableSteps.{effect_told, thread_kept, clocks_kept}
-use Rattle.vector_clocks.proofs.MadeRows.{row_within}
+use Rattle.hb_clocks.proofs.MadeRows.{row_within}
 use Rattle.hb_clocks.proofs.step.advance_tables.Goals as goal
 
 pub count_depth-outer-requires-clause-few : goal.count_depth-outer-requires-clause-few

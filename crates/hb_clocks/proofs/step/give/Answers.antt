@@ -1,6 +1,6 @@
 use Rattle.std.proofs.Common.{length, ap, sym, subst, ◌∙◌}
 use Rattle.hb_clocks.specs.Tables.{HasClocks}
-use Rattle.vector_clocks.proofs.MadeRows.{made_within, read_width}
+use Rattle.hb_clocks.proofs.MadeRows.{made_within, read_width}
 use Rattle.hb_clocks.proofs.RowsWithin.{some_width, po_within, hb_within}
 use Rattle.hb_clocks.proofs.step.give.Goals as goal
 

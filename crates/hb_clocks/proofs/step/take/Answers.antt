@@ -1,6 +1,6 @@
 use Rattle.std.proofs.Common.{subst, arith}
 use Rattle.hb_clocks.specs.Tables.{HasClocks}
-use Rattle.vector_clocks.proofs.MadeRows.{made_within, read_width, row_within}
+use Rattle.hb_clocks.proofs.MadeRows.{made_within, read_width, row_within}
 use Rattle.hb_clocks.proofs.RowsWithin.{some_width, po_within, hb_within}
 use Rattle.hb_clocks.proofs.step.take.Goals as goal
 

@@ -1,4 +1,4 @@
-use Rattle.vector_clocks.specs.Counts.{counts_of}
+use Rattle.hb_clocks.specs.Counts.{counts_of}
 use Rattle.seq_monitor.proofs.Replaying.{judged}
 use Rattle.seq_monitor.proofs.parts.verdict_on_last.Goals as goal
 

@@ -1,6 +1,6 @@
 use Rattle.std.proofs.Common.{ap, arith, refl}
 use Rattle.event_core.specs.Effect.{Inner}
-use Rattle.vector_clocks.specs.Work.{Done}
+use Rattle.hb_clocks.specs.Work.{Done}
 use Rattle.wcp_clocks.proofs.Passing.{plain_threads, joins_told}
 use Rattle.wcp_clocks.proofs.Taking.{room_same}
 use Rattle.wcp_clocks.proofs.effects.count_inner.Goals as goal

@@ -1,7 +1,7 @@
 use Rattle.std.proofs.Common.{ℕ, ap, ap₂, sym, ◌∙◌, arith, refl}
 use Rattle.event_core.specs.Rows.{with_row}
 use Rattle.event_core.specs.Effect.{Effect, Forks}
-use Rattle.vector_clocks.specs.Work.{Done}
+use Rattle.hb_clocks.specs.Work.{Done}
 use Rattle.wcp_clocks.proofs.Passing.{plain_strict, plain_threads, joins_told}
 use Rattle.wcp_clocks.proofs.effects.fork.Goals as goal
 

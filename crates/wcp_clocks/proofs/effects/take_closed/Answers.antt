@@ -3,8 +3,8 @@ use Rattle.std.proofs.lemmas.Bool.{leb-true}
 use Rattle.std.specs.Prelude.{IsSomeAnd}
 use Rattle.event_core.specs.Closed.{Closed, below_closed}
 use Rattle.event_core.specs.Rows.{with_row}
-use Rattle.vector_clocks.specs.Released.{thread_of, clock_of}
-use Rattle.vector_clocks.specs.Rows.{rows_of}
+use Rattle.hb_clocks.specs.Released.{thread_of, clock_of}
+use Rattle.hb_clocks.specs.Rows.{rows_of}
 use Rattle.lock_queues.specs.Queues.{closed_of}
 use Rattle.lock_queues.specs.Sections.{latest_counted}
 use Rattle.wcp_clocks.proofs.Releasing.{counted_latest}

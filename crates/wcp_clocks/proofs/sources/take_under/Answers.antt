@@ -6,8 +6,8 @@ use Rattle.event_core.specs.declared.events.AccessKind.{AccessKind}
 use Rattle.event_core.specs.declared.events.AccessKind.TheVariants.{Read, Write}
 use Rattle.event_core.specs.Closed.{Closed}
 use Rattle.event_core.specs.Rows.{join, with_row}
-use Rattle.vector_clocks.specs.Released.{thread_of, clock_of}
-use Rattle.vector_clocks.specs.Rows.{rows_of}
+use Rattle.hb_clocks.specs.Released.{thread_of, clock_of}
+use Rattle.hb_clocks.specs.Rows.{rows_of}
 use Rattle.lock_queues.specs.Queues.{closed_of}
 use Rattle.section_sum.specs.declared.sources.Sources.{Sources}
 use Rattle.section_sum.specs.Sources.{left, most_sources}

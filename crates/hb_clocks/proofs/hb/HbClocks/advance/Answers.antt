@@ -6,7 +6,7 @@ use Rattle.hb_clocks.specs.declared.holds.Hold.{Hold}
 use Rattle.hb_clocks.specs.Holds.{holds_after}
 use Rattle.hb_clocks.specs.Stands.{Stands}
 use Rattle.hb_clocks.specs.Tables.{Tables, state_of, IsReady}
-use Rattle.vector_clocks.proofs.MadeRows.{written_widths}
+use Rattle.hb_clocks.proofs.MadeRows.{written_widths}
 use Rattle.hb_clocks.proofs.LegalSteps.{step_stands}
 use Rattle.hb_clocks.proofs.TableSteps.{IsStepped, stepped}
 use Rattle.hb_clocks.proofs.hb.HbClocks.advance.Goals as goal

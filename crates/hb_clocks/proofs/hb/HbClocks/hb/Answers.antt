@@ -2,7 +2,7 @@ use Rattle.std.proofs.Common.{ap, sym, subst, ◌∙◌}
 use Rattle.event_core.specs.Order.{Hb}
 use Rattle.event_core.specs.Rows.{Counted}
 use Rattle.hb_clocks.specs.Tables.{Tables}
-use Rattle.vector_clocks.specs.Rows.{rows_of}
+use Rattle.hb_clocks.specs.Rows.{rows_of}
 use Rattle.hb_clocks.proofs.Conditions.{hb_latest}
 use Rattle.hb_clocks.proofs.RowsWithin.{wide_by}
 use Rattle.hb_clocks.proofs.hb.HbClocks.hb.Goals as goal

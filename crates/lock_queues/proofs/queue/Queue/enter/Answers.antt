@@ -2,7 +2,7 @@ use Rattle.std.proofs.Common.{◌≡◌, Option, ap, sym, subst, ◌∙◌, arit
 use Rattle.std.specs.Prelude.{IfSome}
 use Rattle.event_core.specs.declared.ids.ThreadId.{ThreadId}
 use Rattle.event_core.specs.Rows.{with_row}
-use Rattle.vector_clocks.specs.Marks.{Named}
+use Rattle.hb_clocks.specs.Marks.{Named}
 use Rattle.lock_queues.specs.Rooms.{has_room_in, opened_in, position_of}
 use Rattle.lock_queues.specs.Queue.{Kept}
 use Rattle.lock_queues.proofs.Placing.{placed, placed_within, room_read}

@@ -2,8 +2,8 @@ use Rattle.std.proofs.Common.{◌≡◌, ℕ, ◌++◌, ◌∷◌, [], ap, sym, 
 use Rattle.std.proofs.Common.{false}
 use Rattle.std.specs.List.{remove}
 use Rattle.event_core.specs.Rows.{with_row}
-use Rattle.vector_clocks.specs.Counts.{counts_of}
-use Rattle.vector_clocks.specs.Releases.{IsAdded}
+use Rattle.hb_clocks.specs.Counts.{counts_of}
+use Rattle.hb_clocks.specs.Releases.{IsAdded}
 use Rattle.lock_queues.specs.declared.rooms.Room.{Room}
 use Rattle.lock_queues.specs.declared.sections.Entry.{Entry}
 use Rattle.lock_queues.specs.Rooms.{has_room_in, opened_in, position_of}

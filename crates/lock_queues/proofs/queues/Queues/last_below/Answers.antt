@@ -4,9 +4,9 @@ use Rattle.std.specs.Prelude.{MatchOption, IsSomeAnd}
 use Rattle.event_core.specs.Closed.{Closed, number_counted, below_closed}
 use Rattle.event_core.specs.Rows.{with_row, no_clock}
 use Rattle.event_core.proofs.Growing.{row_same}
-use Rattle.vector_clocks.specs.Counts.{counts_of}
-use Rattle.vector_clocks.specs.declared.release.ReleaseClock.{ReleaseClock}
-use Rattle.vector_clocks.specs.Released.{thread_of, before_of, clock_of}
+use Rattle.hb_clocks.specs.Counts.{counts_of}
+use Rattle.hb_clocks.specs.declared.release.ReleaseClock.{ReleaseClock}
+use Rattle.hb_clocks.specs.Released.{thread_of, before_of, clock_of}
 use Rattle.lock_queues.specs.Sections.{closed_at, latest_counted}
 use Rattle.lock_queues.specs.Searched.{IsSection}
 use Rattle.lock_queues.specs.Queues.{Tables, closed_of, found_of}

@@ -3,7 +3,7 @@ use Rattle.std.proofs.Common.{ap, sym, subst, ◌∙◌, arith}
 use Rattle.std.specs.Prelude.{slice_index}
 use Rattle.event_core.specs.Closed.{Closed}
 use Rattle.event_core.specs.Rows.{with_row}
-use Rattle.vector_clocks.specs.Counts.{counts_of}
+use Rattle.hb_clocks.specs.Counts.{counts_of}
 use Rattle.lock_queues.specs.Sections.{closed_as, sections_of}
 use Rattle.lock_queues.specs.Rooms.{has_room_in, opened_in}
 use Rattle.lock_queues.specs.Searched.{IsAboveAll}

@@ -1,6 +1,6 @@
 use Rattle.std.proofs.Common.{ℕ, List, length, ap, ◌∙◌}
 use Rattle.std.proofs.lemmas.List.{length-replicate}
-use Rattle.vector_clocks.specs.Rows.{rows_of}
+use Rattle.hb_clocks.specs.Rows.{rows_of}
 use Rattle.wcp_clocks.specs.StrictRows.{StrictTables, strict_of}
 use Rattle.hb_clocks.proofs.RowsWithin.{wide_by}
 use Rattle.wcp_clocks.proofs.Rows.{row_is}

@@ -1,7 +1,7 @@
 use Rattle.std.proofs.Common.{◌≡◌}
 use Rattle.std.specs.Vec.{with_items}
-use Rattle.vector_clocks.specs.Rows.{widths_of}
-use Rattle.vector_clocks.proofs.MadeRows.{written_widths}
+use Rattle.hb_clocks.specs.Rows.{widths_of}
+use Rattle.hb_clocks.proofs.MadeRows.{written_widths}
 use Rattle.wcp_clocks.proofs.Kept.{threads_kept, threads_room, thread_within}
 use Rattle.wcp_clocks.proofs.strict.StrictRows.take_release.Goals as goal
 

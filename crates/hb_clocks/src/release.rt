@@ -1,0 +1,181 @@
+//! Clocks of releases, kept one after another.
+//!
+//! A clock is kept whole, as far as it is in use, and what is lent is one of them. So who joins the clock of
+//! a release joins one that stood. Each number is that from just before the release, which is one more event
+//! of its own thread: so all fit in 32 bits, since a log has at most 2^32 events.
+ghost use Rattle.std.specs.Prelude.{◌≡◌, ◌<◌, length};
+ghost use Rattle.hb_clocks.specs.Counts.{counts_of};
+
+use crate::before::{number_before, push_before};
+use crate::clock::Clock;
+use event_core::{OutOfMemory, ThreadId};
+use std::alloc::Global;
+use std::marker::Model;
+
+/// The clocks of releases.
+#[derive(Drop)]
+pub struct ReleaseClocks {
+    numbers: Vec<u32>,
+}
+
+impl Model for ReleaseClocks {
+    ghost use Rattle.std.specs.Prelude.{vec_capacity};
+    ghost use Rattle.hb_clocks.specs.Releases.{Kept};
+
+    ghost Value = { Kept };
+
+    ghost view = { λ r. record { numbers = r.numbers.items; most = vec_capacity r.numbers } };
+}
+
+/// Which of the clocks: from which number on, and how many numbers. Beside it that of its own thread.
+#[derive(Clone, Copy)]
+pub struct ReleasePlace {
+    own: u32,
+    width: u32,
+    start: usize,
+}
+
+impl Model for ReleasePlace {
+    ghost use Rattle.hb_clocks.specs.Releases.{Place};
+
+    ghost Value = { Place };
+
+    ghost view = { λ p. record { own = p.own; width = p.width; start = p.start } };
+
+    ghost inverse = { λ p. record { own = p.own; width = p.width; start = p.start } };
+}
+
+/// The clock of one release: its thread, and of each thread how many events happened before it. The release
+/// is one more event of its own thread. Beyond the numbers each is 0.
+///
+/// The thread's own number stands beside the others too: who asks whether the release is counted needs no
+/// other, and the others lie elsewhere in memory.
+#[derive(Clone, Copy)]
+pub struct ReleaseClock<'a> {
+    by: ThreadId,
+    own: u32,
+    before: &'a [u32],
+    ghost marked: { by.0 < length before.now },
+    ghost own_number: { own ≡ counts_of before.now by.0 },
+}
+
+impl ReleaseClocks {
+    ghost use Rattle.std.specs.Prelude.{◌≡◌, ℕ, ◌+◌, ◌*◌, ◌<◌, ◌≤◌, ◌^◌, ◌↔◌, [], length, OnOk, IsTrue, IsOk};
+    ghost use Rattle.hb_clocks.specs.Counts.{counts_of};
+    ghost use Rattle.hb_clocks.specs.Released.{thread_of, before_of};
+    ghost use Rattle.hb_clocks.specs.Releases.{before, numbers_at, IsReadable, IsAdded};
+
+    /// None are kept. It takes no memory.
+    pub fn new(alloc: Global) -> ReleaseClocks
+        ensures { result.numbers ≡ [] }
+    {
+        ReleaseClocks {
+            numbers: Vec::new(alloc),
+        }
+    }
+
+    /// Makes room for so many clocks more of the width, where there is none. A refused growth is answered by
+    /// `OutOfMemory`.
+    pub fn make_room(&mut self, more: usize, width: usize) -> Result<(), OutOfMemory>
+        ensures same { self.new.numbers ≡ self.old.numbers }
+        ensures larger { self.old.most ≤ self.new.most }
+        ensures ok { OnOk result (length self.new.numbers + more * width ≤ self.new.most) }
+        ensures again { length self.old.numbers + more * width ≤ self.old.most → IsOk result }
+    {
+        if self.ready(more, width) {
+            return Ok(());
+        }
+        let Some(count) = more.checked_mul(width) else {
+            return Err(OutOfMemory);
+        };
+        self.numbers.reserve(count)?;
+        Ok(())
+    }
+
+    /// Whether there is room for so many clocks more of the width.
+    pub fn ready(&self, more: usize, width: usize) -> bool
+        ensures { IsTrue result ↔ (length self.now.numbers + more * width ≤ self.now.most) }
+    {
+        let spare = self.numbers.capacity() - self.numbers.len();
+        let Some(count) = more.checked_mul(width) else {
+            return false;
+        };
+        count <= spare
+    }
+
+    /// Keeps the clock of a release by the thread, which it counts, and tells where. Just before it no thread
+    /// has 2^32 events.
+    pub fn push(&mut self, by: ThreadId, release: &Clock) -> ReleasePlace
+        requires room { length self.old.numbers + length release.now ≤ self.old.most }
+        requires small { length release.now < 2 ^ 32 }
+        requires counted { 0 < counts_of release.now by.0 }
+        requires few { (u : ℕ) → before by.0 (counts_of release.now) u < 2 ^ 32 }
+        ensures added { IsAdded self.old.numbers self.new.numbers by.0 result (length release.now)
+            (counts_of release.now) }
+        ensures most { self.old.most ≤ self.new.most }
+    {
+        let counts = release.counts();
+        let start = self.numbers.len();
+        push_before(&mut self.numbers, counts, by);
+        ReleasePlace {
+            own: number_before(counts, by),
+            width: counts.len() as u32,
+            start,
+        }
+    }
+
+    /// The clock at the place, of a release by the thread.
+    #[inline(always)]
+    pub fn at(&self, by: ThreadId, place: &ReleasePlace) -> ReleaseClock<'_>
+        requires readable { IsReadable self.now.numbers by.0 place.now }
+        requires marked { by.0 < place.now.width }
+        ensures by { thread_of result ≡ by }
+        ensures before { before_of result ≡ numbers_at self.now.numbers place.now }
+    {
+        let numbers = &self.numbers;
+        let end = place.start + place.width as usize;
+        ReleaseClock {
+            by,
+            own: place.own,
+            before: &numbers[place.start..end],
+        }
+    }
+}
+
+impl<'a> ReleaseClock<'a> {
+    ghost use Rattle.std.specs.Prelude.{◌≡◌, ◌<◌, ◌≤◌, ◌↔◌, length, IsTrue};
+    ghost use Rattle.hb_clocks.specs.Counts.{counts_of};
+    ghost use Rattle.hb_clocks.specs.Released.{thread_of, before_of, clock_of};
+
+    /// The thread whose release it is.
+    pub fn by(&self) -> ThreadId
+        ensures thread { result ≡ thread_of self.now }
+        ensures within { result.0 < length (before_of self.now) }
+    {
+        self.by
+    }
+
+    /// How many events of its thread happened before it.
+    pub fn own(&self) -> u32
+        ensures { result ≡ counts_of (before_of self.now) (thread_of self.now).0 }
+    {
+        self.own
+    }
+
+    /// Of each thread how many events happened before it, from thread 0 on. Beyond them each number is 0.
+    pub fn counts_before(&self) -> &[u32]
+        ensures { result.now ≡ before_of self.now }
+    {
+        self.before
+    }
+
+    /// Whether the clock counts the release.
+    #[inline(always)]
+    pub fn counted(&self, clock: &Clock) -> bool
+        requires { length (before_of self.now) ≤ length clock.now }
+        ensures { IsTrue result ↔ (clock_of self.now (thread_of self.now).0
+            ≤ counts_of clock.now (thread_of self.now).0) }
+    {
+        self.own as u64 + 1 <= clock.at(self.by)
+    }
+}

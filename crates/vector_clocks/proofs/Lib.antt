@@ -1,6 +1,0 @@
-pub mod JoinLaws
-pub mod Lowering
-pub mod MadeRows
-pub mod Releases
-pub mod RowLaws
-pub mod Unused
