@@ -1,7 +1,7 @@
 //! Worked logs with the numbers of their clocks.
 //!
 //! Where memory is refused once, the same call is made again and gives the same numbers.
-ghost use Rattle.std.specs.Prelude.{◌≡◌, ℕ, ◌<◌, ◌≤◌, ◌↔◌, length, IfOk, OnOk, IsTrue};
+ghost use Rattle.std.specs.Prelude.{◌≡◌, ℕ, ◌<◌, ◌≤◌, ◌↔◌, [], length, IfOk, OnOk, IsTrue};
 ghost use Rattle.hb_clocks.specs.Counts.{counts_of};
 ghost use Rattle.hb_clocks.specs.State.{empty};
 ghost use Rattle.hb_clocks.specs.Stands.{IsAtMost};
@@ -13,13 +13,14 @@ use cases::{
     EMPTY_CHILD, GREATER, INNER_RELEASE, MARKED, NESTED_SECTIONS, READ_AS_ONE, Row, T0, T1, T2,
 };
 use event_core::{Event, Limits, Op, OutOfMemory, Roots, SiteId, ThreadId};
-use hb_clocks::{Clock, HbClocks, JoinedClocks, Mark, ReleaseClock, Work};
+use hb_clocks::{Clock, HbClocks, JoinedClocks, Mark, ReleaseClock, ReleaseClocks, Work};
 use std::alloc::Global;
 use std::process::Abort;
 
 /// The clocks of three threads after some events, and one beside them.
 #[derive(Drop)]
 pub struct Run {
+    alloc: Global,
     pub clocks: HbClocks,
     beside: Clock,
     marked: Option<Mark>,
@@ -31,9 +32,14 @@ pub struct Run {
 }
 
 // Where a growth is refused, the same call is made again.
-fn begin_clocks(alloc: Global, limits: Limits) -> Result<(HbClocks, Work), OutOfMemory>
+pub fn begin_clocks(
+    alloc: Global,
+    limits: Limits,
+) -> Result<(HbClocks, Work, ReleaseClocks), OutOfMemory>
     ensures width { IfOk result (λ made. made.0.width ≡ limits.threads) }
     ensures empty { IfOk result (λ made. state_of made.0 ≡ empty) }
+    ensures work { IfOk result (λ made. made.1 ≡ record { comparisons = 0; joins = 0 }) }
+    ensures releases { IfOk result (λ made. made.2.numbers ≡ []) }
 {
     match HbClocks::new(alloc, limits) {
         Ok(made) => Ok(made),
@@ -94,8 +100,9 @@ fn expect_numbers(rt: &impl Abort, clock: &Clock, wanted: &[u64; 3])
 impl Run {
     pub fn new(rt: &impl Abort, alloc: Global) -> Run {
         let limits = Limits::new(3, 2, 2, 64, Roots::Free).expect(rt, "small limits");
-        let (clocks, _work) = begin_clocks(alloc, limits).expect(rt, "memory");
+        let (clocks, _work, _releases) = begin_clocks(alloc, limits).expect(rt, "memory");
         Run {
+            alloc,
             clocks,
             beside: zeros(alloc).expect(rt, "memory"),
             marked: None,
@@ -103,13 +110,23 @@ impl Run {
         }
     }
 
+    // A count for one call, which has no work yet.
+    pub fn no_work(&self, rt: &impl Abort) -> Work
+        ensures { result ≡ record { comparisons = 0; joins = 0 } }
+    {
+        let limits = Limits::new(1, 1, 1, 1, Roots::Free).expect(rt, "small limits");
+        let (_clocks, work, _releases) = begin_clocks(self.alloc, limits).expect(rt, "memory");
+        work
+    }
+
     // Makes room for the event, and takes it.
     pub fn take(&mut self, rt: &impl Abort, event: &Event) {
+        let mut work = self.no_work(rt);
         assert!(rt; self.events < 100);
         assert!(rt; is_within(event));
         assert!(rt; make_room(&mut self.clocks, event).is_ok(), "memory");
         assert!(rt; self.clocks.admits(event));
-        self.clocks.advance(event, &mut Work::new());
+        self.clocks.advance(event, &mut work);
         self.events += 1;
     }
 
@@ -138,8 +155,9 @@ impl Run {
     fn expect_counts(&self, rt: &impl Abort, thread: ThreadId, wanted: &[bool; 2]) {
         let mark = self.marked.expect(rt, "a mark is kept");
         assert!(rt; mark.thread().0 < 3);
-        let by_po = mark.counted(self.clocks.po(thread), &mut Work::new());
-        let by_hb = mark.counted(self.clocks.hb(thread), &mut Work::new());
+        let mut work = self.no_work(rt);
+        let by_po = mark.counted(self.clocks.po(thread), &mut work);
+        let by_hb = mark.counted(self.clocks.hb(thread), &mut work);
         assert!(rt; [by_po, by_hb] == *wanted);
     }
 
@@ -148,14 +166,16 @@ impl Run {
         self.beside.copy_from(self.clocks.po(thread));
     }
 
-    fn join(&mut self, thread: ThreadId) {
-        self.beside.join(self.clocks.hb(thread), &mut Work::new());
+    fn join(&mut self, rt: &impl Abort, thread: ThreadId) {
+        let mut work = self.no_work(rt);
+        self.beside.join(self.clocks.hb(thread), &mut work);
     }
 
     // It takes the greater numbers of the release.
     pub fn join_release(&mut self, rt: &impl Abort, release: &ReleaseClock) {
         assert!(rt; release.counts_before().len() <= 3);
-        self.beside.join_release(release, &mut Work::new());
+        let mut work = self.no_work(rt);
+        self.beside.join_release(release, &mut work);
     }
 
     pub fn expect_beside(&self, rt: &impl Abort, wanted: &[u64; 3]) {
@@ -181,7 +201,7 @@ impl Run {
             Row::Mark(thread) => self.marked = Some(self.latest(rt, *thread)),
             Row::Counts(thread, wanted) => self.expect_counts(rt, *thread, wanted),
             Row::Copy(thread) => self.copy(*thread),
-            Row::Join(thread) => self.join(*thread),
+            Row::Join(thread) => self.join(rt, *thread),
             Row::Clock(wanted) => self.expect_beside(rt, wanted),
             Row::Joined(first, second, wanted) => self.expect_joined(rt, *first, *second, wanted),
         }

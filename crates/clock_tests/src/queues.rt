@@ -7,7 +7,7 @@ ghost use Rattle.lock_queues.specs.Queues.{closed_of, found_of, has_room, SameMe
 
 mod cases;
 
-use crate::clocks::{Run, event};
+use crate::clocks::{Run, begin_clocks, event};
 use cases::{L, ONE_SECTION, RELEASES, Row, T0, T1, TWO_THREADS};
 use event_core::{Limits, LockId, Op, Roots, ThreadId, VarId};
 use hb_clocks::{Clock, Mark, Work};
@@ -78,24 +78,27 @@ fn find(
     lock: LockId,
     mark: Mark,
     clock: &Clock,
+    work: &mut Work,
 ) -> Option<(ThreadId, u32)>
     requires own { mark.thread ≡ thread.0 }
     requires marked { 0 < mark.position }
     requires width { length clock.now ≡ queues.old.limits.threads }
     requires few { length (closed_of queues.old lock.0) ≤ 1 }
     requires found { found_of queues.old ≡ (λ _ _. 0) }
+    requires work { work.old.comparisons ≡ 0 }
 {
     assert!(rt; queues.ready(thread, lock));
     queues.enter(thread, lock, mark);
-    let below = queues.last_below(thread, lock, clock, &mut Work::new())?;
+    let below = queues.last_below(thread, lock, clock, work)?;
     Some((below.by(), below.own()))
 }
 
 impl Sections {
     fn new(rt: &impl Abort, alloc: Global) -> Sections {
         let limits = Limits::new(3, 2, 1, 8, Roots::Free).expect(rt, "small limits");
+        let (_clocks, _work, releases) = begin_clocks(alloc, limits).expect(rt, "memory");
         Sections {
-            queues: Queues::new(alloc, limits).expect(rt, "no memory is taken"),
+            queues: Queues::new(alloc, limits, releases).expect(rt, "no memory is taken"),
             run: Run::new(rt, alloc),
         }
     }
@@ -145,7 +148,9 @@ impl Sections {
         self.make_room(rt, thread, lock);
         let Sections { mut queues, run } = self;
         let mark = run.latest(rt, thread);
-        find(rt, &mut queues, thread, lock, mark, run.clocks.hb(other))
+        let clock = run.clocks.hb(other);
+        let mut work = run.no_work(rt);
+        find(rt, &mut queues, thread, lock, mark, clock, &mut work)
     }
 
     fn follow(&mut self, rt: &impl Abort, row: &Row) {

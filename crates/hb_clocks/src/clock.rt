@@ -61,8 +61,8 @@ impl Clock {
         self.raise(other.counts());
     }
 
-    /// The numbers of the threads in use, from thread 0 on. Beyond them each number is 0.
-    pub fn counts(&self) -> &[u64]
+    // The numbers of the threads in use, from thread 0 on. Beyond them each number is 0.
+    pub(crate) fn counts(&self) -> &[u64]
         ensures counts { counts_of result.now ≡ counts_of self.now }
         ensures within { length result.now ≤ length self.now }
     {

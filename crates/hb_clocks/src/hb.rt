@@ -25,6 +25,7 @@ ghost use Rattle.hb_clocks.specs.Rows.{IsMade};
 use crate::clock::Clock;
 use crate::holds::{Hold, NO_HOLD, may_enter};
 use crate::mark::Mark;
+use crate::release::ReleaseClocks;
 use crate::rows::{is_made, make_row, row_or};
 use crate::step::advance_tables;
 use crate::work::Work;
@@ -59,14 +60,18 @@ impl Model for HbClocks {
 }
 
 impl HbClocks {
-    /// The clocks of the empty log, of the width of the limit of threads, and the one `Work` beside
-    /// them. No thread or lock has a clock yet.
-    pub fn new(alloc: Global, limits: Limits) -> Result<(HbClocks, Work), OutOfMemory>
+    /// The clocks of the empty log, of the width of the limit of threads. No thread or lock has a clock yet.
+    /// Beside them the one `Work` and the one list of the clocks of releases.
+    pub fn new(
+        alloc: Global,
+        limits: Limits,
+    ) -> Result<(HbClocks, Work, ReleaseClocks), OutOfMemory>
         ensures width { IfOk result (λ made. made.0.width ≡ limits.threads) }
         ensures unmade { IfOk result (λ made. made.0 ≡ tables limits.threads [] [] [] []) }
         ensures empty { IfOk result (λ made. state_of made.0 ≡ empty) }
         ensures stands { IfOk result (λ made. Stands [] (state_of made.0)) }
         ensures work { IfOk result (λ made. made.1 ≡ record { comparisons = 0; joins = 0 }) }
+        ensures releases { IfOk result (λ made. made.2.numbers ≡ []) }
     {
         let width = limits.threads() as usize;
         let zeros = Clock::new(alloc, width)?;
@@ -79,7 +84,7 @@ impl HbClocks {
             locks: Vec::new(alloc),
             holds: Vec::new(alloc),
         };
-        Ok((clocks, Work::new()))
+        Ok((clocks, Work::new(), ReleaseClocks::new(alloc)))
     }
 
     /// Makes room for the event, whose threads are below the width. No number changes, whether there

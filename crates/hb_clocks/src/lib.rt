@@ -11,6 +11,7 @@ pub mod laws;
 mod mark;
 mod release;
 pub mod rows;
+mod search;
 mod step;
 mod work;
 
@@ -19,4 +20,5 @@ pub use hb::HbClocks;
 pub use joined::JoinedClocks;
 pub use mark::Mark;
 pub use release::{ReleaseClock, ReleaseClocks, ReleasePlace};
+pub use search::search_marks;
 pub use work::Work;

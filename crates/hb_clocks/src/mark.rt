@@ -32,8 +32,8 @@ impl Model for Mark {
 }
 
 impl Mark {
-    /// The mark of the thread's event before which the thread has so many.
-    pub fn new(thread: ThreadId, before: u32) -> Mark
+    // The mark of the thread's event before which the thread has so many.
+    pub(crate) fn new(thread: ThreadId, before: u32) -> Mark
         ensures { result ≡ record { thread = thread.0; position = before + 1 } }
     {
         Mark {

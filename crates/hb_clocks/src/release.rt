@@ -12,7 +12,8 @@ use event_core::{OutOfMemory, ThreadId};
 use std::alloc::Global;
 use std::marker::Model;
 
-/// The clocks of releases.
+/// The clocks of releases. A monitor keeps all of its own in one list, which is made with its clocks of
+/// happens-before.
 #[derive(Drop)]
 pub struct ReleaseClocks {
     numbers: Vec<u32>,
@@ -65,8 +66,8 @@ impl ReleaseClocks {
     ghost use Rattle.hb_clocks.specs.Released.{thread_of, before_of};
     ghost use Rattle.hb_clocks.specs.Releases.{before, numbers_at, IsReadable, IsAdded};
 
-    /// None are kept. It takes no memory.
-    pub fn new(alloc: Global) -> ReleaseClocks
+    // None are kept. It takes no memory.
+    pub(crate) fn new(alloc: Global) -> ReleaseClocks
         ensures { result.numbers ≡ [] }
     {
         ReleaseClocks {

@@ -87,8 +87,8 @@ pub fn copy_rows(rows: &mut [Clock], to: usize, from: usize)
     }
 }
 
-/// A thread's own number grows by one.
-pub fn bump_row(rows: &mut [Clock], thread: ThreadId)
+// A thread's own number grows by one.
+pub(crate) fn bump_row(rows: &mut [Clock], thread: ThreadId)
     requires room { thread.0 < length rows.old }
     requires within { thread.0 < widths_of rows.old thread.0 }
     requires few { rows_of rows.old thread.0 thread.0 + 1 < 2 ^ 64 }

@@ -22,8 +22,8 @@ impl Model for Work {
 }
 
 impl Work {
-    /// None were made.
-    pub fn new() -> Work
+    // None were made.
+    pub(crate) fn new() -> Work
         ensures { result ≡ record { comparisons = 0; joins = 0 } }
     {
         Work {

@@ -3,10 +3,10 @@ use Rattle.std.proofs.Common.{◌≡◌, ℕ, zero, suc, ◌<◌, List, [], ◌�
 use Rattle.std.proofs.Common.{arith}
 use Rattle.std.proofs.lemmas.Simd.{length-zip2, get_or-zip2}
 use Rattle.std.proofs.lemmas.List.{length-map}
-use Rattle.hb_clocks.specs.Marks.{Named}
+use Rattle.hb_clocks.specs.Marks.{Named, mark_at}
 use Rattle.hb_clocks.specs.Releases.{Place}
 use Rattle.lock_queues.specs.declared.sections.Entry.{Entry}
-use Rattle.lock_queues.specs.Sections.{entry_at, no_entry, acquires_of, mark_at, entries_of}
+use Rattle.lock_queues.specs.Sections.{entry_at, no_entry, acquires_of, entries_of}
 
 abbrev entry_of : Named → Place → Entry
 entry_of m p = record { acquire = m; place = p }

@@ -4,7 +4,8 @@ use Rattle.std.proofs.lemmas.List.{get_or_read}
 use Rattle.event_core.specs.Bounds.{Bounds}
 use Rattle.event_core.specs.Closed.{number_counted}
 use Rattle.hb_clocks.specs.Counts.{counts_of}
-use Rattle.lock_queues.specs.Sections.{closed_as, closed_at, section_of, section_at, entry_at, Counts}
+use Rattle.hb_clocks.specs.Marks.{Counts}
+use Rattle.lock_queues.specs.Sections.{closed_as, closed_at, section_of, section_at, entry_at}
 use Rattle.lock_queues.specs.Sections.{CountsEntry, AreRising}
 use Rattle.lock_queues.specs.Searched.{CountsEarlier}
 use Rattle.lock_queues.specs.Queue.{Kept, queue_at, no_queue}

@@ -5,7 +5,7 @@ use Rattle.std.specs.Option.{option_or}
 use Rattle.std.specs.Simd.Lanes.{zip2}
 use Rattle.event_core.specs.Closed.{Closed, is_counted}
 use Rattle.hb_clocks.specs.Counts.{counts_of}
-use Rattle.hb_clocks.specs.Marks.{Named}
+use Rattle.hb_clocks.specs.Marks.{Named, Counts, no_mark}
 use Rattle.hb_clocks.specs.Releases.{Place, numbers_at, raised, IsReadable, IsAdded}
 use Rattle.lock_queues.specs.declared.sections.Entry.{Entry}
 
@@ -23,17 +23,13 @@ closed_as s = record {
 }
 
 abbrev pub no_section : Section
-no_section = record { acquire = record { thread = 0; position = 0 }; release = [] }
+no_section = record { acquire = no_mark; release = [] }
 
 abbrev pub section_at : List Section → ℕ → Section
 section_at sections k = slice_index_or sections k no_section
 
 abbrev pub closed_at : List Closed → ℕ → Closed
 closed_at qs k = slice_index_or qs k (closed_as no_section)
-
--- the clock counts the event
-abbrev pub Counts : List ℕ → Named → Type 0
-Counts clock m = m.position ≤ counts_of clock m.thread
 
 -- the clock counts the acquire of the section
 abbrev pub IsCounted : List Section → List ℕ → ℕ → Type 0
@@ -62,10 +58,7 @@ abbrev pub sections_of : List ℕ → List Entry → List Section
 sections_of numbers entries = map (section_of numbers) entries
 
 abbrev pub no_entry : Entry
-no_entry = record {
-  acquire = record { thread = 0; position = 0 };
-  place = record { own = 0; width = 0; start = 0 };
-}
+no_entry = record { acquire = no_mark; place = record { own = 0; width = 0; start = 0 } }
 
 abbrev pub entry_at : List Entry → ℕ → Entry
 entry_at entries k = slice_index_or entries k no_entry
@@ -73,9 +66,6 @@ entry_at entries k = slice_index_or entries k no_entry
 -- the marks of their acquires
 abbrev pub acquires_of : List Entry → List Named
 acquires_of entries = map (λ e. e.acquire) entries
-
-abbrev pub mark_at : List Named → ℕ → Named
-mark_at marks k = slice_index_or marks k no_entry.acquire
 
 abbrev pub first_of : List Named → Option Named
 first_of [] = None

@@ -76,8 +76,13 @@ impl Queues {
     ghost use Rattle.lock_queues.specs.Standing.{Stands, CountsNone, IsLatest};
     ghost use Rattle.lock_queues.specs.contracts.queues.Queues.{the_row};
 
-    /// No sections. It takes no memory.
-    pub fn new(alloc: Global, limits: Limits) -> Result<Queues, OutOfMemory>
+    /// No sections, the clocks of whose releases are to be kept in the list. It takes no memory.
+    pub fn new(
+        alloc: Global,
+        limits: Limits,
+        releases: ReleaseClocks,
+    ) -> Result<Queues, OutOfMemory>
+        requires none { releases.numbers ≡ [] }
         ensures made { IsOk result }
         ensures limits { IfOk result (λ v. v.limits ≡ limits) }
         ensures closed { IfOk result (λ v. closed_of v ≡ (λ _. [])) }
@@ -90,7 +95,7 @@ impl Queues {
             alloc,
             limits,
             queues: Vec::new(alloc),
-            releases: ReleaseClocks::new(alloc),
+            releases,
             rooms: 0,
         })
     }

@@ -38,8 +38,8 @@ pub(crate) fn new_parts(alloc: Global, limits: Limits) -> Result<Parts, OutOfMem
     ensures no_work { IfOk result (λ made. made.work ≡ record { comparisons = 0; joins = 0 }) }
 {
     let rows = StrictRows::new(alloc, limits.threads() as usize)?;
-    let queues = Queues::new(alloc, limits)?;
-    let (hb, work) = HbClocks::new(alloc, limits)?;
+    let (hb, work, releases) = HbClocks::new(alloc, limits)?;
+    let queues = Queues::new(alloc, limits, releases)?;
     Ok(Parts {
         hb,
         rows,

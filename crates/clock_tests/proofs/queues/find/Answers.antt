@@ -1,6 +1,5 @@
 use Rattle.std.proofs.Common.{ℕ, ◌≤◌, List, length, sym, ap, subst, ◌∙◌, arith}
 use Rattle.event_core.specs.Closed.{Closed}
-use Rattle.hb_clocks.specs.Work.{Done}
 use Rattle.lock_queues.specs.Queues.{closed_of, opened_of}
 use Rattle.clock_tests.proofs.OneSection.{written, earlier_one}
 use Rattle.clock_tests.proofs.queues.find.Goals as goal
@@ -27,4 +26,4 @@ pub last_below-requires-clause-few : goal.last_below-requires-clause-few
 last_below-requires-clause-few g c =
     let one = subst (λ (f : ℕ → List Closed). length (f c.args.lock.0) ≤ 1)
     (sym c.enter.ensures.closed) c.requires.few in
-    omega (arith, one, ap (λ (work : Done). work.comparisons) c.new.ensures)
+    omega (arith, one, c.requires.work)

@@ -2,8 +2,8 @@ use Rattle.std.proofs.Common.{ap, sym, subst, ◌∙◌, arith, length, ◌<◌}
 use Rattle.std.specs.Prelude.{slice_index}
 use Rattle.std.proofs.lemmas.List.{get_or_read}
 use Rattle.event_core.specs.Rows.{with_row}
-use Rattle.hb_clocks.specs.Marks.{Named}
-use Rattle.lock_queues.specs.Sections.{Counts, acquires_of}
+use Rattle.hb_clocks.specs.Marks.{Named, Counts}
+use Rattle.lock_queues.specs.Sections.{acquires_of}
 use Rattle.lock_queues.specs.Queue.{Kept}
 use Rattle.lock_queues.proofs.Listing.{mark_seen, count_seen}
 use Rattle.lock_queues.proofs.Keeping.{seen_within, kept_found}

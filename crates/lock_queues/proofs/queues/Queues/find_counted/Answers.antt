@@ -1,7 +1,8 @@
 use Rattle.std.proofs.Common.{◌≡◌, ap, subst, ◌∙◌, arith, length, map}
 use Rattle.std.specs.Prelude.{slice_index}
 use Rattle.event_core.specs.Rows.{with_row}
-use Rattle.lock_queues.specs.Sections.{closed_as, sections_of, Counts}
+use Rattle.hb_clocks.specs.Marks.{Counts}
+use Rattle.lock_queues.specs.Sections.{closed_as, sections_of}
 use Rattle.lock_queues.specs.Rooms.{has_room_in, opened_in}
 use Rattle.lock_queues.specs.Queue.{Kept, queue_at}
 use Rattle.lock_queues.specs.Queues.{Tables, kept_of, closed_of, opened_of, found_of, has_room, counted_of}
