@@ -1,7 +1,5 @@
 //! A log whose events a memory permits.
-//!
-//! What is refused memory once is made once more.
-ghost use Rattle.std.specs.Prelude.{◌≡◌, ◌++◌, ◌∷◌, [], List, None, IfOk};
+ghost use Rattle.std.specs.Prelude.{◌≡◌, ◌++◌, ◌∷◌, [], List, None};
 ghost use Rattle.event_core.specs.declared.events.Event.{Event as AnEvent};
 ghost use Rattle.event_core.specs.Refusal.{Legal};
 ghost use Rattle.event_core.specs.Steps.{forked_by, log_of};
@@ -9,7 +7,7 @@ ghost use Rattle.event_core.specs.declared.bounds.Roots.TheVariants.{OnlyMain};
 ghost use Rattle.traced_mem.specs.OfLog.{StandsFor};
 
 use event_core::{Call, Event, Limits, Op, Roots, SiteId, Step, ThreadId};
-use log_pass::{Blank, Keeper, Name, NoRoom, Pass, Published};
+use log_pass::{Keeper, Name, Pass, Published};
 use std::alloc::Global;
 use std::process::Abort;
 use traced_mem::Memory;
@@ -22,16 +20,6 @@ pub fn limits() -> Limits
         unreachable!()
     };
     limits
-}
-
-pub fn blank(alloc: Global, limits: Limits) -> Result<Blank, NoRoom>
-    requires { limits.roots ≡ OnlyMain }
-    ensures { IfOk result (λ blank. blank.limits ≡ limits) }
-{
-    match Blank::new(alloc, limits) {
-        Ok(blank) => Ok(blank),
-        Err(NoRoom) => Blank::new(alloc, limits),
-    }
 }
 
 /// The memory before any event.
@@ -62,9 +50,7 @@ pub fn make<R: Abort>(rt: &R, memory: &mut Memory, thread: ThreadId, op: Op, arg
         arg,
     };
     memory.permit(&call).expect(rt, "permitted");
-    if memory.prepare(&call).is_err() {
-        memory.prepare(&call).expect(rt, "memory");
-    }
+    memory.prepare(&call).expect(rt, "memory");
     let value = memory.apply(&call);
     call.event_with(value)
 }

@@ -1,13 +1,12 @@
 //! Worked cases: calls by `permit`, `prepare` and `apply`, and what they are answered.
-//!
-//! A call that is answered OutOfMemory is made once more, so that each case has the same answers where
-//! one allocation is refused.
 mod cases;
 
+use crate::expected::{Place, expect};
 use cases::Row::{Called, Held, Holder, Swapped, Value};
 use cases::{Answer, CASES, Case, LOAD, Row, STORE};
 use event_core::{Call, Limits, LockId, Op, Refusal, SiteId, ThreadId, VarId};
 use std::alloc::Global;
+use std::process::Abort;
 use traced_mem::Memory;
 
 fn call(thread: u32, op: Op, arg: u64) -> Call {
@@ -27,9 +26,10 @@ fn make_once(memory: &mut Memory, call: &Call) -> Answer {
     Ok(memory.apply(call))
 }
 
-fn make(memory: &mut Memory, call: &Call) -> Answer {
+/// The answer to the call, which is made once more where it is out of memory and is to be asked again.
+fn make(memory: &mut Memory, call: &Call, asks_again: bool) -> Answer {
     match make_once(memory, call) {
-        Err(Refusal::OutOfMemory) => make_once(memory, call),
+        Err(Refusal::OutOfMemory) if asks_again => make_once(memory, call),
         answer => answer,
     }
 }
@@ -47,53 +47,58 @@ fn swap_once(memory: &mut Memory, thread: u32, arg: u64) -> Answer {
     Ok(value)
 }
 
-fn swap(memory: &mut Memory, thread: u32, arg: u64) -> Answer {
+fn swap(memory: &mut Memory, thread: u32, arg: u64, asks_again: bool) -> Answer {
     match swap_once(memory, thread, arg) {
-        Err(Refusal::OutOfMemory) => swap_once(memory, thread, arg),
+        Err(Refusal::OutOfMemory) if asks_again => swap_once(memory, thread, arg),
         answer => answer,
     }
 }
 
-/// Whether the memory answers so.
-fn agrees(memory: &mut Memory, row: &Row) -> bool {
+/// The memory answers so.
+fn expect_row(rt: &impl Abort, place: Place, memory: &mut Memory, row: &Row, asks_again: bool) {
     match *row {
-        Called(thread, op, arg, answer) => make(memory, &call(thread, op, arg)) == answer,
-        Swapped(thread, arg, answer) => swap(memory, thread, arg) == answer,
+        Called(thread, op, arg, answer) => {
+            let came = make(memory, &call(thread, op, arg), asks_again);
+            expect(rt, place, came, answer);
+        }
+        Swapped(thread, arg, answer) => {
+            expect(rt, place, swap(memory, thread, arg, asks_again), answer);
+        }
         Holder(holder, depth) => {
-            memory.holder(LockId(0)) == holder && memory.depth(LockId(0)) == depth
+            let came = (memory.holder(LockId(0)), memory.depth(LockId(0)));
+            expect(rt, place, came, (holder, depth));
         }
-        Held(locks) => memory.held(ThreadId(0)) == locks,
-        Value(var, value) => memory.value(var) == value,
+        Held(locks) => expect(rt, place, memory.held(ThreadId(0)), locks),
+        Value(var, value) => expect(rt, place, memory.value(var), value),
     }
 }
 
-/// Whether the memory gives these answers, one after another.
-fn agrees_with_all(memory: &mut Memory, rows: &[Row]) -> bool {
-    for row in rows {
-        if !agrees(memory, row) {
-            return false;
-        }
-    }
-    true
-}
-
-/// Whether a new memory gives the answers of the case.
-fn is_answered(alloc: Global, case: &Case) -> bool {
-    let Ok(limits) = Limits::new(case.threads, case.locks, case.vars, case.events, case.roots)
-    else {
-        return false;
-    };
-    let Ok(mut memory) = Memory::new(alloc, limits) else {
+/// A new memory gives the answers of the case, one after another.
+fn expect_case(rt: &impl Abort, alloc: Global, case: &Case, asks_again: bool) {
+    let limits = Limits::new(case.threads, case.locks, case.vars, case.events, case.roots);
+    let Ok(mut memory) = Memory::new(alloc, limits.expect(rt, case.name)) else {
         unreachable!()
     };
-    let agrees = agrees_with_all(&mut memory, case.rows);
+    for (number, row) in (0u64..).zip(case.rows) {
+        let place = Place {
+            case: case.name,
+            row: number,
+        };
+        expect_row(rt, place, &mut memory, row, asks_again);
+    }
     drop(memory);
-    agrees
 }
 
 #[test]
 fn calls_and_swaps_are_answered(rt: HostRuntime) {
     for case in CASES {
-        assert!(rt; is_answered(rt.alloc(), case), "{}", case.name);
+        expect_case(&rt, rt.alloc(), case, false);
+    }
+}
+
+#[test]
+fn calls_and_swaps_are_answered_where_memory_is_refused(rt: HostRuntime) {
+    for case in CASES {
+        expect_case(&rt, rt.alloc(), case, true);
     }
 }

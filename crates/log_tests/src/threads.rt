@@ -3,7 +3,8 @@ ghost use Rattle.std.specs.Prelude.{◌≡◌, []};
 ghost use Rattle.event_core.specs.Steps.{log_of};
 ghost use Rattle.traced_mem.specs.OfLog.{StandsFor};
 
-use super::logged::{blank, limits, memory, perform, perform_fork};
+use super::expected::expect;
+use super::logged::{limits, memory, perform, perform_fork};
 use super::passes::expect_found;
 use event_core::{Op, ThreadId, VarId};
 use log_pass::{Blank, Keeper, Name, Pass, Published};
@@ -66,35 +67,40 @@ fn stores<N: Name, R: Abort>(
     pass
 }
 
-/// The pass after 100 looks, and whether no number was below the one before it.
-fn looks<N: Name>(published: &Published<N>, pass: Pass<N>) -> (Pass<N>, bool) {
+/// Two numbers that a pass found one after the other, of which the second is less.
+type Fall = (u64, u64);
+
+/// The pass after 100 looks, and the last fall, if there was one.
+fn looks<N: Name>(published: &Published<N>, pass: Pass<N>) -> (Pass<N>, Option<Fall>) {
     let mut pass = pass;
     let mut last = 0;
-    let mut grew = true;
+    let mut fall = None;
     for _ in 0..100 {
         let (next, found) = published.look(pass);
-        grew = grew && last <= found;
+        if found < last {
+            fall = Some((last, found));
+        }
         last = found;
         pass = next;
     }
-    (pass, grew)
+    (pass, fall)
 }
 
-/// The pass after it met each of the others, and whether every one of those grew.
+/// The pass after it met each of the others, and the last fall that one of those found.
 fn meets<N: Name>(
     published: &Published<N>,
     pass: Pass<N>,
-    others: Vec<(Pass<N>, bool)>,
-) -> (Pass<N>, bool) {
+    others: Vec<(Pass<N>, Option<Fall>)>,
+) -> (Pass<N>, Option<Fall>) {
     let mut pass = pass;
-    let mut all_grew = true;
-    for (other, grew) in others {
+    let mut fall = None;
+    for (other, fell) in others {
         let (first, second) = published.meet(pass, other);
         drop(second);
         pass = first;
-        all_grew = all_grew && grew;
+        fall = fell.or(fall);
     }
-    (pass, all_grew)
+    (pass, fall)
 }
 
 /// Eight threads look while the first one stores, and no number that they find goes back.
@@ -123,10 +129,10 @@ fn look_beside_stores<N: Name + Send + Sync, R: Threads + Abort + Sync>(
         drop(pass);
         return Err(AllocError);
     };
-    assert!(rt; looked.len() == 8);
-    let (pass, all_grew) = meets(published, pass, looked);
-    assert!(rt; all_grew);
-    let pass = expect_found(rt, published, pass, 108);
+    expect(rt, "threads that looked", looked.len(), 8);
+    let (pass, fall) = meets(published, pass, looked);
+    expect(rt, "a number that goes back", fall, None);
+    let pass = expect_found(rt, published, pass, "a look after the stores", 108);
     drop(pass);
     Ok(())
 }
@@ -155,10 +161,7 @@ fn eight_threads_look<N: Name + Send + Sync, R: Threads + Abort + Sync>(
 fn looks_never_go_back(rt: HostRuntime) -> Result<(), Fail> {
     let limits = limits();
     let alloc = rt.alloc();
-    let first = blank(alloc, limits)?;
-    if eight_threads_look::<Brand, _>(&rt, alloc, first, memory(alloc, limits)).is_err() {
-        let second = blank(alloc, limits)?;
-        eight_threads_look::<Brand, _>(&rt, alloc, second, memory(alloc, limits))?;
-    }
+    let blank = Blank::new(alloc, limits)?;
+    eight_threads_look::<Brand, _>(&rt, alloc, blank, memory(alloc, limits))?;
     Ok(())
 }

@@ -1,8 +1,8 @@
 //! A list of five verdicts, two of which are races.
-//!
-//! Where a growth is refused once, the same call is made again.
+use crate::expected::expect;
 use event_core::{OutOfMemory, Verdict};
 use std::alloc::Global;
+use std::process::Abort;
 use verdict_list::{Race, Verdicts};
 
 const VERDICTS: &[Verdict] = &[
@@ -16,53 +16,60 @@ const VERDICTS: &[Verdict] = &[
 const RACES: &[Race] = &[Race { event: 1, with: 0 }, Race { event: 4, with: 3 }];
 
 /// Room is made before verdicts are added.
-fn makes_room(verdicts: &mut Verdicts) -> Result<bool, OutOfMemory> {
-    let had_none = verdicts.len() == 0 && !verdicts.has_room(1);
-    match verdicts.reserve(5) {
-        Ok(()) => {}
-        Err(OutOfMemory) => verdicts.reserve(5)?,
-    }
-    Ok(had_none && verdicts.len() == 0 && verdicts.has_room(5))
+fn expect_room(rt: &impl Abort, verdicts: &mut Verdicts, asks_again: bool) {
+    expect(
+        rt,
+        "an empty list",
+        (verdicts.len(), verdicts.has_room(1)),
+        (0, false),
+    );
+    let made = match verdicts.reserve(5) {
+        Err(OutOfMemory) if asks_again => verdicts.reserve(5),
+        made => made,
+    };
+    expect(rt, "room for five verdicts", made, Ok(()));
+    expect(
+        rt,
+        "a list with room",
+        (verdicts.len(), verdicts.has_room(5)),
+        (0, true),
+    );
 }
 
-/// Whether the verdicts are added, one after another.
-fn adds_all(verdicts: &mut Verdicts) -> bool {
+/// Adds the verdicts, one after another, as far as there is room.
+fn add_all(verdicts: &mut Verdicts) {
     for verdict in VERDICTS {
-        if verdicts.len() >= 5 || !verdicts.has_room(1) {
-            return false;
+        if verdicts.len() < 5 && verdicts.has_room(1) {
+            verdicts.push(*verdict);
         }
-        verdicts.push(*verdict);
     }
-    true
 }
 
-/// Whether each verdict is told by the index of its event.
-fn tells_all(verdicts: &Verdicts) -> bool {
-    let mut index = 0;
-    for verdict in VERDICTS {
-        if index >= verdicts.len() || verdicts.at(index) != *verdict {
-            return false;
-        }
-        index += 1;
+/// Each verdict is told by the index of its event.
+fn expect_all(rt: &impl Abort, verdicts: &Verdicts) {
+    expect(rt, "a list of five", verdicts.len(), 5);
+    for (index, verdict) in (0u64..).zip(VERDICTS) {
+        let came = (index < verdicts.len()).then(|| verdicts.at(index));
+        expect(rt, format_args!("verdict {index}"), came, Some(*verdict));
     }
-    verdicts.len() == 5
 }
 
-/// Whether the races are listed in the order of the log.
-fn lists_races(verdicts: &Verdicts) -> bool {
-    verdicts.races() == RACES
-}
-
-/// Whether a new list makes room, adds the verdicts, tells each, and lists the races.
-fn is_kept(alloc: Global) -> Result<bool, OutOfMemory> {
+/// A new list makes room, takes the verdicts, tells each, and lists the races in the order of the log.
+fn expect_kept(rt: &impl Abort, alloc: Global, asks_again: bool) {
     let mut verdicts = Verdicts::new(alloc);
-    let has_room = makes_room(&mut verdicts);
-    let is_kept = adds_all(&mut verdicts) && tells_all(&verdicts) && lists_races(&verdicts);
+    expect_room(rt, &mut verdicts, asks_again);
+    add_all(&mut verdicts);
+    expect_all(rt, &verdicts);
+    expect(rt, "the races", verdicts.races(), RACES);
     drop(verdicts);
-    Ok(has_room? && is_kept)
 }
 
 #[test]
 fn verdicts_and_their_races_are_kept(rt: HostRuntime) {
-    assert!(rt; is_kept(rt.alloc()) == Ok(true));
+    expect_kept(&rt, rt.alloc(), false);
+}
+
+#[test]
+fn verdicts_and_their_races_are_kept_where_memory_is_refused(rt: HostRuntime) {
+    expect_kept(&rt, rt.alloc(), true);
 }
