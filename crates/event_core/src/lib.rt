@@ -19,4 +19,4 @@ pub use ids::{LockId, SiteId, ThreadId, VarId};
 pub use logs::Log;
 pub use replies::{Done, OutOfMemory, Outcome, Refusal, Reply, SwapReply, Verdict};
 pub use steps::Step;
-pub use tables::grow_to;
+pub use tables::{grow_to, reserve, reserve_to};

@@ -1,5 +1,5 @@
 -- What is kept of a lock fits its cells after each call.
-use Rattle.std.proofs.Common.{◌≡◌, ℕ, ◌+◌, ◌<◌, ◌≤◌, Bool, true, false, ◌&&◌, ◌||◌, inl, inr, cond, List}
+use Rattle.std.proofs.Common.{◌≡◌, ℕ, ◌+◌, ◌*◌, ◌<◌, ◌≤◌, Bool, true, false, ◌&&◌, ◌||◌, inl, inr, cond, List}
 use Rattle.std.proofs.Common.{[], ◌∷◌, ◌++◌, length, nat_eq, ◌⊎◌, refl, sym, ap, subst, ◌∙◌, arith}
 use Rattle.std.specs.Prelude.{nat_lt, Option, None, Some}
 use Rattle.std.specs.List.{list_any}
@@ -77,8 +77,9 @@ kept_other l m old new k n c kept =
             (subst (λ (b : ℕ). i < b) (sym size) h.0, own_same l m old new c.places i ∙ h.1);
       };
       few = subst (λ (b : ℕ). length k.listed ≤ b) (sym marks_to) kept.few;
-      count = subst (λ (b : ℕ). b ≤ k.count) (sym owns_to) kept.count;
+      count = subst (λ (b : ℕ). b ≡ k.count) (sym owns_to) kept.count;
       capacity = kept.capacity;
+      memory = kept.memory;
       sought = subst (λ (ps : List Place). IsSought m ps k.sought) (sym c.places) kept.sought;
     }
 
@@ -167,15 +168,16 @@ kept_more s l v m k n kept = record {
       = ap (λ b. cond {A = ℕ} b 1 0) (ne_eqb l m (λ e. n (sym e))) in
       omega (arith, c, more, none);
   capacity = kept.capacity;
+  memory = kept.memory;
   sought = sought_more s.places (place l v) m k.sought kept.sought;
 }
 
 -- a cell of the lock joins, and was sought
 pub kept_new : (s : Stored) (l v at : ℕ) (k : Kept) (most : ℕ) → place_of s.places l v ≡ length s.places
-    → at ≡ length s.places → k.count + 1 ≤ most → IsKept l s k
+    → at ≡ length s.places → k.count + 1 ≤ most → most ≤ 2 * (k.count + 2) → IsKept l s k
     → IsKept l (with_place s l v)
     (record k { count = k.count + 1; most = most; sought = Some (record { var = v; at = at }) })
-kept_new s l v at k most e q room kept = record {
+kept_new s l v at k most e q room memory kept = record {
   same = same_more s l v kept.same;
   listed = listed_more s l v l k.listed kept.same kept.listed;
   few = few_more s l v l (length k.listed) kept.same kept.few;
@@ -185,6 +187,7 @@ kept_new s l v at k most e q room kept = record {
       let one : cond {A = ℕ} (nat_eq l l) 1 0 ≡ 1 = ap (λ b. cond {A = ℕ} b 1 0) (eq-eqb l l refl) in
       omega (arith, c, more, one);
   capacity = room;
+  memory = omega (arith, memory);
   sought =
       let long = length_push s.places (place l v) in
       (q ∙ sym (place_new s.places l v e), omega (arith, q, long));
@@ -192,8 +195,8 @@ kept_new s l v at k most e q room kept = record {
 
 -- the list in another place, with no less room
 pub kept_as : (s : Stored) (l : ℕ) (k : Kept) (xs : List ℕ) (most : ℕ) → xs ≡ k.listed → k.most ≤ most
-    → IsKept l s k → IsKept l s (record k { listed = xs; most = most })
-kept_as s l k xs most e more kept =
+    → most ≤ 2 * (k.count + 1) → IsKept l s k → IsKept l s (record k { listed = xs; most = most })
+kept_as s l k xs most e more memory kept =
     subst (λ ys. IsKept l s (record k { listed = ys; most = most })) (sym e)
     record {
       same = kept.same;
@@ -201,6 +204,7 @@ kept_as s l k xs most e more kept =
       few = kept.few;
       count = kept.count;
       capacity = (let c = kept.capacity in omega (arith, c, more));
+      memory = memory;
       sought = kept.sought;
     }
 
@@ -295,8 +299,9 @@ kept_first l at by kind old new k h own off m kept =
         ];
       };
       few = omega (arith, long, few, one, to);
-      count = subst (λ (b : ℕ). b ≤ k.count) (sym owns) kept.count;
+      count = subst (λ (b : ℕ). b ≡ k.count) (sym owns) kept.count;
       capacity = kept.capacity;
+      memory = kept.memory;
       sought = subst (λ (ps : List Place). IsSought l ps k.sought) (sym m.places) kept.sought;
     }
 
@@ -331,8 +336,9 @@ kept_again l at by kind old new k own noted m kept =
             (subst (λ (b : ℕ). i < b) (sym size) was.0, own_same l l old new m.places i ∙ was.1);
       };
       few = subst (λ (b : ℕ). length k.listed ≤ b) (sym marks) kept.few;
-      count = subst (λ (b : ℕ). b ≤ k.count) (sym owns) kept.count;
+      count = subst (λ (b : ℕ). b ≡ k.count) (sym owns) kept.count;
       capacity = kept.capacity;
+      memory = kept.memory;
       sought = subst (λ (ps : List Place). IsSought l ps k.sought) (sym m.places) kept.sought;
     }
 

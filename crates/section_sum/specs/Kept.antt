@@ -1,6 +1,8 @@
 -- What is kept of a lock beside its cells.
 use Rattle.std.specs.Prelude.{
   ℕ,
+  ◌+◌,
+  ◌*◌,
   ◌≡◌,
   ◌<◌,
   ◌≤◌,
@@ -15,6 +17,8 @@ use Rattle.std.specs.Prelude.{
   Option,
   None,
   IfSome,
+  Vec,
+  vec_capacity,
 }
 use Rattle.std.specs.List.{list_any}
 use Rattle.section_sum.specs.Cell.{cell_at, is_noted}
@@ -61,10 +65,16 @@ pub record IsKept (l : ℕ) (s : Stored) (k : Kept) : Type 0 where
   pub listed : AreListed l s k.listed
   -- no more are listed than have an access in the open section
   pub few : length k.listed ≤ count_to (is_marked l s) (length s.places)
-  pub count : count_to (is_own l s) (length s.places) ≤ k.count
+  pub count : count_to (is_own l s) (length s.places) ≡ k.count
   pub capacity : k.count ≤ k.most
+  -- there is memory for at most twice as many as the lock has, and one
+  pub memory : k.most ≤ 2 * (k.count + 1)
   pub sought : IsSought l s.places k.sought
 
 -- and so is what is kept of each lock
 abbrev pub AreKept : Stored → List Kept → Type 0
 AreKept s locks = (l : ℕ) → IsKept l s (kept_at locks l)
+
+-- there is memory for at most twice as many rows as there are
+abbrev pub IsFitted : {X Z : Type 0} → Vec X Z → Type 0
+IsFitted rows = vec_capacity rows ≤ 2 * length rows.items

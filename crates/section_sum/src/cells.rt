@@ -6,7 +6,7 @@ ghost use Rattle.section_sum.specs.Cell.{cell_at, closed_as, marked_as, is_noted
 ghost use Rattle.section_sum.specs.Cells.{place_of, no_cells, with_place};
 
 use crate::cell::{Cell, close_cell, mark_cell, new_cell};
-use event_core::{AccessKind, LockId, OutOfMemory, ThreadId, VarId};
+use event_core::{AccessKind, LockId, OutOfMemory, ThreadId, VarId, reserve};
 use indexmap::IndexSet;
 use std::alloc::Global;
 use std::marker::Model;
@@ -26,14 +26,15 @@ pub struct Cells {
 }
 
 impl Model for Cells {
-    ghost use Rattle.std.specs.Prelude.{◌≡◌, length};
+    ghost use Rattle.std.specs.Prelude.{◌≡◌, ◌+◌, ◌*◌, ◌≤◌, length, vec_capacity};
     ghost use Rattle.section_sum.specs.Cells.{Stored};
 
     ghost Value = { Stored };
 
     ghost view = { λ a. record { places = a.places.keys; cells = a.cells.items } };
 
-    ghost invariant = { λ a. length a.cells.items ≡ length a.places.keys };
+    ghost invariant = { λ a. (length a.cells.items ≡ length a.places.keys)
+        × (vec_capacity a.cells ≤ 2 * (length a.cells.items + 1)) };
 }
 
 impl Cells {
@@ -63,7 +64,7 @@ impl Cells {
             (λ _. self.new ≡ self.old) }
     {
         let at = self.cells.len();
-        self.cells.reserve(1)?;
+        reserve(&mut self.cells, 1)?;
         self.places.insert(Place { lock, var })?;
         self.cells.push_reserved(new_cell());
         Ok(at)

@@ -8,7 +8,7 @@ ghost use Rattle.section_sum.specs.Cells.{place_of, lock_at, HasGrown};
 ghost use Rattle.section_sum.specs.Kept.{no_kept, IsSought, IsKept};
 
 use crate::cells::Cells;
-use event_core::{AccessKind, LockId, OutOfMemory, ThreadId, VarId};
+use event_core::{AccessKind, LockId, OutOfMemory, ThreadId, VarId, reserve_to};
 use std::alloc::Global;
 use std::marker::Model;
 
@@ -100,7 +100,7 @@ impl Lock {
             return Ok(());
         }
         let count = self.count + 1;
-        self.listed.reserve(count)?;
+        reserve_to(&mut self.listed, count)?;
         let at = cells.add(lock, var)?;
         self.count = count;
         self.sought = Some(Sought { var: var.0, at });

@@ -1,6 +1,6 @@
 //! What is kept of all locks. A lock of which nothing is kept saw no access.
 ghost use Rattle.std.specs.Prelude.{◌≡◌, ℕ, ◌+◌, ◌<◌, ◌≤◌, ◌↔◌, length, true, is_ok, OnOk, OnErr, IsTrue};
-ghost use Rattle.section_sum.specs.Kept.{kept_at, AreKept};
+ghost use Rattle.section_sum.specs.Kept.{kept_at, AreKept, IsFitted};
 ghost use Rattle.section_sum.specs.Entries.{entries_of, sources_on, IsAlone};
 ghost use Rattle.section_sum.specs.Sums.{is_held};
 ghost use Rattle.section_sum.specs.Cells.{HasGrown};
@@ -30,6 +30,7 @@ pub fn make_room_held(
     ensures refused { OnErr result (((l : ℕ) → is_held held.now l ≡ true
         → (entries_of cells.new locks.new.items l).room var.0 ≡ true) → ⊥) }
     ensures grown { HaveGrown held.now var.0 cells.old cells.new }
+    ensures fitted { IsFitted locks.old → IsFitted locks.new }
 {
     for lock in held {
         make_room_under(cells, locks, alloc, *lock, var)?;
@@ -50,6 +51,7 @@ fn make_room_under(
     ensures same { SaySame (entries_of cells.old locks.old.items) (entries_of cells.new locks.new.items) }
     ensures room { is_ok result ≡ (entries_of cells.new locks.new.items lock.0).room var.0 }
     ensures grown { HasGrown lock.0 var.0 cells.old cells.new }
+    ensures fitted { IsFitted locks.old → IsFitted locks.new }
 {
     make_lock(locks, alloc, lock)?;
     let kept = &mut locks[lock.0 as usize];
@@ -61,6 +63,7 @@ fn make_lock(locks: &mut Vec<Lock>, alloc: Global, lock: LockId) -> Result<(), O
     ensures same { (l : ℕ) → kept_at locks.new.items l ≡ kept_at locks.old.items l }
     ensures there { OnOk result (lock.0 < length locks.new.items) }
     ensures refused { OnErr result (length locks.new.items ≤ lock.0) }
+    ensures fitted { IsFitted locks.old → IsFitted locks.new }
 {
     grow_to(locks, lock.0 as usize + 1, || Lock::new(alloc))
 }
@@ -106,6 +109,7 @@ pub fn note_held(
     ensures kept { AreKept cells.new locks.new.items }
     ensures noted { HaveNoted thread.0 held.now var.0 kind (entries_of cells.old locks.old.items)
         (entries_of cells.new locks.new.items) }
+    ensures fitted { IsFitted locks.old → IsFitted locks.new }
 {
     for lock in held {
         let kept = &mut locks[lock.0 as usize];
@@ -125,6 +129,7 @@ pub fn close_under(
     ensures kept { AreKept cells.new locks.new.items }
     ensures closed { HaveClosed thread.0 lock.0 number (entries_of cells.old locks.old.items)
         (entries_of cells.new locks.new.items) }
+    ensures fitted { IsFitted locks.old → IsFitted locks.new }
 {
     let at = lock.0 as usize;
     if at < locks.len() {

@@ -33,13 +33,13 @@ pub struct Summaries {
 
 impl Model for Summaries {
     ghost use Rattle.section_sum.specs.Sums.{Sums};
-    ghost use Rattle.section_sum.specs.Kept.{AreKept};
+    ghost use Rattle.section_sum.specs.Kept.{AreKept, IsFitted};
 
     ghost Value = { Sums };
 
     ghost view = { λ a. record { cells = a.cells; locks = a.locks.items } };
 
-    ghost invariant = { λ a. AreKept a.cells a.locks.items };
+    ghost invariant = { λ a. AreKept a.cells a.locks.items × IsFitted a.locks };
 }
 
 impl Summaries {

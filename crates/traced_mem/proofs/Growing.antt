@@ -1,6 +1,6 @@
 -- A further row that says nothing.
-use Rattle.std.proofs.Common.{◌≡◌, ℕ, ◌<◌, ◌≤◌, List, [], ◌∷◌, ◌++◌, length, get_or, refl, sym, ap, ◌∙◌}
-use Rattle.std.proofs.Common.{arith, inl, inr, subst}
+use Rattle.std.proofs.Common.{◌≡◌, ℕ, ◌<◌, ◌≤◌, List, [], ◌∷◌, ◌++◌, length, get_or, refl, ap, ◌∙◌}
+use Rattle.std.proofs.Common.{arith, subst}
 use Rattle.traced_mem.specs.declared.rows.ThreadRow.{ThreadRow}
 use Rattle.event_core.specs.declared.ids.ThreadId.{ThreadId}
 use Rattle.event_core.specs.declared.events.Op.{Op}
@@ -10,17 +10,7 @@ use Rattle.traced_mem.specs.Meaning.{Thread}
 use Rattle.traced_mem.specs.Tables.{Tables, meaning, cells_of, lock_of, lock_at, HeldBelow, thread_at}
 use Rattle.traced_mem.specs.Tables.{threads_of, thread_of}
 use Rattle.traced_mem.specs.Room.{HasRoom, IsReady, Grown}
-use Rattle.std.proofs.lemmas.Bool.{cases_lt, cases_eq}
-use Rattle.std.proofs.lemmas.List.{get_or_past, get_or_push, get_or_append_left, length_push}
-
-padded : {A : Type 0} (xs : List A) (d : A) (i : ℕ) → get_or (xs ++ d ∷ []) i d ≡ get_or xs i d
-padded xs d i = elim (cases_lt i (length xs)) [
-  | inl h ↦ get_or_append_left xs (d ∷ []) d i h
-  | inr h ↦ elim (cases_eq (length xs) i) [
-    | inl q ↦ get_or_push xs d d i q ∙ sym (get_or_past xs i d h)
-    | inr n ↦ get_or_past (xs ++ d ∷ []) i d (omega (arith, length_push xs d)) ∙ sym (get_or_past xs i d h)
-  ]
-]
+use Rattle.event_core.proofs.Blanks.{blank_reads_same}
 
 -- a list as a function, with d past its end
 abbrev pub reads : {A : Type 0} → A → List A → ℕ → A
@@ -28,7 +18,7 @@ reads d xs i = get_or xs i d
 
 pub padded_push : {A : Type 0} (xs ys : List A) (x d : A) → ys ≡ xs ++ x ∷ [] → x ≡ d
     → reads d ys ≡ reads d xs
-padded_push xs ys x d e is j i = (ap (λ zs. get_or zs i d) (e ∙ ap (λ z. xs ++ z ∷ []) is) ∙ padded xs d i) j
+padded_push xs ys x d e is j i = blank_reads_same d x xs ys e is i j
 
 pub grown_none : (xs : List ThreadRow) → Grown xs xs
 grown_none xs = record { rows = refl; more = omega arith; capacity = λ u. omega arith }

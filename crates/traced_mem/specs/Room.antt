@@ -1,5 +1,6 @@
 -- The room in a memory's tables.
-use Rattle.std.specs.Prelude.{◌≡◌, ℕ, ◌+◌, ◌^◌, ◌<◌, ◌≤◌, Bool, false, List, length, max, nat_eq}
+use Rattle.std.specs.Prelude.{◌≡◌, ℕ, ◌+◌, ◌*◌, ◌^◌, ◌<◌, ◌≤◌, Bool, false, List, length, max, nat_eq}
+use Rattle.std.specs.Prelude.{cond}
 use Rattle.smallvec.specs.SmallVec.{HasRoomFor}
 use Rattle.event_core.specs.declared.ids.ThreadId.{ThreadId}
 use Rattle.event_core.specs.declared.ids.VarId.{VarId}
@@ -47,12 +48,26 @@ abbrev pub cells_for : Op → ℕ
 cells_for (Store x) = x.0 + 1
 cells_for _ = 0
 
--- no table has grown beyond the numbers that the operation names; no clause bounds the memory that is
--- reserved for cells
+-- how many places in the list of the locks that v holds, which has so many
+abbrev pub places_for : ThreadId → Op → ℕ → ℕ → ℕ
+places_for u (Acquire l) v held = cond (nat_eq u.0 v) (held + 1) 0
+places_for u _ v held = 0
+
+-- no list of held locks has memory for more than twice what the operation needs, or had it before
+abbrev pub HeldFor : List ThreadRow → List ThreadRow → ThreadId → Op → Type 0
+HeldFor old new u o = (v : ℕ) → (thread_at new v).held.capacity
+    ≤ max (thread_at old v).held.capacity (2 * places_for u o v (length (thread_at old v).held.items))
+
+-- no table has grown beyond the numbers that the operation names, and none has memory for more than twice as
+-- many, or had it before
 pub record GrownFor (old new : Tables) (u : ThreadId) (o : Op) : Type 0 where
   pub threads : length new.threads ≤ max (length old.threads) (threads_for u o)
   pub locks : length new.locks ≤ max (length old.locks) (locks_for o)
   pub cells : length new.cells ≤ max (length old.cells) (cells_for o)
+  pub thread_room : new.thread_room ≤ max old.thread_room (2 * threads_for u o)
+  pub lock_room : new.lock_room ≤ max old.lock_room (2 * locks_for o)
+  pub cell_room : new.room ≤ max old.room (2 * cells_for o)
+  pub held : HeldFor old.threads new.threads u o
 
 -- more room, and the same meaning
 pub record Grown (old new : List ThreadRow) : Type 0 where

@@ -18,7 +18,9 @@ pub record Tables : Type 0 where
   pub threads : List ThreadRow
   pub locks : List LockRow
   pub cells : List ℕ
-  -- for so many cells there is memory
+  -- for so many rows of threads and of locks, and for so many cells, there is memory
+  pub thread_room : ℕ
+  pub lock_room : ℕ
   pub room : ℕ
 
 -- past a table's end nothing was done yet

@@ -1,11 +1,11 @@
 //! Growth of the tables: only as far as the numbers that are used, and before any change.
-ghost use Rattle.std.specs.Prelude.{◌≡◌, ◌+◌, ℕ, ◌<◌, ◌≤◌, length, max, OnOk, vec_capacity};
+ghost use Rattle.std.specs.Prelude.{◌≡◌, ◌+◌, ◌*◌, ℕ, ◌<◌, ◌≤◌, length, max, cond, nat_eq, OnOk, vec_capacity};
 ghost use Rattle.smallvec.specs.SmallVec.{HasRoomFor};
 ghost use Rattle.traced_mem.specs.Tables.{blank_thread, thread_at, lock_at, total};
-ghost use Rattle.traced_mem.specs.Room.{Grown, HasRoom, threads_for, locks_for};
+ghost use Rattle.traced_mem.specs.Room.{Grown, HasRoom, HeldFor, threads_for, locks_for, cells_for};
 
 use crate::rows::{LockRow, ThreadRow};
-use event_core::{Op, OutOfMemory, ThreadId, grow_to};
+use event_core::{Op, OutOfMemory, ThreadId, grow_to, reserve_to};
 use smallvec::SmallVec;
 use std::alloc::Global;
 
@@ -29,6 +29,8 @@ pub fn more_threads(
 ) -> Result<(), OutOfMemory>
     ensures grown { Grown threads.old.items threads.new.items }
     ensures most { length threads.new.items ≤ max (length threads.old.items) count }
+    ensures room { vec_capacity threads.new ≤ max (vec_capacity threads.old) (2 * count) }
+    ensures held { (u : ℕ) → thread_at threads.new.items u ≡ thread_at threads.old.items u }
     ensures ok { OnOk result (count ≤ length threads.new.items) }
 {
     grow_to(threads, count, || blank_row(alloc))
@@ -40,6 +42,7 @@ pub fn more_locks(locks: &mut Vec<LockRow>, count: usize) -> Result<(), OutOfMem
     ensures sum { total locks.new.items ≡ total locks.old.items }
     ensures more { length locks.old.items ≤ length locks.new.items }
     ensures most { length locks.new.items ≤ max (length locks.old.items) count }
+    ensures room { vec_capacity locks.new ≤ max (vec_capacity locks.old) (2 * count) }
     ensures ok { OnOk result (count ≤ length locks.new.items) }
 {
     let blank = LockRow {
@@ -49,14 +52,14 @@ pub fn more_locks(locks: &mut Vec<LockRow>, count: usize) -> Result<(), OutOfMem
     grow_to(locks, count, || blank)
 }
 
-/// Makes room for so many cells. Room for more is made with them, so that few stores find none.
+/// Makes room for so many cells. Room for up to twice as many is made, so that few stores find none.
 pub fn more_cells(cells: &mut Vec<u64>, count: usize) -> Result<(), OutOfMemory>
     ensures same { cells.new.items ≡ cells.old.items }
     ensures more { vec_capacity cells.old ≤ vec_capacity cells.new }
+    ensures room { vec_capacity cells.new ≤ max (vec_capacity cells.old) (2 * count) }
     ensures ok { OnOk result (count ≤ vec_capacity cells.new) }
 {
-    cells.reserve(count.saturating_sub(cells.len()))?;
-    Ok(())
+    reserve_to(cells, count)
 }
 
 /// Makes place for one more lock that the thread holds.
@@ -64,10 +67,15 @@ pub fn more_held(threads: &mut [ThreadRow], thread: usize) -> Result<(), OutOfMe
     requires { thread < length threads.old }
     ensures grown { Grown threads.old threads.new }
     ensures same { length threads.new ≡ length threads.old }
+    ensures held { (v : ℕ) → (thread_at threads.new v).held.capacity
+        ≤ max (thread_at threads.old v).held.capacity
+        (2 * cond (nat_eq thread v) (length (thread_at threads.old v).held.items + 1) 0) }
     ensures ok { OnOk result (HasRoomFor (thread_at threads.new thread).held 1) }
 {
-    let row = &mut threads[thread];
-    row.held.reserve(1)?;
+    let held = &mut threads[thread].held;
+    if held.len() == held.capacity() {
+        held.reserve_exact(held.len().max(1))?;
+    }
     Ok(())
 }
 
@@ -98,6 +106,10 @@ pub fn grow(
     ensures more_cells { vec_capacity cells.old ≤ vec_capacity cells.new }
     ensures most_threads { length threads.new.items ≤ max (length threads.old.items) (threads_for caller op) }
     ensures most_locks { length locks.new.items ≤ max (length locks.old.items) (locks_for op) }
+    ensures thread_room { vec_capacity threads.new ≤ max (vec_capacity threads.old) (2 * threads_for caller op) }
+    ensures lock_room { vec_capacity locks.new ≤ max (vec_capacity locks.old) (2 * locks_for op) }
+    ensures cell_room { vec_capacity cells.new ≤ max (vec_capacity cells.old) (2 * cells_for op) }
+    ensures held { HeldFor threads.old.items threads.new.items caller op }
     ensures caller { OnOk result (caller.0 < length threads.new.items) }
     ensures room { OnOk result
         (HasRoom threads.new.items (length locks.new.items) (vec_capacity cells.new) caller op) }
@@ -124,6 +136,9 @@ fn grow_for(
     ensures more_locks { length locks.old.items ≤ length locks.new.items }
     ensures more_cells { vec_capacity cells.old ≤ vec_capacity cells.new }
     ensures most_locks { length locks.new.items ≤ max (length locks.old.items) (locks_for op) }
+    ensures lock_room { vec_capacity locks.new ≤ max (vec_capacity locks.old) (2 * locks_for op) }
+    ensures cell_room { vec_capacity cells.new ≤ max (vec_capacity cells.old) (2 * cells_for op) }
+    ensures held { HeldFor threads.old threads.new caller op }
     ensures room { OnOk result
         (HasRoom threads.new (length locks.new.items) (vec_capacity cells.new) caller op) }
 {

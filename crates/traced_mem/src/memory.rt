@@ -63,6 +63,8 @@ impl Model for Memory {
       threads = a.threads.items;
       locks = a.locks.items;
       cells = a.cells.items;
+      thread_room = vec_capacity a.threads;
+      lock_room = vec_capacity a.locks;
       room = vec_capacity a.cells;
     } };
 
@@ -90,7 +92,7 @@ impl Memory {
     }
 
     /// Makes room for a call, or answers `OutOfMemory`. Nothing else changes, and each call that was ready
-    /// stays so. No clause bounds the memory that is reserved for cells.
+    /// stays so. A table that grows has memory for at most twice what the call needs.
     pub fn prepare(&mut self, call: &Call) -> Result<(), OutOfMemory>
         ensures same { meaning self.new ≡ meaning self.old }
         ensures limits { self.new.limits ≡ self.old.limits }

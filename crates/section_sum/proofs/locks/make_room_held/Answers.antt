@@ -25,6 +25,7 @@ loop-lock-preserved c = record {
   grown = held_grown c.args.held.now c.args.var.0 c.loop-lock.lock-index (record { 0 = 0 })
       c.args.cells.now c.loop-lock.cells c.make_room_under.new.cells c.loop-lock-test.true
       c.loop-lock.invariant.grown c.make_room_under.ensures.grown;
+  fitted = λ was. c.make_room_under.ensures.fitted (c.loop-lock.invariant.fitted was);
 }
 
 pub returns-in_err-make_room_under-clause-grown : goal.returns-in_err-make_room_under-clause-grown

@@ -1,5 +1,5 @@
 use Rattle.std.proofs.Common.{◌≡◌, ℕ, true, take}
-use Rattle.section_sum.specs.Kept.{AreKept}
+use Rattle.section_sum.specs.Kept.{AreKept, IsFitted}
 use Rattle.section_sum.specs.Entries.{entries_of}
 use Rattle.section_sum.specs.Sums.{is_held}
 use Rattle.section_sum.specs.Locks.{SaySame, HaveGrown}
@@ -12,4 +12,5 @@ invariant-loop-lock l = record {
   room : (m : ℕ) → is_held (take l.lock-index l.held) m ≡ true
       → (entries_of l.cells l.locks.items m).room l.var.0 ≡ true;
   grown : HaveGrown l.held l.var.0 l.fn.cells l.cells;
+  fitted : IsFitted l.fn.locks → IsFitted l.locks;
 }

@@ -1,4 +1,4 @@
-use Rattle.std.proofs.Common.{rules, ◌≡◌, ◌<◌, true, length, get_or, subst, sym, ◌∙◌}
+use Rattle.std.proofs.Common.{rules, ◌≡◌, ◌<◌, true, length, length-set, get_or, subst, sym, ◌∙◌, arith}
 use Rattle.std.proofs.lemmas.Bool.{ltb-true, eq-eqb}
 use Rattle.std.proofs.lemmas.List.{get_or_default}
 use Rattle.event_core.specs.declared.ids.LockId.{LockId}
@@ -75,4 +75,7 @@ loop-lock-preserved c =
           (c.requires.alone l.0 on)))
           (λ m n. says_other l.0 m c.loop-lock.cells c.note.new.cells c.loop-lock.locks.items
           c.note.new.self n changed);
+      fitted = λ was.
+          let had = c.loop-lock.invariant.fitted was in
+          let long = length-set c.loop-lock.locks.items l.0 c.note.new.self in omega (arith, had, long);
     }

@@ -1,5 +1,5 @@
 use Rattle.std.proofs.Common.{take}
-use Rattle.section_sum.specs.Kept.{AreKept}
+use Rattle.section_sum.specs.Kept.{AreKept, IsFitted}
 use Rattle.section_sum.specs.Entries.{entries_of}
 use Rattle.section_sum.specs.Locks.{HaveNoted}
 use Rattle.section_sum.proofs.locks.note_held.Given as goal
@@ -9,4 +9,5 @@ invariant-loop-lock l = record {
   kept : AreKept l.cells l.locks.items;
   noted : HaveNoted l.thread.0 (take l.lock-index l.held) l.var.0 l.kind
       (entries_of l.fn.cells l.fn.locks.items) (entries_of l.cells l.locks.items);
+  fitted : IsFitted l.fn.locks → IsFitted l.locks;
 }

@@ -16,8 +16,10 @@ invariant_of-self-2 c =
     let long = ap length grew ∙ length_push keys new in
     let was = c.self.invariant in
     let pushed = ap length c.push_reserved.ensures.items ∙ length_push _ _ in
-    let kept = ap length c.reserve.ensures.items in
-    omega (arith, long, was, pushed, kept)
+    let kept = ap length c.reserve.ensures.same in
+    let most = c.reserve.ensures.most in
+    let stays = c.push_reserved.ensures.capacity in
+    (omega (arith, long, was.0, pushed, kept), omega (arith, was.1, pushed, kept, most, stays))
 
 pub returns : goal.returns
 returns c =

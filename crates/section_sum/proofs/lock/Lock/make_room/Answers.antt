@@ -1,4 +1,4 @@
-use Rattle.std.proofs.Common.{rules, ◌≡◌, ◌≤◌, ◌+◌, length, sym, subst, inr, vec_capacity, Some}
+use Rattle.std.proofs.Common.{rules, ◌≡◌, ◌≤◌, ◌+◌, ◌*◌, length, sym, subst, inr, vec_capacity, Some, arith}
 use Rattle.section_sum.specs.Cells.{Stored, place_of}
 use Rattle.section_sum.specs.Kept.{Kept, IsKept}
 use Rattle.section_sum.proofs.Standing.{place_high}
@@ -15,19 +15,21 @@ returns-clause-kept c =
     = place_high _ _ _ c.in_default.ensures in
     let kept = subst (λ (k : Kept). IsKept c.args.lock.0 c.args.cells.now k) (sym c.self.view_is)
     c.requires.kept in
-    let room : c.self.inside.count + 1 ≤ vec_capacity c.reserve.new.self = search rules in
-    let more : vec_capacity c.self.inside.listed ≤ vec_capacity c.reserve.new.self = search rules in
+    let room : c.self.inside.count + 1 ≤ vec_capacity c.reserve_to.new.list = search rules in
+    let more : vec_capacity c.self.inside.listed ≤ vec_capacity c.reserve_to.new.list = search rules in
+    let most : vec_capacity c.reserve_to.new.list ≤ 2 * (c.self.inside.count + 1) =
+    let was = kept.memory in let grew = c.reserve_to.ensures.most in omega (arith, was, grew) in
     subst (λ (s : Stored). IsKept c.args.lock.0 s (record {
       by = c.self.inside.by.0;
       count = c.self.inside.count + 1;
-      listed = c.reserve.new.self.items;
-      most = vec_capacity c.reserve.new.self;
+      listed = c.reserve_to.new.list.items;
+      most = vec_capacity c.reserve_to.new.list;
       sought = Some (record { var = c.args.var.0; at = c.in_ok-at.at });
     })) (sym c.in_ok-at.ensures.1)
-    (kept_new c.args.cells.now c.args.lock.0 c.args.var.0 c.in_ok-at.at _ (vec_capacity c.reserve.new.self)
-    none c.in_ok-at.ensures.0 room
-    (kept_as c.args.cells.now c.args.lock.0 _ c.reserve.new.self.items (vec_capacity c.reserve.new.self)
-    c.reserve.ensures.items more kept))
+    (kept_new c.args.cells.now c.args.lock.0 c.args.var.0 c.in_ok-at.at _ (vec_capacity c.reserve_to.new.list)
+    none c.in_ok-at.ensures.0 room (omega (arith, most))
+    (kept_as c.args.cells.now c.args.lock.0 _ c.reserve_to.new.list.items (vec_capacity c.reserve_to.new.list)
+    c.reserve_to.ensures.same more most kept))
 
 pub returns-clause-grown : goal.returns-clause-grown
 returns-clause-grown c = inr (place_high _ _ _ c.in_default.ensures, c.in_ok-at.ensures.1)

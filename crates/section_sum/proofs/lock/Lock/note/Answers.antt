@@ -1,4 +1,4 @@
-use Rattle.std.proofs.Common.{rules, ◌≡◌, ◌≤◌, true, sym, ap, subst, ◌∙◌, vec_capacity}
+use Rattle.std.proofs.Common.{rules, ◌≡◌, ◌≤◌, ◌+◌, ◌*◌, true, sym, ap, subst, ◌∙◌, vec_capacity, arith}
 use Rattle.std.proofs.lemmas.Bool.{eq-eqb}
 use Rattle.section_sum.specs.Cell.{cell_at, is_noted}
 use Rattle.section_sum.specs.Kept.{Kept, is_own, IsKept}
@@ -25,9 +25,11 @@ returns-then-mark-clause-kept c =
     = ap (is_own c.args.lock.0 c.args.cells.now) c.in-Some.ensures.0
     ∙ eq-eqb _ _ (own_place c.args.cells.now.places c.args.lock.0 c.args.var.0 c.requires.room) in
     let more : vec_capacity c.self.inside.listed ≤ vec_capacity c.push_reserved.new.self = search rules in
+    let most : vec_capacity c.push_reserved.new.self ≤ 2 * (c.self.inside.count + 1) =
+    let was = kept.memory in let stays = c.push_reserved.ensures.capacity in omega (arith, was, stays) in
     kept_as c.mark.new.self c.args.lock.0 _ c.push_reserved.new.self.items
     (vec_capacity c.push_reserved.new.self)
-    c.push_reserved.ensures.items more
+    c.push_reserved.ensures.items more most
     (kept_first c.args.lock.0 c.in-Some.at c.args.thread.0 c.args.kind c.args.cells.now c.mark.new.self _
     c.in-Some.ensures.1 own off
     (record { places = c.mark.ensures.places; same = c.mark.ensures.same; exact = c.mark.ensures.exact })

@@ -23,12 +23,16 @@ returns-clause-same c =
       threads = c.self.inside.threads.items;
       locks = c.self.inside.locks.items;
       cells = c.self.inside.cells.items;
+      thread_room = vec_capacity c.self.inside.threads;
+      lock_room = vec_capacity c.self.inside.locks;
       room = vec_capacity c.self.inside.cells;
     } in
     let n : Tables = record t {
       threads = c.grow.new.threads.items;
       locks = c.grow.new.locks.items;
       cells = c.grow.new.cells.items;
+      thread_room = vec_capacity c.grow.new.threads;
+      lock_room = vec_capacity c.grow.new.locks;
       room = vec_capacity c.grow.new.cells;
     } in
     same_meaning t n refl refl c.grow.ensures.threads.rows c.grow.ensures.locks
@@ -43,12 +47,16 @@ returns-clause-kept c u o r =
       threads = c.self.inside.threads.items;
       locks = c.self.inside.locks.items;
       cells = c.self.inside.cells.items;
+      thread_room = vec_capacity c.self.inside.threads;
+      lock_room = vec_capacity c.self.inside.locks;
       room = vec_capacity c.self.inside.cells;
     } in
     let n : Tables = record t {
       threads = c.grow.new.threads.items;
       locks = c.grow.new.locks.items;
       cells = c.grow.new.cells.items;
+      thread_room = vec_capacity c.grow.new.threads;
+      lock_room = vec_capacity c.grow.new.locks;
       room = vec_capacity c.grow.new.cells;
     } in
     ready_grown t n c.grow.ensures.threads c.grow.ensures.more_locks

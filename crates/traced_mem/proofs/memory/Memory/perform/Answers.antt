@@ -64,6 +64,8 @@ returns-clause-kept c u o free r =
       threads = c.self.inside.threads.items;
       locks = c.self.inside.locks.items;
       cells = c.self.inside.cells.items;
+      thread_room = vec_capacity c.self.inside.threads;
+      lock_room = vec_capacity c.self.inside.locks;
       room = vec_capacity c.self.inside.cells;
     } in
     let lent : Tables = record old {
@@ -77,6 +79,8 @@ returns-clause-kept c u o free r =
       threads = c.apply_rows.new.threads;
       locks = c.apply_rows.new.locks;
       cells = c.apply_rows.new.cells.items;
+      thread_room = vec_capacity c.self.inside.threads;
+      lock_room = vec_capacity c.self.inside.locks;
       room = vec_capacity c.apply_rows.new.cells;
     } in
     let before : IsReady lent u o
