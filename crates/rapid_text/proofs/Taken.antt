@@ -1,7 +1,8 @@
 -- What the steps of a cutter take of a text, and where a text stands that was not read to its end.
 use Rattle.std.proofs.Common.{◌≡◌, ℕ, ◌≤◌, ◌⊎◌, List, [], ◌∷◌, ◌++◌, length, length-append}
 use Rattle.std.proofs.Common.{Option, Some, None, Bool, true, refl, sym, ap, subst, ◌∙◌, append_assoc}
-use Rattle.std.proofs.Common.{append-nil, arith, inl, inr}
+use Rattle.std.proofs.Common.{append-nil, arith, inl, inr, take, drop}
+use Rattle.std.proofs.lemmas.List.{length-drop, take-append-drop}
 use Rattle.std.specs.Prelude.{IfSome}
 use Rattle.std.specs.Io.KnownBytes.{Consumes}
 use Rattle.rapid_line.specs.Cut.{count, after_last}
@@ -9,8 +10,11 @@ use Rattle.rapid_line.specs.Lines.{Lines, Cuts, Keeps}
 use Rattle.rapid_line.proofs.Cuts.{after_last-append, after_last-end, after_last-Lacks, count-append}
 use Rattle.rapid_line.proofs.Cuts.{count-Lacks}
 use Rattle.rapid_line.proofs.LineLaws.{first_cut}
+use Rattle.event_core.specs.declared.events.Event.{Event}
+use Rattle.rapid_text.specs.Cutting.{Cutting, Pushes}
 use Rattle.rapid_text.specs.Feeding.{Pulled}
-use Rattle.rapid_text.specs.Taking.{Place, lines_place, start, AreUnended, Advances, StopsShort}
+use Rattle.rapid_text.specs.Taking.{Place, lines_place, place_of, start, AreUnended}
+use Rattle.rapid_text.specs.Taking.{Advances, StopsShort}
 
 -- a line that ended
 pub cuts_advance : (s t : Lines) (piece line rest : List ℕ) → Cuts s piece line rest t
@@ -44,6 +48,25 @@ keeps_advance s t piece k few = record {
   unended = λ _. few;
   taken = omega (arith, k.taken);
 }
+
+-- a push
+pub push_advances : (s t : Cutting) (piece : List ℕ) (used : ℕ) (o : Option Event) → Pushes s t piece used o
+    → AreUnended t.kept → Advances (place_of s) piece (drop used piece) (place_of t)
+push_advances s t piece used o p few =
+    let front = take used piece in
+    let rest = drop used piece in
+    let parts : front ++ rest ≡ piece = take-append-drop used piece in
+    record {
+      lines =
+          let both = sym (count-append 10 front rest) ∙ ap (λ (b : List ℕ). count 10 b) parts in
+          omega (arith, p.lines, both);
+      kept = ap (λ (b : List ℕ). after_last 10 (b ++ rest)) p.kept
+          ∙ sym (after_last-append 10 (s.kept ++ front) rest)
+          ∙ ap (λ (b : List ℕ). after_last 10 b)
+          (append_assoc s.kept front rest ∙ ap (λ (b : List ℕ). s.kept ++ b) parts);
+      unended = λ _. few;
+      taken = let left = length-drop used piece in omega (arith, p.taken, p.used_within, left);
+    }
 
 -- a text of which these bytes were pulled and taken, where the pulling stopped
 pub stops_short : (left rest : Option (List ℕ)) (turns : ℕ) (failed : Bool) (now : Place)

@@ -1,24 +1,26 @@
 -- A text that was not read to its end: its fault is at the line whose end was not seen, and none is before
 -- it.
 use Rattle.std.proofs.Common.{◌≡◌, ℕ, ◌+◌, List, [], ◌∷◌, ◌++◌, Option, Some, None, Result, Ok, Err}
-use Rattle.std.proofs.Common.{sym, ap, subst, ◌∙◌, arith}
+use Rattle.std.proofs.Common.{refl, sym, ap, subst, ◌∙◌, arith, ◌≤◌, ◌⊎◌, length, Bool, true}
 use Rattle.std.specs.Prelude.{IfErr}
-use Rattle.std.specs.Io.KnownBytes.{Consumes}
 use Rattle.event_core.specs.declared.bounds.Limits.{Limits}
 use Rattle.event_core.specs.declared.events.Event.{Event}
 use Rattle.event_core.specs.declared.replies.Refusal.{Refusal}
 use Rattle.event_core.specs.Refusal.{refusal}
-use Rattle.rapid_line.specs.Cut.{content, count}
+use Rattle.rapid_line.specs.Cut.{content}
 use Rattle.rapid_text.specs.declared.causes.Cause.{Cause}
 use Rattle.rapid_text.specs.declared.causes.Cause.TheVariants.{Read}
 use Rattle.rapid_text.specs.Cutting.{Cutting, begun, judged}
 use Rattle.rapid_text.specs.Events.{reading}
 use Rattle.rapid_text.specs.Tables.{Tables}
+use Rattle.rapid_text.specs.Taking.{Advances, place_of}
+use Rattle.rapid_text.specs.Feeding.{Pulled}
 use Rattle.rapid_text.specs.Texts.{after_line, judge, lines_of}
 use Rattle.trace_report.specs.declared.faults.ReplayFault.{ReplayFault}
 use Rattle.trace_report.specs.declared.faults.ReplayFault.TheVariants.{Text, Refused, Write}
 use Rattle.trace_report.specs.Findings.{Trace, call_of, finding, finding_after, refused_or}
 use Rattle.trace_report.specs.Feeding.{IsCutAt, IsFrom, Takes}
+use Rattle.rapid_text.proofs.Taken.{stops_short}
 use Rattle.trace_report.proofs.Playing.{with_line}
 
 from_next : (n : ℕ) (found : Result Trace ReplayFault) → IfErr found (IsFrom (n + 1)) → IfErr found (IsFrom n)
@@ -56,22 +58,22 @@ from_line m log [] t n = tt
 from_line m log (l ∷ ls) t n =
     at_line m log ls t n (λ longer u. from_next n _ (from_line m longer ls u (n + 1))) (reading t (content l))
 
--- a text of which these bytes came and were taken
-pub cut_text : (m : Limits) (A B : Limits → List Event → Type 0) (left rest : Option (List ℕ)) (s t : Cutting)
-    (bytes : List ℕ) → s ≡ begun m → A m [] → Consumes left rest bytes → Takes A B s bytes [] t
-    → IsCutAt m left rest (Text (record { line = t.unfinished; cause = Read }))
+-- a text of which these bytes came and were taken, where the pulling stopped
+pub cut_text : (m : Limits) (A B : Limits → List Event → Type 0) (left rest : Option (List ℕ)) (turns : ℕ)
+    (failed : Bool) (s t : Cutting) (So : List ℕ → Type 0) → s ≡ begun m → A m []
+    → Pulled left rest turns (λ bytes. So bytes × ((failed ≡ true) ⊎ (turns ≤ length bytes)))
+    → ((bytes : List ℕ) → So bytes → Takes A B s bytes [] t)
+    → IsCutAt m left rest turns failed (Text (record { line = t.unfinished; cause = Read }))
 unfolding finding
-cut_text m A B left rest s t bytes is a came takes =
-    let on = takes.goes_on m [] a in
-    let first : s.unfinished ≡ 1 = ap (λ (c : Cutting). c.unfinished) is in
-    let ended : t.unfinished + 0 ≡ s.unfinished + count 10 bytes = takes.lines in
-    let line : t.unfinished ≡ 1 + count 10 bytes = omega arith in
-    record {
-      came = bytes;
-      bytes = came;
-      at = ap (λ (n : ℕ). Text (record { line = n; cause = Read })) line;
-      before = λ more. subst (λ (found : Result Trace ReplayFault). IfErr found (IsFrom (1 + count 10 bytes)))
-          (sym (ap (λ (c : Cutting). finding_after m [] (judged c (bytes ++ more))) (sym is) ∙ on.same more))
-          (subst (λ (n : ℕ). IfErr (finding_after m on.longer (judged t more)) (IsFrom n)) line
-          (from_line m on.longer (lines_of (t.kept ++ more)) t.names t.unfinished));
-    }
+cut_text m A B left rest turns failed s t So is a pulled takes = record {
+  line = t.unfinished;
+  at = refl;
+  stops = stops_short left rest turns failed (place_of t) So _ pulled (λ bytes so. let all = takes bytes so in
+      let on = all.goes_on m [] a in (
+        subst (λ (c : Cutting). Advances (place_of c) bytes [] (place_of t)) is all.advances,
+        λ (more : List ℕ). subst (λ (found : Result Trace ReplayFault). IfErr found (IsFrom t.unfinished))
+            (sym (ap (λ (c : Cutting). finding_after m [] (judged c (bytes ++ more))) (sym is)
+            ∙ on.same more))
+            (from_line m on.longer (lines_of (t.kept ++ more)) t.names t.unfinished),
+      ));
+}

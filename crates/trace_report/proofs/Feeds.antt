@@ -1,48 +1,37 @@
 -- One push of a piece: what it takes, and where the text stops.
-use Rattle.std.proofs.Common.{◌≡◌, ℕ, ◌+◌, ◌<◌, List, [], ◌++◌, Option, Some, None, length, inr}
-use Rattle.std.proofs.Common.{take, drop, subst, sym, ap, ◌∙◌, arith}
-use Rattle.std.proofs.Math.Seq.{take-length}
-use Rattle.std.proofs.lemmas.List.{length-drop, take-append-drop}
+use Rattle.std.proofs.Common.{◌≡◌, ℕ, ◌<◌, List, [], ◌++◌, Option, Some, None, length, inr}
+use Rattle.std.proofs.Common.{drop, subst, sym, ap, ◌∙◌, arith}
+use Rattle.std.proofs.Math.Seq.{drop-length}
+use Rattle.std.proofs.lemmas.List.{length-drop}
 use Rattle.std.specs.Prelude.{IfSome}
 use Rattle.event_core.specs.declared.bounds.Limits.{Limits}
 use Rattle.event_core.specs.declared.events.Event.{Event}
 use Rattle.event_core.specs.declared.replies.Refusal.{Refusal}
 use Rattle.event_core.specs.Refusal.{refusal}
-use Rattle.rapid_line.proofs.Cuts.{count-append}
-use Rattle.rapid_line.specs.Cut.{count}
 use Rattle.rapid_text.specs.declared.causes.Cause.{Cause}
 use Rattle.rapid_text.specs.declared.causes.TextFault.{TextFault}
 use Rattle.rapid_text.specs.Tables.{TablesGrow}
+use Rattle.rapid_text.specs.Taking.{AreUnended, Advances, place_of}
 use Rattle.rapid_text.specs.Events.{IsOfNames}
 use Rattle.rapid_text.specs.Cutting.{Cutting, judged, Pushes, FailsAt}
 use Rattle.rapid_text.specs.Texts.{Judgement}
 use Rattle.trace_report.specs.declared.faults.ReplayFault.TheVariants.{Text, Refused}
 use Rattle.trace_report.specs.Findings.{call_of, finding_after, IsReached}
 use Rattle.trace_report.specs.Feeding.{Declines, Takes, Stops}
+use Rattle.rapid_text.proofs.Taken.{push_advances}
 use Rattle.trace_report.proofs.Naming.{named_kept, named_line}
 use Rattle.trace_report.proofs.Playing.{with_line, goes_on, event_pushed, nothing_pushed, declined}
 use Rattle.trace_report.proofs.Playing.{push_stops, push_read, first_reached}
 
-taken_lines : (used : ℕ) (piece : List ℕ)
-    → count 10 (take used piece) + count 10 (drop used piece) ≡ count 10 piece
-taken_lines used piece =
-    sym (count-append 10 (take used piece) (drop used piece)) ∙ ap (count 10) (take-append-drop used piece)
-
-all_lines : (used : ℕ) (piece : List ℕ) → used ≡ length piece → count 10 (take used piece) ≡ count 10 piece
-all_lines used piece all =
-    ap (λ (n : ℕ). count 10 (take n piece)) all ∙ ap (count 10) (take-length piece)
-
 pub takes_event : (A B : Limits → List Event → Type 0) (s t : Cutting) (piece : List ℕ) (used : ℕ)
-    (o : Option Event) (e : Event) → Pushes s t piece used o → o ≡ Some e → TablesGrow s.names t.names
-    → IfSome o (IsOfNames t.names)
+    (o : Option Event) (e : Event) → Pushes s t piece used o → AreUnended t.kept → o ≡ Some e
+    → TablesGrow s.names t.names → IfSome o (IsOfNames t.names)
     → ((m : Limits) (log : List Event) → A m log → refusal m log (call_of e) ≡ None)
     → ((m : Limits) (log : List Event) → A m log → B m (with_line log e))
     → Takes A B s piece (drop used piece) t
-takes_event A B s t piece used o e p is grows named allowed after = record {
+takes_event A B s t piece used o e p few is grows named allowed after = record {
   live = p.live.1;
-  taken = let taken = p.taken in let within = p.used_within in let left = length-drop used piece in omega
-      arith;
-  lines = let lines = p.lines in let parts = taken_lines used piece in omega arith;
+  advances = push_advances s t piece used o p few;
   goes_on = λ m log a. record {
     longer = with_line log e;
     after = after m log a;
@@ -56,12 +45,13 @@ takes_event A B s t piece used o e p is grows named allowed after = record {
 }
 
 pub takes_rest : (A : Limits → List Event → Type 0) (s t : Cutting) (piece : List ℕ) (used : ℕ)
-    (o : Option Event) → Pushes s t piece used o → o ≡ None → TablesGrow s.names t.names → Takes A A s piece
-    [] t
-takes_rest A s t piece used o p is grows = record {
+    (o : Option Event) → Pushes s t piece used o → AreUnended t.kept → o ≡ None → TablesGrow s.names t.names
+    → Takes A A s piece [] t
+takes_rest A s t piece used o p few is grows = record {
   live = p.live.1;
-  taken = let taken = p.taken in let all = p.all_used is in omega arith;
-  lines = let lines = p.lines in let all = all_lines used piece (p.all_used is) in omega arith;
+  advances = subst (λ (rest : List ℕ). Advances (place_of s) piece rest (place_of t))
+      (ap (λ (n : ℕ). drop n piece) (p.all_used is) ∙ drop-length piece)
+      (push_advances s t piece used o p few);
   goes_on = λ m log a. record {
     longer = log;
     after = a;

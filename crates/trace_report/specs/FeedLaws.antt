@@ -1,13 +1,12 @@
 -- Pieces of a text, one after another, are one piece.
-use Rattle.std.proofs.Common.{◌≡◌, ℕ, ◌+◌, ◌<◌, List, [], ◌++◌, Option, Some, None, length, refl, sym, ap}
-use Rattle.std.proofs.Common.{subst, ◌∙◌}
-use Rattle.std.proofs.Common.{append_assoc, length-append, add_assoc, add-zero, arith}
+use Rattle.std.proofs.Common.{◌≡◌, ℕ, ◌<◌, List, [], ◌++◌, Option, Some, None, refl, sym, ap, subst}
+use Rattle.std.proofs.Common.{◌∙◌, append_assoc}
 use Rattle.std.specs.Prelude.{IsSomeAnd}
 use Rattle.event_core.specs.declared.bounds.Limits.{Limits}
 use Rattle.event_core.specs.declared.events.Event.{Event}
-use Rattle.rapid_line.specs.Cut.{count}
-use Rattle.rapid_line.proofs.Cuts.{count-append}
 use Rattle.rapid_text.specs.Cutting.{Cutting, judged, most}
+use Rattle.rapid_text.specs.Taking.{place_of}
+use Rattle.rapid_text.specs.TakingLaws.{advances_none, advances_more, advances_before}
 use Rattle.trace_report.specs.declared.faults.ReplayFault.{ReplayFault}
 use Rattle.trace_report.specs.Findings.{finding_after, IsReached}
 use Rattle.trace_report.specs.Feeding.{Takes, Stops, line_of}
@@ -16,8 +15,7 @@ pub takes_none : (A : Limits → List Event → Type 0) (s : Cutting) (bytes : L
     → Takes A A s bytes bytes s
 takes_none A s bytes live = record {
   live = live;
-  taken = refl;
-  lines = refl;
+  advances = advances_none (place_of s) bytes;
   goes_on = λ m log a.
       record { longer = log; after = a; named = λ h. h; same = λ more. refl; reached = λ more n h. h };
 }
@@ -26,8 +24,7 @@ pub takes_more : (A B C : Limits → List Event → Type 0) (s t u : Cutting) (b
     → Takes A B s bytes rest t → Takes B C t rest left u → Takes A C s bytes left u
 takes_more A B C s t u bytes rest left p q = record {
   live = q.live;
-  taken = q.taken ∙ p.taken;
-  lines = q.lines ∙ p.lines;
+  advances = advances_more (place_of s) (place_of t) (place_of u) bytes rest left p.advances q.advances;
   goes_on = λ m log a.
       let front = p.goes_on m log a in
       let back = q.goes_on m front.longer front.after in
@@ -45,14 +42,7 @@ pub fed_before : (A B : Limits → List Event → Type 0) (s t : Cutting) (front
     → Takes A B s front [] t → Takes A B s (front ++ rest) rest t
 fed_before A B s t front rest p = record {
   live = p.live;
-  taken = let same : s.taken + length (front ++ rest) ≡ t.taken + length rest =
-      ap (λ (n : ℕ). s.taken + n) (length-append front rest)
-      ∙ sym (add_assoc s.taken (length front) (length rest))
-      ∙ ap (λ (n : ℕ). n + length rest) (sym p.taken ∙ add-zero t.taken) in
-      sym same;
-  lines = let before : t.unfinished + 0 ≡ s.unfinished + count 10 front = p.lines in
-      let both = count-append 10 front rest in
-      omega arith;
+  advances = advances_before (place_of s) (place_of t) front rest p.advances;
   goes_on = λ m log a.
       let on = p.goes_on m log a in
       record {
@@ -82,7 +72,7 @@ stops_later A B s t bytes rest f p q = record {
         finds = λ g. on.same more ∙ later.finds g;
         reached = λ out. on.reached more (line_of f) (later.reached out);
       };
-  read = λ short. subst (λ (n : ℕ). most < n) p.taken (q.read short);
+  read = λ short. subst (λ (n : ℕ). most < n) p.advances.taken (q.read short);
   unwritten = q.unwritten;
 }
 

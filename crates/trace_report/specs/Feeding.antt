@@ -23,17 +23,16 @@ use Rattle.std.specs.Prelude.{
   IfErr,
   IfSome,
 }
-use Rattle.std.specs.Io.KnownBytes.{Consumes}
 use Rattle.event_core.specs.declared.bounds.Limits.{Limits}
 use Rattle.event_core.specs.declared.events.Event.{Event}
 use Rattle.event_core.specs.declared.replies.Refusal.{Refusal}
 use Rattle.event_core.specs.declared.replies.Refusal.TheVariants.{OutOfMemory}
 use Rattle.event_core.specs.Refusal.{refusal}
-use Rattle.rapid_line.specs.Cut.{count}
 use Rattle.rapid_text.specs.declared.causes.Cause.{Cause}
 use Rattle.rapid_text.specs.declared.causes.Cause.TheVariants as causes
 use Rattle.rapid_text.specs.Cutting.{Cutting, judged, most}
 use Rattle.rapid_text.specs.Tables.{Tables, no_names}
+use Rattle.rapid_text.specs.Taking.{Advances, StopsShort, place_of}
 use Rattle.rapid_text.specs.Texts.{Judgement, judgement}
 use Rattle.trace_report.specs.declared.faults.ReplayFault.{ReplayFault}
 use Rattle.trace_report.specs.declared.faults.ReplayFault.TheVariants.{Text, Refused, Write}
@@ -88,9 +87,7 @@ pub record GoesOn (m : Limits) (After : List Event → Type 0) (old : Cutting) (
 pub record Takes (Before After : Limits → List Event → Type 0) (old : Cutting) (bytes rest : List ℕ)
     (new : Cutting) : Type 0 where
   pub live : new.failed ≡ None
-  pub taken : new.taken + length rest ≡ old.taken + length bytes
-  -- each LF that was taken ends a line
-  pub lines : new.unfinished + count 10 rest ≡ old.unfinished + count 10 bytes
+  pub advances : Advances (place_of old) bytes rest (place_of new)
   pub goes_on : (m : Limits) (log : List Event) → Before m log → GoesOn m (After m) old log bytes rest new
 
 -- the text stops with this fault, whatever follows the bytes
@@ -154,10 +151,11 @@ IsFrom n (Text f) = n ≤ f.line
 IsFrom n (Refused line r) = n ≤ line
 IsFrom n Write = ⊥
 
--- the reading stopped after these bytes: the fault is at the line whose end was not seen, and whatever
--- follows, no line before it has a fault or an event that is refused
-pub record IsCutAt (m : Limits) (left rest : Option (List ℕ)) (f : ReplayFault) : Type 0 where
-  pub came : List ℕ
-  pub bytes : Consumes left rest came
-  pub at : f ≡ Text (record { line = 1 + count 10 came; cause = causes.Read })
-  pub before : (more : List ℕ) → IfErr (finding m (came ++ more)) (IsFrom (1 + count 10 came))
+-- a read failed or the turns are used up: the fault is at the line whose end was not seen, and whatever
+-- follows what came, no line before it has a fault or an event that is refused
+pub record IsCutAt (m : Limits) (left rest : Option (List ℕ)) (turns : ℕ) (read_failed : Bool)
+    (f : ReplayFault) : Type 0 where
+  pub line : ℕ
+  pub at : f ≡ Text (record { line = line; cause = causes.Read })
+  pub stops : StopsShort left rest turns read_failed line
+      (λ came. (more : List ℕ) → IfErr (finding m (came ++ more)) (IsFrom line))

@@ -3,6 +3,7 @@ ghost use Rattle.std.specs.Prelude.{◌≡◌, ◌≢◌, ◌⊎◌, ℕ, ◌+�
 ghost use Rattle.std.specs.Prelude.{List, length, Err, None, Some, true, false};
 ghost use Rattle.std.specs.Prelude.{IfOk, IfErr, IfSome, IsTrue, ◌<◌};
 ghost use Rattle.rapid_text.specs.Cutting.{most};
+ghost use Rattle.rapid_text.specs.Taking.{Advances, place_of};
 ghost use Rattle.rapid_text.specs.declared.causes.Cause.TheVariants.{Read};
 ghost use Rattle.trace_report.specs.Replayed.{fault_gives_up, answer_gives_up, Told};
 ghost use Rattle.trace_report.specs.Replaying.{unfed, after, ReachesIn};
@@ -66,7 +67,8 @@ impl Replayer {
         // event of a line before is refused.
         ensures memory { self.old.fault ≡ None → IfSome self.new.fault (λ f. RanOut f
             → (more : List ℕ) → ReachesIn self.old (piece.now ++ more) f) }
-        ensures taken { self.new.fault ≡ None → self.new.text.taken ≡ self.old.text.taken + length piece.now }
+        ensures advances { self.new.fault ≡ None
+            → Advances (place_of self.old.text) piece.now [] (place_of self.new.text) }
     {
         self.text.take(piece)
     }

@@ -37,9 +37,10 @@ pub fn replay<I: Input, O: Output>(
     // It is a read fault only where a read failed, or the text has as many bytes as there are turns.
     ensures short { IfErr result (λ f. is_short f ≡ true
         → (I.failed reader.new ≡ true) ⊎ IfSome (I.left reader.old) (λ text. turns ≤ length text)) }
-    // A read fault is at the line whose end was not seen, and no line before has a fault or a refused event.
+    // A read fault is at the line whose end was not seen, of which at most 1,025 bytes came, since with one
+    // more it is too long. No line before has a fault or a refused event.
     ensures cut { IfErr result (λ f. is_short f ≡ true
-        → IsCutAt limits (I.left reader.old) (I.left reader.new) f) }
+        → IsCutAt limits (I.left reader.old) (I.left reader.new) turns (I.failed reader.new) f) }
     // Memory ran out at a line with an event or a name too many, and no event of a line before is refused; or
     // at line 1, before the first read.
     ensures memory { IfErr result (λ f. RanOut f → ReachesLine limits (I.left reader.old) f

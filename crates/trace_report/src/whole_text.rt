@@ -28,7 +28,7 @@ fn read_text<I: Input, J: Judge>(
     ensures short { IfSome result.fault (λ f. is_short f ≡ true
         → (I.failed reader.new ≡ true) ⊎ IfSome (I.left reader.old) (λ text. turns ≤ length text)) }
     ensures cut { IfSome result.fault (λ f. is_short f ≡ true
-        → IsCutAt limits (I.left reader.old) (I.left reader.new) f) }
+        → IsCutAt limits (I.left reader.old) (I.left reader.new) turns (I.failed reader.new) f) }
     ensures few { WithinTurns turns (I.left reader.old) (I.left reader.new) }
     ensures healthy { result.fault ≡ None → I.failed reader.new ≡ I.failed reader.old }
 {
@@ -60,9 +60,10 @@ pub fn judge_text<I: Input, J: Judge + Drop>(
     // It is a read fault only where a read failed, or the text has as many bytes as there are turns.
     ensures short { IfErr result (λ f. is_short f ≡ true
         → (I.failed reader.new ≡ true) ⊎ IfSome (I.left reader.old) (λ text. turns ≤ length text)) }
-    // A read fault is at the line whose end was not seen, and no line before has a fault or a refused event.
+    // A read fault is at the line whose end was not seen, of which at most 1,025 bytes came, since with one
+    // more it is too long. No line before has a fault or a refused event.
     ensures cut { IfErr result (λ f. is_short f ≡ true
-        → IsCutAt limits (I.left reader.old) (I.left reader.new) f) }
+        → IsCutAt limits (I.left reader.old) (I.left reader.new) turns (I.failed reader.new) f) }
     // However it ends, no more than 65,536 bytes were read for each turn.
     ensures few { WithinTurns turns (I.left reader.old) (I.left reader.new) }
     ensures healthy { OnOk result (I.failed reader.new ≡ I.failed reader.old) }

@@ -22,7 +22,7 @@ returns-in_default-clause-ok g c =
     takes_more (g.J.Judge.is_after c.args.judge.now) before before c.args.cutter.now c.lines.cutter
     c.push.new.self c.args.piece.now c.lines.rest.now _ c.lines.invariant
     (takes_rest before c.lines.cutter c.push.new.self c.lines.rest.now c.in-Ok.pushed.0 c.in-Ok.pushed.1
-    c.in-Ok.ensures.ok c.in_default.is c.push.ensures.grows)
+    c.in-Ok.ensures.ok (c.push.ensures.unfinished, c.push.ensures.kept) c.in_default.is c.push.ensures.grows)
 
 pub returns-in-Err-judge-clause-fault : goal.returns-in-Err-judge-clause-fault
 returns-in-Err-judge-clause-fault g c =
@@ -43,7 +43,8 @@ lines-preserved g c =
     (sym c.rest_after-rest.ensures)
     (takes_event before after c.lines.cutter c.push.new.self c.lines.rest.now c.in-Ok.pushed.0
     c.in-Ok.pushed.1
-    c.in-Some.event c.in-Ok.ensures.ok c.in-Some.is c.push.ensures.grows c.in-Ok.ensures.named
+    c.in-Some.event c.in-Ok.ensures.ok (c.push.ensures.unfinished, c.push.ensures.kept) c.in-Some.is
+    c.push.ensures.grows c.in-Ok.ensures.named
     c.in_default-judge.ensures.allowed c.in_default-judge.ensures.after))
 
 pub lines-smaller : goal.lines-smaller

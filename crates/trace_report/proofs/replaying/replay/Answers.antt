@@ -33,7 +33,8 @@ returns-clause-written g c other = c.tell_trace-answer.ensures.healthy other ∙
 pub returns-in-Err-clause-cut : goal.returns-in-Err-clause-cut
 returns-in-Err-clause-cut g c =
     kind_stays (λ f. is_short f ≡ true) (IsCutAt c.args.limits (g.I.Input.left c.args.reader.now)
-    (g.I.Input.left c.judge_text.new.reader)) (λ e. absurd (cc))
+    (g.I.Input.left c.judge_text.new.reader) c.args.turns (g.I.Input.failed c.judge_text.new.reader))
+    (λ e. absurd (cc))
     c.tell_failure.result c.in-Err.fault c.tell_failure.ensures.is c.in-Err.ensures.cut
 
 pub returns-in-Err-clause-memory : goal.returns-in-Err-clause-memory

@@ -18,7 +18,7 @@ returns-in-Err-clause-short g c short =
 pub returns-in-Err-clause-cut : goal.returns-in-Err-clause-cut
 returns-in-Err-clause-cut g c short =
     stood_short (IsCutAt c.args.limits (g.I.Input.left c.args.reader.now)
-    (g.I.Input.left c.read_text-text.new.reader))
+    (g.I.Input.left c.read_text-text.new.reader) c.args.turns (g.I.Input.failed c.read_text-text.new.reader))
     c.read_text-text.result.fault c.in-Err.fault c.read_text-text.ensures.cut (c.in-Err.ensures.whole short)
     short
 

@@ -63,10 +63,10 @@ returns-clause-cut g c =
     let pulled = c.feed_all.ensures.cut c.in-Cut.is in
     let takes = pulled.so.0 c.new-text.ensures.fault in
     let came = cut_text c.args.limits (after c.new-text.result.judge) (after c.feed_all.new.sink.judge)
-    (left c.args.reader.now) (left c.feed_all.new.input) c.new-text.result.cutter c.feed_all.new.sink.cutter
-    pulled.bytes c.new-text.ensures.cutter
-    (subst (λ j. after j c.args.limits []) (sym c.new-text.ensures.judge) c.requires.begins) pulled.came
-    takes.1 in
+    (left c.args.reader.now) (left c.feed_all.new.input) c.args.turns (g.I.Input.failed c.feed_all.new.input)
+    c.new-text.result.cutter c.feed_all.new.sink.cutter _ c.new-text.ensures.cutter
+    (subst (λ j. after j c.args.limits []) (sym c.new-text.ensures.judge) c.requires.begins) pulled
+    (λ bytes so. (so c.new-text.ensures.fault).1) in
     if_stands _ (c.read_failed.ensures.fault takes.0) (λ _. came)
 
 pub returns-clause-short : goal.returns-clause-short
