@@ -5,10 +5,9 @@ use Rattle.std.specs.Prelude.{slice_get, unwrap_or}
 use Rattle.event_core.specs.declared.events.Event.{Event}
 use Rattle.rapid_line.specs.Cut.{content}
 use Rattle.rapid_text.specs.declared.causes.Cause.{Cause}
-use Rattle.rapid_text.specs.declared.causes.Cause.TheVariants as causes
 use Rattle.rapid_text.specs.Tables.{Tables}
 use Rattle.rapid_text.specs.Events.{reading}
-use Rattle.rapid_text.specs.Texts.{Judgement, with_event, after_line, judge, BeginsAt, FirstAt, line_too_many}
+use Rattle.rapid_text.specs.Texts.{Judgement, with_event, after_line, judge, BeginsAt, FirstAt}
 
 first_of : (A : Type 0) (n m : ℕ) (a b : A) → (let o : Option (ℕ × A) = Some (n, a) in o) ≡ Some (m, b)
     → n ≡ m
@@ -77,19 +76,12 @@ first_with : (o : Option Event) (n m : ℕ) (j : Judgement) → (FirstAt m j →
 first_with None n m j later is = later is
 first_with (Some e) n m j later is = let same = some_is n m is in omega (arith, same)
 
-full_is : (n : ℕ) (f : Cause) (m : ℕ) → line_too_many n f ≡ Some m → n ≡ m
-full_is n (causes.TooManyNames k) m is = some_is n m is
-full_is n (causes.Line f) m is = absurd cc
-full_is n causes.OutOfMemory m is = absurd cc
-full_is n causes.Read m is = absurd cc
-full_is n causes.Failed m is = absurd cc
-
 first_after : (r : Result (Option Event × Tables) Cause) (t : Tables) (n m : ℕ) (go : Tables → Judgement)
     → ((u : Tables) → FirstAt m (go u) → n ≤ m) → FirstAt m (after_line t n r go) → n ≤ m
-first_after (Err f) t n m go later is = let same = full_is n f m is in omega (arith, same)
+first_after (Err f) t n m go later is = absurd cc
 first_after (Ok p) t n m go later is = first_with p.0 n m (go p.1) (later p.1) is
 
--- the first line with an event or a fault is none before the first
+-- the first line with an event is none before the first
 pub first_from : (ls : List (List ℕ)) (t : Tables) (n m : ℕ) → FirstAt m (judge ls t n) → n ≤ m
 first_from [] t n m is = absurd cc
 first_from (l ∷ ls) t n m is =

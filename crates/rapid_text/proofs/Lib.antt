@@ -12,6 +12,8 @@ pub mod Turns
 pub mod Pulls
 pub mod Written
 pub mod NameGrowth
+pub mod NamePlaces
+pub mod NewNames
 pub mod Joined
 pub mod Begins
 pub mod FeedLaws

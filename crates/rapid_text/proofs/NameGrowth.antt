@@ -11,7 +11,6 @@ use Rattle.event_core.specs.declared.events.Event.{Event}
 use Rattle.rapid_line.specs.declared.words.Word.{Word}
 use Rattle.rapid_line.specs.declared.words.Word.TheVariants as words
 use Rattle.rapid_line.specs.Grammar.{Named}
-use Rattle.rapid_line.specs.Reading.{and_then}
 use Rattle.rapid_line.proofs.Steps.{and_then_ok}
 use Rattle.rapid_text.specs.declared.causes.Kind.{Kind}
 use Rattle.rapid_text.specs.declared.causes.Kind.TheVariants as kinds
@@ -21,7 +20,7 @@ use Rattle.rapid_text.specs.declared.causes.NameFault.TheVariants.{TooMany, OutO
 use Rattle.rapid_text.specs.Numbers.{Numbered, with_name, found_or, place_of, number_of, Grows}
 use Rattle.rapid_text.specs.Tables.{Tables, space, with_space, put_back, number_in, name_at, TablesGrow}
 use Rattle.rapid_text.specs.Events.{kind_of, op_of, event_of, number_or_fault, named_event}
-use Rattle.rapid_text.specs.Events.{word_of_op, target_of, named_by, HasNames, some_event, TakesNames}
+use Rattle.rapid_text.specs.Events.{word_of_op, target_of, named_by, HasNames}
 use Rattle.rapid_text.proofs.NameLaws.{numbers, grows, first_number, with_each}
 use Rattle.event_core.proofs.Places.{get_before}
 
@@ -188,7 +187,7 @@ made t u d n₁ n₂ n₃ a b c g =
       grows = g;
     }
 
-numbered_ok : (kind : Kind) (o : Option (ℕ × Tables)) (p : ℕ × Tables) → number_or_fault kind o ≡ Ok p
+pub numbered_ok : (kind : Kind) (o : Option (ℕ × Tables)) (p : ℕ × Tables) → number_or_fault kind o ≡ Ok p
     → o ≡ Some p
 numbered_ok kind None p e = absurd cc
 numbered_ok kind (Some q) p e = let same : q ≡ p = cc in ap
@@ -222,32 +221,6 @@ named_event_is t d e u eq =
     let tables : r.0.1 ≡ u = ap (λ (x : Result (Event × Tables) Cause). (from_ok (e, u) x).1) r.2 in
     subst (λ (v : Tables). Named_event t d e v) tables
     (subst (λ (x : Event). Named_event t d x r.0.1) event here)
-
--- ---- what takes names
-
--- it is an event, or has a name too many
-abbrev Takes : Result (Event × Tables) Cause → Type 0
-Takes read = TakesNames (some_event read)
-
-number_takes : (kind : Kind) (o : Option (ℕ × Tables)) (next : ℕ × Tables → Result (Event × Tables) Cause)
-    → ((p : ℕ × Tables) → Takes (next p)) → Takes (and_then (number_or_fault kind o) next)
-number_takes kind None next all = tt
-number_takes kind (Some p) next all = all p
-
--- a named event does
-pub event_takes : (t : Tables) (d : Named) → TakesNames (some_event (named_event t d))
-unfolding named_event
-event_takes t d =
-    let event : ℕ → ℕ → ℕ × Tables → Result (Event × Tables) Cause =
-    λ thread target r. Ok (event_of d.word thread target r.0, r.1) in
-    let last : ℕ → ℕ × Tables → Result (Event × Tables) Cause =
-    λ thread q. and_then (number_or_fault kinds.Site (number_in q.1 kinds.Site d.location))
-    (event thread q.0) in
-    let next : ℕ × Tables → Result (Event × Tables) Cause =
-    λ p. and_then (number_or_fault (kind_of d.word) (number_in p.1 (kind_of d.word) d.argument)) (last p.0) in
-    number_takes kinds.Thread (number_in t kinds.Thread d.thread) next (λ p.
-    number_takes (kind_of d.word) (number_in p.1 (kind_of d.word) d.argument) (last p.0) (λ q.
-    number_takes kinds.Site (number_in q.1 kinds.Site d.location) (event p.0 q.0) (λ r. refl)))
 
 -- ---- what the code answers
 

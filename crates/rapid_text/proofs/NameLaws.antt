@@ -11,7 +11,6 @@ use Rattle.std.proofs.lemmas.Slice.Eq.{bytes_eq-Decides}
 use Rattle.event_core.proofs.Places.{get_last, each_push}
 use Rattle.rapid_text.specs.declared.causes.Kind.{Kind}
 use Rattle.rapid_text.specs.declared.causes.Kind.TheVariants as kinds
-use Rattle.rapid_text.specs.declared.causes.NameFault.{NameFault}
 use Rattle.rapid_text.specs.Numbers.{Numbered, with_name, found_or, place_of, number_of, Grows}
 use Rattle.rapid_text.specs.Tables.{Tables, space, with_space, IsNameOf, AreNamesOf, AreNamed}
 
@@ -94,7 +93,7 @@ with_each P t kinds.Site s h here kinds.Lock = h kinds.Lock
 with_each P t kinds.Site s h here kinds.Variable = h kinds.Variable
 with_each P t kinds.Site s h here kinds.Site = here
 
-named_by : (kind : Kind) (name : List ℕ) (r : Result ℕ NameFault) (s u : Numbered)
+named_by : {E : Type 0} (kind : Kind) (name : List ℕ) (r : Result ℕ E) (s u : Numbered)
     → IfOk r (λ i. number_of s name ≡ Some (i, u)) → OnErr r (u ≡ s) → IsNameOf kind name
     → AreNamesOf kind s.names → AreNamesOf kind u.names
 named_by kind name (Ok i) s u ok err is h =
@@ -106,7 +105,7 @@ named_by kind name (Ok i) s u ok err is h =
 named_by kind name (Err f) s u ok err is h = subst (λ (v : Numbered). AreNamesOf kind v.names) (sym err) h
 
 -- a name of the kind was numbered, if there was room
-pub named_after : (t : Tables) (kind : Kind) (name : List ℕ) (r : Result ℕ NameFault) (u : Numbered)
+pub named_after : {E : Type 0} (t : Tables) (kind : Kind) (name : List ℕ) (r : Result ℕ E) (u : Numbered)
     → AreNamed t → IfOk r (λ i. number_of (space t kind) name ≡ Some (i, u)) → OnErr r (u ≡ space t kind)
     → IsNameOf kind name → AreNamed (with_space t kind u)
 named_after t kind name r u h ok err is =

@@ -39,7 +39,7 @@ use Rattle.rapid_line.proofs.LineLaws.{first_cut}
 use Rattle.rapid_text.specs.declared.causes.Cause.{Cause}
 use Rattle.rapid_text.specs.declared.causes.Cause.TheVariants as causes
 use Rattle.rapid_text.specs.Tables.{Tables, TablesGrow}
-use Rattle.rapid_text.specs.Events.{content, reading, Fails, TakesNames}
+use Rattle.rapid_text.specs.Events.{content, reading, Fails, HasEvent}
 use Rattle.rapid_text.specs.Texts.{Judgement, stopped, with_event, after_line, judge, ended, FirstAt}
 use Rattle.rapid_text.specs.Cutting.{Cutting, judged, Stops, Pushes, FailsAt, ClosesAt}
 use Rattle.rapid_text.proofs.LongLines.{reading_long}
@@ -305,23 +305,19 @@ event_first : (o : Option Event) (n : ℕ) (j : Judgement) → IsSome o → Firs
 event_first None n j some = absurd cc
 event_first (Some e) n j some = refl
 
--- a line that takes names is the first
+-- a line with an event is the first
 read_first : (read : Result (Option Event × Tables) Cause) (names : Tables) (n : ℕ)
-    (go : Tables → Judgement) → TakesNames read → FirstAt n (after_line names n read go)
-read_first (Err (causes.TooManyNames k)) names n go takes = refl
-read_first (Err (causes.Line f)) names n go takes = absurd takes
-read_first (Err causes.OutOfMemory) names n go takes = absurd takes
-read_first (Err causes.Read) names n go takes = absurd takes
-read_first (Err causes.Failed) names n go takes = absurd takes
-read_first (Ok p) names n go takes = event_first p.0 n (go p.1) takes
+    (go : Tables → Judgement) → HasEvent read → FirstAt n (after_line names n read go)
+read_first (Err f) names n go some = absurd some
+read_first (Ok p) names n go some = event_first p.0 n (go p.1) some
 
 -- the text begins with this line
 first_there : (j : Judgement) (names : Tables) (line : List ℕ) (n m : ℕ) (go : Tables → Judgement)
     → n ≡ m → j ≡ after_line names m (reading names (content line)) go
-    → TakesNames (reading names (content line)) → FirstAt n j
-first_there j names line n m go at is takes =
+    → HasEvent (reading names (content line)) → FirstAt n j
+first_there j names line n m go at is some =
     subst (λ (k : ℕ). FirstAt k j) (sym at) (subst (λ (i : Judgement). FirstAt m i) (sym is)
-    (read_first (reading names (content line)) names m go takes))
+    (read_first (reading names (content line)) names m go some))
 
 stopped_there : (j : Judgement) (names : Tables) (line : List ℕ) (n m : ℕ) (go : Tables → Judgement)
     (k : Cause) → n ≡ m → j ≡ after_line names m (reading names (content line)) go
@@ -347,17 +343,17 @@ pub fails_at : (start : Cutting) (piece : List ℕ) (names : Tables) (lines next
     (rest line after : List ℕ) (n : ℕ) (k : Cause) → n ≡ lines.unfinished
     → Going start piece names lines rest → Cuts lines rest line after next
     → Fails k (reading names (content line))
-    → (k ≡ causes.OutOfMemory → TakesNames (reading names (content line)))
+    → (k ≡ causes.OutOfMemory → HasEvent (reading names (content line)))
     → FailsAt start piece (record { line = n; cause = k }) k
-fails_at start piece names lines next rest line after n causes.OutOfMemory at g c fails takes =
+fails_at start piece names lines next rest line after n causes.OutOfMemory at g c fails some =
     λ more. first_there _ names line n lines.unfinished _ at
-    (next_judged start piece names lines next rest line after more g c) (takes refl)
-fails_at start piece names lines next rest line after n causes.Read at g c fails takes = absurd fails
-fails_at start piece names lines next rest line after n causes.Failed at g c fails takes = absurd fails
-fails_at start piece names lines next rest line after n (causes.Line x) at g c fails takes =
+    (next_judged start piece names lines next rest line after more g c) (some refl)
+fails_at start piece names lines next rest line after n causes.Read at g c fails some = absurd fails
+fails_at start piece names lines next rest line after n causes.Failed at g c fails some = absurd fails
+fails_at start piece names lines next rest line after n (causes.Line x) at g c fails some =
     λ more. stopped_there _ names line n lines.unfinished _ (causes.Line x) at
     (next_judged start piece names lines next rest line after more g c) fails
-fails_at start piece names lines next rest line after n (causes.TooManyNames x) at g c fails takes =
+fails_at start piece names lines next rest line after n (causes.TooManyNames x) at g c fails some =
     λ more. stopped_there _ names line n lines.unfinished _ (causes.TooManyNames x) at
     (next_judged start piece names lines next rest line after more g c) fails
 
@@ -370,16 +366,16 @@ last_judged names lines next told line e =
 -- the fault of the last line
 pub closes_at : (names : Tables) (lines next : Lines) (last : ℕ) (line : List ℕ) (n : ℕ) (k : Cause)
     → n ≡ lines.unfinished → Ends lines line next → Fails k (reading names (content line))
-    → (k ≡ causes.OutOfMemory → TakesNames (reading names (content line)))
+    → (k ≡ causes.OutOfMemory → HasEvent (reading names (content line)))
     → ClosesAt (cutting_of names lines last) (record { line = n; cause = k }) k
-closes_at names lines next last line n causes.OutOfMemory at e fails takes =
+closes_at names lines next last line n causes.OutOfMemory at e fails some =
     first_there _ names line n lines.unfinished (λ t. ended t) at (last_judged names lines next last line e)
-    (takes refl)
-closes_at names lines next last line n causes.Read at e fails takes = absurd fails
-closes_at names lines next last line n causes.Failed at e fails takes = absurd fails
-closes_at names lines next last line n (causes.Line x) at e fails takes =
+    (some refl)
+closes_at names lines next last line n causes.Read at e fails some = absurd fails
+closes_at names lines next last line n causes.Failed at e fails some = absurd fails
+closes_at names lines next last line n (causes.Line x) at e fails some =
     stopped_there _ names line n lines.unfinished (λ t. ended t) (causes.Line x) at
     (last_judged names lines next last line e) fails
-closes_at names lines next last line n (causes.TooManyNames x) at e fails takes =
+closes_at names lines next last line n (causes.TooManyNames x) at e fails some =
     stopped_there _ names line n lines.unfinished (λ t. ended t) (causes.TooManyNames x) at
     (last_judged names lines next last line e) fails

@@ -1,13 +1,15 @@
 -- A set of names as the names with their numbers.
 use Rattle.std.proofs.Common.{◌≡◌, ℕ, ◌<◌, ◌≤◌, ◌++◌, [], ◌∷◌, List, Some, None, Option, length, true, false}
-use Rattle.std.proofs.Common.{cond, sym, ◌∙◌, ap, arith, refl, zero, suc, subst}
+use Rattle.std.proofs.Common.{cond, sym, ◌∙◌, ap, arith, refl, zero, suc, subst, inl, inr}
 use Rattle.std.specs.Prelude.{not, nat_lt, slice_get}
 use Rattle.std.specs.List.{AllByRecursion, IsDistinct}
 use Rattle.std.proofs.lemmas.Option.{slice_get_within}
 use Rattle.std.proofs.lemmas.Slice.Eq.{bytes_eq-Decides}
-use Rattle.std.specs.List.{position, list_any, prefix_len}
+use Rattle.std.specs.List.{position, position_or_len, list_any, prefix_len}
 use Rattle.std.specs.Str.{bytes_eq}
-use Rattle.std.proofs.lemmas.Bool.{lt-ltb, le-ltb, false_from_ne_true, both_ways}
+use Rattle.std.proofs.lemmas.Bool.{lt-ltb, le-ltb, ltb-false, cases_Bool, false_from_ne_true, both_ways}
+use Rattle.std.proofs.lemmas.List.Folds.{Any-from_list_any}
+use Rattle.std.proofs.lemmas.List.Sums.{fails_before_first}
 use Rattle.rapid_text.specs.Numbers.{Numbered, found_or, number_of}
 
 abbrev pub names_in : ℕ → List (List ℕ) → Numbered
@@ -27,12 +29,30 @@ numbered_full limit names name e le =
     let test : nat_lt (length names) limit ≡ false = le-ltb (length names) limit le in
     ap (λ (o : Option ℕ). found_or o (names_in limit names) name) e ∙ (rw test refl)
 
+-- a name that has no place is not among them
+pub absent_name : (names : List (List ℕ)) (name : List ℕ) → position (bytes_eq name) names ≡ None
+    → list_any (bytes_eq name) names ≡ false
+absent_name names name new =
+    let k = position_or_len (bytes_eq name) names in
+    let end : length names ≤ k =
+    elim (cases_Bool (nat_lt k (length names))) [
+      | inl less ↦ absurd (let place : position (bytes_eq name) names ≡ Some k = rw less refl in
+          let bad : Some k ≡ None = sym place ∙ new in cc)
+      | inr most ↦ ltb-false k (length names) most
+    ] in
+    false_from_ne_true (list_any (bytes_eq name) names) (λ met.
+    let any = Any-from_list_any (bytes_eq name) names met in
+    let within = any.2 in
+    let before = fails_before_first (bytes_eq name) names any.0 any.1 (omega (arith, within, end)) in
+    absurd (let same = ap (bytes_eq name) any.3 ∙ any.4 in
+    let bad : true ≡ false = sym same ∙ before in cc))
+
 -- an insertion of a new name adds it at the end
 pub added : (names new : List (List ℕ)) (stored name : List ℕ) → stored ≡ name
-    → false ≡ list_any (bytes_eq name) names
+    → position (bytes_eq name) names ≡ None
     → new ≡ cond (list_any (bytes_eq stored) names) names (names ++ stored ∷ []) → new ≡ names ++ name ∷ []
 added names new stored name same none is =
-    let absent : list_any (bytes_eq stored) names ≡ false = rw same (sym none) in
+    let absent : list_any (bytes_eq stored) names ≡ false = rw same (absent_name names name none) in
     is ∙ (rw absent (ap (λ (n : List ℕ). names ++ n ∷ []) same))
 
 pub numbered_new : (limit : ℕ) (names new : List (List ℕ)) (name : List ℕ)

@@ -60,8 +60,7 @@ Stops s piece f = (more : List ℕ) →
 abbrev pub JudgedUpTo : Cutting → List ℕ → ℕ → Tables → Type 0
 JudgedUpTo s piece n names = (more : List ℕ) → BeginsAt n names (judged s (piece ++ more))
 
--- why a push failed; a growth is refused at the first line with an event or a fault, where that takes names,
--- whatever follows
+-- why a push failed; a growth is refused at the first line with an event, whatever follows
 abbrev pub FailsAt : Cutting → List ℕ → TextFault → Cause → Type 0
 FailsAt s piece f causes.OutOfMemory = (more : List ℕ) → FirstAt f.line (judged s (piece ++ more))
 FailsAt s piece f causes.Read = (f.line ≡ s.unfinished) × (most < s.taken + length piece)

@@ -12,6 +12,7 @@ use Rattle.std.specs.Prelude.{
   Result,
   Ok,
   Err,
+  IsOk,
   IsSome,
   if◌then◌else◌,
 }
@@ -79,15 +80,14 @@ event_or t (Ok e) = some_event (named_event t e)
 unfoldable pub reading : Tables → List ℕ → Result (Option Event × Tables) Cause
 reading t bytes = if length bytes == 0 then Ok (None, t) else event_or t (line_of bytes)
 
--- what a line comes to takes names: it is an event, or has a name too many
-abbrev pub TakesNames : Result (Option Event × Tables) Cause → Type 0
-TakesNames (Ok p) = IsSome p.0
-TakesNames (Err (causes.TooManyNames k)) = Unit {0}
-TakesNames (Err f) = ⊥
+-- what a line comes to is an event
+abbrev pub HasEvent : Result (Option Event × Tables) Cause → Type 0
+HasEvent (Ok p) = IsSome p.0
+HasEvent (Err f) = ⊥
 
--- the cause is the one that was read, unless memory ran out
+-- the cause is the one that was read; memory runs out only where none was
 abbrev pub Fails : {Y : Type 0} → Cause → Result Y Cause → Type 0
-Fails causes.OutOfMemory read = Unit {0}
+Fails causes.OutOfMemory read = IsOk read
 Fails (causes.Line f) read = read ≡ Err (causes.Line f)
 Fails (causes.TooManyNames k) read = read ≡ Err (causes.TooManyNames k)
 Fails causes.Read read = ⊥

@@ -5,6 +5,7 @@ pub mod Tables
 pub mod Faults
 pub mod Pages
 pub mod Events
+pub mod KnownNames
 pub mod Texts
 pub mod Cutting
 pub mod Turns

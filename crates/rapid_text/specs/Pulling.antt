@@ -110,8 +110,7 @@ pub record ReadFails (old : Pulling) (left : Option (List ℕ)) (new : Pulling) 
   pub unjudged : Lacks 10 new.came
   pub short : length new.came ≤ 1025
 
--- a growth was refused at the first line with an event or a fault, where that takes names, and at none that
--- was judged before
+-- a growth was refused at the first line with an event, and at none that was judged before
 pub record GrowthFails (old : Pulling) (left : Option (List ℕ)) (f : TextFault) : Type 0 where
   pub at : IfSome (to_judge old left) (FirstAt f.line)
   pub unjudged : old.unfinished ≤ f.line

@@ -1,9 +1,7 @@
 -- The meaning of a whole text: its events with their lines, up to the first fault, and its names.
 use Rattle.std.specs.Prelude.{◌≡◌, ℕ, ◌+◌, List, [], ◌∷◌, Option, Some, None, Result, Ok, Err}
-use Rattle.std.specs.Option.{option_and_then}
 use Rattle.event_core.specs.declared.events.Event.{Event}
 use Rattle.rapid_text.specs.declared.causes.Cause.{Cause}
-use Rattle.rapid_text.specs.declared.causes.Cause.TheVariants as causes
 -- the lines of a text, each without its LF; an empty rest after the last LF is no line
 pub use Rattle.rapid_line.specs.Lines.{lines_of}
 use Rattle.rapid_text.specs.Tables.{Tables, TablesGrow}
@@ -50,16 +48,11 @@ pub record BeginsAt (n : ℕ) (names : Tables) (j : Judgement) : Type 0 where
   pub same : j ≡ judge lines before n
   pub grows : TablesGrow before names
 
--- the line, where its fault is a name too many
-abbrev pub line_too_many : ℕ → Cause → Option ℕ
-line_too_many n (causes.TooManyNames k) = Some n
-line_too_many n f = None
+-- the line of the first event
+abbrev pub first_line : List (ℕ × Event) → Option ℕ
+first_line [] = None
+first_line (e ∷ es) = Some e.0
 
--- the line of the first event, or else of a name too many
-abbrev pub first_line : List (ℕ × Event) → Option (ℕ × Cause) → Option ℕ
-first_line [] fault = option_and_then (λ p. line_too_many p.0 p.1) fault
-first_line (e ∷ es) fault = Some e.0
-
--- the first line with an event or a fault has this number, and it takes names
+-- line n is the first with an event, and no line before it has a fault
 abbrev pub FirstAt : ℕ → Judgement → Type 0
-FirstAt n j = first_line j.events j.fault ≡ Some n
+FirstAt n j = first_line j.events ≡ Some n

@@ -81,13 +81,13 @@ impl Cutter {
     /// Takes bytes up to the end of the first line with an event, or all of them where no line with an event
     /// ends, and says how many. The fault of a line is told with its number. A piece with which the text
     /// would pass 2^60 bytes is answered `Read`, a refused growth of the names `OutOfMemory`, at the line
-    /// whose event or fault would be the next answer, and each call after a fault `Failed`.
+    /// whose event would be the next answer, and each call after a fault `Failed`.
     #[inline(always)]
     pub fn push(&mut self, piece: &[u8]) -> Result<(usize, Option<Event>), TextFault>
         // What is still to be judged is the same text, but for the event.
         ensures ok { IfOk result (λ r. Pushes self.old self.new piece.now r.0 r.1) }
         // A fault is the one at which the text stops, whatever follows. A growth is refused at the first line
-        // with an event or a fault, and there only where names are looked up.
+        // with an event, and no line before has a fault.
         ensures fault { IfErr result (λ f. FailsAt self.old piece.now f f.cause) }
         // A piece with which the text would pass 2^60 bytes is `Read`.
         ensures full { self.old.failed ≡ None → most < self.old.taken + length piece.now →

@@ -1,16 +1,20 @@
 //! What a line comes to: an event with its names numbered, or the cause why it has none.
-ghost use Rattle.std.specs.Prelude.{◌≡◌, IfOk, IfErr, IfSome, Ok};
+ghost use Rattle.std.specs.Prelude.{◌≡◌, ◌↔◌, ◌+◌, ◌<◌, IfOk, IfErr, IfSome, IsOk, IsSome, IsTrue, Ok, Err};
+ghost use Rattle.std.specs.Prelude.{None, Some, length};
 ghost use Rattle.rapid_line.specs.Cut.{Lacks};
 ghost use Rattle.rapid_line.specs.Grammar.{IsWellFormed};
 ghost use Rattle.rapid_line.specs.Marks.{IsKnown};
 ghost use Rattle.rapid_line.specs.Reading.{named_of, line_of, Gives};
-ghost use Rattle.rapid_text.specs.Tables.{IsNameOf, TablesGrow, number_in};
-ghost use Rattle.rapid_text.specs.Events.{kind_of, op_of, number_or_fault, named_event, content, reading};
-ghost use Rattle.rapid_text.specs.Events.{Fails, IsOfNames, TakesNames};
+ghost use Rattle.rapid_text.specs.declared.causes.Cause.TheVariants.{TooManyNames};
+ghost use Rattle.rapid_text.specs.Numbers.{place_of};
+ghost use Rattle.rapid_text.specs.Tables.{IsNameOf, TablesGrow, number_in, space};
+ghost use Rattle.rapid_text.specs.Events.{kind_of, op_of, event_of, number_or_fault, named_event, content};
+ghost use Rattle.rapid_text.specs.Events.{reading, Fails, HasEvent, IsOfNames};
+ghost use Rattle.rapid_text.specs.KnownNames.{AddsTwo, AreKnown, IsOfItself};
 
-use crate::causes::{Cause, Kind, NameFault};
+use crate::causes::{Cause, Kind};
 use crate::names::Names;
-use event_core::{Event, LockId, Op, SiteId, ThreadId, VarId};
+use event_core::{Event, LockId, Op, OutOfMemory, SiteId, ThreadId, VarId};
 use rapid_line::{Line, LineFault, NamedLine, Word, read_barred, read_line, without_cr};
 
 /// What the argument of a word names.
@@ -38,20 +42,123 @@ pub fn op_at(word: Word, number: u32) -> Op
     }
 }
 
-/// The number of a name in a line.
+/// The numbers of a line's names that are not new.
+#[derive(Clone, Copy)]
+struct Known {
+    thread: Option<u32>,
+    target: Option<u32>,
+    site: Option<u32>,
+}
+
+/// The event of these numbers.
 #[inline(always)]
-fn number_in_line(names: &mut Names, kind: Kind, name: &[u8]) -> Result<u32, Cause>
-    requires { IsNameOf kind name.now }
+fn event_at(word: Word, thread: u32, target: u32, site: u32) -> Event
+    ensures { result ≡ event_of word thread target site }
+{
+    Event {
+        thread: ThreadId(thread),
+        op: op_at(word, target),
+        site: SiteId(site),
+        value: 0,
+    }
+}
+
+/// Whether a name is new, and so many more are too many of its kind.
+fn passes_limit(names: &Names, kind: Kind, known: Option<u32>, more: u32) -> bool
+    ensures { IsTrue result
+        ↔ (known ≡ None) × ((space names.now kind).limit < length (space names.now kind).names + more) }
+{
+    known.is_none() && !names.allow(kind, more)
+}
+
+/// How many names a line adds to those of its argument's kind, where the argument is new.
+fn added(line: &NamedLine<'_>, known: Known) -> u32
+    ensures two { AddsTwo (named_of line.now) known → result ≡ 2 }
+    ensures one { (AddsTwo (named_of line.now) known → ⊥) → result ≡ 1 }
+{
+    if known.thread.is_none()
+        && kind_at(line.word) == Kind::Thread
+        && line.argument != line.thread
+    {
+        return 2;
+    }
+    1
+}
+
+/// The kind of the first name that is new and for which its limit has no number left.
+fn too_many(names: &Names, line: &NamedLine<'_>, known: Known) -> Option<Kind>
+    requires { AreKnown names.now (named_of line.now) known }
+    ensures some { IfSome result (λ kind.
+        named_event names.now (named_of line.now) ≡ Err (TooManyNames kind)) }
+    ensures none { result ≡ None → IsOk (named_event names.now (named_of line.now)) }
+{
+    if passes_limit(names, Kind::Thread, known.thread, 1) {
+        return Some(Kind::Thread);
+    }
+    let kind = kind_at(line.word);
+    if passes_limit(names, kind, known.target, added(line, known)) {
+        return Some(kind);
+    }
+    if passes_limit(names, Kind::Site, known.site, 1) {
+        return Some(Kind::Site);
+    }
+    None
+}
+
+/// The number of a line's argument, once its thread has this one; none, where the argument is new.
+fn known_argument(line: &NamedLine<'_>, known: Known, thread: u32) -> Option<u32>
+    ensures own { IsOfItself (named_of line.now) → result ≡ Some thread }
+    ensures other { (IsOfItself (named_of line.now) → ⊥) → result ≡ known.target }
+{
+    if kind_at(line.word) == Kind::Thread && line.argument == line.thread {
+        return Some(thread);
+    }
+    known.target
+}
+
+/// The number of a name in a line, which is added where it is new.
+fn number_or_add(
+    names: &mut Names,
+    kind: Kind,
+    name: &[u8],
+    known: Option<u32>,
+) -> Result<u32, Cause>
+    requires name { IsNameOf kind name.now }
+    requires known { known ≡ place_of (space names.old kind) name.now }
+    requires allowed { IsSome (number_in names.old kind name.now) }
     ensures ok { IfOk result (λ n.
         number_or_fault kind (number_in names.old kind name.now) ≡ Ok (n, names.new)) }
-    ensures fault { IfErr result (λ f. Fails f (number_or_fault kind (number_in names.old kind name.now))) }
+    ensures fault { IfErr result (λ f. f ≡ Cause.OutOfMemory) }
     ensures grows { TablesGrow names.old names.new }
 {
-    match names.number(kind, name) {
-        Ok(number) => Ok(number),
-        Err(NameFault::TooMany) => Err(Cause::TooManyNames(kind)),
-        Err(NameFault::OutOfMemory) => Err(Cause::OutOfMemory),
+    if let Some(number) = known {
+        return Ok(number);
     }
+    match names.add(kind, name) {
+        Ok(number) => Ok(number),
+        Err(OutOfMemory) => Err(Cause::OutOfMemory),
+    }
+}
+
+/// The event of a named event with a new name. No room is made for a name before each has a number left.
+/// After an `Err` some of its names may have been numbered.
+#[inline(never)]
+#[tactic(auto, unfolding(crate::specs::Events::named_event))]
+fn number_new(names: &mut Names, line: &NamedLine<'_>, known: Known) -> Result<Event, Cause>
+    requires named { IsWellFormed (named_of line.now) }
+    requires known { AreKnown names.old (named_of line.now) known }
+    ensures ok { IfOk result (λ e. named_event names.old (named_of line.now) ≡ Ok (e, names.new)) }
+    ensures fault { IfErr result (λ f. Fails f (named_event names.old (named_of line.now))) }
+    ensures grows { TablesGrow names.old names.new }
+{
+    if let Some(kind) = too_many(names, line, known) {
+        return Err(Cause::TooManyNames(kind));
+    }
+    let thread = number_or_add(names, Kind::Thread, line.thread, known.thread)?;
+    let argument = known_argument(line, known, thread);
+    let target = number_or_add(names, kind_at(line.word), line.argument, argument)?;
+    let site = number_or_add(names, Kind::Site, line.location, known.site)?;
+    Ok(event_at(line.word, thread, target, site))
 }
 
 /// The event of a named event. After an `Err` some of its names may have been numbered.
@@ -63,15 +170,15 @@ fn number_line(names: &mut Names, line: &NamedLine<'_>) -> Result<Event, Cause>
     ensures fault { IfErr result (λ f. Fails f (named_event names.old (named_of line.now))) }
     ensures grows { TablesGrow names.old names.new }
 {
-    let thread = number_in_line(names, Kind::Thread, line.thread)?;
-    let target = number_in_line(names, kind_at(line.word), line.argument)?;
-    let site = number_in_line(names, Kind::Site, line.location)?;
-    Ok(Event {
-        thread: ThreadId(thread),
-        op: op_at(line.word, target),
-        site: SiteId(site),
-        value: 0,
-    })
+    let known = Known {
+        thread: names.find(Kind::Thread, line.thread),
+        target: names.find(kind_at(line.word), line.argument),
+        site: names.find(Kind::Site, line.location),
+    };
+    if let (Some(thread), Some(target), Some(site)) = (known.thread, known.target, known.site) {
+        return Ok(event_at(line.word, thread, target, site));
+    }
+    number_new(names, line, known)
 }
 
 /// The named event of a line's content, or the first cause why it has none.
@@ -90,15 +197,15 @@ fn read_content(line: Line<'_>) -> Result<NamedLine<'_>, LineFault>
 
 /// What a line comes to, which stands without its LF.
 #[inline(always)]
-#[tactic(auto, using(crate::proofs::NameGrowth::event_takes), unfolding(crate::specs::Events::reading))]
+#[tactic(auto, using(crate::proofs::NewNames::event_read), unfolding(crate::specs::Events::reading))]
 pub fn line_event(names: &mut Names, line: Line<'_>) -> Result<Option<Event>, Cause>
     requires lf { Lacks 10 line.bytes.now }
     requires known { IsKnown line }
     ensures ok { IfOk result (λ e. reading names.old (content line.entry.bytes.now) ≡ Ok (e, names.new)) }
     ensures fault { IfErr result (λ f. Fails f (reading names.old (content line.entry.bytes.now))) }
-    // Memory is refused only where names are looked up.
+    // Memory runs out only where the line has an event.
     ensures memory { IfErr result (λ f. f ≡ Cause.OutOfMemory →
-        TakesNames (reading names.old (content line.entry.bytes.now))) }
+        HasEvent (reading names.old (content line.entry.bytes.now))) }
     ensures grows { TablesGrow names.old names.new }
     ensures named { IfOk result (λ e. IfSome e (IsOfNames names.new)) }
 {

@@ -1,13 +1,12 @@
 //! The names of one kind, numbered from 0 in the order of their first appearance.
 ghost use Rattle.std.specs.Prelude.{◌≡◌, ◌+◌, ◌<◌, ◌≤◌, ◌^◌, [], length, slice_get, Some, None, IfOk, IfSome};
-ghost use Rattle.std.specs.Prelude.{OnErr};
-ghost use Rattle.std.specs.Result.{IsErrOf};
+ghost use Rattle.std.specs.Prelude.{OnErr, IsTrue, ◌↔◌};
 ghost use Rattle.rapid_text.specs.NumberCache.{AreRight};
 ghost use Rattle.rapid_text.specs.Numbers.{Numbered, number_of, place_of};
 
-use crate::causes::NameFault;
 use crate::number_cache::NumberCache;
 use crate::stored_names::{SoughtName, StoredName};
+use event_core::OutOfMemory;
 use indexmap::IndexSet;
 use std::alloc::{AllocError, Global};
 use std::marker::Model;
@@ -82,37 +81,46 @@ impl Interner {
     /// The number of the name, where the cache holds it.
     #[inline(always)]
     pub fn find(&self, name: &[u8]) -> Option<u32>
-        ensures { IfSome result (λ i. number_of self.now name.now ≡ Some (i, self.now)) }
+        ensures { IfSome result (λ i. place_of self.now name.now ≡ Some i) }
     {
         // No name stands twice in them.
         let _unique = self.names.as_slice();
         self.cache.find(name)
     }
 
-    /// The number of the name, which is a new one where the name is.
-    pub fn number(&mut self, name: &[u8]) -> Result<u32, NameFault>
-        ensures ok { IfOk result (λ i. number_of self.old name.now ≡ Some (i, self.new)) }
-        ensures too_many { IsErrOf result NameFault.TooMany → number_of self.old name.now ≡ None }
-        ensures err { OnErr result (self.new ≡ self.old) }
-        ensures room { IsErrOf result NameFault.OutOfMemory → length self.old.names < self.old.limit }
-        ensures new_only { OnErr result (place_of self.old name.now ≡ None) }
+    /// The number of the name, if it has one. The cache holds it from now on.
+    pub fn search(&mut self, name: &[u8]) -> Option<u32>
+        ensures is { result ≡ place_of self.old name.now }
+        ensures same { self.new ≡ self.old }
     {
-        if let Some(i) = self.names.get_index_of(SoughtName { bytes: name }) {
-            self.cache.note(name, i as u32);
-            return Ok(i as u32);
-        }
+        let i = self.names.get_index_of(SoughtName { bytes: name })?;
+        self.cache.note(name, i as u32);
+        Some(i as u32)
+    }
+
+    /// Whether the limit allows for so many names more.
+    pub fn allows(&self, more: u32) -> bool
+        ensures { IsTrue result ↔ (length self.now.names + more ≤ self.now.limit) }
+    {
+        self.limit - self.count() >= more
+    }
+
+    /// Adds a new name, which gets the next number. An `Err` changes nothing.
+    pub fn add(&mut self, name: &[u8]) -> Result<u32, OutOfMemory>
+        requires new { place_of self.old name.now ≡ None }
+        requires room { length self.old.names < self.old.limit }
+        ensures ok { IfOk result (λ i. number_of self.old name.now ≡ Some (i, self.new)) }
+        ensures err { OnErr result (self.new ≡ self.old) }
+    {
         let count = self.names.len();
-        if count >= self.limit as usize {
-            return Err(NameFault::TooMany);
-        }
         if make_room(&mut self.cache, self.alloc, self.names.as_slice()).is_err() {
-            return Err(NameFault::OutOfMemory);
+            return Err(OutOfMemory);
         }
         let Ok(stored) = StoredName::new(self.alloc, name) else {
-            return Err(NameFault::OutOfMemory);
+            return Err(OutOfMemory);
         };
         let Ok(_) = self.names.insert(stored) else {
-            return Err(NameFault::OutOfMemory);
+            return Err(OutOfMemory);
         };
         self.cache.note(name, count as u32);
         Ok(count as u32)

@@ -1,13 +1,14 @@
 //! Names in four spaces, numbered from 0 in the order of their first appearance.
-ghost use Rattle.std.specs.Prelude.{◌≡◌, ◌↔◌, ℕ, ◌<◌, ◌≤◌, length, slice_get, Some, None, IfOk, OnErr};
+ghost use Rattle.std.specs.Prelude.{◌≡◌, ◌↔◌, ℕ, ◌+◌, ◌<◌, ◌≤◌, length, slice_get, Some, None, IfOk, OnErr};
+ghost use Rattle.std.specs.Prelude.{IsTrue};
 ghost use Rattle.std.specs.Result.{IsErrOf};
-ghost use Rattle.rapid_text.specs.Numbers.{number_of, place_of};
+ghost use Rattle.rapid_text.specs.Numbers.{place_of};
 ghost use Rattle.rapid_text.specs.Tables.{Tables, no_names, space, number_in, IsNameOf, TablesGrow};
 ghost use Rattle.rapid_text.specs.Tables.{AreNamed};
 
 use crate::causes::{Kind, NameFault};
 use crate::interner::Interner;
-use event_core::Limits;
+use event_core::{Limits, OutOfMemory};
 use std::alloc::Global;
 use std::marker::Model;
 
@@ -78,21 +79,52 @@ impl Names {
 
     // The number of a name that no note holds, in the space of its kind.
     #[inline(never)]
-    #[tactic(auto, unfolding(crate::specs::Tables::number_in))]
-    fn search(&mut self, kind: Kind, name: &[u8]) -> Result<u32, NameFault>
-        requires { IsNameOf kind name.now }
-        ensures ok { IfOk result (λ n. number_in self.old kind name.now ≡ Some (n, self.new)) }
-        ensures too_many { IsErrOf result NameFault.TooMany → number_in self.old kind name.now ≡ None }
-        ensures room { IsErrOf result NameFault.OutOfMemory →
-            length (space self.old kind).names < (space self.old kind).limit }
-        ensures err { OnErr result (self.new ≡ self.old) }
-        ensures new_only { OnErr result (place_of (space self.old kind) name.now ≡ None) }
+    fn search(&mut self, kind: Kind, name: &[u8]) -> Option<u32>
+        ensures is { result ≡ place_of (space self.old kind) name.now }
+        ensures same { self.new ≡ self.old }
     {
         match kind {
-            Kind::Thread => self.threads.number(name),
-            Kind::Lock => self.locks.number(name),
-            Kind::Variable => self.variables.number(name),
-            Kind::Site => self.sites.number(name),
+            Kind::Thread => self.threads.search(name),
+            Kind::Lock => self.locks.search(name),
+            Kind::Variable => self.variables.search(name),
+            Kind::Site => self.sites.search(name),
+        }
+    }
+
+    /// The number of the name, if it has one.
+    #[inline(always)]
+    pub(crate) fn find(&mut self, kind: Kind, name: &[u8]) -> Option<u32>
+        ensures is { result ≡ place_of (space self.old kind) name.now }
+        ensures same { self.new ≡ self.old }
+    {
+        if let Some(number) = self.space(kind).find(name) {
+            return Some(number);
+        }
+        self.search(kind, name)
+    }
+
+    /// Whether the limit of the kind allows for so many names more.
+    pub(crate) fn allow(&self, kind: Kind, more: u32) -> bool
+        ensures { IsTrue result ↔ (length (space self.now kind).names + more ≤ (space self.now kind).limit) }
+    {
+        self.space(kind).allows(more)
+    }
+
+    /// Adds a new name, which gets the next number of its kind. An `Err` changes nothing.
+    #[inline(never)]
+    #[tactic(auto, unfolding(crate::specs::Tables::number_in))]
+    pub(crate) fn add(&mut self, kind: Kind, name: &[u8]) -> Result<u32, OutOfMemory>
+        requires name { IsNameOf kind name.now }
+        requires new { place_of (space self.old kind) name.now ≡ None }
+        requires room { length (space self.old kind).names < (space self.old kind).limit }
+        ensures ok { IfOk result (λ n. number_in self.old kind name.now ≡ Some (n, self.new)) }
+        ensures err { OnErr result (self.new ≡ self.old) }
+    {
+        match kind {
+            Kind::Thread => self.threads.add(name),
+            Kind::Lock => self.locks.add(name),
+            Kind::Variable => self.variables.add(name),
+            Kind::Site => self.sites.add(name),
         }
     }
 
@@ -107,10 +139,16 @@ impl Names {
         ensures err { OnErr result (self.new ≡ self.old) }
         ensures new_only { OnErr result (place_of (space self.old kind) name.now ≡ None) }
     {
-        if let Some(number) = self.space(kind).find(name) {
+        if let Some(number) = self.find(kind, name) {
             return Ok(number);
         }
-        self.search(kind, name)
+        if !self.allow(kind, 1) {
+            return Err(NameFault::TooMany);
+        }
+        match self.add(kind, name) {
+            Ok(number) => Ok(number),
+            Err(OutOfMemory) => Err(NameFault::OutOfMemory),
+        }
     }
 
     /// The number of the name, which is the next one where the name is new. `TooMany` where that passes the

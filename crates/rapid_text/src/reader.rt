@@ -135,13 +135,13 @@ impl<I: Input> Reader<I> {
 
     /// The next event of the text, or that it ended. Events have the value 0. The fault of a line is told
     /// with its number; a failed read and turns that are used up are `Read`, a refused growth is
-    /// `OutOfMemory`, at the line whose event or fault would be the next answer, and each call after a fault
-    /// is answered `Failed`.
+    /// `OutOfMemory`, at the line whose event would be the next answer, and each call after a fault is
+    /// answered `Failed`.
     pub fn next(&mut self) -> Result<Option<Event>, TextFault>
         // The event is the next of the text that is still to be judged, or that text has none left.
         ensures ok { IfOk result (Answers self.old.text self.old.left self.new.text self.new.left) }
         // The fault is the one at which that text stops, or a read failed, the turns are used up or a growth
-        // was refused at the first line with an event or a fault, and there only where names are looked up.
+        // was refused at the first line with an event, and no line before has a fault.
         ensures fault { IfErr result (λ f.
             NoAnswer self.old.text self.old.left self.new.text self.new.left self.new.read_failed f f.cause) }
         // No line before it has an event or a fault, and their names are numbered.

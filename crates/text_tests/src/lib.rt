@@ -31,6 +31,8 @@ mod faultless;
 #[cfg(test)]
 mod faults;
 #[cfg(test)]
+mod name_limits;
+#[cfg(test)]
 mod names;
 #[cfg(test)]
 mod script_faults;

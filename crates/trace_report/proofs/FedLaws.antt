@@ -10,7 +10,7 @@ use Rattle.trace_report.specs.declared.faults.ReplayFault.{ReplayFault}
 use Rattle.trace_report.specs.Findings.{finding_after, IsReached}
 use Rattle.trace_report.specs.Replayed.{fault_gives_up}
 use Rattle.trace_report.specs.Replaying.{fault_or}
-use Rattle.trace_report.specs.Feeding.{RanOut, Takes, Stops, line_of}
+use Rattle.trace_report.specs.Feeding.{RanOut, Takes, Stops}
 
 -- these are its limits and its log
 abbrev pub IsOf : Limits → List Event → Limits → List Event → Type 0
@@ -54,7 +54,7 @@ module _ (m n : Limits) (log longer : List Event) (s t : Cutting) (piece more : 
 pub fed_reached : (m : Limits) (log : List Event) (s : Cutting) (piece : List ℕ) (took : Bool)
     (now : Option ReplayFault) → (took ≡ true → now ≡ None)
     → (took ≡ false → IsSomeAnd now (Stops (IsOf m log) s piece))
-    → IfSome now (λ f. RanOut f → (more : List ℕ) → IsReached m log (judged s (piece ++ more)) (line_of f))
+    → IfSome now (λ f. RanOut f → (more : List ℕ) → IsReached m log (judged s (piece ++ more)) f)
 fed_reached m log s piece took None takes stops = tt
 fed_reached m log s piece true (Some f) takes stops =
     absurd (let bad : Some f ≡ None = takes refl in cc)

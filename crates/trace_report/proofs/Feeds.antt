@@ -39,7 +39,7 @@ takes_event A B s t piece used o e p few is grows named allowed after = record {
         (subst (λ (x : Option Event). IfSome x (IsOfNames t.names)) is named);
     same = λ more. ap (finding_after m log) (event_pushed s t piece used o e p is more)
         ∙ goes_on m log t.line e (judged t (drop used piece ++ more)) (allowed m log a);
-    reached = λ more n h. subst (λ (j : Judgement). IsReached m log j n)
+    reached = λ more f h. subst (λ (j : Judgement). IsReached m log j f)
         (sym (event_pushed s t piece used o e p is more)) (inr (allowed m log a, h));
   };
 }
@@ -57,7 +57,7 @@ takes_rest A s t piece used o p few is grows = record {
     after = a;
     named = named_kept s.names t.names log grows;
     same = λ more. ap (finding_after m log) (nothing_pushed s t piece used o p is more);
-    reached = λ more n h. subst (λ (j : Judgement). IsReached m log j n)
+    reached = λ more f h. subst (λ (j : Judgement). IsReached m log j f)
         (sym (nothing_pushed s t piece used o p is more)) h;
   };
 }
@@ -77,7 +77,7 @@ pub text_stops : (A : Limits → List Event → Type 0) (s : Cutting) (piece : L
 text_stops A s piece f live fails = record {
   says = λ m log a more. record {
     finds = λ g. push_stops m log s piece f f.cause live fails g more;
-    reached = λ out. first_reached m log (judged s (piece ++ more)) f.line
+    reached = λ out. first_reached m log (judged s (piece ++ more)) f
         (subst (λ (c : Cause). FailsAt s piece f c) out fails more);
   };
   read = λ short. push_read s piece f f.cause fails short;

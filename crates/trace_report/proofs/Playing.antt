@@ -6,7 +6,9 @@ use Rattle.std.proofs.Math.Seq.{drop-length}
 use Rattle.event_core.specs.declared.bounds.Limits.{Limits}
 use Rattle.event_core.specs.declared.events.Event.{Event}
 use Rattle.event_core.specs.declared.replies.Refusal.{Refusal}
+use Rattle.event_core.specs.declared.replies.Refusal.TheVariants.{OutOfMemory}
 use Rattle.event_core.specs.Refusal.{refusal, event_of}
+use Rattle.seq_monitor.proofs.NeverMemory.{never_memory}
 use Rattle.rapid_text.specs.declared.causes.Cause.{Cause}
 use Rattle.rapid_text.specs.declared.causes.Cause.TheVariants as causes
 use Rattle.rapid_text.specs.declared.causes.TextFault.{TextFault}
@@ -14,7 +16,7 @@ use Rattle.rapid_text.specs.Texts.{Judgement, with_event, ended, first_line, Fir
 use Rattle.rapid_text.specs.Cutting.{Cutting, judged, most, Pushes, FailsAt, Closes, ClosesAt}
 use Rattle.trace_report.specs.declared.faults.ReplayFault.TheVariants.{Text, Refused}
 use Rattle.trace_report.specs.Findings.{call_of, ended_with, refused_or, played, finding_after, IsReached}
-use Rattle.trace_report.specs.Findings.{Reaches}
+use Rattle.trace_report.specs.Findings.{RunsOut}
 use Rattle.trace_report.specs.Replayed.{cause_gives_up, refusal_gives_up}
 use Rattle.trace_report.specs.Feeding.{Declines, is_read, Says}
 
@@ -40,14 +42,14 @@ stops_with m log j f p q =
     ap₂ (λ (lines : List (ℕ × Event)) (o : Option (ℕ × Cause)).
     played m log lines (λ end. ended_with j.names end o)) p q
 
--- the line that has the next event or a name too many is reached
-pub first_reached : (m : Limits) (log : List Event) (j : Judgement) (n : ℕ) → FirstAt n j
-    → IsReached m log j n
-first_reached m log j n = go j.events
+-- memory for its names may run out at the line of the next event
+pub first_reached : (m : Limits) (log : List Event) (j : Judgement) (f : TextFault) → FirstAt f.line j
+    → IsReached m log j (Text f)
+first_reached m log j f = go j.events
   where
-    go : (lines : List (ℕ × Event)) → first_line lines j.fault ≡ Some n → Reaches m log lines j.fault n
-    go [] is = is
-    go (p ∷ ps) is = inl (ap (λ (o : Option ℕ). unwrap_or o n) is)
+    go : (lines : List (ℕ × Event)) → first_line lines ≡ Some f.line → RunsOut m log lines (Text f)
+    go [] is = absurd cc
+    go (p ∷ ps) is = inl (ap (λ (o : Option ℕ). unwrap_or o f.line) is)
 
 -- the next event was not accepted
 pub declined : (m : Limits) (log : List Event) (line n : ℕ) (e : Event) (r : Refusal) (rest j : Judgement)
@@ -55,12 +57,17 @@ pub declined : (m : Limits) (log : List Event) (line n : ℕ) (e : Event) (r : R
 declined m log line n e r rest j is declines at =
     subst (λ (k : Judgement). Says m log k (Refused line r))
     (ap (λ (k : ℕ). with_event k (Some e) rest) at ∙ sym is)
-    (record { finds = finds declines; reached = λ out. inl refl })
+    (record { finds = finds declines; reached = λ out. inl (refl, allowed declines out) })
   where
+    allowed : Declines m log e r → r ≡ OutOfMemory → refusal m log (call_of e) ≡ None
+    allowed (inl a) out = absurd (never_memory m log (call_of e)
+        (a ∙ ap (λ (x : Refusal). let o : Option Refusal = Some x in o) out))
+    allowed (inr both) out = both.1
+
     finds : Declines m log e r → refusal_gives_up r ≡ false
         → finding_after m log (with_event line (Some e) rest) ≡ Err (Refused line r)
     finds (inl a) g = is_refused m log line e r rest a
-    finds (inr out) g = absurd (let bad : true ≡ false = sym (ap refusal_gives_up out) ∙ g in cc)
+    finds (inr both) g = absurd (let bad : true ≡ false = sym (ap refusal_gives_up both.0) ∙ g in cc)
 
 -- ---- a push
 

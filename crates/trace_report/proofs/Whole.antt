@@ -14,7 +14,6 @@ use Rattle.rapid_text.specs.declared.feeding.Fed.TheVariants as fed
 use Rattle.trace_report.specs.declared.faults.ReplayFault.{ReplayFault}
 use Rattle.trace_report.specs.Findings.{finding, finding_after, IsReached}
 use Rattle.trace_report.specs.Feeding.{Says, Takes, Stops, Ends, IsFed, FindsTrace, FindsFault, is_short}
-use Rattle.trace_report.specs.Feeding.{line_of}
 use Rattle.rapid_text.specs.declared.causes.Cause.TheVariants.{Read}
 use Rattle.trace_report.specs.declared.faults.ReplayFault.TheVariants.{Text}
 use Rattle.trace_report.proofs.Naming.{nothing_named}
@@ -72,9 +71,9 @@ module _ (m : Limits) (A : Limits → List Event → Type 0) (left rest : Option
         same = ap (λ (c : Cutting). finding_after m [] (judged c bytes)) (sym is)
             ∙ ap (λ (text : List ℕ). finding_after m [] (judged s text)) (sym (append-nil bytes))
             ∙ on.same [];
-        reached = λ n h. subst (λ (text : List ℕ). IsReached m [] (judged (begun m) text) n)
+        reached = λ f h. subst (λ (text : List ℕ). IsReached m [] (judged (begun m) text) f)
             (append-nil bytes)
-            (subst (λ (c : Cutting). IsReached m [] (judged c (bytes ++ [])) n) is (on.reached [] n h));
+            (subst (λ (c : Cutting). IsReached m [] (judged c (bytes ++ [])) f) is (on.reached [] f h));
       }
 
   found_fault : (f : ReplayFault) (bytes : List ℕ) → Consumes left rest bytes → Stops A s bytes f
@@ -182,7 +181,7 @@ end_is_found m left B s None f fed stood at_end same =
       text = is.text;
       is_left = is.is_left;
       finds = λ g. is.same ∙ says.finds g;
-      reached = λ out. is.reached (line_of f) (says.reached out);
+      reached = λ out. is.reached f (says.reached out);
     }
 end_is_found m left B s (Some h) f fed stood at_end same =
     subst (λ (k : ReplayFault). FindsFault m left k) (sym same) stood

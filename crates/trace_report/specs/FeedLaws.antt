@@ -9,7 +9,7 @@ use Rattle.rapid_text.specs.Taking.{place_of}
 use Rattle.rapid_text.specs.TakingLaws.{advances_none, advances_more, advances_before}
 use Rattle.trace_report.specs.declared.faults.ReplayFault.{ReplayFault}
 use Rattle.trace_report.specs.Findings.{finding_after, IsReached}
-use Rattle.trace_report.specs.Feeding.{Takes, Stops, line_of}
+use Rattle.trace_report.specs.Feeding.{Takes, Stops}
 
 pub takes_none : (A : Limits → List Event → Type 0) (s : Cutting) (bytes : List ℕ) → s.failed ≡ None
     → Takes A A s bytes bytes s
@@ -17,7 +17,7 @@ takes_none A s bytes live = record {
   live = live;
   advances = advances_none (place_of s) bytes;
   goes_on = λ m log a.
-      record { longer = log; after = a; named = λ h. h; same = λ more. refl; reached = λ more n h. h };
+      record { longer = log; after = a; named = λ h. h; same = λ more. refl; reached = λ more f h. h };
 }
 
 pub takes_more : (A B C : Limits → List Event → Type 0) (s t u : Cutting) (bytes rest left : List ℕ)
@@ -33,7 +33,7 @@ takes_more A B C s t u bytes rest left p q = record {
         after = back.after;
         named = λ h. back.named (front.named h);
         same = λ more. front.same more ∙ back.same more;
-        reached = λ more n h. front.reached more n (back.reached more n h);
+        reached = λ more f h. front.reached more f (back.reached more f h);
       };
 }
 
@@ -52,8 +52,8 @@ fed_before A B s t front rest p = record {
         same = λ more. ap (λ (text : List ℕ). finding_after m log (judged s text))
             (append_assoc front rest more)
             ∙ on.same (rest ++ more);
-        reached = λ more n h. subst (λ (text : List ℕ). IsReached m log (judged s text) n)
-            (sym (append_assoc front rest more)) (on.reached (rest ++ more) n h);
+        reached = λ more f h. subst (λ (text : List ℕ). IsReached m log (judged s text) f)
+            (sym (append_assoc front rest more)) (on.reached (rest ++ more) f h);
       };
 }
 
@@ -70,7 +70,7 @@ stops_later A B s t bytes rest f p q = record {
       let later = q.says m on.longer on.after more in
       record {
         finds = λ g. on.same more ∙ later.finds g;
-        reached = λ out. on.reached more (line_of f) (later.reached out);
+        reached = λ out. on.reached more f (later.reached out);
       };
   read = λ short. subst (λ (n : ℕ). most < n) p.advances.taken (q.read short);
   unwritten = q.unwritten;

@@ -40,9 +40,10 @@ use Rattle.trace_report.specs.Findings.{call_of, finding, finding_after, IsReach
 use Rattle.trace_report.specs.Replayed.{gives_up, OfText}
 use Rattle.trace_report.specs.Reports.{AreNamed}
 
--- why an event was not accepted
+-- why an event was not accepted: it is refused, or memory ran out and it is not
 abbrev pub Declines : Limits → List Event → Event → Refusal → Type 0
-Declines m log e r = (refusal m log (call_of e) ≡ Some r) ⊎ (r ≡ OutOfMemory)
+Declines m log e r = (refusal m log (call_of e) ≡ Some r)
+    ⊎ ((r ≡ OutOfMemory) × (refusal m log (call_of e) ≡ None))
 
 -- the text was not read to its end
 abbrev pub is_read : Cause → Bool
@@ -67,7 +68,7 @@ line_of Write = 0
 -- what a fault says of a judged text after this log: that it comes to it, or where memory ran out
 pub record Says (m : Limits) (log : List Event) (j : Judgement) (f : ReplayFault) : Type 0 where
   pub finds : gives_up f ≡ false → finding_after m log j ≡ Err f
-  pub reached : RanOut f → IsReached m log j (line_of f)
+  pub reached : RanOut f → IsReached m log j f
 
 -- ---- one piece
 
@@ -80,8 +81,8 @@ pub record GoesOn (m : Limits) (After : List Event → Type 0) (old : Cutting) (
   pub named : AreNamed old.names log → AreNamed new.names longer
   pub same : (more : List ℕ)
       → finding_after m log (judged old (bytes ++ more)) ≡ finding_after m longer (judged new (rest ++ more))
-  pub reached : (more : List ℕ) (n : ℕ) → IsReached m longer (judged new (rest ++ more)) n
-      → IsReached m log (judged old (bytes ++ more)) n
+  pub reached : (more : List ℕ) (f : ReplayFault) → IsReached m longer (judged new (rest ++ more)) f
+      → IsReached m log (judged old (bytes ++ more)) f
 
 -- the bytes were taken but for the rest, by a judge that was as after a log and is as after a longer one
 pub record Takes (Before After : Limits → List Event → Type 0) (old : Cutting) (bytes rest : List ℕ)
@@ -120,7 +121,8 @@ pub record IsFed (m : Limits) (left : Option (List ℕ)) (After : List Event →
   pub after : After log
   pub named : AreNamed now.names log
   pub same : finding m text ≡ finding_after m log (judged now [])
-  pub reached : (n : ℕ) → IsReached m log (judged now []) n → IsReached m [] (judgement (no_names m) text) n
+  pub reached : (f : ReplayFault) → IsReached m log (judged now []) f
+      → IsReached m [] (judgement (no_names m) text) f
 
 -- it is a legal trace, and the judge is as after its log
 pub record FindsTrace (m : Limits) (left : Option (List ℕ)) (After : List Event → Type 0) (names : Tables)
@@ -132,16 +134,16 @@ pub record FindsTrace (m : Limits) (left : Option (List ℕ)) (After : List Even
   pub named : AreNamed names log
   pub finds : finding m text ≡ Ok (record { names = names; log = log })
 
--- the line at which memory ran out has an event or a name too many, and no event of a line before is refused
+-- memory ran out at a line with an event, and no event of a line before is refused
 abbrev pub ReachesLine : Limits → Option (List ℕ) → ReplayFault → Type 0
-ReachesLine m left f = OfText left (λ text. IsReached m [] (judgement (no_names m) text) (line_of f))
+ReachesLine m left f = OfText left (λ text. IsReached m [] (judgement (no_names m) text) f)
 
 -- it comes to this fault, or memory ran out
 pub record FindsFault (m : Limits) (left : Option (List ℕ)) (f : ReplayFault) : Type 0 where
   pub text : List ℕ
   pub is_left : IfSome left (λ whole. text ≡ whole)
   pub finds : gives_up f ≡ false → finding m text ≡ Err f
-  pub reached : RanOut f → IsReached m [] (judgement (no_names m) text) (line_of f)
+  pub reached : RanOut f → IsReached m [] (judgement (no_names m) text) f
 
 -- ---- a text that was not read to its end
 

@@ -25,9 +25,9 @@ use Rattle.event_core.specs.Refusal.{refusal, event_of, WellFormed}
 use Rattle.rapid_text.specs.declared.causes.Cause.{Cause}
 use Rattle.rapid_text.specs.declared.causes.TextFault.{TextFault}
 use Rattle.rapid_text.specs.Tables.{Tables, no_names}
-use Rattle.rapid_text.specs.Texts.{Judgement, judgement, first_line}
+use Rattle.rapid_text.specs.Texts.{Judgement, judgement}
 use Rattle.trace_report.specs.declared.faults.ReplayFault.{ReplayFault}
-use Rattle.trace_report.specs.declared.faults.ReplayFault.TheVariants.{Text, Refused}
+use Rattle.trace_report.specs.declared.faults.ReplayFault.TheVariants.{Text, Refused, Write}
 
 -- ---- the finding
 
@@ -64,14 +64,22 @@ finding_after m log j = played m log j.events (λ end. ended_with j.names end j.
 unfoldable pub finding : Limits → List ℕ → Result Trace ReplayFault
 finding m text = finding_after m [] (judgement (no_names m) text)
 
--- line n has an event or a name too many, and no event of a line before it is refused after this log
-abbrev pub Reaches : Limits → List Event → List (ℕ × Event) → Option (ℕ × Cause) → ℕ → Type 0
-Reaches m log [] fault n = first_line [] fault ≡ Some n
-Reaches m log (p ∷ ps) fault n = (p.0 ≡ n)
-    ⊎ ((refusal m log (call_of p.1) ≡ None) × Reaches m (log ++ event_of log (call_of p.1) ∷ []) ps fault n)
+-- memory ran out at this line: for the names of its event, or for the event, which is not refused after this
+-- log
+abbrev pub RunsOutAt : Limits → List Event → ℕ × Event → ReplayFault → Type 0
+RunsOutAt m log p (Text f) = p.0 ≡ f.line
+RunsOutAt m log p (Refused line r) = (p.0 ≡ line) × (refusal m log (call_of p.1) ≡ None)
+RunsOutAt m log p Write = ⊥
 
-abbrev pub IsReached : Limits → List Event → Judgement → ℕ → Type 0
-IsReached m log j n = Reaches m log j.events j.fault n
+-- memory ran out at one of the lines, each of which has an event, and no event of a line before it is refused
+abbrev pub RunsOut : Limits → List Event → List (ℕ × Event) → ReplayFault → Type 0
+RunsOut m log [] f = ⊥
+RunsOut m log (p ∷ ps) f = RunsOutAt m log p f
+    ⊎ ((refusal m log (call_of p.1) ≡ None) × RunsOut m (log ++ event_of log (call_of p.1) ∷ []) ps f)
+
+-- the line of the fault is reached in the judged text after this log, and memory ran out at it
+abbrev pub IsReached : Limits → List Event → Judgement → ReplayFault → Type 0
+IsReached m log j f = RunsOut m log j.events f
 
 -- ---- the same, said of the log that the lines make
 

@@ -4,7 +4,6 @@ use Rattle.event_core.specs.declared.bounds.Limits.{Limits}
 use Rattle.event_core.specs.declared.events.Event.{Event}
 use Rattle.rapid_text.specs.Cutting.{Cutting, begun, judged}
 use Rattle.trace_report.specs.declared.faults.ReplayFault.{ReplayFault}
-use Rattle.trace_report.specs.Feeding.{line_of}
 use Rattle.trace_report.specs.Findings.{Trace, finding_after, IsReached}
 
 -- the names, the unfinished line and its number, the log, and the first fault
@@ -26,7 +25,7 @@ fault_or (Some f) later = Err f
 abbrev pub after : Replaying → List ℕ → Result Trace ReplayFault
 after r more = fault_or r.fault (finding_after r.limits r.log (judged r.text more))
 
--- the line of the fault has an event or a name too many if these bytes follow, and no event of a line before
--- is refused
+-- the line of the fault has an event if these bytes follow, and memory ran out at it; no event of a line
+-- before is refused
 abbrev pub ReachesIn : Replaying → List ℕ → ReplayFault → Type 0
-ReachesIn r more f = IsReached r.limits r.log (judged r.text more) (line_of f)
+ReachesIn r more f = IsReached r.limits r.log (judged r.text more) f

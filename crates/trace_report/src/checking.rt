@@ -49,7 +49,8 @@ pub fn check<I: Input, O: Output>(
     // more it is too long. No line before has a fault or a refused event.
     ensures cut { IfErr result (λ f. is_short f ≡ true
         → IsCutAt limits (I.left reader.old) (I.left reader.new) turns (I.failed reader.new) f) }
-    // Memory ran out at a line with an event or a name too many, and no event of a line before is refused.
+    // Memory ran out at a line with an event. No event of a line before is refused, nor is the line's own
+    // unless memory ran out for its names.
     ensures memory { IfErr result (λ f. RanOut f → ReachesLine limits (I.left reader.old) f) }
     // However it ends, no more than 65,536 bytes were read for each turn.
     ensures few { WithinTurns turns (I.left reader.old) (I.left reader.new) }

@@ -63,8 +63,8 @@ impl Replayer {
         // It is a read fault only where the pieces have more bytes than a cutter takes.
         ensures read { self.old.fault ≡ None → IfSome self.new.fault (λ f. is_short f ≡ true
             → most < self.old.text.taken + length piece.now) }
-        // Memory ran out at a line still to be judged, with an event or a name too many, whatever follows. No
-        // event of a line before is refused.
+        // Memory ran out at a line still to be judged, which has an event, whatever follows. No event of a
+        // line before is refused, nor is the line's own unless memory ran out for its names.
         ensures memory { self.old.fault ≡ None → IfSome self.new.fault (λ f. RanOut f
             → (more : List ℕ) → ReachesIn self.old (piece.now ++ more) f) }
         ensures advances { self.new.fault ≡ None
@@ -94,7 +94,7 @@ impl Replayer {
             → writer.new ≡ writer.old }
         // A read fault is answered only where one stands.
         ensures read { IfErr result (λ f. is_short f ≡ true → self.fault ≡ Some f) }
-        // Memory ran out at the last line, which has an event or a name too many, or its fault stands.
+        // Memory ran out at the last line, which has an event, or its fault stands.
         ensures memory { self.fault ≡ None → IfErr result (λ f. RanOut f → ReachesIn self [] f) }
         // A fault that stands is the answer, unless its line could not be written.
         ensures answered { IfSome self.fault (λ f. (result ≡ Err f) ⊎ (result ≡ Err ReplayFault.Write)) }

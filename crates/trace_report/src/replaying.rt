@@ -41,8 +41,8 @@ pub fn replay<I: Input, O: Output>(
     // more it is too long. No line before has a fault or a refused event.
     ensures cut { IfErr result (λ f. is_short f ≡ true
         → IsCutAt limits (I.left reader.old) (I.left reader.new) turns (I.failed reader.new) f) }
-    // Memory ran out at a line with an event or a name too many, and no event of a line before is refused; or
-    // at line 1, before the first read.
+    // Memory ran out at a line with an event. No event of a line before is refused, nor is the line's own
+    // unless memory ran out for its names. Or it ran out at line 1, before the first read.
     ensures memory { IfErr result (λ f. RanOut f → ReachesLine limits (I.left reader.old) f
         ⊎ ((line_of f ≡ 1) × (reader.new ≡ reader.old))) }
     // However it ends, no more than 65,536 bytes were read for each turn.

@@ -11,7 +11,7 @@ returns-in-Err-clause-fault g c m log a =
     let f = c.in-Err.fault in
     record {
       finds = close_stops m log s f f.cause c.requires.live c.in-Err.ensures.fault;
-      reached = λ out. first_reached m log (judged s []) f.line
+      reached = λ out. first_reached m log (judged s []) f
           (subst (ClosesAt s f) out c.in-Err.ensures.fault);
     }
 

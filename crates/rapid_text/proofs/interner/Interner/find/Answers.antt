@@ -1,8 +1,8 @@
 use Rattle.std.proofs.Common.{◌≡◌, ℕ, Some}
 use Rattle.std.proofs.lemmas.Option.{IfSome_then}
-use Rattle.rapid_text.specs.Numbers.{number_of}
+use Rattle.rapid_text.specs.Numbers.{place_of}
 use Rattle.rapid_text.specs.NumberCache.{IsFound}
-use Rattle.rapid_text.proofs.SpaceLaws.{numbered_found, place_of_name}
+use Rattle.rapid_text.proofs.SpaceLaws.{place_of_name}
 use Rattle.rapid_text.proofs.NoteLaws.{name_held}
 use Rattle.rapid_text.proofs.interner.Interner.find.Goals as goal
 
@@ -10,10 +10,8 @@ pub returns : goal.returns
 returns c =
     let names = c.self.inside.names.keys in
     let name = c.args.name.now in
-    let known : (n : ℕ) → IsFound c.self.inside.cache n name
-    → number_of c.args.self.now name ≡ Some (n, c.args.self.now) =
+    let known : (n : ℕ) → IsFound c.self.inside.cache n name → place_of c.args.self.now name ≡ Some n =
     λ n found.
     let at = name_held names c.self.inside.cache n name c.self.invariant.1 found in
-    let place = place_of_name name names n c.as_slice-unique.ensures.unique at in
-    rw (← c.self.view_is) (numbered_found c.self.inside.limit names name n place) in
+    rw (← c.self.view_is) (place_of_name name names n c.as_slice-unique.ensures.unique at) in
     IfSome_then c.find.result c.find.ensures known

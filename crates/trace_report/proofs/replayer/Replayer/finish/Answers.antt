@@ -8,7 +8,7 @@ use Rattle.trace_report.specs.declared.faults.ReplayFault.{ReplayFault}
 use Rattle.trace_report.specs.declared.faults.ReplayFault.TheVariants.{Write}
 use Rattle.trace_report.specs.declared.summary.Summary.{Summary}
 use Rattle.trace_report.specs.Findings.{Trace, finding_after, IsReached}
-use Rattle.trace_report.specs.Feeding.{RanOut, is_short, line_of}
+use Rattle.trace_report.specs.Feeding.{RanOut, is_short}
 use Rattle.trace_report.specs.Replayed.{Told}
 use Rattle.trace_report.specs.Replaying.{Replaying, after, ReachesIn}
 use Rattle.trace_report.specs.Reports.{AreNamed}
@@ -60,7 +60,7 @@ returns-in-Err-clause-memory g c none out =
     let stood : text.fault ≡ None = ap (λ (r : Replaying). r.fault) c.self.view_is ∙ none in
     let says = c.in-Err.ensures.fault stood text.judge.limits text.judge.log (refl, refl) in
     subst (λ (r : Replaying). ReachesIn r [] answer) c.self.view_is
-    (kind_stays RanOut (λ f. IsReached text.judge.limits text.judge.log (judged text.cutter []) (line_of f))
+    (kind_stays RanOut (λ f. IsReached text.judge.limits text.judge.log (judged text.cutter []) f)
     (λ o. o) answer c.in-Err.fault c.tell_failure.ensures.is says.reached out)
 
 pub returns-in-Err-clause-healthy : goal.returns-in-Err-clause-healthy

@@ -1,0 +1,361 @@
+-- The names of a line of which some are new: whether each has a number left.
+use Rattle.std.proofs.Common.{◌≡◌, ◌≢◌, ℕ, ◌+◌, ◌<◌, ◌≤◌, List, length, Option, Some, None}
+use Rattle.std.proofs.Common.{Result, Ok, Err, true, false, refl, sym, ap, subst, ◌∙◌, arith}
+use Rattle.std.proofs.Common.{◌⊎◌, inl, inr}
+use Rattle.std.specs.Prelude.{IsOk, IsSome, nat_lt, not}
+use Rattle.std.specs.Str.{bytes_eq}
+use Rattle.std.proofs.lemmas.Bool.{ltb-true, ltb-false, cases_Bool}
+use Rattle.std.proofs.lemmas.List.{length_push}
+use Rattle.std.proofs.lemmas.Slice.Eq.{bytes_eq-Decides}
+use Rattle.event_core.specs.declared.events.Event.{Event}
+use Rattle.rapid_line.specs.declared.words.Word.{Word}
+use Rattle.rapid_line.specs.declared.words.Word.TheVariants as words
+use Rattle.rapid_line.specs.Grammar.{Named}
+use Rattle.rapid_line.specs.Reading.{and_then}
+use Rattle.rapid_text.specs.declared.causes.Kind.{Kind}
+use Rattle.rapid_text.specs.declared.causes.Kind.TheVariants as kinds
+use Rattle.rapid_text.specs.declared.causes.Cause.{Cause}
+use Rattle.rapid_text.specs.declared.causes.Cause.TheVariants as causes
+use Rattle.rapid_text.specs.Numbers.{Numbered, with_name, place_of}
+use Rattle.rapid_text.specs.Tables.{Tables, space, number_in}
+use Rattle.rapid_text.specs.Events.{kind_of, event_of, number_or_fault, named_event, some_event, HasEvent}
+use Rattle.rapid_text.specs.declared.event_lines.Known.{Known}
+use Rattle.rapid_text.specs.KnownNames.{AreKnown, AddsTwo, IsOfItself}
+use Rattle.rapid_text.proofs.NamePlaces.{fits, lacks, known_place, spaces, same_place, other_place}
+
+pub event_read : (r : Result (Event × Tables) Cause) → IsOk r → HasEvent (some_event r)
+event_read (Ok p) ok = refl
+event_read (Err f) ok = absurd cc
+
+-- the argument's space after the thread was numbered: the thread is one more in it, or it is the same
+record OneMore (t u : Tables) (kind : Kind) (a : List ℕ) (n : ℕ) : Type 0 where
+  thread : kind ≡ kinds.Thread
+  new : place_of (space t kind) a ≡ None
+  number : n ≡ length (space t kind).names
+  is : space u kind ≡ with_name (space t kind) a
+
+record AsBefore (t u : Tables) (kind : Kind) (a : List ℕ) (n : ℕ) : Type 0 where
+  is : space u kind ≡ space t kind
+  known : kind ≡ kinds.Thread → place_of (space t kind) a ≡ Some n
+
+after_thread : (t u : Tables) (kind : Kind) (a : List ℕ) (n : ℕ) → number_in t kinds.Thread a ≡ Some (n, u)
+    → OneMore t u kind a n ⊎ AsBefore t u kind a n
+after_thread t u kinds.Thread a n e =
+    elim (spaces t kinds.Thread a n u e).own [
+      | inl was ↦ inr (record { is = was.1; known = λ _. was.0 })
+      | inr new ↦ inl (record { thread = refl; new = new.0; number = new.1; is = new.2 })
+    ]
+after_thread t u kinds.Lock a n e =
+    inr (record {
+      is = (spaces t kinds.Thread a n u e).others kinds.Lock (λ bad. absurd cc);
+      known = λ bad. absurd cc;
+    })
+after_thread t u kinds.Variable a n e =
+    inr (record {
+      is = (spaces t kinds.Thread a n u e).others kinds.Variable (λ bad. absurd cc);
+      known = λ bad. absurd cc;
+    })
+after_thread t u kinds.Site a n e =
+    inr (record {
+      is = (spaces t kinds.Thread a n u e).others kinds.Site (λ bad. absurd cc);
+      known = λ bad. absurd cc;
+    })
+
+-- an argument is no location
+no_site : (w : Word) → kinds.Site ≢ kind_of w
+no_site words.Load bad = absurd cc
+no_site words.Store bad = absurd cc
+no_site words.Acquire bad = absurd cc
+no_site words.Release bad = absurd cc
+no_site words.Fork bad = absurd cc
+no_site words.Join bad = absurd cc
+
+sites_kept : (t u v : Tables) (e : Named) (n k : ℕ) → number_in t kinds.Thread e.thread ≡ Some (n, u)
+    → number_in u (kind_of e.word) e.argument ≡ Some (k, v) → space v kinds.Site ≡ space t kinds.Site
+sites_kept t u v e n k first second =
+    (spaces u (kind_of e.word) e.argument k v second).others kinds.Site (no_site e.word)
+    ∙ (spaces t kinds.Thread e.thread n u first).others kinds.Site (λ bad. absurd cc)
+
+-- ---- the names of a line
+
+abbrev after_target : Named → ℕ → ℕ × Tables → Result (Event × Tables) Cause
+after_target e thread q =
+    and_then (number_or_fault kinds.Site (number_in q.1 kinds.Site e.location))
+    (λ r. Ok (event_of e.word thread q.0 r.0, r.1))
+
+abbrev after_first : Named → ℕ × Tables → Result (Event × Tables) Cause
+after_first e p =
+    and_then (number_or_fault (kind_of e.word) (number_in p.1 (kind_of e.word) e.argument))
+    (after_target e p.0)
+
+named_by_first : (t : Tables) (e : Named) (o : Option (ℕ × Tables)) → number_in t kinds.Thread e.thread ≡ o
+    → named_event t e ≡ and_then (number_or_fault kinds.Thread o) (after_first e)
+unfolding named_event
+named_by_first t e o is =
+    ap (λ (x : Option (ℕ × Tables)). and_then (number_or_fault kinds.Thread x) (after_first e)) is
+
+named_by_second : (t u : Tables) (e : Named) (n : ℕ) (o : Option (ℕ × Tables))
+    → number_in t kinds.Thread e.thread ≡ Some (n, u) → number_in u (kind_of e.word) e.argument ≡ o
+    → named_event t e ≡ and_then (number_or_fault (kind_of e.word) o) (after_target e n)
+named_by_second t u e n o first is =
+    named_by_first t e (Some (n, u)) first
+    ∙ ap (λ (x : Option (ℕ × Tables)). and_then (number_or_fault (kind_of e.word) x) (after_target e n)) is
+
+named_by_third : (t u v : Tables) (e : Named) (n k : ℕ) (o : Option (ℕ × Tables))
+    → number_in t kinds.Thread e.thread ≡ Some (n, u)
+    → number_in u (kind_of e.word) e.argument ≡ Some (k, v) → number_in v kinds.Site e.location ≡ o
+    → named_event t e ≡ and_then (number_or_fault kinds.Site o) (λ r. Ok (event_of e.word n k r.0, r.1))
+named_by_third t u v e n k o first second is =
+    named_by_second t u e n (Some (k, v)) first second
+    ∙ ap (λ (x : Option (ℕ × Tables)). and_then (number_or_fault kinds.Site x)
+    (λ r. Ok (event_of e.word n k r.0, r.1))) is
+
+some_of : (o : Option (ℕ × Tables)) → IsSome o → (n : ℕ) × (u : Tables) × (o ≡ Some (n, u))
+some_of None some = absurd cc
+some_of (Some p) some = (p.0, p.1, refl)
+
+-- the event where all are known
+pub known_event : (t : Tables) (e : Named) (known : Known) (n k s : ℕ) → AreKnown t e known
+    → known.thread ≡ Some n → known.target ≡ Some k → known.site ≡ Some s
+    → named_event t e ≡ Ok (event_of e.word n k s, t)
+known_event t e known n k s are thread target site =
+    named_by_third t t t e n k (Some (s, t))
+    (known_place t kinds.Thread e.thread n (sym thread ∙ are.thread))
+    (known_place t (kind_of e.word) e.argument k (sym target ∙ are.target))
+    (known_place t kinds.Site e.location s (sym site ∙ are.site))
+
+-- the name is new, and so many more are too many of its kind
+abbrev pub PassesLimit : Tables → Kind → Option ℕ → ℕ → Type 0
+PassesLimit t kind known more =
+    (known ≡ None) × ((space t kind).limit < length (space t kind).names + more)
+
+within_limit : (t : Tables) (kind : Kind) (known : Option ℕ) (more : ℕ)
+    → (PassesLimit t kind known more → ⊥) → known ≡ None
+    → length (space t kind).names + more ≤ (space t kind).limit
+within_limit t kind known more within new =
+    elim (cases_Bool (nat_lt (space t kind).limit (length (space t kind).names + more))) [
+      | inl less ↦ absurd (within
+          (new, ltb-true (space t kind).limit (length (space t kind).names + more) less))
+      | inr most ↦ ltb-false (space t kind).limit (length (space t kind).names + more) most
+    ]
+
+pub thread_too_many : (t : Tables) (e : Named) (known : Known) → AreKnown t e known
+    → PassesLimit t kinds.Thread known.thread 1
+    → named_event t e ≡ Err (causes.TooManyNames kinds.Thread)
+thread_too_many t e known are passes =
+    named_by_first t e None (lacks t kinds.Thread e.thread (sym are.thread ∙ passes.0)
+    (λ left. absurd (let over = passes.1 in omega (arith, left, over))))
+
+module _ (t : Tables) (e : Named) (known : Known) (m : ℕ) (are : AreKnown t e known)
+    (two : AddsTwo e known → m ≡ 2) (one : (AddsTwo e known → ⊥) → m ≡ 1)
+    (thread : PassesLimit t kinds.Thread known.thread 1 → ⊥)
+  where
+    -- the names of the argument's kind
+    abbrev own : Numbered
+    own = space t (kind_of e.word)
+
+    abbrev Room : ℕ → Type 0
+    Room more = length own.names + more ≤ own.limit
+
+    thread_left : known.thread ≡ None
+        → length (space t kinds.Thread).names + 1 ≤ (space t kinds.Thread).limit
+    thread_left new = within_limit t kinds.Thread known.thread 1 thread new
+
+    thread_fits : IsSome (number_in t kinds.Thread e.thread)
+    thread_fits = fits t kinds.Thread e.thread (λ new. thread_left (are.thread ∙ new))
+
+    -- nothing is added before an argument whose space stays
+    alone : (n : ℕ) (u : Tables) → AsBefore t u (kind_of e.word) e.thread n → m ≡ 1
+    alone n u b = one (λ adds. absurd (
+        let place : place_of own e.thread ≡ None =
+        ap (λ (k : Kind). place_of (space t k) e.thread) adds.1 ∙ sym are.thread ∙ adds.0 in
+        let bad : Some n ≡ None = sym (b.known adds.1) ∙ place in
+        cc))
+
+    -- a second thread is added after the first
+    both : (n : ℕ) (u : Tables) → OneMore t u (kind_of e.word) e.thread n → e.argument ≢ e.thread → m ≡ 2
+    both n u b apart = two (
+      are.thread ∙ ap (λ (k : Kind). place_of (space t k) e.thread) (sym b.thread) ∙ b.new,
+      b.thread,
+      apart,
+    )
+
+    target_fits : (n : ℕ) (u : Tables) → number_in t kinds.Thread e.thread ≡ Some (n, u)
+        → (known.target ≡ None → Room m) → IsSome (number_in u (kind_of e.word) e.argument)
+    target_fits n u first left =
+        fits u (kind_of e.word) e.argument (λ new.
+        elim (after_thread t u (kind_of e.word) e.thread n first) [
+          | inl more ↦
+              let named : place_of (with_name own e.thread) e.argument ≡ None =
+              ap (λ (s : Numbered). place_of s e.argument) (sym more.is) ∙ new in
+              let apart : e.argument ≢ e.thread = λ same. absurd (
+              let there = ap (λ (x : List ℕ). place_of (with_name own e.thread) x) same in
+              let found = same_place own e.thread more.new in
+              let bad : Some (length own.names) ≡ None =
+              sym found ∙ sym there ∙ named in cc) in
+              let room : Room 2 = subst Room (both n u more apart) (left (are.target
+              ∙ sym (other_place own e.thread e.argument apart) ∙ named)) in
+              let longer = length_push own.names e.thread in
+              subst (λ (s : Numbered). length s.names + 1 ≤ s.limit) (sym more.is)
+              (omega (arith, room, longer))
+          | inr same ↦
+              subst (λ (s : Numbered). length s.names + 1 ≤ s.limit) (sym same.is)
+              (subst Room (alone n u same)
+              (left (are.target ∙ ap (λ (s : Numbered). place_of s e.argument) (sym same.is) ∙ new)))
+        ])
+
+    target_lacks : (n : ℕ) (u : Tables) → number_in t kinds.Thread e.thread ≡ Some (n, u)
+        → known.target ≡ None → (Room m → ⊥) → number_in u (kind_of e.word) e.argument ≡ None
+    target_lacks n u first new full =
+        let place : place_of own e.argument ≡ None = sym are.target ∙ new in
+        elim (after_thread t u (kind_of e.word) e.thread n first) [
+          | inl more ↦
+              let longer = length_push own.names e.thread in
+              let apart : e.argument ≢ e.thread = λ same. absurd (
+              let alone : m ≡ 1 = one (λ adds. absurd (adds.2 same)) in
+              let room : Room 1 = subst (λ (k : Kind). length (space t k).names + 1 ≤ (space t k).limit)
+              (sym more.thread)
+              (thread_left (are.thread ∙ ap (λ (k : Kind). place_of (space t k) e.thread) (sym more.thread)
+              ∙ more.new)) in
+              full (subst Room (sym alone) room)) in
+              let two_more : Room 2 → ⊥ = λ room. full (subst Room (sym (both n u more apart)) room) in
+              lacks u (kind_of e.word) e.argument
+              (ap (λ (s : Numbered). place_of s e.argument) more.is
+              ∙ other_place own e.thread e.argument apart ∙ place)
+              (subst (λ (s : Numbered). length s.names + 1 ≤ s.limit → ⊥) (sym more.is)
+              (λ room. two_more (omega (arith, room, longer))))
+          | inr same ↦
+              lacks u (kind_of e.word) e.argument
+              (ap (λ (s : Numbered). place_of s e.argument) same.is ∙ place)
+              (subst (λ (s : Numbered). length s.names + 1 ≤ s.limit → ⊥) (sym same.is)
+              (λ room. full (subst Room (sym (alone n u same)) room)))
+        ]
+
+    pub target_too_many : PassesLimit t (kind_of e.word) known.target m
+        → named_event t e ≡ Err (causes.TooManyNames (kind_of e.word))
+    target_too_many passes =
+        let first = some_of (number_in t kinds.Thread e.thread) thread_fits in
+        named_by_second t first.1 e first.0 None first.2
+        (target_lacks first.0 first.1 first.2 passes.0
+        (λ left. absurd (let over = passes.1 in omega (arith, left, over))))
+
+    pub site_too_many : (PassesLimit t (kind_of e.word) known.target m → ⊥)
+        → PassesLimit t kinds.Site known.site 1
+        → named_event t e ≡ Err (causes.TooManyNames kinds.Site)
+    site_too_many target passes =
+        let first = some_of (number_in t kinds.Thread e.thread) thread_fits in
+        let second = some_of (number_in first.1 (kind_of e.word) e.argument)
+        (target_fits first.0 first.1 first.2 (within_limit t (kind_of e.word) known.target m target)) in
+        let kept = sites_kept t first.1 second.1 e first.0 second.0 first.2 second.2 in
+        let over = passes.1 in
+        named_by_third t first.1 second.1 e first.0 second.0 None first.2 second.2
+        (lacks second.1 kinds.Site e.location
+        (ap (λ (s : Numbered). place_of s e.location) kept ∙ sym are.site ∙ passes.0)
+        (subst (λ (s : Numbered). length s.names + 1 ≤ s.limit → ⊥) (sym kept)
+        (λ left. absurd (omega (arith, left, over)))))
+
+    pub all_fit : (PassesLimit t (kind_of e.word) known.target m → ⊥)
+        → (PassesLimit t kinds.Site known.site 1 → ⊥) → IsOk (named_event t e)
+    all_fit target site =
+        let first = some_of (number_in t kinds.Thread e.thread) thread_fits in
+        let second = some_of (number_in first.1 (kind_of e.word) e.argument)
+        (target_fits first.0 first.1 first.2 (within_limit t (kind_of e.word) known.target m target)) in
+        let kept = sites_kept t first.1 second.1 e first.0 second.0 first.2 second.2 in
+        let third = some_of (number_in second.1 kinds.Site e.location)
+        (fits second.1 kinds.Site e.location (λ new.
+        subst (λ (s : Numbered). length s.names + 1 ≤ s.limit) (sym kept)
+        (within_limit t kinds.Site known.site 1 site
+        (are.site ∙ ap (λ (s : Numbered). place_of s e.location) (sym kept) ∙ new)))) in
+        let event = named_by_third t first.1 second.1 e first.0 second.0 (Some (third.0, third.1)) first.2
+        second.2 third.2 in
+        rw event refl
+
+-- ---- where each has a number left
+
+some_by : (kind : Kind) (o : Option (ℕ × Tables)) (next : ℕ × Tables → Result (Event × Tables) Cause)
+    → IsOk (and_then (number_or_fault kind o) next) → IsSome o
+some_by kind None next ok = absurd cc
+some_by kind (Some p) next ok = refl
+
+pub thread_numbered : (t : Tables) (e : Named) → IsOk (named_event t e)
+    → IsSome (number_in t kinds.Thread e.thread)
+thread_numbered t e ok =
+    some_by kinds.Thread (number_in t kinds.Thread e.thread) (after_first e)
+    (subst (λ (r : Result (Event × Tables) Cause). IsOk r)
+    (named_by_first t e (number_in t kinds.Thread e.thread) refl) ok)
+
+pub target_numbered : (t u : Tables) (e : Named) (n : ℕ) → IsOk (named_event t e)
+    → number_in t kinds.Thread e.thread ≡ Some (n, u)
+    → IsSome (number_in u (kind_of e.word) e.argument)
+target_numbered t u e n ok first =
+    some_by (kind_of e.word) (number_in u (kind_of e.word) e.argument) (after_target e n)
+    (subst (λ (r : Result (Event × Tables) Cause). IsOk r)
+    (named_by_second t u e n (number_in u (kind_of e.word) e.argument) first refl) ok)
+
+pub site_numbered : (t u v : Tables) (e : Named) (n k : ℕ) → IsOk (named_event t e)
+    → number_in t kinds.Thread e.thread ≡ Some (n, u)
+    → number_in u (kind_of e.word) e.argument ≡ Some (k, v)
+    → IsSome (number_in v kinds.Site e.location)
+site_numbered t u v e n k ok first second =
+    some_by kinds.Site (number_in v kinds.Site e.location) _
+    (subst (λ (r : Result (Event × Tables) Cause). IsOk r)
+    (named_by_third t u v e n k (number_in v kinds.Site e.location) first second refl) ok)
+
+-- the number of an argument that is the line's own thread
+own_thread : (t u : Tables) (e : Named) (n : ℕ) → number_in t kinds.Thread e.thread ≡ Some (n, u)
+    → IsOfItself e → place_of (space u (kind_of e.word)) e.argument ≡ Some n
+own_thread t u e n first own =
+    let argument = ap (λ (x : List ℕ). place_of (space u (kind_of e.word)) x) own.1 in
+    elim (after_thread t u (kind_of e.word) e.thread n first) [
+      | inl more ↦
+          argument ∙ ap (λ (s : Numbered). place_of s e.thread) more.is
+          ∙ same_place (space t (kind_of e.word)) e.thread more.new
+          ∙ ap (λ (i : ℕ). let o : Option ℕ = Some i in o) (sym more.number)
+      | inr same ↦ argument ∙ ap (λ (s : Numbered). place_of s e.thread) same.is ∙ same.known own.0
+    ]
+
+-- and of any other one
+other_argument : (t u : Tables) (e : Named) (n : ℕ) → number_in t kinds.Thread e.thread ≡ Some (n, u)
+    → (IsOfItself e → ⊥)
+    → place_of (space u (kind_of e.word)) e.argument ≡ place_of (space t (kind_of e.word)) e.argument
+other_argument t u e n first other =
+    elim (after_thread t u (kind_of e.word) e.thread n first) [
+      | inl more ↦
+          ap (λ (s : Numbered). place_of s e.argument) more.is
+          ∙ other_place (space t (kind_of e.word)) e.thread e.argument (λ same. other (more.thread, same))
+      | inr same ↦ ap (λ (s : Numbered). place_of s e.argument) same.is
+    ]
+
+thread_or_other : (k : Kind) → (k ≡ kinds.Thread) ⊎ (k ≢ kinds.Thread)
+thread_or_other kinds.Thread = inl refl
+thread_or_other kinds.Lock = inr (λ bad. absurd cc)
+thread_or_other kinds.Variable = inr (λ bad. absurd cc)
+thread_or_other kinds.Site = inr (λ bad. absurd cc)
+
+own_or_other : (e : Named) → IsOfItself e ⊎ (IsOfItself e → ⊥)
+own_or_other e =
+    elim (thread_or_other (kind_of e.word)) [
+      | inl kind ↦ elim (cases_Bool (bytes_eq e.argument e.thread)) [
+        | inl met ↦ inl (kind, (bytes_eq-Decides e.argument e.thread).0 met)
+        | inr differ ↦ inr (λ own. absurd (let met = (bytes_eq-Decides e.argument e.thread).1 own.1 in
+            let bad : true ≡ false = sym met ∙ differ in cc))
+      ]
+      | inr other ↦ inr (λ own. other own.0)
+    ]
+
+pub argument_known : (t u : Tables) (e : Named) (known : Known) (n : ℕ) (argument : Option ℕ)
+    → AreKnown t e known → number_in t kinds.Thread e.thread ≡ Some (n, u)
+    → (IsOfItself e → argument ≡ Some n) → ((IsOfItself e → ⊥) → argument ≡ known.target)
+    → argument ≡ place_of (space u (kind_of e.word)) e.argument
+argument_known t u e known n argument are first own other =
+    elim (own_or_other e) [
+      | inl is ↦ own is ∙ sym (own_thread t u e n first is)
+      | inr not ↦ other not ∙ are.target ∙ sym (other_argument t u e n first not)
+    ]
+
+pub site_known : (t u v : Tables) (e : Named) (known : Known) (n k : ℕ) → AreKnown t e known
+    → number_in t kinds.Thread e.thread ≡ Some (n, u)
+    → number_in u (kind_of e.word) e.argument ≡ Some (k, v)
+    → known.site ≡ place_of (space v kinds.Site) e.location
+site_known t u v e known n k are first second =
+    are.site ∙ ap (λ (s : Numbered). place_of s e.location) (sym (sites_kept t u v e n k first second))
