@@ -1,18 +1,24 @@
 #!/bin/sh
-# Shows that examples/tsan_recorder.c and examples/record.c work: records the small programs beside them, with
-# each compiler that is there, and compares what wcp reports with the answer that each program is made for.
+# Shows that the recorder of examples/ works: runs the commands at the head of README.md and records the small
+# programs beside this file, with each compiler that is there, and compares the reports with the answers that
+# the programs are made for. Where ThreadSanitizer's library is there, it shows that it is silent on the first.
 #
 # usage: examples/check.sh [PROGRAM]     runs PROGRAM in place of ./wcp
 #
-# A line is printed for each thing shown, `shown: ..` or `NOT shown: ..`; the exit status is 1 where one was not.
-examples=$(cd "$(dirname "$0")" && pwd)
-wcp=${1:-$examples/../wcp}
+# Prints a line for each thing shown, `shown: ..` or `NOT shown: ..`; the exit status is 1 where one was not.
+export LC_ALL=C
+top=$(cd "$(dirname "$0")/.." && pwd)
+program=$(realpath "${1:-$top/wcp}")
 room=$(mktemp -d)
 trap 'rm -rf "$room"' EXIT
 cd "$room" || exit 1
+ln -s "$top/examples" examples
+ln -s "$program" wcp
+mkdir bin
+PATH=$room/bin:$PATH
 wrong=0
 
-# tell WHAT COMMAND..: says whether the command ends with 0.
+# tell WHAT COMMAND..: prints whether the command ends with 0, and if it does not, what it printed.
 tell() {
     what=$1
     shift
@@ -25,59 +31,68 @@ tell() {
     fi
 }
 
-# build C C++ PROGRAM OPTION..: builds a program of the examples with the recorder, as the manual says.
-build() {
-    c=$1 cpp=$2 source=$3
-    shift 3
-    name=${source%.*}
-    case $source in
-    *.c) "$c" -g "$@" -fsanitize=thread -c "$examples/$source" ;;
-    *) "$cpp" -g "$@" -fsanitize=thread -c "$examples/$source" ;;
-    esac && "$c" -O2 "$@" "$examples/tsan_recorder.c" "$name.o" -lstdc++ -o "$name"
+# of_readme: the commands at the head of README.md, which make trace.txt and print the report.
+of_readme() {
+    awk '/^```sh/ { on = 1; text = ""; next }
+         /^```/ { if (on && text ~ /tsan_recorder/) printf "%s", text; on = 0 }
+         on { text = text $0 "\n" }' "$top/README.md" > commands
+    sh commands > report.txt
+    has_races 1
 }
 
-# races PROGRAM NUMBER: records a run, and compares the number of races.
+# races PROGRAM NUMBER OPTION..: builds the program with the recorder, records a run, and counts the races.
 races() {
-    WCP_TRACE=trace.txt "./$1" > /dev/null || return 1
-    "$wcp" replay < trace.txt > report.txt
+    source=examples/$1 count=$2
+    shift 2
+    compiler=cc
+    [ "${source%.cpp}" = "$source" ] || compiler=c++
+    "$compiler" -g "$@" -fsanitize=thread -c "$source" -o part.o &&
+        cc -O2 "$@" examples/tsan_recorder.c part.o -lstdc++ -o recorded &&
+        WCP_TRACE=trace.txt ./recorded > out &&
+        ./wcp replay < trace.txt > report.txt
+    has_races "$count"
+}
+has_races() {
     cat report.txt
-    sed -n 1p report.txt | grep -q " races $2\$"
+    grep -q "^events .* races $1\$" report.txt
 }
 
-# lines PROGRAM: the source lines of the two accesses of the first race.
+# lines PROGRAM: whether the first race is between the two lines of hidden_race.cpp, as addr2line has them.
 lines() {
-    sed -n 2p report.txt | grep -o '|[^|]*+0x[0-9a-f]*\( \|$\)' | sed 's/.*+//' | xargs addr2line -e "$1" |
-        sed 's/ (.*//; s/.*://' | paste -sd' '
+    offsets=$(grep -m 1 ' with ' report.txt | sed 's/ with .*|/|/' | cut -d'|' -f4,5 | tr '|' '\n' | sed 's/.*+//')
+    # The offsets are words.
+    # shellcheck disable=SC2086
+    found=$(addr2line -e "$1" $offsets | sed 's/ (.*//; s/.*://' | paste -sd' ' -)
+    wanted="$(line_of '%d orders') $(line_of 'announced = 3')"
+    echo "lines $found, and not $wanted"
+    [ "$found" = "$wanted" ]
 }
-is_text() { echo "$1" | grep -n . && [ "$1" = "$2" ]; }
-line_of() { grep -n "$1" "$examples/$2" | head -n 1 | cut -d: -f1; }
+line_of() { grep -n "$1" examples/hidden_race.cpp | cut -d: -f1; }
+
+# silent: whether ThreadSanitizer has nothing to say of hidden_race.cpp.
+silent() {
+    ./sanitized > out 2>&1 && cat out && [ "$(cat out)" = "3 orders" ]
+}
 
 for pair in gcc:g++ clang:clang++; do
     c=${pair%:*} cpp=${pair#*:}
-    command -v "$c" > none && command -v "$cpp" > none || continue
+    command -v "$c" > out && command -v "$cpp" > out || continue
+    ln -sf "$(command -v "$c")" bin/cc
+    ln -sf "$(command -v "$cpp")" bin/c++
     tell "$c: the recorder, without a warning" \
-        "$c" -O2 -Wall -Wextra -pedantic -Werror -c "$examples/tsan_recorder.c" -o warned.o
-    for options in -O0 -O2 "-O1 -no-pie"; do
-        case $options in *no-pie) compile="$options -fno-pie" ;; *) compile=$options ;; esac
-        for known in hidden_race.cpp:1 atomic_flag.cpp:0 queue.cpp:0 barrier.c:0 reused_block.cpp:1; do
-            source=${known%:*} count=${known#*:} name=${source%.*}
-            what="$c $options: $source has $count races"
-            # The options are words.
-            # shellcheck disable=SC2086
-            if build "$c" "$cpp" "$source" $compile > told 2>&1; then
-                tell "$what" races "$name" "$count"
-            else
-                tell "$what" cat told missing
-            fi
-            [ "$source" = hidden_race.cpp ] && tell "$c $options: its two source lines" is_text "$(lines hidden_race)" \
-                "$(line_of '"%d orders' hidden_race.cpp) $(line_of 'announced = 3' hidden_race.cpp)"
-        done
-    done
-    if "$cpp" -g -fsanitize=thread "$examples/hidden_race.cpp" -o sanitized > told 2>&1; then
-        ./sanitized > out 2> err
-        tell "$cpp: ThreadSanitizer is silent on hidden_race.cpp" is_text "$? $(cat out err)" "0 3 orders"
+        cc -O2 -Wall -Wextra -pedantic -Werror -c examples/tsan_recorder.c -o part.o
+    tell "$c: the commands of README.md find the race" of_readme
+    tell "$c: its two source lines" lines hidden_race
+    tell "$c: not position-independent" races hidden_race.cpp 1 -fno-pie -no-pie
+    tell "$c: its two source lines" lines recorded
+    tell "$c: an atomic flag, no race" races atomic_flag.cpp 0 -O1
+    tell "$c: a queue with a condition variable, no race" races queue.cpp 0 -O1
+    tell "$c: a barrier, no race" races barrier.c 0 -O1
+    tell "$c: a block that is given out again, one race" races reused_block.cpp 1 -O1
+    if c++ -g -fsanitize=thread examples/hidden_race.cpp -o sanitized > out 2>&1; then
+        tell "$c: ThreadSanitizer is silent on hidden_race.cpp" silent
     else
-        echo "not tried: $cpp has no library of ThreadSanitizer"
+        echo "not tried: ThreadSanitizer's library is not there for $c"
     fi
 done
 exit "$wrong"
