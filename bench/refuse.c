@@ -3,13 +3,14 @@
 //   REFUSE_IN=NAME  only in programs of this name
 //   REFUSE_AT=N     the Nth request for memory is refused
 //   REFUSE_FROM=N   the Nth and each later one
-//   REFUSED=FILE    a line is added to this file at the first refusal
+//   REFUSED=FILE    a line is added to this file, which is there, at the first refusal
 //
 // Requests are counted from 1 on. What gives memory back is never refused, and neither is a request for less
 // than what a block has.
 #define _GNU_SOURCE
 #include <errno.h>
 #include <fcntl.h>
+#include <limits.h>
 #include <malloc.h>
 #include <stdatomic.h>
 #include <stdlib.h>
@@ -22,18 +23,14 @@ extern void *__libc_realloc(void *, size_t);
 extern void *__libc_memalign(size_t, size_t);
 
 static atomic_ulong requests;
-static unsigned long at, from;
-
-static unsigned long number_of(const char *name) {
-    const char *text = getenv(name);
-    return text ? strtoul(text, NULL, 10) : 0;
-}
+// The requests that are refused.
+static unsigned long first, last;
 
 __attribute__((constructor)) static void begin(void) {
-    const char *name = getenv("REFUSE_IN");
-    if (name && strcmp(name, program_invocation_short_name) == 0) {
-        at = number_of("REFUSE_AT");
-        from = number_of("REFUSE_FROM");
+    const char *name = getenv("REFUSE_IN"), *at = getenv("REFUSE_AT"), *from = getenv("REFUSE_FROM");
+    if (name && strcmp(name, program_invocation_short_name) == 0 && (at || from)) {
+        first = strtoul(at ? at : from, NULL, 10);
+        last = at ? first : ULONG_MAX;
     }
     atomic_store(&requests, 0);
 }
@@ -41,15 +38,12 @@ __attribute__((constructor)) static void begin(void) {
 // Whether this request is refused.
 static int is_refused(void) {
     unsigned long n = atomic_fetch_add(&requests, 1) + 1;
-    if ((at == 0 || n != at) && (from == 0 || n < from)) return 0;
-    const char *told = n == at || n == from ? getenv("REFUSED") : NULL;
-    if (told) {
-        int file = open(told, O_WRONLY | O_CREAT | O_APPEND, 0600);
-        if (file >= 0) {
-            ssize_t written = write(file, "\n", 1);
-            (void)written;
-            close(file);
-        }
+    if (n < first || n > last) return 0;
+    int file = n == first ? open(getenv("REFUSED"), O_WRONLY | O_APPEND) : -1;
+    if (file >= 0) {
+        ssize_t written = write(file, "\n", 1);
+        (void)written;
+        close(file);
     }
     errno = ENOMEM;
     return 1;
