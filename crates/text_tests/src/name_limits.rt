@@ -21,7 +21,7 @@ fn is_one_too_many(alloc: Global) -> Option<bool> {
 }
 
 #[test]
-fn a_name_too_many_is_told_before_want_of_memory(rt: HostRuntime) {
+fn a_name_too_many_comes_first_where_memory_is_refused(rt: HostRuntime) {
     expect(
         &rt,
         is_one_too_many(rt.alloc()) == Some(true),
