@@ -1,7 +1,8 @@
 #!/bin/sh
-# Shows that the recorder of examples/ works: runs the commands at the head of README.md and records the small
-# programs beside this file, with each compiler that is there, and compares the reports with the answers that
-# the programs are made for. Where ThreadSanitizer's library is there, it shows that it is silent on the first.
+# Shows that the recorder of examples/ works. Runs the commands at the head of README.md, and records the
+# small programs beside this file, with gcc and with clang where they are there, and compares the reports with
+# the answers that the programs are made for. ThreadSanitizer, where its library is there, is silent on the
+# first.
 #
 # usage: examples/check.sh [PROGRAM]     runs PROGRAM in place of ./wcp
 #
@@ -59,12 +60,11 @@ has_races() {
 
 # lines PROGRAM: whether the first race is between the two lines of hidden_race.cpp, as addr2line has them.
 lines() {
-    offsets=$(grep -m 1 ' with ' report.txt | sed 's/ with .*|/|/' | cut -d'|' -f4,5 | tr '|' '\n' | sed 's/.*+//')
-    # The offsets are words.
-    # shellcheck disable=SC2086
-    found=$(addr2line -e "$1" $offsets | sed 's/ (.*//; s/.*://' | paste -sd' ' -)
+    first=$(grep -m 1 ' with ' report.txt)
+    found=$(echo "$first" | grep -o '|[^|(]*+0x[0-9a-f]*' | sed 's/.*+//' | addr2line -e "$1" |
+        sed 's/ (.*//; s/.*://' | paste -sd' ' -)
     wanted="$(line_of '%d orders') $(line_of 'announced = 3')"
-    echo "lines $found, and not $wanted"
+    echo "lines $found, and not $wanted: $first"
     [ "$found" = "$wanted" ]
 }
 line_of() { grep -n "$1" examples/hidden_race.cpp | cut -d: -f1; }

@@ -1,7 +1,7 @@
-// A race that the schedule hides. The writer announces how many orders it took, without a lock, and then works
-// under one. The reader takes the same lock, for work of its own, before it looks at that number. In this run
-// it comes after the writer, and so the lock seems to order the two accesses of `announced`. Nothing makes the
-// reader come second: had it been first, it would have read the number while it was being written.
+// A race that the schedule hides. The writer announces how many orders it took, without a lock, and then
+// works under one. The reader takes the same lock, for work of its own, before it looks at that number. In
+// this run it comes after the writer, and so the lock seems to order the two accesses of `announced`. Nothing
+// makes the reader come second: had it been first, it could have read the number while it was being written.
 #include <chrono>
 #include <cstdio>
 #include <map>

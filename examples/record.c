@@ -32,12 +32,12 @@ static void write_line(const char *operation, const char *name, const char *file
 
 /* One step: what is done, and the writing of its line. The recorder's lock is held meanwhile: the value of a
  * STORE has to make no step itself. */
-#define STEP(done, operation, name)                                                                           \
-    do {                                                                                                      \
-        pthread_mutex_lock(&recorder);                                                                        \
-        done;                                                                                                 \
-        write_line(operation, name, __FILE__, __LINE__);                                                      \
-        pthread_mutex_unlock(&recorder);                                                                      \
+#define STEP(done, operation, name)                                                                          \
+    do {                                                                                                     \
+        pthread_mutex_lock(&recorder);                                                                       \
+        done;                                                                                                \
+        write_line(operation, name, __FILE__, __LINE__);                                                     \
+        pthread_mutex_unlock(&recorder);                                                                     \
     } while (0)
 
 #define LOAD(into, variable) STEP(into = variable, "r", #variable)
@@ -46,10 +46,10 @@ static void write_line(const char *operation, const char *name, const char *file
 /* The line is written after an acquire and a join, and before a release and a fork. */
 #define ACQUIRE(lock) do { pthread_mutex_lock(&lock); STEP(, "acq", #lock); } while (0)
 #define RELEASE(lock) do { STEP(, "rel", #lock); pthread_mutex_unlock(&lock); } while (0)
-#define FORK(thread, work, argument)                                                                          \
-    do {                                                                                                      \
-        STEP(, "fork", #thread);                                                                              \
-        start(&thread, #thread, work, argument);                                                              \
+#define FORK(thread, work, argument)                                                                         \
+    do {                                                                                                     \
+        STEP(, "fork", #thread);                                                                             \
+        start(&thread, #thread, work, argument);                                                             \
     } while (0)
 #define JOIN(thread) do { pthread_join(thread, NULL); STEP(, "join", #thread); } while (0)
 
