@@ -33,7 +33,7 @@ static void print_prices()
 int main()
 {
     std::thread orders(take_orders);
-    std::this_thread::sleep_for(std::chrono::milliseconds(100));
+    std::this_thread::sleep_for(std::chrono::milliseconds(300));
     std::thread printer(print_prices);
     orders.join();
     printer.join();

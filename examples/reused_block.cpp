@@ -21,7 +21,7 @@ int main()
 {
     shared = static_cast<int *>(std::malloc(sizeof(int)));
     std::thread first(work, 0);
-    std::this_thread::sleep_for(std::chrono::milliseconds(100));
+    std::this_thread::sleep_for(std::chrono::milliseconds(300));
     std::thread second(work, 1);
     first.join();
     second.join();
