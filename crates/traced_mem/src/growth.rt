@@ -1,5 +1,6 @@
 //! Growth of the tables: only as far as the numbers that are used, and before any change.
-ghost use Rattle.std.specs.Prelude.{◌≡◌, ◌+◌, ◌*◌, ℕ, ◌<◌, ◌≤◌, length, max, cond, nat_eq, OnOk, vec_capacity};
+ghost use Rattle.std.specs.Prelude.{◌≡◌, ◌+◌, ◌*◌, ℕ, ◌<◌, ◌≤◌, length, max, cond, nat_eq};
+ghost use Rattle.std.specs.Prelude.{OnOk, vec_capacity};
 ghost use Rattle.smallvec.specs.SmallVec.{HasRoomFor};
 ghost use Rattle.traced_mem.specs.Tables.{blank_thread, thread_at, lock_at, total};
 ghost use Rattle.traced_mem.specs.Room.{Grown, HasRoom, HeldFor, threads_for, locks_for, cells_for};
@@ -106,7 +107,8 @@ pub fn grow(
     ensures more_cells { vec_capacity cells.old ≤ vec_capacity cells.new }
     ensures most_threads { length threads.new.items ≤ max (length threads.old.items) (threads_for caller op) }
     ensures most_locks { length locks.new.items ≤ max (length locks.old.items) (locks_for op) }
-    ensures thread_room { vec_capacity threads.new ≤ max (vec_capacity threads.old) (2 * threads_for caller op) }
+    ensures thread_room { vec_capacity threads.new
+        ≤ max (vec_capacity threads.old) (2 * threads_for caller op) }
     ensures lock_room { vec_capacity locks.new ≤ max (vec_capacity locks.old) (2 * locks_for op) }
     ensures cell_room { vec_capacity cells.new ≤ max (vec_capacity cells.old) (2 * cells_for op) }
     ensures held { HeldFor threads.old.items threads.new.items caller op }
