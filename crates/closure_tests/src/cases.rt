@@ -1,9 +1,9 @@
 //! Worked cases, and that a monitor meets each by each way to make its acts.
 use crate::calls::{Answer, call};
 use crate::compared::compare;
-use crate::expected::{add, expect};
-use crate::told::{Way, tell};
-use event_core::{Act, Done, LimitFault, Limits, Op, SiteId, ThreadId, VarId};
+use crate::expected::{add, expect_same};
+use crate::told::{Supply, Told, Trial, Way, tell};
+use event_core::{Act, LimitFault, Limits, Op, SiteId, ThreadId, VarId};
 use seq_monitor::Race;
 use std::alloc::Global;
 use std::process::Abort;
@@ -107,30 +107,38 @@ impl Worked {
 
     /// By each of the ways a new monitor answers and holds what the case says, and judges as the closure
     /// does.
-    pub fn expect(&self, rt: &impl Abort, alloc: Global, ways: &[Way]) {
+    pub fn expect(
+        &self,
+        rt: &impl Abort,
+        alloc: Global,
+        number: usize,
+        ways: &[Way],
+        supply: Supply,
+    ) {
         let limits = self.limits.expect(rt, self.name);
         let acts = self.acts(alloc);
         for way in ways {
-            let told = tell(rt, alloc, limits, &acts, *way);
-            let is_told = self.has_answers(&told.answers)
-                && told.log.len() == self.events
-                && told.races.as_slice() == self.races;
-            expect(rt, is_told, self.name);
-            compare(rt, alloc, &told, self.name);
+            let trial = Trial {
+                case: self.name,
+                number,
+                way: *way,
+                supply,
+            };
+            let told = tell(rt, alloc, limits, &acts, &trial);
+            self.expect_told(rt, &told, &trial);
+            compare(rt, alloc, &told, &trial);
             drop(told);
         }
         drop(acts);
     }
 
-    fn has_answers(&self, answers: &[Done]) -> bool {
-        let mut has_answers = answers.len() == self.count();
-        for (index, answer) in answers.iter().enumerate() {
-            let is_told = match self.line(index) {
-                Some((_act, wanted)) => *answer == wanted.done(),
-                None => false,
-            };
-            has_answers = has_answers && is_told;
+    fn expect_told(&self, rt: &impl Abort, told: &Told, trial: &Trial) {
+        for index in 0..self.count().max(told.answers.len()) {
+            let wanted = self.line(index).map(|(_act, answer)| answer.done());
+            let came = told.answers.get(index).copied();
+            expect_same(rt, trial, "answer", index, &wanted, &came);
         }
-        has_answers
+        expect_same(rt, trial, "events", 0, &self.events, &told.log.len());
+        expect_same(rt, trial, "races", 0, &self.races, &told.races.as_slice());
     }
 }

@@ -144,9 +144,9 @@ impl Closure {
         self.strict.contains(first, second) || self.program_order.contains(first, second)
     }
 
-    // The verdict on the event at the index: the greatest earlier index of a conflicting event that is not
-    // ordered before it.
-    fn verdict(&self, log: &[Event], index: usize) -> Verdict {
+    /// The verdict on the event at the index: the greatest earlier index of a conflicting event that is not
+    /// ordered before it.
+    pub fn verdict(&self, log: &[Event], index: usize) -> Verdict {
         let mut verdict = Verdict::Clear;
         if let Some(access) = log.get(index) {
             for (earlier, event) in log[..index].iter().enumerate() {

@@ -2,12 +2,15 @@
 use crate::calls::Answer::{self, Clear, Racy, Refused};
 use crate::calls::{L, M, T0, T1, T2, X, Y};
 use crate::cases::{CALLS, Lines, Worked};
+use crate::told::Supply;
 use event_core::Op::{self, Acquire, Fork, Load, Release, Store};
 use event_core::Refusal::{
     AlreadyStarted, LogFull, NotHolder, NotStarted, SelfTarget, TargetRange, ThreadRange,
 };
 use event_core::{Limits, LockId, Roots, ThreadId, VarId};
 use seq_monitor::Race;
+use std::alloc::Global;
+use std::process::Abort;
 
 // A thread, what it does, the value of a store, and what becomes of the call.
 type Line = (ThreadId, Op, u64, Answer);
@@ -164,7 +167,7 @@ const CASES: &[Case] = &[
         races: &[],
     },
     Case {
-        name: "no growth that is refused keeps a release from being taken",
+        name: "each release of nested sections is taken",
         threads: 2,
         names: 2,
         most_events: 64,
@@ -188,9 +191,8 @@ const CASES: &[Case] = &[
     },
 ];
 
-#[test]
-fn each_call_has_its_outcome(rt: HostRuntime) {
-    for case in CASES {
+fn expect_all(rt: &impl Abort, alloc: Global, supply: Supply) {
+    for (number, case) in CASES.iter().enumerate() {
         let worked = Worked {
             name: case.name,
             limits: Limits::new(
@@ -204,6 +206,16 @@ fn each_call_has_its_outcome(rt: HostRuntime) {
             events: case.events,
             races: case.races,
         };
-        worked.expect(&rt, rt.alloc(), CALLS);
+        worked.expect(rt, alloc, number, CALLS, supply);
     }
+}
+
+#[test]
+fn each_call_has_its_outcome(rt: HostRuntime) {
+    expect_all(&rt, rt.alloc(), Supply::Ample);
+}
+
+#[test]
+fn each_call_has_its_outcome_where_memory_is_refused(rt: HostRuntime) {
+    expect_all(&rt, rt.alloc(), Supply::MayRefuse);
 }

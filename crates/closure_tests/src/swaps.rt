@@ -3,10 +3,13 @@ use crate::calls::Answer::{self, Clear, Racy, Refused, Swapped};
 use crate::calls::{T0, T1, X};
 use crate::cases::Deed::{self, One, Swap};
 use crate::cases::{ACTS, Lines, Worked};
+use crate::told::Supply;
 use event_core::Op::{Fork, Load};
 use event_core::Refusal::LogFull;
 use event_core::{Limits, Roots, ThreadId};
 use seq_monitor::Race;
+use std::alloc::Global;
+use std::process::Abort;
 
 struct Case {
     name: &'static str,
@@ -66,9 +69,8 @@ const CASES: &[Case] = &[
     },
 ];
 
-#[test]
-fn each_swap_is_answered(rt: HostRuntime) {
-    for case in CASES {
+fn expect_all(rt: &impl Abort, alloc: Global, supply: Supply) {
+    for (number, case) in CASES.iter().enumerate() {
         let worked = Worked {
             name: case.name,
             limits: Limits::new(2, 1, 1, case.most_events, Roots::OnlyMain),
@@ -76,6 +78,16 @@ fn each_swap_is_answered(rt: HostRuntime) {
             events: case.events,
             races: case.races,
         };
-        worked.expect(&rt, rt.alloc(), ACTS);
+        worked.expect(rt, alloc, number, ACTS, supply);
     }
+}
+
+#[test]
+fn each_swap_is_answered(rt: HostRuntime) {
+    expect_all(&rt, rt.alloc(), Supply::Ample);
+}
+
+#[test]
+fn each_swap_is_answered_where_memory_is_refused(rt: HostRuntime) {
+    expect_all(&rt, rt.alloc(), Supply::MayRefuse);
 }

@@ -1,14 +1,22 @@
 //! What a monitor makes of a list of acts, one by one or as one run.
-//!
-//! What is refused memory once is asked for once more, but for releases: they take none.
-use crate::expected::{add, expect};
+use crate::expected::{add, expect, expect_same};
 use event_core::{Act, Call, Done, Event, Limits, Op, OutOfMemory, Outcome, Refusal, Verdict};
 use seq_monitor::{Monitor, Race};
 use std::alloc::Global;
 use std::process::Abort;
 
+/// What a test expects of memory.
+#[derive(Clone, Copy, PartialEq, Eq)]
+pub enum Supply {
+    /// There is enough: that a call is refused for memory fails the test.
+    Ample,
+    /// One growth may be refused: what is refused for memory is asked for once more, except releases, which
+    /// take none.
+    MayRefuse,
+}
+
 /// How the acts are made.
-#[derive(Clone, Copy)]
+#[derive(Clone, Copy, Debug)]
 pub enum Way {
     /// By `step` and `swap`, until the log has so many events.
     Steps(u64),
@@ -18,6 +26,16 @@ pub enum Way {
     Run,
     /// By `run_acts`.
     RunActs,
+}
+
+/// A case, and how it is tried.
+#[derive(Clone, Copy)]
+pub struct Trial {
+    pub case: &'static str,
+    /// Its place among the cases of its table, or among the logs that are drawn.
+    pub number: usize,
+    pub way: Way,
+    pub supply: Supply,
 }
 
 /// What a monitor answered, and what it held then.
@@ -31,10 +49,27 @@ pub struct Told {
     pub races: Vec<Race>,
 }
 
-fn monitor(rt: &impl Abort, alloc: Global, limits: Limits) -> Monitor {
+impl Supply {
+    /// Whether what is refused for memory is asked for once more.
+    pub fn may_refuse(self) -> bool {
+        self == Supply::MayRefuse
+    }
+
+    // How often a run is begun.
+    fn runs(self) -> usize {
+        match self {
+            Supply::Ample => 1,
+            Supply::MayRefuse => 2,
+        }
+    }
+}
+
+fn monitor(rt: &impl Abort, alloc: Global, limits: Limits, supply: Supply) -> Monitor {
     match Monitor::new(alloc, limits) {
-        Ok(monitor) => monitor,
-        Err(OutOfMemory) => Monitor::new(alloc, limits).expect(rt, "memory"),
+        Err(OutOfMemory) if supply.may_refuse() => {
+            Monitor::new(alloc, limits).expect(rt, "a new monitor has memory")
+        }
+        made => made.expect(rt, "a new monitor has memory"),
     }
 }
 
@@ -62,33 +97,40 @@ fn take_once(monitor: &mut Monitor, act: Act) -> Done {
 }
 
 // What becomes of the act. A release is ready, whatever growth was refused before it or would be.
-fn take(rt: &impl Abort, monitor: &mut Monitor, act: Act) -> Done {
+fn take(rt: &impl Abort, monitor: &mut Monitor, act: Act, number: usize, trial: &Trial) -> Done {
     if let Act::One(call) = act
         && let Op::Release(_) = call.op
     {
-        expect(rt, monitor.ready(&call), "a release is ready");
+        let is_ready = monitor.ready(&call);
+        expect_same(rt, trial, "ready release", number, &true, &is_ready);
         return step_once(monitor, call);
     }
     match take_once(monitor, act) {
-        Done::Refused(Refusal::OutOfMemory) => take_once(monitor, act),
+        Done::Refused(Refusal::OutOfMemory) if trial.supply.may_refuse() => {
+            take_once(monitor, act)
+        }
         done => done,
     }
 }
 
 // What becomes of the call at the first try, once there is room for it.
-fn take_prepared(rt: &impl Abort, monitor: &mut Monitor, call: Call) -> Done {
-    let is_prepared = monitor.prepare(&call).is_ok() || monitor.prepare(&call).is_ok();
-    expect(
-        rt,
-        is_prepared && monitor.ready(&call),
-        "a call is prepared",
-    );
+fn take_prepared(
+    rt: &impl Abort,
+    monitor: &mut Monitor,
+    call: Call,
+    number: usize,
+    trial: &Trial,
+) -> Done {
+    let is_prepared = monitor.prepare(&call).is_ok()
+        || trial.supply.may_refuse() && monitor.prepare(&call).is_ok();
+    let is_ready = is_prepared && monitor.ready(&call);
+    expect_same(rt, trial, "prepared call", number, &true, &is_ready);
     step_once(monitor, call)
 }
 
 // Begins again where it stopped.
-fn run(monitor: &mut Monitor, calls: &[Call], outcomes: &mut Vec<Outcome>) {
-    for _ in 0..2 {
+fn run(monitor: &mut Monitor, calls: &[Call], outcomes: &mut Vec<Outcome>, supply: Supply) {
+    for _run in 0..supply.runs() {
         let made = outcomes.len();
         if made < calls.len() {
             let _stopped = monitor.run(&calls[made..], outcomes);
@@ -97,8 +139,8 @@ fn run(monitor: &mut Monitor, calls: &[Call], outcomes: &mut Vec<Outcome>) {
 }
 
 // Begins again where it stopped.
-fn run_acts(monitor: &mut Monitor, acts: &[Act], answers: &mut Vec<Done>) {
-    for _ in 0..2 {
+fn run_acts(monitor: &mut Monitor, acts: &[Act], answers: &mut Vec<Done>, supply: Supply) {
+    for _run in 0..supply.runs() {
         let made = answers.len();
         if made < acts.len() {
             let _stopped = monitor.run_acts(&acts[made..], answers);
@@ -107,17 +149,17 @@ fn run_acts(monitor: &mut Monitor, acts: &[Act], answers: &mut Vec<Done>) {
 }
 
 /// What a new monitor makes of the acts.
-pub fn tell(rt: &impl Abort, alloc: Global, limits: Limits, acts: &[Act], way: Way) -> Told {
+pub fn tell(rt: &impl Abort, alloc: Global, limits: Limits, acts: &[Act], trial: &Trial) -> Told {
     let mut told = Told {
         answers: Vec::new(alloc),
         log: Vec::new(alloc),
         verdicts: Vec::new(alloc),
         races: Vec::new(alloc),
     };
-    let mut monitor = monitor(rt, alloc, limits);
+    let mut monitor = monitor(rt, alloc, limits, trial.supply);
     let has_limits = monitor.limits().events() == limits.events();
     expect(rt, has_limits, "the limits of a new monitor");
-    told.make(rt, alloc, &mut monitor, acts, way);
+    told.make(rt, alloc, &mut monitor, acts, trial);
     drop(monitor);
     told
 }
@@ -130,36 +172,51 @@ impl Told {
         alloc: Global,
         monitor: &mut Monitor,
         acts: &[Act],
-        way: Way,
+        trial: &Trial,
     ) {
-        match way {
-            Way::Steps(most) => self.take_each(rt, monitor, acts, most),
-            Way::Prepared => self.prepare_each(rt, monitor, acts),
-            Way::Run => self.run_calls(alloc, monitor, acts),
-            Way::RunActs => run_acts(monitor, acts, &mut self.answers),
+        match trial.way {
+            Way::Steps(most) => self.take_each(rt, monitor, acts, most, trial),
+            Way::Prepared => self.prepare_each(rt, monitor, acts, trial),
+            Way::Run => self.run_calls(alloc, monitor, acts, trial.supply),
+            Way::RunActs => run_acts(monitor, acts, &mut self.answers, trial.supply),
         }
         self.keep_verdicts();
         self.keep_log(monitor);
-        expect(rt, self.has_verdicts(monitor), "the list of verdicts");
+        self.expect_verdicts(rt, monitor, trial);
     }
 
-    fn take_each(&mut self, rt: &impl Abort, monitor: &mut Monitor, acts: &[Act], most: u64) {
-        for act in acts {
+    fn take_each(
+        &mut self,
+        rt: &impl Abort,
+        monitor: &mut Monitor,
+        acts: &[Act],
+        most: u64,
+        trial: &Trial,
+    ) {
+        for (number, act) in acts.iter().enumerate() {
             if monitor.log().len() < most {
-                add(&mut self.answers, take(rt, monitor, *act));
+                let done = take(rt, monitor, *act, number, trial);
+                add(&mut self.answers, done);
             }
         }
     }
 
-    fn prepare_each(&mut self, rt: &impl Abort, monitor: &mut Monitor, acts: &[Act]) {
-        for act in acts {
+    fn prepare_each(
+        &mut self,
+        rt: &impl Abort,
+        monitor: &mut Monitor,
+        acts: &[Act],
+        trial: &Trial,
+    ) {
+        for (number, act) in acts.iter().enumerate() {
             if let Act::One(call) = act {
-                add(&mut self.answers, take_prepared(rt, monitor, *call));
+                let done = take_prepared(rt, monitor, *call, number, trial);
+                add(&mut self.answers, done);
             }
         }
     }
 
-    fn run_calls(&mut self, alloc: Global, monitor: &mut Monitor, acts: &[Act]) {
+    fn run_calls(&mut self, alloc: Global, monitor: &mut Monitor, acts: &[Act], supply: Supply) {
         let mut calls = Vec::new(alloc);
         for act in acts {
             if let Act::One(call) = act {
@@ -167,7 +224,7 @@ impl Told {
             }
         }
         let mut outcomes = Vec::new(alloc);
-        run(monitor, &calls, &mut outcomes);
+        run(monitor, &calls, &mut outcomes, supply);
         self.keep_outcomes(&outcomes);
     }
 
@@ -207,15 +264,24 @@ impl Told {
         }
     }
 
-    // Whether the monitor's list of verdicts has those that it answered.
-    fn has_verdicts(&self, monitor: &Monitor) -> bool {
-        let count = monitor.log().len();
-        let mut has_verdicts = self.log.len() == self.verdicts.len()
-            && monitor.verdicts().len() == count;
-        for (index, verdict) in (0..).zip(&self.verdicts) {
-            let is_held = index < count && monitor.verdict_at(index) == *verdict;
-            has_verdicts = has_verdicts && is_held;
+    // The monitor's list of verdicts has those that it answered, one for each event of the log.
+    fn expect_verdicts(&self, rt: &impl Abort, monitor: &Monitor, trial: &Trial) {
+        let events = self.log.len();
+        let held = monitor.verdicts().len() as usize;
+        expect_same(
+            rt,
+            trial,
+            "verdicts answered, of",
+            events,
+            &events,
+            &self.verdicts.len(),
+        );
+        expect_same(rt, trial, "verdicts held, of", events, &events, &held);
+        for (number, verdict) in self.verdicts.iter().enumerate() {
+            if (number as u64) < monitor.log().len() {
+                let held = monitor.verdict_at(number as u64);
+                expect_same(rt, trial, "held verdict", number, verdict, &held);
+            }
         }
-        has_verdicts
     }
 }

@@ -1,9 +1,12 @@
 //! Worked logs, each with all its races: the index of an event and that of the event that it races with.
 use crate::calls::{K, L, M, N, T0, T1, T2, X, Y, Z};
 use crate::cases::{CALLS, Lines, Worked};
+use crate::told::Supply;
 use event_core::Op::{self, Acquire, Fork, Join, Load, Release, Store};
 use event_core::{Limits, Roots, ThreadId};
 use seq_monitor::Race;
+use std::alloc::Global;
+use std::process::Abort;
 
 struct Case {
     name: &'static str,
@@ -209,9 +212,8 @@ const LOGS: &[Case] = &[
     },
 ];
 
-#[test]
-fn each_log_has_its_races(rt: HostRuntime) {
-    for case in LOGS {
+fn expect_all(rt: &impl Abort, alloc: Global, supply: Supply) {
+    for (number, case) in LOGS.iter().enumerate() {
         let worked = Worked {
             name: case.name,
             limits: Limits::new(3, 4, 3, 64, Roots::Free),
@@ -219,6 +221,16 @@ fn each_log_has_its_races(rt: HostRuntime) {
             events: case.log.len(),
             races: case.races,
         };
-        worked.expect(&rt, rt.alloc(), CALLS);
+        worked.expect(rt, alloc, number, CALLS, supply);
     }
+}
+
+#[test]
+fn each_log_has_its_races(rt: HostRuntime) {
+    expect_all(&rt, rt.alloc(), Supply::Ample);
+}
+
+#[test]
+fn each_log_has_its_races_where_memory_is_refused(rt: HostRuntime) {
+    expect_all(&rt, rt.alloc(), Supply::MayRefuse);
 }
