@@ -142,7 +142,6 @@ fn number_or_add(
 
 /// The event of a named event with a new name. No room is made for a name before each has a number left.
 /// After an `Err` some of its names may have been numbered.
-#[inline(never)]
 #[tactic(auto, unfolding(crate::specs::Events::named_event))]
 fn number_new(names: &mut Names, line: &NamedLine<'_>, known: Known) -> Result<Event, Cause>
     requires named { IsWellFormed (named_of line.now) }
@@ -161,10 +160,10 @@ fn number_new(names: &mut Names, line: &NamedLine<'_>, known: Known) -> Result<E
     Ok(event_at(line.word, thread, target, site))
 }
 
-/// The event of a named event. After an `Err` some of its names may have been numbered.
-#[inline(always)]
+/// The event of a named event of which a name is new. Each name is looked up again.
+#[inline(never)]
 #[tactic(auto, unfolding(crate::specs::Events::named_event))]
-fn number_line(names: &mut Names, line: &NamedLine<'_>) -> Result<Event, Cause>
+fn number_again(names: &mut Names, line: &NamedLine<'_>) -> Result<Event, Cause>
     requires { IsWellFormed (named_of line.now) }
     ensures ok { IfOk result (λ e. named_event names.old (named_of line.now) ≡ Ok (e, names.new)) }
     ensures fault { IfErr result (λ f. Fails f (named_event names.old (named_of line.now))) }
@@ -175,10 +174,27 @@ fn number_line(names: &mut Names, line: &NamedLine<'_>) -> Result<Event, Cause>
         target: names.find(kind_at(line.word), line.argument),
         site: names.find(Kind::Site, line.location),
     };
-    if let (Some(thread), Some(target), Some(site)) = (known.thread, known.target, known.site) {
-        return Ok(event_at(line.word, thread, target, site));
-    }
     number_new(names, line, known)
+}
+
+/// The event of a named event. After an `Err` some of its names may have been numbered.
+#[inline(always)]
+fn number_line(names: &mut Names, line: &NamedLine<'_>) -> Result<Event, Cause>
+    requires { IsWellFormed (named_of line.now) }
+    ensures ok { IfOk result (λ e. named_event names.old (named_of line.now) ≡ Ok (e, names.new)) }
+    ensures fault { IfErr result (λ f. Fails f (named_event names.old (named_of line.now))) }
+    ensures grows { TablesGrow names.old names.new }
+{
+    let Some(thread) = names.find(Kind::Thread, line.thread) else {
+        return number_again(names, line);
+    };
+    let Some(target) = names.find(kind_at(line.word), line.argument) else {
+        return number_again(names, line);
+    };
+    let Some(site) = names.find(Kind::Site, line.location) else {
+        return number_again(names, line);
+    };
+    Ok(event_at(line.word, thread, target, site))
 }
 
 /// The named event of a line's content, or the first cause why it has none.
