@@ -1,6 +1,7 @@
 //! Reports of closed monitors, with names by lists.
 ghost use Rattle.std.specs.Prelude.{◌≡◌};
 
+use crate::expected::expect;
 use closed_report::{NameLists, NamingFault, ReportFault, names_of, report_closed};
 use event_core::{Limits, Roots, SiteId, ThreadId, VarId};
 use live_monitor::{Closed, Unnamed, start};
@@ -9,6 +10,7 @@ use rapid_text::{Device, Kind, Output};
 use std::alloc::Global;
 use std::fmt::InlineText;
 use std::marker::Brand;
+use std::process::Abort;
 use std::sync::Wait;
 use traced_thread::TracedThread;
 
@@ -46,23 +48,64 @@ const TWO_SITES: NameLists<'static> = NameLists {
 
 /// Whether two threads swap, the names, whether there is room for the report, the number of races or the
 /// fault that is answered, and what is written.
-type Case = (
-    bool,
-    NameLists<'static>,
-    bool,
-    Result<u64, ReportFault>,
-    &'static str,
-);
+struct Case {
+    name: &'static str,
+    has_swaps: bool,
+    lists: NameLists<'static>,
+    has_room: bool,
+    answer: Result<u64, ReportFault>,
+    written: &'static str,
+}
 
 const CASES: &[Case] = &[
-    (false, NAMES, true, Ok(0), EMPTY),
-    (true, NAMES, true, Ok(2), SWAPS),
-    // A number without a name is told, and nothing is written.
-    (true, ONE_THREAD, true, Err(ReportFault::Unnamed), ""),
-    (true, NO_VARIABLE, true, Err(ReportFault::Unnamed), ""),
-    (true, TWO_SITES, true, Err(ReportFault::Unnamed), ""),
-    // A report that is not taken is told.
-    (true, NAMES, false, Err(ReportFault::Write), ""),
+    Case {
+        name: "a log without events",
+        has_swaps: false,
+        lists: NAMES,
+        has_room: true,
+        answer: Ok(0),
+        written: EMPTY,
+    },
+    Case {
+        name: "two swaps",
+        has_swaps: true,
+        lists: NAMES,
+        has_room: true,
+        answer: Ok(2),
+        written: SWAPS,
+    },
+    Case {
+        name: "a thread without a name: nothing is written",
+        has_swaps: true,
+        lists: ONE_THREAD,
+        has_room: true,
+        answer: Err(ReportFault::Unnamed),
+        written: "",
+    },
+    Case {
+        name: "a variable without a name",
+        has_swaps: true,
+        lists: NO_VARIABLE,
+        has_room: true,
+        answer: Err(ReportFault::Unnamed),
+        written: "",
+    },
+    Case {
+        name: "a site without a name",
+        has_swaps: true,
+        lists: TWO_SITES,
+        has_room: true,
+        answer: Err(ReportFault::Unnamed),
+        written: "",
+    },
+    Case {
+        name: "a report that is not taken",
+        has_swaps: true,
+        lists: NAMES,
+        has_room: false,
+        answer: Err(ReportFault::Write),
+        written: "",
+    },
 ];
 
 /// Lists that are no names, why, and what the fault says.
@@ -154,55 +197,52 @@ fn reported<W: Output, R: Wait>(
     }
 }
 
-/// Whether the text was written to the blank page, and nothing else.
-fn has(page: &[u8], text: &str) -> bool {
-    match page.strip_prefix(text.as_bytes()) {
-        Some(rest) => rest.iter().all(|byte| *byte == 0),
-        None => false,
-    }
+/// What is written on a page of spaces.
+fn text_on(page: &[u8]) -> &str {
+    str::from_utf8(page)
+        .unwrap_or("no text")
+        .trim_end_matches(' ')
 }
 
-/// Whether the log is reported so. None where memory ran out.
-fn is_reported<R: Wait + AllocGlobal>(rt: &R, case: &Case) -> Option<bool> {
-    let (has_swaps, lists, has_room, races, written) = case;
-    let mut page = [0; SIZE];
-    let room = if *has_room { SIZE } else { 0 };
+/// The log is reported so, or memory ran out where it may be refused.
+fn expect_report<R: Wait + AllocGlobal + Abort>(rt: &R, case: &Case, may_be_refused: bool) {
+    let mut page = [b' '; SIZE];
+    let room = if case.has_room { SIZE } else { 0 };
     let mut writer = Device::new(&mut page[..room]);
-    let answer = reported(rt, rt.alloc(), *has_swaps, lists, &mut writer);
+    let answer = reported(rt, rt.alloc(), case.has_swaps, &case.lists, &mut writer);
     drop(writer);
-    Some(answer? == *races && has(&page, written))
+    if answer.is_none() && may_be_refused {
+        return;
+    }
+    expect(rt, case.name, answer, Some(case.answer));
+    expect(rt, case.name, text_on(&page), case.written);
 }
 
 #[test]
 fn a_closed_log_is_reported_with_the_names_of_its_numbers(rt: HostRuntime) {
     for case in CASES {
-        let is_so = match is_reported(&rt, case) {
-            Some(is_so) => is_so,
-            None => is_reported(&rt, case) == Some(true),
-        };
-        assert!(rt; is_so);
+        expect_report(&rt, case, false);
+    }
+}
+
+#[test]
+fn a_closed_log_is_reported_where_memory_is_refused(rt: HostRuntime) {
+    for case in CASES {
+        expect_report(&rt, case, true);
     }
 }
 
 /// What is wrong with the lists.
 fn naming(alloc: Global, lists: &NameLists<'static>) -> Option<NamingFault> {
     let limits = Limits::new(2, 1, 1, 16, Roots::OnlyMain).ok()?;
-    let fault = names_of(alloc, limits, lists).err();
-    if fault == Some(NamingFault::OutOfMemory) {
-        return names_of(alloc, limits, lists).err();
-    }
-    fault
-}
-
-fn says(fault: NamingFault, said: &str) -> bool {
-    let text: InlineText<64> = InlineText::of(fault);
-    text.as_str() == said
+    names_of(alloc, limits, lists).err()
 }
 
 #[test]
 fn lists_that_are_no_names_are_told_with_their_place(rt: HostRuntime) {
     for (lists, fault, said) in FAULTS {
-        let is_told = naming(rt.alloc(), lists) == Some(*fault);
-        assert!(rt; is_told && says(*fault, said));
+        expect(&rt, *said, naming(rt.alloc(), lists), Some(*fault));
+        let text: InlineText<64> = InlineText::of(*fault);
+        expect(&rt, "the words of a fault", text.as_str(), *said);
     }
 }

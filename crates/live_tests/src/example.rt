@@ -1,6 +1,7 @@
 //! The example at the head of live_monitor.
 ghost use Rattle.std.specs.Prelude.{◌≡◌};
 
+use crate::expected::expect;
 use event_core::{Limits, Refusal, Roots, SiteId, ThreadId, VarId};
 use live_monitor::{Closed, Unnamed, start};
 use log_pass::Name;
@@ -42,12 +43,14 @@ fn run<R: Threads + Wait + Abort + Sync>(rt: &R, alloc: Global) -> Result<Closed
 
 #[test]
 fn of_two_stores_at_once_the_later_races(rt: HostRuntime) {
-    let closed = run(&rt, rt.alloc()).or_else(|refusal| match refusal {
-        Refusal::OutOfMemory => run(&rt, rt.alloc()),
-        refusal => Err(refusal),
-    });
-    let closed = closed.expect(&rt, "a log");
-    assert!(rt; closed.len() == 4);
-    assert!(rt; closed.verdicts().races() == [Race { event: 2, with: 1 }].as_slice());
+    let closed = run(&rt, rt.alloc()).expect(&rt, "a log");
+    expect(&rt, "events of the example", closed.len(), 4);
+    let races = closed.verdicts().races();
+    expect(
+        &rt,
+        "races of the example",
+        races,
+        &[Race { event: 2, with: 1 }],
+    );
     drop(closed);
 }

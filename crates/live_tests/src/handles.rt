@@ -2,6 +2,7 @@
 ghost use Rattle.std.specs.Prelude.{◌≡◌};
 
 use crate::calls::{Ask, begin, fork, make};
+use crate::expected::expect;
 use event_core::{
     Event, Limits, LockId, Op, Refusal, Reply, Roots, SiteId, ThreadId, VarId, Verdict,
 };
@@ -27,11 +28,7 @@ fn acquire<N: Name, R: Wait>(
     most: u32,
 ) -> (Result<u64, Refusal>, u32) {
     let mut tries = Tries::of(most);
-    let mut answer = thread.acquire_within(rt, LOCK, SITE, &mut tries);
-    if answer == Err(Refusal::OutOfMemory) {
-        tries = Tries::of(most);
-        answer = thread.acquire_within(rt, LOCK, SITE, &mut tries);
-    }
+    let answer = thread.acquire_within(rt, LOCK, SITE, &mut tries);
     (answer.map(|reply| reply.index), tries.made())
 }
 
@@ -43,7 +40,8 @@ fn expect_acquire<N: Name, R: Wait + Abort>(
     answer: Result<u64, Refusal>,
     made: u32,
 ) {
-    assert!(rt; acquire(rt, thread, most) == (answer, made));
+    let asked = format_args!("an acquire within {most} tries");
+    expect(rt, asked, acquire(rt, thread, most), (answer, made));
 }
 
 /// The store is at the index, and has the verdict.
@@ -59,7 +57,19 @@ fn expect_store<N: Name, R: Wait + Abort>(
         value,
         verdict,
     };
-    assert!(rt; make(rt, thread, Ask::Store(0, value), SITE) == Ok(reply));
+    let asked = format_args!("a store of {value}");
+    expect(
+        rt,
+        asked,
+        make(rt, thread, Ask::Store(0, value), SITE),
+        Ok(reply),
+    );
+}
+
+/// The lock is released, at the index.
+fn expect_release<N: Name, R: Wait + Abort>(rt: &R, thread: &mut TracedThread<N>, index: u64) {
+    let answer = make(rt, thread, Ask::Release(0), SITE);
+    expect(rt, "a release", answer.map(|reply| reply.index), Ok(index));
 }
 
 /// The main thread is refused the lock a thousand times, and no event is added.
@@ -68,7 +78,7 @@ fn expect_held<N: Name, R: Wait + Abort>(rt: &R, main: &mut TracedThread<N>) {
         expect_acquire(rt, main, 1, HELD, 1);
     }
     expect_acquire(rt, main, 1000, HELD, 1000);
-    assert!(rt; main.look() == 2);
+    expect(rt, "events after the refusals", main.look(), 2);
 }
 
 /// The main thread has the lock once thread 1 released it, and thread 1 after that.
@@ -77,9 +87,9 @@ fn pass_on<N: Name, R: Wait + Abort>(
     main: &mut TracedThread<N>,
     child: &mut TracedThread<N>,
 ) {
-    assert!(rt; make(rt, child, Ask::Release(0), SITE).is_ok());
+    expect_release(rt, child, 2);
     expect_acquire(rt, main, 1000, Ok(3), 1);
-    assert!(rt; make(rt, main, Ask::Release(0), SITE).is_ok());
+    expect_release(rt, main, 4);
     expect_acquire(rt, child, 0, Ok(5), 0);
 }
 
@@ -91,7 +101,7 @@ fn refuse<N: Name, R: Wait + Abort>(rt: &R, unnamed: Unnamed) -> Closed
 {
     let (shared, pass) = start::<N>(unnamed);
     let mut main = TracedThread::new(&shared, pass);
-    let (mut child, _) = fork(rt, &mut main, 1);
+    let mut child = fork(rt, &mut main, 1);
     expect_acquire(rt, &mut child, 1, Ok(1), 1);
     expect_held(rt, &mut main);
     pass_on(rt, &mut main, &mut child);
@@ -110,8 +120,8 @@ fn expect_events<N: Name, R: Wait + Abort>(rt: &R, main: &mut TracedThread<N>) {
         site: SITE,
         value: 9,
     };
-    assert!(rt; main.event_at(rt, 1) == Some(by_child));
-    assert!(rt; main.event_at(rt, 3).is_none());
+    expect(rt, "event 1", main.event_at(rt, 1), Some(by_child));
+    expect(rt, "event 3", main.event_at(rt, 3), None);
 }
 
 /// Both threads store, and the second that does is told of a race.
@@ -121,7 +131,7 @@ fn race<N: Name, R: Wait + Abort>(rt: &R, unnamed: Unnamed)
 {
     let (shared, pass) = start::<N>(unnamed);
     let mut main = TracedThread::new(&shared, pass);
-    let (mut child, _) = fork(rt, &mut main, 1);
+    let mut child = fork(rt, &mut main, 1);
     expect_store(rt, &mut child, 9, 1, Verdict::Clear);
     expect_store(rt, &mut main, 5, 2, Verdict::Racy(1));
     expect_events(rt, &mut main);
@@ -129,8 +139,19 @@ fn race<N: Name, R: Wait + Abort>(rt: &R, unnamed: Unnamed)
 
 /// The handle of the child is given back, for want of a slot.
 fn expect_log_full<N: Name>(rt: &impl Abort, left: NotJoined<N>) {
-    assert!(rt; left.child.thread() == ThreadId(1));
-    assert!(rt; Refusal::from(left) == Refusal::LogFull);
+    let came = (left.child.thread(), left.refusal);
+    expect(
+        rt,
+        "a join in a full log",
+        came,
+        (ThreadId(1), Refusal::LogFull),
+    );
+    expect(
+        rt,
+        "the refusal of a join",
+        Refusal::from(left),
+        Refusal::LogFull,
+    );
 }
 
 /// The log has a slot for the fork alone, so the join is refused.
@@ -140,7 +161,7 @@ fn refuse_join<N: Name, R: Wait + Abort>(rt: &R, unnamed: Unnamed)
 {
     let (shared, pass) = start::<N>(unnamed);
     let mut main = TracedThread::new(&shared, pass);
-    let (child, _) = fork(rt, &mut main, 1);
+    let child = fork(rt, &mut main, 1);
     let answer = main.join(rt, child, SITE);
     expect_log_full(rt, answer.err().expect(rt, "a refusal"));
 }
@@ -154,7 +175,7 @@ fn unnamed<R: Abort>(rt: &R, alloc: Global, events: u64) -> Unnamed {
 #[test]
 fn a_refused_handle_serves_and_a_dropped_one_keeps_its_lock(rt: HostRuntime) {
     let closed = refuse::<Brand, _>(&rt, unnamed(&rt, rt.alloc(), 16));
-    assert!(rt; closed.len() == 7);
+    expect(&rt, "events of the log", closed.len(), 7);
     drop(closed);
 }
 

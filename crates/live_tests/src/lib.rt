@@ -1,15 +1,20 @@
 //! Tests of the monitor that threads share: worked cases with the handles in one hand, threads that call it
 //! at once, and the reports of closed logs.
 //!
-//! The crate has tests alone, and they see no more of the monitor than any caller does.
+//! The crate has tests alone, and they see no more of the monitor than any caller does. They fail where
+//! memory is refused, except those whose names say so.
 #![tactic(auto)]
 
+#[cfg(test)]
+mod again;
 #[cfg(test)]
 mod calls;
 #[cfg(test)]
 mod closed_reports;
 #[cfg(test)]
 mod example;
+#[cfg(test)]
+mod expected;
 #[cfg(test)]
 mod handles;
 #[cfg(test)]

@@ -1,11 +1,12 @@
 //! Calls of two threads after memory was refused.
 ghost use Rattle.std.specs.Prelude.{◌≡◌};
 
-use crate::calls::{Answer, Ask, make_once};
+use crate::calls::{Answer, Ask, make};
+use crate::expected::expect;
 use Ask::{Acquire, Load, Release, Store};
 use By::{Child, Main};
 use event_core::{Limits, Refusal, Reply, Roots, SiteId, ThreadId, Verdict};
-use live_monitor::{Unnamed, start};
+use live_monitor::{StartFault, Unnamed, start};
 use log_pass::Name;
 use std::marker::Brand;
 use std::process::Abort;
@@ -47,17 +48,15 @@ fn is_short_after(
     answer: Answer,
 ) -> bool {
     let is_short = answer == Err(Refusal::OutOfMemory);
-    let accepted = Reply {
-        index,
-        value: 0,
-        verdict: Verdict::Clear,
-    };
-    let is_told = if is_short {
-        !is_release
-    } else {
-        was_short || answer == Ok(accepted)
-    };
-    assert!(rt; is_told, "{index}: {answer:?}");
+    let may_come = if is_short { !is_release } else { was_short };
+    if !may_come {
+        let accepted = Reply {
+            index,
+            value: 0,
+            verdict: Verdict::Clear,
+        };
+        expect(rt, format_args!("event {index}"), answer, Ok(accepted));
+    }
     was_short || is_short
 }
 
@@ -70,8 +69,8 @@ fn answer_to<N: Name, R: Wait>(
     ask: Ask,
 ) -> Answer {
     match by {
-        Main => make_once(rt, main, ask, SITE),
-        Child => make_once(rt, child, ask, SITE),
+        Main => make(rt, main, ask, SITE),
+        Child => make(rt, child, ask, SITE),
     }
 }
 
@@ -92,22 +91,24 @@ fn make_lines<N: Name, R: Wait + Abort>(
 }
 
 /// Where there is memory for the fork, both threads make their calls.
-fn make<N: Name, R: Wait + Abort>(rt: &R, unnamed: Unnamed)
+fn make_calls<N: Name, R: Wait + Abort>(rt: &R, unnamed: Unnamed)
     requires table { unnamed.table ≡ N.table }
     requires limits { unnamed.limits ≡ N.limits }
 {
     let (shared, pass) = start::<N>(unnamed);
     let mut main = TracedThread::new(&shared, pass);
-    if let Ok((mut child, _)) = main.fork(rt, ThreadId(1), SITE) {
-        make_lines(rt, &mut main, &mut child);
+    match main.fork(rt, ThreadId(1), SITE) {
+        Ok((mut child, _)) => make_lines(rt, &mut main, &mut child),
+        Err(refusal) => expect(rt, "a fork", refusal, Refusal::OutOfMemory),
     }
 }
 
 /// Where every growth is refused from just before a release on, that release is accepted at its index.
 #[test]
-fn no_release_is_refused_for_memory(rt: HostRuntime) {
+fn no_release_is_refused_where_memory_is_refused(rt: HostRuntime) {
     let limits = Limits::new(2, 2, 2, 64, Roots::OnlyMain).expect(&rt, "limits");
-    if let Ok(unnamed) = Unnamed::new(rt.alloc(), limits) {
-        make::<Brand, _>(&rt, unnamed);
+    match Unnamed::new(rt.alloc(), limits) {
+        Ok(unnamed) => make_calls::<Brand, _>(&rt, unnamed),
+        Err(fault) => expect(&rt, "a monitor", fault, StartFault::NoRoom),
     }
 }

@@ -1,12 +1,14 @@
 //! Worked cases of two threads, whose handles are in one hand.
 ghost use Rattle.std.specs.Prelude.{◌≡◌};
 
-use crate::calls::{Ask, begin, fork, join, make, swap};
+use crate::again::{answer_to, begin, fork, join, swap};
+use crate::calls::Ask;
+use crate::expected::{Place, expect};
 use Ask::{Acquire, Load, Release, Store};
 use Deed::{Accepted, Found, Refused, Swapped};
 use Turn::{Child, DropChild, Fork, Join, Main};
 use Verdict::{Clear, Racy};
-use event_core::{Limits, Refusal, Reply, Roots, SiteId, SwapReply, ThreadId, VarId, Verdict};
+use event_core::{Limits, Refusal, Reply, Roots, SwapReply, ThreadId, Verdict};
 use live_monitor::{Closed, StartFault, Unnamed, start};
 use log_pass::Name;
 use seq_monitor::Race;
@@ -37,10 +39,11 @@ enum Turn {
     DropChild,
 }
 
-/// How many locks and variables there are, the room for events, what the two threads do, how many events the
-/// log then has, and its races.
+/// How many locks there are, and as many variables, the room for events, what the two threads do, how many
+/// events the log then has, and its races.
 struct Case {
-    names: u32,
+    name: &'static str,
+    locks_and_variables: u32,
     room: u64,
     turns: &'static [Turn],
     events: u64,
@@ -48,9 +51,9 @@ struct Case {
 }
 
 const CASES: &[Case] = &[
-    // Thread 1 may acquire the lock only after thread 0 released it.
     Case {
-        names: 1,
+        name: "a lock is acquired once the thread that holds it has released it",
+        locks_and_variables: 1,
         room: 16,
         turns: &[
             Fork(0),
@@ -66,9 +69,9 @@ const CASES: &[Case] = &[
         events: 4,
         races: &[],
     },
-    // Of a store and a load the later races.
     Case {
-        names: 1,
+        name: "a load races with the store before it",
+        locks_and_variables: 1,
         room: 16,
         turns: &[
             Main(Accepted(Store(0, 7), 0, 7, Clear)),
@@ -82,9 +85,9 @@ const CASES: &[Case] = &[
         events: 6,
         races: &[Race { event: 3, with: 2 }],
     },
-    // And so of a load and a store.
     Case {
-        names: 1,
+        name: "a store races with the load before it",
+        locks_and_variables: 1,
         room: 16,
         turns: &[
             Main(Accepted(Store(0, 7), 0, 7, Clear)),
@@ -97,9 +100,9 @@ const CASES: &[Case] = &[
         events: 6,
         races: &[Race { event: 3, with: 2 }],
     },
-    // The sections on the inner lock order those on the outer one. A release takes no memory.
     Case {
-        names: 2,
+        name: "sections on an inner lock order those on the outer one",
+        locks_and_variables: 2,
         room: 64,
         turns: &[
             Fork(0),
@@ -119,9 +122,9 @@ const CASES: &[Case] = &[
         events: 13,
         races: &[],
     },
-    // Thread 1 is never joined. Its handle is dropped, and it keeps its lock.
     Case {
-        names: 1,
+        name: "a thread whose handle is dropped keeps its lock",
+        locks_and_variables: 1,
         room: 16,
         turns: &[
             Fork(0),
@@ -132,9 +135,9 @@ const CASES: &[Case] = &[
         events: 2,
         races: &[],
     },
-    // A swap is seen whole, and has room for both of its events or for none.
     Case {
-        names: 1,
+        name: "a swap is seen whole, and has room for both of its events or for none",
+        locks_and_variables: 1,
         room: 5,
         turns: &[
             Fork(0),
@@ -163,9 +166,9 @@ const CASES: &[Case] = &[
         events: 5,
         races: &[Race { event: 3, with: 2 }, Race { event: 4, with: 2 }],
     },
-    // Of the swap's two events the store alone conflicts with the load.
     Case {
-        names: 1,
+        name: "of a swap's two events the store alone conflicts with a load",
+        locks_and_variables: 1,
         room: 9,
         turns: &[
             Fork(0),
@@ -186,24 +189,34 @@ const CASES: &[Case] = &[
     },
 ];
 
-const SITE: SiteId = SiteId(0);
-
 /// The thread is answered as the deed says.
-fn take<N: Name, R: Wait + Abort>(rt: &R, thread: &mut TracedThread<N>, deed: Deed) {
-    let is_told = match deed {
+fn take<N: Name, R: Wait + Abort>(
+    rt: &R,
+    place: Place,
+    thread: &mut TracedThread<N>,
+    deed: Deed,
+    asks_again: bool,
+) {
+    match deed {
         Accepted(ask, index, value, verdict) => {
             let reply = Reply {
                 index,
                 value,
                 verdict,
             };
-            make(rt, thread, ask, SITE) == Ok(reply)
+            expect(rt, place, answer_to(rt, thread, ask, asks_again), Ok(reply));
         }
-        Refused(ask, refusal) => make(rt, thread, ask, SITE) == Err(refusal),
-        Swapped(value, answer) => swap(rt, thread, VarId(0), value, SITE) == answer,
-        Found(count) => thread.look() == count,
-    };
-    assert!(rt; is_told);
+        Refused(ask, refusal) => {
+            expect(
+                rt,
+                place,
+                answer_to(rt, thread, ask, asks_again),
+                Err(refusal),
+            );
+        }
+        Swapped(value, answer) => expect(rt, place, swap(rt, thread, value, asks_again), answer),
+        Found(count) => expect(rt, place, thread.look(), count),
+    }
 }
 
 /// What a fork and a join are answered.
@@ -218,29 +231,31 @@ fn at(index: u64) -> Reply {
 /// Takes the turn. There is a handle of thread 1 while that runs.
 fn take_turn<'m, N: Name, R: Wait + Abort>(
     rt: &R,
+    place: Place,
     main: &mut TracedThread<'m, N>,
     child: Option<TracedThread<'m, N>>,
     turn: Turn,
+    asks_again: bool,
 ) -> Option<TracedThread<'m, N>> {
     match turn {
         Main(deed) => {
-            take(rt, main, deed);
+            take(rt, place, main, deed, asks_again);
             child
         }
         Child(deed) => {
             let mut child = child.expect(rt, "the child");
-            take(rt, &mut child, deed);
+            take(rt, place, &mut child, deed, asks_again);
             Some(child)
         }
         Fork(index) => {
-            let (child, reply) = fork(rt, main, 1);
-            assert!(rt; reply == at(index));
+            let (child, reply) = fork(rt, main, asks_again);
+            expect(rt, place, reply, at(index));
             Some(child)
         }
         Join(index) => {
             let mut child = child.expect(rt, "the child");
             main.meet(&mut child);
-            assert!(rt; join(rt, main, child) == at(index));
+            expect(rt, place, join(rt, main, child, asks_again), at(index));
             None
         }
         DropChild => {
@@ -251,41 +266,55 @@ fn take_turn<'m, N: Name, R: Wait + Abort>(
 }
 
 /// Both threads take their turns.
-fn take_turns<N: Name, R: Wait + Abort>(rt: &R, unnamed: Unnamed, turns: &[Turn]) -> Closed
+fn take_turns<N: Name, R: Wait + Abort>(
+    rt: &R,
+    unnamed: Unnamed,
+    case: &Case,
+    asks_again: bool,
+) -> Closed
     requires table { unnamed.table ≡ N.table }
     requires limits { unnamed.limits ≡ N.limits }
 {
     let (shared, pass) = start::<N>(unnamed);
     let mut main = TracedThread::new(&shared, pass);
     let mut child = None;
-    for turn in turns {
-        child = take_turn(rt, &mut main, child, *turn);
+    for (number, turn) in (0u64..).zip(case.turns) {
+        let place = Place {
+            case: case.name,
+            turn: number,
+        };
+        child = take_turn(rt, place, &mut main, child, *turn, asks_again);
     }
     drop(child);
     let pass = main.into_pass();
     shared.close(pass)
 }
 
-/// The verdict on the event is that it races with the earlier one.
-fn expect_race<R: Abort>(rt: &R, closed: &Closed, race: Race) {
-    assert!(rt; race.event < closed.len());
-    assert!(rt; closed.verdict_at(race.event) == Racy(race.with));
+/// The verdict on the event, if there is one.
+fn verdict_at(closed: &Closed, event: u64) -> Option<Verdict> {
+    (event < closed.len()).then(|| closed.verdict_at(event))
 }
 
 /// The log has the events and the races of the case.
 fn expect_closed<R: Abort>(rt: &R, closed: &Closed, case: &Case) {
-    assert!(rt; closed.len() == case.events && closed.log().len() == case.events);
-    assert!(rt; closed.verdicts().races() == case.races);
+    let lengths = (closed.len(), closed.log().len());
+    expect(rt, case.name, lengths, (case.events, case.events));
+    expect(rt, case.name, closed.verdicts().races(), case.races);
     for race in case.races {
-        expect_race(rt, closed, *race);
+        expect(
+            rt,
+            case.name,
+            verdict_at(closed, race.event),
+            Some(Racy(race.with)),
+        );
     }
 }
 
-fn expect_case<R: Wait + Abort>(rt: &R, alloc: Global, case: &Case) {
-    let limits = Limits::new(2, case.names, case.names, case.room, Roots::OnlyMain).expect(
-        rt, "limits",
-    );
-    let closed = take_turns::<Brand, _>(rt, begin(rt, alloc, limits), case.turns);
+fn expect_case<R: Wait + Abort>(rt: &R, alloc: Global, case: &Case, asks_again: bool) {
+    let names = case.locks_and_variables;
+    let limits = Limits::new(2, names, names, case.room, Roots::OnlyMain).expect(rt, "limits");
+    let unnamed = begin(rt, alloc, limits, asks_again);
+    let closed = take_turns::<Brand, _>(rt, unnamed, case, asks_again);
     expect_closed(rt, &closed, case);
     drop(closed);
 }
@@ -293,7 +322,14 @@ fn expect_case<R: Wait + Abort>(rt: &R, alloc: Global, case: &Case) {
 #[test]
 fn each_turn_of_two_threads_is_answered_as_its_case_says(rt: HostRuntime) {
     for case in CASES {
-        expect_case(&rt, rt.alloc(), case);
+        expect_case(&rt, rt.alloc(), case, false);
+    }
+}
+
+#[test]
+fn each_turn_is_answered_as_its_case_says_where_memory_is_refused(rt: HostRuntime) {
+    for case in CASES {
+        expect_case(&rt, rt.alloc(), case, true);
     }
 }
 
@@ -301,5 +337,10 @@ fn each_turn_of_two_threads_is_answered_as_its_case_says(rt: HostRuntime) {
 fn only_thread_0_may_run_from_the_beginning(rt: HostRuntime) {
     let limits = Limits::new(2, 1, 1, 16, Roots::Free).expect(&rt, "limits");
     let refused = Unnamed::new(rt.alloc(), limits).err();
-    assert!(rt; refused == Some(StartFault::RootsFree));
+    expect(
+        &rt,
+        "a monitor of free roots",
+        refused,
+        Some(StartFault::RootsFree),
+    );
 }

@@ -1,10 +1,9 @@
 //! Four threads that call the monitor at once.
-//!
-//! What is refused memory is made once more.
 ghost use Rattle.std.specs.Prelude.{◌≡◌};
 
-use crate::calls::{Ask, begin, fork, join, make, swap};
-use event_core::{Call, Limits, LockId, Log, Op, Outcome, Roots, SiteId, ThreadId, VarId};
+use crate::calls::{Ask, begin, fork, join, make};
+use crate::expected::expect;
+use event_core::{Call, Limits, LockId, Log, Op, Outcome, Refusal, Roots, SiteId, ThreadId, VarId};
 use live_monitor::{Closed, Unnamed, start};
 use log_pass::Name;
 use seq_monitor::Monitor;
@@ -34,17 +33,21 @@ const PATIENCE: u32 = 1_000_000;
 
 /// Asks, and is to be accepted.
 fn must<N: Name, R: Wait + Abort>(rt: &R, thread: &mut TracedThread<N>, ask: Ask, site: SiteId) {
-    let answer = make(rt, thread, ask, site);
-    assert!(rt; answer.is_ok(), "{site:?}: {answer:?}");
+    let asked = format_args!(
+        "{ask:?} of thread {} in round {}",
+        thread.thread().0,
+        site.0
+    );
+    expect(rt, asked, make(rt, thread, ask, site).err(), None);
 }
 
 /// Acquires the lock, and tries again while another thread holds it.
 fn acquire<N: Name, R: Wait + Abort>(rt: &R, thread: &mut TracedThread<N>, site: SiteId) {
     for _ in 0..PATIENCE {
-        if make(rt, thread, Ask::Acquire(0), site).is_ok() {
-            return;
+        match make(rt, thread, Ask::Acquire(0), site) {
+            Err(Refusal::Held { .. }) => thread::yield_now(),
+            answer => return expect(rt, "an acquire", answer.err(), None),
         }
-        thread::yield_now();
     }
     must(rt, thread, Ask::Acquire(0), site);
 }
@@ -64,7 +67,7 @@ fn make_round<N: Name, R: Wait + Abort>(
     must(rt, thread, Ask::Store(0, 7), site);
     acquire(rt, thread, site);
     must(rt, thread, Ask::Release(0), site);
-    let swapped = swap(rt, thread, VarId(1), value, site);
+    let swapped = thread.swap(rt, VarId(1), value, site);
     swapped.expect(rt, "a swap").value
 }
 
@@ -88,10 +91,10 @@ fn make_all<N: Name + Send + Sync, R: Threads + Wait + Abort + Sync>(
     rt: &R,
     main: &mut TracedThread<N>,
 ) -> ([Values; 4], u64) {
-    let (mut first, _) = fork(rt, main, 1);
-    let (mut second, _) = fork(rt, main, 2);
-    let (mut third, _) = fork(rt, main, 3);
-    let (mut fourth, _) = fork(rt, main, 4);
+    let mut first = fork(rt, main, 1);
+    let mut second = fork(rt, main, 2);
+    let mut third = fork(rt, main, 3);
+    let mut fourth = fork(rt, main, 4);
     let ((one, two), (three, four)) = thread::join(
         rt,
         || thread::join(
@@ -158,13 +161,14 @@ fn calls_of(alloc: Global, log: &Log) -> Result<Vec<Call>, AllocError> {
 /// The call is the one of the rounds that has so many before it, with the value that it stores.
 fn expect_call<R: Abort>(rt: &R, call: &Call, before: usize) {
     let round = before / 6;
-    assert!(rt; call.op == ROUND[before % 6] && call.site.0 as usize == round);
     let stored = match before % 6 {
-        1 => Some(7),
-        5 => Some(first_value(call.thread).saturating_add(round as u64)),
-        _ => None,
+        1 => 7,
+        5 => first_value(call.thread).saturating_add(round as u64),
+        _ => call.arg,
     };
-    assert!(rt; stored.is_none_or(|value| call.arg == value));
+    let asked = format_args!("call {before} of thread {}", call.thread.0);
+    let came = (call.op, call.site.0 as usize, call.arg);
+    expect(rt, asked, came, (ROUND[before % 6], round, stored));
 }
 
 /// The calls of the thread are its rounds, each once and in order.
@@ -176,14 +180,27 @@ fn expect_rounds<R: Abort>(rt: &R, calls: &[Call], thread: ThreadId) {
             count = count.saturating_add(1);
         }
     }
-    assert!(rt; count == 6 * ROUNDS as usize);
+    expect(
+        rt,
+        format_args!("calls of thread {}", thread.0),
+        count,
+        6 * ROUNDS as usize,
+    );
 }
 
 /// The value is among 201, and was not read before.
 fn note<R: Abort>(rt: &R, is_read: &mut [bool; 201], value: u64) {
     let place = value as usize;
-    assert!(rt; place < 201 && !is_read[place]);
-    is_read[place] = true;
+    let was_read = is_read.get(place).copied();
+    expect(
+        rt,
+        format_args!("whether {value} was read before"),
+        was_read,
+        Some(false),
+    );
+    if place < 201 {
+        is_read[place] = true;
+    }
 }
 
 /// Of 201 values none was read twice, so each was read once.
@@ -199,41 +216,37 @@ fn expect_each_once<R: Abort>(rt: &R, values: &[Values; 4], last: u64) {
 
 /// The monitor has the verdicts of the closed log, and accepted each call.
 fn expect_same<R: Abort>(rt: &R, monitor: &Monitor, outcomes: &[Outcome], closed: &Closed) {
-    for outcome in outcomes {
-        assert!(rt; matches!(outcome, Outcome::Accepted(_)));
+    for (index, outcome) in (0u64..).zip(outcomes) {
+        let refusal = match outcome {
+            Outcome::Accepted(_) => None,
+            Outcome::Refused(refusal) => Some(*refusal),
+        };
+        expect(rt, format_args!("event {index}, replayed"), refusal, None);
     }
-    assert!(rt; monitor.verdicts().len() == closed.verdicts().len());
-    assert!(rt; monitor.verdicts().races() == closed.verdicts().races());
+    let (ours, theirs) = (monitor.verdicts(), closed.verdicts());
+    expect(rt, "verdicts of the replay", ours.len(), theirs.len());
+    expect(rt, "races of the replay", ours.races(), theirs.races());
 }
 
-/// The same calls, taken by a sequential monitor, are accepted with the same verdicts. Whether there was
-/// memory for it.
-fn replays<R: Abort>(rt: &R, alloc: Global, closed: &Closed, calls: &[Call]) -> bool {
-    let Ok(mut monitor) = Monitor::new(alloc, limits(rt)) else {
-        return false;
-    };
+/// The same calls, taken by a sequential monitor, are accepted with the same verdicts.
+fn expect_replayed<R: Abort>(rt: &R, alloc: Global, closed: &Closed, calls: &[Call]) {
+    let mut monitor = Monitor::new(alloc, limits(rt)).expect(rt, "a monitor");
     let mut outcomes = Vec::new(alloc);
-    let is_run = monitor.run(calls, &mut outcomes).is_ok();
-    if is_run {
-        assert!(rt; outcomes.len() == calls.len());
-        expect_same(rt, &monitor, &outcomes, closed);
-    }
+    let ran = monitor.run(calls, &mut outcomes);
+    expect(rt, "a run of the calls", ran, Ok(()));
+    expect(rt, "outcomes of the run", outcomes.len(), calls.len());
+    expect_same(rt, &monitor, &outcomes, closed);
     drop(monitor);
     drop(outcomes);
-    is_run
 }
 
 fn expect_log<R: Abort>(rt: &R, alloc: Global, closed: &Closed) {
-    let calls = match calls_of(alloc, closed.log()) {
-        Err(_) => calls_of(alloc, closed.log()),
-        calls => calls,
-    };
-    let calls = calls.expect(rt, "the calls");
-    assert!(rt; calls.len() == 4 * 300 + 9);
+    let calls = calls_of(alloc, closed.log()).expect(rt, "the calls");
+    expect(rt, "calls of all threads", calls.len(), 4 * 300 + 9);
     for thread in 1..5 {
         expect_rounds(rt, &calls, ThreadId(thread));
     }
-    assert!(rt; replays(rt, alloc, closed, &calls) || replays(rt, alloc, closed, &calls));
+    expect_replayed(rt, alloc, closed, &calls);
     drop(calls);
 }
 
