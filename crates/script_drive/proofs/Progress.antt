@@ -1,6 +1,6 @@
 -- How a thread gets on with its lines.
 use Rattle.std.proofs.Common.{◌≡◌, ℕ, ◌+◌, ◌<◌, List, [], ◌∷◌, ◌++◌, true, sym, ap, ◌∙◌, subst, length}
-use Rattle.std.proofs.Common.{take, drop, take-append-drop, get_or, cond, ◌⊎◌, ◌≤◌, add-one}
+use Rattle.std.proofs.Common.{take, drop, take-append-drop, get_or, cond, ◌⊎◌, ◌≤◌, add-one, map}
 use Rattle.std.proofs.Common.{false, refl}
 use Rattle.std.specs.List.{list_any}
 use Rattle.std.proofs.Math.Seq.{drop-cons}
@@ -10,17 +10,22 @@ use Rattle.std.proofs.lemmas.List.Concat.{flat_map-append}
 use Rattle.std.proofs.lemmas.List.Elements.{filter-append, filter_more, filter_map-append}
 use Rattle.std.proofs.lemmas.List.Folds.{list_any-append}
 use mathlib.Core.Logic.{inl, inr}
+use mathlib.Core.List.{IsPrefix}
 use Rattle.event_core.specs.declared.ids.ThreadId.{ThreadId}
 use Rattle.event_core.specs.declared.bounds.Limits.{Limits}
 use Rattle.event_core.specs.declared.events.Event.{Event}
-use Rattle.event_core.specs.Steps.{log_of}
+use Rattle.event_core.specs.declared.steps.Step.{Step}
+use Rattle.event_core.specs.Steps.{log_of, own_events}
 use Rattle.event_core.proofs.Depth.{same_thread_id}
+use Rattle.live_monitor.specs.Calls.{HasComeTo}
 use Rattle.log_pass.specs.declared.views.PassView.{PassView}
+use Rattle.log_pass.specs.Passes.{main, new_pass, IsPass}
+use Rattle.log_pass.proofs.Prefixes.{prefix_self, prefix_trans}
 use Rattle.script_text.specs.declared.lines.ScriptLine.{ScriptLine}
 use Rattle.script_text.specs.Lines.{fork_of, is_of, join_of, joins as line_joins, thread_of}
-use Rattle.script_drive.specs.Lines.{asked, asked_by, lines_by}
-use Rattle.script_drive.specs.Workers.{AreSettled, Does, Done, HasDone, Reach, Serves, Settled, forked}
-use Rattle.script_drive.specs.Workers.{joined}
+use Rattle.script_drive.specs.Lines.{asked, asked_by, lines_by, unread, Follows}
+use Rattle.script_drive.specs.Workers.{at_first, AreSettled, Does, Done, HasDone, HasMade, IsBegun}
+use Rattle.script_drive.specs.Workers.{IsFirst, Reach, Serves, Settled, forked, joined}
 use Rattle.live_monitor.proofs.Beginnings.{log_begins}
 use Rattle.script_drive.proofs.Settling.{settled_more}
 
@@ -29,11 +34,69 @@ asked-snoc : (lines : List ScriptLine) (l : ScriptLine)
 asked-snoc lines l = flat_map-append (λ (x : ScriptLine). asked_by x.act) lines (l ∷ [])
     ∙ ap (λ (es : List Event). asked lines ++ es) (append-nil (asked_by l.act))
 
+-- a thread that was started in a beginning of a log was so in one of a longer log
+begun_more : (script : List ScriptLine) (t : ThreadId) (xs ys : List Event) → IsPrefix xs ys
+    → IsBegun script t xs → IsBegun script t ys
+begun_more script t xs ys begins h = record {
+  start = h.start;
+  started = h.started;
+  begins = prefix_trans h.start xs ys h.begins begins;
+}
+
+-- a first pass is one of its own thread
+pub own_first : (script : List ScriptLine) (t : ThreadId) (p : PassView) → IsFirst script t p
+    → IsFirst script p.thread p
+own_first script t p h = subst (λ (u : ThreadId). IsFirst script u p) (sym h.thread) h
+
+-- and thread 0's has seen nothing
+pub main_first : (script : List ScriptLine) (p : PassView) → p ≡ new_pass main [] → IsFirst script p.thread p
+main_first script p is =
+    let first : IsFirst script main (new_pass main []) = record {
+      thread = refl;
+      no_step = refl;
+      started = at_first;
+    } in
+    own_first script main p (subst (IsFirst script main) (sym is) first)
+
+-- a thread's first pass has done none of its lines
+pub first_done : (script : List ScriptLine) (t : ThreadId) (p : PassView) → IsFirst script t p
+    → HasDone script t p []
+first_done script t p h = record {
+  thread = h.thread;
+  begun = record { start = log_of p.seen; started = h.started; begins = prefix_self (log_of p.seen) };
+  follows = ap (λ (s : List Step). map unread (log_of s)) h.no_step;
+  settled = λ u test. absurd (cc test);
+}
+
+-- what a pass has done stands in the log that it has seen
+pub made_of : (m : Limits) (script : List ScriptLine) (t : ThreadId) (p : PassView)
+    (lines : List ScriptLine) → IsPass m p → HasDone script t p lines → HasMade script t (log_of p.seen) lines
+made_of m script t p lines is h = record {
+  follows = subst (λ (es : List Event). Follows es lines)
+      (is.own_events ∙ ap (λ (u : ThreadId). own_events u (log_of p.seen)) h.thread) h.follows;
+  settled = h.settled;
+}
+
+-- the pass has seen more, and done no more
+pub done_later : (m : Limits) (script : List ScriptLine) (t : ThreadId) (p q : PassView)
+    (lines : List ScriptLine) → HasComeTo m p q → q.mine ≡ p.mine → HasDone script t p lines
+    → HasDone script t q lines
+done_later m script t p q lines later mine h =
+    let begins : IsPrefix (log_of p.seen) (log_of q.seen) = log_begins p.seen q.seen later.begins in
+    record {
+      thread = later.same_thread ∙ h.thread;
+      begun = begun_more script t (log_of p.seen) (log_of q.seen) begins h.begun;
+      follows = subst (λ (s : List Step). Follows (log_of s) lines) (sym mine) h.follows;
+      settled = λ u test. settled_more m script (log_of p.seen) (log_of q.seen) u begins
+          later.is_pass.formed.well_formed (h.settled u test);
+    }
+
 -- one more line is done
-done_more : (m : Limits) (script : List ScriptLine) (t : ThreadId) (p q : PassView) (lines : List ScriptLine)
-    (l : ScriptLine) → HasDone script t p lines → Does m script l p q → HasDone script t q (lines ++ l ∷ [])
+pub done_more : (m : Limits) (script : List ScriptLine) (t : ThreadId) (p q : PassView)
+    (lines : List ScriptLine) (l : ScriptLine) → HasDone script t p lines → Does m script l p q → HasDone script t q (lines ++ l ∷ [])
 done_more m script t p q lines l h does = record {
   thread = does.thread ∙ h.thread;
+  begun = begun_more script t (log_of p.seen) (log_of q.seen) (log_begins p.seen q.seen does.begins) h.begun;
   follows = does.mine ∙ (ap (λ (es : List Event). es ++ asked_by l.act) h.follows ∙ sym (asked-snoc lines l));
   settled = settled;
 }

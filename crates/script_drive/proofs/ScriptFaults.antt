@@ -1,12 +1,13 @@
 -- The faults of workers are those of lines of the script.
 use Rattle.std.proofs.Common.{◌≡◌, ℕ, ◌+◌, ◌<◌, ◌≤◌, ◌⊎◌, List, ◌∷◌, Some, refl, sym, ap}
-use Rattle.std.specs.Prelude.{[], Bool, true, Option, None, IfErr, IfSome, IsErrAnd, Result, Ok, Err}
+use Rattle.std.specs.Prelude.{[], Bool, true, Option, None, IfErr, IfSome, IsErrAnd, IsSome, Result, Ok, Err}
 use Rattle.std.proofs.Common.{◌∙◌, subst, length, get_or, take, drop, arith}
 use Rattle.std.specs.List.{All, Contains}
 use Rattle.std.proofs.lemmas.List.Elements.{All-more, All-weaker}
 use Rattle.std.proofs.lemmas.List.Elements.{Contains-get_or}
 use mathlib.Core.Logic.{inl, inr}
 use Rattle.event_core.specs.declared.ids.ThreadId.{ThreadId}
+use Rattle.event_core.specs.declared.ids.LockId.{LockId}
 use Rattle.event_core.specs.declared.ids.SiteId.{SiteId}
 use Rattle.event_core.specs.declared.ids.VarId.{VarId}
 use Rattle.event_core.specs.declared.bounds.Limits.{Limits}
@@ -15,6 +16,7 @@ use Rattle.event_core.specs.declared.events.Act.{Act}
 use Rattle.event_core.specs.declared.events.Act.TheVariants.{One, Swap}
 use Rattle.event_core.specs.declared.events.Call.{Call}
 use Rattle.event_core.specs.declared.events.Op.{Op}
+use Rattle.event_core.specs.declared.events.Op.TheVariants.{Load, Store, Acquire, Release, Fork, Join}
 use Rattle.event_core.specs.declared.replies.Refusal.{Refusal}
 use Rattle.event_core.specs.declared.replies.Refusal.TheVariants.{ThreadRange, NotStarted, Ended, TargetRange}
 use Rattle.event_core.specs.declared.replies.Refusal.TheVariants.{Held, NotHolder, SelfTarget, AlreadyStarted}
@@ -23,21 +25,22 @@ use Rattle.event_core.specs.declared.replies.Reply.{Reply}
 use Rattle.event_core.specs.declared.replies.SwapReply.{SwapReply}
 use Rattle.event_core.specs.Acts.{swap_refusal}
 use Rattle.event_core.specs.Refusal.{first_of, op_is_acquire, reasons, refusal}
-use Rattle.event_core.specs.Steps.{log_of, own_events}
+use Rattle.event_core.specs.Steps.{log_of}
 use Rattle.live_monitor.specs.Calls.{call_by, Declined, HasComeTo}
 use Rattle.live_monitor.specs.Swaps.{DeclinedSwap}
 use Rattle.live_monitor.specs.Tries.{AreUsedUp, Tried}
 use Rattle.log_pass.specs.declared.views.PassView.{PassView}
 use Rattle.script_text.specs.declared.lines.ScriptLine.{ScriptLine}
-use Rattle.script_text.specs.Lines.{act_thread, is_of, thread_of}
+use Rattle.script_text.specs.Lines.{act_join, act_thread, is_of, op_join, thread_of}
 use Rattle.script_drive.specs.declared.faults.DriveFault.{DriveFault}
 use Rattle.script_drive.specs.declared.faults.Halt.{Halt}
-use Rattle.script_drive.specs.declared.faults.Halt.TheVariants.{Fault}
-use Rattle.script_drive.specs.Faults.{act_refusal, is_told, rank, refused_at, Fits, IsAnswer}
-use Rattle.script_drive.specs.Faults.{IsAnswered, IsEarlier, IsFaultOf, IsFirst, IsHaltOf, IsNext, Refuses}
-use Rattle.script_drive.specs.Lines.{Follows, lines_by}
+use Rattle.script_drive.specs.declared.faults.Halt.TheVariants.{Abandoned, Fault}
+use Rattle.script_drive.specs.Faults.{act_acquires, act_refusal, act_waits, is_told, op_waits, rank}
+use Rattle.script_drive.specs.Faults.{refused_at, Fits, IsAnswer, IsAnswered, IsDue, IsEarlier, IsFaultOf}
+use Rattle.script_drive.specs.Faults.{IsFirst, IsHaltOf, IsHeldBack, IsNext, Refuses}
+use Rattle.script_drive.specs.Lines.{lines_by}
 use Rattle.script_drive.specs.Workers.{HasDone}
-use Rattle.script_drive.proofs.Progress.{own_place}
+use Rattle.script_drive.proofs.Progress.{done_later, made_of, own_place, own_thread}
 use Rattle.script_drive.proofs.ToldRefusals.{call_told, swap_told}
 
 -- ---- which is answered
@@ -87,6 +90,21 @@ refused_fits m ahead script l OutOfMemory line told r = tt
 abbrev IsReason : Limits → List Event → Act → Refusal → Type 0
 IsReason m log act why = ((act_refusal m log act ≡ Some why) × (is_told why ≡ true)) ⊎ (why ≡ OutOfMemory)
 
+-- a line is due after what its pass has seen by the time that its call is declined
+due : (m : Limits) (script : List ScriptLine) (l : ScriptLine) (p q : PassView) → IsNext script l p
+    → HasComeTo m p q → q.mine ≡ p.mine → IsDue m script l (log_of q.seen)
+due m script l p q next later mine =
+    let done : HasDone script (thread_of l) q next.before
+    = done_later m script (thread_of l) p q next.before later mine next.done in
+    record {
+      before = next.before;
+      later = next.later;
+      place = next.place;
+      well_formed = later.is_pass.formed.well_formed;
+      begun = done.begun;
+      made = made_of m script (thread_of l) q next.before later.is_pass done;
+    }
+
 -- the act was refused so to a pass that had done the lines before
 declined_fits : (m : Limits) (ahead : Bool) (script : List ScriptLine) (l : ScriptLine) (p q : PassView)
     (why : Refusal) → IsNext script l p → thread_of l ≡ p.thread → HasComeTo m p q → q.mine ≡ p.mine
@@ -96,21 +114,12 @@ declined_fits m ahead script l p q why next thread later mine reason =
     elim reason as (λ _. IsFaultOf m ahead script (refused_at l why)) [
       | inl refused ↦
           ∣ refused_fits m ahead script l why next.line refused.1 (record {
-            before = next.before;
-            later = next.later;
-            place = next.place;
             log = log_of q.seen;
-            well_formed = later.is_pass.formed.well_formed;
-            own = subst (λ (es : List Event). Follows es next.before) events next.done;
+            due = due m script l p q next later mine;
             refused = refused.0;
           }) ∣₁
       | inr e ↦ subst (λ (w : Refusal). IsFaultOf m ahead script (refused_at l w)) (sym e) ∣ tt ∣₁
     ]
-  where
-    events : log_of p.mine ≡ own_events (thread_of l) (log_of q.seen)
-    events = ap log_of (sym mine)
-        ∙ (later.is_pass.own_events
-        ∙ ap (λ (t : ThreadId). own_events t (log_of q.seen)) (later.same_thread ∙ sym thread))
 
 -- a call is refused by what it does and whose it is
 same_refusal : (m : Limits) (log : List Event) (c d : Call) → c.thread ≡ d.thread → c.op ≡ d.op
@@ -119,6 +128,13 @@ unfolding refusal
 same_refusal m log c d thread op = λ i.
     let call : Call = record { thread = thread i; op = op i; site = c.site; arg = c.arg } in
     first_of (reasons m log call)
+
+-- so is a line's, whose call its worker makes
+line_refusal : (m : Limits) (log : List Event) (l : ScriptLine) (call : Call) (op : Op) (site : SiteId)
+    (arg : ℕ) (t : ThreadId) → l.act ≡ One call → call.op ≡ op → thread_of l ≡ t
+    → act_refusal m log l.act ≡ refusal m log (call_by t op site arg)
+line_refusal m log l call op site arg t act is thread = ap (act_refusal m log) act
+    ∙ same_refusal m log call (call_by t op site arg) (sym (ap act_thread act) ∙ thread) is
 
 -- of a line's call; of an acquire the refusal is told where another thread's hold is not the answer
 pub call_fits : (m : Limits) (ahead : Bool) (script : List ScriptLine) (l : ScriptLine) (call : Call)
@@ -130,9 +146,7 @@ call_fits m ahead script l call op site arg p q why act is next thread later dec
     declined_fits m ahead script l p q why next thread later declined.mine
     (elim (declined.why) as (λ _. IsReason m (log_of q.seen) l.act why) [
       | inl refused ↦ inl (
-        ap (act_refusal m (log_of q.seen)) act
-            ∙ (same_refusal m (log_of q.seen) call (call_by p.thread op site arg)
-            (sym (ap act_thread act) ∙ thread) is ∙ refused),
+        line_refusal m (log_of q.seen) l call op site arg p.thread act is thread ∙ refused,
         call_told m (log_of q.seen) (call_by p.thread op site arg) why acquire refused,
       )
       | inr memory ↦ inr (memory.0)
@@ -155,6 +169,80 @@ pub held_used_up : (tries : Tried) (answer : Result Reply Refusal)
     → (by : ThreadId) × (answer ≡ Err (Held by)) → AreUsedUp tries
 held_used_up tries answer used_up held =
     (subst (λ a. IfErr a (λ why. why ≡ Held (held.0) → AreUsedUp tries)) held.1 (used_up held.0)) refl
+
+-- the lock that it acquires is then held
+pub held_back : (m : Limits) (script : List ScriptLine) (l : ScriptLine) (call : Call) (lock : LockId)
+    (site : SiteId) (p q : PassView) (answer : Result Reply Refusal) → l.act ≡ One call
+    → call.op ≡ Acquire lock → IsNext script l p → thread_of l ≡ p.thread → HasComeTo m p q
+    → IfErr answer (Declined m (call_by p.thread (Acquire lock) site 0) p q)
+    → (by : ThreadId) × (answer ≡ Err (Held by)) → IsHeldBack m script l
+held_back m script l call lock site p q answer act is next thread later declined held =
+    let refused : Declined m (call_by p.thread (Acquire lock) site 0) p q (Held (held.0))
+    = subst (λ a. IfErr a (Declined m (call_by p.thread (Acquire lock) site 0) p q)) held.1 declined in (
+      held.0,
+      record {
+        log = log_of q.seen;
+        due = due m script l p q next later refused.mine;
+        refused = line_refusal m (log_of q.seen) l call (Acquire lock) site 0 p.thread act is thread
+            ∙ (elim (refused.why) as (λ _. refusal m (log_of q.seen)
+            (call_by p.thread (Acquire lock) site 0) ≡ Some (Held (held.0))) [
+              | inl why ↦ why
+              | inr memory ↦ absurd (cc (memory.0))
+            ]);
+      },
+    )
+
+-- a line that joins acquires nothing
+pub joins_alone : (a : Act) → IsSome (act_join a) → act_acquires a ≡ true → ⊥
+joins_alone (One c) joins acquires = go c.op joins acquires
+  where
+    go : (o : Op) → IsSome (op_join o) → op_is_acquire o ≡ true → ⊥
+    go (Load x) joins acquires = cc joins
+    go (Store x) joins acquires = cc joins
+    go (Acquire x) joins acquires = cc joins
+    go (Release x) joins acquires = cc joins
+    go (Fork u) joins acquires = cc joins
+    go (Join u) joins acquires = cc acquires
+joins_alone (Swap t x site arg) joins acquires = cc joins
+
+-- it waits
+joins_wait : (a : Act) → IsSome (act_join a) → act_waits a ≡ true
+joins_wait (One c) joins = go c.op joins
+  where
+    go : (o : Op) → IsSome (op_join o) → op_waits o ≡ true
+    go (Load x) joins = absurd (cc joins)
+    go (Store x) joins = absurd (cc joins)
+    go (Acquire x) joins = absurd (cc joins)
+    go (Release x) joins = absurd (cc joins)
+    go (Fork u) joins = absurd (cc joins)
+    go (Join u) joins = refl
+joins_wait (Swap t x site arg) joins = absurd (cc joins)
+
+-- a worker's halt is answered by a fault of the script
+pub answer_fits : (m : Limits) (ahead : Bool) (script : List ScriptLine) (halt : Halt)
+    (others : Option DriveFault) (f : DriveFault) → IsHaltOf m ahead script halt
+    → IfSome others (IsFaultOf m ahead script) → IsAnswer halt others f → IsFaultOf m ahead script f
+answer_fits m ahead script (Fault own) None f is fits answer =
+    subst (IsFaultOf m ahead script) (sym answer) is
+answer_fits m ahead script (Fault own) (Some other) f is fits answer =
+    elim (answer.0) as (λ _. IsFaultOf m ahead script f) [
+      | inl e ↦ subst (IsFaultOf m ahead script) (sym e) is
+      | inr e ↦ subst (IsFaultOf m ahead script) (sym e) fits
+    ]
+answer_fits m ahead script (Abandoned l) (Some other) f is fits answer =
+    subst (IsFaultOf m ahead script) (sym answer) fits
+answer_fits m ahead script (Abandoned l) None f is fits answer =
+    subst (IsFaultOf m ahead script) (sym answer)
+    ∣ (
+      l,
+      is.0,
+      (
+        refl,
+        refl,
+        λ _. joins_wait l.act is.1,
+        λ _ acquires. absurd (joins_alone l.act is.1 acquires),
+      ),
+    ) ∣₁
 
 -- after a line's call
 pub call_halts : (m : Limits) (ahead : Bool) (script : List ScriptLine) (l : ScriptLine) (call : Call)
@@ -223,5 +311,6 @@ next_at script lines t p i line is same lt own h = record {
   before = lines_by t (take i lines);
   later = lines_by t (drop (i + 1) lines);
   place = ap (lines_by (thread_of line)) (sym same) ∙ own_place t lines i line is lt own;
-  done = h.follows;
+  done = subst (λ (u : ThreadId). HasDone script u p (lines_by t (take i lines)))
+      (sym (own_thread t lines i line is lt own)) h;
 }

@@ -2,6 +2,7 @@
 use Rattle.std.specs.Prelude.{◌≡◌, ℕ, ◌+◌, ◌≤◌, ◌⊎◌, ◌==◌, ◌&&◌, Bool, true, false, not, List, [], ◌∷◌, ◌++◌}
 use Rattle.std.specs.Prelude.{Option, Some, None, IsSome, Result, Ok, Err}
 use Rattle.std.specs.List.{All, Contains}
+use Rattle.event_core.specs.declared.ids.ThreadId.{ThreadId}
 use Rattle.event_core.specs.declared.events.Act.{Act}
 use Rattle.event_core.specs.declared.events.Act.TheVariants.{One, Swap}
 use Rattle.event_core.specs.declared.events.Op.{Op}
@@ -11,8 +12,7 @@ use Rattle.event_core.specs.declared.bounds.Limits.{Limits}
 use Rattle.event_core.specs.declared.replies.Refusal.{Refusal}
 use Rattle.event_core.specs.declared.replies.Refusal.TheVariants as refusals
 use Rattle.event_core.specs.Acts.{swap_refusal}
-use Rattle.event_core.specs.Refusal.{refusal, WellFormed}
-use Rattle.event_core.specs.Steps.{log_of, own_events}
+use Rattle.event_core.specs.Refusal.{op_is_acquire, refusal, WellFormed}
 use Rattle.log_pass.specs.declared.views.PassView.{PassView}
 use Rattle.script_text.specs.declared.lines.ScriptLine.{ScriptLine}
 use Rattle.script_text.specs.Lines.{fork_of, join_of, thread_of}
@@ -20,7 +20,8 @@ use Rattle.script_drive.specs.declared.faults.DriveFault.{DriveFault}
 use Rattle.script_drive.specs.declared.faults.DriveFault.TheVariants.{Stuck, Refused, NoWorker, OutOfMemory}
 use Rattle.script_drive.specs.declared.faults.Halt.{Halt}
 use Rattle.script_drive.specs.declared.faults.Halt.TheVariants.{Fault, Abandoned}
-use Rattle.script_drive.specs.Lines.{Follows, lines_by}
+use Rattle.script_drive.specs.Lines.{lines_by}
+use Rattle.script_drive.specs.Workers.{HasDone, HasMade, IsBegun}
 
 -- ---- one worker
 
@@ -83,16 +84,33 @@ abbrev pub is_told : Refusal → Bool
 is_told (refusals.Held by) = false
 is_told why = true
 
--- the definition refuses the line's call so, after some well-formed log in which the line's thread has made
--- just the calls of its lines before
-pub record Refuses (m : Limits) (script : List ScriptLine) (l : ScriptLine) (why : Refusal) : Type 0 where
+-- The line is due after the log, which is well formed: its thread was started in a beginning of the log, and
+-- has made just its lines before.
+pub record IsDue (m : Limits) (script : List ScriptLine) (l : ScriptLine) (log : List Event) : Type 0 where
   pub before : List ScriptLine
   pub later : List ScriptLine
   pub place : lines_by (thread_of l) script ≡ before ++ l ∷ later
-  pub log : List Event
   pub well_formed : WellFormed m log
-  pub own : Follows (own_events (thread_of l) log) before
+  pub begun : IsBegun script (thread_of l) log
+  pub made : HasMade script (thread_of l) log before
+
+-- the definition refuses the line's call so, after some log after which the line is due
+pub record Refuses (m : Limits) (script : List ScriptLine) (l : ScriptLine) (why : Refusal) : Type 0 where
+  pub log : List Event
+  pub due : IsDue m script l log
   pub refused : act_refusal m log l.act ≡ Some why
+
+-- the line acquires a lock
+abbrev pub act_acquires : Act → Bool
+act_acquires (One c) = op_is_acquire c.op
+act_acquires (Swap t x site arg) = false
+
+abbrev pub acquires : ScriptLine → Bool
+acquires l = act_acquires l.act
+
+-- another thread holds the lock that the line acquires, after some log after which the line is due
+abbrev pub IsHeldBack : Limits → List ScriptLine → ScriptLine → Type 0
+IsHeldBack m script l = (by : ThreadId) × Refuses m script l (refusals.Held by)
 
 -- some line of the script is so
 abbrev pub SomeLine : List ScriptLine → (ScriptLine → Type 0) → Type 0
@@ -120,11 +138,13 @@ goes_ahead free patience = free && not (patience == 0)
 abbrev pub IsForkLine : List ScriptLine → ℕ → Type 0
 IsForkLine script n = ∥ SomeLine script (λ l. (l.line ≡ n) × IsSome (fork_of l)) ∥₁
 
--- the fault fits a line of the script. Where each line goes ahead at its first try, a stuck one waits.
+-- The fault fits a line of the script. Where each line goes ahead at its first try, a stuck one waits, and an
+-- acquire does so for a lock that another thread holds.
 abbrev pub Fits : Limits → Bool → List ScriptLine → DriveFault → Type 0
 Fits m ahead script OutOfMemory = Unit {0}
 Fits m ahead script (Stuck t n) =
-    SomeLine script (λ l. (thread_of l ≡ t) × (l.line ≡ n) × (ahead ≡ true → waits l ≡ true))
+    SomeLine script (λ l. (thread_of l ≡ t) × (l.line ≡ n) × (ahead ≡ true → waits l ≡ true)
+    × (ahead ≡ true → acquires l ≡ true → IsHeldBack m script l))
 Fits m ahead script (Refused t n why) = (is_told why ≡ true)
     × SomeLine script (λ l. (thread_of l ≡ t) × (l.line ≡ n) × Refuses m script l why)
 Fits m ahead script (NoWorker n) = IsForkLine script n
@@ -144,4 +164,4 @@ pub record IsNext (script : List ScriptLine) (l : ScriptLine) (p : PassView) : T
   pub before : List ScriptLine
   pub later : List ScriptLine
   pub place : lines_by (thread_of l) script ≡ before ++ l ∷ later
-  pub done : Follows (log_of p.mine) before
+  pub done : HasDone script (thread_of l) p before

@@ -35,6 +35,7 @@ struct OwnFault<S: Text> {
 
 // Waits for the thread's pass, makes the calls of its lines, and sends the pass to who joins the thread. A
 // worker that ends before its lines do lets its ends go, which tells those that wait for it.
+#[tactic(auto, using(crate::proofs::Progress::own_first))]
 fn work<S: Text, G: Gate, R: Wait>(
     drive: &Drive<'_, S, G, R>,
     worker: Worker<S>,
@@ -77,7 +78,7 @@ fn start_workers<'s, 'e, S: Text + Send + Sync, G: Gate + Sync, R: Threads + Wai
 {
     let mut started = Vec::new(alloc);
     for worker in workers {
-        let line = worker.start.line;
+        let line = worker.start.line.number;
         let Ok(handle) = scope.spawn(move || work(drive, worker)) else {
             return Err(DriveFault::NoWorker { line });
         };
@@ -106,7 +107,7 @@ fn own_faults<S: Text, R: Threads>(
 }
 
 // Thread 0's last pass, or the fault that is answered, where the other workers have these faults.
-#[tactic(auto, using(crate::proofs::ScriptFaults::answered_by))]
+#[tactic(auto, using(crate::proofs::ScriptFaults::answered_by, crate::proofs::ScriptFaults::answer_fits))]
 fn outcome<S: Text>(
     main: Result<Pass<S>, Halt>,
     faults: &[DriveFault],
@@ -126,6 +127,7 @@ fn outcome<S: Text>(
 }
 
 // Each thread makes the calls of its lines, in a worker of its own. The pass and the links are thread 0's.
+#[tactic(auto, using(crate::proofs::Progress::main_first))]
 fn run_all<S: Text + Send + Sync, G: Gate + Sync, R: Threads + Wait + Sync>(
     drive: &Drive<'_, S, G, R>,
     alloc: Global,
@@ -213,9 +215,9 @@ fn drive_in<S: Text + Send + Sync, G: Gate + Sync, R: Threads + Wait + Sync>(
 /// from which it is joined.
 ///
 /// The fault is one of a line of the script, or want of memory. A refusal is one that the line's call has
-/// after some well-formed log in which the line's thread has made just the calls of its lines before. A line
-/// that is stuck acquires or joins, where the gate is one that lets each line go ahead at once, and patience
-/// is not 0.
+/// after some well-formed log in which the line's thread was started, by the line that forks it, and has made
+/// just the calls of its lines before. Where the gate is one that lets each line go ahead at once, and
+/// patience is not 0, a line that is stuck joins a thread, or acquires a lock that another thread holds.
 ///
 /// No clause tells the rest: how often a line is tried, nor that the run ends. A worker tells its line as
 /// stuck only where it counted `patience` tries. Where a worker cannot be started, no call is made. Where

@@ -3,7 +3,8 @@
 //! Thread 0's worker is the calling thread. All others are started before its first line, and wait for the
 //! pass that their fork gives. A worker makes the calls of its own lines in order, each once its gate admits
 //! it. At its end it sends its pass to the worker that joins it. The channels by which passes go have a rule:
-//! what comes out is the first pass of a thread, or the pass of one that has made the calls of all its lines.
+//! what comes out is the first pass of a thread that a line of the script has started, or the pass of one
+//! that has made the calls of all its lines.
 //!
 //! What is proved of every schedule: the closed log is well formed, and its events of thread 0, and of each
 //! thread that is joined from it, by itself or through others, are that thread's lines in order; and a fault

@@ -1,5 +1,5 @@
 //! What a worker does: the calls of its thread's lines, in order.
-ghost use Rattle.std.specs.Prelude.{◌≡◌, ◌∷◌, [], true, Err, List, Contains};
+ghost use Rattle.std.specs.Prelude.{◌≡◌, ◌∷◌, true, Err, List, Contains};
 ghost use Rattle.std.specs.Prelude.{IfErr, IfOk, IsErrAnd, IsFalse, IsOk, IsSome, IsTrue, OnOk};
 ghost use Rattle.event_core.specs.declared.ids.ThreadId.{ThreadId as Thread};
 ghost use Rattle.event_core.specs.declared.replies.Refusal.TheVariants.{Held};
@@ -7,7 +7,7 @@ ghost use Rattle.script_text.specs.declared.lines.ScriptLine.{ScriptLine as Line
 ghost use Rattle.script_text.specs.Lines.{join_of, thread_of};
 ghost use Rattle.script_drive.specs.Faults.{goes_ahead, is_told, refused_at, IsHaltOf, IsNext};
 ghost use Rattle.script_drive.specs.Lines.{lines_by};
-ghost use Rattle.script_drive.specs.Workers.{Does, Done, Serves};
+ghost use Rattle.script_drive.specs.Workers.{Does, Done, IsFirst, Serves};
 
 use crate::faults::{DriveFault, Halt};
 use crate::gate::Gate;
@@ -57,6 +57,7 @@ fn enter<S: Text, G: Gate, R>(drive: &Drive<'_, S, G, R>, line: &ScriptLine) -> 
 }
 
 // Looks for the pass of the thread that the line joins, as often as patience allows.
+#[tactic(auto, using(crate::proofs::ScriptFaults::joins_alone))]
 fn await_end<S: Text, G: Gate, R: Wait>(
     drive: &Drive<'_, S, G, R>,
     receiver: PassReceiver<S, LastPasses<S>>,
@@ -163,7 +164,7 @@ pub(crate) fn run_lines<S: Text, G: Gate, R: Wait>(
     pass: Pass<S>,
     links: &mut Links<S>,
 ) -> Result<Pass<S>, Halt>
-    requires new { pass.mine ≡ [] }
+    requires first { IsFirst S.script.lines pass.thread pass }
     requires serves { Serves links.old (lines_by pass.thread S.script.lines) }
     ensures done { IfOk result (Done S.script.lines pass.thread) }
     ensures halt { IfErr result (IsHaltOf S.limits S.ahead S.script.lines) }

@@ -10,7 +10,7 @@ use std::marker::Model;
 
 /// A worker's ends, in the order of its lines. Contracts see whom it is still to fork, and whom to join.
 pub(crate) struct Links<S: Text> {
-    forks: Vec<PassSender<S, FirstPasses>>,
+    forks: Vec<PassSender<S, FirstPasses<S>>>,
     joins: Vec<PassReceiver<S, LastPasses<S>>>,
 }
 
@@ -45,7 +45,10 @@ impl<S: Text> Links<S> {
     }
 
     /// Adds the end for one more thread that is forked.
-    pub(crate) fn add_fork(&mut self, sender: PassSender<S, FirstPasses>) -> Result<(), AllocError>
+    pub(crate) fn add_fork(
+        &mut self,
+        sender: PassSender<S, FirstPasses<S>>,
+    ) -> Result<(), AllocError>
         ensures forks { OnOk result (self.new.forks ≡ self.old.forks ++ sender.to ∷ []) }
         ensures joins { self.new.joins ≡ self.old.joins }
     {
@@ -66,7 +69,7 @@ impl<S: Text> Links<S> {
     }
 
     /// Takes out the end for the thread that is forked next.
-    pub(crate) fn next_fork(&mut self) -> PassSender<S, FirstPasses>
+    pub(crate) fn next_fork(&mut self) -> PassSender<S, FirstPasses<S>>
         requires { 0 < length self.old.forks }
         ensures forks { self.old.forks ≡ result.to ∷ self.new.forks }
         ensures joins { self.new.joins ≡ self.old.joins }

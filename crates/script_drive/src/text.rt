@@ -29,12 +29,14 @@ impl Text for Brand {
 }
 
 /// The first pass of a thread, which its fork gives.
-pub(crate) struct FirstPasses;
+pub(crate) struct FirstPasses<S: Text> {
+    text: PhantomData<S>,
+}
 
-impl Terms for FirstPasses {
+impl<S: Text> Terms for FirstPasses<S> {
     ghost use Rattle.script_drive.specs.Workers.{IsFirst};
 
-    ghost good = { IsFirst };
+    ghost good = { IsFirst S.script.lines };
 }
 
 /// The last pass of a thread, which has made the calls of its lines.

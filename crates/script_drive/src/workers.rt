@@ -13,7 +13,7 @@ use log_pass::Name;
 use pass_channel::{PassReceiver, PassSender, pass_channel};
 use script_text::{Script, ScriptLine};
 use std::alloc::{AllocError, Global};
-use std::marker::Model;
+use std::marker::{Model, PhantomData};
 
 /// A thread and its links before its first line. Contracts see the thread, and whom the links reach: just
 /// those whom the thread's lines fork and join.
@@ -34,12 +34,19 @@ impl<S: Text> Model for OwnLinks<S> {
     ghost invariant = { λ own. Serves own.links (lines_by own.thread S.script.lines) };
 }
 
-/// Where a worker's first pass comes from, and the line of the script that forks its thread.
+/// The number of a line of the script that forks a thread.
+#[derive(Drop)]
+pub(crate) struct ForkLine<S: Text> {
+    pub number: u64,
+    script: PhantomData<S>,
+    ghost forks: { IsForkLine S.script.lines number },
+}
+
+/// Where a worker's first pass comes from, and the line that forks its thread.
 #[derive(Drop)]
 pub(crate) struct Start<S: Text> {
-    pub receiver: PassReceiver<S, FirstPasses>,
-    pub line: u64,
-    ghost forks: { IsForkLine S.script.lines line },
+    pub receiver: PassReceiver<S, FirstPasses<S>>,
+    pub line: ForkLine<S>,
 }
 
 /// A worker that is not started yet. Its last pass goes to the worker that joins it, if one does.
@@ -86,12 +93,13 @@ impl<S: Text> UnclaimedEnds<S> {
         ensures joins { links.new.joins ≡ links.old.joins }
     {
         if let Some(child) = line.fork() {
-            let (sender, receiver) = pass_channel::<S, FirstPasses>(alloc, child)?;
+            let (sender, receiver) = pass_channel::<S, FirstPasses<S>>(alloc, child)?;
             links.add_fork(sender)?;
-            self.starts.push(Start {
-                receiver,
-                line: line.line,
-            })?;
+            let line = ForkLine {
+                number: line.line,
+                script: PhantomData,
+            };
+            self.starts.push(Start { receiver, line })?;
         }
         Ok(())
     }

@@ -1,9 +1,9 @@
-use Rattle.std.proofs.Common.{◌≡◌, ◌∙◌, sym, ap, subst}
+use Rattle.std.proofs.Common.{rules, ◌≡◌, ◌∙◌, sym, ap, subst}
 use Rattle.event_core.specs.declared.events.Op.TheVariants.{Load, Store, Acquire, Release, Fork, Join}
 use Rattle.script_drive.specs.Faults.{IsFaultOf}
 use Rattle.script_drive.specs.Workers.{Done}
-use Rattle.script_drive.proofs.Calls.{join_does, next_forked, next_joined}
-use Rattle.script_drive.proofs.ScriptFaults.{call_fits, call_halts, held_used_up, swap_halts}
+use Rattle.script_drive.proofs.Calls.{forked_first, join_does, next_forked, next_joined}
+use Rattle.script_drive.proofs.ScriptFaults.{call_fits, call_halts, held_back, held_used_up, swap_halts}
 use Rattle.script_drive.proofs.lines.make_call.Goals as goal
 
 -- the child is the one whom the line joins
@@ -25,6 +25,20 @@ returns-in_default-Ok-join-clause-does g c =
     (rw c.in_default-Ok-join.is-1 at c.join.ensures.child_own)
     (rw c.in_default-Ok-join.is-1 at c.join.ensures.joined)
 
+-- the pass that a fork gives goes to the thread that the line forks
+pub send-requires : goal.send-requires
+send-requires g c =
+    let script = g.S.Text.script.lines in
+    let line = c.args.line.now in
+    let u = c.in-Fork.field-0 in
+    let to = c.next_fork-sender.result.to in
+    let is : to ≡ u
+    = next_forked line c.in-One.call u to c.args.links.now c.next_fork-sender.new.self c.in-One.is
+    c.in-Fork.is c.requires.serves.0 c.requires.serves.1 c.next_fork-sender.ensures.forks in
+    forked_first g.S.Name.limits script line c.in-One.call c.args.pass c.fork.result.0 _ _ u to c.in-One.is
+    c.in-Fork.is is c.requires.next c.requires.thread c.fork.ensures.later
+    (rw c.in_default-Ok.is-1 at c.fork.ensures.accepted) (search rules)
+
 -- a call that is declined is so by the definition
 pub returns-in-Load-clause-halt : goal.returns-in-Load-clause-halt
 returns-in-Load-clause-halt g c =
@@ -39,6 +53,13 @@ returns-in-Store-clause-halt g c =
     (Store c.in-Store.var) c.in-One.call.site _ c.args.pass c.store.result.0 c.store.result.1
     c.answered-in-Store.result c.in-One.is c.in-Store.is c.requires.next c.requires.thread
     c.store.ensures.later c.store.ensures.declined c.answered-in-Store.ensures.refused (λ is. absurd (cc is))
+
+pub stuck-requires-clause-held : goal.stuck-requires-clause-held
+stuck-requires-clause-held g c = λ _ _.
+    held_back g.S.Name.limits g.S.Text.script.lines c.args.line.now c.in-One.call c.in-Acquire.lock
+    c.in-One.call.site c.args.pass c.acquire_within-pass.result.0 c.acquire_within-pass.result.1 c.in-One.is
+    c.in-Acquire.is c.requires.next c.requires.thread c.acquire_within-pass.ensures.later
+    c.acquire_within-pass.ensures.declined (c.is_held.ensures.held c.if-is_held.true)
 
 pub stuck-requires-clause-used_up : goal.stuck-requires-clause-used_up
 stuck-requires-clause-used_up g c =

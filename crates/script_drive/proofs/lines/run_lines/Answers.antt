@@ -1,10 +1,16 @@
 use Rattle.std.proofs.Common.{rules, ◌≡◌, ◌+◌, sym, ◌∙◌, subst, drop}
 use Rattle.script_drive.specs.Lines.{lines_by}
 use Rattle.script_drive.specs.Workers.{HasDone, Serves}
-use Rattle.script_drive.proofs.Progress.{all_done, done_at, next_line, other_left}
+use Rattle.script_drive.proofs.Progress.{all_done, done_at, first_done, next_line, other_left}
 use Rattle.script_drive.proofs.Progress.{other_taken, own_thread}
 use Rattle.script_drive.proofs.ScriptFaults.{line_at, next_at}
 use Rattle.script_drive.proofs.lines.run_lines.Goals as goal
+
+pub loop-line-init : goal.loop-line-init
+loop-line-init g c = (
+  first_done g.S.Text.script.lines c.args.pass.thread c.args.pass c.requires.first,
+  subst (λ ls. Serves c.args.links.now (lines_by c.args.pass.thread ls)) (search rules) c.requires.serves,
+)
 
 pub make_call-requires-clause-thread : goal.make_call-requires-clause-thread
 make_call-requires-clause-thread g c =
