@@ -26,6 +26,7 @@ fn a_shut_gate_is_asked_as_often_as_patience_allows(rt: HostRuntime) {
         asked: AtomicU64::new(0),
     };
     let case = Case {
+        name: "a shut gate",
         text: "m r x\n",
         events: EVENTS,
         patience: 3,
@@ -35,11 +36,14 @@ fn a_shut_gate_is_asked_as_often_as_patience_allows(rt: HostRuntime) {
         }),
     };
     expect_answer(&rt, rt.alloc(), &gate, &case);
-    assert!(&rt; gate.asked.load(Ordering::SeqCst) == 3);
+    assert_eq!(&rt;
+        gate.asked.load(Ordering::SeqCst),
+        3,
+        "so often the gate was asked"
+    );
 }
 
-/// Lets each line go ahead once those before it in the order were done. Line 1 begins a run: one that was
-/// refused memory is made once more, by the same gate.
+/// Lets each line go ahead once those before it in the order were done.
 #[derive(Drop)]
 struct InOrder {
     lines: &'static [u64],
@@ -48,9 +52,6 @@ struct InOrder {
 
 impl Gate for InOrder {
     fn enter(&self, _thread: ThreadId, line: u64) -> bool {
-        if line == 1 {
-            self.done.store(0, Ordering::SeqCst);
-        }
         let next = self.done.load(Ordering::SeqCst);
         next < self.lines.len() && self.lines[next] == line
     }
@@ -74,6 +75,7 @@ const ORDERS: &[Order] = &[
     Order {
         lines: &[1, 2, 3, 4, 5, 6, 7, 8, 9],
         case: Case {
+            name: "the main thread's section is first",
             text: SECTIONS,
             events: EVENTS,
             patience: PATIENCE,
@@ -97,6 +99,7 @@ const ORDERS: &[Order] = &[
     Order {
         lines: &[1, 5, 6, 7, 2, 3, 4, 8, 9],
         case: Case {
+            name: "the child's section is first",
             text: SECTIONS,
             events: EVENTS,
             patience: PATIENCE,
@@ -144,7 +147,7 @@ const MAIN: ThreadId = ThreadId(0);
 
 const CHILD: ThreadId = ThreadId(1);
 
-/// Lets a line go ahead once all was told that comes before it in the list. Line 1 begins a run.
+/// Lets a line go ahead once all was told that comes before it in the list.
 #[derive(Drop)]
 struct Listener {
     expected: &'static [Notice],
@@ -166,10 +169,6 @@ impl Listener {
 
 impl Gate for Listener {
     fn enter(&self, thread: ThreadId, line: u64) -> bool {
-        if line == 1 {
-            self.heard.store(0, Ordering::SeqCst);
-            self.others.store(0, Ordering::SeqCst);
-        }
         self.hears(Asked(thread, line))
     }
 
@@ -180,24 +179,27 @@ impl Gate for Listener {
     }
 }
 
+const NOTICES: &[Notice] = &[
+    Asked(MAIN, 1),
+    Done(MAIN, 1),
+    Asked(CHILD, 2),
+    Done(CHILD, 2),
+    Asked(MAIN, 3),
+    Done(MAIN, 3),
+    Asked(MAIN, 4),
+];
+
 #[test]
 fn a_gate_is_told_the_thread_and_the_line_and_only_of_accepted_calls_that_they_are_done(
     rt: HostRuntime,
 ) {
     let gate = Listener {
-        expected: &[
-            Asked(MAIN, 1),
-            Done(MAIN, 1),
-            Asked(CHILD, 2),
-            Done(CHILD, 2),
-            Asked(MAIN, 3),
-            Done(MAIN, 3),
-            Asked(MAIN, 4),
-        ],
+        expected: NOTICES,
         heard: AtomicUsize::new(0),
         others: AtomicUsize::new(0),
     };
     let case = Case {
+        name: "a release that is refused",
         text: "m fork a\na r x\nm join a\nm rel l\n",
         events: EVENTS,
         patience: PATIENCE,
@@ -208,6 +210,14 @@ fn a_gate_is_told_the_thread_and_the_line_and_only_of_accepted_calls_that_they_a
         }),
     };
     expect_answer(&rt, rt.alloc(), &gate, &case);
-    assert!(&rt; gate.heard.load(Ordering::SeqCst) == 7);
-    assert!(&rt; gate.others.load(Ordering::SeqCst) == 0);
+    assert_eq!(&rt;
+        gate.heard.load(Ordering::SeqCst),
+        NOTICES.len(),
+        "so many notices came in order"
+    );
+    assert_eq!(&rt;
+        gate.others.load(Ordering::SeqCst),
+        0,
+        "so many other lines were told as done"
+    );
 }

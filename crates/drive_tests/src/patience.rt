@@ -1,19 +1,46 @@
 //! How often an acquire and a join are tried.
-use crate::scripts::{Answer, Case, EVENTS, PATIENCE, expect_answer};
-use event_core::{LockId, Op, ThreadId, VarId};
+ghost use Rattle.std.specs.Prelude.{◌≡◌};
+
+use crate::scripts::{Answer, Case, EVENTS, PATIENCE, expect_answer, limits, run};
+use event_core::{LockId, Op, SiteId, ThreadId, VarId};
+use live_monitor::{Tries, Unnamed, start};
+use log_pass::Name;
 use pass_channel::{Terms, TryRecvError, pass_channel};
 use script_drive::{DriveFault, Gate};
+use std::alloc::Global;
 use std::marker::Brand;
+use std::process::Abort;
+use std::sync::Wait;
 use std::sync::atomic::{AtomicBool, Ordering};
 use std::test::*;
 use std::thread;
+use std::thread::Threads;
 
-/// Keeps line `later` from going ahead until line `first` was asked for, and long after that. It does so
-/// during one call, so that it takes no patience.
+/// For how many yields a line is kept back at first, and how often these are doubled.
+const YIELDS: u32 = 256;
+
+const ROUNDS: u32 = 16;
+
+/// Waits until the other thread has begun, and then so many yields.
+fn wait_for(begun: &AtomicBool, yields: u32) {
+    for _ in 0..PATIENCE {
+        if begun.load(Ordering::SeqCst) {
+            break;
+        }
+        thread::yield_now();
+    }
+    for _ in 0..yields {
+        thread::yield_now();
+    }
+}
+
+/// Keeps line `later` back until line `first` was asked for, and then for so many yields. It does so during
+/// one call, so that it takes no patience.
 #[derive(Drop)]
 struct After {
     first: u64,
     later: u64,
+    yields: u32,
     asked: AtomicBool,
 }
 
@@ -23,15 +50,7 @@ impl Gate for After {
             self.asked.store(true, Ordering::SeqCst);
         }
         if line == self.later {
-            for _ in 0..10_000_000 {
-                if self.asked.load(Ordering::SeqCst) {
-                    break;
-                }
-                thread::yield_now();
-            }
-            for _ in 0..300_000 {
-                thread::yield_now();
-            }
+            wait_for(&self.asked, self.yields);
         }
         true
     }
@@ -39,96 +58,156 @@ impl Gate for After {
     fn done(&self, _thread: ThreadId, _line: u64) {}
 }
 
-/// Which line is kept back until which was asked for, and what is answered.
-struct Held {
-    first: u64,
-    later: u64,
-    case: Case<'static>,
+/// A script with a line that waits for another, and what is answered where it is tried once, too early, and
+/// where it is tried on.
+struct Waiting {
+    name: &'static str,
+    text: &'static str,
+    line: u64,
+    other: u64,
+    once: Answer,
+    tried_on: Answer,
 }
 
-/// The lock is released only after the acquire of the child has met its holder.
-const ACQUIRE: &str = "m acq l\nm fork a\na acq l\nm rel l\nm join a\n";
-
-/// The child ends only after its join was tried.
-const JOIN: &str = "m fork a\na r x\nm join a\n";
-
-const HELD: &[Held] = &[
-    Held {
-        first: 3,
-        later: 4,
-        case: Case {
-            text: ACQUIRE,
-            events: EVENTS,
-            patience: PATIENCE,
-            answer: Answer::Logs {
-                events: 5,
-                races: 0,
-                first: &[
-                    (0, Op::Acquire(LockId(0)), 0, 0),
-                    (0, Op::Fork(ThreadId(1)), 1, 0),
-                    (0, Op::Release(LockId(0)), 3, 0),
-                    (1, Op::Acquire(LockId(0)), 2, 0),
-                    (0, Op::Join(ThreadId(1)), 4, 0),
-                ],
-            },
+const WAITING: &[Waiting] = &[
+    Waiting {
+        name: "an acquire of a lock that another thread releases later",
+        text: "m acq l\nm fork a\na acq l\nm rel l\nm join a\n",
+        line: 3,
+        other: 4,
+        once: Answer::Faults(DriveFault::Stuck {
+            thread: ThreadId(1),
+            line: 3,
+        }),
+        tried_on: Answer::Logs {
+            events: 5,
+            races: 0,
+            first: &[
+                (0, Op::Acquire(LockId(0)), 0, 0),
+                (0, Op::Fork(ThreadId(1)), 1, 0),
+                (0, Op::Release(LockId(0)), 3, 0),
+                (1, Op::Acquire(LockId(0)), 2, 0),
+                (0, Op::Join(ThreadId(1)), 4, 0),
+            ],
         },
     },
-    Held {
-        first: 3,
-        later: 4,
-        case: Case {
-            text: ACQUIRE,
-            events: EVENTS,
-            patience: 1,
-            answer: Answer::Faults(DriveFault::Stuck {
-                thread: ThreadId(1),
-                line: 3,
-            }),
-        },
-    },
-    Held {
-        first: 3,
-        later: 2,
-        case: Case {
-            text: JOIN,
-            events: EVENTS,
-            patience: PATIENCE,
-            answer: Answer::Logs {
-                events: 3,
-                races: 0,
-                first: &[
-                    (0, Op::Fork(ThreadId(1)), 0, 0),
-                    (1, Op::Load(VarId(0)), 1, 0),
-                    (0, Op::Join(ThreadId(1)), 2, 0),
-                ],
-            },
-        },
-    },
-    Held {
-        first: 3,
-        later: 2,
-        case: Case {
-            text: JOIN,
-            events: EVENTS,
-            patience: 1,
-            answer: Answer::Faults(DriveFault::Stuck {
-                thread: ThreadId(0),
-                line: 3,
-            }),
+    Waiting {
+        name: "a join of a thread that ends later",
+        text: "m fork a\na r x\nm join a\n",
+        line: 3,
+        other: 2,
+        once: Answer::Faults(DriveFault::Stuck {
+            thread: ThreadId(0),
+            line: 3,
+        }),
+        tried_on: Answer::Logs {
+            events: 3,
+            races: 0,
+            first: &[
+                (0, Op::Fork(ThreadId(1)), 0, 0),
+                (1, Op::Load(VarId(0)), 1, 0),
+                (0, Op::Join(ThreadId(1)), 2, 0),
+            ],
         },
     },
 ];
 
+impl Waiting {
+    fn case(&self, patience: u32, answer: Answer) -> Case<'static> {
+        Case {
+            name: self.name,
+            text: self.text,
+            events: EVENTS,
+            patience,
+            answer,
+        }
+    }
+
+    fn gate(&self, yields: u32) -> After {
+        After {
+            first: self.line,
+            later: self.other,
+            yields,
+            asked: AtomicBool::new(false),
+        }
+    }
+
+    /// The line is tried once, and is stuck where it is tried too early. Where it was not, the other line is
+    /// kept back longer. For how many yields it then was.
+    fn yields_until_stuck<R: Threads + Wait + Abort + Sync>(&self, rt: &R, alloc: Global) -> u32 {
+        let case = self.case(1, self.once);
+        let mut yields = YIELDS;
+        for _ in 0..ROUNDS {
+            if run(rt, alloc, &self.gate(yields), &case).is(&case.answer) {
+                return yields;
+            }
+            yields = yields.saturating_mul(2);
+        }
+        expect_answer(rt, alloc, &self.gate(yields), &case);
+        yields
+    }
+}
+
 #[test]
 fn an_acquire_and_a_join_are_tried_again_as_long_as_patience_allows(rt: HostRuntime) {
-    for held in HELD {
-        let gate = After {
-            first: held.first,
-            later: held.later,
-            asked: AtomicBool::new(false),
-        };
-        expect_answer(&rt, rt.alloc(), &gate, &held.case);
+    for waiting in WAITING {
+        let yields = waiting.yields_until_stuck(&rt, rt.alloc());
+        let case = waiting.case(PATIENCE, waiting.tried_on);
+        expect_answer(&rt, rt.alloc(), &waiting.gate(yields), &case);
     }
+}
+
+const LOCK: LockId = LockId(0);
+
+const SITE: SiteId = SiteId(7);
+
+/// The main thread releases a lock so many yields after its child began to acquire it. How often the child
+/// tried until it had the lock.
+fn tries_made<N: Name + Send + Sync, R: Threads + Wait + Sync>(
+    rt: &R,
+    unnamed: Unnamed,
+    yields: u32,
+) -> Option<u32>
+    requires table { unnamed.table ≡ N.table }
+    requires limits { unnamed.limits ≡ N.limits }
+{
+    let (shared, main) = start::<N>(unnamed);
+    let (main, _) = shared.acquire(rt, main, LOCK, SITE);
+    let (main, forked) = shared.fork(rt, main, ThreadId(1), SITE);
+    let (child, _) = forked.ok()?;
+    let begun = AtomicBool::new(false);
+    let (made, _) = thread::join(
+        rt,
+        || {
+            let mut tries = Tries::of(PATIENCE);
+            begun.store(true, Ordering::SeqCst);
+            let (_, answer) = shared.acquire_within(rt, child, LOCK, SITE, &mut tries);
+            answer.ok().map(|_| tries.made())
+        },
+        || {
+            wait_for(&begun, yields);
+            shared.release(rt, main, LOCK, SITE)
+        },
+    );
+    made
+}
+
+/// The same over a new monitor.
+fn tries_after<R: Threads + Wait + Abort + Sync>(rt: &R, alloc: Global, yields: u32) -> u32 {
+    let unnamed = Unnamed::new(alloc, limits(rt, EVENTS)).expect(rt, "a monitor");
+    tries_made::<Brand, R>(rt, unnamed, yields).expect(rt, "the lock is acquired")
+}
+
+#[test]
+fn an_acquire_that_met_the_holder_has_the_lock_in_the_end(rt: HostRuntime) {
+    let mut yields = YIELDS;
+    for _ in 0..ROUNDS {
+        if tries_after(&rt, rt.alloc(), yields) > 1 {
+            return;
+        }
+        yields = yields.saturating_mul(2);
+    }
+    panic!(&rt; "after {yields} yields no try of the acquire had met the holder");
 }
 
 /// Each pass may go to each thread.

@@ -1,5 +1,5 @@
 //! Worked cases, whose lines may go ahead at once.
-use crate::scripts::{Answer, Case, EVENTS, PATIENCE, expect_answer};
+use crate::scripts::{Answer, Case, EVENTS, PATIENCE, expect_answer, expect_answer_in_the_end};
 use Answer::{Faults, Logs};
 use DriveFault::{Refused, Stuck};
 use event_core::{Op, Refusal, ThreadId, VarId};
@@ -9,6 +9,7 @@ use std::test::*;
 
 const CASES: &[Case<'static>] = &[
     Case {
+        name: "no line",
         text: "",
         events: EVENTS,
         patience: PATIENCE,
@@ -18,8 +19,8 @@ const CASES: &[Case<'static>] = &[
             first: &[],
         },
     },
-    // A forked thread that has no lines, and one that is not joined.
     Case {
+        name: "a thread without lines, and one that is not joined",
         text: "m fork a\nm join a\nm fork b\nb r x\n",
         events: EVENTS,
         patience: PATIENCE,
@@ -29,8 +30,8 @@ const CASES: &[Case<'static>] = &[
             first: &[],
         },
     },
-    // The lines of all threads are in the log.
     Case {
+        name: "the lines of all threads",
         text: "m fork a\na w x 5\nm join a\nm r x\n",
         events: EVENTS,
         patience: PATIENCE,
@@ -45,8 +46,8 @@ const CASES: &[Case<'static>] = &[
             ],
         },
     },
-    // Each join gets the pass of the thread that its line names.
     Case {
+        name: "each join gets the pass of the thread that its line names",
         text: "m fork a\nm fork b\nm join a\nm join b\n",
         events: EVENTS,
         patience: PATIENCE,
@@ -61,8 +62,8 @@ const CASES: &[Case<'static>] = &[
             ],
         },
     },
-    // Whichever store comes second races.
     Case {
+        name: "whichever store comes second races",
         text: "m fork a\nm w x 1\na w x 2\n",
         events: EVENTS,
         patience: PATIENCE,
@@ -72,8 +73,8 @@ const CASES: &[Case<'static>] = &[
             first: &[(0, Op::Fork(ThreadId(1)), 0, 0)],
         },
     },
-    // A lock that its holder acquires again.
     Case {
+        name: "a lock that its holder acquires again",
         text: "m acq l\nm acq l\n",
         events: EVENTS,
         patience: PATIENCE,
@@ -84,6 +85,7 @@ const CASES: &[Case<'static>] = &[
         },
     },
     Case {
+        name: "a swap has two events",
         text: "m fork a\na swap x 4\nm join a\nm swap x 5\n",
         events: EVENTS,
         patience: PATIENCE,
@@ -94,6 +96,7 @@ const CASES: &[Case<'static>] = &[
         },
     },
     Case {
+        name: "a lock that another thread holds at first",
         text: "m acq l\nm fork a\na acq l\nm rel l\na rel l\nm join a\n",
         events: EVENTS,
         patience: PATIENCE,
@@ -104,6 +107,7 @@ const CASES: &[Case<'static>] = &[
         },
     },
     Case {
+        name: "a release of a lock that nobody holds",
         text: "m rel l\n",
         events: EVENTS,
         patience: PATIENCE,
@@ -113,8 +117,8 @@ const CASES: &[Case<'static>] = &[
             refusal: Refusal::NotHolder,
         }),
     },
-    // The lock is another thread's.
     Case {
+        name: "a release of another thread's lock",
         text: "m acq l\nm fork a\na rel l\nm join a\n",
         events: EVENTS,
         patience: PATIENCE,
@@ -124,8 +128,8 @@ const CASES: &[Case<'static>] = &[
             refusal: Refusal::NotHolder,
         }),
     },
-    // The lock is never released.
     Case {
+        name: "a lock that is never released",
         text: "m acq l\nm fork a\na acq l\nm join a\n",
         events: EVENTS,
         patience: 100,
@@ -134,8 +138,8 @@ const CASES: &[Case<'static>] = &[
             line: 3,
         }),
     },
-    // Of two threads that get no further the one with the lesser line is named.
     Case {
+        name: "of two stuck threads the one with the lesser line, which is a",
         text: "m acq l\nm fork a\nm fork b\na acq l\nb acq l\nm join a\n",
         events: EVENTS,
         patience: 100,
@@ -145,6 +149,7 @@ const CASES: &[Case<'static>] = &[
         }),
     },
     Case {
+        name: "of two stuck threads the one with the lesser line, which is b",
         text: "m acq l\nm fork a\nm fork b\nb acq l\na acq l\nm join a\n",
         events: EVENTS,
         patience: 100,
@@ -153,8 +158,8 @@ const CASES: &[Case<'static>] = &[
             line: 4,
         }),
     },
-    // The monitor has no slot for the fork, and none for the join.
     Case {
+        name: "no slot for the fork",
         text: "m r x\nm fork a\n",
         events: 1,
         patience: PATIENCE,
@@ -165,6 +170,7 @@ const CASES: &[Case<'static>] = &[
         }),
     },
     Case {
+        name: "no slot for the join",
         text: "m fork a\nm r x\nm join a\n",
         events: 2,
         patience: PATIENCE,
@@ -174,9 +180,8 @@ const CASES: &[Case<'static>] = &[
             refusal: Refusal::LogFull,
         }),
     },
-    // Who waits for a thread that ended by a fault ends without one of its own, whether the fault's line
-    // comes before the join or after it; and so does a thread whose fork then never comes.
     Case {
+        name: "who waits for a thread that ended by a fault has none, whose line is after it",
         text: "m fork a\nm fork b\na rel l\nb join a\nm join b\n",
         events: EVENTS,
         patience: PATIENCE,
@@ -187,6 +192,7 @@ const CASES: &[Case<'static>] = &[
         }),
     },
     Case {
+        name: "who waits for a thread that ended by a fault has none, whose line is before it",
         text: "m fork a\nm join a\na rel l\n",
         events: EVENTS,
         patience: PATIENCE,
@@ -197,6 +203,7 @@ const CASES: &[Case<'static>] = &[
         }),
     },
     Case {
+        name: "nor has a thread whose fork then never comes",
         text: "m fork a\nm fork b\na join b\na fork c\nc r x\nb rel l\n",
         events: EVENTS,
         patience: PATIENCE,
@@ -212,6 +219,13 @@ const CASES: &[Case<'static>] = &[
 fn scripts_are_run_to_their_end_or_a_fault(rt: HostRuntime) {
     for case in CASES {
         expect_answer(&rt, rt.alloc(), &FreeGate, case);
+    }
+}
+
+#[test]
+fn scripts_are_run_to_their_end_or_a_fault_where_memory_is_refused(rt: HostRuntime) {
+    for case in CASES {
+        expect_answer_in_the_end(&rt, rt.alloc(), &FreeGate, case);
     }
 }
 
@@ -231,6 +245,7 @@ pub fn two_hundred(alloc: Global) -> Result<String, Fail> {
 pub fn two_hundred_workers_run_at_once(rt: HostRuntime) -> Result<(), Fail> {
     let text = two_hundred(rt.alloc())?;
     let case = Case {
+        name: "a thread with 199 children",
         text: text.as_str(),
         events: EVENTS,
         patience: PATIENCE,

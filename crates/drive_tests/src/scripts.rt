@@ -5,7 +5,7 @@ ghost use Rattle.event_core.specs.declared.bounds.Roots.TheVariants.{OnlyMain};
 use event_core::{Event, Limits, Op, Roots, SiteId, ThreadId};
 use live_monitor::Closed;
 use rapid_text::Device;
-use script_drive::{DriveFault, Gate, Script, ScriptFault, drive};
+use script_drive::{DriveFault, Gate, Script, ScriptCause, ScriptFault, drive};
 use std::alloc::Global;
 use std::process::Abort;
 use std::sync::Wait;
@@ -16,7 +16,7 @@ pub type Row = (u32, Op, u32, u64);
 
 /// What a run is to answer: how many events it logs, how many of them race, and the first of them. Or a
 /// fault.
-#[derive(Clone, Copy)]
+#[derive(Clone, Copy, Debug)]
 pub enum Answer {
     Logs {
         events: u64,
@@ -26,9 +26,11 @@ pub enum Answer {
     Faults(DriveFault),
 }
 
-/// The text of a script, how many events the log may have, how often a line is tried, and the answer.
+/// What the case shows, the text of a script, how many events the log may have, how often a line is tried,
+/// and the answer.
 #[derive(Clone, Copy)]
 pub struct Case<'t> {
+    pub name: &'static str,
     pub text: &'t str,
     pub events: u64,
     pub patience: u32,
@@ -54,72 +56,107 @@ pub fn read(alloc: Global, text: &str, limits: Limits) -> Result<Script, ScriptF
     Script::read(alloc, &mut Device::new(text.as_bytes()), limits, 100)
 }
 
-/// Where memory is refused, the script is run once more.
-fn run<G: Gate + Sync, R: Threads + Wait + Abort + Sync>(
-    rt: &R,
-    alloc: Global,
-    script: &Script,
-    limits: Limits,
-    gate: &G,
-    patience: u32,
-) -> Result<Closed, DriveFault>
-    requires { limits.roots ≡ OnlyMain }
-{
-    match drive(rt, alloc, script, limits, gate, patience) {
-        Err(DriveFault::OutOfMemory | DriveFault::NoWorker { .. }) => {
-            drive(rt, alloc, script, limits, gate, patience)
+/// What a run came to: a log, with the first event that is not the one expected at its index; a fault; or no
+/// script.
+#[derive(Clone, Copy, Debug)]
+pub enum Came {
+    Logged {
+        events: u64,
+        races: usize,
+        other: Option<(u64, Option<Event>)>,
+    },
+    Faulted(DriveFault),
+    NoScript(ScriptFault),
+}
+
+impl Came {
+    /// Whether it is this answer.
+    pub fn is(&self, answer: &Answer) -> bool {
+        match (self, answer) {
+            (
+                Came::Logged {
+                    events,
+                    races,
+                    other,
+                },
+                Answer::Logs {
+                    events: wanted_events,
+                    races: wanted_races,
+                    first: _,
+                },
+            ) => events == wanted_events && races == wanted_races && other.is_none(),
+            (Came::Faulted(fault), Answer::Faults(wanted)) => fault == wanted,
+            _ => false,
         }
-        answer => answer,
+    }
+
+    // Whether it is so for want of memory, for a worker's too.
+    fn is_short(&self) -> bool {
+        match self {
+            Came::Logged { .. } => false,
+            Came::Faulted(fault) => {
+                matches!(fault, DriveFault::OutOfMemory | DriveFault::NoWorker { .. })
+            }
+            Came::NoScript(fault) => fault.cause == ScriptCause::OutOfMemory,
+        }
+    }
+
+    /// Ends the test unless it is the case's answer.
+    pub fn expect(&self, rt: &impl Abort, case: &Case) {
+        if !self.is(&case.answer) {
+            panic!(rt; "{}: wanted {:?}, came {self:?}", case.name, case.answer);
+        }
     }
 }
 
-/// The script of the text. Where memory is refused, it is read once more.
-fn script_of(alloc: Global, text: &str, limits: Limits) -> Result<Script, ScriptFault> {
-    match read(alloc, text, limits) {
-        Ok(script) => Ok(script),
-        Err(_) => read(alloc, text, limits),
-    }
-}
-
-/// Whether the log begins with these events.
-fn begins_with(closed: &Closed, first: &[Row]) -> bool {
-    for (index, (thread, op, site, value)) in (0..).zip(first) {
+// The first event that is not the one of its row.
+fn first_other(closed: &Closed, rows: &[Row]) -> Option<(u64, Option<Event>)> {
+    for (index, (thread, op, site, value)) in (0..).zip(rows) {
         let event = Event {
             thread: ThreadId(*thread),
             op: *op,
             site: SiteId(*site),
             value: *value,
         };
-        if closed.log().get(index) != Some(event) {
-            return false;
+        let logged = closed.log().get(index);
+        if logged != Some(event) {
+            return Some((index, logged));
         }
     }
-    true
+    None
 }
 
-fn expect_log<R: Abort>(rt: &R, closed: &Closed, answer: &Answer) {
-    let Answer::Logs {
-        events,
-        races,
-        first,
-    } = answer
-    else {
-        panic!(rt; "the script was run to its end")
+fn logged(closed: Closed, answer: &Answer) -> Came {
+    let other = match answer {
+        Answer::Logs { first, .. } => first_other(&closed, first),
+        Answer::Faults(_) => None,
     };
-    assert!(rt; closed.len() == *events);
-    assert!(rt; closed.verdicts().races().len() == *races);
-    assert!(rt; begins_with(closed, first));
+    let came = Came::Logged {
+        events: closed.len(),
+        races: closed.verdicts().races().len(),
+        other,
+    };
+    drop(closed);
+    came
 }
 
-fn expect_ran<R: Abort>(rt: &R, ran: Result<Closed, DriveFault>, answer: &Answer) {
+/// Runs the script of the case.
+pub fn run<G: Gate + Sync, R: Threads + Wait + Abort + Sync>(
+    rt: &R,
+    alloc: Global,
+    gate: &G,
+    case: &Case,
+) -> Came {
+    let limits = limits(rt, case.events);
+    let script = match read(alloc, case.text, limits) {
+        Ok(script) => script,
+        Err(fault) => return Came::NoScript(fault),
+    };
+    let ran = drive(rt, alloc, &script, limits, gate, case.patience);
+    drop(script);
     match ran {
-        Ok(closed) => {
-            expect_log(rt, &closed, answer);
-            drop(closed);
-        }
-        Err(fault) => {
-            assert!(rt; matches!(answer, Answer::Faults(wanted) if *wanted == fault));
-        }
+        Ok(closed) => logged(closed, &case.answer),
+        Err(fault) => Came::Faulted(fault),
     }
 }
 
@@ -130,9 +167,21 @@ pub fn expect_answer<G: Gate + Sync, R: Threads + Wait + Abort + Sync>(
     gate: &G,
     case: &Case,
 ) {
-    let limits = limits(rt, case.events);
-    let script = script_of(alloc, case.text, limits).expect(rt, "a script");
-    let ran = run(rt, alloc, &script, limits, gate, case.patience);
-    expect_ran(rt, ran, &case.answer);
-    drop(script);
+    run(rt, alloc, gate, case).expect(rt, case);
+}
+
+/// So it answers once memory is not refused any more, and before that by want of it.
+pub fn expect_answer_in_the_end<G: Gate + Sync, R: Threads + Wait + Abort + Sync>(
+    rt: &R,
+    alloc: Global,
+    gate: &G,
+    case: &Case,
+) {
+    let first = run(rt, alloc, gate, case);
+    let came = if first.is_short() {
+        run(rt, alloc, gate, case)
+    } else {
+        first
+    };
+    came.expect(rt, case);
 }

@@ -10,8 +10,11 @@ use std::sync::atomic::{AtomicU64, Ordering};
 use std::test::*;
 use std::thread::Threads;
 
-/// Addresses for the stack of a thread, and not for those of 199.
-const STACKS: usize = 12 << 20;
+/// Addresses that are left at first, and how often they are doubled: up to 3 GB, which are enough for the
+/// stacks of 199 threads.
+const ADDRESSES: usize = 12 << 20;
+
+const DOUBLINGS: u32 = 8;
 
 /// A block of this size. Nothing is written to it, so it takes addresses and next to no memory.
 fn block_of(alloc: Global, size: usize) -> Result<Vec<u8>, AllocError> {
@@ -37,26 +40,71 @@ fn take_all(alloc: Global, blocks: &mut Vec<Vec<u8>>) {
     }
 }
 
-/// The line whose fork has no worker, where there are these addresses alone. The worker of the first line is
-/// started, except under tools that keep what is freed, and waits for its fork.
-fn line_without_worker<R: AllocGlobal + Threads + Wait + Abort + Sync>(
-    rt: &R,
-    script: &Script,
-    gate: &Shut,
-) -> Result<Option<u64>, Fail> {
-    let stacks = block_of(rt.alloc(), STACKS)?;
-    let mut blocks = Vec::new(rt.alloc());
-    take_all(rt.alloc(), &mut blocks);
-    drop(stacks);
-    let answer = drive(rt, rt.alloc(), script, limits(rt, EVENTS), gate, 1);
-    drop(blocks);
-    match answer {
-        Err(DriveFault::NoWorker { line }) => Ok(Some(line)),
-        answer => Ok(answer.map(|_| None)?),
+/// What comes of a drive with few addresses: whether they were there, since tools may keep what is freed, and
+/// the fault.
+#[derive(Clone, Copy)]
+struct Shortage {
+    addresses: bool,
+    fault: Option<DriveFault>,
+}
+
+impl Shortage {
+    /// Whether there were addresses, but too few for one worker.
+    fn is_too_great(&self) -> bool {
+        let fault = self.fault;
+        self.addresses
+            && matches!(
+                fault,
+                Some(DriveFault::NoWorker { line: 1 } | DriveFault::OutOfMemory)
+            )
+    }
+
+    /// Whether no worker could be started for this line, one of 199, or a later one.
+    fn is_from(&self, first: u64) -> bool {
+        matches!(self.fault, Some(DriveFault::NoWorker { line }) if first <= line && line <= 199)
     }
 }
 
-/// No line is asked for: a call is made only once all workers are started.
+/// Runs the script where there are these addresses alone.
+fn run_with<R: AllocGlobal + Threads + Wait + Abort + Sync>(
+    rt: &R,
+    script: &Script,
+    gate: &Shut,
+    addresses: usize,
+) -> Result<Shortage, Fail> {
+    let left = block_of(rt.alloc(), addresses)?;
+    let mut blocks = Vec::new(rt.alloc());
+    take_all(rt.alloc(), &mut blocks);
+    drop(left);
+    let addresses = block_of(rt.alloc(), addresses).is_ok();
+    let answer = drive(rt, rt.alloc(), script, limits(rt, EVENTS), gate, 1);
+    drop(blocks);
+    Ok(Shortage {
+        addresses,
+        fault: answer.err(),
+    })
+}
+
+/// Runs it with the least of these addresses with which the worker of the first line is started.
+fn run_with_few<R: AllocGlobal + Threads + Wait + Abort + Sync>(
+    rt: &R,
+    script: &Script,
+    gate: &Shut,
+) -> Result<Shortage, Fail> {
+    let mut addresses = ADDRESSES;
+    let mut shortage = run_with(rt, script, gate, addresses)?;
+    for _ in 0..DOUBLINGS {
+        if !shortage.is_too_great() {
+            break;
+        }
+        addresses = addresses.saturating_mul(2);
+        shortage = run_with(rt, script, gate, addresses)?;
+    }
+    Ok(shortage)
+}
+
+/// The worker of the first line is started, where there are addresses, and waits for its fork. No line is
+/// asked for: a call is made only once all workers are started.
 #[test]
 fn a_worker_that_cannot_be_started_is_told_with_its_fork(rt: HostRuntime) -> Result<(), Fail> {
     let text = two_hundred(rt.alloc())?;
@@ -64,9 +112,18 @@ fn a_worker_that_cannot_be_started_is_told_with_its_fork(rt: HostRuntime) -> Res
     let gate = Shut {
         asked: AtomicU64::new(0),
     };
-    let line = line_without_worker(&rt, &script, &gate)?;
+    let shortage = run_with_few(&rt, &script, &gate)?;
     drop(script);
-    assert!(&rt; matches!(line, Some(1..=199)), "{line:?}");
-    assert!(&rt; gate.asked.load(Ordering::SeqCst) == 0);
+    let first = if shortage.addresses { 2 } else { 1 };
+    assert!(&rt;
+        shortage.is_from(first),
+        "from line {first} on: {:?}",
+        shortage.fault
+    );
+    assert_eq!(&rt;
+        gate.asked.load(Ordering::SeqCst),
+        0,
+        "so many lines were asked for"
+    );
     Ok(())
 }
