@@ -1,9 +1,9 @@
 //! A cutter whose text comes piece by piece.
 use super::expected::expect;
-use super::told::{event, limits};
+use super::readers::{event, limits};
 use event_core::{Event, LockId, Op, VarId};
 use rapid_text::{Cause, Cutter, LineFault, TextFault};
-use std::alloc::Global;
+use std::process::Abort;
 
 /// What a cutter is given.
 enum Given {
@@ -75,52 +75,47 @@ fn give(cutter: &mut Cutter, given: &Given) -> Result<(usize, Option<Event>), Te
     }
 }
 
+/// What the cutter answered, the line of its fault, if it knows of one, the line of the last answer, and the
+/// number of the line whose end was not seen.
+type Came = (
+    Result<(usize, Option<Event>), TextFault>,
+    Option<u64>,
+    u64,
+    u64,
+);
+
 impl Answer {
-    /// Whether the cutter answers so, and knows of a fault where it is one.
-    fn is(self, answer: &Result<(usize, Option<Event>), TextFault>, failed: Option<u64>) -> bool {
+    /// The answer, with these lines after it.
+    fn came(self, line: u64, unfinished: u64) -> Came {
         match self {
-            Took(count) => failed.is_none() && *answer == Ok((count, None)),
+            Took(count) => (Ok((count, None)), None, line, unfinished),
             Told(count, thread, op, site) => {
-                failed.is_none() && *answer == Ok((count, Some(event(thread, op, site))))
+                let told = Some(event(thread, op, site));
+                (Ok((count, told)), None, line, unfinished)
             }
-            Fault(line, cause) => {
-                failed == Some(line) && *answer == Err(TextFault { line, cause })
+            Fault(at, cause) => {
+                let fault = TextFault { line: at, cause };
+                (Err(fault), Some(at), line, unfinished)
             }
         }
     }
 }
 
-/// Whether the cutter answers the steps so, one after another. None where memory ran out.
-fn takes(cutter: &mut Cutter, steps: &[Step]) -> Option<bool> {
-    let mut are_answered = true;
+/// The cutter answers the steps so, one after another.
+fn expect_steps(rt: &impl Abort, name: &str, cutter: &mut Cutter, steps: &[Step]) {
     for (given, wanted, line, unfinished) in steps {
         let answer = give(cutter, given);
-        if let Err(fault) = answer
-            && fault.cause == Cause::OutOfMemory
-        {
-            return None;
-        }
-        are_answered = are_answered
-            && wanted.is(&answer, cutter.failed())
-            && cutter.line() == *line
-            && cutter.unfinished() == *unfinished;
+        let came = (answer, cutter.failed(), cutter.line(), cutter.unfinished());
+        expect(rt, name.as_bytes(), &came, &wanted.came(*line, *unfinished));
     }
-    Some(are_answered)
-}
-
-/// Whether a new cutter answers the steps so. It knows of no fault before the first.
-fn are_answered(alloc: Global, steps: &[Step]) -> Option<bool> {
-    let mut cutter = Cutter::new(alloc, limits()?).ok()?;
-    let is_new = cutter.failed().is_none();
-    let are_answered = takes(&mut cutter, steps);
-    drop(cutter);
-    Some(are_answered? && is_new)
 }
 
 #[test]
 fn a_cutter_answers_each_piece(rt: HostRuntime) {
     for (name, steps) in CASES {
-        let are_answered = again!(are_answered(rt.alloc(), steps));
-        expect(&rt, are_answered, name);
+        let mut cutter = Cutter::new(rt.alloc(), limits(&rt)).expect(&rt, "a cutter");
+        expect(&rt, name.as_bytes(), &cutter.failed(), &None);
+        expect_steps(&rt, name, &mut cutter, steps);
+        drop(cutter);
     }
 }

@@ -1,7 +1,7 @@
 //! Readers that fail, and turns that are used up.
 use super::doubles::{byte_by_byte, that_fails};
-use super::told::Answer::{End, Fault, Told};
-use super::told::{Answer, expect_told};
+use super::readers::Answer::{End, Fault, Told};
+use super::readers::{Answer, expect_told};
 use event_core::{Op, VarId};
 use rapid_text::{Cause, LineFault};
 

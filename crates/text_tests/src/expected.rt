@@ -1,21 +1,16 @@
 //! What ends a test, and texts that are put together.
+use std::fmt::Debug;
 use std::process::Abort;
 
-/// Ends the test with these words, unless it holds.
-pub fn expect(rt: &impl Abort, holds: bool, what: &str) {
-    if !holds {
-        rt.panic(what)
+/// Ends the test, unless what came is what was expected, with the beginning of the case and both.
+pub fn expect<T: Debug + PartialEq>(rt: &impl Abort, case: &[u8], came: &T, expected: &T) {
+    if came != expected {
+        let begins = case[..case.len().min(200)].escape_ascii();
+        rt.panic(format_args!("'{begins}': expected {expected:?}, came {came:?}"));
     }
 }
 
-/// Ends the test with the text, unless it holds.
-pub fn expect_of(rt: &impl Abort, holds: bool, text: &[u8]) {
-    expect(rt, holds, str::from_utf8(text).unwrap_or("a text"));
-}
-
-/// Adds the bytes. Where memory was refused twice they lack, and the test fails.
+/// Adds the bytes. Where memory is refused they lack, and the test fails.
 pub fn keep(text: &mut Vec<u8>, bytes: &[u8]) {
-    if text.extend_from_slice(bytes).is_err() {
-        let _ = text.extend_from_slice(bytes);
-    }
+    let _ = text.extend_from_slice(bytes);
 }

@@ -1,8 +1,8 @@
 //! Texts without a fault, however they are cut.
 use super::doubles::{cut, whole};
 use super::expected::{expect, keep};
-use super::told::Answer::{End, Told};
-use super::told::{Answer, Case, expect_all, expect_told};
+use super::readers::Answer::{End, Told};
+use super::readers::{Answer, Case, expect_all, expect_told};
 use event_core::{LockId, Op, ThreadId, VarId};
 use std::alloc::Global;
 
@@ -81,10 +81,7 @@ fn stores(alloc: Global, lines: u64) -> (Vec<u8>, Vec<Answer>) {
     let mut answers = Vec::new(alloc);
     for line in 0..lines {
         keep(&mut text, b"T0|w(x)|7\n");
-        let told = Told(line + 1, 0, Op::Store(X), 0);
-        if answers.push(told).is_err() {
-            let _ = answers.push(told);
-        }
+        let _ = answers.push(Told(line + 1, 0, Op::Store(X), 0));
     }
     (text, answers)
 }
@@ -93,7 +90,7 @@ fn stores(alloc: Global, lines: u64) -> (Vec<u8>, Vec<Answer>) {
 #[test]
 fn a_long_text_is_read_to_its_end(rt: HostRuntime) {
     let (text, answers) = stores(rt.alloc(), 1000);
-    expect(&rt, answers.len() == 1000, "memory");
+    expect(&rt, b"a thousand lines", &answers.len(), &1000);
     for first in [4096, 4095, 33] {
         expect_told(&rt, rt.alloc(), cut(&text, first), 100, &answers);
     }

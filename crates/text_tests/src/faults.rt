@@ -1,8 +1,8 @@
 //! Texts with a fault, each with the line and the cause.
 use super::doubles::Pieces;
 use super::expected::{expect, keep};
-use super::told::Answer::{Fault, Told};
-use super::told::{Answer, Case, expect_all, expect_told};
+use super::readers::Answer::{Fault, Told};
+use super::readers::{Answer, Case, expect_all, expect_told};
 use event_core::{LockId, Op, ThreadId, VarId};
 use rapid_text::{Cause, Kind, LineFault, NamedLine, Word, read_line};
 use std::alloc::Global;
@@ -161,7 +161,12 @@ fn is_release_of_m(line: &NamedLine<'_>) -> bool {
 fn a_content_is_read_by_itself(rt: HostRuntime) {
     let line = read_line(b"T0|rel(m(1))|a:7").expect(&rt, "a line");
     assert!(rt; is_release_of_m(&line));
-    expect(&rt, Word::Release.spelled() == b"rel".as_slice(), "rel");
+    expect(
+        &rt,
+        b"a release",
+        &Word::Release.spelled(),
+        &b"rel".as_slice(),
+    );
 }
 
 const NAMES_OF_CAUSES: &[(Cause, &str)] = &[
@@ -181,6 +186,6 @@ const NAMES_OF_CAUSES: &[(Cause, &str)] = &[
 #[test]
 fn causes_have_their_names(rt: HostRuntime) {
     for (cause, name) in NAMES_OF_CAUSES {
-        expect(&rt, cause.word() == *name, name);
+        expect(&rt, name.as_bytes(), &cause.word(), name);
     }
 }

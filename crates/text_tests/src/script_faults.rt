@@ -67,7 +67,7 @@ fn expect_fault(
     turns: u32,
     (line, cause): (u64, ScriptCause),
 ) {
-    let fault = Err(ScriptFault { line, cause });
+    let fault = Some(ScriptFault { line, cause });
     expect_read(rt, alloc, pieces, turns, (&Wanted::NONE, fault));
 }
 
@@ -125,6 +125,6 @@ const WORDS: &[(ScriptCause, &str)] = &[
 #[test]
 fn causes_of_scripts_have_their_names(rt: HostRuntime) {
     for (cause, word) in WORDS {
-        expect(&rt, cause.word() == *word, word);
+        expect(&rt, word.as_bytes(), &cause.word(), word);
     }
 }

@@ -26,7 +26,7 @@ const SWAP: Act = Act::Swap {
     arg: 4,
 };
 
-const SCRIPTS: &[(&str, Wanted<'static>)] = &[
+pub const SCRIPTS: &[(&str, Wanted<'static>)] = &[
     // Each form once, with both endings, an empty line, and a last line without an ending.
     (
         "m fork a\r\n\nm acq l\na swap x 4\nm w x 007\nm r y\nm rel l\nm join a",
@@ -92,7 +92,7 @@ const SCRIPTS: &[(&str, Wanted<'static>)] = &[
 fn each_thread_has_its_lines(rt: HostRuntime) {
     for (text, wanted) in SCRIPTS {
         for pieces in [whole(text.as_bytes()), byte_by_byte(text.as_bytes())] {
-            expect_read(&rt, rt.alloc(), pieces, 100, (wanted, Ok(true)));
+            expect_read(&rt, rt.alloc(), pieces, 100, (wanted, None));
         }
     }
 }

@@ -1,9 +1,9 @@
 //! What a text is read as, whole or in pieces.
 use super::doubles::{Pieces, Source};
-use super::expected::expect_of;
+use super::expected::expect;
 use event_core::{Limits, Roots, ThreadId};
 use rapid_text::{Kind, Names};
-use script_text::{Script, ScriptCause, ScriptFault, ScriptLine};
+use script_text::{Script, ScriptFault, ScriptLine};
 use std::alloc::Global;
 use std::process::Abort;
 
@@ -16,47 +16,46 @@ pub struct Wanted<'a> {
 }
 
 /// The kind has these names, in this order.
-fn has_names(names: &Names, kind: Kind, wanted: &[&str]) -> bool {
+fn expect_names(rt: &impl Abort, text: &[u8], names: &Names, kind: Kind, wanted: &[&str]) {
     for number in 0..names.count(kind) {
-        let is_wanted = match wanted.get(number as usize) {
-            Some(name) => names.name(kind, number) == name.as_bytes(),
-            None => false,
-        };
-        if !is_wanted {
-            return false;
-        }
+        let name = str::from_utf8(names.name(kind, number)).ok();
+        expect(rt, text, &name, &wanted.get(number as usize).copied());
     }
-    names.count(kind) as usize == wanted.len()
+    expect(rt, text, &(names.count(kind) as usize), &wanted.len());
 }
 
 /// The thread's lines of the script are these.
-fn has_lines_of(script: &Script, thread: ThreadId, wanted: &[ScriptLine]) -> bool {
-    let mut at = 0;
+fn expect_lines_of(
+    rt: &impl Abort,
+    text: &[u8],
+    script: &Script,
+    thread: ThreadId,
+    wanted: &[ScriptLine],
+) {
+    let mut rest = wanted;
     for line in script.lines() {
         let line = line.get();
         if line.is_of(thread) {
-            if wanted.get(at) != Some(&line) {
-                return false;
-            }
-            at += 1;
+            expect(rt, text, &Some(&line), &rest.first());
+            rest = &rest[1.min(rest.len())..];
         }
     }
-    at == wanted.len()
+    expect(rt, text, &None, &rest.first());
 }
 
 /// The script has these lines, thread by thread, and no others.
-fn has_lines(script: &Script, wanted: &[&[ScriptLine]]) -> bool {
+fn expect_lines(rt: &impl Abort, text: &[u8], script: &Script, wanted: &[&[ScriptLine]]) {
     let mut count = 0usize;
     for number in 0..script.threads() {
-        let Some(lines) = wanted.get(number as usize) else {
-            return false;
+        let lines: &[ScriptLine] = match wanted.get(number as usize) {
+            Some(lines) => lines,
+            None => &[],
         };
-        if !has_lines_of(script, ThreadId(number), lines) {
-            return false;
-        }
+        expect_lines_of(rt, text, script, ThreadId(number), lines);
         count = count.saturating_add(lines.len());
     }
-    count == script.lines().len() && script.threads() as usize == wanted.len()
+    expect(rt, text, &script.lines().len(), &count);
+    expect(rt, text, &(script.threads() as usize), &wanted.len());
 }
 
 impl Wanted<'_> {
@@ -67,44 +66,41 @@ impl Wanted<'_> {
         sites: &[],
     };
 
-    fn is(&self, script: &Script) -> bool {
-        has_lines(script, self.lines)
-            && has_names(script.names(), Kind::Thread, self.threads)
-            && has_names(script.names(), Kind::Site, self.sites)
+    fn expect(&self, rt: &impl Abort, text: &[u8], script: &Script) {
+        expect_lines(rt, text, script, self.lines);
+        expect_names(rt, text, script.names(), Kind::Thread, self.threads);
+        expect_names(rt, text, script.names(), Kind::Site, self.sites);
     }
 }
 
-/// Whether the script is the one that is wanted, or its fault, with names for three threads, two locks and
-/// two variables. None where memory ran out.
-fn read(
+/// The fault of the text, with names for three threads, two locks and two variables. Without one it is read as
+/// the script that is wanted.
+pub fn fault_of(
+    rt: &impl Abort,
     alloc: Global,
     pieces: Pieces<'_>,
     turns: u32,
     wanted: &Wanted<'_>,
-) -> Option<Result<bool, ScriptFault>> {
-    let limits = Limits::new(3, 2, 2, 1000, Roots::OnlyMain).ok()?;
+) -> Option<ScriptFault> {
+    let limits = Limits::new(3, 2, 2, 1000, Roots::OnlyMain).expect(rt, "limits");
     match Script::read(alloc, &mut Source::of(pieces), limits, u64::from(turns)) {
         Ok(script) => {
-            let is_wanted = wanted.is(&script);
+            wanted.expect(rt, pieces.text, &script);
             drop(script);
-            Some(Ok(is_wanted))
+            None
         }
-        Err(fault) if fault.cause == ScriptCause::OutOfMemory => None,
-        Err(fault) => Some(Err(fault)),
+        Err(fault) => Some(fault),
     }
 }
 
-/// The text is read as the script that is wanted, or has the fault, at the second try where memory ran out.
+/// The text is read as the script that is wanted, or has the fault.
 pub fn expect_read(
     rt: &impl Abort,
     alloc: Global,
     pieces: Pieces<'_>,
     turns: u32,
-    (wanted, answer): (&Wanted<'_>, Result<bool, ScriptFault>),
+    (wanted, fault): (&Wanted<'_>, Option<ScriptFault>),
 ) {
-    let mut met = read(alloc, pieces, turns, wanted);
-    if met.is_none() {
-        met = read(alloc, pieces, turns, wanted);
-    }
-    expect_of(rt, met == Some(answer), pieces.text);
+    let came = fault_of(rt, alloc, pieces, turns, wanted);
+    expect(rt, pieces.text, &came, &fault);
 }

@@ -1,11 +1,13 @@
 //! Lines that are written, and read again.
 use super::doubles::Page;
 use super::expected::expect;
-use super::told::limits;
+use super::readers::limits;
 use rapid_text::{Device, Output, Reader, write_event, write_fault};
 use std::alloc::Global;
+use std::process::Abort;
 
-/// Reads each event and writes its line: whether all were written, up to the end of the text.
+/// Reads each event and writes its line: whether all were written, up to the end of the text. None where it
+/// could not be read.
 fn copy_all<W: Output>(reader: &mut Reader<Device<&[u8]>>, w: &mut W) -> Option<bool> {
     for _ in 0..100 {
         match reader.next() {
@@ -21,24 +23,26 @@ fn copy_all<W: Output>(reader: &mut Reader<Device<&[u8]>>, w: &mut W) -> Option<
     Some(false)
 }
 
-/// Whether the lines of all events of the text are written. None where memory ran out.
-fn copy<W: Output>(alloc: Global, text: &[u8], w: &mut W) -> Option<bool> {
-    let mut reader = Reader::new(alloc, Device::new(text), limits()?, 100).ok()?;
+/// Whether the lines of all events of the text are written. None where it could not be read.
+fn copy<W: Output>(rt: &impl Abort, alloc: Global, text: &[u8], w: &mut W) -> Option<bool> {
+    let made = Reader::new(alloc, Device::new(text), limits(rt), 100);
+    let mut reader = made.expect(rt, "a reader");
     let is_copied = copy_all(&mut reader, w);
     drop(reader);
     is_copied
 }
 
-/// Whether the lines of all events are written, and are the text, in so many puts of at most so many bytes.
-fn is_copied(alloc: Global, puts: usize, most: usize) -> Option<bool> {
+/// Whether the lines of all events are written, in so many puts of at most so many bytes, and how many bytes
+/// of the text are then missing.
+fn copied(rt: &impl Abort, alloc: Global, puts: usize, most: usize) -> (Option<bool>, usize) {
     let mut page = Page {
         rest: TEXT,
         most,
         puts,
         failed: false,
     };
-    let is_copied = copy(alloc, TEXT, &mut page)?;
-    Some(is_copied && page.rest.is_empty())
+    let is_copied = copy(rt, alloc, TEXT, &mut page);
+    (is_copied, page.rest.len())
 }
 
 const TEXT: &[u8] =
@@ -48,12 +52,18 @@ const TEXT: &[u8] =
 #[test]
 fn what_is_written_is_the_text_that_was_read(rt: HostRuntime) {
     for most in [3, 4096] {
-        let is_copied = again!(is_copied(rt.alloc(), 4096, most));
-        expect(&rt, is_copied, "a text in parts");
+        let copied = copied(&rt, rt.alloc(), 4096, most);
+        expect(&rt, b"a text in parts", &copied, &(Some(true), 0));
     }
-    for puts in 0..TEXT.len() + 1 {
-        let is_copied = again!(is_copied(rt.alloc(), puts, 1));
-        expect(&rt, is_copied == (puts == TEXT.len()), "so many puts");
+    for puts in 0..=TEXT.len() {
+        let copied = copied(&rt, rt.alloc(), puts, 1);
+        let missing = TEXT.len() - puts;
+        expect(
+            &rt,
+            b"so many puts",
+            &copied,
+            &(Some(missing == 0), missing),
+        );
     }
 }
 
@@ -75,11 +85,8 @@ fn put_fault_line(puts: usize) -> (bool, bool) {
 fn a_fault_line_is_written(rt: HostRuntime) {
     for puts in 0..=FAULT_LINE.len() {
         let is_whole = puts == FAULT_LINE.len();
-        expect(
-            &rt,
-            put_fault_line(puts) == (is_whole, !is_whole),
-            "a fault line",
-        );
+        let put = (puts, put_fault_line(puts));
+        expect(&rt, b"a fault line", &put, &(puts, (is_whole, !is_whole)));
     }
 }
 
@@ -89,8 +96,8 @@ fn fits_fault_line(room: &mut [u8]) -> bool {
 }
 
 /// Whether the line of an event is.
-fn fits_event(alloc: Global, room: &mut [u8]) -> Option<bool> {
-    copy(alloc, b"T0|w(x)|1", &mut Device::new(room))
+fn fits_event(rt: &impl Abort, alloc: Global, room: &mut [u8]) -> Option<bool> {
+    copy(rt, alloc, b"T0|w(x)|1", &mut Device::new(room))
 }
 
 /// A slice takes what it has room for, and then nothing.
@@ -99,8 +106,9 @@ fn a_writer_that_takes_nothing_has_failed(rt: HostRuntime) {
     let mut bytes = [0u8; 16];
     for room in 0..16 {
         let bytes = &mut bytes[..room];
-        expect(&rt, fits_fault_line(bytes) == (room >= 14), "a fault line");
-        let fits_event = again!(fits_event(rt.alloc(), bytes));
-        expect(&rt, fits_event == (room >= 10), "an event");
+        let fits = (room, fits_fault_line(bytes));
+        expect(&rt, b"a fault line", &fits, &(room, room >= 14));
+        let fits = (room, fits_event(&rt, rt.alloc(), bytes));
+        expect(&rt, b"an event", &fits, &(room, Some(room >= 10)));
     }
 }

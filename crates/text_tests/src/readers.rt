@@ -1,6 +1,6 @@
 //! What a reader answers, one call after another.
 use super::doubles::{Pieces, Source, byte_by_byte, cut, whole};
-use super::expected::expect_of;
+use super::expected::expect;
 use event_core::{Event, Limits, Op, Roots, SiteId, ThreadId};
 use rapid_text::{Cause, Reader, TextFault};
 use std::alloc::Global;
@@ -24,8 +24,8 @@ pub struct Case {
 }
 
 /// Limits with names for two threads, one lock and one variable.
-pub fn limits() -> Option<Limits> {
-    Limits::new(2, 1, 1, 1000, Roots::Free).ok()
+pub fn limits(rt: &impl Abort) -> Limits {
+    Limits::new(2, 1, 1, 1000, Roots::Free).expect(rt, "limits")
 }
 
 pub fn event(thread: u32, op: Op, site: u32) -> Event {
@@ -37,40 +37,42 @@ pub fn event(thread: u32, op: Op, site: u32) -> Event {
     }
 }
 
+/// What a reader answered, and the line that it then names.
+pub type Told = (Result<Option<Event>, TextFault>, u64);
+
 impl Answer {
-    /// Whether the reader answers so, and names this line after it.
-    fn is(self, answer: &Result<Option<Event>, TextFault>, named: u64) -> bool {
+    /// The answer, where the reader then names this line. It has to be that of an event.
+    fn told(self, named: u64) -> Told {
         match self {
-            Answer::Told(line, thread, op, site) => {
-                named == line && *answer == Ok(Some(event(thread, op, site)))
-            }
-            Answer::End => *answer == Ok(None),
-            Answer::Fault(line, cause) => *answer == Err(TextFault { line, cause }),
+            Answer::Told(line, thread, op, site) => (Ok(Some(event(thread, op, site))), line),
+            Answer::End => (Ok(None), named),
+            Answer::Fault(line, cause) => (Err(TextFault { line, cause }), named),
         }
     }
 }
 
-/// Whether the reader gives the answers, one after another. None where memory ran out.
-fn gives(reader: &mut Reader<Source<'_>>, answers: &[Answer]) -> Option<bool> {
-    let mut are_told = true;
+/// Whether memory ran out.
+pub fn ran_out(told: &Told) -> bool {
+    matches!(
+        told.0,
+        Err(TextFault {
+            cause: Cause::OutOfMemory,
+            ..
+        })
+    )
+}
+
+/// What the reader answers first that is not wanted, and what is.
+pub fn first_other(reader: &mut Reader<Source<'_>>, answers: &[Answer]) -> Option<(Told, Told)> {
     for wanted in answers {
         let answer = reader.next();
-        if let Err(fault) = answer
-            && fault.cause == Cause::OutOfMemory
-        {
-            return None;
+        let came = (answer, reader.line());
+        let expected = wanted.told(came.1);
+        if came != expected {
+            return Some((came, expected));
         }
-        are_told = are_told && wanted.is(&answer, reader.line());
     }
-    Some(are_told)
-}
-
-/// Whether a new reader of the pieces gives the answers. None where memory ran out.
-fn are_told(alloc: Global, pieces: Pieces<'_>, turns: u32, answers: &[Answer]) -> Option<bool> {
-    let mut reader = Reader::new(alloc, Source::of(pieces), limits()?, u64::from(turns)).ok()?;
-    let are_told = gives(&mut reader, answers);
-    drop(reader);
-    are_told
+    None
 }
 
 /// A reader of the pieces with so many turns gives these answers.
@@ -81,8 +83,13 @@ pub fn expect_told(
     turns: u32,
     answers: &[Answer],
 ) {
-    let are_told = again!(are_told(alloc, pieces, turns, answers));
-    expect_of(rt, are_told, pieces.text);
+    let made = Reader::new(alloc, Source::of(pieces), limits(rt), u64::from(turns));
+    let mut reader = made.expect(rt, "a reader");
+    let other = first_other(&mut reader, answers);
+    drop(reader);
+    if let Some((came, expected)) = other {
+        expect(rt, pieces.text, &came, &expected);
+    }
 }
 
 /// A reader of each text gives its answers: whole, byte by byte, and cut in two at each place.
