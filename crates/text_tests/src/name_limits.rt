@@ -22,5 +22,10 @@ fn is_one_too_many(alloc: Global) -> Option<bool> {
 
 #[test]
 fn a_name_too_many_comes_first_where_memory_is_refused(rt: HostRuntime) {
-    expect(&rt, b"T0|fork(T1)|1", &is_one_too_many(rt.alloc()), &Some(true));
+    expect(
+        &rt,
+        b"T0|fork(T1)|1",
+        &is_one_too_many(rt.alloc()),
+        &Some(true),
+    );
 }
