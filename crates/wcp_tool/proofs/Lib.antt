@@ -5,3 +5,4 @@ pub mod CommandWords
 pub mod CommandSettings
 pub mod CommandFaults
 pub mod ScriptReads
+pub mod TraceReads

@@ -1,12 +1,10 @@
 -- What is told of a script that was not read, or of a call that its run stops at, is of the text.
-use Rattle.std.proofs.Common.{◌≡◌, ℕ, List, Option, Bool, true, subst, sym, refl, inl, inr, ◌⊎◌, ◌≤◌, length}
-use Rattle.std.proofs.Common.{arith}
-use Rattle.std.specs.Prelude.{IfSome, codes}
+use Rattle.std.proofs.Common.{◌≡◌, ℕ, List, Option, Bool, true, subst, sym, refl, inl, inr, ◌⊎◌, arith}
+use Rattle.std.specs.Prelude.{codes}
 use Rattle.std.specs.Io.KnownBytes.{Appends}
 use Rattle.std.proofs.Math.Logic.{∥∥₁_elim, ∥∥₁_map, ∥∥₁_prop}
 use Rattle.event_core.specs.declared.bounds.Limits.{Limits}
 use Rattle.rapid_text.specs.Faults.{fault_line}
-use Rattle.rapid_text.proofs.Taken.{why_short}
 use Rattle.script_drive.specs.Faults.{IsFaultOf}
 use Rattle.script_drive.specs.declared.faults.DriveFault.{DriveFault}
 use Rattle.script_drive.specs.declared.faults.DriveFault.TheVariants as drive
@@ -15,17 +13,19 @@ use Rattle.script_text.specs.declared.causes.ScriptCause.TheVariants.{Read}
 use Rattle.script_text.specs.declared.causes.ScriptCause.TheVariants as causes
 use Rattle.script_text.specs.declared.causes.ScriptFault.{ScriptFault}
 use Rattle.script_text.specs.declared.lines.ScriptLine.{ScriptLine}
-use Rattle.script_text.specs.Readings.{IsFault}
+use Rattle.script_text.specs.Readings.{IsFault, ReadFails}
 use Rattle.trace_report.specs.Words.{refusal_word}
-use Rattle.wcp_tool.specs.Running.{PerformsRun}
+use Rattle.wcp_tool.specs.Running.{CutsScript, PerformsRun}
 use Rattle.wcp_tool.specs.ScriptRuns.{IsOfText, NamesStop, TellsFault, TellsRefusal, TellsRefused, TellsStop}
 
-pub cut_short : (limits : Limits) (left rest : Option (List ℕ)) (turns : ℕ) (failed : Bool) (f : ScriptFault)
-    → f.cause ≡ Read → IsFault limits left rest turns failed f f.cause
-    → (failed ≡ true) ⊎ IfSome left (λ text. turns ≤ length text)
-cut_short limits left rest turns failed f read is =
-    let r = subst (λ (c : ScriptCause). IsFault limits left rest turns failed f c) read is in
-    why_short left rest turns failed f.line _ r
+-- a read fault of a script tells that it was not read to its end
+pub cuts_script : (m n : Limits) (left rest : Option (List ℕ)) (failed : Bool) (f : ScriptFault) → m ≡ n
+    → f.cause ≡ Read → IsFault m left rest 17592186044416 failed f f.cause → CutsScript n left rest failed
+cuts_script m n left rest failed f same read is = record {
+  line = f.line;
+  fails = subst (λ (l : Limits). ReadFails l left rest 17592186044416 failed f.line) same
+      (subst (λ (c : ScriptCause). IsFault m left rest 17592186044416 failed f c) read is);
+}
 
 -- the refusal that is told is one of the script
 pub refusal_told : (m : Limits) (ahead : Bool) (lines : List ScriptLine) (f : DriveFault)

@@ -1,16 +1,18 @@
 -- What the program does for its words, and the status that it ends with.
-use Rattle.std.specs.Prelude.{◌≡◌, ◌≢◌, ◌≤◌, ◌⊎◌, ℕ, List, [], Option, Bool, true, false, Result, length}
-use Rattle.std.specs.Prelude.{IfSome, IsSomeAnd, None}
+use Rattle.std.specs.Prelude.{◌≡◌, ◌≢◌, ◌⊎◌, ℕ, List, [], Option, Some, None, Bool, true, false, Result}
+use Rattle.std.specs.Prelude.{IsSomeAnd}
 use Rattle.std.specs.List.{list_any}
 use Rattle.std.specs.Io.KnownBytes.{Appends}
 use Rattle.event_core.specs.declared.bounds.Limits.{Limits}
 use Rattle.event_core.specs.declared.bounds.Roots.{Roots}
 use Rattle.event_core.specs.declared.bounds.Roots.TheVariants.{Free, OnlyMain}
 use Rattle.clap.specs.Words.{Kinds, Text}
+use Rattle.script_text.specs.Readings.{ReadFails}
 use Rattle.trace_report.specs.declared.faults.ReplayFault.{ReplayFault}
 use Rattle.trace_report.specs.declared.summary.Summary.{Summary}
 use Rattle.trace_report.specs.declared.counts.Counts.{Counts}
 use Rattle.trace_report.specs.Checked.{AnswersText, told}
+use Rattle.trace_report.specs.Feeding.{IsCutAt}
 use Rattle.trace_report.specs.Replayed.{TellsText, answer_gives_up}
 use Rattle.wcp_tool.specs.declared.requests.UsageFault.{UsageFault}
 use Rattle.wcp_tool.specs.declared.requests.UsageFault.TheVariants as faults
@@ -55,22 +57,52 @@ pub record PerformsRun (m : Limits) (left old new : Option (List ℕ)) (status :
   pub refused : status ≡ 3 → RefusesText m left old new
   pub broken : status ≡ 6 → BreaksText m left old new
 
--- what is done for a request with so many threads, where the reader had this text left; what the file of a
--- script held is not known
-abbrev pub Performs : Request → ℕ → Option (List ℕ) → Option (List ℕ) → Option (List ℕ) → ℕ → Type 0
-Performs check threads left old new status = Checks (limits_with threads Free) left old new status
-Performs replay threads left old new status = Replays (limits_with threads Free) left old new status
-Performs (run path) threads left old new status =
-    PerformsRun (limits_with threads OnlyMain) None old new status
+-- the script in a file that was opened was run
+pub record PerformsFile {S : Type 0} (opened : Option S → Type 0) (left : S → Option (List ℕ)) (m : Limits)
+    (old new : Option (List ℕ)) (status : ℕ) : Type 0 where
+  pub script : S
+  pub is : opened (Some script)
+  pub performs : PerformsRun m (left script) old new status
 
--- a text was not read to its end: a read failed, or it has as many bytes as there are turns
-abbrev pub IsCutShort : Option (List ℕ) → Bool → Type 0
-IsCutShort left failed = (failed ≡ true) ⊎ IfSome left (λ text. 17592186044416 ≤ length text)
+-- what is done for a request with so many threads, where the reader had this text left, and opening a path
+-- may give this
+abbrev pub Performs : {S : Type 0} → (Text → Option S → Type 0) → (S → Option (List ℕ)) → Request → ℕ
+    → Option (List ℕ) → Option (List ℕ) → Option (List ℕ) → ℕ → Type 0
+Performs opens text check threads left old new status = Checks (limits_with threads Free) left old new status
+Performs opens text replay threads left old new status =
+    Replays (limits_with threads Free) left old new status
+Performs opens text (run path) threads left old new status =
+    PerformsFile (opens path) text (limits_with threads OnlyMain) old new status
 
--- the trace was not read to its end; what a script's file gave is not known
-abbrev pub IsCut : Request → Option (List ℕ) → Bool → Type 0
-IsCut (run path) left failed = Unit {0}
-IsCut request left failed = IsCutShort left failed
+-- ---- a text that was not read to its end
+
+-- of a trace: a read failed or it has as many bytes as there are turns, and no line that came whole has a
+-- fault or an event that is refused
+pub record CutsTrace (m : Limits) (left rest : Option (List ℕ)) (failed : Bool) : Type 0 where
+  pub fault : ReplayFault
+  pub is : IsCutAt m left rest 17592186044416 failed fault
+
+-- of a script: a read failed or it has as many bytes as there are turns, and no line that came whole has a
+-- cause
+pub record CutsScript (m : Limits) (left rest : Option (List ℕ)) (failed : Bool) : Type 0 where
+  pub line : ℕ
+  pub fails : ReadFails m left rest 17592186044416 failed line
+
+-- of a script in a file that was opened
+pub record CutsFile {S : Type 0} (opened : Option S → Type 0) (left : S → Option (List ℕ)) (failed : S → Bool)
+    (m : Limits) : Type 0 where
+  pub script : S
+  pub after : S
+  pub is : opened (Some script)
+  pub cuts : CutsScript m (left script) (left after) (failed after)
+
+-- the trace was not read to its end; or the script's file could not be opened, or not be read to its end
+abbrev pub IsCut : {S : Type 0} → (Text → Option S → Type 0) → (S → Option (List ℕ)) → (S → Bool) → Request
+    → ℕ → Option (List ℕ) → Option (List ℕ) → Bool → Type 0
+IsCut opens text fails (run path) threads left rest failed =
+    opens path None ⊎ CutsFile (opens path) text fails (limits_with threads OnlyMain)
+IsCut opens text fails request threads left rest failed =
+    CutsTrace (limits_with threads Free) left rest failed
 
 -- ---- a run of the program
 
@@ -79,9 +111,10 @@ abbrev pub IsUnhindered : ℕ → Type 0
 IsUnhindered status = (status ≢ 4) × (status ≢ 5)
 
 -- the writer failed, or what the words ask for was not read to its end
-abbrev pub IsHindered : List Text → Option (List ℕ) → Bool → Bool → Type 0
-IsHindered words left read_failed write_failed =
-    (write_failed ≡ true) ⊎ IsSomeAnd (asked words) (λ a. IsCut a.request left read_failed)
+abbrev pub IsHindered : {S : Type 0} → (Text → Option S → Type 0) → (S → Option (List ℕ)) → (S → Bool)
+    → List Text → Option (List ℕ) → Option (List ℕ) → Bool → Bool → Type 0
+IsHindered opens text fails words left rest read_failed write_failed = (write_failed ≡ true)
+    ⊎ IsSomeAnd (asked words) (λ a. IsCut opens text fails a.request a.threads left rest read_failed)
 
 -- a trace is read from standard input for this
 abbrev pub reads_trace : Request → Bool
@@ -100,12 +133,13 @@ Explains kinds status =
     ((list_any is_answer kinds ≡ true) × ((status ≡ 0) ⊎ (status ≡ 4)))
     ⊎ (((list_any is_mistake kinds ≡ true) × (status ≡ 2)) ⊎ (status ≡ 5))
 
--- what the program does for these words, where the reader had this text left, and the writer this one before
--- and after
-pub record Runs (words : List Text) (left old new : Option (List ℕ)) (status : ℕ) : Type 0 where
+-- what the program does for these words, where the reader had this text left, the writer this one before and
+-- after, and opening a path may give this
+pub record Runs {S : Type 0} (opens : Text → Option S → Type 0) (text : S → Option (List ℕ))
+    (words : List Text) (left old new : Option (List ℕ)) (status : ℕ) : Type 0 where
   -- words without a fault ask for a command: a trace is judged whole, read or left unread
   pub performs : faults_of words ≡ [] → IsUnhindered status
-      → IsSomeAnd (asked words) (λ a. Performs a.request a.threads left old new status)
+      → IsSomeAnd (asked words) (λ a. Performs opens text a.request a.threads left old new status)
   -- it is a usage fault only where the words have one
   pub takes : faults_of words ≡ [] → status ≢ 2
   -- words with a fault end the program as one of their faults does

@@ -8,11 +8,13 @@ mod help_texts;
 mod options;
 mod requests;
 mod running;
+mod script_files;
 mod scripts;
 
 pub use command_line::settings;
 pub use requests::{Command, Settings, UsageFault};
 pub use running::{program, tool};
+pub use script_files::ScriptFiles;
 pub use scripts::run_script;
 /// Why a check has no counts.
 pub use trace_report::{Counts, ReplayFault as CheckFault, check};

@@ -12,20 +12,21 @@ use crate::bounds::{TURNS, limits_of};
 use crate::command_line::settings;
 use crate::endings::{Ending, ending_of_check, ending_of_replay, finish};
 use crate::requests::{Command, Settings, UsageFault};
+use crate::script_files::ScriptFiles;
 use crate::scripts::run_file;
 use event_core::Roots;
 use rapid_text::{Input, Output, write_all};
 use std::convert::AsStr;
 use std::env;
 use std::env::Env;
-use std::fs::Files;
 use std::io::ErrorKind;
 use std::sync::Wait;
 use std::thread::Threads;
 use trace_report::{check, replay};
 
 /// Does what the settings ask for.
-fn run<R: AllocGlobal + Files + Threads + Wait + Sync, I: Input, O: Output>(
+#[tactic(auto, using(crate::proofs::TraceReads::check_cuts, crate::proofs::TraceReads::replay_cuts))]
+fn run<R: AllocGlobal + ScriptFiles + Threads + Wait + Sync, I: Input, O: Output>(
     rt: &R,
     settings: Settings,
     reader: &mut I,
@@ -36,11 +37,12 @@ fn run<R: AllocGlobal + Files + Threads + Wait + Sync, I: Input, O: Output>(
     requires reads { I.failed reader.old ≡ false }
     requires writes { O.failed writer.old ≡ false }
     ensures performs { result ≢ Ending.ReadFault → result ≢ Ending.WriteFault → result ≢ Ending.OutOfMemory
-        → Performs (request_of settings.command) settings.threads (I.left reader.old)
-        (O.written writer.old) (O.written writer.new) (status_of result) }
+        → Performs (R.open_gives rt.now) R.Script.left (request_of settings.command) settings.threads
+        (I.left reader.old) (O.written writer.old) (O.written writer.new) (status_of result) }
     ensures ends { HasEnded (writer.new ≡ writer.old) (O.failed writer.new) result }
-    ensures short { result ≡ Ending.ReadFault
-        → IsCut (request_of settings.command) (I.left reader.old) (I.failed reader.new) }
+    ensures cut { result ≡ Ending.ReadFault → IsCut (R.open_gives rt.now) R.Script.left R.Script.failed
+        (request_of settings.command) settings.threads (I.left reader.old) (I.left reader.new)
+        (I.failed reader.new) }
     ensures untouched { reads_trace (request_of settings.command) ≡ false → reader.new ≡ reader.old }
     ensures read { (result ≡ Ending.Done) ⊎ (result ≡ Ending.Races) → I.failed reader.new ≡ false }
 {
@@ -97,7 +99,7 @@ fn explain<O: Output, E: Output>(fault: UsageFault, writer: &mut O, errors: &mut
 ///
 /// What help, the version and a usage fault say is for a reader, and no contract tells it.
 pub fn tool<
-    R: AllocGlobal + Files + Threads + Wait + Sync,
+    R: AllocGlobal + ScriptFiles + Threads + Wait + Sync,
     S: AsStr,
     I: Input,
     O: Output,
@@ -105,18 +107,21 @@ pub fn tool<
 >(rt: &R, words: &[S], reader: &mut I, writer: &mut O, errors: &mut E) -> u8
     requires reads { I.failed reader.old ≡ false }
     requires writes { O.failed writer.old ≡ false }
-    // It performs what the words ask for on the whole text that the reader has left, or answers them.
-    ensures runs { Runs (map S.text words.now) (I.left reader.old) (O.written writer.old)
-        (O.written writer.new) result }
+    // It performs what the words ask for on the whole text that the reader has left, or that the file of a
+    // script has, which was opened at the path that the words name; or it answers the words.
+    ensures runs { Runs (R.open_gives rt.now) R.Script.left (map S.text words.now) (I.left reader.old)
+        (O.written writer.old) (O.written writer.new) result }
     ensures range { result ≤ 6 }
     // The reader is left alone where the words have a fault, or ask for a run of a script.
     ensures untouched { LeavesInput (map S.text words.now) → reader.new ≡ reader.old }
     // Nothing is written to standard output where the words are wrong or memory ran out.
     ensures quiet { (result ≡ 2) ⊎ (result ≡ 5) → writer.new ≡ writer.old }
     // It ends with 4 only where the writer failed or took no byte, or what the words ask for was not read to
-    // its end: a read failed, or the input has as many bytes as there are turns.
-    ensures hindered { result ≡ 4 → IsHindered (map S.text words.now) (I.left reader.old)
-        (I.failed reader.new) (O.failed writer.new) }
+    // its end: a read failed, or the text has as many bytes as there are turns; and no line that came whole
+    // has a fault. Or the file of the script could not be opened.
+    ensures hindered { result ≡ 4 → IsHindered (R.open_gives rt.now) R.Script.left R.Script.failed
+        (map S.text words.now) (I.left reader.old) (I.left reader.new) (I.failed reader.new)
+        (O.failed writer.new) }
     // Where the writer did not fail, nothing is written then.
     ensures devices { result ≡ 4 → (O.failed writer.new ≡ true) ⊎ (writer.new ≡ writer.old) }
     // It ends with 0 or 1 only where no read failed.
@@ -160,7 +165,7 @@ fn words<R: Env + AllocGlobal, E: Output>(rt: &R, errors: &mut E) -> Result<Vec<
 /// `tool` holds for some. Which they are stays open, and so which command they ask for. Words that ask for
 /// help allow any text with status 0, where nothing is read. Status 2 or 5 without a text is always allowed.
 pub fn program<
-    R: Env + AllocGlobal + Files + Threads + Wait + Sync,
+    R: Env + AllocGlobal + ScriptFiles + Threads + Wait + Sync,
     I: Input,
     O: Output,
     E: Output,
@@ -169,10 +174,11 @@ pub fn program<
     requires writes { O.failed writer.old ≡ false }
     // It is a run for some words, or the words could not be had: they are no text, or memory ran out.
     ensures runs { ((words : List Text)
-        × Runs words (I.left reader.old) (O.written writer.old) (O.written writer.new) result
+        × Runs (R.open_gives rt.now) R.Script.left words (I.left reader.old) (O.written writer.old)
+        (O.written writer.new) result
         × (LeavesInput words → reader.new ≡ reader.old)
-        × (result ≡ 4
-        → IsHindered words (I.left reader.old) (I.failed reader.new) (O.failed writer.new)))
+        × (result ≡ 4 → IsHindered (R.open_gives rt.now) R.Script.left R.Script.failed words
+        (I.left reader.old) (I.left reader.new) (I.failed reader.new) (O.failed writer.new)))
         ⊎ ((result ≡ 2) ⊎ (result ≡ 5)) }
     ensures range { result ≤ 6 }
     // Nothing is written to standard output where the words are wrong or memory ran out.

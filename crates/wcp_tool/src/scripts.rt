@@ -1,11 +1,11 @@
 //! A run of the threads of a script.
-ghost use Rattle.std.specs.Prelude.{◌≡◌, ◌≢◌, ◌⊎◌, ◌≤◌, Err, true, false, IfSome};
+ghost use Rattle.std.specs.Prelude.{◌≡◌, ◌≢◌, ◌⊎◌, ◌≤◌, Err, None, true, false, IfSome};
 ghost use Rattle.std.specs.Io.KnownBytes.{Appends};
 ghost use Rattle.rapid_text.specs.Faults.{fault_line};
 ghost use Rattle.script_text.specs.declared.causes.ScriptFault.{ScriptFault as Why};
 ghost use Rattle.script_text.specs.Scripts.{script_of};
 ghost use Rattle.wcp_tool.specs.Endings.{HasEnded, is_write_fault, status_of};
-ghost use Rattle.wcp_tool.specs.Running.{IsCutShort, PerformsRun, limits_with};
+ghost use Rattle.wcp_tool.specs.Running.{CutsFile, CutsScript, PerformsFile, PerformsRun, limits_with};
 ghost use Rattle.trace_report.specs.Reports.{AreNamed};
 ghost use Rattle.wcp_tool.specs.ScriptRuns.{BreaksText, Ran, RefusesText, ReportsLog, RunsText, Stops};
 ghost use Rattle.wcp_tool.specs.ScriptRuns.{TellsFault, TellsRefusal, TellsRefused, TellsStop};
@@ -14,14 +14,13 @@ ghost use Rattle.event_core.specs.declared.bounds.Roots.TheVariants.{OnlyMain};
 use crate::bounds::{TURNS, limits_of};
 use crate::endings::{Ending, finish, summary_ending};
 use crate::requests::Settings;
+use crate::script_files::ScriptFiles;
 use closed_report::{ReportFault, report_closed};
 use event_core::{Limits, Roots};
 use live_monitor::Closed;
-use rapid_text::{Device, Input, Names, Output, write_fault};
+use rapid_text::{Input, Names, Output, write_fault};
 use script_drive::{DriveFault, FreeGate, drive};
 use script_text::{Script, ScriptCause, ScriptFault};
-use std::fs;
-use std::fs::Files;
 use std::sync::Wait;
 use std::thread::Threads;
 use trace_report::refusal_word;
@@ -144,7 +143,8 @@ fn run_lines<R: AllocGlobal + Threads + Wait + Sync, I: Input, O: Output>(
     ensures fault { IfSome (I.left script.old) (λ text. (f : Why)
         → script_of (limits_with threads OnlyMain) text ≡ Err f
         → TellsFault f (O.written writer.old) (O.written writer.new) (status_of result)) }
-    ensures cut { result ≡ Ending.ReadFault → IsCutShort (I.left script.old) (I.failed script.new) }
+    ensures cut { result ≡ Ending.ReadFault → CutsScript (limits_with threads OnlyMain) (I.left script.old)
+        (I.left script.new) (I.failed script.new) }
     ensures read { (result ≡ Ending.Done) ⊎ (result ≡ Ending.Races) → I.failed script.new ≡ false }
     ensures ends { HasEnded (writer.new ≡ writer.old) (O.failed writer.new) result }
 {
@@ -201,9 +201,11 @@ pub fn run_script<R: AllocGlobal + Threads + Wait + Sync, I: Input, O: Output, E
     // Nothing is written to standard output where memory ran out.
     ensures quiet { result ≡ 5 → writer.new ≡ writer.old }
     // Status 4 tells that the writer failed or took no byte; or else that the script was not read to its end,
-    // since a read failed or it has as many bytes as there are turns, and then nothing is written.
+    // since a read failed or it has as many bytes as there are turns, and then nothing is written. No line
+    // that came whole has a cause then, and at most 1,025 bytes came of the line whose end was not seen.
     ensures devices { result ≡ 4 → (O.failed writer.new ≡ true)
-        ⊎ ((writer.new ≡ writer.old) × IsCutShort (I.left script.old) (I.failed script.new)) }
+        ⊎ ((writer.new ≡ writer.old) × CutsScript (limits_with settings.now.threads OnlyMain)
+        (I.left script.old) (I.left script.new) (I.failed script.new)) }
     // It ends with 0 or 1 only where no read failed.
     ensures read { (result ≡ 0) ⊎ (result ≡ 1) → I.failed script.new ≡ false }
     ensures written { result ≢ 4 → O.failed writer.new ≡ false }
@@ -212,8 +214,8 @@ pub fn run_script<R: AllocGlobal + Threads + Wait + Sync, I: Input, O: Output, E
     finish(ending, errors)
 }
 
-/// The command `run` over the path of the script. What the file held is not known to a contract.
-pub(crate) fn run_file<R: AllocGlobal + Files + Threads + Wait + Sync, O: Output>(
+/// The command `run` over the path of the script.
+pub(crate) fn run_file<R: AllocGlobal + ScriptFiles + Threads + Wait + Sync, O: Output>(
     rt: &R,
     path: &str,
     writer: &mut O,
@@ -223,12 +225,17 @@ pub(crate) fn run_file<R: AllocGlobal + Files + Threads + Wait + Sync, O: Output
     requires threads { (1 ≤ threads) × (threads ≤ 1024) }
     requires patience { 1 ≤ patience }
     requires writes { O.failed writer.old ≡ false }
-    ensures performs { PerformsRun (limits_with threads OnlyMain) None (O.written writer.old)
-        (O.written writer.new) (status_of result) }
+    ensures performs { result ≢ Ending.ReadFault → PerformsFile (R.open_gives rt.now path.now) R.Script.left
+        (limits_with threads OnlyMain) (O.written writer.old) (O.written writer.new) (status_of result) }
+    ensures cut { result ≡ Ending.ReadFault → R.open_gives rt.now path.now None
+        ⊎ CutsFile (R.open_gives rt.now path.now) R.Script.left R.Script.failed
+        (limits_with threads OnlyMain) }
     ensures ends { HasEnded (writer.new ≡ writer.old) (O.failed writer.new) result }
 {
-    let Ok(file) = fs::open(rt, path) else {
+    let Some(mut script) = rt.open_script(path) else {
         return Ending::ReadFault;
     };
-    run_lines(rt, &mut Device::new(file), writer, threads, patience)
+    let ending = run_lines(rt, &mut script, writer, threads, patience);
+    drop(script);
+    ending
 }
