@@ -129,6 +129,7 @@ fn each_beginning_of_nested_sections_has_its_answer(rt: HostRuntime) {
             text.keep(&[*byte]);
             expect_both(
                 &rt,
+                part,
                 Text::whole(text.bytes()),
                 (*counts, *report),
                 "",

@@ -20,7 +20,7 @@ use std::thread::Threads;
 struct Case {
     script: &'static str,
     patience: u32,
-    logs: &'static [&'static [u8]],
+    logs: &'static [&'static str],
     report: &'static str,
 }
 
@@ -28,20 +28,20 @@ const CASES: &[Case] = &[
     Case {
         script: "m fork a\na w x 5\nm join a\nm r x\n",
         patience: 1000000,
-        logs: &[b"m|fork(a)|1\na|w(x)|2\nm|join(a)|3\nm|r(x)|4\n"],
+        logs: &["m|fork(a)|1\na|w(x)|2\nm|join(a)|3\nm|r(x)|4\n"],
         report: "events 4 threads 2 locks 0 variables 1 races 0\n",
     },
     // The events of a swap stand at one place.
     Case {
         script: "m fork a\na swap x 4\nm join a\nm swap x 5\n",
         patience: 1000000,
-        logs: &[b"m|fork(a)|1\na|r(x)|2\na|w(x)|2\nm|join(a)|3\nm|r(x)|4\nm|w(x)|4\n"],
+        logs: &["m|fork(a)|1\na|r(x)|2\na|w(x)|2\nm|join(a)|3\nm|r(x)|4\nm|w(x)|4\n"],
         report: "events 6 threads 2 locks 0 variables 1 races 0\n",
     },
     Case {
         script: "\nm acq l\r\nm acq l\nm rel l",
         patience: 1000000,
-        logs: &[b"m|acq(l)|2\nm|acq(l)|3\nm|rel(l)|4\n"],
+        logs: &["m|acq(l)|2\nm|acq(l)|3\nm|rel(l)|4\n"],
         report: "events 3 threads 1 locks 1 variables 0 races 0\n",
     },
 ];
@@ -51,8 +51,8 @@ const OVERLAP: Case = Case {
     script: "m fork a\nm r x\na r y\n",
     patience: 1,
     logs: &[
-        b"m|fork(a)|1\nm|r(x)|2\na|r(y)|3\n",
-        b"m|fork(a)|1\na|r(y)|3\nm|r(x)|2\n",
+        "m|fork(a)|1\nm|r(x)|2\na|r(y)|3\n",
+        "m|fork(a)|1\na|r(y)|3\nm|r(x)|2\n",
     ],
     report: "events 3 threads 2 locks 0 variables 2 races 0\n",
 };
@@ -70,43 +70,51 @@ fn write_events(page: &mut Page, closed: &Closed, names: &Names) -> bool {
     true
 }
 
-/// Reads the script, runs it, and writes its log: whether it is written. None where memory ran out, or a
-/// thread could not be started.
-fn write_log<G: Gate + Sync, R: AllocGlobal + Threads + Wait + Sync>(
+/// Reads the script, runs it, and writes its log: whether it is written.
+fn write_log<G: Gate + Sync, R: Abort + AllocGlobal + Threads + Wait + Sync>(
     rt: &R,
     case: &Case,
     gate: &G,
     page: &mut Page,
-) -> Option<bool> {
-    let limits = Limits::new(2, 1, 2, 64, Roots::OnlyMain).ok()?;
+) -> Result<bool, DriveFault> {
+    let limits = Limits::new(2, 1, 2, 64, Roots::OnlyMain).expect(rt, "limits");
     let mut reader = Device::new(case.script.as_bytes());
-    let script = Script::read(rt.alloc(), &mut reader, limits, 100).ok()?;
-    let driven = drive(rt, rt.alloc(), &script, limits, gate, case.patience);
-    let is_written = match &driven {
-        Ok(closed) => Some(write_events(page, closed, script.names())),
-        Err(DriveFault::OutOfMemory | DriveFault::NoWorker { .. }) => None,
-        Err(_) => Some(false),
+    let script = Script::read(rt.alloc(), &mut reader, limits, 100).expect(rt, "a script");
+    let written = match drive(rt, rt.alloc(), &script, limits, gate, case.patience) {
+        Ok(closed) => {
+            let is_written = write_events(page, &closed, script.names());
+            drop(closed);
+            Ok(is_written)
+        }
+        Err(fault) => Err(fault),
     };
-    drop(driven);
     drop(script);
-    is_written
+    written
 }
 
-/// The log is written, its lines are known ones, and a replay of them prints the report.
+/// That of the logs which is this one, or else the first.
+fn log_like(logs: &[&'static str], log: &str) -> &'static str {
+    for known in logs {
+        if *known == log {
+            return known;
+        }
+    }
+    logs.first().copied().unwrap_or("")
+}
+
+/// The log is written, it is one of those that are known, and a replay of its lines prints the report.
 fn expect_log<G: Gate + Sync, R: Abort + AllocGlobal + Files + Threads + Wait + Sync>(
     rt: &R,
     case: &Case,
     gate: &G,
 ) {
     let mut page = Page::blank(Room::AMPLE);
-    let mut is_written = write_log(rt, case, gate, &mut page);
-    if is_written.is_none() {
-        is_written = write_log(rt, case, gate, &mut page);
-    }
-    let log = page.bytes();
-    let is_known = is_written == Some(true) && case.logs.contains(&log);
-    expect(rt, is_known, case.script);
-    Run::of(REPLAY, Text::whole(log)).expect(rt, case.report, "", 0);
+    let written = write_log(rt, case, gate, &mut page);
+    let log = page.text();
+    let known = log_like(case.logs, log);
+    expect(rt, case.script, &(written, log), &(Ok(true), known));
+    let run = Run::of(REPLAY, Text::whole(page.bytes()));
+    run.expect(rt, case.script, case.report, "", 0);
 }
 
 /// And so does a run of the script.
@@ -115,7 +123,7 @@ fn a_closed_log_is_replayed_to_the_report_of_its_script(rt: HostRuntime) {
     for case in CASES {
         expect_log(&rt, case, &FreeGate);
         let run = Run::of(SCRIPT, Text::whole(case.script.as_bytes()));
-        run.expect(&rt, case.report, "", 0);
+        run.expect(&rt, case.script, case.report, "", 0);
     }
 }
 

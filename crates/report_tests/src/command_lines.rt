@@ -1,8 +1,7 @@
 //! Command lines, and what is said of them.
 use crate::doubles::Text;
 use crate::expected::expect;
-use crate::runs::{Program, Ran, Run};
-use std::alloc::Global;
+use crate::runs::{Program, Run};
 use std::fmt::InlineText;
 use wcp_tool::settings;
 
@@ -122,29 +121,14 @@ const SAID: &[(&[&str], &str, u8)] = &[
     (&["replay", "--patience", "1"], "'--patience'", 2),
 ];
 
-/// Whether the words ask for this command, with these options. None where memory ran out.
-fn is_taken(
-    alloc: Global,
-    words: &[&str],
-    command: &str,
-    threads: u32,
-    patience: u32,
-) -> Option<bool> {
-    let got = settings(alloc, words).ok()?;
-    let met: InlineText<64> = InlineText::of(format_args!("{:?}", got.command));
-    let is_so = got.threads == threads && got.patience == patience;
-    drop(got);
-    Some(is_so && met.as_str() == command)
-}
-
 #[test]
 fn a_command_is_taken_with_its_options(rt: HostRuntime) {
     for (words, command, threads, patience) in TAKEN {
-        let is_so = match is_taken(rt.alloc(), words, command, *threads, *patience) {
-            Some(is_so) => is_so,
-            None => is_taken(rt.alloc(), words, command, *threads, *patience) == Some(true),
-        };
-        expect(&rt, is_so, command);
+        let got = settings(rt.alloc(), words).expect(&rt, command);
+        let met: InlineText<64> = InlineText::of(format_args!("{:?}", got.command));
+        let came = (met.as_str(), got.threads, got.patience);
+        expect(&rt, command, &came, &(*command, *threads, *patience));
+        drop(got);
     }
 }
 
@@ -158,24 +142,19 @@ fn is_narrow(text: &str) -> bool {
     true
 }
 
-/// Whether the one device has this part, the other nothing, and the status is this.
-fn is_said(ran: &Ran, part: &str, status: u8) -> bool {
-    let (said, other) = if status == 2 {
-        (ran.errors.bytes(), ran.output.bytes())
-    } else {
-        (ran.output.bytes(), ran.errors.bytes())
-    };
-    let text = str::from_utf8(said).unwrap_or("");
-    let is_told = text.contains(part) && (status == 2 || is_narrow(text));
-    is_told && other.is_empty() && ran.status == status
-}
-
 /// What is wrong is told on standard error, with status 2; all else on standard output, in lines of at most
 /// 80 columns. The trace of help is on standard input.
 #[test]
 fn each_command_line_is_answered(rt: HostRuntime) {
     for (words, part, status) in SAID {
-        let ran = Run::of(Program::Words(words), Text::whole(TRACE)).ran_again(&rt);
-        expect(&rt, is_said(&ran, part, *status), part);
+        let ran = Run::of(Program::Words(words), Text::whole(TRACE)).ran(&rt);
+        let (said, other) = if *status == 2 {
+            (ran.errors.text(), ran.output.text())
+        } else {
+            (ran.output.text(), ran.errors.text())
+        };
+        expect(&rt, part, &(other, ran.status), &("", *status));
+        let is_said = said.contains(part) && (*status == 2 || is_narrow(said));
+        expect(&rt, part, &(said, is_said), &(said, true));
     }
 }

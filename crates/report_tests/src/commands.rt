@@ -1,11 +1,10 @@
 //! What a check and a replay answer, and what they write, of a text that comes in so many reads.
 use crate::doubles::{Page, Pieces, Room, Text};
 use crate::expected::expect;
-use crate::told::{Told, is_judged, told};
 use event_core::{Limits, Roots};
 use std::alloc::Global;
 use std::process::Abort;
-use trace_report::replay;
+use trace_report::{ReplayFault, replay};
 use wcp_tool::check;
 
 #[derive(Clone, Copy)]
@@ -15,26 +14,25 @@ pub enum Command {
 }
 
 impl Command {
-    fn ends_once(self, alloc: Global, text: Text<'_>, turns: u32, output: &str) -> Told {
-        let limits = Limits::new(2, 1, 2, 64, Roots::Free).ok()?;
-        let mut page = Page::blank(Room::AMPLE);
+    /// The fault of the text, with names for two threads, one lock and two variables. What is written goes to
+    /// the page.
+    pub fn fault_of(
+        self,
+        rt: &impl Abort,
+        alloc: Global,
+        text: Text<'_>,
+        turns: u32,
+        page: &mut Page,
+    ) -> Option<ReplayFault>
+        requires { page.old.failed ≡ false }
+    {
+        let limits = Limits::new(2, 1, 2, 64, Roots::Free).expect(rt, "limits");
         let mut reader = Pieces::of(text);
         let turns = u64::from(turns);
-        let fault = match self {
-            Command::Check => check(alloc, &mut reader, &mut page, limits, turns).err(),
-            Command::Replay => replay(alloc, &mut reader, &mut page, limits, turns).err(),
-        };
-        told(fault, &page, output)
-    }
-
-    /// What is told of the text, with names for two threads, one lock and two variables, where this is to be
-    /// written. It is asked for again where memory ran out.
-    pub fn ends(self, alloc: Global, text: Text<'_>, turns: u32, output: &str) -> Told {
-        let ended = self.ends_once(alloc, text, turns, output);
-        if ended.is_some() {
-            return ended;
+        match self {
+            Command::Check => check(alloc, &mut reader, page, limits, turns).err(),
+            Command::Replay => replay(alloc, &mut reader, page, limits, turns).err(),
         }
-        self.ends_once(alloc, text, turns, output)
     }
 }
 
@@ -42,12 +40,19 @@ impl Command {
 pub fn expect_wherever_cut(
     rt: &impl Abort,
     alloc: Global,
+    name: &str,
     text: Text<'_>,
     output: &str,
     is_report: bool,
 ) {
     for first in 1..text.bytes.len() {
-        let ended = Command::Check.ends(alloc, Text { first, ..text }, 100, output);
-        expect(rt, is_judged(ended, is_report), output);
+        let mut page = Page::blank(Room::AMPLE);
+        let fault = Command::Check.fault_of(rt, alloc, Text { first, ..text }, 100, &mut page);
+        expect(
+            rt,
+            name,
+            &(fault.is_none(), page.text()),
+            &(is_report, output),
+        );
     }
 }

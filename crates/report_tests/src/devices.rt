@@ -1,6 +1,5 @@
 //! Readers and writers of std under a device: they fail, or take no byte.
 use crate::doubles::{Room, Text};
-use crate::expected::expect;
 use crate::runs::{Program, Run};
 use std::fs::Files;
 use std::process::Abort;
@@ -13,13 +12,9 @@ fn expect_written<R: Abort + AllocGlobal + Files + Threads + Wait + Sync>(
     rt: &R,
     words: &[&str],
     (text, fails): (&str, bool),
-    (output, writer_fails): (&[u8], bool),
+    (output, writer_fails): (&str, bool),
     (errors, status): (&str, u8),
 ) {
-    let text = Text {
-        fails,
-        ..Text::cut(text.as_bytes(), 1, 1)
-    };
     let room = Room {
         most: 1,
         puts: output.len(),
@@ -27,12 +22,13 @@ fn expect_written<R: Abort + AllocGlobal + Files + Threads + Wait + Sync>(
     };
     let run = Run {
         program: Program::Piped(words),
-        text,
+        text: Text {
+            fails,
+            ..Text::cut(text.as_bytes(), 1, 1)
+        },
         rooms: (room, Room::AMPLE),
     };
-    let ran = run.ran_again(rt);
-    let is_written = ran.output.bytes() == output && ran.errors.is(errors);
-    expect(rt, is_written && ran.status == status, errors);
+    run.expect(rt, text, output, errors, status);
 }
 
 /// A text whose reader fails, what is written to standard output and to standard error, and the status.
@@ -49,7 +45,6 @@ const BROKEN: &[(&str, &str, &str, u8)] = &[
 fn a_device_tells_of_a_reader_that_fails(rt: HostRuntime) {
     for command in ["check", "replay"] {
         for (text, output, errors, status) in BROKEN {
-            let output = output.as_bytes();
             expect_written(
                 &rt,
                 &[command],
@@ -91,8 +86,8 @@ fn a_device_tells_of_a_writer_that_takes_no_more(rt: HostRuntime) {
                 } else {
                     ("", *status)
                 };
-                let taken = (&output.as_bytes()[..writes], fails);
-                expect_written(&rt, &[*command], (text, false), taken, told);
+                let taken = str::from_utf8(&output.as_bytes()[..writes]).unwrap_or("");
+                expect_written(&rt, &[*command], (text, false), (taken, fails), told);
             }
         }
     }

@@ -156,8 +156,8 @@ impl Page {
         &self.kept[..self.len.min(SIZE)]
     }
 
-    pub fn is(&self, text: &str) -> bool {
-        self.bytes() == text.as_bytes()
+    pub fn text(&self) -> &str {
+        str::from_utf8(self.bytes()).unwrap_or("bytes that are no UTF-8")
     }
 
     /// Appends the bytes, as far as there is space.

@@ -1,7 +1,6 @@
 //! Texts that a replayer is fed, whole, byte by byte, and cut in two at each place.
 use crate::doubles::{Page, Room, Text};
 use crate::expected::expect;
-use crate::told::{Told, is_judged, told};
 use event_core::{Limits, Refusal, Roots};
 use rapid_text::{Cause, Kind, TextFault};
 use std::alloc::Global;
@@ -10,12 +9,14 @@ use trace_report::{ReplayFault, Replayer};
 
 /// The fault of a new replayer that is fed the text in its pieces, an empty one before each, and an LF after
 /// a read has failed; none where there was no memory for one. The page has what it wrote.
-fn fault_of(
+pub fn fault_of(
     alloc: Global,
     text: Text<'_>,
     threads: u32,
     page: &mut Page,
-) -> Option<Option<ReplayFault>> {
+) -> Option<Option<ReplayFault>>
+    requires { page.old.failed ≡ false }
+{
     let limits = Limits::new(threads, 8, 8, 64, Roots::Free).ok()?;
     let mut replayer = Replayer::new(alloc, limits).ok()?;
     let (head, rest) = text.bytes.split_at(text.first.min(text.bytes.len()));
@@ -31,31 +32,30 @@ fn fault_of(
     Some(replayer.finish(page).err())
 }
 
-fn told_once(alloc: Global, text: Text<'_>, threads: u32, output: &str) -> Told {
-    let mut page = Page::blank(Room::AMPLE);
-    let fault = fault_of(alloc, text, threads, &mut page)?;
-    told(fault, &page, output)
-}
-
-/// What a new replayer tells that is to write this, once more where memory ran out.
-fn fed(alloc: Global, text: Text<'_>, threads: u32, output: &str) -> Told {
-    let told = told_once(alloc, text, threads, output);
-    if told.is_some() {
-        return told;
-    }
-    told_once(alloc, text, threads, output)
-}
-
 /// A replayer that is fed the text so writes this, which is a report or not.
-fn expect_told(rt: &impl Abort, alloc: Global, text: Text<'_>, output: &str, is_report: bool) {
-    let told = fed(alloc, text, 8, output);
-    expect(rt, is_judged(told, is_report), output);
+pub fn expect_told(
+    rt: &impl Abort,
+    alloc: Global,
+    name: &str,
+    text: Text<'_>,
+    output: &str,
+    is_report: bool,
+) {
+    let mut page = Page::blank(Room::AMPLE);
+    let fault = fault_of(alloc, text, 8, &mut page).expect(rt, "no memory for a replayer");
+    expect(
+        rt,
+        name,
+        &(fault.is_none(), page.text()),
+        &(is_report, output),
+    );
 }
 
 /// However the bytes are fed, they come to this.
 pub fn expect_however_fed(
     rt: &impl Abort,
     alloc: Global,
+    name: &str,
     text: Text<'_>,
     output: &str,
     is_report: bool,
@@ -65,9 +65,10 @@ pub fn expect_however_fed(
         others: 1,
         ..text
     };
-    expect_told(rt, alloc, by_one, output, is_report);
+    expect_told(rt, alloc, name, by_one, output, is_report);
     for first in 0..=text.bytes.len() {
-        expect_told(rt, alloc, Text { first, ..text }, output, is_report);
+        let cut = Text { first, ..text };
+        expect_told(rt, alloc, name, cut, output, is_report);
     }
 }
 
@@ -76,8 +77,10 @@ pub fn expect_however_fed(
 fn a_cr_and_an_lf_may_be_fed_one_after_the_other(rt: HostRuntime) {
     let bytes = b"T0|w(x)|1\r\n".as_slice();
     let report = "events 1 threads 1 locks 0 variables 1 races 0\n";
-    expect_told(&rt, rt.alloc(), Text::cut(bytes, 9, 1), report, true);
-    expect_however_fed(&rt, rt.alloc(), Text::whole(bytes), report, true);
+    let name = "a CR and an LF";
+    let cut = Text::cut(bytes, 9, 1);
+    expect_told(&rt, rt.alloc(), name, cut, report, true);
+    expect_however_fed(&rt, rt.alloc(), name, Text::whole(bytes), report, true);
 }
 
 /// A text, whether a read fails after it, how many threads it may name, what is written, and the fault.
@@ -132,8 +135,11 @@ fn the_fault_of_a_text_is_answered_however_it_is_fed(rt: HostRuntime) {
                 fails: *fails,
                 ..Text::however_cut(bytes, cut)
             };
-            let told = fed(rt.alloc(), text, *threads, output);
-            expect(&rt, told == Some((Some(*fault), true)), output);
+            let mut page = Page::blank(Room::AMPLE);
+            let came = fault_of(rt.alloc(), text, *threads, &mut page);
+            let wanted = (Some(Some(*fault)), *output);
+            let name = str::from_utf8(bytes).unwrap_or(output);
+            expect(&rt, name, &(came, page.text()), &wanted);
         }
     }
 }

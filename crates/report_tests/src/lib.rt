@@ -1,7 +1,8 @@
 //! Tests of the reports and of the program: a trace goes in, and what is written and answered comes out.
 //!
 //! The crate has tests alone, and they see no more of `trace_report` and `wcp_tool` than any caller does.
-//! They stand here and not in the crates themselves since a crate is proved once more with its tests.
+//! They stand here and not in the crates themselves since a crate is proved once more with its tests. They
+//! expect ample memory, but for those whose names say that memory is refused.
 #![tactic(auto)]
 
 #[cfg(test)]
@@ -30,8 +31,6 @@ mod readers;
 mod runs;
 #[cfg(test)]
 mod scripts;
-#[cfg(test)]
-mod told;
 #[cfg(test)]
 mod traces;
 #[cfg(test)]

@@ -1,45 +1,96 @@
-//! Runs of the program where memory is refused.
-use crate::doubles::Text;
+//! Runs where memory is refused: they print what ample ones do, or that memory ran out and nothing else. Run
+//! again, they print what ample ones do.
+use crate::doubles::{Page, Room, Text};
 use crate::expected::expect;
-use crate::runs::{CHECK, Program, REPLAY, Ran, Run, SCRIPT};
+use crate::fed::{expect_told, fault_of};
+use crate::runs::{Answer, CHECK, Program, REPLAY, Run, SCRIPT};
 use crate::traces::legal;
+use event_core::Refusal;
+use rapid_text::{Cause, TextFault};
 use std::fs::Files;
 use std::process::Abort;
 use std::sync::Wait;
 use std::thread::Threads;
+use trace_report::ReplayFault;
 
-/// This was printed, or nothing but that memory ran out, or that a thread could not be started.
-fn is_whole(ran: &Ran, output: &str, status: u8) -> bool {
-    match ran.status {
-        5 => ran.is("", "out of memory\n", 5),
-        6 => ran.is("line 1: NoWorker\n", "", 6),
-        _ => ran.is(output, "", status),
-    }
-}
+const OUT_OF_MEMORY: Answer<'static> = Answer {
+    output: "",
+    errors: "out of memory\n",
+    status: 5,
+};
 
-/// Whichever allocation is refused, the run prints what an ample one does, or not at all.
+const NO_WORKER: Answer<'static> = Answer {
+    output: "line 1: NoWorker\n",
+    errors: "",
+    status: 6,
+};
+
 fn expect_whole<R: Abort + AllocGlobal + Files + Threads + Wait + Sync>(
     rt: &R,
+    name: &str,
     program: Program<'_>,
     text: &str,
-    output: &str,
-    status: u8,
+    (output, status): (&str, u8),
 ) {
-    let ran = Run::of(program, Text::whole(text.as_bytes())).ran(rt);
-    expect(rt, is_whole(&ran, output, status), output);
+    let run = Run::of(program, Text::whole(text.as_bytes()));
+    let ran = run.ran(rt);
+    let answer = ran.answer();
+    if answer != OUT_OF_MEMORY && answer != NO_WORKER {
+        let errors = "";
+        expect(
+            rt,
+            name,
+            &answer,
+            &Answer {
+                output,
+                errors,
+                status,
+            },
+        );
+    }
+    run.expect(rt, name, output, "", status);
 }
 
 #[test]
-fn a_trace_is_answered_whole_or_not_at_all(rt: HostRuntime) {
-    for (text, counts, report, status) in legal() {
-        expect_whole(&rt, CHECK, text, counts, 0);
-        expect_whole(&rt, REPLAY, text, report, *status);
+fn a_trace_is_answered_whole_or_not_at_all_where_memory_is_refused(rt: HostRuntime) {
+    for (name, text, counts, report, status) in legal() {
+        expect_whole(&rt, name, CHECK, text, (counts, 0));
+        expect_whole(&rt, name, REPLAY, text, (report, *status));
     }
 }
 
 #[test]
-fn a_script_is_run_whole_or_not_at_all(rt: HostRuntime) {
+fn a_script_is_run_whole_or_not_at_all_where_memory_is_refused(rt: HostRuntime) {
     let text = "m fork a\na w x 5\nm join a\nm r x\n";
     let report = "events 4 threads 2 locks 0 variables 1 races 0\n";
-    expect_whole(&rt, SCRIPT, text, report, 0);
+    expect_whole(&rt, text, SCRIPT, text, (report, 0));
+}
+
+/// Whether the fault says that memory ran out.
+fn ran_out(fault: &ReplayFault) -> bool {
+    matches!(
+        fault,
+        ReplayFault::Text(TextFault {
+            cause: Cause::OutOfMemory,
+            ..
+        }) | ReplayFault::Refused {
+            refusal: Refusal::OutOfMemory,
+            ..
+        }
+    )
+}
+
+#[test]
+fn a_trace_is_replayed_whole_or_not_at_all_where_memory_is_refused(rt: HostRuntime) {
+    for (name, text, _, report, _) in legal() {
+        let text = Text::cut(text.as_bytes(), 7, 3);
+        let mut page = Page::blank(Room::AMPLE);
+        let came = fault_of(rt.alloc(), text, 8, &mut page);
+        match came {
+            None => expect(&rt, name, &page.text(), &""),
+            Some(Some(fault)) if ran_out(&fault) => expect(&rt, name, &page.text(), &""),
+            came => expect(&rt, name, &(came, page.text()), &(Some(None), *report)),
+        }
+        expect_told(&rt, rt.alloc(), name, text, report, true);
+    }
 }

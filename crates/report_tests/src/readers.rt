@@ -10,6 +10,6 @@ fn no_part_of_a_trace_is_told_whose_reader_fails(rt: HostRuntime) {
             fails: true,
             ..Text::cut(&text[..end], 7, 3)
         };
-        expect_both(&rt, part, ("", ""), "read fault\n", 4);
+        expect_both(&rt, "a part of a trace", part, ("", ""), "read fault\n", 4);
     }
 }

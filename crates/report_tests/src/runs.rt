@@ -41,15 +41,21 @@ pub struct Ran {
     pub errors: Page,
 }
 
-impl Ran {
-    /// Whether memory ran out, or a thread of a script could not be started.
-    fn is_short(&self) -> bool {
-        self.status == 5 || self.output.bytes().ends_with(b": NoWorker\n")
-    }
+/// What is said of a run: what it wrote to standard output and to standard error, and the exit status.
+#[derive(Clone, Copy, Debug, PartialEq)]
+pub struct Answer<'a> {
+    pub output: &'a str,
+    pub errors: &'a str,
+    pub status: u8,
+}
 
-    /// Whether it wrote this and ended so.
-    pub fn is(&self, output: &str, errors: &str, status: u8) -> bool {
-        self.output.is(output) && self.errors.is(errors) && self.status == status
+impl Ran {
+    pub fn answer(&self) -> Answer<'_> {
+        Answer {
+            output: self.output.text(),
+            errors: self.errors.text(),
+            status: self.status,
+        }
     }
 }
 
@@ -108,25 +114,21 @@ impl<'a> Run<'a> {
         }
     }
 
-    /// What it comes to, once more where memory ran out or a thread could not be started.
-    pub fn ran_again<R: AllocGlobal + Files + Threads + Wait + Sync>(&self, rt: &R) -> Ran {
-        let ran = self.ran(rt);
-        if !ran.is_short() {
-            return ran;
-        }
-        self.ran(rt)
-    }
-
     /// The run writes this to standard output and to standard error, and ends with this status.
     pub fn expect<R: Abort + AllocGlobal + Files + Threads + Wait + Sync>(
         &self,
         rt: &R,
+        name: &str,
         output: &str,
         errors: &str,
         status: u8,
     ) {
-        let is_so = self.ran_again(rt).is(output, errors, status);
-        expect(rt, is_so, str::from_utf8(self.text.bytes).unwrap_or(output));
+        let expected = Answer {
+            output,
+            errors,
+            status,
+        };
+        expect(rt, name, &self.ran(rt).answer(), &expected);
     }
 }
 
@@ -134,14 +136,15 @@ impl<'a> Run<'a> {
 /// and the status of the replay. A check ends with 0 where a replay reports a race.
 pub fn expect_both<R: Abort + AllocGlobal + Files + Threads + Wait + Sync>(
     rt: &R,
+    name: &str,
     text: Text<'_>,
     (counts, report): (&str, &str),
     errors: &str,
     status: u8,
 ) {
     let checked = if status == 1 { 0 } else { status };
-    Run::of(CHECK, text).expect(rt, counts, errors, checked);
-    Run::of(REPLAY, text).expect(rt, report, errors, status);
+    Run::of(CHECK, text).expect(rt, name, counts, errors, checked);
+    Run::of(REPLAY, text).expect(rt, name, report, errors, status);
 }
 
 /// What is run, the text that it reads, whether the reader then fails, the room for what it writes, what it
@@ -156,17 +159,24 @@ pub type Row = (
     u8,
 );
 
+/// Each row holds. Where one does not, its number is told, counted from 0.
 pub fn expect_rows<R: Abort + AllocGlobal + Files + Threads + Wait + Sync>(rt: &R, rows: &[Row]) {
-    for (program, text, fails, rooms, output, errors, status) in rows {
-        let text = Text {
-            fails: *fails,
-            ..Text::whole(text.as_bytes())
-        };
+    for (number, row) in rows.iter().enumerate() {
+        let (program, text, fails, rooms, output, errors, status) = *row;
         let run = Run {
-            program: *program,
-            text,
-            rooms: *rooms,
+            program,
+            text: Text {
+                fails,
+                ..Text::whole(text.as_bytes())
+            },
+            rooms,
         };
-        run.expect(rt, output, errors, *status);
+        let expected = Answer {
+            output,
+            errors,
+            status,
+        };
+        let ran = run.ran(rt);
+        expect(rt, text, &(number, ran.answer()), &(number, expected));
     }
 }

@@ -2,76 +2,104 @@
 use crate::doubles::{Page, Room, Text, letters};
 use crate::expected::expect;
 use crate::runs::Program::{self, Script};
-use crate::runs::{Ran, Row, Run, SCRIPT, expect_rows};
+use crate::runs::{Answer, Ran, Row, Run, SCRIPT, expect_rows};
 use std::fs;
 use std::fs::Files;
+use std::process::Abort;
 use std::sync::Wait;
 use std::thread::Threads;
 
-/// The text of a script, what a run of it prints, and the status with which it ends.
-type Case = (&'static str, &'static str, u8);
+/// What a script shows, its text, what a run of it prints, and the status with which it ends.
+type Case = (&'static str, &'static str, &'static str, u8);
 
 const SCRIPTS: &[Case] = &[
-    // An empty script.
-    ("", "events 0 threads 0 locks 0 variables 0 races 0\n", 0),
-    // A thread that is joined before its store is loaded.
     (
+        "an empty script",
+        "",
+        "events 0 threads 0 locks 0 variables 0 races 0\n",
+        0,
+    ),
+    (
+        "a thread that is joined before its store is loaded",
         "m fork a\na w x 5\nm join a\nm r x\n",
         "events 4 threads 2 locks 0 variables 1 races 0\n",
         0,
     ),
-    // A lock that is never released.
     (
+        "a lock that is never released",
         "m acq l\nm fork a\na acq l\nm join a\n",
         "line 3: Stuck\n",
         6,
     ),
-    // A thread that no line forks.
-    ("m r x\na r x\n", "line 2: NoFork\n", 6),
-    // A thread that is forked twice.
-    ("m fork a\nm fork a\n", "line 2: BadFork\n", 6),
-    // A number above the greatest.
-    ("m w x 18446744073709551616\n", "line 1: BadNumber\n", 6),
-    // A release of a lock that is free.
-    ("m rel l\n", "line 1: NotHolder\n", 3),
-    // A thread that joins itself.
-    ("m fork a\nm join m\n", "line 2: BadJoin\n", 6),
-    // Two blanks.
-    ("m  r x\n", "line 1: BadLine\n", 6),
-    // A thread that is not joined.
     (
+        "a thread that no line forks",
+        "m r x\na r x\n",
+        "line 2: NoFork\n",
+        6,
+    ),
+    (
+        "a thread that is forked twice",
+        "m fork a\nm fork a\n",
+        "line 2: BadFork\n",
+        6,
+    ),
+    (
+        "a number above the greatest",
+        "m w x 18446744073709551616\n",
+        "line 1: BadNumber\n",
+        6,
+    ),
+    (
+        "a release of a lock that is free",
+        "m rel l\n",
+        "line 1: NotHolder\n",
+        3,
+    ),
+    (
+        "a thread that joins itself",
+        "m fork a\nm join m\n",
+        "line 2: BadJoin\n",
+        6,
+    ),
+    ("two blanks", "m  r x\n", "line 1: BadLine\n", 6),
+    (
+        "a thread that is not joined",
         "m fork a\nm join a\nm fork b\nb r x\n",
         "events 4 threads 3 locks 0 variables 1 races 0\n",
         0,
     ),
-    // A lock that its holder acquires again.
     (
+        "a lock that its holder acquires again",
         "m acq l\nm acq l\n",
         "events 2 threads 1 locks 1 variables 0 races 0\n",
         0,
     ),
-    // Swaps in turn.
     (
+        "swaps in turn",
         "m fork a\na swap x 4\nm join a\nm swap x 5\n",
         "events 6 threads 2 locks 0 variables 1 races 0\n",
         0,
     ),
-    // A swap of no number.
-    ("m swap x -1\n", "line 1: BadNumber\n", 6),
-    // A fault that two threads wait for.
     (
+        "a swap of no number",
+        "m swap x -1\n",
+        "line 1: BadNumber\n",
+        6,
+    ),
+    (
+        "a fault that two threads wait for",
         "m fork a\nm fork b\na rel l\nb join a\nm join b\n",
         "line 3: NotHolder\n",
         3,
     ),
-    // Loads that nothing orders.
     (
+        "loads that nothing orders",
         "m fork a\nm r x\na r y\n",
         "events 3 threads 2 locks 0 variables 2 races 0\n",
         0,
     ),
-    // Stores under one lock.
     (
+        "stores under one lock",
         "m fork a\nm acq l\nm w x 1\nm rel l\na acq l\na w x 2\na rel l\nm join a\nm r x\n",
         "events 9 threads 2 locks 1 variables 1 races 0\n",
         0,
@@ -80,9 +108,9 @@ const SCRIPTS: &[Case] = &[
 
 #[test]
 fn the_worked_scripts_have_their_answers(rt: HostRuntime) {
-    for (text, output, status) in SCRIPTS {
+    for (name, text, output, status) in SCRIPTS {
         let run = Run::of(SCRIPT, Text::cut(text.as_bytes(), 5, 3));
-        run.expect(&rt, output, "", *status);
+        run.expect(&rt, name, output, "", *status);
     }
 }
 
@@ -91,7 +119,8 @@ fn a_line_of_a_script_that_is_too_long_is_told(rt: HostRuntime) {
     let mut text = Page::blank(Room::AMPLE);
     text.keep(letters(1025));
     text.keep(b"\n");
-    Run::of(SCRIPT, Text::whole(text.bytes())).expect(&rt, "line 1: LineTooLong\n", "", 6);
+    let run = Run::of(SCRIPT, Text::whole(text.bytes()));
+    run.expect(&rt, "1,025 bytes", "line 1: LineTooLong\n", "", 6);
 }
 
 /// Nothing orders the store and the load of `y`, in whichever order they come.
@@ -218,19 +247,30 @@ const RACE_LINES: &[&[u8]] = &[
     b"5|m|w(y)|2 with 4|a|r(y)|8\n",
 ];
 
-/// Whether the report is the counts and one of the lines, and nothing else is said.
-fn is_race(ran: &Ran) -> bool {
-    match ran.output.bytes().strip_prefix(RACE_COUNTS) {
-        Some(line) => RACE_LINES.contains(&line) && ran.errors.is("") && ran.status == 1,
+/// Whether the report is the counts and one of the lines.
+fn is_race(report: &[u8]) -> bool {
+    match report.strip_prefix(RACE_COUNTS) {
+        Some(line) => RACE_LINES.contains(&line),
         None => false,
     }
+}
+
+/// A race is reported, and nothing else is said.
+fn expect_race(rt: &impl Abort, name: &str, ran: &Ran) {
+    let came = (ran.answer(), is_race(ran.output.bytes()));
+    let expected = Answer {
+        errors: "",
+        status: 1,
+        ..came.0
+    };
+    expect(rt, name, &came, &(expected, true));
 }
 
 #[test]
 fn a_race_is_reported_whole_whatever_the_schedule(rt: HostRuntime) {
     for _ in 0..20 {
-        let ran = Run::of(SCRIPT, Text::whole(RACE.as_bytes())).ran_again(&rt);
-        expect(&rt, is_race(&ran), "a race");
+        let ran = Run::of(SCRIPT, Text::whole(RACE.as_bytes())).ran(&rt);
+        expect_race(&rt, RACE, &ran);
     }
 }
 
@@ -268,18 +308,15 @@ const IN_A_FILE: &[(&[&str], &str, &str, u8)] = &[
     ),
 ];
 
-/// What becomes of the script in a file that the words name. It is written at the second try where memory ran
-/// out, and removed then.
-fn ran_in_a_file<R: AllocGlobal + Files + Threads + Wait + Sync>(
+/// What becomes of the script in a file that the words name. It is removed then.
+fn ran_in_a_file<R: Abort + AllocGlobal + Files + Threads + Wait + Sync>(
     rt: &R,
     words: &[&str],
     text: &str,
 ) -> Ran {
-    if fs::write(rt, "worked.script", text).is_err() {
-        let _ = fs::write(rt, "worked.script", text);
-    }
-    let ran = Run::of(Program::Words(words), Text::whole(b"")).ran_again(rt);
-    let _ = fs::remove_file(rt, "worked.script");
+    fs::write(rt, "worked.script", text).expect(rt, "a file");
+    let ran = Run::of(Program::Words(words), Text::whole(b"")).ran(rt);
+    fs::remove_file(rt, "worked.script").expect(rt, "a file");
     ran
 }
 
@@ -287,8 +324,13 @@ fn ran_in_a_file<R: AllocGlobal + Files + Threads + Wait + Sync>(
 fn a_script_in_a_file_is_run(rt: HostRuntime) {
     for (words, text, output, status) in IN_A_FILE {
         let ran = ran_in_a_file(&rt, words, text);
-        expect(&rt, ran.is(output, "", *status), text);
+        let expected = Answer {
+            output,
+            errors: "",
+            status: *status,
+        };
+        expect(&rt, text, &ran.answer(), &expected);
     }
     let ran = ran_in_a_file(&rt, &["run", "worked.script"], RACE);
-    expect(&rt, is_race(&ran), "a race");
+    expect_race(&rt, "in a file", &ran);
 }

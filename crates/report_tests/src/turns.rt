@@ -33,9 +33,10 @@ const LETTERS: &[u8] = &[b'a'; 1025];
 
 const ALL: usize = usize::MAX;
 
-/// A text, how many bytes of it a read gives, whether a read at its end fails, how many reads there may be,
+/// What a case shows, its text, how many bytes of it a read gives, whether a read at its end fails, how many reads there may be,
 /// the line that could not be read to its end, if any, and what `check` and `replay` write.
 type Case = (
+    &'static str,
     &'static [u8],
     usize,
     bool,
@@ -47,17 +48,89 @@ type Case = (
 
 /// The read that finds the end takes a turn too. Nothing is written where a line is not read to its end.
 const CASES: &[Case] = &[
-    (LONG, ALL, false, 2, None, LONG_COUNTS, LONG_REPORT),
-    (LONG, ALL, false, 1, Some(10), "", ""),
-    (STORE, 1, false, 11, None, STORE_COUNTS, STORE_REPORT),
-    (STORE, 1, false, 10, Some(2), "", ""),
-    (STORE, 1, false, 0, Some(1), "", ""),
-    (LFS, 1, false, 1000, Some(1001), "", ""),
+    (
+        "a text and its end",
+        LONG,
+        ALL,
+        false,
+        2,
+        None,
+        LONG_COUNTS,
+        LONG_REPORT,
+    ),
+    ("no turn for the end", LONG, ALL, false, 1, Some(10), "", ""),
+    (
+        "a turn a byte",
+        STORE,
+        1,
+        false,
+        11,
+        None,
+        STORE_COUNTS,
+        STORE_REPORT,
+    ),
+    (
+        "a turn a byte, none for the end",
+        STORE,
+        1,
+        false,
+        10,
+        Some(2),
+        "",
+        "",
+    ),
+    ("no turn", STORE, 1, false, 0, Some(1), "", ""),
+    (
+        "a turn for half of the lines",
+        LFS,
+        1,
+        false,
+        1000,
+        Some(1001),
+        "",
+        "",
+    ),
     // A read that fails has the number of the line whose end was not read.
-    (b"", 1, true, 2000, Some(1), "", ""),
-    (LETTERS, 1, true, 2000, Some(1), "", ""),
-    (STORE, 1, true, 2000, Some(2), "", ""),
-    (b"T0|w(x)|1\n\r\nT0|rel", 1, true, 2000, Some(3), "", ""),
+    (
+        "a first read that fails",
+        b"",
+        1,
+        true,
+        2000,
+        Some(1),
+        "",
+        "",
+    ),
+    (
+        "a read that fails after 1,025 bytes",
+        LETTERS,
+        1,
+        true,
+        2000,
+        Some(1),
+        "",
+        "",
+    ),
+    (
+        "a read that fails after a line",
+        STORE,
+        1,
+        true,
+        2000,
+        Some(2),
+        "",
+        "",
+    ),
+    (
+        "a read that fails within a line",
+        b"T0|w(x)|1\n\r\nT0|rel",
+        1,
+        true,
+        2000,
+        Some(3),
+        "",
+        "",
+    ),
 ];
 
 fn fault(stops_at: Option<u64>) -> Option<ReplayFault> {
@@ -70,35 +143,30 @@ fn fault(stops_at: Option<u64>) -> Option<ReplayFault> {
 
 #[test]
 fn a_text_is_read_to_its_end_in_as_many_turns_as_it_takes(rt: HostRuntime) {
-    for (text, most, fails, turns, stops_at, counts, report) in CASES {
+    for (name, text, most, fails, turns, stops_at, counts, report) in CASES {
         let text = Text {
             fails: *fails,
             ..Text::cut(text, *most, *most)
         };
-        let wanted = Some((fault(*stops_at), true));
-        let checked = Command::Check.ends(rt.alloc(), text, *turns, counts);
-        expect(&rt, checked == wanted, "a check in so many turns");
-        let replayed = Command::Replay.ends(rt.alloc(), text, *turns, report);
-        expect(&rt, replayed == wanted, "a replay in so many turns");
+        let fault = fault(*stops_at);
+        for (command, output) in [(Command::Check, counts), (Command::Replay, report)] {
+            let mut page = Page::blank(Room::AMPLE);
+            let came = command.fault_of(&rt, rt.alloc(), text, *turns, &mut page);
+            expect(&rt, name, &(came, page.text()), &(fault, *output));
+        }
     }
 }
 
-fn counts(alloc: Global, limits: Limits) -> Option<Counts> {
+fn counts_of(alloc: Global, limits: Limits) -> Result<Counts, ReplayFault> {
     let mut page = Page::blank(Room::AMPLE);
     let mut text = Pieces::of(Text::whole(LONG));
-    check(alloc, &mut text, &mut page, limits, 2).ok()
+    check(alloc, &mut text, &mut page, limits, 2)
 }
 
-fn summary(alloc: Global, limits: Limits) -> Option<Summary> {
+fn summary_of(alloc: Global, limits: Limits) -> Result<Summary, ReplayFault> {
     let mut page = Page::blank(Room::AMPLE);
     let mut text = Pieces::of(Text::whole(LONG));
-    replay(alloc, &mut text, &mut page, limits, 2).ok()
-}
-
-/// What `check` and `replay` answer for the long text.
-fn answers(alloc: Global) -> Option<(Counts, Summary)> {
-    let limits = Limits::new(2, 1, 2, 64, Roots::Free).ok()?;
-    Some((counts(alloc, limits)?, summary(alloc, limits)?))
+    replay(alloc, &mut text, &mut page, limits, 2)
 }
 
 #[test]
@@ -116,9 +184,12 @@ fn what_is_counted_is_answered(rt: HostRuntime) {
         vars: 2,
         races: 3,
     };
-    let mut answered = answers(rt.alloc());
-    if answered.is_none() {
-        answered = answers(rt.alloc());
-    }
-    expect(&rt, answered == Some((counts, summary)), "other counts");
+    let limits = Limits::new(2, 1, 2, 64, Roots::Free).expect(&rt, "limits");
+    expect(&rt, "a check", &counts_of(rt.alloc(), limits), &Ok(counts));
+    expect(
+        &rt,
+        "a replay",
+        &summary_of(rt.alloc(), limits),
+        &Ok(summary),
+    );
 }

@@ -20,6 +20,6 @@ const WORDS: &[(Refusal, &str)] = &[
 #[test]
 fn each_refusal_has_its_word(rt: HostRuntime) {
     for (refusal, word) in WORDS {
-        expect(&rt, refusal_word(*refusal) == *word, word);
+        expect(&rt, word, &refusal_word(*refusal), word);
     }
 }

@@ -12,32 +12,37 @@ use std::thread::Threads;
 /// does a replayer, however it is fed.
 fn expect_however_cut<R: Abort + AllocGlobal + Files + Threads + Wait + Sync>(
     rt: &R,
+    name: &str,
     text: &[u8],
     printed: (&str, &str),
     status: u8,
 ) {
     for cut in 0..=text.len().max(1) {
-        expect_both(rt, Text::however_cut(text, cut), printed, "", status);
+        let text = Text::however_cut(text, cut);
+        expect_both(rt, name, text, printed, "", status);
     }
-    expect_however_fed(rt, rt.alloc(), Text::whole(text), printed.1, status <= 1);
+    let text = Text::whole(text);
+    expect_however_fed(rt, rt.alloc(), name, text, printed.1, status <= 1);
 }
 
 #[test]
 fn legal_traces_have_their_answers_however_they_are_cut(rt: HostRuntime) {
-    for (text, counts, report, status) in legal() {
-        expect_however_cut(&rt, text.as_bytes(), (*counts, *report), *status);
+    for (name, text, counts, report, status) in legal() {
+        let printed = (*counts, *report);
+        expect_however_cut(&rt, name, text.as_bytes(), printed, *status);
     }
 }
 
 /// The line of the refusal is printed. An LF after the text changes nothing.
 #[test]
 fn the_first_refused_line_is_named_however_a_text_is_cut(rt: HostRuntime) {
-    for (text, line) in refused() {
-        expect_however_cut(&rt, text.as_bytes(), (*line, *line), 3);
+    for (name, text, line) in refused() {
+        expect_however_cut(&rt, name, text.as_bytes(), (*line, *line), 3);
         let mut ended = Page::blank(Room::AMPLE);
         ended.keep(text.as_bytes());
         ended.keep(b"\n");
-        expect_both(&rt, Text::whole(ended.bytes()), (*line, *line), "", 3);
+        let ended = Text::whole(ended.bytes());
+        expect_both(&rt, name, ended, (*line, *line), "", 3);
     }
 }
 
@@ -63,7 +68,8 @@ fn as_many_threads_are_admitted_as_the_option_says(rt: HostRuntime) {
     for (words, output, status) in THREADS {
         for cut in 0..=text.len() {
             let text = Text::however_cut(text, cut);
-            Run::of(Program::Words(words), text).expect(&rt, output, "", *status);
+            let run = Run::of(Program::Words(words), text);
+            run.expect(&rt, "two threads", output, "", *status);
         }
     }
 }
@@ -104,7 +110,8 @@ fn a_long_report_is_written_whole(rt: HostRuntime) {
     let report = report_of_loads();
     let counts = "events 21 threads 2 locks 0 variables 1\n";
     let report = str::from_utf8(report.bytes()).unwrap_or("");
-    expect_both(&rt, Text::whole(text.bytes()), (counts, report), "", 1);
+    let text = Text::whole(text.bytes());
+    expect_both(&rt, "twenty loads", text, (counts, report), "", 1);
 }
 
 /// A thousand lines in pieces that end within them.
@@ -117,5 +124,5 @@ fn a_thousand_lines_are_judged(rt: HostRuntime) {
     let counts = "events 1000 threads 1 locks 1 variables 2\n";
     let report = "events 1000 threads 1 locks 1 variables 2 races 0\n";
     let text = Text::cut(text.bytes(), 1001, 4001);
-    expect_both(&rt, text, (counts, report), "", 0);
+    expect_both(&rt, "a thousand lines", text, (counts, report), "", 0);
 }
