@@ -1,23 +1,23 @@
 -- Where a name stands among the names of its kind, and what numbering one does to the spaces.
 use Rattle.std.proofs.Common.{◌≡◌, ◌≢◌, ℕ, ◌+◌, ◌<◌, ◌≤◌, List, length, Option, Some, None}
-use Rattle.std.proofs.Common.{Ok, Bool, true, false, cond, refl, sym, ap, ap₂, subst, ◌∙◌, arith}
+use Rattle.std.proofs.Common.{Bool, true, false, cond, refl, sym, ap, ap₂, subst, ◌∙◌, arith}
 use Rattle.std.proofs.Common.{◌⊎◌, inl, inr}
 use Rattle.std.specs.Prelude.{IsSome, nat_lt, not}
 use Rattle.std.specs.List.{position_or_len}
 use Rattle.std.specs.Str.{bytes_eq}
 use Rattle.std.proofs.Math.Dec.{eqb}
-use Rattle.std.proofs.lemmas.Bool.{lt-ltb, le-ltb, ltb-true, ltb-false, cases_Bool, false_from_ne_true}
+use Rattle.std.proofs.lemmas.Bool.{lt-ltb, le-ltb, false_from_ne_true}
 use Rattle.std.proofs.lemmas.Bool.Decides.{eqb_tells}
 use Rattle.std.proofs.lemmas.List.{length_push}
 use Rattle.std.proofs.lemmas.List.Folds.{position_or_len_push}
 use Rattle.std.proofs.lemmas.List.Sums.{prefix_len-le-length}
 use Rattle.std.proofs.lemmas.Slice.Eq.{bytes_eq-Decides}
 use Rattle.rapid_text.specs.declared.causes.Kind.{Kind}
+use Rattle.rapid_text.specs.declared.causes.Kind.TheVariants as kinds
 use Rattle.rapid_text.specs.Numbers.{Numbered, with_name, found_or, place_of, number_of}
-use Rattle.rapid_text.specs.Tables.{Tables, TablesGrow, space, with_space, put_back, number_in}
-use Rattle.rapid_text.specs.Events.{number_or_fault}
+use Rattle.rapid_text.specs.Tables.{Tables, space, with_space, put_back, number_in}
 use Rattle.rapid_text.proofs.NameLaws.{with_each}
-use Rattle.rapid_text.proofs.NameGrowth.{with_space_of, number_found, gives}
+use Rattle.rapid_text.proofs.NameGrowth.{with_space_of, number_found}
 
 -- ---- a name that was put at the end
 
@@ -148,26 +148,6 @@ unfolding number_of
 known_place t kind name n is =
     number_found t kind name n (ap (λ (o : Option ℕ). found_or o (space t kind) name) (sym is))
 
-pub known_number : (t : Tables) (kind : Kind) (name : List ℕ) (n : ℕ) → Some n ≡ place_of (space t kind) name
-    → number_or_fault kind (number_in t kind name) ≡ Ok (n, t)
-known_number t kind name n is = ap (number_or_fault kind) (known_place t kind name n is)
-
--- a new name that has a number finds one left
-pub room_left : (t : Tables) (kind : Kind) (name : List ℕ) → place_of (space t kind) name ≡ None
-    → IsSome (number_in t kind name) → length (space t kind).names < (space t kind).limit
-room_left t kind name new some =
-    elim (cases_Bool (nat_lt (length (space t kind).names) (space t kind).limit)) [
-      | inl less ↦ ltb-true (length (space t kind).names) (space t kind).limit less
-      | inr more ↦
-          let most = ltb-false (length (space t kind).names) (space t kind).limit more in
-          let none = lacks t kind name new (λ left. absurd (omega (arith, left, most))) in
-          absurd (let bad = subst (λ (o : Option (ℕ × Tables)). IsSome o) none some in cc)
-    ]
-
-pub added_grows : (t u : Tables) (kind : Kind) (name : List ℕ) (n : ℕ)
-    → number_in t kind name ≡ Some (n, u) → TablesGrow t u
-added_grows t u kind name n is = (gives t kind name n u is).grows
-
 -- what numbering a name does to the spaces
 pub record Spaces (t : Tables) (kind : Kind) (name : List ℕ) (n : ℕ) (u : Tables) : Type 0 where
   pub own : WasNumbered (space t kind) name n (space u kind)
@@ -189,3 +169,51 @@ pub spaces : (t : Tables) (kind : Kind) (name : List ℕ) (n : ℕ) (u : Tables)
     → number_in t kind name ≡ Some (n, u) → Spaces t kind name n u
 unfolding number_in
 spaces t kind name n u e = spaces_by t kind name n u (number_of (space t kind) name) refl e
+
+-- ---- what stays
+
+-- a name that was put at the end of its space leaves the others where they are
+place_stays : (s : Numbered) (a b : List ℕ) (i : ℕ) → place_of s b ≡ Some i
+    → place_of (with_name s a) b ≡ Some i
+place_stays s a b i at =
+    place_pushed s a b ∙ ap (λ (o : Option ℕ). or_last o (bytes_eq b a) (length s.names)) at
+
+-- the name that was numbered has its number
+pub has_place : (t u : Tables) (kind : Kind) (name : List ℕ) (n : ℕ) → number_in t kind name ≡ Some (n, u)
+    → place_of (space u kind) name ≡ Some n
+has_place t u kind name n is =
+    elim (spaces t kind name n u is).own [
+      | inl was ↦ ap (λ (s : Numbered). place_of s name) was.1 ∙ was.0
+      | inr new ↦
+          ap (λ (s : Numbered). place_of s name) new.2 ∙ same_place (space t kind) name new.0
+          ∙ ap (λ (i : ℕ). let o : Option ℕ = Some i in o) (sym new.1)
+    ]
+
+pub numbered_again : (t u : Tables) (kind : Kind) (name : List ℕ) (n : ℕ)
+    → number_in t kind name ≡ Some (n, u) → number_in u kind name ≡ Some (n, u)
+numbered_again t u kind name n is = known_place u kind name n (sym (has_place t u kind name n is))
+
+keeps_own : (s u : Numbered) (name other : List ℕ) (n i : ℕ) → WasNumbered s name n u
+    → place_of s other ≡ Some i → place_of u other ≡ Some i
+keeps_own s u name other n i was at =
+    elim was [
+      | inl same ↦ ap (λ (x : Numbered). place_of x other) same.1 ∙ at
+      | inr new ↦ ap (λ (x : Numbered). place_of x other) new.2 ∙ place_stays s name other i at
+    ]
+
+-- and a thread's name keeps its own
+pub keeps_thread : (t u : Tables) (kind : Kind) (name thread : List ℕ) (n i : ℕ)
+    → number_in t kind name ≡ Some (n, u) → place_of (space t kinds.Thread) thread ≡ Some i
+    → place_of (space u kinds.Thread) thread ≡ Some i
+keeps_thread t u kinds.Thread name thread n i is at =
+    keeps_own (space t kinds.Thread) (space u kinds.Thread) name thread n i
+    (spaces t kinds.Thread name n u is).own at
+keeps_thread t u kinds.Lock name thread n i is at =
+    ap (λ (s : Numbered). place_of s thread)
+    ((spaces t kinds.Lock name n u is).others kinds.Thread (λ bad. absurd cc)) ∙ at
+keeps_thread t u kinds.Variable name thread n i is at =
+    ap (λ (s : Numbered). place_of s thread)
+    ((spaces t kinds.Variable name n u is).others kinds.Thread (λ bad. absurd cc)) ∙ at
+keeps_thread t u kinds.Site name thread n i is at =
+    ap (λ (s : Numbered). place_of s thread)
+    ((spaces t kinds.Site name n u is).others kinds.Thread (λ bad. absurd cc)) ∙ at

@@ -1,12 +1,10 @@
 -- The names of a line of which some are new: whether each has a number left.
 use Rattle.std.proofs.Common.{◌≡◌, ◌≢◌, ℕ, ◌+◌, ◌<◌, ◌≤◌, List, length, Option, Some, None}
-use Rattle.std.proofs.Common.{Result, Ok, Err, true, false, refl, sym, ap, subst, ◌∙◌, arith}
+use Rattle.std.proofs.Common.{Result, Ok, Err, refl, sym, ap, subst, ◌∙◌, arith}
 use Rattle.std.proofs.Common.{◌⊎◌, inl, inr}
-use Rattle.std.specs.Prelude.{IsOk, IsSome, nat_lt, not}
-use Rattle.std.specs.Str.{bytes_eq}
+use Rattle.std.specs.Prelude.{IsOk, IsSome, OnErr, nat_lt}
 use Rattle.std.proofs.lemmas.Bool.{ltb-true, ltb-false, cases_Bool}
 use Rattle.std.proofs.lemmas.List.{length_push}
-use Rattle.std.proofs.lemmas.Slice.Eq.{bytes_eq-Decides}
 use Rattle.event_core.specs.declared.events.Event.{Event}
 use Rattle.rapid_line.specs.declared.words.Word.{Word}
 use Rattle.rapid_line.specs.declared.words.Word.TheVariants as words
@@ -20,8 +18,9 @@ use Rattle.rapid_text.specs.Numbers.{Numbered, with_name, place_of}
 use Rattle.rapid_text.specs.Tables.{Tables, space, number_in}
 use Rattle.rapid_text.specs.Events.{kind_of, event_of, number_or_fault, named_event, some_event, HasEvent}
 use Rattle.rapid_text.specs.declared.event_lines.Known.{Known}
-use Rattle.rapid_text.specs.KnownNames.{AreKnown, AddsTwo, IsOfItself}
+use Rattle.rapid_text.specs.KnownNames.{AreKnown, AddsTwo}
 use Rattle.rapid_text.proofs.NamePlaces.{fits, lacks, known_place, spaces, same_place, other_place}
+use Rattle.rapid_text.proofs.NamePlaces.{has_place, keeps_thread, numbered_again}
 
 pub event_read : (r : Result (Event × Tables) Cause) → IsOk r → HasEvent (some_event r)
 event_read (Ok p) ok = refl
@@ -113,16 +112,6 @@ named_by_third t u v e n k o first second is =
 some_of : (o : Option (ℕ × Tables)) → IsSome o → (n : ℕ) × (u : Tables) × (o ≡ Some (n, u))
 some_of None some = absurd cc
 some_of (Some p) some = (p.0, p.1, refl)
-
--- the event where all are known
-pub known_event : (t : Tables) (e : Named) (known : Known) (n k s : ℕ) → AreKnown t e known
-    → known.thread ≡ Some n → known.target ≡ Some k → known.site ≡ Some s
-    → named_event t e ≡ Ok (event_of e.word n k s, t)
-known_event t e known n k s are thread target site =
-    named_by_third t t t e n k (Some (s, t))
-    (known_place t kinds.Thread e.thread n (sym thread ∙ are.thread))
-    (known_place t (kind_of e.word) e.argument k (sym target ∙ are.target))
-    (known_place t kinds.Site e.location s (sym site ∙ are.site))
 
 -- the name is new, and so many more are too many of its kind
 abbrev pub PassesLimit : Tables → Kind → Option ℕ → ℕ → Type 0
@@ -270,92 +259,25 @@ module _ (t : Tables) (e : Named) (known : Known) (m : ℕ) (are : AreKnown t e 
         second.2 third.2 in
         rw event refl
 
--- ---- where each has a number left
+-- ---- a line of which some names were numbered
 
-some_by : (kind : Kind) (o : Option (ℕ × Tables)) (next : ℕ × Tables → Result (Event × Tables) Cause)
-    → IsOk (and_then (number_or_fault kind o) next) → IsSome o
-some_by kind None next ok = absurd cc
-some_by kind (Some p) next ok = refl
+pub on_err : {Y E : Type 0} (X : Type 0) (r : Result Y E) → X → OnErr r X
+on_err X (Ok y) x = tt
+on_err X (Err e) x = x
 
-pub thread_numbered : (t : Tables) (e : Named) → IsOk (named_event t e)
-    → IsSome (number_in t kinds.Thread e.thread)
-thread_numbered t e ok =
-    some_by kinds.Thread (number_in t kinds.Thread e.thread) (after_first e)
-    (subst (λ (r : Result (Event × Tables) Cause). IsOk r)
-    (named_by_first t e (number_in t kinds.Thread e.thread) refl) ok)
+-- the first name, and the second, have their numbers again, so the line is read as before
+pub read_after_first : (t u : Tables) (e : Named) (n : ℕ) → number_in t kinds.Thread e.thread ≡ Some (n, u)
+    → named_event u e ≡ named_event t e
+read_after_first t u e n first =
+    named_by_first u e (Some (n, u)) (numbered_again t u kinds.Thread e.thread n first)
+    ∙ sym (named_by_first t e (Some (n, u)) first)
 
-pub target_numbered : (t u : Tables) (e : Named) (n : ℕ) → IsOk (named_event t e)
+pub read_after_second : (t u v : Tables) (e : Named) (n k : ℕ)
     → number_in t kinds.Thread e.thread ≡ Some (n, u)
-    → IsSome (number_in u (kind_of e.word) e.argument)
-target_numbered t u e n ok first =
-    some_by (kind_of e.word) (number_in u (kind_of e.word) e.argument) (after_target e n)
-    (subst (λ (r : Result (Event × Tables) Cause). IsOk r)
-    (named_by_second t u e n (number_in u (kind_of e.word) e.argument) first refl) ok)
-
-pub site_numbered : (t u v : Tables) (e : Named) (n k : ℕ) → IsOk (named_event t e)
-    → number_in t kinds.Thread e.thread ≡ Some (n, u)
-    → number_in u (kind_of e.word) e.argument ≡ Some (k, v)
-    → IsSome (number_in v kinds.Site e.location)
-site_numbered t u v e n k ok first second =
-    some_by kinds.Site (number_in v kinds.Site e.location) _
-    (subst (λ (r : Result (Event × Tables) Cause). IsOk r)
-    (named_by_third t u v e n k (number_in v kinds.Site e.location) first second refl) ok)
-
--- the number of an argument that is the line's own thread
-own_thread : (t u : Tables) (e : Named) (n : ℕ) → number_in t kinds.Thread e.thread ≡ Some (n, u)
-    → IsOfItself e → place_of (space u (kind_of e.word)) e.argument ≡ Some n
-own_thread t u e n first own =
-    let argument = ap (λ (x : List ℕ). place_of (space u (kind_of e.word)) x) own.1 in
-    elim (after_thread t u (kind_of e.word) e.thread n first) [
-      | inl more ↦
-          argument ∙ ap (λ (s : Numbered). place_of s e.thread) more.is
-          ∙ same_place (space t (kind_of e.word)) e.thread more.new
-          ∙ ap (λ (i : ℕ). let o : Option ℕ = Some i in o) (sym more.number)
-      | inr same ↦ argument ∙ ap (λ (s : Numbered). place_of s e.thread) same.is ∙ same.known own.0
-    ]
-
--- and of any other one
-other_argument : (t u : Tables) (e : Named) (n : ℕ) → number_in t kinds.Thread e.thread ≡ Some (n, u)
-    → (IsOfItself e → ⊥)
-    → place_of (space u (kind_of e.word)) e.argument ≡ place_of (space t (kind_of e.word)) e.argument
-other_argument t u e n first other =
-    elim (after_thread t u (kind_of e.word) e.thread n first) [
-      | inl more ↦
-          ap (λ (s : Numbered). place_of s e.argument) more.is
-          ∙ other_place (space t (kind_of e.word)) e.thread e.argument (λ same. other (more.thread, same))
-      | inr same ↦ ap (λ (s : Numbered). place_of s e.argument) same.is
-    ]
-
-thread_or_other : (k : Kind) → (k ≡ kinds.Thread) ⊎ (k ≢ kinds.Thread)
-thread_or_other kinds.Thread = inl refl
-thread_or_other kinds.Lock = inr (λ bad. absurd cc)
-thread_or_other kinds.Variable = inr (λ bad. absurd cc)
-thread_or_other kinds.Site = inr (λ bad. absurd cc)
-
-own_or_other : (e : Named) → IsOfItself e ⊎ (IsOfItself e → ⊥)
-own_or_other e =
-    elim (thread_or_other (kind_of e.word)) [
-      | inl kind ↦ elim (cases_Bool (bytes_eq e.argument e.thread)) [
-        | inl met ↦ inl (kind, (bytes_eq-Decides e.argument e.thread).0 met)
-        | inr differ ↦ inr (λ own. absurd (let met = (bytes_eq-Decides e.argument e.thread).1 own.1 in
-            let bad : true ≡ false = sym met ∙ differ in cc))
-      ]
-      | inr other ↦ inr (λ own. other own.0)
-    ]
-
-pub argument_known : (t u : Tables) (e : Named) (known : Known) (n : ℕ) (argument : Option ℕ)
-    → AreKnown t e known → number_in t kinds.Thread e.thread ≡ Some (n, u)
-    → (IsOfItself e → argument ≡ Some n) → ((IsOfItself e → ⊥) → argument ≡ known.target)
-    → argument ≡ place_of (space u (kind_of e.word)) e.argument
-argument_known t u e known n argument are first own other =
-    elim (own_or_other e) [
-      | inl is ↦ own is ∙ sym (own_thread t u e n first is)
-      | inr not ↦ other not ∙ are.target ∙ sym (other_argument t u e n first not)
-    ]
-
-pub site_known : (t u v : Tables) (e : Named) (known : Known) (n k : ℕ) → AreKnown t e known
-    → number_in t kinds.Thread e.thread ≡ Some (n, u)
-    → number_in u (kind_of e.word) e.argument ≡ Some (k, v)
-    → known.site ≡ place_of (space v kinds.Site) e.location
-site_known t u v e known n k are first second =
-    are.site ∙ ap (λ (s : Numbered). place_of s e.location) (sym (sites_kept t u v e n k first second))
+    → number_in u (kind_of e.word) e.argument ≡ Some (k, v) → named_event v e ≡ named_event t e
+read_after_second t u v e n k first second =
+    named_by_second v v e n (Some (k, v))
+    (known_place v kinds.Thread e.thread n (sym (keeps_thread u v (kind_of e.word) e.argument e.thread k
+    n second (has_place t u kinds.Thread e.thread n first))))
+    (numbered_again u v (kind_of e.word) e.argument k second)
+    ∙ sym (named_by_second t u e n (Some (k, v)) first second)

@@ -13,10 +13,6 @@ pub record AreKnown (t : Tables) (e : Named) (known : Known) : Type 0 where
   pub target : known.target ≡ place_of (space t (kind_of e.word)) e.argument
   pub site : known.site ≡ place_of (space t kinds.Site) e.location
 
--- it forks or joins its own thread
-abbrev pub IsOfItself : Named → Type 0
-IsOfItself e = (kind_of e.word ≡ kinds.Thread) × (e.argument ≡ e.thread)
-
 -- it is the first of its thread, and forks or joins another one
 abbrev pub AddsTwo : Named → Known → Type 0
 AddsTwo e known = (known.thread ≡ None) × (kind_of e.word ≡ kinds.Thread) × (e.argument ≢ e.thread)

@@ -1,20 +1,19 @@
 //! What a line comes to: an event with its names numbered, or the cause why it has none.
-ghost use Rattle.std.specs.Prelude.{◌≡◌, ◌↔◌, ◌+◌, ◌<◌, IfOk, IfErr, IfSome, IsOk, IsSome, IsTrue, Ok, Err};
+ghost use Rattle.std.specs.Prelude.{◌≡◌, ◌↔◌, ◌+◌, ◌<◌, IfOk, IfErr, IfSome, IsOk, IsTrue, OnErr, Ok, Err};
 ghost use Rattle.std.specs.Prelude.{None, Some, length};
 ghost use Rattle.rapid_line.specs.Cut.{Lacks};
 ghost use Rattle.rapid_line.specs.Grammar.{IsWellFormed};
 ghost use Rattle.rapid_line.specs.Marks.{IsKnown};
 ghost use Rattle.rapid_line.specs.Reading.{named_of, line_of, Gives};
 ghost use Rattle.rapid_text.specs.declared.causes.Cause.TheVariants.{TooManyNames};
-ghost use Rattle.rapid_text.specs.Numbers.{place_of};
 ghost use Rattle.rapid_text.specs.Tables.{IsNameOf, TablesGrow, number_in, space};
-ghost use Rattle.rapid_text.specs.Events.{kind_of, op_of, event_of, number_or_fault, named_event, content};
+ghost use Rattle.rapid_text.specs.Events.{kind_of, op_of, number_or_fault, named_event, content};
 ghost use Rattle.rapid_text.specs.Events.{reading, Fails, HasEvent, IsOfNames};
-ghost use Rattle.rapid_text.specs.KnownNames.{AddsTwo, AreKnown, IsOfItself};
+ghost use Rattle.rapid_text.specs.KnownNames.{AddsTwo, AreKnown};
 
-use crate::causes::{Cause, Kind};
+use crate::causes::{Cause, Kind, NameFault};
 use crate::names::Names;
-use event_core::{Event, LockId, Op, OutOfMemory, SiteId, ThreadId, VarId};
+use event_core::{Event, LockId, Op, SiteId, ThreadId, VarId};
 use rapid_line::{Line, LineFault, NamedLine, Word, read_barred, read_line, without_cr};
 
 /// What the argument of a word names.
@@ -48,19 +47,6 @@ struct Known {
     thread: Option<u32>,
     target: Option<u32>,
     site: Option<u32>,
-}
-
-/// The event of these numbers.
-#[inline(always)]
-fn event_at(word: Word, thread: u32, target: u32, site: u32) -> Event
-    ensures { result ≡ event_of word thread target site }
-{
-    Event {
-        thread: ThreadId(thread),
-        op: op_at(word, target),
-        site: SiteId(site),
-        value: 0,
-    }
 }
 
 /// Whether a name is new, and so many more are too many of its kind.
@@ -105,76 +91,75 @@ fn too_many(names: &Names, line: &NamedLine<'_>, known: Known) -> Option<Kind>
     None
 }
 
-/// The number of a line's argument, once its thread has this one; none, where the argument is new.
-fn known_argument(line: &NamedLine<'_>, known: Known, thread: u32) -> Option<u32>
-    ensures own { IsOfItself (named_of line.now) → result ≡ Some thread }
-    ensures other { (IsOfItself (named_of line.now) → ⊥) → result ≡ known.target }
-{
-    if kind_at(line.word) == Kind::Thread && line.argument == line.thread {
-        return Some(thread);
-    }
-    known.target
-}
-
-/// The number of a name in a line, which is added where it is new.
-fn number_or_add(
-    names: &mut Names,
-    kind: Kind,
-    name: &[u8],
-    known: Option<u32>,
-) -> Result<u32, Cause>
-    requires name { IsNameOf kind name.now }
-    requires known { known ≡ place_of (space names.old kind) name.now }
-    requires allowed { IsSome (number_in names.old kind name.now) }
-    ensures ok { IfOk result (λ n.
-        number_or_fault kind (number_in names.old kind name.now) ≡ Ok (n, names.new)) }
-    ensures fault { IfErr result (λ f. f ≡ Cause.OutOfMemory) }
-    ensures grows { TablesGrow names.old names.new }
-{
-    if let Some(number) = known {
-        return Ok(number);
-    }
-    match names.add(kind, name) {
-        Ok(number) => Ok(number),
-        Err(OutOfMemory) => Err(Cause::OutOfMemory),
-    }
-}
-
-/// The event of a named event with a new name. No room is made for a name before each has a number left.
-/// After an `Err` some of its names may have been numbered.
-#[tactic(auto, unfolding(crate::specs::Events::named_event))]
-fn number_new(names: &mut Names, line: &NamedLine<'_>, known: Known) -> Result<Event, Cause>
-    requires named { IsWellFormed (named_of line.now) }
-    requires known { AreKnown names.old (named_of line.now) known }
-    ensures ok { IfOk result (λ e. named_event names.old (named_of line.now) ≡ Ok (e, names.new)) }
-    ensures fault { IfErr result (λ f. Fails f (named_event names.old (named_of line.now))) }
-    ensures grows { TablesGrow names.old names.new }
-{
-    if let Some(kind) = too_many(names, line, known) {
-        return Err(Cause::TooManyNames(kind));
-    }
-    let thread = number_or_add(names, Kind::Thread, line.thread, known.thread)?;
-    let argument = known_argument(line, known, thread);
-    let target = number_or_add(names, kind_at(line.word), line.argument, argument)?;
-    let site = number_or_add(names, Kind::Site, line.location, known.site)?;
-    Ok(event_at(line.word, thread, target, site))
-}
-
-/// The event of a named event of which a name is new. Each name is looked up again.
+/// The cause of a line with names that memory was refused for: a name too many comes first.
 #[inline(never)]
-#[tactic(auto, unfolding(crate::specs::Events::named_event))]
-fn number_again(names: &mut Names, line: &NamedLine<'_>) -> Result<Event, Cause>
-    requires { IsWellFormed (named_of line.now) }
-    ensures ok { IfOk result (λ e. named_event names.old (named_of line.now) ≡ Ok (e, names.new)) }
-    ensures fault { IfErr result (λ f. Fails f (named_event names.old (named_of line.now))) }
-    ensures grows { TablesGrow names.old names.new }
+fn cause_after_refusal(
+    names: &mut Names,
+    thread: &[u8],
+    word: Word,
+    argument: &[u8],
+    location: &[u8],
+) -> Cause
+    ensures fault { Fails result (named_event names.old
+        (record { thread = thread.now; word = word; argument = argument.now; location = location.now })) }
+    ensures same { names.new ≡ names.old }
 {
+    let line = NamedLine {
+        thread,
+        word,
+        argument,
+        location,
+    };
     let known = Known {
         thread: names.find(Kind::Thread, line.thread),
         target: names.find(kind_at(line.word), line.argument),
         site: names.find(Kind::Site, line.location),
     };
-    number_new(names, line, known)
+    match too_many(names, &line, known) {
+        Some(kind) => Cause::TooManyNames(kind),
+        None => Cause::OutOfMemory,
+    }
+}
+
+/// The number of a name in a line, or why it has none, with its kind.
+#[inline(always)]
+fn number_in_line(names: &mut Names, kind: Kind, name: &[u8]) -> Result<u32, (Kind, NameFault)>
+    requires { IsNameOf kind name.now }
+    ensures ok { IfOk result (λ n.
+        number_or_fault kind (number_in names.old kind name.now) ≡ Ok (n, names.new)) }
+    ensures too_many { IfErr result (λ f. f.1 ≡ NameFault.TooMany
+        → number_or_fault kind (number_in names.old kind name.now) ≡ Err (TooManyNames f.0)) }
+    ensures same { OnErr result (names.new ≡ names.old) }
+    ensures grows { TablesGrow names.old names.new }
+{
+    match names.number(kind, name) {
+        Ok(number) => Ok(number),
+        Err(fault) => Err((kind, fault)),
+    }
+}
+
+/// The event of a named event. After an `Err` the names before the one that failed are numbered, so what is
+/// read of the line stays the same.
+#[inline(always)]
+#[tactic(auto, unfolding(crate::specs::Events::named_event))]
+fn number_names(names: &mut Names, line: &NamedLine<'_>) -> Result<Event, (Kind, NameFault)>
+    requires { IsWellFormed (named_of line.now) }
+    ensures ok { IfOk result (λ e. named_event names.old (named_of line.now) ≡ Ok (e, names.new)) }
+    ensures too_many { IfErr result (λ f. f.1 ≡ NameFault.TooMany
+        → named_event names.old (named_of line.now) ≡ Err (TooManyNames f.0)) }
+    ensures same { OnErr result
+        (named_event names.new (named_of line.now) ≡ named_event names.old (named_of line.now)) }
+    ensures grows { TablesGrow names.old names.new }
+{
+    let thread = number_in_line(names, Kind::Thread, line.thread)?;
+    let target = number_in_line(names, kind_at(line.word), line.argument)?;
+    let site = number_in_line(names, Kind::Site, line.location)?;
+    Ok(Event {
+        thread: ThreadId(thread),
+        op: op_at(line.word, target),
+        site: SiteId(site),
+        value: 0,
+    })
 }
 
 /// The event of a named event. After an `Err` some of its names may have been numbered.
@@ -185,16 +170,17 @@ fn number_line(names: &mut Names, line: &NamedLine<'_>) -> Result<Event, Cause>
     ensures fault { IfErr result (λ f. Fails f (named_event names.old (named_of line.now))) }
     ensures grows { TablesGrow names.old names.new }
 {
-    let Some(thread) = names.find(Kind::Thread, line.thread) else {
-        return number_again(names, line);
-    };
-    let Some(target) = names.find(kind_at(line.word), line.argument) else {
-        return number_again(names, line);
-    };
-    let Some(site) = names.find(Kind::Site, line.location) else {
-        return number_again(names, line);
-    };
-    Ok(event_at(line.word, thread, target, site))
+    match number_names(names, line) {
+        Ok(event) => Ok(event),
+        Err((kind, NameFault::TooMany)) => Err(Cause::TooManyNames(kind)),
+        Err((_, NameFault::OutOfMemory)) => Err(cause_after_refusal(
+            names,
+            line.thread,
+            line.word,
+            line.argument,
+            line.location,
+        )),
+    }
 }
 
 /// The named event of a line's content, or the first cause why it has none.

@@ -78,7 +78,6 @@ impl Names {
     }
 
     // The number of a name that no note holds, in the space of its kind.
-    #[inline(never)]
     fn search(&mut self, kind: Kind, name: &[u8]) -> Option<u32>
         ensures is { result ≡ place_of (space self.old kind) name.now }
         ensures same { self.new ≡ self.old }
@@ -92,7 +91,6 @@ impl Names {
     }
 
     /// The number of the name, if it has one.
-    #[inline(always)]
     pub(crate) fn find(&mut self, kind: Kind, name: &[u8]) -> Option<u32>
         ensures is { result ≡ place_of (space self.old kind) name.now }
         ensures same { self.new ≡ self.old }
@@ -110,10 +108,9 @@ impl Names {
         self.space(kind).allows(more)
     }
 
-    /// Adds a new name, which gets the next number of its kind. An `Err` changes nothing.
-    #[inline(never)]
+    // Adds a new name, which gets the next number of its kind. An `Err` changes nothing.
     #[tactic(auto, unfolding(crate::specs::Tables::number_in))]
-    pub(crate) fn add(&mut self, kind: Kind, name: &[u8]) -> Result<u32, OutOfMemory>
+    fn add(&mut self, kind: Kind, name: &[u8]) -> Result<u32, OutOfMemory>
         requires name { IsNameOf kind name.now }
         requires new { place_of (space self.old kind) name.now ≡ None }
         requires room { length (space self.old kind).names < (space self.old kind).limit }
@@ -128,6 +125,29 @@ impl Names {
         }
     }
 
+    // The number of a name that no note holds, which is a new one where the name is.
+    #[inline(never)]
+    fn search_or_add(&mut self, kind: Kind, name: &[u8]) -> Result<u32, NameFault>
+        requires { IsNameOf kind name.now }
+        ensures ok { IfOk result (λ n. number_in self.old kind name.now ≡ Some (n, self.new)) }
+        ensures too_many { IsErrOf result NameFault.TooMany → number_in self.old kind name.now ≡ None }
+        ensures room { IsErrOf result NameFault.OutOfMemory →
+            length (space self.old kind).names < (space self.old kind).limit }
+        ensures err { OnErr result (self.new ≡ self.old) }
+        ensures new_only { OnErr result (place_of (space self.old kind) name.now ≡ None) }
+    {
+        if let Some(number) = self.search(kind, name) {
+            return Ok(number);
+        }
+        if !self.allow(kind, 1) {
+            return Err(NameFault::TooMany);
+        }
+        match self.add(kind, name) {
+            Ok(number) => Ok(number),
+            Err(OutOfMemory) => Err(NameFault::OutOfMemory),
+        }
+    }
+
     // The number of the name in the space of its kind.
     #[inline(always)]
     fn number_in_space(&mut self, kind: Kind, name: &[u8]) -> Result<u32, NameFault>
@@ -139,16 +159,10 @@ impl Names {
         ensures err { OnErr result (self.new ≡ self.old) }
         ensures new_only { OnErr result (place_of (space self.old kind) name.now ≡ None) }
     {
-        if let Some(number) = self.find(kind, name) {
+        if let Some(number) = self.space(kind).find(name) {
             return Ok(number);
         }
-        if !self.allow(kind, 1) {
-            return Err(NameFault::TooMany);
-        }
-        match self.add(kind, name) {
-            Ok(number) => Ok(number),
-            Err(OutOfMemory) => Err(NameFault::OutOfMemory),
-        }
+        self.search_or_add(kind, name)
     }
 
     /// The number of the name, which is the next one where the name is new. `TooMany` where that passes the

@@ -1,18 +1,10 @@
-use Rattle.std.proofs.Common.{◌+◌, ◌≤◌, ℕ, Option, Some, length, sym, ap, subst, ◌∙◌}
-use Rattle.std.proofs.lemmas.Bool.{both_ways}
-use Rattle.rapid_text.specs.Tables.{Tables, space}
-use Rattle.rapid_text.proofs.NamePlaces.{known_place, lacks}
+use Rattle.std.proofs.Common.{◌≡◌, Some, sym, subst}
+use Rattle.rapid_text.specs.Numbers.{Numbered, place_of}
+use Rattle.rapid_text.proofs.NamePlaces.{known_place}
 use Rattle.rapid_text.proofs.names.Names.number_in_space.Goals as goal
 
 pub returns-in-Some-clause-ok : goal.returns-in-Some-clause-ok
 returns-in-Some-clause-ok c =
-    let number = c.in-Some.number in
-    known_place c.args.self.now c.args.kind c.args.name.now number (sym c.in-Some.is ∙ c.find.ensures.is)
-    ∙ ap (λ (t : Tables). let o : Option (ℕ × Tables) = Some (number, t) in o) (sym c.find.ensures.same)
-
-pub returns-then-not-allow-clause-too_many : goal.returns-then-not-allow-clause-too_many
-returns-then-not-allow-clause-too_many c = λ _.
-    lacks c.args.self.now c.args.kind c.args.name.now (sym c.find.ensures.is ∙ c.in_default.is)
-    (λ left. both_ways c.allow.result c.if-not-allow.true (c.allow.ensures.1
-    (subst (λ (t : Tables). length (space t c.args.kind).names + 1 ≤ (space t c.args.kind).limit)
-    (sym c.find.ensures.same) left)))
+    known_place c.args.self.now c.args.kind c.args.name.now c.in-Some.number
+    (sym (subst (λ (s : Numbered). place_of s c.args.name.now ≡ Some c.in-Some.number) c.space.ensures
+    c.in-Some.ensures))
