@@ -8,12 +8,12 @@ use live_monitor::Closed;
 use rapid_text::{Device, Names, write_event};
 use script_drive::{DriveFault, FreeGate, Gate, drive};
 use script_text::Script;
-use std::fs::Files;
 use std::process::Abort;
 use std::sync::Wait;
 use std::sync::atomic::{AtomicBool, Ordering};
 use std::thread;
 use std::thread::Threads;
+use wcp_tool::ScriptFiles;
 
 /// A script, the logs that its threads may leave, and their report.
 #[derive(Clone, Copy)]
@@ -103,7 +103,7 @@ fn log_like(logs: &[&'static str], log: &str) -> &'static str {
 }
 
 /// The log is written, it is one of those that are known, and a replay of its lines prints the report.
-fn expect_log<G: Gate + Sync, R: Abort + AllocGlobal + Files + Threads + Wait + Sync>(
+fn expect_log<G: Gate + Sync, R: Abort + AllocGlobal + ScriptFiles + Threads + Wait + Sync>(
     rt: &R,
     case: &Case,
     gate: &G,

@@ -1,14 +1,14 @@
 //! Readers and writers of std under a device: they fail, or take no byte.
 use crate::doubles::{Room, Text};
 use crate::runs::{Program, Run};
-use std::fs::Files;
 use std::process::Abort;
 use std::sync::Wait;
 use std::thread::Threads;
+use wcp_tool::ScriptFiles;
 
 /// A program whose text comes byte by byte, and whose output is taken so, for so many writes, writes just
 /// these bytes.
-fn expect_written<R: Abort + AllocGlobal + Files + Threads + Wait + Sync>(
+fn expect_written<R: Abort + AllocGlobal + ScriptFiles + Threads + Wait + Sync>(
     rt: &R,
     words: &[&str],
     (text, fails): (&str, bool),

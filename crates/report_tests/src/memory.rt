@@ -7,11 +7,11 @@ use crate::runs::{Answer, CHECK, Program, REPLAY, Run, SCRIPT};
 use crate::traces::legal;
 use event_core::Refusal;
 use rapid_text::{Cause, TextFault};
-use std::fs::Files;
 use std::process::Abort;
 use std::sync::Wait;
 use std::thread::Threads;
 use trace_report::ReplayFault;
+use wcp_tool::ScriptFiles;
 
 const OUT_OF_MEMORY: Answer<'static> = Answer {
     output: "",
@@ -25,7 +25,7 @@ const NO_WORKER: Answer<'static> = Answer {
     status: 6,
 };
 
-fn expect_whole<R: Abort + AllocGlobal + Files + Threads + Wait + Sync>(
+fn expect_whole<R: Abort + AllocGlobal + ScriptFiles + Threads + Wait + Sync>(
     rt: &R,
     name: &str,
     program: Program<'_>,

@@ -4,11 +4,10 @@ ghost use Rattle.std.specs.Prelude.{◌≡◌, ◌≤◌, false};
 use crate::doubles::{Page, Pieces, Room, Text};
 use crate::expected::expect;
 use rapid_text::Device;
-use std::fs::Files;
 use std::process::Abort;
 use std::sync::Wait;
 use std::thread::Threads;
-use wcp_tool::{Command, Settings, run_script, tool};
+use wcp_tool::{Command, ScriptFiles, Settings, run_script, tool};
 
 /// What is run: the program over its words, by itself or with devices of std, or a script, a line of which is
 /// tried so often, and at least once.
@@ -90,7 +89,7 @@ impl<'a> Run<'a> {
         }
     }
 
-    pub fn ran<R: AllocGlobal + Files + Threads + Wait + Sync>(&self, rt: &R) -> Ran {
+    pub fn ran<R: AllocGlobal + ScriptFiles + Threads + Wait + Sync>(&self, rt: &R) -> Ran {
         let mut reader = Pieces::of(self.text);
         let mut output = Page::blank(self.rooms.0);
         let mut errors = Page::blank(self.rooms.1);
@@ -115,7 +114,7 @@ impl<'a> Run<'a> {
     }
 
     /// The run writes this to standard output and to standard error, and ends with this status.
-    pub fn expect<R: Abort + AllocGlobal + Files + Threads + Wait + Sync>(
+    pub fn expect<R: Abort + AllocGlobal + ScriptFiles + Threads + Wait + Sync>(
         &self,
         rt: &R,
         name: &str,
@@ -134,7 +133,7 @@ impl<'a> Run<'a> {
 
 /// A check and a replay of the text come to this: the counts or the report, what is told on standard error,
 /// and the status of the replay. A check ends with 0 where a replay reports a race.
-pub fn expect_both<R: Abort + AllocGlobal + Files + Threads + Wait + Sync>(
+pub fn expect_both<R: Abort + AllocGlobal + ScriptFiles + Threads + Wait + Sync>(
     rt: &R,
     name: &str,
     text: Text<'_>,
@@ -160,7 +159,10 @@ pub type Row = (
 );
 
 /// Each row holds. Where one does not, its number is told, counted from 0.
-pub fn expect_rows<R: Abort + AllocGlobal + Files + Threads + Wait + Sync>(rt: &R, rows: &[Row]) {
+pub fn expect_rows<R: Abort + AllocGlobal + ScriptFiles + Threads + Wait + Sync>(
+    rt: &R,
+    rows: &[Row],
+) {
     for (number, row) in rows.iter().enumerate() {
         let (program, text, fails, rooms, output, errors, status) = *row;
         let run = Run {

@@ -6,8 +6,6 @@ use crate::runs::{Answer, Ran, Row, Run, SCRIPT, expect_rows};
 use std::fs;
 use std::fs::Files;
 use std::process::Abort;
-use std::sync::Wait;
-use std::thread::Threads;
 
 /// What a script shows, its text, what a run of it prints, and the status with which it ends.
 type Case = (&'static str, &'static str, &'static str, u8);
@@ -308,22 +306,22 @@ const IN_A_FILE: &[(&[&str], &str, &str, u8)] = &[
     ),
 ];
 
-/// What becomes of the script in a file that the words name. It is removed then.
-fn ran_in_a_file<R: Abort + AllocGlobal + Files + Threads + Wait + Sync>(
-    rt: &R,
-    words: &[&str],
-    text: &str,
-) -> Ran {
-    fs::write(rt, "worked.script", text).expect(rt, "a file");
-    let ran = Run::of(Program::Words(words), Text::whole(b"")).ran(rt);
-    fs::remove_file(rt, "worked.script").expect(rt, "a file");
-    ran
+const FILE: &str = "worked.script";
+
+fn write_script<R: Abort + AllocGlobal + Files>(rt: &R, text: &str) {
+    fs::write(rt, FILE, text).expect(rt, "a file");
+}
+
+fn remove_script<R: Abort + AllocGlobal + Files>(rt: &R) {
+    fs::remove_file(rt, FILE).expect(rt, "a file");
 }
 
 #[test]
 fn a_script_in_a_file_is_run(rt: HostRuntime) {
     for (words, text, output, status) in IN_A_FILE {
-        let ran = ran_in_a_file(&rt, words, text);
+        write_script(&rt, text);
+        let ran = Run::of(Program::Words(words), Text::whole(b"")).ran(&rt);
+        remove_script(&rt);
         let expected = Answer {
             output,
             errors: "",
@@ -331,6 +329,8 @@ fn a_script_in_a_file_is_run(rt: HostRuntime) {
         };
         expect(&rt, text, &ran.answer(), &expected);
     }
-    let ran = ran_in_a_file(&rt, &["run", "worked.script"], RACE);
+    write_script(&rt, RACE);
+    let ran = Run::of(Program::Words(&["run", FILE]), Text::whole(b"")).ran(&rt);
+    remove_script(&rt);
     expect_race(&rt, "in a file", &ran);
 }

@@ -3,14 +3,14 @@ use crate::doubles::{Page, Room, Text, letters};
 use crate::fed::expect_however_fed;
 use crate::runs::{Program, Run, expect_both};
 use crate::traces::{legal, refused};
-use std::fs::Files;
 use std::process::Abort;
 use std::sync::Wait;
 use std::thread::Threads;
+use wcp_tool::ScriptFiles;
 
 /// A check and a replay of the text come to this, whole, byte by byte, and cut in two at each place; and so
 /// does a replayer, however it is fed.
-fn expect_however_cut<R: Abort + AllocGlobal + Files + Threads + Wait + Sync>(
+fn expect_however_cut<R: Abort + AllocGlobal + ScriptFiles + Threads + Wait + Sync>(
     rt: &R,
     name: &str,
     text: &[u8],
