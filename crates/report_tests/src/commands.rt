@@ -1,4 +1,6 @@
 //! What a check and a replay answer, and what they write, of a text that comes in so many reads.
+ghost use Rattle.std.specs.Prelude.{◌≡◌, false};
+
 use crate::doubles::{Page, Pieces, Room, Text};
 use crate::expected::expect;
 use event_core::{Limits, Roots};

@@ -1,4 +1,6 @@
 //! Texts that a replayer is fed, whole, byte by byte, and cut in two at each place.
+ghost use Rattle.std.specs.Prelude.{◌≡◌, false};
+
 use crate::doubles::{Page, Room, Text};
 use crate::expected::expect;
 use event_core::{Limits, Refusal, Roots};
