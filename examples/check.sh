@@ -88,6 +88,7 @@ for pair in gcc:g++ clang:clang++; do
     tell "$c: an atomic flag, no race" races atomic_flag.cpp 0 -O1
     tell "$c: a queue with a condition variable, no race" races queue.cpp 0 -O1
     tell "$c: a barrier, no race" races barrier.c 0 -O1
+    tell "$c: joins by tries and within a time, no race" races joins.c 0 -O1
     tell "$c: a block that is given out again, one race" races reused_block.cpp 1 -O1
     if c++ -g -fsanitize=thread examples/hidden_race.cpp -o sanitized > out 2>&1; then
         tell "$c: ThreadSanitizer is silent on hidden_race.cpp" silent
