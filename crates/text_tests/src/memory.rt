@@ -1,5 +1,5 @@
-//! What a caller meets where memory is refused: the right answers, or that memory ran out. Asked again, all of
-//! them are right.
+//! What a caller meets where memory is refused: the right answers, or that memory ran out. Asked again, all
+//! are right.
 ghost use Rattle.rapid_text.specs.Tables.{IsNameOf};
 
 use super::doubles::{Source, whole};

@@ -73,8 +73,8 @@ impl Wanted<'_> {
     }
 }
 
-/// The fault of the text, with names for three threads, two locks and two variables. Without one it is read as
-/// the script that is wanted.
+/// The fault of the text, with names for three threads, two locks and two variables. Without one it is read
+/// as the script that is wanted.
 pub fn fault_of(
     rt: &impl Abort,
     alloc: Global,
