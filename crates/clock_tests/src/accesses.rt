@@ -1,12 +1,11 @@
 //! Worked logs of accesses, and the verdicts on them by clocks of other logs.
-//!
-//! Where a growth is refused once, the same call is made again and gives the same verdict.
-ghost use Rattle.std.specs.Prelude.{◌≡◌, ℕ, ◌<◌, ◌≤◌, length};
+ghost use Rattle.std.specs.Prelude.{◌≡◌, ℕ, ◌≤◌, length};
 ghost use Rattle.access_check.specs.Tables.{count_at};
 
 use crate::clocks::{Run, event};
+use crate::expected::expect;
 use access_check::Accesses;
-use event_core::{Event, Limits, LockId, Op, OutOfMemory, Roots, ThreadId, VarId, Verdict};
+use event_core::{Event, Limits, LockId, Op, Roots, ThreadId, VarId, Verdict};
 use hb_clocks::JoinedClocks;
 use std::alloc::Global;
 use std::process::Abort;
@@ -95,29 +94,12 @@ impl Log {
         }
     }
 
-    fn make_room_once(&mut self, event: &Event) -> Result<(), OutOfMemory>
-        requires { event.now.thread.0 < self.old.limits.threads }
-        ensures { self.new.limits ≡ self.old.limits }
-    {
-        self.accesses.make_room(event)
-    }
-
-    // Makes room for the event, whose thread's number is within the limits.
-    fn make_room(&mut self, event: &Event) -> Result<(), OutOfMemory>
-        requires { event.now.thread.0 < self.old.limits.threads }
-    {
-        if self.make_room_once(event).is_ok() {
-            return Ok(());
-        }
-        self.make_room_once(event)
-    }
-
     // The verdict on the event, where the clock counts what is ordered before it.
     fn step(&mut self, rt: &impl Abort, event: &Event, clock: &JoinedClocks) -> Verdict
         requires { length clock.now ≡ 3 }
     {
         assert!(rt; event.thread.0 < self.limits.threads());
-        assert!(rt; self.make_room(event).is_ok());
+        assert!(rt; self.accesses.make_room(event).is_ok(), "memory");
         assert!(rt; self.accesses.ready(event));
         assert!(rt; self.length < 64);
         let verdict = self.accesses.verdict(event, clock);
@@ -138,11 +120,11 @@ fn clocks_of(rt: &impl Abort, alloc: Global, count: u32) -> Run {
 
 fn expect_verdicts(rt: &impl Abort, alloc: Global, rows: &[Judged]) {
     let mut log = Log::new(rt, alloc);
-    for (thread, op, count, wanted) in rows {
+    for (row, (thread, op, count, wanted)) in rows.iter().enumerate() {
         let run = clocks_of(rt, alloc, *count);
         let clock = JoinedClocks::new(run.clocks.po(T0), run.clocks.po(T1));
         let verdict = log.step(rt, &event(*thread, *op), &clock);
-        assert!(rt; verdict == *wanted, "event {}", log.length);
+        expect(rt, row, verdict, *wanted);
         drop(run);
     }
     drop(log);
@@ -176,9 +158,7 @@ fn accesses_of_one_thread_do_not_conflict(rt: HostRuntime) {
 #[test]
 fn a_swap_gets_room_for_both_its_events(rt: HostRuntime) {
     let mut log = Log::new(&rt, rt.alloc());
-    if log.accesses.make_room_swap(T1, X).is_err() {
-        assert!(rt; log.accesses.make_room_swap(T1, X).is_ok());
-    }
+    assert!(rt; log.accesses.make_room_swap(T1, X).is_ok(), "memory");
     assert!(rt; log.accesses.ready(&event(T1, Op::Load(X))));
     assert!(rt; log.accesses.ready(&event(T1, Op::Store(X))));
     drop(log);

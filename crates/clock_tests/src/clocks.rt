@@ -1,19 +1,17 @@
 //! Worked logs with the numbers of their clocks.
-//!
-//! Where memory is refused once, the same call is made again and gives the same numbers.
-ghost use Rattle.std.specs.Prelude.{◌≡◌, ℕ, ◌<◌, ◌≤◌, ◌↔◌, [], length, IfOk, OnOk, IsTrue};
+ghost use Rattle.std.specs.Prelude.{◌≡◌, ℕ, ◌<◌, ◌≤◌, ◌↔◌, length, IsTrue};
 ghost use Rattle.hb_clocks.specs.Counts.{counts_of};
-ghost use Rattle.hb_clocks.specs.State.{empty};
 ghost use Rattle.hb_clocks.specs.Stands.{IsAtMost};
-ghost use Rattle.hb_clocks.specs.Tables.{state_of, IsReady, IsWithin};
+ghost use Rattle.hb_clocks.specs.Tables.{state_of, IsWithin};
 
 mod cases;
 
+use crate::expected::expect;
 use cases::{
     EMPTY_CHILD, GREATER, INNER_RELEASE, MARKED, NESTED_SECTIONS, READ_AS_ONE, Row, T0, T1, T2,
 };
-use event_core::{Event, Limits, Op, OutOfMemory, Roots, SiteId, ThreadId};
-use hb_clocks::{Clock, HbClocks, JoinedClocks, Mark, ReleaseClock, ReleaseClocks, Work};
+use event_core::{Event, Limits, Op, Roots, SiteId, ThreadId};
+use hb_clocks::{Clock, HbClocks, JoinedClocks, Mark, ReleaseClock, Work};
 use std::alloc::Global;
 use std::process::Abort;
 
@@ -29,43 +27,6 @@ pub struct Run {
     ghost beside_width: { length beside ≡ 3 },
     ghost few: { IsAtMost events (state_of clocks) },
     ghost short: { events ≤ 100 },
-}
-
-// Where a growth is refused, the same call is made again.
-pub fn begin_clocks(
-    alloc: Global,
-    limits: Limits,
-) -> Result<(HbClocks, Work, ReleaseClocks), OutOfMemory>
-    ensures width { IfOk result (λ made. made.0.width ≡ limits.threads) }
-    ensures empty { IfOk result (λ made. state_of made.0 ≡ empty) }
-    ensures work { IfOk result (λ made. made.1 ≡ record { comparisons = 0; joins = 0 }) }
-    ensures releases { IfOk result (λ made. made.2.numbers ≡ []) }
-{
-    match HbClocks::new(alloc, limits) {
-        Ok(made) => Ok(made),
-        Err(OutOfMemory) => HbClocks::new(alloc, limits),
-    }
-}
-
-fn zeros(alloc: Global) -> Result<Clock, OutOfMemory>
-    ensures { IfOk result (λ clock. length clock ≡ 3) }
-{
-    match Clock::new(alloc, 3) {
-        Ok(clock) => Ok(clock),
-        Err(OutOfMemory) => Clock::new(alloc, 3),
-    }
-}
-
-fn make_room(clocks: &mut HbClocks, event: &Event) -> Result<(), OutOfMemory>
-    requires { IsWithin clocks.old.width event.now }
-    ensures same { state_of clocks.new ≡ state_of clocks.old }
-    ensures ready { OnOk result (IsReady clocks.new event.now.thread event.now.op) }
-    ensures width { clocks.new.width ≡ clocks.old.width }
-{
-    if clocks.prepare(event).is_ok() {
-        return Ok(());
-    }
-    clocks.prepare(event)
 }
 
 pub fn event(thread: ThreadId, op: Op) -> Event
@@ -91,20 +52,20 @@ fn is_within(event: &Event) -> bool
         }
 }
 
-fn expect_numbers(rt: &impl Abort, clock: &Clock, wanted: &[u64; 3])
+fn expect_numbers(rt: &impl Abort, at: usize, clock: &Clock, wanted: &[u64; 3])
     requires { length clock.now ≡ 3 }
 {
-    assert_eq!(rt; [clock.at(T0), clock.at(T1), clock.at(T2)], *wanted);
+    expect(rt, at, [clock.at(T0), clock.at(T1), clock.at(T2)], *wanted);
 }
 
 impl Run {
     pub fn new(rt: &impl Abort, alloc: Global) -> Run {
         let limits = Limits::new(3, 2, 2, 64, Roots::Free).expect(rt, "small limits");
-        let (clocks, _work, _releases) = begin_clocks(alloc, limits).expect(rt, "memory");
+        let (clocks, _work, _releases) = HbClocks::new(alloc, limits).expect(rt, "memory");
         Run {
             alloc,
             clocks,
-            beside: zeros(alloc).expect(rt, "memory"),
+            beside: Clock::new(alloc, 3).expect(rt, "memory"),
             marked: None,
             events: 0,
         }
@@ -115,7 +76,7 @@ impl Run {
         ensures { result ≡ record { comparisons = 0; joins = 0 } }
     {
         let limits = Limits::new(1, 1, 1, 1, Roots::Free).expect(rt, "small limits");
-        let (_clocks, work, _releases) = begin_clocks(self.alloc, limits).expect(rt, "memory");
+        let (_clocks, work, _releases) = HbClocks::new(self.alloc, limits).expect(rt, "memory");
         work
     }
 
@@ -124,7 +85,7 @@ impl Run {
         let mut work = self.no_work(rt);
         assert!(rt; self.events < 100);
         assert!(rt; is_within(event));
-        assert!(rt; make_room(&mut self.clocks, event).is_ok(), "memory");
+        assert!(rt; self.clocks.prepare(event).is_ok(), "memory");
         assert!(rt; self.clocks.admits(event));
         self.clocks.advance(event, &mut work);
         self.events += 1;
@@ -152,13 +113,13 @@ impl Run {
         clock
     }
 
-    fn expect_counts(&self, rt: &impl Abort, thread: ThreadId, wanted: &[bool; 2]) {
+    fn expect_counts(&self, rt: &impl Abort, at: usize, thread: ThreadId, wanted: &[bool; 2]) {
         let mark = self.marked.expect(rt, "a mark is kept");
         assert!(rt; mark.thread().0 < 3);
         let mut work = self.no_work(rt);
         let by_po = mark.counted(self.clocks.po(thread), &mut work);
         let by_hb = mark.counted(self.clocks.hb(thread), &mut work);
-        assert!(rt; [by_po, by_hb] == *wanted);
+        expect(rt, at, [by_po, by_hb], *wanted);
     }
 
     // The clock beside the others takes the numbers of the thread's clock of program order.
@@ -178,40 +139,43 @@ impl Run {
         self.beside.join_release(release, &mut work);
     }
 
-    pub fn expect_beside(&self, rt: &impl Abort, wanted: &[u64; 3]) {
-        expect_numbers(rt, &self.beside, wanted);
+    pub fn expect_beside(&self, rt: &impl Abort, at: usize, wanted: &[u64; 3]) {
+        expect_numbers(rt, at, &self.beside, wanted);
     }
 
-    fn expect_joined(&self, rt: &impl Abort, first: ThreadId, second: ThreadId, wanted: &[u64; 3]) {
+    // The numbers of both threads' clocks of program order, read as one.
+    fn joined(&self, first: ThreadId, second: ThreadId) -> [u64; 3] {
         let joined = JoinedClocks::new(self.clocks.po(first), self.clocks.po(second));
-        assert!(rt; [joined.at(T0), joined.at(T1), joined.at(T2)] == *wanted);
+        [joined.at(T0), joined.at(T1), joined.at(T2)]
     }
 
-    fn follow(&mut self, rt: &impl Abort, row: &Row) {
+    fn follow(&mut self, rt: &impl Abort, at: usize, row: &Row) {
         match row {
             Row::Take(thread, op) => self.take(rt, &event(*thread, *op)),
-            Row::Po(thread, wanted) => expect_numbers(rt, self.clocks.po(*thread), wanted),
-            Row::Hb(thread, wanted) => expect_numbers(rt, self.clocks.hb(*thread), wanted),
+            Row::Po(thread, wanted) => expect_numbers(rt, at, self.clocks.po(*thread), wanted),
+            Row::Hb(thread, wanted) => expect_numbers(rt, at, self.clocks.hb(*thread), wanted),
             Row::Depth(thread, lock, wanted) => {
-                assert!(rt; self.clocks.depth(*thread, *lock) == *wanted);
+                expect(rt, at, self.clocks.depth(*thread, *lock), *wanted);
             }
             Row::Admits(thread, op, wanted) => {
-                assert!(rt; self.clocks.admits(&event(*thread, *op)) == *wanted);
+                expect(rt, at, self.clocks.admits(&event(*thread, *op)), *wanted);
             }
             Row::Mark(thread) => self.marked = Some(self.latest(rt, *thread)),
-            Row::Counts(thread, wanted) => self.expect_counts(rt, *thread, wanted),
+            Row::Counts(thread, wanted) => self.expect_counts(rt, at, *thread, wanted),
             Row::Copy(thread) => self.copy(*thread),
             Row::Join(thread) => self.join(rt, *thread),
-            Row::Clock(wanted) => self.expect_beside(rt, wanted),
-            Row::Joined(first, second, wanted) => self.expect_joined(rt, *first, *second, wanted),
+            Row::Clock(wanted) => self.expect_beside(rt, at, wanted),
+            Row::Joined(first, second, wanted) => {
+                expect(rt, at, self.joined(*first, *second), *wanted);
+            }
         }
     }
 }
 
 fn follow_all(rt: &impl Abort, alloc: Global, rows: &[Row]) {
     let mut run = Run::new(rt, alloc);
-    for row in rows {
-        run.follow(rt, row);
+    for (at, row) in rows.iter().enumerate() {
+        run.follow(rt, at, row);
     }
     drop(run);
 }

@@ -3,13 +3,16 @@
 //! verdicts on accesses.
 //!
 //! The crate has tests alone, and they see no more of those crates than any caller does. They stand here
-//! and not in the crates themselves since a crate is proved once more with its tests.
+//! and not in the crates themselves since a crate is proved once more with its tests. Want of memory fails
+//! them.
 #![tactic(auto)]
 
 #[cfg(test)]
 mod accesses;
 #[cfg(test)]
 mod clocks;
+#[cfg(test)]
+mod expected;
 #[cfg(test)]
 mod logs;
 #[cfg(test)]

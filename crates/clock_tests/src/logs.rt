@@ -1,8 +1,7 @@
 //! Which limits are taken, how a log grows, and what a step tells.
-ghost use Rattle.std.specs.Prelude.{◌≤◌, OnOk};
-
+use crate::expected::expect;
 use event_core::{
-    Event, LimitFault, Limits, LockId, Log, Op, OutOfMemory, Roots, SiteId, Step, ThreadId, VarId,
+    Event, LimitFault, Limits, LockId, Log, Op, Roots, SiteId, Step, ThreadId, VarId,
 };
 use std::alloc::Global;
 use std::process::Abort;
@@ -146,15 +145,18 @@ const STEPS: &[(Step, u32, Option<ThreadId>, u64)] = &[
 
 #[test]
 fn limits_are_taken_up_to_the_greatest(rt: HostRuntime) {
-    for (threads, locks, vars, events, roots) in LIMITS {
-        let limits = Limits::new(*threads, *locks, *vars, *events, *roots);
+    for (row, numbers) in LIMITS.iter().enumerate() {
+        let (threads, locks, vars, events, roots) = *numbers;
+        let limits = Limits::new(threads, locks, vars, events, roots);
         let limits = limits.expect(&rt, "within the bounds");
-        let is_taken = limits.threads() == *threads
-            && limits.locks() == *locks
-            && limits.vars() == *vars
-            && limits.events() == *events
-            && limits.roots() == *roots;
-        assert!(rt; is_taken);
+        let came = (
+            limits.threads(),
+            limits.locks(),
+            limits.vars(),
+            limits.events(),
+            limits.roots(),
+        );
+        expect(&rt, row, came, *numbers);
     }
 }
 
@@ -162,17 +164,7 @@ fn limits_are_taken_up_to_the_greatest(rt: HostRuntime) {
 fn the_first_number_out_of_bounds_is_told(rt: HostRuntime) {
     for (row, (threads, locks, vars, events, fault)) in BEYOND.iter().enumerate() {
         let limits = Limits::new(*threads, *locks, *vars, *events, Roots::Free);
-        assert!(rt; limits == Err(*fault), "row {row}");
-    }
-}
-
-// Where a growth is refused, it is asked for once more.
-fn reserve(log: &mut Log, additional: usize) -> Result<(), OutOfMemory>
-    ensures { OnOk result (additional ≤ log.new.room) }
-{
-    match log.reserve(additional) {
-        Ok(()) => Ok(()),
-        Err(OutOfMemory) => log.reserve(additional),
+        expect(&rt, row, limits.err(), Some(*fault));
     }
 }
 
@@ -180,7 +172,7 @@ fn reserve(log: &mut Log, additional: usize) -> Result<(), OutOfMemory>
 fn log_of(rt: &impl Abort, alloc: Global, events: &[Event]) -> Log {
     let mut log = Log::new(alloc);
     assert!(rt; log.len() == 0 && log.get(0).is_none());
-    assert!(rt; reserve(&mut log, events.len()).is_ok());
+    assert!(rt; log.reserve(events.len()).is_ok(), "memory");
     assert!(rt; log.has_room(events.len()));
     for event in events {
         assert!(rt; log.has_room(1), "what was reserved is there");
@@ -189,20 +181,14 @@ fn log_of(rt: &impl Abort, alloc: Global, events: &[Event]) -> Log {
     log
 }
 
-// Whether the log has the events, and none beyond them.
-fn has_events(log: &Log, events: &[Event]) -> bool {
-    for (index, event) in (0..).zip(events) {
-        if log.get(index) != Some(*event) {
-            return false;
-        }
-    }
-    let has_none = log.get(log.len()).is_none() && log.get(4294967296).is_none();
-    has_none && log.len() == events.len() as u64 && (log.len() == 0) == events.is_empty()
-}
-
+// The log has the events, and none beyond them.
 fn expect_given_back(rt: &impl Abort, alloc: Global, events: &[Event]) {
     let log = log_of(rt, alloc, events);
-    assert!(rt; has_events(&log, events));
+    for (row, event) in events.iter().enumerate() {
+        expect(rt, row, log.get(row as u64), Some(*event));
+    }
+    let end = (log.len(), log.get(log.len()), log.get(4294967296));
+    expect(rt, events.len(), end, (events.len() as u64, None, None));
     drop(log);
 }
 
@@ -234,10 +220,8 @@ fn more_room_than_there_can_be_is_refused(rt: HostRuntime) {
 
 #[test]
 fn a_step_tells_its_thread_its_child_and_its_events(rt: HostRuntime) {
-    for (step, thread, child, count) in STEPS {
-        let is_told = step.thread() == ThreadId(*thread)
-            && step.child() == *child
-            && step.count() == *count;
-        assert!(rt; is_told);
+    for (row, (step, thread, child, count)) in STEPS.iter().enumerate() {
+        let came = (step.thread(), step.child(), step.count());
+        expect(&rt, row, came, (ThreadId(*thread), *child, *count));
     }
 }

@@ -7,10 +7,11 @@ ghost use Rattle.lock_queues.specs.Queues.{closed_of, found_of, has_room, SameMe
 
 mod cases;
 
-use crate::clocks::{Run, begin_clocks, event};
-use cases::{L, ONE_SECTION, RELEASES, Row, T0, T1, TWO_THREADS};
+use crate::clocks::{Run, event};
+use crate::expected::expect;
+use cases::{L, ONE_SECTION, RELEASES, Row, T0, T1, THREE_THREADS, TWO_THREADS};
 use event_core::{Limits, LockId, Op, Roots, ThreadId, VarId};
-use hb_clocks::{Clock, Mark, Work};
+use hb_clocks::{Clock, HbClocks, Mark, Work};
 use lock_queues::Queues;
 use std::alloc::Global;
 use std::process::Abort;
@@ -24,18 +25,6 @@ struct Sections {
     ghost locks: { queues.limits.locks ≡ 2 },
     ghost few: { (l : ℕ) → length (closed_of queues l) ≤ 1 },
     ghost found: { found_of queues ≡ (λ _ _. 0) },
-}
-
-// Where a growth is refused, there is no room, and the same call is made again.
-fn make_room(rt: &impl Abort, queues: &mut Queues, thread: ThreadId, lock: LockId)
-    requires thread { thread.0 < queues.old.limits.threads }
-    requires lock { lock.0 < queues.old.limits.locks }
-    ensures { SameMeaning queues.old queues.new }
-{
-    if queues.make_room(thread, lock).is_err() {
-        assert!(rt; !queues.ready(thread, lock));
-        assert!(rt; queues.make_room(thread, lock).is_ok(), "memory");
-    }
 }
 
 fn expect_none(rt: &impl Abort, queues: &Queues, lock: LockId)
@@ -96,7 +85,7 @@ fn find(
 impl Sections {
     fn new(rt: &impl Abort, alloc: Global) -> Sections {
         let limits = Limits::new(3, 2, 1, 8, Roots::Free).expect(rt, "small limits");
-        let (_clocks, _work, releases) = begin_clocks(alloc, limits).expect(rt, "memory");
+        let (_clocks, _work, releases) = HbClocks::new(alloc, limits).expect(rt, "memory");
         Sections {
             queues: Queues::new(alloc, limits, releases).expect(rt, "no memory is taken"),
             run: Run::new(rt, alloc),
@@ -106,7 +95,7 @@ impl Sections {
     fn make_room(&mut self, rt: &impl Abort, thread: ThreadId, lock: LockId) {
         assert!(rt; thread.0 < 3);
         assert!(rt; lock.0 < 2);
-        make_room(rt, &mut self.queues, thread, lock);
+        assert!(rt; self.queues.make_room(thread, lock).is_ok(), "memory");
     }
 
     fn close(&mut self, rt: &impl Abort, thread: ThreadId, lock: LockId) {
@@ -119,6 +108,7 @@ impl Sections {
     fn expect_section(
         &self,
         rt: &impl Abort,
+        at: usize,
         lock: LockId,
         number: u32,
         wanted: (ThreadId, u32, &[u32]),
@@ -127,7 +117,7 @@ impl Sections {
         assert!(rt; number <= self.queues.count(lock));
         let section = self.queues.section(lock, number);
         let found = (section.by(), section.own(), section.counts_before());
-        assert!(rt; found == wanted);
+        expect(rt, at, found, wanted);
     }
 
     fn join_release(&mut self, rt: &impl Abort, lock: LockId, number: u32) {
@@ -153,25 +143,26 @@ impl Sections {
         find(rt, &mut queues, thread, lock, mark, clock, &mut work)
     }
 
-    fn follow(&mut self, rt: &impl Abort, row: &Row) {
+    fn follow(&mut self, rt: &impl Abort, at: usize, row: &Row) {
         match row {
             Row::Take(thread) => self.run.take(rt, &event(*thread, Op::Load(VarId(0)))),
+            Row::Fork(thread, child) => self.run.take(rt, &event(*thread, Op::Fork(*child))),
             Row::Close(thread, lock) => self.close(rt, *thread, *lock),
-            Row::Count(lock, wanted) => assert!(rt; self.queues.count(*lock) == *wanted),
+            Row::Count(lock, wanted) => expect(rt, at, self.queues.count(*lock), *wanted),
             Row::Section(lock, number, by, own, before) => {
-                self.expect_section(rt, *lock, *number, (*by, *own, before));
+                self.expect_section(rt, at, *lock, *number, (*by, *own, before));
             }
             Row::Copy(thread) => self.run.copy(*thread),
             Row::JoinRelease(lock, number) => self.join_release(rt, *lock, *number),
-            Row::Clock(wanted) => self.run.expect_beside(rt, wanted),
+            Row::Clock(wanted) => self.run.expect_beside(rt, at, wanted),
         }
     }
 }
 
 fn follow_all(rt: &impl Abort, alloc: Global, rows: &[Row]) -> Sections {
     let mut sections = Sections::new(rt, alloc);
-    for row in rows {
-        sections.follow(rt, row);
+    for (at, row) in rows.iter().enumerate() {
+        sections.follow(rt, at, row);
     }
     sections
 }
@@ -179,6 +170,11 @@ fn follow_all(rt: &impl Abort, alloc: Global, rows: &[Row]) -> Sections {
 #[test]
 fn a_release_is_one_more_than_the_numbers_before_it(rt: HostRuntime) {
     drop(follow_all(&rt, rt.alloc(), RELEASES));
+}
+
+#[test]
+fn releases_of_two_threads_are_joined_into_the_clock_of_a_third(rt: HostRuntime) {
+    drop(follow_all(&rt, rt.alloc(), THREE_THREADS));
 }
 
 #[test]

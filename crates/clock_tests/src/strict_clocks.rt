@@ -2,25 +2,24 @@
 //!
 //! Each line of a log has an event, and how many events of each thread strictly precede it. These numbers are
 //! worked out by hand from the paper's rules. That the event is legal is learned from a memory, which permits
-//! its call. Where a growth is refused once, the same call is made again and gives the same numbers.
-ghost use Rattle.std.specs.Prelude.{◌≡◌, ◌<◌, List, [], IfOk, OnOk};
+//! its call.
+ghost use Rattle.std.specs.Prelude.{◌≡◌, List};
 ghost use Rattle.event_core.specs.declared.events.Event.{Event as AnEvent};
 ghost use Rattle.traced_mem.specs.OfLog.{StandsFor as MemoryStandsFor};
 ghost use Rattle.traced_mem.specs.Room.{IsReady as MemoryIsReady};
 ghost use Rattle.traced_mem.specs.Tables.{Allows};
-ghost use Rattle.wcp_clocks.specs.Parts.{IsReady, IsWithin, SameLimits, SameNumbers};
-ghost use Rattle.wcp_clocks.specs.Parts.{width_of, limits_of, work_of};
-ghost use Rattle.wcp_clocks.specs.StandsFor.{StandsFor};
+ghost use Rattle.wcp_clocks.specs.Parts.{IsReady, IsWithin, SameLimits, SameNumbers, width_of};
 ghost use Rattle.clock_tests.specs.OneLog.{small, StandForOneLog};
 
 mod cases;
 
 use crate::clocks::event;
+use crate::expected::expect;
 use cases::{
     CHILD, CROSSED_SECTIONS, EARLIER_RELEASE, INNER_RELEASES, Line, MAIN, OTHER,
     OVERLAPPING_SECTIONS, RELEASES_OF_ONE_THREAD, Y,
 };
-use event_core::{Call, Event, Limits, Op, OutOfMemory, Roots, SiteId, ThreadId, VarId};
+use event_core::{Call, Event, Limits, Op, Roots, SiteId, ThreadId};
 use std::alloc::Global;
 use std::process::Abort;
 use traced_mem::Memory;
@@ -32,63 +31,25 @@ fn small_limits(rt: &impl Abort) -> Limits
     Limits::new(3, 4, 3, 64, Roots::OnlyMain).expect(rt, "small limits")
 }
 
-// Clocks of the empty log. Where a growth is refused, the same call is made again.
-fn begin_clocks(alloc: Global, limits: Limits) -> Result<WcpClocks, OutOfMemory>
-    ensures width { IfOk result (λ clocks. width_of clocks ≡ limits.threads) }
-    ensures limits { IfOk result (λ clocks. limits_of clocks ≡ limits) }
-    ensures stands { IfOk result (λ clocks. StandsFor [] clocks) }
-    ensures no_work { IfOk result (λ clocks. work_of clocks ≡ record { comparisons = 0; joins = 0 }) }
-{
-    match WcpClocks::new(alloc, limits) {
-        Ok(clocks) => Ok(clocks),
-        Err(OutOfMemory) => WcpClocks::new(alloc, limits),
-    }
-}
-
-fn make_room(clocks: &mut WcpClocks, event: &Event) -> Result<(), OutOfMemory>
+// Makes room for the event.
+fn make_room(rt: &impl Abort, clocks: &mut WcpClocks, event: &Event)
     requires { IsWithin clocks.old event.now }
     ensures same { SameNumbers clocks.old clocks.new }
     ensures limits { SameLimits clocks.old clocks.new }
-    ensures ready { OnOk result (IsReady clocks.new event.now) }
+    ensures ready { IsReady clocks.new event.now }
 {
-    if clocks.prepare(event).is_ok() {
-        return Ok(());
-    }
-    clocks.prepare(event)
+    assert!(rt; clocks.prepare(event).is_ok(), "memory");
 }
 
-// Makes room for both events of a swap. Where a growth is refused, the same call is made again.
-fn make_room_to_swap(
-    clocks: &mut WcpClocks,
-    thread: ThreadId,
-    var: VarId,
-) -> Result<(), OutOfMemory>
-    requires { thread.0 < width_of clocks.old }
-{
-    if clocks.prepare_swap(thread, var).is_ok() {
-        return Ok(());
-    }
-    clocks.prepare_swap(thread, var)
-}
-
-// Makes room for the call where it is permitted, and tells whether there is room now.
-fn make_place(memory: &mut Memory, call: &Call) -> bool
-    ensures limits { memory.new.limits ≡ memory.old.limits }
-    ensures stands { (log : List AnEvent) → MemoryStandsFor memory.old log → MemoryStandsFor memory.new log }
-{
-    memory.permit(call).is_ok() && memory.prepare(call).is_ok()
-}
-
-// The call is permitted, and there is room for it. Where a growth is refused, it is asked for once more.
+// The call is permitted, and there is room for it.
 fn permit(rt: &impl Abort, memory: &mut Memory, call: &Call)
     ensures allowed { Allows memory.new call.now.thread call.now.op }
     ensures ready { MemoryIsReady memory.new call.now.thread call.now.op }
     ensures limits { memory.new.limits ≡ memory.old.limits }
     ensures stands { (log : List AnEvent) → MemoryStandsFor memory.old log → MemoryStandsFor memory.new log }
 {
-    if !make_place(memory, call) {
-        assert!(rt; make_place(memory, call), "a legal event");
-    }
+    assert!(rt; memory.permit(call).is_ok(), "a legal event");
+    assert!(rt; memory.prepare(call).is_ok(), "memory");
     assert!(rt; memory.permit(call).is_ok());
     assert!(rt; memory.ready(call));
 }
@@ -133,15 +94,15 @@ fn take(rt: &impl Abort, memory: &mut Memory, clocks: &mut WcpClocks, thread: Th
     };
     permit(rt, memory, &call);
     let event = call.event_with(memory.apply(&call));
-    assert!(rt; make_room(clocks, &event).is_ok(), "memory");
+    make_room(rt, clocks, &event);
     clocks.advance(&event);
 }
 
-fn expect_below(rt: &impl Abort, clocks: &WcpClocks, thread: ThreadId, wanted: [u64; 3])
+fn expect_below(rt: &impl Abort, at: usize, clocks: &WcpClocks, thread: ThreadId, wanted: [u64; 3])
     requires { width_of clocks.now ≡ 3 }
 {
-    assert!(rt; numbers_below(clocks, thread) == wanted);
-    assert!(rt; clock_numbers(clocks, thread) == wanted);
+    expect(rt, at, numbers_below(clocks, thread), wanted);
+    expect(rt, at, clock_numbers(clocks, thread), wanted);
 }
 
 // Takes the events in turn, and looks at the numbers after each. At the end so many events are below the last
@@ -149,14 +110,14 @@ fn expect_below(rt: &impl Abort, clocks: &WcpClocks, thread: ThreadId, wanted: [
 fn follow(rt: &impl Abort, alloc: Global, lines: &[Line], last: ThreadId, below: [u64; 3]) {
     let limits = small_limits(rt);
     let mut memory = Memory::new(alloc, limits).expect(rt, "no memory is taken");
-    let mut clocks = begin_clocks(alloc, limits).expect(rt, "memory");
+    let mut clocks = WcpClocks::new(alloc, limits).expect(rt, "memory");
     for index in 0..lines.len() {
         let (thread, op, wanted) = lines[index];
         take(rt, &mut memory, &mut clocks, thread, op);
         let strict = strict_numbers(&clocks, thread);
-        assert_eq!(rt; strict, wanted, "event {index}");
+        expect(rt, index, strict, wanted);
     }
-    expect_below(rt, &clocks, last, below);
+    expect_below(rt, lines.len(), &clocks, last, below);
     drop(clocks);
     drop(memory);
 }
@@ -189,9 +150,9 @@ fn an_inner_release_ends_no_section(rt: HostRuntime) {
 #[test]
 fn room_for_a_swap_serves_its_load_and_its_store(rt: HostRuntime) {
     let limits = small_limits(&rt);
-    let mut clocks = begin_clocks(rt.alloc(), limits).expect(&rt, "memory");
+    let mut clocks = WcpClocks::new(rt.alloc(), limits).expect(&rt, "memory");
     assert!(rt; !clocks.ready_swap(MAIN, Y));
-    assert!(rt; make_room_to_swap(&mut clocks, MAIN, Y).is_ok(), "memory");
+    assert!(rt; clocks.prepare_swap(MAIN, Y).is_ok(), "memory");
     assert!(rt; clocks.ready_swap(MAIN, Y));
     assert!(rt; clocks.ready(&event(MAIN, Op::Load(Y))));
     assert!(rt; clocks.ready(&event(MAIN, Op::Store(Y))));

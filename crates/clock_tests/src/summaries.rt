@@ -1,9 +1,10 @@
 //! Sections on two locks, numbered in the order of their releases: which of them an access meets.
-ghost use Rattle.std.specs.Prelude.{◌≡◌, ℕ, false, OnOk};
+ghost use Rattle.std.specs.Prelude.{◌≡◌, ℕ, false};
 ghost use Rattle.event_core.specs.declared.events.AccessKind.{AccessKind as Kind};
-ghost use Rattle.section_sum.specs.Sums.{noted_of, HasRoom, SameNoted, SameOthers};
+ghost use Rattle.section_sum.specs.Sums.{noted_of};
 
-use event_core::{AccessKind, LockId, OutOfMemory, ThreadId, VarId};
+use crate::expected::expect;
+use event_core::{AccessKind, LockId, ThreadId, VarId};
 use section_sum::Summaries;
 use std::alloc::Global;
 use std::process::Abort;
@@ -73,18 +74,6 @@ struct Sections {
     ghost ended: { (t l v : ℕ) (k : Kind) → noted_of summaries t l v k ≡ false },
 }
 
-// Where a growth is refused, the same call is made again.
-fn make_room(summaries: &mut Summaries, held: &[LockId], var: VarId) -> Result<(), OutOfMemory>
-    ensures room { OnOk result (HasRoom summaries.new held.now var.0) }
-    ensures noted { SameNoted summaries.old summaries.new }
-    ensures others { SameOthers summaries.old summaries.new }
-{
-    if summaries.make_room(held, var).is_ok() {
-        return Ok(());
-    }
-    summaries.make_room(held, var)
-}
-
 // The thread opens sections on both locks, accesses the variable, and ends the first one first. They
 // have the number on both.
 fn section(
@@ -96,7 +85,7 @@ fn section(
     kind: AccessKind,
     number: u32,
 ) {
-    assert!(rt; make_room(&mut sections.summaries, &locks, var).is_ok());
+    assert!(rt; sections.summaries.make_room(&locks, var).is_ok(), "memory");
     sections.summaries.note(thread, &locks, var, kind);
     sections.summaries.close(thread, locks[0], number);
     sections.summaries.close(thread, locks[1], number);
@@ -115,7 +104,7 @@ fn met(
     [first, sources.next()]
 }
 
-fn follow(rt: &impl Abort, sections: &mut Sections, row: &Row) {
+fn follow(rt: &impl Abort, sections: &mut Sections, at: usize, row: &Row) {
     match row {
         Row::Section(thread, locks, var, kind, number) => {
             section(
@@ -129,10 +118,8 @@ fn follow(rt: &impl Abort, sections: &mut Sections, row: &Row) {
             );
         }
         Row::Meets(thread, lock, var, kind, wanted) => {
-            assert_eq!(rt;
-                met(sections, ThreadId(*thread), *lock, *var, *kind),
-                *wanted
-            );
+            let came = met(sections, ThreadId(*thread), *lock, *var, *kind);
+            expect(rt, at, came, *wanted);
         }
     }
 }
@@ -141,8 +128,8 @@ fn follow_all(rt: &impl Abort, alloc: Global, rows: &[Row]) {
     let mut sections = Sections {
         summaries: Summaries::new(alloc),
     };
-    for row in rows {
-        follow(rt, &mut sections, row);
+    for (at, row) in rows.iter().enumerate() {
+        follow(rt, &mut sections, at, row);
     }
     drop(sections);
 }

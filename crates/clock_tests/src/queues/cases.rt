@@ -5,6 +5,8 @@ pub const T0: ThreadId = ThreadId(0);
 
 pub const T1: ThreadId = ThreadId(1);
 
+pub const T2: ThreadId = ThreadId(2);
+
 pub const L: LockId = LockId(0);
 
 pub const M: LockId = LockId(1);
@@ -13,6 +15,8 @@ pub const M: LockId = LockId(1);
 pub enum Row {
     /// The thread has one event more.
     Take(ThreadId),
+    /// It forks the other one.
+    Fork(ThreadId, ThreadId),
     /// The thread has the first section on the lock, from its latest event on.
     Close(ThreadId, LockId),
     /// How many closed sections the lock has.
@@ -55,4 +59,33 @@ pub const RELEASES: &[Row] = &[
     Row::Copy(T1),
     Row::JoinRelease(M, 1),
     Row::Clock([2, 3, 0]),
+];
+
+// Thread 1 has five events at its release and thread 2 six, each one more than before it. The third thread
+// forks both.
+pub const THREE_THREADS: &[Row] = &[
+    Row::Fork(T0, T1),
+    Row::Take(T1),
+    Row::Take(T1),
+    Row::Take(T1),
+    Row::Take(T1),
+    Row::Take(T1),
+    Row::Close(T1, L),
+    Row::Section(L, 1, T1, 4, &[1, 4]),
+    Row::Take(T0),
+    Row::Copy(T0),
+    Row::Clock([2, 0, 0]),
+    Row::JoinRelease(L, 1),
+    Row::Clock([2, 5, 0]),
+    Row::Fork(T0, T2),
+    Row::Take(T2),
+    Row::Take(T2),
+    Row::Take(T2),
+    Row::Take(T2),
+    Row::Take(T2),
+    Row::Take(T2),
+    Row::Close(T2, M),
+    Row::Section(M, 1, T2, 5, &[3, 0, 5]),
+    Row::JoinRelease(M, 1),
+    Row::Clock([3, 5, 6]),
 ];

@@ -14,12 +14,12 @@ loop-index-init g c =
     let clocks = c.expect-clocks.ensures in
     no_events _ _ (subst (λ r. IfOk r (λ m. MemoryStandsFor m [])) memory c.new.ensures.stands)
     (subst (λ r. IfOk r (λ m. m.limits ≡ limits)) memory c.new.ensures.limits ∙ small)
-    (subst (λ r. IfOk r (λ p. StandsFor [] p)) clocks c.begin_clocks.ensures.stands)
+    (subst (λ r. IfOk r (λ p. StandsFor [] p)) clocks c.new-2.ensures.stands)
     (subst (λ r. IfOk r (λ p. work_of p ≡ record { comparisons = 0; joins = 0 })) clocks
-    c.begin_clocks.ensures.no_work)
-    (subst (λ r. IfOk r (λ p. width_of p ≡ limits.threads)) clocks c.begin_clocks.ensures.width
+    c.new-2.ensures.no_work)
+    (subst (λ r. IfOk r (λ p. width_of p ≡ limits.threads)) clocks c.new-2.ensures.width
     ∙ ap (λ (m : Limits). m.threads) small)
-    (subst (λ r. IfOk r (λ p. limits_of p ≡ limits)) clocks c.begin_clocks.ensures.limits ∙ small)
+    (subst (λ r. IfOk r (λ p. limits_of p ≡ limits)) clocks c.new-2.ensures.limits ∙ small)
 
 pub strict_numbers-strict-requires : goal.strict_numbers-strict-requires
 strict_numbers-strict-requires g c = c.take.ensures.width

@@ -9,5 +9,5 @@ pub invariant_of-result-clause-few : goal.invariant_of-result-clause-few
 invariant_of-result-clause-few g c =
     let begun : state_of c.expect-clocks.result.0 ≡ empty
     = subst (λ r. IfOk r (λ made. state_of made.0 ≡ empty)) c.expect-clocks.ensures
-    c.begin_clocks.ensures.empty in
+    c.new-2.ensures.empty in
     subst (IsAtMost 0) (sym begun) none_at_most
