@@ -6,7 +6,8 @@ use crate::ids::ThreadId;
 use std::alloc::{AllocError, AllocFailed};
 use thiserror::Error;
 
-/// Whether an access races with an earlier one, and the greatest index of such a one.
+/// Whether an access races with an earlier one, and the greatest index of such a one. Indices count from 0,
+/// where the lines of a report count from 1.
 #[derive(Clone, Copy, Debug, PartialEq, Eq)]
 pub enum Verdict {
     Clear,
@@ -48,7 +49,7 @@ pub enum Refusal {
     #[error("the number of the lock, variable or thread is not below its limit")]
     TargetRange,
     /// 5: another thread holds the lock that is to be acquired.
-    #[error("thread {} holds the lock", .by.0)]
+    #[error("thread {by} holds the lock")]
     Held { by: ThreadId },
     /// 6: the caller does not hold the lock that it releases.
     #[error("the thread does not hold the lock")]
