@@ -3,3 +3,4 @@ pub mod Swaps
 pub mod Books
 pub mod ClosedLog
 pub mod Tries
+pub mod Races

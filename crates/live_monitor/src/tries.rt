@@ -3,9 +3,11 @@ ghost use Rattle.std.specs.Prelude.{◌≡◌, ◌<◌, IsTrue, IsFalse};
 ghost use Rattle.live_monitor.specs.Tries.{one_more, AreUsedUp};
 
 use crossbeam_utils::Backoff;
+use std::fmt;
 use std::marker::Model;
 
-/// How many tries there may be, and how many of them were made. Contracts see both as `most` and `made`.
+/// How many tries there may be, and how many of them were made. Contracts see both as `most` and `made`. By
+/// default there may be none.
 #[derive(Debug, Drop)]
 pub struct Tries {
     most: u32,
@@ -59,5 +61,19 @@ impl Tries {
         }
         self.made += 1;
         true
+    }
+}
+
+impl Default for Tries {
+    ghost is_default = { λ t. t ≡ record { most = 0; made = 0 } };
+
+    fn default() -> Tries {
+        Tries::of(0)
+    }
+}
+
+impl fmt::Display for Tries {
+    fn fmt<W: fmt::Write>(&self, f: &mut fmt::Formatter<W>) -> fmt::Result {
+        write!(f, "{} of {} tries", self.made, self.most)
     }
 }
