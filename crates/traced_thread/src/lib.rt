@@ -12,6 +12,8 @@ mod forks;
 mod handle;
 mod looks;
 mod refused_joins;
+mod sections;
 
 pub use handle::TracedThread;
 pub use refused_joins::NotJoined;
+pub use sections::Section;

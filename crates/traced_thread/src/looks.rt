@@ -22,8 +22,8 @@ impl<'m, N: Name> TracedThread<'m, N> {
         count
     }
 
-    /// The event at the index of what the handle has then seen, or none past its end. It waits for the
-    /// monitor's lock.
+    /// The event at the index of what the handle has then seen, or none past its end. It takes the monitor's
+    /// lock, and `&mut` since the handle sees more by it.
     pub fn event_at<R: Wait>(&mut self, rt: &R, index: u64) -> Option<Event>
         ensures later { HasComeTo N.limits self.old self.new }
         ensures same_mine { self.new.mine ≡ self.old.mine }
