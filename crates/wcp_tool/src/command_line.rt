@@ -105,7 +105,7 @@ fn command_line<'a>(alloc: Global) -> Result<clap::Command<'a>, AllocError>
         alloc,
         "check",
         "Says whether a trace is legal, or which line is refused and why",
-        "wcp check [OPTIONS] < TRACE",
+        "wcp check [OPTIONS] < TRACE\n\n  tip: the trace is standard input, as in: wcp check < trace.txt",
         CHECK_TEXTS,
     )?;
     let two = with_trace_command(
@@ -113,7 +113,7 @@ fn command_line<'a>(alloc: Global) -> Result<clap::Command<'a>, AllocError>
         alloc,
         "replay",
         "Reports the races of a trace",
-        "wcp replay [OPTIONS] < TRACE",
+        "wcp replay [OPTIONS] < TRACE\n\n  tip: the trace is standard input, as in: wcp replay < trace.txt",
         REPLAY_TEXTS,
     )?;
     two.subcommand(run_command(alloc)?)

@@ -54,11 +54,11 @@ without forks and joins, the events of a trace with a race could have come in an
 order in which two such accesses meet, or in a deadlock. Look at the first race
 of a report first: those after it may be no more than what follows from it.
 
-Example:
-  printf 'T0|fork(T1)|1\\nT0|w(y)|2\\nT1|r(y)|3\\n' | wcp replay
+Example, of a race that the schedule hid, since B took the lock after A:
+  printf 'A|w(y)|1\\nA|acq(l)|2\\nA|rel(l)|3\\nB|acq(l)|4\\nB|r(y)|5\\n' | wcp replay
 prints
-  events 3 threads 2 locks 0 variables 1 races 1
-  3|T1|r(y)|3 with 2|T0|w(y)|2
+  events 5 threads 2 locks 1 variables 1 races 1
+  5|B|r(y)|5 with 1|A|w(y)|1
 
 Exit status:
   0  The trace is legal, and no race was found; or help or the version was
@@ -79,9 +79,9 @@ events it has, and how many threads, locks and variables it names:
   events E threads T locks L variables V",
     "\
 Example:
-  printf 'T0|fork(T1)|1\\nT0|w(y)|2\\nT1|r(y)|3\\n' | wcp check
+  printf 'A|w(y)|1\\nA|acq(l)|2\\nA|rel(l)|3\\nB|acq(l)|4\\nB|r(y)|5\\n' | wcp check
 prints
-  events 3 threads 2 locks 0 variables 1
+  events 5 threads 2 locks 1 variables 1
 
 Exit status:
   0  The trace is legal
@@ -104,10 +104,10 @@ threads differ, and weak causal precedence, with program order, does not order
 them.",
     "\
 Example:
-  printf 'T0|fork(T1)|1\\nT0|w(y)|2\\nT1|r(y)|3\\n' | wcp replay
+  printf 'A|w(y)|1\\nA|acq(l)|2\\nA|rel(l)|3\\nB|acq(l)|4\\nB|r(y)|5\\n' | wcp replay
 prints
-  events 3 threads 2 locks 0 variables 1 races 1
-  3|T1|r(y)|3 with 2|T0|w(y)|2
+  events 5 threads 2 locks 1 variables 1 races 1
+  5|B|r(y)|5 with 1|A|w(y)|1
 
 Exit status:
   0  The trace is legal, and no race was found

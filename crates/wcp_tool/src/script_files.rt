@@ -5,8 +5,8 @@ use rapid_text::{Device, Input};
 use std::fs;
 use std::fs::Files;
 
-/// Opens files of scripts. Contracts see what opening a path may give: the reader of a script, or none. Of the
-/// system's files nothing is known.
+/// Opens files of scripts. Contracts see what opening a path may give: the reader of a script, or none. Of
+/// the system's files nothing is known.
 pub trait ScriptFiles {
     type Script: Input + Drop;
 
