@@ -93,7 +93,8 @@ done_later m script t p q lines later mine h =
 
 -- one more line is done
 pub done_more : (m : Limits) (script : List ScriptLine) (t : ThreadId) (p q : PassView)
-    (lines : List ScriptLine) (l : ScriptLine) → HasDone script t p lines → Does m script l p q → HasDone script t q (lines ++ l ∷ [])
+    (lines : List ScriptLine) (l : ScriptLine) → HasDone script t p lines → Does m script l p q
+    → HasDone script t q (lines ++ l ∷ [])
 done_more m script t p q lines l h does = record {
   thread = does.thread ∙ h.thread;
   begun = begun_more script t (log_of p.seen) (log_of q.seen) (log_begins p.seen q.seen does.begins) h.begun;
