@@ -88,6 +88,48 @@ unfolding number_in
 no_more t kind name e =
     number_full (space t kind) name (back_full t kind (number_of (space t kind) name) e)
 
+-- ---- a name that is there
+
+new_kept : (b : Bool) (s : Numbered) (name : List ℕ) (q : ℕ × Numbered)
+    → cond b (let o : Option (ℕ × Numbered) = Some (length s.names, with_name s name) in o) None ≡ Some q
+    → q.0 < length s.names → q.1 ≡ s
+new_kept true s name q e below =
+    let number : length s.names ≡ q.0 = ap (λ (o : Option (ℕ × Numbered)). (unwrap_or o q).0) e in
+    absurd (omega arith)
+new_kept false s name q e below = absurd cc
+
+found_kept : (o : Option ℕ) (s : Numbered) (name : List ℕ) (q : ℕ × Numbered) → found_or o s name ≡ Some q
+    → q.0 < length s.names → q.1 ≡ s
+found_kept (Some i) s name q e below = sym (ap (λ (o : Option (ℕ × Numbered)). (unwrap_or o q).1) e)
+found_kept None s name q e below = new_kept (nat_lt (length s.names) s.limit) s name q e below
+
+number_kept : (s : Numbered) (name : List ℕ) (q : ℕ × Numbered) → number_of s name ≡ Some q
+    → q.0 < length s.names → q.1 ≡ s
+unfolding number_of
+number_kept s name q e below = found_kept (place_of s name) s name q e below
+
+same_space : (t : Tables) (kind : Kind) → with_space t kind (space t kind) ≡ t
+same_space t kinds.Thread = refl
+same_space t kinds.Lock = refl
+same_space t kinds.Variable = refl
+same_space t kinds.Site = refl
+
+kept_by : (o : Option (ℕ × Numbered)) (t u : Tables) (kind : Kind) (name : List ℕ) (n : ℕ)
+    → number_of (space t kind) name ≡ o → put_back t kind o ≡ Some (n, u) → n < length (space t kind).names
+    → u ≡ t
+kept_by None t u kind name n is e below = absurd cc
+kept_by (Some q) t u kind name n is e below =
+    let tables : with_space t kind q.1 ≡ u = ap (λ (o : Option (ℕ × Tables)). (unwrap_or o (n, u)).1) e in
+    let number : q.0 ≡ n = ap (λ (o : Option (ℕ × Tables)). (unwrap_or o (n, u)).0) e in
+    let kept : q.1 ≡ space t kind = number_kept (space t kind) name q is (omega arith) in
+    sym tables ∙ (ap (with_space t kind) kept ∙ same_space t kind)
+
+-- a name that gets an earlier number changes nothing
+pub name_kept : (t u : Tables) (kind : Kind) (name : List ℕ) (n : ℕ) → number_in t kind name ≡ Some (n, u)
+    → n < length (space t kind).names → u ≡ t
+unfolding number_in
+name_kept t u kind name n e below = kept_by (number_of (space t kind) name) t u kind name n refl e below
+
 -- ---- a list of names
 
 -- a list from one of its places on

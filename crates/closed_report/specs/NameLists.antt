@@ -2,8 +2,8 @@
 use Rattle.std.specs.Prelude.{◌≡◌, ℕ, ◌<◌, ◌≤◌, List, [], length, map, slice_get, Some}
 use Rattle.rapid_text.specs.declared.causes.Kind.{Kind}
 use Rattle.rapid_text.specs.declared.causes.Kind.TheVariants as kinds
-use Rattle.rapid_text.specs.Numbers.{Numbered}
-use Rattle.rapid_text.specs.Tables.{Tables, IsNameOf, space}
+use Rattle.rapid_text.specs.Numbers.{Numbered, with_name}
+use Rattle.rapid_text.specs.Tables.{Tables, IsNameOf, space, with_space}
 use Rattle.closed_report.specs.declared.name_lists.NameLists.{NameLists}
 use Rattle.closed_report.specs.declared.name_lists.NamingFault.{NamingFault}
 use Rattle.closed_report.specs.declared.name_lists.NamingFault.TheVariants.{NoName, Twice}
@@ -60,3 +60,8 @@ IsFaultIn limit kind names OutOfMemory = Unit {0}
 -- a fault of one of the lists; memory may run out at any time
 abbrev pub IsFaultOf : Tables → NameLists → NamingFault → Type 0
 IsFaultOf t l f = (kind : Kind) × IsFaultIn (space t kind).limit kind (listed l kind) f
+
+-- the name is added, under the next number of its kind
+abbrev pub IsNext : Tables → Kind → List ℕ → ℕ → Tables → Type 0
+IsNext t kind name n u =
+    (n ≡ length (space t kind).names) × (u ≡ with_space t kind (with_name (space t kind) name))

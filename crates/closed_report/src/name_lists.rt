@@ -1,8 +1,7 @@
 //! Names for the numbers that a program chose, by lists.
-ghost use Rattle.std.specs.Prelude.{◌≡◌, [], true, ◌↔◌, IfOk, IfErr, OnOk, map};
+ghost use Rattle.std.specs.Prelude.{◌≡◌, [], true, ◌↔◌, IfOk, IfErr, OnOk, OnErr, map};
 ghost use Rattle.rapid_text.specs.Tables.{IsNameOf, no_names, space, with_space};
-ghost use Rattle.rapid_text.specs.Numbers.{with_name};
-ghost use Rattle.closed_report.specs.NameLists.{names_in, numbered, AreNone, IsFaultAt, IsFaultIn, IsFaultOf};
+ghost use Rattle.closed_report.specs.NameLists.{names_in, numbered, AreNone, IsFaultAt, IsFaultIn, IsFaultOf, IsNext};
 
 use event_core::Limits;
 use rapid_line::contains;
@@ -49,9 +48,9 @@ fn is_name_of(kind: Kind, bytes: &[u8]) -> bool
 }
 
 /// Adds a name, which gets the next number.
-fn add_name(names: &mut Names, kind: Kind, name: &[u8]) -> Result<(), NamingFault>
-    ensures ok { OnOk result
-        (names.new ≡ with_space names.old kind (with_name (space names.old kind) name.now)) }
+pub fn add_name(names: &mut Names, kind: Kind, name: &[u8]) -> Result<u32, NamingFault>
+    ensures ok { IfOk result (λ number. IsNext names.old kind name.now number names.new) }
+    ensures unchanged { OnErr result (names.new ≡ names.old) }
     ensures fault { IfErr result (IsFaultAt (space names.old kind) kind name.now) }
 {
     let number = names.count(kind);
@@ -63,7 +62,7 @@ fn add_name(names: &mut Names, kind: Kind, name: &[u8]) -> Result<(), NamingFaul
             if given < number {
                 return Err(NamingFault::Twice { kind, number });
             }
-            Ok(())
+            Ok(number)
         }
         Err(NameFault::TooMany) => Err(NamingFault::TooMany { kind }),
         Err(NameFault::OutOfMemory) => Err(NamingFault::OutOfMemory),

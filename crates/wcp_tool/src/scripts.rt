@@ -91,7 +91,7 @@ fn tell_report<O: Output>(writer: &mut O, closed: &Closed, names: &Names) -> End
     match report_closed(writer, closed, names) {
         Ok(summary) => summary_ending(summary),
         // The threads made the calls of the script's lines, whose numbers all have names: it does not occur.
-        Err(ReportFault::Unnamed) => Ending::BrokenScript,
+        Err(ReportFault::Unnamed { .. }) => Ending::BrokenScript,
         Err(ReportFault::Write) => Ending::WriteFault,
     }
 }

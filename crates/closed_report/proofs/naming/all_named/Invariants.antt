@@ -2,7 +2,7 @@ use Rattle.std.proofs.Common.{◌≡◌, ℕ, ◌-◌, ◌<◌, length, Some}
 use Rattle.std.specs.Prelude.{slice_get}
 use Rattle.event_core.specs.declared.events.Event.{Event}
 use Rattle.rapid_text.specs.Events.{HasNames}
-use Rattle.closed_report.proofs.naming.are_named.Given as goal
+use Rattle.closed_report.proofs.naming.all_named.Given as goal
 
 abbrev pub invariant-events : goal.invariant-events
 invariant-events l = (j : ℕ) (e : Event) → j < l.index → slice_get l.log.events j ≡ Some e

@@ -1,21 +1,26 @@
-use Rattle.std.proofs.Common.{List, Ok, Err, refl, subst, sym}
+use Rattle.std.proofs.Common.{List, Ok, Err, rules, subst, sym}
 use Rattle.event_core.specs.declared.events.Event.{Event}
-use Rattle.event_core.proofs.Tests.{not_both}
 use Rattle.seq_monitor.specs.Monitored.{AreVerdicts}
 use Rattle.trace_report.specs.Reports.{AreNamed, AreWithin}
 use Rattle.trace_report.proofs.TellingLaws.{verdicts_within}
 use Rattle.closed_report.specs.Closed.{IsReportOf}
+use Rattle.closed_report.specs.Unnamed.{IsFirst}
 use Rattle.closed_report.specs.declared.reporting.ReportFault.TheVariants.{Write}
-use Rattle.closed_report.proofs.Telling.{not_told}
+use Rattle.closed_report.proofs.Telling.{is_ok, not_told, reason, told}
 use Rattle.closed_report.proofs.reporting.report_closed.Goals as goal
 
-pub returns-then-not-are_named-clause-unnamed : goal.returns-then-not-are_named-clause-unnamed
-returns-then-not-are_named-clause-unnamed g c = (
-  λ same named. not_both (c.are_named.ensures.1
-      (subst (λ (l : List Event). AreNamed c.args.names.now l) (sym c.log-log.ensures.log) named))
-      c.if-not-are_named.true,
-  λ unnamed. refl,
-)
+pub returns-in-Err-clause-unnamed : goal.returns-in-Err-clause-unnamed
+returns-in-Err-clause-unnamed g c =
+    let first : IsFirst c.args.names.now c.log-log.result.now.events c.in-Err.fault = search rules in
+    let none : AreNamed c.args.names.now c.log-log.result.now.events → ⊥ = search rules in
+    told c.args.names.now c.log-log.result.now.events c.in-Err.fault first
+    (λ named. none (subst (λ (l : List Event). AreNamed c.args.names.now l) (sym c.log-log.ensures.log) named))
+
+pub returns-in-Err-clause-first : goal.returns-in-Err-clause-first
+returns-in-Err-clause-first g c =
+    let first : IsFirst c.args.names.now c.log-log.result.now.events c.in-Err.fault = search rules in
+    reason c.args.names.now _ c.in-Err.fault
+    (subst (λ (l : List Event). IsFirst c.args.names.now l c.in-Err.fault) c.log-log.ensures.log first)
 
 pub report-requires-clause-verdicts : goal.report-requires-clause-verdicts
 report-requires-clause-verdicts g c =
@@ -23,29 +28,30 @@ report-requires-clause-verdicts g c =
     (verdicts_within _ _ c.verdicts.ensures)
 
 pub report-requires-clause-named : goal.report-requires-clause-named
-report-requires-clause-named g c = c.are_named.ensures.0 c.if-not-are_named.false
+report-requires-clause-named g c = c.all_named.ensures.named.0 (is_ok c.all_named.result c.in_default.not-Err)
 
 pub returns-in-Ok-clause-ok : goal.returns-in-Ok-clause-ok
 returns-in-Ok-clause-ok g c =
+    let named = c.all_named.ensures.named.0 (is_ok c.all_named.result c.in_default.not-Err) in
     subst (λ (l : List Event). IsReportOf c.args.names.now l (g.W.Output.written c.args.writer.now)
     (g.W.Output.written c.report.new.writer) c.in-Ok.summary) c.log-log.ensures.log
     (record {
       verdicts = c.verdicts.result.now.verdicts;
       judged = subst (λ (l : List Event). AreVerdicts l c.verdicts.result.now.verdicts)
           (sym c.log-log.ensures.log) c.verdicts.ensures;
-      named = c.are_named.ensures.0 c.if-not-are_named.false;
+      named = named;
       written = c.in-Ok.ensures.ok;
       summary_is = c.in-Ok.ensures.summary;
     })
 
 pub returns-in-Ok-clause-unnamed : goal.returns-in-Ok-clause-unnamed
 returns-in-Ok-clause-unnamed g c =
-    not_told (Ok c.in-Ok.summary) refl
-    (subst (λ (l : List Event). AreNamed c.args.names.now l) c.log-log.ensures.log
-    (c.are_named.ensures.0 c.if-not-are_named.false))
+    let named = c.all_named.ensures.named.0 (is_ok c.all_named.result c.in_default.not-Err) in
+    not_told (Ok c.in-Ok.summary) (λ never. never)
+    (subst (λ (l : List Event). AreNamed c.args.names.now l) c.log-log.ensures.log named)
 
-pub returns-in-Err-clause-unnamed : goal.returns-in-Err-clause-unnamed
-returns-in-Err-clause-unnamed g c =
-    not_told (Err Write) refl
-    (subst (λ (l : List Event). AreNamed c.args.names.now l) c.log-log.ensures.log
-    (c.are_named.ensures.0 c.if-not-are_named.false))
+pub returns-in-Err-report-clause-unnamed : goal.returns-in-Err-report-clause-unnamed
+returns-in-Err-report-clause-unnamed g c =
+    let named = c.all_named.ensures.named.0 (is_ok c.all_named.result c.in_default.not-Err) in
+    not_told (Err Write) (λ never. never)
+    (subst (λ (l : List Event). AreNamed c.args.names.now l) c.log-log.ensures.log named)
