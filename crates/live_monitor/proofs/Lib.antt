@@ -1,4 +1,5 @@
 pub mod Beginnings
 mod Retries
+mod RuleKept
 mod StepsAdded
 mod SwapsFollow

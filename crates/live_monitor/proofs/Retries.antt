@@ -1,23 +1,34 @@
 -- A pass whose thread tries a call again.
-use Rattle.std.proofs.Common.{◌≡◌, [], ◌∷◌, ◌++◌, Result, Ok, Err, IfOk, IfErr, ap, subst, ◌∙◌}
+use Rattle.std.proofs.Common.{◌≡◌, List, [], ◌∷◌, ◌++◌, Result, Ok, Err, IfOk, IfErr, ap, subst, sym, ◌∙◌}
 use mathlib.Core.List.{IsPrefix}
 use Rattle.event_core.specs.declared.bounds.Limits.{Limits}
 use Rattle.event_core.specs.declared.ids.LockId.{LockId}
 use Rattle.event_core.specs.declared.ids.SiteId.{SiteId}
+use Rattle.event_core.specs.declared.events.Event.{Event}
 use Rattle.event_core.specs.declared.replies.Refusal.{Refusal}
 use Rattle.event_core.specs.declared.replies.Reply.{Reply}
 use Rattle.event_core.specs.declared.steps.Step.TheVariants.{One}
 use Rattle.event_core.specs.Refusal.{event_of}
-use Rattle.event_core.specs.Steps.{log_of}
+use Rattle.event_core.specs.Steps.{log_of, own_events}
 use Rattle.log_pass.specs.declared.views.PassView.{PassView}
 use Rattle.log_pass.proofs.Prefixes.{prefix_trans}
 use Rattle.live_monitor.specs.Calls.{acquire_by, Accepted, Declined, HasComeTo}
+use Rattle.live_monitor.specs.Rules.{HasOwn, MayAdd}
 
 -- after tries that were not accepted the pass is the same thread's, has seen what it had, and made no step
 pub record HasTried (before now : PassView) : Type 0 where
   pub same_thread : now.thread ≡ before.thread
   pub begins : IsPrefix before.seen now.seen
   pub mine : now.mine ≡ before.mine
+
+-- it may be made again after them
+pub may_add_again : (keeps : List Event → Type 0) {p q : PassView} (l : LockId) (site : SiteId) → HasTried p q
+    → MayAdd keeps p (acquire_by p.thread l site) → MayAdd keeps q (acquire_by q.thread l site)
+may_add_again keeps {p} {q} l site tried may log own kept =
+    let its : HasOwn p log
+    = ap log_of (sym tried.mine) ∙ (own ∙ ap (λ t. own_events t log) tried.same_thread) in
+    subst (λ t. keeps (log ++ event_of log (acquire_by t l site) ∷ [])) (sym tried.same_thread)
+    (may log its kept)
 
 -- what the last try brings holds of all
 pub later_of_all : {m : Limits} {p q r : PassView} → HasTried p q → HasComeTo m q r → HasComeTo m p r

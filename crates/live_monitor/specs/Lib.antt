@@ -1,4 +1,5 @@
 pub mod Calls
+pub mod Rules
 pub mod Swaps
 pub mod Books
 pub mod ClosedLog

@@ -63,13 +63,15 @@
 
 mod book;
 mod closed;
+mod rule;
 mod shared;
 mod tries;
 mod unnamed;
 
 pub use book::Book;
 pub use closed::Closed;
+pub use rule::{AnyLog, LogRule};
 pub use seq_monitor::{Race, Verdicts};
 pub use shared::Shared;
 pub use tries::Tries;
-pub use unnamed::{StartFault, Unnamed, start};
+pub use unnamed::{StartFault, Unnamed, start, start_under};

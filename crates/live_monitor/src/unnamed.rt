@@ -4,12 +4,13 @@ ghost use Rattle.event_core.specs.declared.bounds.Roots.TheVariants.{Free, OnlyM
 ghost use Rattle.log_pass.specs.Passes.{main, new_pass};
 
 use crate::book::Book;
+use crate::rule::{AnyLog, LogRule};
 use crate::shared::Shared;
 use event_core::{Limits, Roots};
 use log_pass::{Blank, Name, Pass};
 use seq_monitor::Monitor;
 use std::alloc::Global;
-use std::marker::Model;
+use std::marker::{Model, PhantomData};
 use std::sync::Mutex;
 use thiserror::Error;
 
@@ -72,8 +73,22 @@ pub fn start<N: Name>(unnamed: Unnamed) -> (Shared<N>, Pass<N>)
     requires limits { unnamed.limits ≡ N.limits }
     ensures main_pass { result.1 ≡ new_pass main [] }
 {
+    start_under::<N, AnyLog>(unnamed)
+}
+
+/// The same under the rule `K`, which the empty log keeps.
+pub fn start_under<N: Name, K: LogRule>(unnamed: Unnamed) -> (Shared<N, K>, Pass<N>)
+    requires table { unnamed.table ≡ N.table }
+    requires limits { unnamed.limits ≡ N.limits }
+    requires keeps { K.keeps [] }
+    ensures main_pass { result.1 ≡ new_pass main [] }
+{
     let Unnamed { blank, monitor } = unnamed;
     let (published, keeper, pass) = blank.open::<N>();
-    let book = Mutex::new(Book { monitor, keeper });
+    let book = Mutex::new(Book {
+        monitor,
+        keeper,
+        rule: PhantomData,
+    });
     (Shared { book, published }, pass)
 }
