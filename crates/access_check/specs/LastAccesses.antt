@@ -28,13 +28,15 @@ abbrev pub FollowFirst : Option LastAccess → List LastAccess → Type 0
 FollowFirst None rest = rest ≡ []
 FollowFirst (Some p) rest = Unit {0}
 
--- what contracts see of a list: the last accesses, and for how many more threads there is room
+-- what contracts see of a list: the last accesses, for how many more threads there is room, and for how many
+-- accesses beside the first there is memory
 pub record LastList : Type 0 where
   pub items : List LastAccess
   pub room : ℕ
+  pub reserved : ℕ
 
 abbrev pub no_last_accesses : LastList
-no_last_accesses = record { items = []; room = 1 }
+no_last_accesses = record { items = []; room = 1; reserved = 0 }
 
 -- the access is of the thread
 abbrev pub is_of : ThreadId → LastAccess → Bool

@@ -1,5 +1,5 @@
 -- The tables of accesses: what they mean, and the room that is made.
-use Rattle.std.specs.Prelude.{ℕ, ◌+◌, ◌≡◌, ◌<◌, ◌≤◌, List, [], Option, Some, None, IsTrue, cond}
+use Rattle.std.specs.Prelude.{ℕ, ◌+◌, ◌*◌, ◌≡◌, ◌<◌, ◌≤◌, List, [], Option, Some, None, IsTrue, cond}
 use Rattle.std.specs.Prelude.{nat_eq, length, max, slice_index, slice_index_or}
 use Rattle.event_core.specs.declared.ids.ThreadId.{ThreadId}
 use Rattle.event_core.specs.declared.ids.VarId.{VarId}
@@ -23,6 +23,9 @@ pub record Tables : Type 0 where
   pub counts : List ℕ
   -- of each variable who touched it last
   pub vars : List VariableAccesses
+  -- for so many counts and variables there is memory
+  pub count_room : ℕ
+  pub var_room : ℕ
 
 -- past the end of a table nothing was noted
 abbrev pub count_at : List ℕ → ℕ → ℕ
@@ -98,14 +101,30 @@ vars_for (Load x) = x.0 + 64
 vars_for (Store x) = x.0 + 64
 vars_for _ = 0
 
--- no table has grown further than that; no clause bounds the room in a variable's own lists
+-- no list of a variable has memory for more accesses than it had; or for twice as many as it has with one
+-- more, if it is a list of variable x
+abbrev pub LastsAt : ℕ → List VariableAccesses → List VariableAccesses → Type 0
+LastsAt x old new = (y : ℕ) (k : AccessKind) → (of_kind k (accesses_at new y)).reserved
+    ≤ max (of_kind k (accesses_at old y)).reserved
+    (2 * cond (nat_eq x y) (length (kept k (accesses_at old y)) + 1) 0)
+
+-- if it is a list of the variable that the operation accesses
+abbrev pub LastsFor : Op → List VariableAccesses → List VariableAccesses → Type 0
+LastsFor (Load x) old new = LastsAt x.0 old new
+LastsFor (Store x) old new = LastsAt x.0 old new
+LastsFor _ old new = new ≡ old
+
+-- no table has grown further than that, and none has memory for more than twice as many, or had it before
 pub record GrownFor (old new : Tables) (t : ThreadId) (o : Op) : Type 0 where
   pub counts : length new.counts ≤ max (length old.counts) (t.0 + 1)
   pub vars : length new.vars ≤ max (length old.vars) (vars_for o)
+  pub count_room : new.count_room ≤ max old.count_room (2 * (t.0 + 1))
+  pub var_room : new.var_room ≤ max old.var_room (2 * vars_for o)
+  pub lasts : LastsFor o old.vars new.vars
 
 -- before any event
 abbrev pub no_tables : Limits → Tables
-no_tables m = record { limits = m; counts = []; vars = [] }
+no_tables m = record { limits = m; counts = []; vars = []; count_room = 0; var_room = 0 }
 
 -- what the fields keep: each thread's number is below the limit
 pub record AreTables (width threads : ℕ) (vars : List VariableAccesses) : Type 0 where

@@ -17,12 +17,18 @@ pub struct Accesses {
 }
 
 impl Model for Accesses {
-    ghost use Rattle.std.specs.Prelude.{length};
+    ghost use Rattle.std.specs.Prelude.{length, vec_capacity};
     ghost use Rattle.access_check.specs.Tables.{Tables, AreTables};
 
     ghost Value = { Tables };
 
-    ghost view = { λ a. record { limits = a.limits; counts = a.counts.items; vars = a.vars.items } };
+    ghost view = { λ a. record {
+      limits = a.limits;
+      counts = a.counts.items;
+      vars = a.vars.items;
+      count_room = vec_capacity a.counts;
+      var_room = vec_capacity a.vars;
+    } };
 
     ghost invariant = { λ a. AreTables a.limits.threads (length a.counts.items) a.vars.items };
 }

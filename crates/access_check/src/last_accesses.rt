@@ -7,7 +7,7 @@ ghost use Rattle.hb_clocks.specs.Counts.{counts_of};
 ghost use Rattle.access_check.specs.LastAccesses.{is_of, later, racing, latest_from, put, AreNarrow};
 
 use crate::packed::PackedAccess;
-use event_core::{OutOfMemory, ThreadId};
+use event_core::{OutOfMemory, ThreadId, reserve};
 use hb_clocks::JoinedClocks;
 use std::alloc::Global;
 use std::marker::Model;
@@ -139,13 +139,14 @@ impl Model for LastAccesses {
     ghost view = { λ l. record {
       items = items_of l.first l.rest.items;
       room = room_of l.first (vec_capacity l.rest - vec_len l.rest);
+      reserved = vec_capacity l.rest;
     } };
 
     ghost invariant = { λ l. FollowFirst l.first l.rest.items };
 }
 
 impl LastAccesses {
-    ghost use Rattle.std.specs.Prelude.{◌≡◌, [], length, IsTrue, IsOk, OnOk};
+    ghost use Rattle.std.specs.Prelude.{◌≡◌, ◌+◌, ◌*◌, ◌≤◌, [], length, max, IsTrue, IsOk, OnOk};
     ghost use Rattle.event_core.specs.declared.ids.ThreadId.{ThreadId as Thread};
     ghost use Rattle.hb_clocks.specs.Counts.{counts_of};
     ghost use Rattle.access_check.specs.LastAccesses.{latest, put, has_room, no_last_accesses};
@@ -166,13 +167,13 @@ impl LastAccesses {
         ensures same { self.new.items ≡ self.old.items }
         ensures more { (t : Thread) → IsTrue (has_room t self.old) → IsTrue (has_room t self.new) }
         ensures room { OnOk result (IsTrue (has_room thread self.new)) }
+        ensures most { self.new.reserved ≤ max self.old.reserved (2 * (length self.old.items + 1)) }
         ensures again { IsTrue (has_room thread self.old) → IsOk result }
     {
         if self.ready(thread) {
             return Ok(());
         }
-        self.rest.reserve(1)?;
-        Ok(())
+        reserve(&mut self.rest, 1)
     }
 
     /// Whether there is room for an access by the thread.

@@ -1,5 +1,6 @@
 //! Work on the tables: of each thread how many events it has, and of each variable who touched it last.
 ghost use Rattle.std.specs.Prelude.{◌≡◌, ℕ, ◌+◌, ◌<◌, ◌≤◌, ◌^◌, length, OnOk, OnErr, IsOk, cond, nat_eq, max};
+ghost use Rattle.std.specs.Prelude.{◌*◌, vec_capacity};
 ghost use Rattle.event_core.specs.declared.ids.ThreadId.{ThreadId as Thread};
 ghost use Rattle.event_core.specs.declared.events.AccessKind.{AccessKind as Kind};
 ghost use Rattle.event_core.specs.declared.events.Op.{Op as Operation};
@@ -8,7 +9,7 @@ ghost use Rattle.access_check.specs.LastAccesses.{AreNarrow, IsShort};
 ghost use Rattle.access_check.specs.VariableAccesses.{kept, latest_racing, kept_after};
 ghost use Rattle.access_check.specs.Tables.{last_of};
 ghost use Rattle.access_check.specs.Tables.{count_at, accesses_at, touched_after, verdict_at};
-ghost use Rattle.access_check.specs.Tables.{RoomAt, RoomFor};
+ghost use Rattle.access_check.specs.Tables.{RoomAt, RoomFor, LastsAt};
 
 use crate::last_accesses::{Access, LastAccess};
 use crate::variable_accesses::VariableAccesses;
@@ -24,6 +25,7 @@ pub(crate) fn grow_counts(counts: &mut Vec<u64>, threads: usize) -> Result<(), O
     ensures same { (u : ℕ) → count_at counts.new.items u ≡ count_at counts.old.items u }
     ensures more { length counts.old.items ≤ length counts.new.items }
     ensures most { length counts.new.items ≤ max (length counts.old.items) threads }
+    ensures room { vec_capacity counts.new ≤ max (vec_capacity counts.old) (2 * threads) }
     ensures ok { OnOk result (threads ≤ length counts.new.items) }
     ensures short { OnErr result (length counts.old.items < threads) }
 {
@@ -38,6 +40,7 @@ fn grow_vars(vars: &mut Vec<VariableAccesses>, alloc: Global, var: usize) -> Res
     ensures same { (x : ℕ) → accesses_at vars.new.items x ≡ accesses_at vars.old.items x }
     ensures more { length vars.old.items ≤ length vars.new.items }
     ensures most { length vars.new.items ≤ max (length vars.old.items) (var + 64) }
+    ensures memory { vec_capacity vars.new ≤ max (vec_capacity vars.old) (2 * (var + 64)) }
     ensures ok { OnOk result (var < length vars.new.items) }
 {
     grow_to(vars, var + VARS_AT_ONCE, || VariableAccesses::new(alloc))
@@ -54,6 +57,7 @@ fn make_room_at(
     ensures same { (x : ℕ) (k : Kind) → kept k (accesses_at vars.new x) ≡ kept k (accesses_at vars.old x) }
     ensures more { (t : Thread) (x : ℕ) (k : Kind) → RoomAt vars.old t x k → RoomAt vars.new t x k }
     ensures as_many { length vars.new ≡ length vars.old }
+    ensures lasts { LastsAt var vars.old vars.new }
     ensures room { OnOk result (RoomAt vars.new thread var kind) }
     ensures again { RoomAt vars.old thread var kind → IsOk result }
 {
@@ -75,6 +79,8 @@ pub(crate) fn grow_at(
     ensures more { (t : Thread) (x : ℕ) (k : Kind) → RoomAt vars.old.items t x k
         → RoomAt vars.new.items t x k }
     ensures most { length vars.new.items ≤ max (length vars.old.items) (var + 64) }
+    ensures memory { vec_capacity vars.new ≤ max (vec_capacity vars.old) (2 * (var + 64)) }
+    ensures lasts { LastsAt var vars.old.items vars.new.items }
     ensures room { OnOk result (RoomAt vars.new.items thread var kind) }
     ensures again { RoomAt vars.old.items thread var kind → IsOk result }
 {

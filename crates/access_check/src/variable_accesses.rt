@@ -17,7 +17,7 @@ pub struct VariableAccesses {
 }
 
 impl VariableAccesses {
-    ghost use Rattle.std.specs.Prelude.{◌≡◌, length, IsTrue, IsOk, OnOk};
+    ghost use Rattle.std.specs.Prelude.{◌≡◌, ◌+◌, ◌*◌, ◌≤◌, length, max, IsTrue, IsOk, OnOk};
     ghost use Rattle.event_core.specs.declared.ids.ThreadId.{ThreadId as Thread};
     ghost use Rattle.event_core.specs.declared.events.AccessKind.{AccessKind as Kind};
     ghost use Rattle.hb_clocks.specs.Counts.{counts_of};
@@ -41,6 +41,8 @@ impl VariableAccesses {
         ensures more { (t : Thread) (k : Kind) → IsTrue (has_room t (of_kind k self.old))
             → IsTrue (has_room t (of_kind k self.new)) }
         ensures room { OnOk result (IsTrue (has_room thread (of_kind kind self.new))) }
+        ensures most { (k : Kind) → (of_kind k self.new).reserved
+            ≤ max (of_kind k self.old).reserved (2 * (length (kept k self.old) + 1)) }
         ensures again { IsTrue (has_room thread (of_kind kind self.old)) → IsOk result }
     {
         match kind {

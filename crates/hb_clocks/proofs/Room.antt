@@ -67,6 +67,8 @@ grown_then a b c t op p q = record {
   hb = more_grown p.hb q.hb;
   lock = more_grown p.lock q.lock;
   holds = omega (arith, p.holds, q.holds);
+  thread_room = omega (arith, p.thread_room, q.thread_room);
+  lock_room = omega (arith, p.lock_room, q.lock_room);
 }
 
 -- for a lock or a thread that the operation names

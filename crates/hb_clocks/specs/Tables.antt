@@ -1,5 +1,5 @@
 -- The tables of clocks: what they mean, and the room in them.
-use Rattle.std.specs.Prelude.{◌≡◌, ℕ, ◌+◌, ◌<◌, ◌≤◌, ◌⊎◌, List, length, max, replicate}
+use Rattle.std.specs.Prelude.{◌≡◌, ℕ, ◌+◌, ◌*◌, ◌<◌, ◌≤◌, ◌⊎◌, List, [], length, max, replicate}
 use Rattle.event_core.specs.declared.ids.ThreadId.{ThreadId}
 use Rattle.event_core.specs.declared.events.Event.{Event}
 use Rattle.event_core.specs.declared.events.Op.{Op}
@@ -17,9 +17,21 @@ pub record Tables : Type 0 where
   pub hb : List (List ℕ)
   pub lock : List (List ℕ)
   pub holds : List Hold
+  -- for so many rows of threads, and of locks, there is memory
+  pub thread_room : ℕ
+  pub lock_room : ℕ
 
-abbrev pub tables : ℕ → List (List ℕ) → List (List ℕ) → List (List ℕ) → List Hold → Tables
-tables width po hb lock holds = record { width = width; po = po; hb = hb; lock = lock; holds = holds }
+-- those of the empty log
+abbrev pub no_tables : ℕ → Tables
+no_tables width = record {
+  width = width;
+  po = [];
+  hb = [];
+  lock = [];
+  holds = [];
+  thread_room = 0;
+  lock_room = 0;
+}
 
 abbrev pub hb_rows : List (List ℕ) → List (List ℕ) → Rows
 hb_rows hb lock = record { thread = rows_of hb; lock = rows_of lock }
@@ -93,12 +105,15 @@ pub record HasGrown (rows : ℕ) (IsNamed : ℕ → Type 0) (old new : List (Lis
   pub most : length new ≤ max (length old) rows
   pub others : (u : ℕ) → (IsNamed u → ⊥) → widths_of new u ≡ widths_of old u
 
--- no table has grown beyond the numbers that the operation names, and clocks were made of these alone
+-- no table has grown beyond the numbers that the operation names, clocks were made of these alone, and none
+-- has memory for more than twice as many rows, or had it before
 pub record GrownFor (old new : Tables) (t : ThreadId) (op : Op) : Type 0 where
   pub po : HasGrown (threads_for t op) (IsThreadFor t op) old.po new.po
   pub hb : HasGrown (threads_for t op) (IsThreadFor t op) old.hb new.hb
   pub lock : HasGrown (locks_for op) (IsLockOf op) old.lock new.lock
   pub holds : length new.holds ≤ max (length old.holds) (locks_for op)
+  pub thread_room : new.thread_room ≤ max old.thread_room (2 * threads_for t op)
+  pub lock_room : new.lock_room ≤ max old.lock_room (2 * locks_for op)
 
 -- the threads that are named are below the width
 abbrev pub NamesWithin : ℕ → Op → Type 0

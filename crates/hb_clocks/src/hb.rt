@@ -18,7 +18,7 @@ ghost use Rattle.hb_clocks.specs.Marks.{IsLatest, Names};
 ghost use Rattle.hb_clocks.specs.Work.{more_joins};
 ghost use Rattle.hb_clocks.specs.State.{empty, after, effect, joins_of, latest_mark};
 ghost use Rattle.hb_clocks.specs.Stands.{Stands, Admits, IsFew};
-ghost use Rattle.hb_clocks.specs.Tables.{tables, state_of, IsReady, KeepsRoom, IsWithin, HasThread};
+ghost use Rattle.hb_clocks.specs.Tables.{no_tables, state_of, IsReady, KeepsRoom, IsWithin, HasThread};
 ghost use Rattle.hb_clocks.specs.Tables.{GrownFor, IsThreadFor, IsLockOf, threads_for, locks_for};
 ghost use Rattle.hb_clocks.specs.Rows.{IsMade};
 
@@ -50,11 +50,20 @@ pub struct HbClocks {
 }
 
 impl Model for HbClocks {
-    ghost use Rattle.hb_clocks.specs.Tables.{Tables, tables, AreTables};
+    ghost use Rattle.std.specs.Prelude.{max, vec_capacity};
+    ghost use Rattle.hb_clocks.specs.Tables.{Tables, AreTables};
 
     ghost Value = { Tables };
 
-    ghost view = { λ c. tables c.width c.po.items c.hb.items c.locks.items c.holds.items };
+    ghost view = { λ c. record {
+      width = c.width;
+      po = c.po.items;
+      hb = c.hb.items;
+      lock = c.locks.items;
+      holds = c.holds.items;
+      thread_room = max (vec_capacity c.po) (vec_capacity c.hb);
+      lock_room = max (vec_capacity c.locks) (vec_capacity c.holds);
+    } };
 
     ghost invariant = { λ c. AreTables c.width c.zeros c.po.items c.hb.items c.locks.items };
 }
@@ -67,7 +76,7 @@ impl HbClocks {
         limits: Limits,
     ) -> Result<(HbClocks, Work, ReleaseClocks), OutOfMemory>
         ensures width { IfOk result (λ made. made.0.width ≡ limits.threads) }
-        ensures unmade { IfOk result (λ made. made.0 ≡ tables limits.threads [] [] [] []) }
+        ensures unmade { IfOk result (λ made. made.0 ≡ no_tables limits.threads) }
         ensures empty { IfOk result (λ made. state_of made.0 ≡ empty) }
         ensures stands { IfOk result (λ made. Stands [] (state_of made.0)) }
         ensures work { IfOk result (λ made. made.1 ≡ record { comparisons = 0; joins = 0 }) }

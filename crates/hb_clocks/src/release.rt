@@ -8,7 +8,7 @@ ghost use Rattle.hb_clocks.specs.Counts.{counts_of};
 
 use crate::before::{number_before, push_before};
 use crate::clock::Clock;
-use event_core::{OutOfMemory, ThreadId};
+use event_core::{OutOfMemory, ThreadId, reserve};
 use std::alloc::Global;
 use std::marker::Model;
 
@@ -61,7 +61,8 @@ pub struct ReleaseClock<'a> {
 }
 
 impl ReleaseClocks {
-    ghost use Rattle.std.specs.Prelude.{◌≡◌, ℕ, ◌+◌, ◌*◌, ◌<◌, ◌≤◌, ◌^◌, ◌↔◌, [], length, OnOk, IsTrue, IsOk};
+    ghost use Rattle.std.specs.Prelude.{◌≡◌, ℕ, ◌+◌, ◌*◌, ◌<◌, ◌≤◌, ◌^◌, ◌↔◌, [], length, max, OnOk, IsTrue};
+    ghost use Rattle.std.specs.Prelude.{IsOk};
     ghost use Rattle.hb_clocks.specs.Counts.{counts_of};
     ghost use Rattle.hb_clocks.specs.Released.{thread_of, before_of};
     ghost use Rattle.hb_clocks.specs.Releases.{before, numbers_at, IsReadable, IsAdded};
@@ -81,6 +82,8 @@ impl ReleaseClocks {
         ensures same { self.new.numbers ≡ self.old.numbers }
         ensures larger { self.old.most ≤ self.new.most }
         ensures ok { OnOk result (length self.new.numbers + more * width ≤ self.new.most) }
+        ensures most { self.new.most
+            ≤ max self.old.most (2 * (length self.old.numbers + more * width)) }
         ensures again { length self.old.numbers + more * width ≤ self.old.most → IsOk result }
     {
         if self.ready(more, width) {
@@ -89,8 +92,7 @@ impl ReleaseClocks {
         let Some(count) = more.checked_mul(width) else {
             return Err(OutOfMemory);
         };
-        self.numbers.reserve(count)?;
-        Ok(())
+        reserve(&mut self.numbers, count)
     }
 
     /// Whether there is room for so many clocks more of the width.

@@ -1,6 +1,6 @@
 //! Steps on tables of clocks, a row a thread or a lock. A row without numbers was not made yet.
-ghost use Rattle.std.specs.Prelude.{◌≡◌, ◌≢◌, ℕ, ◌+◌, ◌<◌, ◌^◌, ◌≤◌, ◌↔◌, length, replicate, OnOk, IsTrue};
-ghost use Rattle.std.specs.Prelude.{max, IsOk};
+ghost use Rattle.std.specs.Prelude.{◌≡◌, ◌≢◌, ℕ, ◌+◌, ◌*◌, ◌<◌, ◌^◌, ◌≤◌, ◌↔◌, length, replicate, OnOk};
+ghost use Rattle.std.specs.Prelude.{max, IsOk, IsTrue, vec_capacity};
 ghost use Rattle.event_core.specs.Rows.{join, bump, with_row};
 ghost use Rattle.hb_clocks.specs.Counts.{counts_of};
 ghost use Rattle.hb_clocks.specs.Released.{before_of, clock_of};
@@ -141,6 +141,7 @@ pub fn make_row(
     ensures kept { (t : ℕ) → IsMade width rows.old.items t → IsMade width rows.new.items t }
     ensures others { (t : ℕ) → t ≢ at → widths_of rows.new.items t ≡ widths_of rows.old.items t }
     ensures most { length rows.new.items ≤ max (length rows.old.items) (at + 1) }
+    ensures room { vec_capacity rows.new ≤ max (vec_capacity rows.old) (2 * (at + 1)) }
     ensures made { OnOk result (IsMade width rows.new.items at) }
     ensures again { 0 < width → IsMade width rows.old.items at → IsOk result }
 {

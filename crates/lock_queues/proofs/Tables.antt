@@ -1,4 +1,5 @@
 -- What is kept of all locks stays so over each change of one.
+use Rattle.std.proofs.Common.{max, ap₂, ◌*◌}
 use Rattle.std.proofs.Common.{◌≡◌, ℕ, ◌+◌, ◌*◌, ◌<◌, ◌≤◌, zero, suc, true, List, length, map}
 use Rattle.std.proofs.Common.{set, get_or}
 use Rattle.std.proofs.Common.{sym, ap, subst, ◌∙◌, arith, length-set, length-append}
@@ -144,3 +145,10 @@ kept_joined {w = w} {qs = qs} {ns = ns} {ms = ms} {made = made} l q now kept lt 
           let times = one_fewer made now w one in
           omega (arith, numbers, few, enough, times, le));
     }
+
+-- there is memory for no more than twice the numbers that are needed
+pub numbers_fit : (qs : List Kept) (len old : ℕ) {made rooms width threads new : ℕ} → made ≡ count_rooms qs
+    → rooms ≡ made + 1 → width ≡ threads → new ≤ max old (2 * (len + rooms * width))
+    → new ≤ max old (2 * (len + (count_rooms qs + 1) * threads))
+numbers_fit qs len old {new = new} kept next wide most =
+    subst (λ n. new ≤ max old (2 * (len + n))) (ap₂ (λ a b. a * b) (next ∙ ap (λ n. n + 1) kept) wide) most

@@ -1,5 +1,5 @@
 -- What is kept of one lock.
-use Rattle.std.specs.Prelude.{ℕ, ◌≡◌, ◌+◌, ◌<◌, ◌≤◌, List, [], length, slice_index, slice_index_or}
+use Rattle.std.specs.Prelude.{ℕ, ◌≡◌, ◌+◌, ◌<◌, ◌≤◌, List, [], length, max, slice_index, slice_index_or}
 use Rattle.lock_queues.specs.Sections.{entry_at}
 use Rattle.lock_queues.specs.Rooms.{AreRooms, opened_in}
 use Rattle.lock_queues.specs.declared.rooms.Room.{Room}
@@ -14,6 +14,8 @@ pub record Kept : Type 0 where
   pub found : List ℕ
   -- for how many entries there is memory
   pub most : ℕ
+  -- none of its lists has memory for more
+  pub reserved : ℕ
 
 -- what the fields keep
 pub record IsKept (width : ℕ) (entries : List Entry) (rooms : List Room) (found : List ℕ) (most : ℕ) :
@@ -34,7 +36,7 @@ pub record SameMeaning (old new : Kept) : Type 0 where
   pub found : slice_index new.found ≡ slice_index old.found
 
 abbrev pub no_queue : Kept
-no_queue = record { width = 0; entries = []; rooms = []; found = []; most = 0 }
+no_queue = record { width = 0; entries = []; rooms = []; found = []; most = 0; reserved = 0 }
 
 abbrev pub queue_at : List Kept → ℕ → Kept
 queue_at queues l = slice_index_or queues l no_queue
@@ -45,3 +47,8 @@ AreAlike old new =
     (l : ℕ) → ((queue_at new l).entries ≡ (queue_at old l).entries)
     × ((queue_at new l).rooms ≡ (queue_at old l).rooms)
     × ((queue_at new l).found ≡ (queue_at old l).found)
+    × ((queue_at new l).reserved ≡ (queue_at old l).reserved)
+
+-- how many places its lists need for one room more, that of the thread
+abbrev pub places_for : Kept → ℕ → ℕ
+places_for q thread = max (thread + 1) (length q.entries + length q.rooms + 1)

@@ -6,13 +6,16 @@ use Rattle.event_core.specs.Closed.{Closed, number_counted}
 use Rattle.hb_clocks.specs.Counts.{counts_of}
 use Rattle.lock_queues.specs.Sections.{Section, closed_as, sections_of, AreReadable, AreRising}
 use Rattle.lock_queues.specs.Rooms.{opened_in, has_room_in}
-use Rattle.lock_queues.specs.Queue.{Kept, queue_at}
+use Rattle.lock_queues.specs.Queue.{Kept, queue_at, places_for}
 
 pub record Tables : Type 0 where
   pub limits : Bounds
   pub queues : List Kept
   -- of the releases of all sections
   pub numbers : List ℕ
+  -- for so many queues and numbers there is memory
+  pub queue_room : ℕ
+  pub number_room : ℕ
 
 -- the closed sections on the lock, as they are kept
 abbrev pub kept_of : Tables → ℕ → List Section
@@ -62,11 +65,21 @@ pub record SameMeaning (old new : Tables) : Type 0 where
   pub found : found_of new ≡ found_of old
   pub limits : new.limits ≡ old.limits
 
--- the queues have grown up to the lock at most, and in its own the numbers found up to the thread; no clause
--- bounds the memory that is reserved
+-- how many numbers the releases have of all sections for which there is room, and of one more
+abbrev pub numbers_for : Tables → ℕ
+numbers_for v = length v.numbers + (count_rooms v.queues + 1) * v.limits.threads
+
+-- the queues have grown up to the lock at most, and in its own the numbers found up to the thread; and
+-- nothing has memory for more than twice what is needed, or had it before
 pub record GrownFor (old new : Tables) (thread lock : ℕ) : Type 0 where
   pub queues : length new.queues ≤ max (length old.queues) (lock + 1)
   pub found : length (queue_at new.queues lock).found
       ≤ max (length (queue_at old.queues lock).found) (thread + 1)
   pub others : (l : ℕ) → (l ≡ lock → ⊥) → (queue_at new.queues l).found ≡ (queue_at old.queues l).found
   pub numbers : new.numbers ≡ old.numbers
+  pub queue_room : new.queue_room ≤ max old.queue_room (2 * (lock + 1))
+  pub number_room : new.number_room ≤ max old.number_room (2 * numbers_for old)
+  pub places : (queue_at new.queues lock).reserved
+      ≤ max (queue_at old.queues lock).reserved (2 * places_for (queue_at old.queues lock) thread)
+  pub other_places : (l : ℕ) → (l ≡ lock → ⊥)
+      → (queue_at new.queues l).reserved ≡ (queue_at old.queues l).reserved

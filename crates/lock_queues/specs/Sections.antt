@@ -80,10 +80,11 @@ pub record AreLists (first : Option Named) (marks : List Named) (places : List P
   pub same : length marks ≡ length places
   pub begun : first ≡ first_of marks
 
--- closed sections, and for how many there is memory
+-- closed sections, for how many there is memory, and for how many none of their lists has more
 pub record Listed : Type 0 where
   pub entries : List Entry
   pub most : ℕ
+  pub reserved : ℕ
 
 -- their numbers are there
 abbrev pub AreReadable : List ℕ → List Entry → Type 0

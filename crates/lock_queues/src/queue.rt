@@ -8,7 +8,7 @@ ghost use Rattle.std.specs.Prelude.{◌≡◌, ◌≤◌, length, max, slice_ind
 use crate::rooms::{Room, find};
 use crate::search::search_from;
 use crate::sections::{ClosedSections, Entry};
-use event_core::{OutOfMemory, ThreadId, grow_to};
+use event_core::{OutOfMemory, ThreadId, grow_to, reserve};
 use hb_clocks::{Clock, Mark, ReleaseClock, ReleaseClocks, Work};
 use std::alloc::Global;
 use std::marker::Model;
@@ -25,6 +25,7 @@ pub(crate) struct Queue {
 }
 
 impl Model for Queue {
+    ghost use Rattle.std.specs.Prelude.{max, vec_capacity};
     ghost use Rattle.lock_queues.specs.Queue.{Kept, IsKept};
 
     ghost Value = { Kept };
@@ -35,6 +36,7 @@ impl Model for Queue {
       rooms = q.rooms.items;
       found = q.found.items;
       most = q.entries.most;
+      reserved = max q.entries.reserved (max (vec_capacity q.rooms) (vec_capacity q.found));
     } };
 
     ghost invariant = { λ q.
@@ -42,7 +44,7 @@ impl Model for Queue {
 }
 
 impl Queue {
-    ghost use Rattle.std.specs.Prelude.{◌≡◌, ℕ, ◌+◌, ◌-◌, ◌<◌, ◌≤◌, ◌^◌, length, max, cond};
+    ghost use Rattle.std.specs.Prelude.{◌≡◌, ℕ, ◌+◌, ◌-◌, ◌*◌, ◌<◌, ◌≤◌, ◌^◌, length, max, cond};
     ghost use Rattle.std.specs.Prelude.{true, false, MatchOption, IsTrue, OnOk, OnErr, slice_index};
     ghost use Rattle.event_core.specs.Rows.{with_row};
     ghost use Rattle.hb_clocks.specs.Counts.{counts_of};
@@ -51,7 +53,7 @@ impl Queue {
     ghost use Rattle.lock_queues.specs.Sections.{entry_at, closed_as, section_of, CountsEntry};
     ghost use Rattle.lock_queues.specs.Sections.{AreReadable, HasJoined};
     ghost use Rattle.lock_queues.specs.Searched.{IsSection};
-    ghost use Rattle.lock_queues.specs.Queue.{SameMeaning, no_queue};
+    ghost use Rattle.lock_queues.specs.Queue.{SameMeaning, no_queue, places_for};
 
     // No sections.
     pub(crate) fn new(alloc: Global, width: usize) -> Queue
@@ -82,13 +84,14 @@ impl Queue {
         ensures more { OnOk result (length self.new.rooms ≡ length self.old.rooms + 1) }
         ensures err { OnErr result (self.new.rooms ≡ self.old.rooms) }
         ensures most { length self.new.found ≤ max (length self.old.found) (thread.0 + 1) }
+        ensures places { self.new.reserved ≤ max self.old.reserved (2 * places_for self.old thread.0) }
     {
         self.reserve(thread)?;
-        let room = Room {
+        reserve(&mut self.rooms, 1)?;
+        self.rooms.push_reserved(Room {
             thread,
             opened: None,
-        };
-        self.rooms.push(room)?;
+        });
         Ok(())
     }
 
@@ -102,6 +105,7 @@ impl Queue {
         ensures kept { (t : ℕ) → IsTrue (has_room_in self.old.rooms t)
             → IsTrue (has_room_in self.new.rooms t) }
         ensures found { self.new.found ≡ self.old.found }
+        ensures places { self.new.reserved ≡ self.old.reserved }
     {
         let more = self.rooms.len() + 1;
         if self.found.len() <= thread.0 as usize || self.rooms.capacity() < more {
@@ -126,6 +130,7 @@ impl Queue {
         ensures found { OnOk result (thread.0 < length self.new.found) }
         ensures spare { OnOk result
             (length self.new.entries + (length self.new.rooms + 1) ≤ self.new.most) }
+        ensures places { self.new.reserved ≤ max self.old.reserved (2 * places_for self.old thread.0) }
     {
         grow_to(&mut self.found, thread.0 as usize + 1, || 0)?;
         self.entries.make_room(self.rooms.len() + 1)

@@ -10,7 +10,7 @@
 //!
 //! Rule (a) asks for single sections, by their numbers: so what names a section keeps its number alone, and
 //! the clock of its release is kept once, here.
-ghost use Rattle.std.specs.Prelude.{◌≡◌, ℕ, ◌≤◌, length, max, OnOk};
+ghost use Rattle.std.specs.Prelude.{◌≡◌, ℕ, ◌*◌, ◌≤◌, length, max, vec_capacity, OnOk};
 ghost use Rattle.lock_queues.specs.Queue.{AreAlike};
 ghost use Rattle.lock_queues.specs.Queues.{AreWide, count_rooms};
 
@@ -38,6 +38,7 @@ pub struct Queues {
 }
 
 impl Model for Queues {
+    ghost use Rattle.std.specs.Prelude.{vec_capacity};
     ghost use Rattle.lock_queues.specs.Queues.{Tables, AreKept};
 
     ghost Value = { Tables };
@@ -46,6 +47,8 @@ impl Model for Queues {
       limits = a.limits;
       queues = a.queues.items;
       numbers = a.releases.numbers;
+      queue_room = vec_capacity a.queues;
+      number_room = a.releases.most;
     } };
 
     ghost invariant = { λ a.
@@ -338,6 +341,7 @@ fn grow(
     ensures rooms { count_rooms queues.new.items ≡ count_rooms queues.old.items }
     ensures more { length queues.old.items ≤ length queues.new.items }
     ensures most { length queues.new.items ≤ max (length queues.old.items) count }
+    ensures room { vec_capacity queues.new ≤ max (vec_capacity queues.old) (2 * count) }
     ensures ok { OnOk result (count ≤ length queues.new.items) }
 {
     grow_to(queues, count, || Queue::new(alloc, width))

@@ -8,7 +8,7 @@
 //! nothing else, and eight of them in a line of the cache.
 ghost use Rattle.std.specs.Prelude.{◌≡◌};
 
-use event_core::OutOfMemory;
+use event_core::{OutOfMemory, reserve};
 use hb_clocks::{Mark, ReleasePlace};
 use std::alloc::Global;
 use std::marker::Model;
@@ -35,7 +35,7 @@ pub(crate) struct ClosedSections {
 }
 
 impl Model for ClosedSections {
-    ghost use Rattle.std.specs.Prelude.{min, vec_capacity};
+    ghost use Rattle.std.specs.Prelude.{min, max, vec_capacity};
     ghost use Rattle.lock_queues.specs.Sections.{Listed, AreLists, entries_of};
 
     ghost Value = { Listed };
@@ -43,18 +43,20 @@ impl Model for ClosedSections {
     ghost view = { λ s. record {
       entries = entries_of s.acquires.items s.places.items;
       most = min (vec_capacity s.acquires) (vec_capacity s.places);
+      reserved = max (vec_capacity s.acquires) (vec_capacity s.places);
     } };
 
     ghost invariant = { λ s. AreLists s.first s.acquires.items s.places.items };
 }
 
 impl ClosedSections {
-    ghost use Rattle.std.specs.Prelude.{◌≡◌, ◌+◌, ◌<◌, ◌≤◌, ◌∷◌, ◌++◌, [], ◌↔◌, length, OnOk, IsTrue};
+    ghost use Rattle.std.specs.Prelude.{◌≡◌, ◌+◌, ◌*◌, ◌<◌, ◌≤◌, ◌∷◌, ◌++◌, [], ◌↔◌, length, max, OnOk};
+    ghost use Rattle.std.specs.Prelude.{IsTrue};
     ghost use Rattle.lock_queues.specs.Sections.{entry_at, acquires_of, first_of};
 
     // None. It takes no memory.
     pub(crate) fn new(alloc: Global) -> ClosedSections
-        ensures { result ≡ record { entries = []; most = 0 } }
+        ensures { result ≡ record { entries = []; most = 0; reserved = 0 } }
     {
         ClosedSections {
             first: None,
@@ -75,9 +77,10 @@ impl ClosedSections {
         ensures same { self.new.entries ≡ self.old.entries }
         ensures larger { self.old.most ≤ self.new.most }
         ensures ok { OnOk result (length self.new.entries + more ≤ self.new.most) }
+        ensures reserved { self.new.reserved ≤ max self.old.reserved (2 * (length self.old.entries + more)) }
     {
-        self.acquires.reserve(more)?;
-        self.places.reserve(more)?;
+        reserve(&mut self.acquires, more)?;
+        reserve(&mut self.places, more)?;
         Ok(())
     }
 

@@ -16,7 +16,7 @@ use Rattle.event_core.specs.Bounds.{Bounds}
 use Rattle.event_core.specs.Rows.{Rows, with_row, no_rows}
 use Rattle.hb_clocks.specs.State.{HbState, empty as hb_empty}
 use Rattle.hb_clocks.specs.Tables as hb
-use Rattle.hb_clocks.proofs.Room.{grown_then as order_then}
+use Rattle.hb_clocks.proofs.Room.{grown_then as order_then, none_grown}
 use Rattle.section_sum.specs.Sums.{HasRoom, is_held, noted_of, others_of}
 use Rattle.lock_queues.specs.Queues.{Tables as Queues, SameMeaning, closed_of, opened_of, has_room}
 use Rattle.wcp_laws.specs.State.{empty}
@@ -66,6 +66,37 @@ made_then a b c t op p q = record {
   order = order_then a.hb b.hb c.hb t op p.order q.order;
   thread = λ u away has. p.thread u away (q.thread u away has);
   lock = λ l away has. p.lock l away (q.lock l away has);
+  thread_room = omega (arith, p.thread_room, q.thread_room);
+  lock_room = omega (arith, p.lock_room, q.lock_room);
+}
+
+-- what the operation names is within the rows that it needs
+pub thread_within : (t : ThreadId) (op : Op) (u : ℕ) → hb.IsThreadFor t op u → u < hb.threads_for t op
+thread_within t op u (inl is) = omega (arith, is)
+thread_within t (Fork v) u (inr is) = omega (arith, is)
+thread_within t (Join v) u (inr is) = omega (arith, is)
+thread_within t (Load x) u (inr is) = absurd is
+thread_within t (Store x) u (inr is) = absurd is
+thread_within t (Acquire l) u (inr is) = absurd is
+thread_within t (Release l) u (inr is) = absurd is
+
+pub lock_within : (op : Op) (l : ℕ) → hb.IsLockOf op l → l < hb.locks_for op
+lock_within (Acquire m) l is = omega (arith, is)
+lock_within (Release m) l is = omega (arith, is)
+lock_within (Load x) l is = absurd is
+lock_within (Store x) l is = absurd is
+lock_within (Fork u) l is = absurd is
+lock_within (Join u) l is = absurd is
+
+-- tables that stay
+pub order_same : (c : hb.Tables) (t : ThreadId) (op : Op) → hb.GrownFor c c t op
+order_same c t op = record {
+  po = none_grown c.po;
+  hb = none_grown c.hb;
+  lock = none_grown c.lock;
+  holds = omega arith;
+  thread_room = omega arith;
+  lock_room = omega arith;
 }
 
 pub grown_numbers : (old new : Parts) → HasGrown old new → SameNumbers old new

@@ -1,5 +1,6 @@
 -- The locks that threads hold, and for how many more there is room.
-use Rattle.std.specs.Prelude.{ℕ, ◌<◌, List, [], map, filter, not, nat_eq, slice_index_or}
+use Rattle.std.specs.Prelude.{◌≡◌, ℕ, ◌+◌, ◌*◌, ◌<◌, ◌≤◌, List, [], length, map, max, filter, not, nat_eq}
+use Rattle.std.specs.Prelude.{slice_index_or}
 use Rattle.event_core.specs.declared.ids.LockId.{LockId}
 
 -- the locks of one thread
@@ -29,6 +30,17 @@ held_of lists t = numbers_of (list_at lists t).locks
 -- for how many more locks of the thread there is room
 abbrev pub room_at : List HeldList → ℕ → ℕ
 room_at lists t = (list_at lists t).room
+
+-- for how many locks of the thread there is memory
+abbrev pub places_at : List HeldList → ℕ → ℕ
+places_at lists t = length (list_at lists t).locks + room_at lists t
+
+-- there are no more lists than up to the thread, and that of the thread alone may have got places: no more
+-- than twice what it needs for one lock more
+pub record HaveGrownFor (old new : List HeldList) (t : ℕ) : Type 0 where
+  pub lists : length new ≤ max (length old) (t + 1)
+  pub places : places_at new t ≤ max (places_at old t) (2 * (length (list_at old t).locks + 1))
+  pub others : (u : ℕ) → (u ≡ t → ⊥) → list_at new u ≡ list_at old u
 
 -- there is no less room
 abbrev pub KeepsPlaces : List HeldList → List HeldList → Type 0

@@ -8,6 +8,9 @@ pub record StrictTables : Type 0 where
   pub width : ℕ
   pub thread : List (List ℕ)
   pub lock : List (List ℕ)
+  -- for so many rows of threads and of locks there is memory
+  pub thread_room : ℕ
+  pub lock_room : ℕ
 
 -- what the tables mean: zeros where there is no clock
 abbrev pub strict_of : StrictTables → Rows

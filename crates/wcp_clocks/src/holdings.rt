@@ -1,12 +1,12 @@
 //! The locks that each thread holds, in the order of their outer acquires.
 ghost use Rattle.std.specs.Prelude.{◌≡◌, ℕ, ◌+◌, ◌-◌, ◌<◌, ◌≤◌, ◌↔◌, ◌∷◌, ◌++◌, [], length, OnOk, IsTrue};
-ghost use Rattle.std.specs.Prelude.{vec_capacity, vec_len};
+ghost use Rattle.std.specs.Prelude.{◌≢◌, ◌*◌, max, vec_capacity, vec_len};
 ghost use Rattle.event_core.specs.Rows.{with_row};
 ghost use Rattle.wcp_laws.specs.Step.{without};
 ghost use Rattle.wcp_clocks.specs.HeldLists.{list_at, held_of, room_at, numbers_of, without_lock};
-ghost use Rattle.wcp_clocks.specs.HeldLists.{KeepsPlaces};
+ghost use Rattle.wcp_clocks.specs.HeldLists.{KeepsPlaces, HaveGrownFor, places_at};
 
-use event_core::{LockId, OutOfMemory, ThreadId, grow_to};
+use event_core::{LockId, OutOfMemory, ThreadId, grow_to, reserve};
 use std::alloc::Global;
 use std::marker::Model;
 
@@ -34,7 +34,7 @@ impl Model for Holding {
 }
 
 impl Holding {
-    ghost use Rattle.std.specs.Prelude.{◌≡◌, ◌+◌, ◌<◌, ◌≤◌, ◌∷◌, ◌++◌, [], nat_lt, OnOk};
+    ghost use Rattle.std.specs.Prelude.{◌≡◌, ◌+◌, ◌*◌, ◌<◌, ◌≤◌, ◌∷◌, ◌++◌, [], length, max, nat_lt, OnOk};
     ghost use Rattle.wcp_clocks.specs.HeldLists.{nothing_held, without_lock};
 
     fn new(alloc: Global) -> Holding
@@ -56,9 +56,10 @@ impl Holding {
         ensures same { self.new.locks ≡ self.old.locks }
         ensures more { self.old.room ≤ self.new.room }
         ensures room { OnOk result (0 < self.new.room) }
+        ensures most { length self.new.locks + self.new.room
+            ≤ max (length self.old.locks + self.old.room) (2 * (length self.old.locks + 1)) }
     {
-        self.locks.reserve(1)?;
-        Ok(())
+        reserve(&mut self.locks, 1)
     }
 
     fn ready(&self) -> bool
@@ -84,7 +85,7 @@ impl Holding {
     }
 }
 
-/// The locks that each thread holds.
+/// The locks that each thread holds. There is memory for at most twice as many lists as there are.
 #[derive(Drop)]
 pub struct Holdings {
     alloc: Global,
@@ -92,12 +93,14 @@ pub struct Holdings {
 }
 
 impl Model for Holdings {
-    ghost use Rattle.std.specs.Prelude.{List};
+    ghost use Rattle.std.specs.Prelude.{◌*◌, ◌≤◌, List, length, vec_capacity};
     ghost use Rattle.wcp_clocks.specs.HeldLists.{HeldList};
 
     ghost Value = { List HeldList };
 
     ghost view = { λ h. h.lists.items };
+
+    ghost invariant = { λ h. vec_capacity h.lists ≤ 2 * length h.lists.items };
 }
 
 impl Holdings {
@@ -127,6 +130,7 @@ impl Holdings {
         ensures same { held_of self.new ≡ held_of self.old }
         ensures kept { KeepsPlaces self.old self.new }
         ensures room { OnOk result (0 < room_at self.new thread.0) }
+        ensures grown { HaveGrownFor self.old self.new thread.0 }
     {
         let at = thread.0 as usize;
         let alloc = self.alloc;
@@ -166,6 +170,10 @@ fn make_room_at(lists: &mut [Holding], at: usize) -> Result<(), OutOfMemory>
     ensures same { held_of lists.new ≡ held_of lists.old }
     ensures kept { KeepsPlaces lists.old lists.new }
     ensures ok { OnOk result (0 < room_at lists.new at) }
+    ensures as_many { length lists.new ≡ length lists.old }
+    ensures places { places_at lists.new at
+        ≤ max (places_at lists.old at) (2 * (length (list_at lists.old at).locks + 1)) }
+    ensures others { (u : ℕ) → u ≢ at → list_at lists.new u ≡ list_at lists.old u }
 {
     let list = &mut lists[at];
     list.make_room()

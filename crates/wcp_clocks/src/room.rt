@@ -8,7 +8,7 @@ ghost use Rattle.section_sum.specs.Sums as sums;
 ghost use Rattle.section_sum.specs.Sums.{HasRoom};
 ghost use Rattle.lock_queues.specs.Queues.{has_room, GrownFor as QueuesGrownFor};
 ghost use Rattle.wcp_laws.specs.State.{empty};
-ghost use Rattle.wcp_clocks.specs.HeldLists.{list_at, room_at};
+ghost use Rattle.wcp_clocks.specs.HeldLists.{list_at, room_at, HaveGrownFor};
 ghost use Rattle.wcp_clocks.specs.StrictRows.{HasThread, HasLock};
 ghost use Rattle.wcp_clocks.specs.Parts.{hb_of, state_of, found_in, IsReady, HasNamed, IsWithin, AreParts};
 ghost use Rattle.wcp_clocks.specs.Parts.{event_by, IsReadyToSwap, NamesWithin, HasClocks};
@@ -178,6 +178,7 @@ fn make_section_ready(parts: &mut Parts, thread: ThreadId, lock: LockId) -> bool
     ensures grown { HasGrown parts.old parts.new }
     ensures sums { parts.new.sums ≡ parts.old.sums }
     ensures queues { QueuesGrownFor parts.old.queues parts.new.queues thread.0 lock.0 }
+    ensures held { parts.new.held ≡ parts.old.held }
 {
     parts.rows.has_lock(lock) && parts.held.ready(thread) && parts.queues.make_ready(thread, lock)
 }
@@ -192,6 +193,7 @@ fn make_access_ready(parts: &mut Parts, thread: ThreadId, var: VarId) -> bool
     ensures grown { HasGrown parts.old parts.new }
     ensures only { sums.GrownFor parts.old.sums parts.new.sums (list_at parts.old.held thread.0).locks var.0 }
     ensures queues { parts.new.queues ≡ parts.old.queues }
+    ensures held { parts.new.held ≡ parts.old.held }
 {
     let held = parts.held.of(thread);
     held.is_empty() || parts.sums.make_room(held, var).is_ok()
@@ -305,6 +307,7 @@ fn make_access(parts: &mut Parts, thread: ThreadId, var: VarId) -> Result<(), Ou
     ensures grown { HasGrown parts.old parts.new }
     ensures only { sums.GrownFor parts.old.sums parts.new.sums (list_at parts.old.held thread.0).locks var.0 }
     ensures queues { parts.new.queues ≡ parts.old.queues }
+    ensures held { parts.new.held ≡ parts.old.held }
     ensures clocks { SameMade parts.old parts.new }
     ensures made { OnOk result (HasRoom parts.new.sums (list_at parts.new.held thread.0).locks var.0) }
 {
@@ -320,6 +323,7 @@ fn make_section(parts: &mut Parts, thread: ThreadId, lock: LockId) -> Result<(),
     ensures grown { HasGrown parts.old parts.new }
     ensures sums { parts.new.sums ≡ parts.old.sums }
     ensures queues { QueuesGrownFor parts.old.queues parts.new.queues thread.0 lock.0 }
+    ensures held { HaveGrownFor parts.old.held parts.new.held thread.0 }
     ensures clocks { SameMade parts.old parts.new }
     ensures made { OnOk result (IsTrue (has_room parts.new.queues thread.0 lock.0)
         × (0 < room_at parts.new.held thread.0)) }
@@ -335,6 +339,7 @@ fn make_queue(parts: &mut Parts, thread: ThreadId, lock: LockId) -> Result<(), O
     ensures grown { HasGrown parts.old parts.new }
     ensures sums { parts.new.sums ≡ parts.old.sums }
     ensures queues { QueuesGrownFor parts.old.queues parts.new.queues thread.0 lock.0 }
+    ensures held { parts.new.held ≡ parts.old.held }
     ensures clocks { SameMade parts.old parts.new }
     ensures made { OnOk result (IsTrue (has_room parts.new.queues thread.0 lock.0)) }
 {
@@ -346,6 +351,7 @@ fn make_place(parts: &mut Parts, thread: ThreadId) -> Result<(), OutOfMemory>
     ensures grown { HasGrown parts.old parts.new }
     ensures sums { parts.new.sums ≡ parts.old.sums }
     ensures queues { parts.new.queues ≡ parts.old.queues }
+    ensures held { HaveGrownFor parts.old.held parts.new.held thread.0 }
     ensures clocks { SameMade parts.old parts.new }
     ensures made { OnOk result (0 < room_at parts.new.held thread.0) }
 {

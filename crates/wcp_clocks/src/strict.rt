@@ -1,6 +1,6 @@
 //! The clocks of the strict relation: a row for each thread and each lock.
 ghost use Rattle.std.specs.Prelude.{◌≡◌, ◌≢◌, ℕ, ◌+◌, ◌*◌, ◌<◌, ◌≤◌, ◌^◌, ◌↔◌, length, IfOk, OnOk, IsTrue};
-ghost use Rattle.std.specs.Prelude.{nat_le};
+ghost use Rattle.std.specs.Prelude.{max, nat_le};
 ghost use Rattle.event_core.specs.Rows.{join, with_row, no_rows};
 ghost use Rattle.hb_clocks.specs.Counts.{counts_of};
 ghost use Rattle.hb_clocks.specs.Released.{thread_of, before_of, clock_of};
@@ -30,6 +30,7 @@ pub(crate) struct StrictRows {
 }
 
 impl Model for StrictRows {
+    ghost use Rattle.std.specs.Prelude.{vec_capacity};
     ghost use Rattle.wcp_clocks.specs.StrictRows.{StrictTables, AreTables};
 
     ghost Value = { StrictTables };
@@ -38,6 +39,8 @@ impl Model for StrictRows {
       width = c.width;
       thread = c.threads.items;
       lock = c.locks.items;
+      thread_room = vec_capacity c.threads;
+      lock_room = vec_capacity c.locks;
     } };
 
     ghost invariant = { λ c. AreTables c.width c.zeros c.threads.items c.locks.items };
@@ -69,6 +72,8 @@ impl StrictRows {
         ensures made { OnOk result (HasThread self.new thread.0) }
         ensures others { (t : ℕ) → t ≢ thread.0 → HasThread self.new t → HasThread self.old t }
         ensures locks { (l : ℕ) → HasLock self.new l → HasLock self.old l }
+        ensures room { self.new.thread_room ≤ max self.old.thread_room (2 * (thread.0 + 1)) }
+        ensures lock_room { self.new.lock_room ≡ self.old.lock_room }
     {
         make_row(&mut self.threads, self.alloc, self.width, thread.0 as usize)
     }
@@ -80,6 +85,8 @@ impl StrictRows {
         ensures made { OnOk result (HasLock self.new lock.0) }
         ensures others { (l : ℕ) → l ≢ lock.0 → HasLock self.new l → HasLock self.old l }
         ensures threads { (t : ℕ) → HasThread self.new t → HasThread self.old t }
+        ensures room { self.new.lock_room ≤ max self.old.lock_room (2 * (lock.0 + 1)) }
+        ensures thread_room { self.new.thread_room ≡ self.old.thread_room }
     {
         make_row(&mut self.locks, self.alloc, self.width, lock.0 as usize)
     }

@@ -17,6 +17,7 @@ push_reserved-requires c =
     let list : LastList = record {
       items = items;
       room = vec_capacity c.args.lasts.now - vec_len c.args.lasts.now;
+      reserved = vec_capacity c.args.lasts.now;
     } in
     let left = room_left t list found c.requires in
     omega (arith, left)

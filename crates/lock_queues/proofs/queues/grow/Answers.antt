@@ -31,6 +31,7 @@ returns-clause-same c l =
       alike_at (λ (q : Kept). q.entries) w old new l refl here,
       alike_at (λ (q : Kept). q.rooms) w old new l refl here,
       alike_at (λ (q : Kept). q.found) w old new l refl here,
+      alike_at (λ (q : Kept). q.reserved) w old new l refl here,
     )
 
 -- each queue, or else a blank, has the width

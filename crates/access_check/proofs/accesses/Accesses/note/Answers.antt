@@ -1,9 +1,10 @@
-use Rattle.std.proofs.Common.{◌≡◌, ◌<◌, ◌≤◌, List, ◌++◌, ℕ, length, take, drop, refl, sym, ap, subst, ◌∙◌}
-use Rattle.std.proofs.Common.{arith}
+use Rattle.std.proofs.Common.{◌≡◌, ◌<◌, ◌≤◌, List, ◌++◌, ℕ, length, take, drop, sym, ap, ap₂, subst, ◌∙◌}
+use Rattle.std.proofs.Common.{arith, ◌+◌, cond, nat_eq}
 use Rattle.std.proofs.Math.Seq.{take-append_seam}
+use Rattle.access_check.specs.declared.variable_accesses.VariableAccesses.{VariableAccesses}
 use Rattle.access_check.specs.LastAccesses.{AreNarrow}
 use Rattle.access_check.specs.VariableAccesses.{kept}
-use Rattle.access_check.specs.Tables.{Tables, accesses_at}
+use Rattle.access_check.specs.Tables.{Tables, RoomFor, accesses_at, count_at, touched_after}
 use Rattle.access_check.proofs.Stepping.{note_stands}
 use Rattle.access_check.proofs.accesses.Accesses.note.Goals as goal
 
@@ -31,25 +32,39 @@ invariant_of-self c =
 
 pub returns-clause-exact : goal.returns-clause-exact
 returns-clause-exact c =
+    let t = c.args.event.now.thread in
     let counts = written c.self.inside.counts.len c.count_event-position.new.counts c.self.inside.counts.items
     (omega arith) in
     let vars = written c.self.inside.vars.len c.note_access.new.vars c.self.inside.vars.items (omega arith) in
-    rw (counts, vars, ← c.self.view_is, ← c.deref_mut.ensures.value, ← c.deref_mut-2.ensures.value) (record {
-      limits = refl;
-      counts = c.count_event-position.ensures.counts;
-      accesses = λ x m. rw (← c.count_event-position.ensures.position) (c.note_access.ensures.accesses x m);
-    })
+    let had = c.deref_mut.ensures.value ∙ ap (λ (v : Tables). v.counts) c.self.view_is in
+    let position = c.count_event-position.ensures.position
+    ∙ ap (λ (ns : List ℕ). count_at ns t.0 + 1) had in
+    record {
+      limits = ap (λ (v : Tables). v.limits) c.self.view_is;
+      counts = λ u. ap (λ (ns : List ℕ). count_at ns u) counts ∙ c.count_event-position.ensures.counts u
+          ∙ ap (λ (ns : List ℕ). cond (nat_eq u t.0) (count_at ns u + 1) (count_at ns u)) had;
+      accesses = λ x m. ap (λ (vs : List VariableAccesses). kept m (accesses_at vs x)) vars
+          ∙ c.note_access.ensures.accesses x m
+          ∙ ap₂ (λ (n : ℕ) (vs : List VariableAccesses). touched_after c.args.verdict t c.args.event.now.op
+          (record { index = c.args.index; position = n }) x m (accesses_at vs x)) position
+          (c.deref_mut-2.ensures.value ∙ ap (λ (v : Tables). v.vars) c.self.view_is);
+    }
 
 pub returns-clause-kept : goal.returns-clause-kept
-returns-clause-kept c =
+returns-clause-kept c o room =
+    let t = c.args.event.now.thread in
     let counts = written c.self.inside.counts.len c.count_event-position.new.counts c.self.inside.counts.items
     (omega arith) in
     let vars = written c.self.inside.vars.len c.note_access.new.vars c.self.inside.vars.items (omega arith) in
-    rw (counts, vars, ← c.self.view_is, ← c.deref_mut.ensures.value, ← c.deref_mut-2.ensures.value)
-    (λ o room. record {
-      thread = omega (arith, room.thread);
-      access = c.note_access.ensures.kept o room.access;
-    })
+    let had = ap (λ (ns : List ℕ). length ns) c.deref_mut.ensures.value
+    ∙ ap (λ (v : Tables). length v.counts) c.self.view_is in
+    let were = c.deref_mut-2.ensures.value ∙ ap (λ (v : Tables). v.vars) c.self.view_is in
+    record {
+      thread = subst (λ (ns : List ℕ). t.0 < length ns) (sym counts) (omega (arith, room.thread, had));
+      access = subst (λ (vs : List VariableAccesses). RoomFor vs t o) (sym vars)
+          (c.note_access.ensures.kept o
+          (subst (λ (vs : List VariableAccesses). RoomFor vs t o) (sym were) room.access));
+    }
 
 pub returns-clause-stands : goal.returns-clause-stands
 returns-clause-stands c = λ log stands at well verdict.

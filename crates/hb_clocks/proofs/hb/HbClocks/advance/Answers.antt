@@ -1,4 +1,4 @@
-use Rattle.std.proofs.Common.{List, [], ◌∷◌, ◌++◌, refl, sym, ap, subst, ◌∙◌, arith}
+use Rattle.std.proofs.Common.{List, [], ◌∷◌, ◌++◌, refl, sym, ap, subst, ◌∙◌, arith, max, vec_capacity}
 use Rattle.std.proofs.lemmas.Grind.{common_steps}
 use Rattle.std.proofs.lemmas.List.{with_items_is}
 use Rattle.std.specs.Vec.{with_items}
@@ -27,6 +27,8 @@ found c = record {
   hb = c.self.inside.hb.items;
   lock = c.self.inside.locks.items;
   holds = c.self.inside.holds.items;
+  thread_room = max (vec_capacity c.self.inside.po) (vec_capacity c.self.inside.hb);
+  lock_room = max (vec_capacity c.self.inside.locks) (vec_capacity c.self.inside.holds);
 }
 
 abbrev left : goal.After-self-4-1 → Tables
@@ -36,6 +38,8 @@ left c = record {
   hb = (with_items c.self.inside.hb c.advance_tables.new.hb).items;
   lock = (with_items c.self.inside.locks c.advance_tables.new.locks).items;
   holds = (with_items c.self.inside.holds c.advance_tables.new.holds).items;
+  thread_room = max (vec_capacity c.self.inside.po) (vec_capacity c.self.inside.hb);
+  lock_room = max (vec_capacity c.self.inside.locks) (vec_capacity c.self.inside.holds);
 }
 
 step : (c : goal.After-self-4-1) → IsStepped c.self.inside.zeros (found c) (left c)

@@ -8,6 +8,8 @@ returns-in_err-grow_to-clause-grown c t op lt named = rw (← c.self.view_is) (r
   hb = none_grown c.self.inside.hb.items;
   lock = none_grown c.self.inside.locks.items;
   holds = omega (arith, lt, c.grow_to.ensures.most);
+  thread_room = omega arith;
+  lock_room = omega (arith, lt, c.grow_to.ensures.room);
 })
 
 pub returns-clause-grown : goal.returns-clause-grown
@@ -16,4 +18,6 @@ returns-clause-grown c t op lt named = rw (← c.self.view_is) (record {
   hb = none_grown c.self.inside.hb.items;
   lock = row_grown lt named c.make_row.ensures.most c.make_row.ensures.others;
   holds = omega (arith, lt, c.grow_to.ensures.most);
+  thread_room = omega arith;
+  lock_room = omega (arith, lt, c.grow_to.ensures.room, c.make_row.ensures.room);
 })

@@ -8,6 +8,8 @@ returns-in_err-make_row-clause-grown c t op lt named = rw (← c.self.view_is) (
   hb = none_grown c.self.inside.hb.items;
   lock = none_grown c.self.inside.locks.items;
   holds = omega arith;
+  thread_room = omega (arith, lt, c.make_row.ensures.room);
+  lock_room = omega arith;
 })
 
 pub returns-clause-grown : goal.returns-clause-grown
@@ -16,4 +18,6 @@ returns-clause-grown c t op lt named = rw (← c.self.view_is) (record {
   hb = row_grown lt named c.make_row-2.ensures.most c.make_row-2.ensures.others;
   lock = none_grown c.self.inside.locks.items;
   holds = omega arith;
+  thread_room = omega (arith, lt, c.make_row.ensures.room, c.make_row-2.ensures.room);
+  lock_room = omega arith;
 })

@@ -39,7 +39,7 @@ returns-then-is_made-clause-same c =
     let past = c.if-len-at.false in
     let queues = c.self.inside.queues.ok in
     let lt : l < length c.self.inside.queues.items = omega (arith, queues) in
-    same_tables _ _ _ _ _ _ l _ _ c.self.view_is (λ m. (refl, refl, refl)) refl lt
+    same_tables _ _ _ _ _ _ l _ _ c.self.view_is (λ m. (refl, refl, refl, refl)) refl lt
     c.index_mut-queue.ensures.value c.make_ready-is_made.ensures.same
 
 pub returns-else-is_made-clause-same : goal.returns-else-is_made-clause-same
@@ -49,7 +49,7 @@ returns-else-is_made-clause-same c =
     let past = c.if-len-at.false in
     let queues = c.self.inside.queues.ok in
     let lt : l < length c.self.inside.queues.items = omega (arith, queues) in
-    same_tables _ _ _ _ _ _ l _ _ c.self.view_is (λ m. (refl, refl, refl)) refl lt
+    same_tables _ _ _ _ _ _ l _ _ c.self.view_is (λ m. (refl, refl, refl, refl)) refl lt
     c.index_mut-queue.ensures.value c.make_ready-is_made.ensures.same
 
 pub returns-then-is_made-clause-grown : goal.returns-then-is_made-clause-grown
@@ -60,8 +60,9 @@ returns-then-is_made-clause-grown c =
     let queues = c.self.inside.queues.ok in
     let lt : l < length c.self.inside.queues.items = omega (arith, queues) in
     let same = ap length c.make_ready-is_made.ensures.found in
-    grown_tables _ _ _ _ _ _ c.args.thread.0 l _ _ c.self.view_is (λ m. (refl, refl, refl)) refl lt
+    grown_tables _ _ _ _ _ _ c.args.thread.0 l _ _ c.self.view_is (λ m. (refl, refl, refl, refl)) refl lt
     c.index_mut-queue.ensures.value (omega arith) (omega (arith, same))
+    (omega arith) (omega arith) (omega (arith, c.make_ready-is_made.ensures.places))
 
 pub returns-else-is_made-clause-grown : goal.returns-else-is_made-clause-grown
 returns-else-is_made-clause-grown c =
@@ -71,5 +72,6 @@ returns-else-is_made-clause-grown c =
     let queues = c.self.inside.queues.ok in
     let lt : l < length c.self.inside.queues.items = omega (arith, queues) in
     let same = ap length c.make_ready-is_made.ensures.found in
-    grown_tables _ _ _ _ _ _ c.args.thread.0 l _ _ c.self.view_is (λ m. (refl, refl, refl)) refl lt
+    grown_tables _ _ _ _ _ _ c.args.thread.0 l _ _ c.self.view_is (λ m. (refl, refl, refl, refl)) refl lt
     c.index_mut-queue.ensures.value (omega arith) (omega (arith, same))
+    (omega arith) (omega arith) (omega (arith, c.make_ready-is_made.ensures.places))

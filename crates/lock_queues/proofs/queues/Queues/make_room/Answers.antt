@@ -1,7 +1,7 @@
 use Rattle.std.proofs.Common.{◌*◌, ◌<◌, length, refl, sym, ap, ◌∙◌, arith}
 use Rattle.lock_queues.proofs.Answering.{where_err}
 use Rattle.lock_queues.proofs.Sameness.{same_tables, room_made, rooms_same, grown_tables, grown_queues}
-use Rattle.lock_queues.proofs.Tables.{kept_larger, kept_alike, kept_set}
+use Rattle.lock_queues.proofs.Tables.{kept_larger, kept_alike, kept_set, numbers_fit}
 use Rattle.lock_queues.proofs.queues.Queues.make_room.Goals as goal
 
 pub grow-requires : goal.grow-requires
@@ -79,13 +79,18 @@ returns-clause-ok c =
 
 pub returns-in_err-make_room-clause-grown : goal.returns-in_err-make_room-clause-grown
 returns-in_err-make_room-clause-grown c =
-    grown_queues _ _ _ _ _ _ c.args.thread.0 c.args.lock.0 c.self.view_is (λ m. (refl, refl, refl))
-    c.make_room.ensures.same (omega arith)
+    grown_queues _ _ _ _ _ _ c.args.thread.0 c.args.lock.0 c.self.view_is (λ m. (refl, refl, refl, refl))
+    c.make_room.ensures.same (omega arith) (omega arith) (numbers_fit c.self.inside.queues.items
+    (length c.self.inside.releases.numbers) c.self.inside.releases.most c.self.invariant.rooms
+    (omega (arith, c.in-Some.ensures.1)) c.threads-width.ensures.is c.make_room.ensures.most)
 
 pub returns-in_err-grow-clause-grown : goal.returns-in_err-grow-clause-grown
 returns-in_err-grow-clause-grown c =
     grown_queues _ _ _ _ _ _ c.args.thread.0 c.args.lock.0 c.self.view_is c.grow.ensures.same
-    c.make_room.ensures.same c.grow.ensures.most
+    c.make_room.ensures.same c.grow.ensures.most c.grow.ensures.room
+    (numbers_fit c.self.inside.queues.items
+    (length c.self.inside.releases.numbers) c.self.inside.releases.most c.self.invariant.rooms
+    (omega (arith, c.in-Some.ensures.1)) c.threads-width.ensures.is c.make_room.ensures.most)
 
 pub returns-in_err-make_room-2-clause-grown : goal.returns-in_err-make_room-2-clause-grown
 returns-in_err-make_room-2-clause-grown c =
@@ -94,7 +99,10 @@ returns-in_err-make_room-2-clause-grown c =
     let lt : l < length c.grow.new.queues.items = omega arith in
     grown_tables _ _ _ _ _ _ c.args.thread.0 l _ _ c.self.view_is c.grow.ensures.same
     c.make_room.ensures.same lt c.index_mut-queue.ensures.value c.grow.ensures.most
-    c.make_room-2.ensures.most
+    c.make_room-2.ensures.most c.grow.ensures.room (numbers_fit c.self.inside.queues.items
+    (length c.self.inside.releases.numbers) c.self.inside.releases.most c.self.invariant.rooms
+    (omega (arith, c.in-Some.ensures.1)) c.threads-width.ensures.is c.make_room.ensures.most)
+    c.make_room-2.ensures.places
 
 pub returns-clause-grown : goal.returns-clause-grown
 returns-clause-grown c =
@@ -103,4 +111,7 @@ returns-clause-grown c =
     let lt : l < length c.grow.new.queues.items = omega arith in
     grown_tables _ _ _ _ _ _ c.args.thread.0 l _ _ c.self.view_is c.grow.ensures.same
     c.make_room.ensures.same lt c.index_mut-queue.ensures.value c.grow.ensures.most
-    c.make_room-2.ensures.most
+    c.make_room-2.ensures.most c.grow.ensures.room (numbers_fit c.self.inside.queues.items
+    (length c.self.inside.releases.numbers) c.self.inside.releases.most c.self.invariant.rooms
+    (omega (arith, c.in-Some.ensures.1)) c.threads-width.ensures.is c.make_room.ensures.most)
+    c.make_room-2.ensures.places

@@ -8,6 +8,7 @@ use Rattle.lock_queues.proofs.queues.Queues.new.Goals as goal
 
 pub returns-clause-stands : goal.returns-clause-stands
 returns-clause-stands c =
-    subst (λ (qs : List Kept). let v = tables c.args.limits qs c.args.releases.numbers in
+    subst (λ (qs : List Kept).
+    let v = tables c.args.limits qs c.args.releases.numbers 0 c.args.releases.most in
     AreOf [] (closed_of v) (opened_of v) (found_of v)) (sym c.new.ensures.items)
     (nothing_stands refl refl refl)
