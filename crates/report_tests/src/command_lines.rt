@@ -37,7 +37,7 @@ const TAKEN: &[(&[&str], &str, u32, u32)] = &[
 ];
 
 /// The trace that help has as its example.
-const TRACE: &[u8] = b"T0|fork(T1)|1\nT0|w(y)|2\nT1|r(y)|3\n";
+const TRACE: &[u8] = b"A|w(y)|1\nA|acq(l)|2\nA|rel(l)|3\nB|acq(l)|4\nB|r(y)|5\n";
 
 /// Words, a part of what is said, and the status.
 const SAID: &[(&[&str], &str, u8)] = &[
@@ -65,22 +65,23 @@ const SAID: &[(&[&str], &str, u8)] = &[
     // The example of help, and what a run of it prints.
     (
         &["check", "--help"],
-        "events 3 threads 2 locks 0 variables 1\n",
+        "events 5 threads 2 locks 1 variables 1\n",
         0,
     ),
-    (&["check"], "events 3 threads 2 locks 0 variables 1\n", 0),
+    (&["check"], "events 5 threads 2 locks 1 variables 1\n", 0),
     (
         &["replay", "--help"],
-        "events 3 threads 2 locks 0 variables 1 races 1\n",
+        "events 5 threads 2 locks 1 variables 1 races 1\n",
         0,
     ),
     (
         &["replay"],
-        "events 3 threads 2 locks 0 variables 1 races 1\n",
+        "events 5 threads 2 locks 1 variables 1 races 1\n",
         1,
     ),
-    (&["replay", "--help"], "3|T1|r(y)|3 with 2|T0|w(y)|2\n", 0),
-    (&["replay"], "3|T1|r(y)|3 with 2|T0|w(y)|2\n", 1),
+    (&["--help"], "5|B|r(y)|5 with 1|A|w(y)|1\n", 0),
+    (&["replay", "--help"], "5|B|r(y)|5 with 1|A|w(y)|1\n", 0),
+    (&["replay"], "5|B|r(y)|5 with 1|A|w(y)|1\n", 1),
     // The words are wrong.
     (&[], "Usage: wcp <COMMAND>", 2),
     (&["report"], "'report'", 2),
@@ -116,6 +117,7 @@ const SAID: &[(&[&str], &str, u8)] = &[
         "Usage: wcp check [OPTIONS] < TRACE",
         2,
     ),
+    (&["replay", "trace.txt"], "wcp replay < trace.txt\n", 2),
     (&["--threads", "2", "check"], "'--threads'", 2),
     (&["replay", "--threads", "0"], "0 is not in 1..=1024", 2),
     (&["replay", "--patience", "1"], "'--patience'", 2),

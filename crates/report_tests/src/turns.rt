@@ -33,8 +33,9 @@ const LETTERS: &[u8] = &[b'a'; 1025];
 
 const ALL: usize = usize::MAX;
 
-/// What a case shows, its text, how many bytes of it a read gives, whether a read at its end fails, how many reads there may be,
-/// the line that could not be read to its end, if any, and what `check` and `replay` write.
+/// What a case shows, its text, how many bytes of it a read gives, whether a read at its end fails, how many
+/// reads there may be, the line that could not be read to its end, if any, and what `check` and `replay`
+/// write.
 type Case = (
     &'static str,
     &'static [u8],
