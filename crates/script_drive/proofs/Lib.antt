@@ -1,7 +1,7 @@
 mod Calls
 mod ToldRefusals
 mod ScriptFaults
-mod Settling
+mod Runs
+mod Joins
 mod Progress
 mod LinkLines
-mod Whole

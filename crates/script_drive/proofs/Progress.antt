@@ -1,116 +1,84 @@
 -- How a thread gets on with its lines.
 use Rattle.std.proofs.Common.{◌≡◌, ℕ, ◌+◌, ◌<◌, List, [], ◌∷◌, ◌++◌, true, sym, ap, ◌∙◌, subst, length}
-use Rattle.std.proofs.Common.{take, drop, take-append-drop, get_or, cond, ◌⊎◌, ◌≤◌, add-one, map}
+use Rattle.std.proofs.Common.{take, drop, take-append-drop, get_or, cond, ◌⊎◌, ◌≤◌, add-one, map, nat_eq}
 use Rattle.std.proofs.Common.{false, refl}
 use Rattle.std.specs.List.{list_any}
 use Rattle.std.proofs.Math.Seq.{drop-cons}
-use Rattle.std.proofs.lemmas.Bool.{or_cases, eqb-true}
+use Rattle.std.proofs.lemmas.Bool.{or_cases, or_left, or_right, eqb-true}
 use Rattle.std.proofs.lemmas.List.{append-nil, take_all}
-use Rattle.std.proofs.lemmas.List.Concat.{flat_map-append}
 use Rattle.std.proofs.lemmas.List.Elements.{filter-append, filter_more, filter_map-append}
-use Rattle.std.proofs.lemmas.List.Folds.{list_any-append}
 use mathlib.Core.Logic.{inl, inr}
 use mathlib.Core.List.{IsPrefix}
 use Rattle.event_core.specs.declared.ids.ThreadId.{ThreadId}
 use Rattle.event_core.specs.declared.bounds.Limits.{Limits}
 use Rattle.event_core.specs.declared.events.Event.{Event}
 use Rattle.event_core.specs.declared.steps.Step.{Step}
+use Rattle.event_core.specs.Refusal.{forks}
 use Rattle.event_core.specs.Steps.{log_of, own_events}
 use Rattle.event_core.proofs.Depth.{same_thread_id}
+use Rattle.event_core.proofs.StepLaws.{any_front}
 use Rattle.live_monitor.specs.Calls.{HasComeTo}
 use Rattle.log_pass.specs.declared.views.PassView.{PassView}
 use Rattle.log_pass.specs.Passes.{main, new_pass, IsPass}
-use Rattle.log_pass.proofs.Prefixes.{prefix_self, prefix_trans}
 use Rattle.script_text.specs.declared.lines.ScriptLine.{ScriptLine}
-use Rattle.script_text.specs.Lines.{fork_of, is_of, join_of, joins as line_joins, thread_of}
-use Rattle.script_drive.specs.Lines.{asked, asked_by, lines_by, unread, Follows}
-use Rattle.script_drive.specs.Workers.{at_first, AreSettled, Does, Done, HasDone, HasMade, IsBegun}
-use Rattle.script_drive.specs.Workers.{IsFirst, Reach, Serves, Settled, forked, joined}
+use Rattle.script_text.specs.Lines.{fork_of, is_of, join_of, thread_of}
+use Rattle.script_drive.specs.Lines.{asked_by, lines_by, unread, Follows}
+use Rattle.script_drive.specs.Runs.{HasStarted}
+use Rattle.script_drive.specs.Workers.{Does, Done, HasDone, IsFirst, Reach, Serves, forked, joined}
 use Rattle.live_monitor.proofs.Beginnings.{log_begins}
-use Rattle.script_drive.proofs.Settling.{settled_more}
+use Rattle.script_drive.proofs.Runs.{asked-snoc}
 
-asked-snoc : (lines : List ScriptLine) (l : ScriptLine)
-    → asked (lines ++ l ∷ []) ≡ asked lines ++ asked_by l.act
-asked-snoc lines l = flat_map-append (λ (x : ScriptLine). asked_by x.act) lines (l ∷ [])
-    ∙ ap (λ (es : List Event). asked lines ++ es) (append-nil (asked_by l.act))
-
--- a thread that was started in a beginning of a log was so in one of a longer log
-begun_more : (script : List ScriptLine) (t : ThreadId) (xs ys : List Event) → IsPrefix xs ys
-    → IsBegun script t xs → IsBegun script t ys
-begun_more script t xs ys begins h = record {
-  start = h.start;
-  started = h.started;
-  begins = prefix_trans h.start xs ys h.begins begins;
-}
+-- a thread that has started has done so in a longer log
+started_more : (t : ThreadId) (xs ys : List Event) → IsPrefix xs ys → HasStarted t xs → HasStarted t ys
+started_more t xs ys begins h = go (or_cases (nat_eq t.0 0) (list_any (forks t) xs) h)
+  where
+    go : (nat_eq t.0 0 ≡ true) ⊎ (list_any (forks t) xs ≡ true) → HasStarted t ys
+    go (inl is) = or_left (nat_eq t.0 0) (list_any (forks t) ys) is
+    go (inr is) = or_right (nat_eq t.0 0) (list_any (forks t) ys)
+        (subst (λ (log : List Event). list_any (forks t) log ≡ true) begins.1
+        (any_front (forks t) xs begins.0 is))
 
 -- a first pass is one of its own thread
-pub own_first : (script : List ScriptLine) (t : ThreadId) (p : PassView) → IsFirst script t p
-    → IsFirst script p.thread p
-own_first script t p h = subst (λ (u : ThreadId). IsFirst script u p) (sym h.thread) h
+pub own_first : (t : ThreadId) (p : PassView) → IsFirst t p → IsFirst p.thread p
+own_first t p h = subst (λ (u : ThreadId). IsFirst u p) (sym h.thread) h
 
 -- and thread 0's has seen nothing
-pub main_first : (script : List ScriptLine) (p : PassView) → p ≡ new_pass main [] → IsFirst script p.thread p
-main_first script p is =
-    let first : IsFirst script main (new_pass main []) = record {
-      thread = refl;
-      no_step = refl;
-      started = at_first;
-    } in
-    own_first script main p (subst (IsFirst script main) (sym is) first)
+pub main_first : (p : PassView) → p ≡ new_pass main [] → IsFirst p.thread p
+main_first p is =
+    let first : IsFirst main (new_pass main []) = record { thread = refl; no_step = refl; started = refl } in
+    own_first main p (subst (IsFirst main) (sym is) first)
 
 -- a thread's first pass has done none of its lines
-pub first_done : (script : List ScriptLine) (t : ThreadId) (p : PassView) → IsFirst script t p
-    → HasDone script t p []
-first_done script t p h = record {
+pub first_done : (t : ThreadId) (p : PassView) → IsFirst t p → HasDone t p []
+first_done t p h = record {
   thread = h.thread;
-  begun = record { start = log_of p.seen; started = h.started; begins = prefix_self (log_of p.seen) };
+  started = h.started;
   follows = ap (λ (s : List Step). map unread (log_of s)) h.no_step;
-  settled = λ u test. absurd (cc test);
 }
 
 -- what a pass has done stands in the log that it has seen
-pub made_of : (m : Limits) (script : List ScriptLine) (t : ThreadId) (p : PassView)
-    (lines : List ScriptLine) → IsPass m p → HasDone script t p lines → HasMade script t (log_of p.seen) lines
-made_of m script t p lines is h = record {
-  follows = subst (λ (es : List Event). Follows es lines)
-      (is.own_events ∙ ap (λ (u : ThreadId). own_events u (log_of p.seen)) h.thread) h.follows;
-  settled = h.settled;
-}
+pub made_of : (m : Limits) (t : ThreadId) (p : PassView) (lines : List ScriptLine) → IsPass m p
+    → HasDone t p lines → Follows (own_events t (log_of p.seen)) lines
+made_of m t p lines is h = subst (λ (es : List Event). Follows es lines)
+    (is.own_events ∙ ap (λ (u : ThreadId). own_events u (log_of p.seen)) h.thread) h.follows
 
 -- the pass has seen more, and done no more
-pub done_later : (m : Limits) (script : List ScriptLine) (t : ThreadId) (p q : PassView)
-    (lines : List ScriptLine) → HasComeTo m p q → q.mine ≡ p.mine → HasDone script t p lines
-    → HasDone script t q lines
-done_later m script t p q lines later mine h =
-    let begins : IsPrefix (log_of p.seen) (log_of q.seen) = log_begins p.seen q.seen later.begins in
-    record {
-      thread = later.same_thread ∙ h.thread;
-      begun = begun_more script t (log_of p.seen) (log_of q.seen) begins h.begun;
-      follows = subst (λ (s : List Step). Follows (log_of s) lines) (sym mine) h.follows;
-      settled = λ u test. settled_more m script (log_of p.seen) (log_of q.seen) u begins
-          later.is_pass.formed.well_formed (h.settled u test);
-    }
+pub done_later : (m : Limits) (t : ThreadId) (p q : PassView) (lines : List ScriptLine) → HasComeTo m p q
+    → q.mine ≡ p.mine → HasDone t p lines → HasDone t q lines
+done_later m t p q lines later mine h = record {
+  thread = later.same_thread ∙ h.thread;
+  started = started_more t (log_of p.seen) (log_of q.seen) (log_begins p.seen q.seen later.begins) h.started;
+  follows = subst (λ (s : List Step). Follows (log_of s) lines) (sym mine) h.follows;
+}
 
 -- one more line is done
-pub done_more : (m : Limits) (script : List ScriptLine) (t : ThreadId) (p q : PassView)
-    (lines : List ScriptLine) (l : ScriptLine) → HasDone script t p lines → Does m script l p q
-    → HasDone script t q (lines ++ l ∷ [])
-done_more m script t p q lines l h does = record {
+pub done_more : (t : ThreadId) (p q : PassView) (lines : List ScriptLine) (l : ScriptLine)
+    → HasDone t p lines → Does l p q → HasDone t q (lines ++ l ∷ [])
+done_more t p q lines l h does = record {
   thread = does.thread ∙ h.thread;
-  begun = begun_more script t (log_of p.seen) (log_of q.seen) (log_begins p.seen q.seen does.begins) h.begun;
+  started = started_more t (log_of p.seen) (log_of q.seen) (log_begins p.seen q.seen does.begins) h.started;
   follows = does.mine ∙ (ap (λ (es : List Event). es ++ asked_by l.act) h.follows ∙ sym (asked-snoc lines l));
-  settled = settled;
 }
-  where
-    settled : AreSettled script (log_of q.seen) (lines ++ l ∷ [])
-    settled u test = go (or_cases (list_any (line_joins u.0) lines) (list_any (line_joins u.0) (l ∷ []))
-        (sym (list_any-append (line_joins u.0) lines (l ∷ [])) ∙ test))
-      where
-        go : (list_any (line_joins u.0) lines ≡ true) ⊎ (list_any (line_joins u.0) (l ∷ []) ≡ true)
-            → Settled script (log_of q.seen) u
-        go (inl before) = settled_more m script (log_of p.seen) (log_of q.seen) u
-            (log_begins p.seen q.seen does.begins) does.formed.well_formed (h.settled u before)
-        go (inr now) = does.settled u now
 
 -- ---- a thread's lines among those of the script
 
@@ -148,11 +116,10 @@ module _ (t : ThreadId) (lines : List ScriptLine) (i : ℕ) (line : ScriptLine)
         ∙ (filter-append (is_of t.0) (take i lines) (drop i lines)
         ∙ ap (λ (r : List ScriptLine). lines_by t (take i lines) ++ r) own_left))
 
-    pub done_at : (m : Limits) (script : List ScriptLine) (p q : PassView)
-        → HasDone script t p (lines_by t (take i lines)) → Does m script line p q
-        → HasDone script t q (lines_by t (take (i + 1) lines))
-    done_at m script p q h does = subst (HasDone script t q) (sym own_taken)
-        (done_more m script t p q (lines_by t (take i lines)) line h does)
+    pub done_at : (p q : PassView) → HasDone t p (lines_by t (take i lines)) → Does line p q
+        → HasDone t q (lines_by t (take (i + 1) lines))
+    done_at p q h does = subst (HasDone t q) (sym own_taken)
+        (done_more t p q (lines_by t (take i lines)) line h does)
 
     pub next_line : (reach : Reach) → Serves reach (lines_by t (drop i lines))
         → Serves reach (line ∷ lines_by t (drop (i + 1) lines))
@@ -181,6 +148,6 @@ module _ (t : ThreadId) (lines : List ScriptLine) (i : ℕ) (line : ScriptLine)
 
 -- after the last one
 pub all_done : (script lines : List ScriptLine) (t : ThreadId) (p : PassView) (i : ℕ) → lines ≡ script
-    → length lines ≤ i → HasDone script t p (lines_by t (take i lines)) → Done script t p
+    → length lines ≤ i → HasDone t p (lines_by t (take i lines)) → Done script t p
 all_done script lines t p i same le h =
-    subst (λ (l : List ScriptLine). HasDone script t p (lines_by t l)) (take_all i lines le ∙ same) h
+    subst (λ (l : List ScriptLine). HasDone t p (lines_by t l)) (take_all i lines le ∙ same) h

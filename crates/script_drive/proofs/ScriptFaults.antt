@@ -39,6 +39,7 @@ use Rattle.script_drive.specs.Faults.{act_acquires, act_refusal, act_waits, is_t
 use Rattle.script_drive.specs.Faults.{refused_at, Fits, IsAnswer, IsAnswered, IsDue, IsEarlier, IsFaultOf}
 use Rattle.script_drive.specs.Faults.{IsFirst, IsHaltOf, IsHeldBack, IsNext, Refuses}
 use Rattle.script_drive.specs.Lines.{lines_by}
+use Rattle.script_drive.specs.Runs.{IsRunOf}
 use Rattle.script_drive.specs.Workers.{HasDone}
 use Rattle.script_drive.proofs.Progress.{done_later, made_of, own_place, own_thread}
 use Rattle.script_drive.proofs.ToldRefusals.{call_told, swap_told}
@@ -92,30 +93,31 @@ IsReason m log act why = ((act_refusal m log act ≡ Some why) × (is_told why �
 
 -- a line is due after what its pass has seen by the time that its call is declined
 due : (m : Limits) (script : List ScriptLine) (l : ScriptLine) (p q : PassView) → IsNext script l p
-    → HasComeTo m p q → q.mine ≡ p.mine → IsDue m script l (log_of q.seen)
-due m script l p q next later mine =
-    let done : HasDone script (thread_of l) q next.before
-    = done_later m script (thread_of l) p q next.before later mine next.done in
+    → HasComeTo m p q → IsRunOf script (log_of q.seen) → q.mine ≡ p.mine → IsDue m script l (log_of q.seen)
+due m script l p q next later run mine =
+    let done : HasDone (thread_of l) q next.before
+    = done_later m (thread_of l) p q next.before later mine next.done in
     record {
       before = next.before;
       later = next.later;
       place = next.place;
       well_formed = later.is_pass.formed.well_formed;
-      begun = done.begun;
-      made = made_of m script (thread_of l) q next.before later.is_pass done;
+      run = run;
+      started = done.started;
+      made = made_of m (thread_of l) q next.before later.is_pass done;
     }
 
 -- the act was refused so to a pass that had done the lines before
 declined_fits : (m : Limits) (ahead : Bool) (script : List ScriptLine) (l : ScriptLine) (p q : PassView)
-    (why : Refusal) → IsNext script l p → thread_of l ≡ p.thread → HasComeTo m p q → q.mine ≡ p.mine
-    → IsReason m (log_of q.seen) l.act why
+    (why : Refusal) → IsNext script l p → HasComeTo m p q → IsRunOf script (log_of q.seen)
+    → q.mine ≡ p.mine → IsReason m (log_of q.seen) l.act why
     → IsFaultOf m ahead script (refused_at l why)
-declined_fits m ahead script l p q why next thread later mine reason =
+declined_fits m ahead script l p q why next later run mine reason =
     elim reason as (λ _. IsFaultOf m ahead script (refused_at l why)) [
       | inl refused ↦
           ∣ refused_fits m ahead script l why next.line refused.1 (record {
             log = log_of q.seen;
-            due = due m script l p q next later mine;
+            due = due m script l p q next later run mine;
             refused = refused.0;
           }) ∣₁
       | inr e ↦ subst (λ (w : Refusal). IsFaultOf m ahead script (refused_at l w)) (sym e) ∣ tt ∣₁
@@ -139,11 +141,11 @@ line_refusal m log l call op site arg t act is thread = ap (act_refusal m log) a
 -- of a line's call; of an acquire the refusal is told where another thread's hold is not the answer
 pub call_fits : (m : Limits) (ahead : Bool) (script : List ScriptLine) (l : ScriptLine) (call : Call)
     (op : Op) (site : SiteId) (arg : ℕ) (p q : PassView) (why : Refusal) → l.act ≡ One call → call.op ≡ op
-    → IsNext script l p → thread_of l ≡ p.thread → HasComeTo m p q
+    → IsNext script l p → thread_of l ≡ p.thread → HasComeTo m p q → IsRunOf script (log_of q.seen)
     → Declined m (call_by p.thread op site arg) p q why → (op_is_acquire op ≡ true → is_told why ≡ true)
     → IsFaultOf m ahead script (refused_at l why)
-call_fits m ahead script l call op site arg p q why act is next thread later declined acquire =
-    declined_fits m ahead script l p q why next thread later declined.mine
+call_fits m ahead script l call op site arg p q why act is next thread later run declined acquire =
+    declined_fits m ahead script l p q why next later run declined.mine
     (elim (declined.why) as (λ _. IsReason m (log_of q.seen) l.act why) [
       | inl refused ↦ inl (
         line_refusal m (log_of q.seen) l call op site arg p.thread act is thread ∙ refused,
@@ -174,15 +176,15 @@ held_used_up tries answer used_up held =
 pub held_back : (m : Limits) (script : List ScriptLine) (l : ScriptLine) (call : Call) (lock : LockId)
     (site : SiteId) (p q : PassView) (answer : Result Reply Refusal) → l.act ≡ One call
     → call.op ≡ Acquire lock → IsNext script l p → thread_of l ≡ p.thread → HasComeTo m p q
-    → IfErr answer (Declined m (call_by p.thread (Acquire lock) site 0) p q)
+    → IsRunOf script (log_of q.seen) → IfErr answer (Declined m (call_by p.thread (Acquire lock) site 0) p q)
     → (by : ThreadId) × (answer ≡ Err (Held by)) → IsHeldBack m script l
-held_back m script l call lock site p q answer act is next thread later declined held =
+held_back m script l call lock site p q answer act is next thread later run declined held =
     let refused : Declined m (call_by p.thread (Acquire lock) site 0) p q (Held (held.0))
     = subst (λ a. IfErr a (Declined m (call_by p.thread (Acquire lock) site 0) p q)) held.1 declined in (
       held.0,
       record {
         log = log_of q.seen;
-        due = due m script l p q next later refused.mine;
+        due = due m script l p q next later run refused.mine;
         refused = line_refusal m (log_of q.seen) l call (Acquire lock) site 0 p.thread act is thread
             ∙ (elim (refused.why) as (λ _. refusal m (log_of q.seen)
             (call_by p.thread (Acquire lock) site 0) ≡ Some (Held (held.0))) [
@@ -248,12 +250,12 @@ answer_fits m ahead script (Abandoned l) None f is fits answer =
 pub call_halts : (m : Limits) (ahead : Bool) (script : List ScriptLine) (l : ScriptLine) (call : Call)
     (op : Op) (site : SiteId) (arg : ℕ) (p q : PassView) (answer : Result Reply Refusal)
     (result : Result PassView Halt) → l.act ≡ One call → call.op ≡ op → IsNext script l p
-    → thread_of l ≡ p.thread → HasComeTo m p q
+    → thread_of l ≡ p.thread → HasComeTo m p q → IsRunOf script (log_of q.seen)
     → IfErr answer (Declined m (call_by p.thread op site arg) p q)
     → IfErr result (λ halt. IsErrAnd answer (λ why. halt ≡ Fault (refused_at l why)))
     → (op_is_acquire op ≡ true → IfErr answer (λ why. is_told why ≡ true))
     → IfErr result (IsHaltOf m ahead script)
-call_halts m ahead script l call op site arg p q answer result act is next thread later declined refused
+call_halts m ahead script l call op site arg p q answer result act is next thread later run declined refused
     acquire =
     answered_halts m ahead script l answer result refused (fits answer declined acquire)
   where
@@ -262,15 +264,15 @@ call_halts m ahead script l call op site arg p q answer result act is next threa
         → IfErr a (λ why. IsFaultOf m ahead script (refused_at l why))
     fits (Ok x) d told = tt
     fits (Err why) d told =
-        call_fits m ahead script l call op site arg p q why act is next thread later d told
+        call_fits m ahead script l call op site arg p q why act is next thread later run d told
 
 -- of a line's swap
 swap_fits : (m : Limits) (ahead : Bool) (script : List ScriptLine) (l : ScriptLine) (t : ThreadId) (x : VarId)
     (site : SiteId) (arg : ℕ) (p q : PassView) (why : Refusal) → l.act ≡ Swap t x site arg
-    → IsNext script l p → thread_of l ≡ p.thread → HasComeTo m p q → DeclinedSwap m p.thread x p q why
-    → IsFaultOf m ahead script (refused_at l why)
-swap_fits m ahead script l t x site arg p q why act next thread later declined =
-    declined_fits m ahead script l p q why next thread later declined.mine
+    → IsNext script l p → thread_of l ≡ p.thread → HasComeTo m p q → IsRunOf script (log_of q.seen)
+    → DeclinedSwap m p.thread x p q why → IsFaultOf m ahead script (refused_at l why)
+swap_fits m ahead script l t x site arg p q why act next thread later run declined =
+    declined_fits m ahead script l p q why next later run declined.mine
     (elim (declined.why) as (λ _. IsReason m (log_of q.seen) l.act why) [
       | inl refused ↦ inl (
         ap (act_refusal m (log_of q.seen)) act
@@ -284,16 +286,17 @@ swap_fits m ahead script l t x site arg p q why act next thread later declined =
 pub swap_halts : (m : Limits) (ahead : Bool) (script : List ScriptLine) (l : ScriptLine) (t : ThreadId)
     (x : VarId) (site : SiteId) (arg : ℕ) (p q : PassView) (answer : Result SwapReply Refusal)
     (result : Result PassView Halt) → l.act ≡ Swap t x site arg → IsNext script l p
-    → thread_of l ≡ p.thread → HasComeTo m p q → IfErr answer (DeclinedSwap m p.thread x p q)
+    → thread_of l ≡ p.thread → HasComeTo m p q → IsRunOf script (log_of q.seen)
+    → IfErr answer (DeclinedSwap m p.thread x p q)
     → IfErr result (λ halt. IsErrAnd answer (λ why. halt ≡ Fault (refused_at l why)))
     → IfErr result (IsHaltOf m ahead script)
-swap_halts m ahead script l t x site arg p q answer result act next thread later declined refused =
+swap_halts m ahead script l t x site arg p q answer result act next thread later run declined refused =
     answered_halts m ahead script l answer result refused (fits answer declined)
   where
     fits : (a : Result SwapReply Refusal) → IfErr a (DeclinedSwap m p.thread x p q)
         → IfErr a (λ why. IsFaultOf m ahead script (refused_at l why))
     fits (Ok y) d = tt
-    fits (Err why) d = swap_fits m ahead script l t x site arg p q why act next thread later d
+    fits (Err why) d = swap_fits m ahead script l t x site arg p q why act next thread later run d
 
 -- ---- the lines of a thread
 
@@ -305,12 +308,12 @@ line_at script lines i line is same lt =
 
 pub next_at : (script lines : List ScriptLine) (t : ThreadId) (p : PassView) (i : ℕ) (line : ScriptLine)
     → line ≡ get_or lines i line → lines ≡ script → i < length lines → is_of t.0 line ≡ true
-    → HasDone script t p (lines_by t (take i lines)) → IsNext script line p
+    → HasDone t p (lines_by t (take i lines)) → IsNext script line p
 next_at script lines t p i line is same lt own h = record {
   line = line_at script lines i line is same lt;
   before = lines_by t (take i lines);
   later = lines_by t (drop (i + 1) lines);
   place = ap (lines_by (thread_of line)) (sym same) ∙ own_place t lines i line is lt own;
-  done = subst (λ (u : ThreadId). HasDone script u p (lines_by t (take i lines)))
+  done = subst (λ (u : ThreadId). HasDone u p (lines_by t (take i lines)))
       (sym (own_thread t lines i line is lt own)) h;
 }

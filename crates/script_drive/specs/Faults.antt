@@ -13,6 +13,7 @@ use Rattle.event_core.specs.declared.replies.Refusal.{Refusal}
 use Rattle.event_core.specs.declared.replies.Refusal.TheVariants as refusals
 use Rattle.event_core.specs.Acts.{swap_refusal}
 use Rattle.event_core.specs.Refusal.{op_is_acquire, refusal, WellFormed}
+use Rattle.event_core.specs.Steps.{own_events}
 use Rattle.log_pass.specs.declared.views.PassView.{PassView}
 use Rattle.script_text.specs.declared.lines.ScriptLine.{ScriptLine}
 use Rattle.script_text.specs.Lines.{fork_of, join_of, thread_of}
@@ -20,8 +21,9 @@ use Rattle.script_drive.specs.declared.faults.DriveFault.{DriveFault}
 use Rattle.script_drive.specs.declared.faults.DriveFault.TheVariants.{Stuck, Refused, NoWorker, OutOfMemory}
 use Rattle.script_drive.specs.declared.faults.Halt.{Halt}
 use Rattle.script_drive.specs.declared.faults.Halt.TheVariants.{Fault, Abandoned}
-use Rattle.script_drive.specs.Lines.{lines_by}
-use Rattle.script_drive.specs.Workers.{HasDone, HasMade, IsBegun}
+use Rattle.script_drive.specs.Lines.{lines_by, Follows}
+use Rattle.script_drive.specs.Runs.{HasStarted, IsRunOf}
+use Rattle.script_drive.specs.Workers.{HasDone}
 
 -- ---- one worker
 
@@ -84,15 +86,16 @@ abbrev pub is_told : Refusal → Bool
 is_told (refusals.Held by) = false
 is_told why = true
 
--- The line is due after the log, which is well formed: its thread was started in a beginning of the log, and
--- has made just its lines before.
+-- The line is due after the log, which is a well-formed run of the script: its thread has started, and has
+-- made just its lines before.
 pub record IsDue (m : Limits) (script : List ScriptLine) (l : ScriptLine) (log : List Event) : Type 0 where
   pub before : List ScriptLine
   pub later : List ScriptLine
   pub place : lines_by (thread_of l) script ≡ before ++ l ∷ later
   pub well_formed : WellFormed m log
-  pub begun : IsBegun script (thread_of l) log
-  pub made : HasMade script (thread_of l) log before
+  pub run : IsRunOf script log
+  pub started : HasStarted (thread_of l) log
+  pub made : Follows (own_events (thread_of l) log) before
 
 -- the definition refuses the line's call so, after some log after which the line is due
 pub record Refuses (m : Limits) (script : List ScriptLine) (l : ScriptLine) (why : Refusal) : Type 0 where
@@ -164,4 +167,4 @@ pub record IsNext (script : List ScriptLine) (l : ScriptLine) (p : PassView) : T
   pub before : List ScriptLine
   pub later : List ScriptLine
   pub place : lines_by (thread_of l) script ≡ before ++ l ∷ later
-  pub done : HasDone script (thread_of l) p before
+  pub done : HasDone (thread_of l) p before

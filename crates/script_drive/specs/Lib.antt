@@ -1,4 +1,5 @@
 pub mod Faults
 pub mod Lines
+pub mod Runs
 pub mod Texts
 pub mod Workers

@@ -7,16 +7,17 @@ ghost use Rattle.event_core.specs.Steps.{own_events};
 ghost use Rattle.log_pass.specs.Passes.{main, new_pass};
 ghost use Rattle.script_drive.specs.Faults.{goes_ahead, IsAnswered, IsFaultOf, IsHaltOf};
 ghost use Rattle.script_drive.specs.Lines.{lines_by, Follows, IsJoinedFrom};
+ghost use Rattle.script_drive.specs.Runs.{IsRunOf};
 ghost use Rattle.script_drive.specs.Workers.{Done, Serves};
 
 use crate::faults::{DriveFault, Halt, first_fault};
 use crate::gate::Gate;
 use crate::lines::{Drive, run_lines};
 use crate::links::Links;
-use crate::text::Text;
+use crate::text::{RunsScript, Text};
 use crate::workers::{OwnLinks, Worker, all_workers};
 use event_core::Limits;
-use live_monitor::{Closed, Shared, Unnamed, start};
+use live_monitor::{Closed, Shared, Unnamed, start_under};
 use log_pass::Pass;
 use script_text::Script;
 use std::alloc::{AllocError, Global};
@@ -162,6 +163,7 @@ fn run_all<S: Text + Send + Sync, G: Gate + Sync, R: Threads + Wait + Sync>(
 }
 
 // Runs the script over a monitor that has a name.
+#[tactic(auto, using(crate::proofs::Runs::nothing_ran))]
 fn drive_in<S: Text + Send + Sync, G: Gate + Sync, R: Threads + Wait + Sync>(
     rt: &R,
     alloc: Global,
@@ -182,9 +184,10 @@ fn drive_in<S: Text + Send + Sync, G: Gate + Sync, R: Threads + Wait + Sync>(
     ensures joined { IfOk result (λ closed. (u : Thread)
         → IsJoinedFrom script.now.lines main u
         → Follows (own_events u closed.log) (lines_by u script.now.lines)) }
+    ensures run { IfOk result (λ closed. IsRunOf script.now.lines closed.log) }
     ensures fault { IfErr result (IsFaultOf unnamed.limits S.ahead script.now.lines) }
 {
-    let (shared, pass) = start::<S>(unnamed);
+    let (shared, pass) = start_under::<S, RunsScript<S>>(unnamed);
     let Ok((links, workers)) = all_workers::<S>(alloc, script) else {
         drop(pass);
         drop(shared);
@@ -212,11 +215,12 @@ fn drive_in<S: Text + Send + Sync, G: Gate + Sync, R: Threads + Wait + Sync>(
 ///
 /// The closed log is well formed, and its events of thread 0, and of each thread that is joined from it, are
 /// that thread's lines in order. A thread is joined from thread 0 where thread 0 joins it, or joins a thread
-/// from which it is joined.
+/// from which it is joined. The closed log is a run of the script: each thread's events are those of the
+/// first of its lines, and of all of them once it is joined.
 ///
 /// The fault is one of a line of the script, or want of memory. A refusal is one that the line's call has
-/// after some well-formed log in which the line's thread was started, by the line that forks it, and has made
-/// just the calls of its lines before. Where the gate is one that lets each line go ahead at once, and
+/// after some well-formed run of the script in which the line's thread has started, and has made just the
+/// calls of its lines before. Where the gate is one that lets each line go ahead at once, and
 /// patience is not 0, a line that is stuck joins a thread, or acquires a lock that another thread holds.
 ///
 /// No clause tells the rest: how often a line is tried, nor that the run ends. A worker tells its line as
@@ -238,6 +242,7 @@ pub fn drive<G: Gate + Sync, R: Threads + Wait + Sync>(
     ensures joined { IfOk result (λ closed. (u : Thread)
         → IsJoinedFrom script.now.lines main u
         → Follows (own_events u closed.log) (lines_by u script.now.lines)) }
+    ensures run { IfOk result (λ closed. IsRunOf script.now.lines closed.log) }
     ensures fault { IfErr result (IsFaultOf limits (goes_ahead G.free patience) script.now.lines) }
 {
     let Ok(unnamed) = Unnamed::new(alloc, limits) else {

@@ -12,7 +12,7 @@ ghost use Rattle.script_drive.specs.Workers.{Does, Done, IsFirst, Serves};
 use crate::faults::{DriveFault, Halt};
 use crate::gate::Gate;
 use crate::links::Links;
-use crate::text::{LastPasses, Text};
+use crate::text::{LastPasses, RunsScript, Text};
 use event_core::{Act, Op, Refusal, Reply};
 use live_monitor::{Shared, Tries};
 use log_pass::{Name, Pass};
@@ -24,7 +24,7 @@ use std::sync::Wait;
 #[derive(Drop)]
 pub(crate) struct Drive<'a, S: Text, G: Gate, R> {
     pub rt: &'a R,
-    pub shared: &'a Shared<S>,
+    pub shared: &'a Shared<S, RunsScript<S>>,
     pub script: &'a Script,
     pub gate: &'a G,
     pub patience: u32,
@@ -114,7 +114,7 @@ fn make_call<S: Text, G: Gate, R: Wait>(
     requires thread { thread_of line.now ≡ pass.thread }
     requires next { IsNext S.script.lines line.now pass }
     requires serves { (later : List Line) × Serves links.old (line.now ∷ later) }
-    ensures does { IfOk result (Does S.limits S.script.lines line.now pass) }
+    ensures does { IfOk result (Does line.now pass) }
     ensures serves { (later : List Line) → Serves links.old (line.now ∷ later)
         → OnOk result (Serves links.new later) }
     ensures halt { IfErr result (IsHaltOf S.limits S.ahead S.script.lines) }
@@ -164,7 +164,7 @@ pub(crate) fn run_lines<S: Text, G: Gate, R: Wait>(
     pass: Pass<S>,
     links: &mut Links<S>,
 ) -> Result<Pass<S>, Halt>
-    requires first { IsFirst S.script.lines pass.thread pass }
+    requires first { IsFirst pass.thread pass }
     requires serves { Serves links.old (lines_by pass.thread S.script.lines) }
     ensures done { IfOk result (Done S.script.lines pass.thread) }
     ensures halt { IfErr result (IsHaltOf S.limits S.ahead S.script.lines) }

@@ -1,4 +1,5 @@
-//! The script that is run, for contracts, and what the passes between its workers are.
+//! The script that is run, for contracts: the rule of its log, and what the passes between its workers are.
+use live_monitor::LogRule;
 use log_pass::Name;
 use pass_channel::Terms;
 use std::marker::{Brand, PhantomData};
@@ -28,6 +29,17 @@ impl Text for Brand {
     ghost ahead = { false };
 }
 
+/// The log is one that the threads of the script can have made.
+pub(crate) struct RunsScript<S: Text> {
+    text: PhantomData<S>,
+}
+
+impl<S: Text> LogRule for RunsScript<S> {
+    ghost use Rattle.script_drive.specs.Runs.{IsRunOf};
+
+    ghost keeps = { IsRunOf S.script.lines };
+}
+
 /// The first pass of a thread, which its fork gives.
 pub(crate) struct FirstPasses<S: Text> {
     text: PhantomData<S>,
@@ -36,7 +48,7 @@ pub(crate) struct FirstPasses<S: Text> {
 impl<S: Text> Terms for FirstPasses<S> {
     ghost use Rattle.script_drive.specs.Workers.{IsFirst};
 
-    ghost good = { IsFirst S.script.lines };
+    ghost good = { IsFirst };
 }
 
 /// The last pass of a thread, which has made the calls of its lines.

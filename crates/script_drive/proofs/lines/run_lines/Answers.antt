@@ -8,7 +8,7 @@ use Rattle.script_drive.proofs.lines.run_lines.Goals as goal
 
 pub loop-line-init : goal.loop-line-init
 loop-line-init g c = (
-  first_done g.S.Text.script.lines c.args.pass.thread c.args.pass c.requires.first,
+  first_done c.args.pass.thread c.args.pass c.requires.first,
   subst (λ ls. Serves c.args.links.now (lines_by c.args.pass.thread ls)) (search rules) c.requires.serves,
 )
 
@@ -48,8 +48,8 @@ loop-line-preserved g c =
     let lines = c.lines-line-items.result.now in
     let t = c.args.pass.thread in
     let i = c.loop-line.line-index in (
-      done_at t lines i c.get-line.result (search rules) (search rules) (search rules) g.S.Name.limits
-          g.S.Text.script.lines c.loop-line.pass c.in_ok-pass.pass c.loop-line.invariant.0
+      done_at t lines i c.get-line.result (search rules) (search rules) (search rules)
+          c.loop-line.pass c.in_ok-pass.pass c.loop-line.invariant.0
           c.in_ok-pass.ensures.does,
       c.in_ok-pass.ensures.serves (lines_by t (drop (i + 1) lines))
           (next_line t lines i c.get-line.result (search rules) (search rules) (search rules)
@@ -62,7 +62,7 @@ loop-line-preserved-then-not-is_of g c =
     let lines = c.lines-line-items.result.now in
     let t = c.args.pass.thread in
     let i = c.loop-line.line-index in (
-      subst (HasDone g.S.Text.script.lines t c.loop-line.pass)
+      subst (HasDone t c.loop-line.pass)
           (sym (other_taken t lines i c.line-item.result (search rules) (search rules) (search rules)))
           c.loop-line.invariant.0,
       subst (Serves c.loop-line.links)

@@ -6,5 +6,5 @@ use Rattle.script_drive.proofs.lines.run_lines.Given as goal
 abbrev pub invariant-loop-line : goal.invariant-loop-line
 invariant-loop-line g l =
     let t = l.fn.pass.thread in
-    HasDone g.S.Text.script.lines t l.pass (lines_by t (take l.line-index l.line-items))
+    HasDone t l.pass (lines_by t (take l.line-index l.line-items))
     × Serves l.links (lines_by t (drop l.line-index l.line-items))
