@@ -4,5 +4,6 @@ pub mod CommandArguments
 pub mod CommandWords
 pub mod CommandSettings
 pub mod CommandFaults
+pub mod RunNames
 pub mod ScriptReads
 pub mod TraceReads

@@ -13,6 +13,7 @@ use Rattle.rapid_text.specs.Faults.{fault_line}
 use Rattle.rapid_text.specs.Tables.{Tables}
 use Rattle.script_drive.specs.Faults.{Refuses, is_told, waits}
 use Rattle.script_drive.specs.Lines.{Follows, IsJoinedFrom, lines_by}
+use Rattle.script_drive.specs.Runs.{IsRunOf}
 use Rattle.script_drive.specs.declared.faults.DriveFault.{DriveFault}
 use Rattle.script_drive.specs.declared.faults.DriveFault.TheVariants.{NoWorker, Refused, Stuck}
 use Rattle.script_text.specs.declared.causes.ScriptCause.{ScriptCause}
@@ -24,7 +25,6 @@ use Rattle.script_text.specs.Lines.{fork_of}
 use Rattle.script_text.specs.Readings.{HasFault, LacksFork}
 use Rattle.script_text.specs.Scripts.{IsScript, Parsed, script_of}
 use Rattle.trace_report.specs.declared.summary.Summary.{Summary}
-use Rattle.trace_report.specs.Reports.{AreNamed}
 use Rattle.trace_report.specs.Words.{refusal_word}
 use Rattle.wcp_tool.specs.Endings.{status_of, summary_ending}
 
@@ -48,10 +48,12 @@ pub record ReportsLog (names : Tables) (log : List Event) (old new : Option (Lis
 abbrev pub first_thread : ThreadId
 first_thread = record { 0 = 0 }
 
--- the threads of the script were run, and this is the well-formed log of what they did. Its events of the
--- first thread, and of each thread that is joined from it, are those of that thread's lines in order.
+-- the threads of the script were run, and this is the well-formed log of what they did: each thread's events
+-- are those of the first of its lines in order, and those of the first thread, and of each thread that is
+-- joined from it, of all of them
 pub record IsRun (m : Limits) (script : Parsed) (log : List Event) : Type 0 where
   pub well_formed : WellFormed m log
+  pub run : IsRunOf script.lines log
   pub first : Follows (own_events first_thread log) (lines_by first_thread script.lines)
   pub joined : (u : ThreadId) → IsJoinedFrom script.lines first_thread u
       → Follows (own_events u log) (lines_by u script.lines)
@@ -129,19 +131,11 @@ pub record NamesStop (lines : List ScriptLine) (old new : Option (List ℕ)) : T
   pub written : ((waits line ≡ true) × Appends old new (fault_line line.line (codes "Stuck")))
       ⊎ (IsSome (fork_of line) × Appends old new (fault_line line.line (codes "NoWorker")))
 
--- the threads of the script were run, but the log has a number to which the script gives no name, and nothing
--- was written
-pub record LacksNames (m : Limits) (script : Parsed) (old new : Option (List ℕ)) : Type 0 where
-  pub log : List Event
-  pub is : IsRun m script log
-  pub unnamed : AreNamed script.names log → ⊥
-  pub quiet : new ≡ old
-
--- the run of the script did not come to a report
-abbrev pub Stops : Limits → Parsed → Option (List ℕ) → Option (List ℕ) → Type 0
-Stops m script old new = ∥ NamesStop script.lines old new ∥₁ ⊎ LacksNames m script old new
+-- the same, as a fact without its witness
+abbrev pub Stops : List ScriptLine → Option (List ℕ) → Option (List ℕ) → Type 0
+Stops lines old new = ∥ NamesStop lines old new ∥₁
 
 -- why a run ends with status 6
 abbrev pub BreaksText : Limits → Option (List ℕ) → Option (List ℕ) → Option (List ℕ) → Type 0
 BreaksText m left old new =
-    FaultsText m left old new ⊎ OfScript m left (λ script. Stops m script old new)
+    FaultsText m left old new ⊎ OfScript m left (λ script. Stops script.lines old new)

@@ -3,7 +3,7 @@ ghost use Rattle.std.specs.Prelude.{◌≡◌, ◌≢◌, ◌⊎◌, ◌≤◌, 
 ghost use Rattle.std.specs.Io.KnownBytes.{Appends};
 ghost use Rattle.rapid_text.specs.Faults.{fault_line};
 ghost use Rattle.script_text.specs.declared.causes.ScriptFault.{ScriptFault as Why};
-ghost use Rattle.script_text.specs.Scripts.{script_of};
+ghost use Rattle.script_text.specs.Scripts.{script_of, IsScript};
 ghost use Rattle.wcp_tool.specs.Endings.{HasEnded, is_write_fault, status_of};
 ghost use Rattle.wcp_tool.specs.Running.{CutsFile, CutsScript, PerformsFile, PerformsRun, limits_with};
 ghost use Rattle.trace_report.specs.Reports.{AreNamed};
@@ -83,8 +83,7 @@ fn tell_report<O: Output>(writer: &mut O, closed: &Closed, names: &Names) -> End
     ensures reports { (status_of result ≡ 0) ⊎ (status_of result ≡ 1) → ReportsLog names.now closed.now.log
         (O.written writer.old) (O.written writer.new) (status_of result) }
     ensures refused { status_of result ≢ 3 }
-    ensures broken { status_of result ≡ 6 → (AreNamed names.now closed.now.log → ⊥)
-        × (writer.new ≡ writer.old) }
+    ensures broken { status_of result ≡ 6 → AreNamed names.now closed.now.log → ⊥ }
     ensures whole { result ≢ Ending.ReadFault }
     ensures ends { HasEnded (writer.new ≡ writer.old) (O.failed writer.new) result }
 {
@@ -106,12 +105,13 @@ fn run_threads<R: AllocGlobal + Threads + Wait + Sync, O: Output>(
 ) -> Ending
     requires only_main { limits.roots ≡ OnlyMain }
     requires patience { 1 ≤ patience }
+    requires script { IsScript script.now }
     requires writes { O.failed writer.old ≡ false }
     ensures ran { (status_of result ≡ 0) ⊎ (status_of result ≡ 1) → Ran limits script.now
         (O.written writer.old) (O.written writer.new) (status_of result) }
     ensures refused { status_of result ≡ 3 → TellsRefusal limits script.now.lines
         (O.written writer.old) (O.written writer.new) }
-    ensures broken { status_of result ≡ 6 → Stops limits script.now (O.written writer.old)
+    ensures broken { status_of result ≡ 6 → Stops script.now.lines (O.written writer.old)
         (O.written writer.new) }
     ensures whole { result ≢ Ending.ReadFault }
     ensures ends { HasEnded (writer.new ≡ writer.old) (O.failed writer.new) result }
@@ -164,7 +164,8 @@ fn run_lines<R: AllocGlobal + Threads + Wait + Sync, I: Input, O: Output>(
 /// patience the clauses tell that a line which neither acquires nor joins is not stuck.
 ///
 /// What the threads did depends on the schedule, and so does the status: of the log it is said only that it
-/// is well formed, and which events the first thread has, and each thread that is joined from it.
+/// is well formed, that it is one that the script's threads can have made, and which events the first thread
+/// has, and each thread that is joined from it.
 pub fn run_script<R: AllocGlobal + Threads + Wait + Sync, I: Input, O: Output, E: Output>(
     rt: &R,
     script: &mut I,
@@ -177,18 +178,17 @@ pub fn run_script<R: AllocGlobal + Threads + Wait + Sync, I: Input, O: Output, E
     requires reads { I.failed script.old ≡ false }
     requires writes { O.failed writer.old ≡ false }
     // With status 0 or 1 it wrote the report of a well-formed log, and nothing else. The log is of the script
-    // that the reader had left: the report has the script's names, and the log the lines of the first thread,
-    // and of each that is joined from it, in order.
+    // that the reader had left: the report has the script's names, and the log has of each thread the first of
+    // its lines in order, and of the first thread, and each that is joined from it, all of them.
     ensures ran { (result ≡ 0) ⊎ (result ≡ 1) → RunsText (limits_with settings.now.threads OnlyMain)
         (I.left script.old) (O.written writer.old) (O.written writer.new) result }
     // With status 3 it wrote the one line that tells which call of that script is refused, and why. The
-    // definition refuses this call so after some log in which its thread has made just the calls before.
+    // definition refuses this call so after some log that the script's threads can have made, and in which
+    // its thread has made just the calls before.
     ensures refused { result ≡ 3 → RefusesText (limits_with settings.now.threads OnlyMain)
         (I.left script.old) (O.written writer.old) (O.written writer.new) }
     // With status 6 it wrote the one line that tells why the text is no script, or which of its lines is
-    // stuck or can start no worker. A stuck line is one that acquires or joins. It wrote nothing only where
-    // the log has a number to which the script gives no name, and the numbers of the script's lines all have
-    // one.
+    // stuck or can start no worker. A stuck line is one that acquires or joins.
     ensures broken { result ≡ 6 → BreaksText (limits_with settings.now.threads OnlyMain)
         (I.left script.old) (O.written writer.old) (O.written writer.new) }
     // The first fault of the script's lines is told, unless memory ran out or a device failed.
