@@ -16,44 +16,46 @@ use Rattle.rapid_text.specs.Tables.{Tables}
 use Rattle.rapid_text.specs.Taking.{Advances, place_of}
 use Rattle.rapid_text.specs.Feeding.{Pulled}
 use Rattle.rapid_text.specs.Texts.{after_line, judge, lines_of}
-use Rattle.trace_report.specs.declared.faults.ReplayFault.{ReplayFault}
-use Rattle.trace_report.specs.declared.faults.ReplayFault.TheVariants.{Text, Refused, Write}
+use Rattle.trace_report.specs.declared.faults.TraceFault.{TraceFault}
+use Rattle.trace_report.specs.declared.faults.TraceFault.TheVariants.{Text, Refused}
 use Rattle.trace_report.specs.Findings.{Trace, call_of, finding, finding_after, refused_or}
-use Rattle.trace_report.specs.Feeding.{IsCutAt, IsFrom, Takes}
+use Rattle.trace_report.specs.Feeding.{IsCutAt, Takes, line_of}
 use Rattle.rapid_text.proofs.Taken.{stops_short}
 use Rattle.trace_report.proofs.Playing.{with_line}
 
-from_next : (n : ℕ) (found : Result Trace ReplayFault) → IfErr found (IsFrom (n + 1)) → IfErr found (IsFrom n)
+-- no fault before line n
+abbrev IsFrom : ℕ → Result Trace TraceFault → Type 0
+IsFrom n found = IfErr found (λ f. n ≤ line_of f)
+
+from_next : (n : ℕ) (found : Result Trace TraceFault) → IsFrom (n + 1) found → IsFrom n found
 from_next n (Ok t) later = tt
-from_next n (Err (Text f)) later = omega (arith, later)
-from_next n (Err (Refused line r)) later = omega (arith, later)
-from_next n (Err Write) later = absurd later
+from_next n (Err f) later = omega (arith, later)
 
 -- where the lines after line n have no fault before it, it has none before it
 at_line : (m : Limits) (log : List Event) (ls : List (List ℕ)) (t : Tables) (n : ℕ)
-    → ((longer : List Event) (u : Tables) → IfErr (finding_after m longer (judge ls u (n + 1))) (IsFrom n))
+    → ((longer : List Event) (u : Tables) → IsFrom n (finding_after m longer (judge ls u (n + 1))))
     → (r : Result (Option Event × Tables) Cause)
-    → IfErr (finding_after m log (after_line t n r (λ v. judge ls v (n + 1)))) (IsFrom n)
+    → IsFrom n (finding_after m log (after_line t n r (λ v. judge ls v (n + 1))))
 at_line m log ls t n later = go
   where
     refused_here : (e : Event) (u : Tables) (o : Option Refusal)
-        → IfErr (refused_or n o (finding_after m (with_line log e) (judge ls u (n + 1)))) (IsFrom n)
+        → IsFrom n (refused_or n o (finding_after m (with_line log e) (judge ls u (n + 1))))
     refused_here e u None = later (with_line log e) u
     refused_here e u (Some r) = omega arith
 
     told : (o : Option Event) (u : Tables)
-        → IfErr (finding_after m log (after_line t n (Ok (o, u)) (λ v. judge ls v (n + 1)))) (IsFrom n)
+        → IsFrom n (finding_after m log (after_line t n (Ok (o, u)) (λ v. judge ls v (n + 1))))
     told None u = later log u
     told (Some e) u = refused_here e u (refusal m log (call_of e))
 
     go : (r : Result (Option Event × Tables) Cause)
-        → IfErr (finding_after m log (after_line t n r (λ v. judge ls v (n + 1)))) (IsFrom n)
+        → IsFrom n (finding_after m log (after_line t n r (λ v. judge ls v (n + 1))))
     go (Err cause) = omega arith
     go (Ok p) = told p.0 p.1
 
 -- lines from number n on have no fault before line n
 from_line : (m : Limits) (log : List Event) (lines : List (List ℕ)) (t : Tables) (n : ℕ)
-    → IfErr (finding_after m log (judge lines t n)) (IsFrom n)
+    → IsFrom n (finding_after m log (judge lines t n))
 from_line m log [] t n = tt
 from_line m log (l ∷ ls) t n =
     at_line m log ls t n (λ longer u. from_next n _ (from_line m longer ls u (n + 1))) (reading t (content l))
@@ -71,7 +73,7 @@ cut_text m A B left rest turns failed s t So is a pulled takes = record {
   stops = stops_short left rest turns failed (place_of t) So _ pulled (λ bytes so. let all = takes bytes so in
       let on = all.goes_on m [] a in (
         subst (λ (c : Cutting). Advances (place_of c) bytes [] (place_of t)) is all.advances,
-        λ (more : List ℕ). subst (λ (found : Result Trace ReplayFault). IfErr found (IsFrom t.unfinished))
+        λ (more : List ℕ). subst (λ (found : Result Trace TraceFault). IsFrom t.unfinished found)
             (sym (ap (λ (c : Cutting). finding_after m [] (judged c (bytes ++ more))) (sym is)
             ∙ on.same more))
             (from_line m on.longer (lines_of (t.kept ++ more)) t.names t.unfinished),

@@ -15,7 +15,7 @@ use Rattle.rapid_text.specs.Taking.{AreUnended, Advances, place_of}
 use Rattle.rapid_text.specs.Events.{IsOfNames}
 use Rattle.rapid_text.specs.Cutting.{Cutting, judged, Pushes, FailsAt}
 use Rattle.rapid_text.specs.Texts.{Judgement}
-use Rattle.trace_report.specs.declared.faults.ReplayFault.TheVariants.{Text, Refused}
+use Rattle.trace_report.specs.declared.faults.TraceFault.TheVariants.{Text, Refused}
 use Rattle.trace_report.specs.Findings.{call_of, finding_after, IsReached}
 use Rattle.trace_report.specs.Feeding.{Declines, Takes, Stops}
 use Rattle.rapid_text.proofs.Taken.{push_advances}
@@ -81,7 +81,6 @@ text_stops A s piece f live fails = record {
         (subst (λ (c : Cause). FailsAt s piece f c) out fails more);
   };
   read = λ short. push_read s piece f f.cause fails short;
-  unwritten = λ e. absurd (cc);
 }
 
 pub event_stops : (A : Limits → List Event → Type 0) (s t : Cutting) (piece : List ℕ) (used line : ℕ)
@@ -92,5 +91,4 @@ event_stops A s t piece used line o e r p is declines at = record {
   says = λ m log a more. declined m log line t.line e r (judged t (drop used piece ++ more)) _
       (event_pushed s t piece used o e p is more) (declines m log a) at;
   read = λ short. absurd (cc);
-  unwritten = λ e. absurd (cc);
 }

@@ -9,8 +9,8 @@ use Rattle.rapid_text.specs.declared.causes.Cause.{Cause}
 use Rattle.rapid_text.specs.declared.causes.TextFault.{TextFault}
 use Rattle.rapid_text.specs.Tables.{no_names}
 use Rattle.rapid_text.specs.Texts.{Judgement, judgement, lines_of}
-use Rattle.trace_report.specs.declared.faults.ReplayFault.{ReplayFault}
-use Rattle.trace_report.specs.declared.faults.ReplayFault.TheVariants.{Text, Refused, Write}
+use Rattle.trace_report.specs.declared.faults.TraceFault.{TraceFault}
+use Rattle.trace_report.specs.declared.faults.TraceFault.TheVariants.{Text, Refused}
 use Rattle.trace_report.specs.Findings.{Trace, call_of, ended_with, finding, finding_after, log_of, played}
 use Rattle.trace_report.specs.Findings.{refused_or, IsLegalTrace, IsFirstFault, IsFirstRefused}
 use Rattle.trace_report.proofs.Refused.{event_is, first_refused, none_is_legal, nothing_more, numbered_or}
@@ -19,17 +19,17 @@ use Rattle.trace_report.proofs.Values.{StoreNothing, judged_nothing}
 
 -- ---- a finding by the first line that is refused
 
-abbrev finding_or : Option (ℕ × Refusal) → Result Trace ReplayFault → Result Trace ReplayFault
+abbrev finding_or : Option (ℕ × Refusal) → Result Trace TraceFault → Result Trace TraceFault
 finding_or None later = later
 finding_or (Some p) later = Err (Refused p.0 p.1)
 
-either_refused : (n : ℕ) (o : Option Refusal) (later : Option (ℕ × Refusal)) (end : Result Trace ReplayFault)
+either_refused : (n : ℕ) (o : Option Refusal) (later : Option (ℕ × Refusal)) (end : Result Trace TraceFault)
     → refused_or n o (finding_or later end) ≡ finding_or (numbered_or n o later) end
 either_refused n None later end = refl
 either_refused n (Some r) later end = refl
 
 played_is : (m : Limits) (ps : List (ℕ × Event)) (log : List Event)
-    (end : List Event → Result Trace ReplayFault)
+    (end : List Event → Result Trace TraceFault)
     → StoreNothing log → StoreNothing (log_of ps)
     → played m log ps end ≡ finding_or (refused_after m log ps) (end (log ++ log_of ps))
 played_is m [] log end z zs = ap end (sym (append-nil log))
@@ -44,7 +44,7 @@ played_is m (p ∷ ps) log end z zs =
     (append_assoc log (p.1 ∷ []) (log_of ps))
 
 -- the trace of a judged text, or its fault
-abbrev text_finding : Judgement → Option (ℕ × Cause) → Result Trace ReplayFault
+abbrev text_finding : Judgement → Option (ℕ × Cause) → Result Trace TraceFault
 text_finding j o = ended_with j.names (log_of j.events) o
 
 found_by : (m : Limits) (j : Judgement) → StoreNothing (log_of j.events)
@@ -53,28 +53,28 @@ found_by m j z = played_is m j.events [] (λ end. ended_with j.names end j.fault
 
 -- ---- the cases of a finding
 
-abbrev trace_in : Trace → Result Trace ReplayFault → Trace
+abbrev trace_in : Trace → Result Trace TraceFault → Trace
 trace_in t (Ok u) = u
 trace_in t (Err f) = t
 
-abbrev fault_in : TextFault → Result Trace ReplayFault → TextFault
+abbrev fault_in : TextFault → Result Trace TraceFault → TextFault
 fault_in f (Err (Text g)) = g
 fault_in f _ = f
 
-abbrev line_in : ℕ → Result Trace ReplayFault → ℕ
+abbrev line_in : ℕ → Result Trace TraceFault → ℕ
 line_in n (Err (Refused k r)) = k
 line_in n _ = n
 
-abbrev refusal_in : Refusal → Result Trace ReplayFault → Refusal
+abbrev refusal_in : Refusal → Result Trace TraceFault → Refusal
 refusal_in r (Err (Refused k s)) = s
 refusal_in r _ = r
 
-ok_after : (o : Option (ℕ × Refusal)) (later : Result Trace ReplayFault) (t : Trace)
+ok_after : (o : Option (ℕ × Refusal)) (later : Result Trace TraceFault) (t : Trace)
     → finding_or o later ≡ Ok t → (o ≡ None) × (later ≡ Ok t)
 ok_after None later t e = (refl, e)
 ok_after (Some p) later t e = absurd (cc)
 
-text_after : (o : Option (ℕ × Refusal)) (later : Result Trace ReplayFault) (f : TextFault)
+text_after : (o : Option (ℕ × Refusal)) (later : Result Trace TraceFault) (f : TextFault)
     → finding_or o later ≡ Err (Text f) → (o ≡ None) × (later ≡ Err (Text f))
 text_after None later f e = (refl, e)
 text_after (Some p) later f e = absurd (cc)
@@ -101,12 +101,6 @@ some_fault_in : (j : Judgement) (o : Option (ℕ × Cause)) (f : TextFault) → 
     → o ≡ Some (f.line, f.cause)
 some_fault_in j None f e = absurd (cc)
 some_fault_in j (Some g) f e = λ i. Some ((ap (fault_in f) e i).line, (ap (fault_in f) e i).cause)
-
-never_written : (j : Judgement) (o : Option (ℕ × Refusal)) (f : Option (ℕ × Cause))
-    → finding_or o (text_finding j f) ≡ Err Write → ⊥
-never_written j None None e = cc
-never_written j None (Some f) e = cc
-never_written j (Some p) f e = cc
 
 -- ---- a judgement's finding
 
@@ -177,9 +171,3 @@ module _ (m : Limits) (text : List ℕ) where
       → (finding m text ≡ Err (Refused n r)) ↔ IsFirstRefused m (judgement (no_names m) text) n r
   unfolding finding
   refused_found n r = found_refused m (judgement (no_names m) text) nothing n r
-
-  pub nothing_else : finding m text ≡ Err Write → ⊥
-  unfolding finding
-  nothing_else e =
-      let j : Judgement = judgement (no_names m) text in
-      never_written j (first_refused m j.events) j.fault (sym (found_by m j nothing) ∙ e)

@@ -14,7 +14,7 @@ use Rattle.rapid_text.specs.declared.causes.Cause.TheVariants as causes
 use Rattle.rapid_text.specs.declared.causes.TextFault.{TextFault}
 use Rattle.rapid_text.specs.Texts.{Judgement, with_event, ended, first_line, FirstAt}
 use Rattle.rapid_text.specs.Cutting.{Cutting, judged, most, Pushes, FailsAt, Closes, ClosesAt}
-use Rattle.trace_report.specs.declared.faults.ReplayFault.TheVariants.{Text, Refused}
+use Rattle.trace_report.specs.declared.faults.TraceFault.TheVariants.{Text, Refused}
 use Rattle.trace_report.specs.Findings.{call_of, ended_with, refused_or, played, finding_after, IsReached}
 use Rattle.trace_report.specs.Findings.{RunsOut}
 use Rattle.trace_report.specs.Replayed.{cause_gives_up, refusal_gives_up}

@@ -11,11 +11,11 @@ use Rattle.rapid_text.specs.Feeding.{Pulled, Whole}
 use Rattle.rapid_text.specs.Tables.{Tables}
 use Rattle.rapid_text.specs.declared.feeding.Fed.{Fed}
 use Rattle.rapid_text.specs.declared.feeding.Fed.TheVariants as fed
-use Rattle.trace_report.specs.declared.faults.ReplayFault.{ReplayFault}
+use Rattle.trace_report.specs.declared.faults.TraceFault.{TraceFault}
 use Rattle.trace_report.specs.Findings.{finding, finding_after, IsReached}
-use Rattle.trace_report.specs.Feeding.{Says, Takes, Stops, Ends, IsFed, FindsTrace, FindsFault, is_short}
+use Rattle.trace_report.specs.Feeding.{Says, Takes, Stops, Ends, IsFed, FindsTrace, FindsFault, is_read_fault}
 use Rattle.rapid_text.specs.declared.causes.Cause.TheVariants.{Read}
-use Rattle.trace_report.specs.declared.faults.ReplayFault.TheVariants.{Text}
+use Rattle.trace_report.specs.declared.faults.TraceFault.TheVariants.{Text}
 use Rattle.trace_report.proofs.Naming.{nothing_named}
 
 -- the bytes up to the end are the text that was left
@@ -36,31 +36,14 @@ begins None rest bytes came = record { more = []; is_left = tt }
 begins (Some text) None bytes came = absurd came
 begins (Some text) (Some rest) bytes came = record { more = rest; is_left = sym came }
 
--- each turn gave a byte
-pub many_bytes : (left rest : Option (List ℕ)) (bytes : List ℕ) (turns : ℕ) → Consumes left rest bytes
-    → turns ≤ length bytes → IfSome left (λ text. turns ≤ length text)
-many_bytes None rest bytes turns came many = tt
-many_bytes (Some text) None bytes turns came many = absurd came
-many_bytes (Some text) (Some rest) bytes turns came many =
-    let both : length text ≡ length (bytes ++ rest) = ap (λ (t : List ℕ). length t) came in
-    let parts = length-append bytes rest in
-    omega arith
+-- ---- what was taken
 
--- unless the reading failed
-pub failed_or_many : {Failed : Type 0} (left rest : Option (List ℕ)) (bytes : List ℕ) (turns : ℕ)
-    → Consumes left rest bytes → Failed ⊎ (turns ≤ length bytes)
-    → Failed ⊎ IfSome left (λ text. turns ≤ length text)
-failed_or_many left rest bytes turns came (inl failed) = inl failed
-failed_or_many left rest bytes turns came (inr many) = inr (many_bytes left rest bytes turns came many)
-
--- ---- what was fed
-
-module _ (m : Limits) (A : Limits → List Event → Type 0) (left rest : Option (List ℕ)) (turns : ℕ)
-    (s : Cutting) (is : s ≡ begun m) (a : A m []) where
-  fed_whole : (B : Limits → List Event → Type 0) (t : Cutting) (bytes : List ℕ) → Consumes left rest bytes
-      → IsAtEnd rest → Takes A B s bytes [] t → IsFed m left (B m) t
+module _ (m : Limits) (A : Limits → List Event → Type 0) (left rest : Option (List ℕ)) (s : Cutting)
+    (is : s ≡ begun m) (a : A m []) where
+  pub taken_whole : (B : Limits → List Event → Type 0) (t : Cutting) (bytes : List ℕ)
+      → Consumes left rest bytes → IsAtEnd rest → Takes A B s bytes [] t → IsFed m left (B m) t
   unfolding finding
-  fed_whole B t bytes came ended takes =
+  taken_whole B t bytes came ended takes =
       let on = takes.goes_on m [] a in
       record {
         text = bytes;
@@ -76,71 +59,15 @@ module _ (m : Limits) (A : Limits → List Event → Type 0) (left rest : Option
             (subst (λ (c : Cutting). IsReached m [] (judged c (bytes ++ [])) f) is (on.reached [] f h));
       }
 
-  found_fault : (f : ReplayFault) (bytes : List ℕ) → Consumes left rest bytes → Stops A s bytes f
-      → FindsFault m left f
+  pub stop_found : (o : Option TraceFault) (bytes : List ℕ) → Consumes left rest bytes
+      → IsSomeAnd o (Stops A s bytes) → IfSome o (FindsFault m left)
   unfolding finding
-  found_fault f bytes came stops =
+  stop_found None bytes came stops = absurd stops
+  stop_found (Some f) bytes came stops =
       let b = begins left rest bytes came in
       let says = subst (λ (c : Cutting). Says m [] (judged c (bytes ++ b.more)) f) is
       (stops.says m [] a b.more) in
       record { text = bytes ++ b.more; is_left = b.is_left; finds = says.finds; reached = says.reached }
-
-  pub is_fed : (B : Limits → List Event → Type 0) (t : Cutting) (r : Fed) (before now : Option ReplayFault)
-      → before ≡ None → (r ≡ fed.Cut → ⊥)
-      → (r ≡ fed.Whole → Whole left rest turns (λ bytes. before ≡ None → (now ≡ None) × Takes A B s bytes []
-      t))
-      → (r ≡ fed.Stopped → Pulled left rest turns (λ bytes. before ≡ None → IsSomeAnd now (Stops A s bytes)))
-      → now ≡ None → IsFed m left (B m) t
-  is_fed B t fed.Whole before now none other whole stopped live =
-      let w = whole refl in
-      fed_whole B t w.pulled.bytes w.pulled.came w.ended (w.pulled.so none).1
-  is_fed B t fed.Stopped before now none other whole stopped live =
-      let p = stopped refl in
-      absurd (subst (λ (o : Option ReplayFault). IsSomeAnd o (Stops A s p.bytes)) live (p.so none))
-  is_fed B t fed.Cut before now none other whole stopped live = absurd (other refl)
-
-  pub fault_is_found : (B : Limits → List Event → Type 0) (t : Cutting) (r : Fed)
-      (before now : Option ReplayFault) → before ≡ None → (r ≡ fed.Cut → ⊥)
-      → (r ≡ fed.Whole → Whole left rest turns (λ bytes. before ≡ None → (now ≡ None) × Takes A B s bytes []
-      t))
-      → (r ≡ fed.Stopped → Pulled left rest turns (λ bytes. before ≡ None → IsSomeAnd now (Stops A s bytes)))
-      → IfSome now (FindsFault m left)
-  fault_is_found B t fed.Whole before now none other whole stopped =
-      let w = whole refl in
-      subst (λ (o : Option ReplayFault). IfSome o (FindsFault m left)) (sym (w.pulled.so none).0) tt
-  fault_is_found B t fed.Stopped before now none other whole stopped =
-      let p = stopped refl in
-      go now p.bytes p.came (p.so none)
-    where
-      go : (o : Option ReplayFault) (bytes : List ℕ) → Consumes left rest bytes → IsSomeAnd o
-          (Stops A s bytes)
-          → IfSome o (FindsFault m left)
-      go None bytes came stops = absurd stops
-      go (Some f) bytes came stops = found_fault f bytes came stops
-  fault_is_found B t fed.Cut before now none other whole stopped = absurd (other refl)
-
-  pub never_short : (B : Limits → List Event → Type 0) (t : Cutting) (P : ReplayFault → Type 0) (r : Fed)
-      (before now : Option ReplayFault) → turns ≤ 17592186044416 → before ≡ None → (r ≡ fed.Cut → ⊥)
-      → (r ≡ fed.Whole → Whole left rest turns (λ bytes. before ≡ None → (now ≡ None) × Takes A B s bytes []
-      t))
-      → (r ≡ fed.Stopped → Pulled left rest turns (λ bytes. before ≡ None → IsSomeAnd now (Stops A s bytes)))
-      → IfSome now (λ f. is_short f ≡ true → P f)
-  never_short B t P fed.Whole before now few none other whole stopped =
-      let w = whole refl in
-      subst (λ (o : Option ReplayFault). IfSome o (λ f. is_short f ≡ true → P f)) (sym (w.pulled.so none).0)
-      tt
-  never_short B t P fed.Stopped before now few none other whole stopped =
-      let p = stopped refl in
-      go now p.bytes p.few (p.so none)
-    where
-      go : (o : Option ReplayFault) (bytes : List ℕ) → length bytes ≤ 65536 * turns
-          → IsSomeAnd o (Stops A s bytes) → IfSome o (λ f. is_short f ≡ true → P f)
-      go None bytes within stops = absurd stops
-      go (Some f) bytes within stops = λ short.
-          let many = stops.read short in
-          let none : s.taken ≡ 0 = ap (λ (c : Cutting). c.taken) is in
-          absurd (omega arith)
-  never_short B t P fed.Cut before now few none other whole stopped = absurd (other refl)
 
 -- ---- what it comes to
 
@@ -159,18 +86,16 @@ trace_is_found m left B C s names f ends =
     }
 
 -- what holds of a fault holds where it is the one that stands
-pub if_stands : (P : ReplayFault → Type 0) {o : Option ReplayFault} {f : ReplayFault} → o ≡ Some f → P f
+pub if_stands : (P : TraceFault → Type 0) {o : Option TraceFault} {f : TraceFault} → o ≡ Some f → P f
     → IfSome o P
-if_stands P is h = subst (λ (o : Option ReplayFault). IfSome o P) (sym is) h
+if_stands P is h = subst (λ (o : Option TraceFault). IfSome o P) (sym is) h
 
-pub stood_short : (P : ReplayFault → Type 0) (o : Option ReplayFault) (f : ReplayFault)
-    → IfSome o (λ g. is_short g ≡ true → P g) → o ≡ Some f → is_short f ≡ true → P f
-stood_short P o f h is short =
-    subst (λ (x : Option ReplayFault). IfSome x (λ g. is_short g ≡ true → P g)) is h short
+pub stood : (P : TraceFault → Type 0) (o : Option TraceFault) (f : TraceFault) → IfSome o P → o ≡ Some f → P f
+stood P o f h is = subst (λ (x : Option TraceFault). IfSome x P) is h
 
 -- the fault that stood, or the one at the end
 pub end_is_found : (m : Limits) (left : Option (List ℕ)) (B : List Event → Type 0) (s : Cutting)
-    (o : Option ReplayFault) (f : ReplayFault) → (o ≡ None → IsFed m left B s)
+    (o : Option TraceFault) (f : TraceFault) → (o ≡ None → IsFed m left B s)
     → IfSome o (FindsFault m left)
     → (o ≡ None → (log : List Event) → B log → Says m log (judged s []) f)
     → IfSome o (λ g. f ≡ g) → FindsFault m left f
@@ -184,7 +109,7 @@ end_is_found m left B s None f fed stood at_end same =
       reached = λ out. is.reached f (says.reached out);
     }
 end_is_found m left B s (Some h) f fed stood at_end same =
-    subst (λ (k : ReplayFault). FindsFault m left k) (sym same) stood
+    subst (λ (k : TraceFault). FindsFault m left k) (sym same) stood
 
 -- a read that failed says nothing of the text
 pub cut_says_nothing : (m : Limits) (left rest : Option (List ℕ)) (bytes : List ℕ) (n : ℕ)

@@ -4,12 +4,12 @@ use Rattle.std.specs.Io.KnownBytes.{Appends}
 use Rattle.event_core.specs.declared.bounds.Limits.{Limits}
 use Rattle.rapid_text.specs.Tables.{Tables}
 use Rattle.trace_report.specs.declared.faults.ReplayFault.{ReplayFault}
+use Rattle.trace_report.specs.declared.faults.ReplayFault.TheVariants.{Found, Write}
+use Rattle.trace_report.specs.declared.faults.TraceFault.{TraceFault}
 use Rattle.trace_report.specs.declared.counts.Counts.{Counts}
 use Rattle.trace_report.specs.Findings.{Trace, finding}
 use Rattle.trace_report.specs.Replayed.{OfText, fault_text}
 use Rattle.trace_report.specs.Reports.{labelled}
-
--- ---- what a check answers
 
 -- so many events, and how many names there are of each kind
 abbrev pub counts_of : ℕ → Tables → Counts
@@ -21,19 +21,9 @@ counts_of events t = record {
 }
 
 -- the counts of a legal trace, or the fault
-abbrev pub counted : Result Trace ReplayFault → Result Counts ReplayFault
+abbrev pub counted : Result Trace TraceFault → Result Counts ReplayFault
 counted (Ok t) = Ok (counts_of (length t.log) t.names)
-counted (Err f) = Err f
-
--- the answer for a whole text
-abbrev pub answer_for : Limits → List ℕ → Result Counts ReplayFault
-answer_for m text = counted (finding m text)
-
--- the answer is the one for the text that the reader had left
-abbrev pub AnswersText : Limits → Option (List ℕ) → Result Counts ReplayFault → Type 0
-AnswersText m left answer = OfText left (λ text. answer ≡ answer_for m text)
-
--- ---- what a check prints
+counted (Err f) = Err (Found f)
 
 -- events E threads T locks L variables V
 abbrev pub counts_text : Counts → List ℕ
@@ -43,24 +33,18 @@ counts_text c =
     ++ labelled (codes " locks ") c.locks
     ++ labelled (codes " variables ") c.vars
 
--- events E threads T locks L variables V, and an LF
+-- and an LF
 abbrev pub counts_line : Counts → List ℕ
-counts_line c =
-    labelled (codes "events ") c.events
-    ++ labelled (codes " threads ") c.threads
-    ++ labelled (codes " locks ") c.locks
-    ++ labelled (codes " variables ") c.vars
-    ++ 10 ∷ []
+counts_line c = counts_text c ++ 10 ∷ []
 
 -- the one line that tells an answer
 abbrev pub told : Result Counts ReplayFault → List ℕ
 told (Ok counts) = counts_line counts
-told (Err f) = fault_text f
+told (Err (Found f)) = fault_text f
+told (Err Write) = []
 
--- the one line for a whole text
-abbrev pub checked : Limits → List ℕ → List ℕ
-checked m text = told (answer_for m text)
-
--- what was written is the line for the text that the reader had left, and nothing else
-abbrev pub ChecksText : Limits → Option (List ℕ) → Option (List ℕ) → Option (List ℕ) → Type 0
-ChecksText m left old new = OfText left (λ text. Appends old new (checked m text))
+-- the answer is the one for the text that the reader had left, and its one line was written, and nothing else
+abbrev pub ChecksText : Limits → Option (List ℕ) → Option (List ℕ) → Option (List ℕ)
+    → Result Counts ReplayFault → Type 0
+ChecksText m left old new answer =
+    OfText left (λ text. (answer ≡ counted (finding m text)) × Appends old new (told answer))

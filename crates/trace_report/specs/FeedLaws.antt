@@ -1,4 +1,5 @@
--- Pieces of a text, one after another, are one piece.
+-- Pieces of a text, one after another, are one piece. These lemmas stand among the definitions since the
+-- ghost members of `JudgedText` cite them.
 use Rattle.std.proofs.Common.{◌≡◌, ℕ, ◌<◌, List, [], ◌++◌, Option, Some, None, refl, sym, ap, subst}
 use Rattle.std.proofs.Common.{◌∙◌, append_assoc}
 use Rattle.std.specs.Prelude.{IsSomeAnd}
@@ -7,7 +8,7 @@ use Rattle.event_core.specs.declared.events.Event.{Event}
 use Rattle.rapid_text.specs.Cutting.{Cutting, judged, most}
 use Rattle.rapid_text.specs.Taking.{place_of}
 use Rattle.rapid_text.specs.TakingLaws.{advances_none, advances_more, advances_before}
-use Rattle.trace_report.specs.declared.faults.ReplayFault.{ReplayFault}
+use Rattle.trace_report.specs.declared.faults.TraceFault.{TraceFault}
 use Rattle.trace_report.specs.Findings.{finding_after, IsReached}
 use Rattle.trace_report.specs.Feeding.{Takes, Stops}
 
@@ -62,7 +63,7 @@ pub takes_both : (A B C : Limits → List Event → Type 0) (s t u : Cutting) (f
 takes_both A B C s t u front rest p q =
     takes_more A B C s t u (front ++ rest) rest [] (fed_before A B s t front rest p) q
 
-pub stops_later : (A B : Limits → List Event → Type 0) (s t : Cutting) (bytes rest : List ℕ) (f : ReplayFault)
+pub stops_later : (A B : Limits → List Event → Type 0) (s t : Cutting) (bytes rest : List ℕ) (f : TraceFault)
     → Takes A B s bytes rest t → Stops B t rest f → Stops A s bytes f
 stops_later A B s t bytes rest f p q = record {
   says = λ m log a more.
@@ -72,12 +73,11 @@ stops_later A B s t bytes rest f p q = record {
         finds = λ g. on.same more ∙ later.finds g;
         reached = λ out. on.reached more f (later.reached out);
       };
-  read = λ short. subst (λ (n : ℕ). most < n) p.advances.taken (q.read short);
-  unwritten = q.unwritten;
+  read = λ fault. subst (λ (n : ℕ). most < n) p.advances.taken (q.read fault);
 }
 
 pub some_stops_after : (A B : Limits → List Event → Type 0) (s t : Cutting) (front rest : List ℕ)
-    (o : Option ReplayFault) → Takes A B s front [] t → IsSomeAnd o (Stops B t rest)
+    (o : Option TraceFault) → Takes A B s front [] t → IsSomeAnd o (Stops B t rest)
     → IsSomeAnd o (Stops A s (front ++ rest))
 some_stops_after A B s t front rest None p q = absurd q
 some_stops_after A B s t front rest (Some f) p q =

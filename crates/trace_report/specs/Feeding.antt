@@ -2,7 +2,6 @@
 -- and the log that it makes.
 use Rattle.std.specs.Prelude.{
   ◌≡◌,
-  ◌≢◌,
   ℕ,
   ◌+◌,
   ◌<◌,
@@ -19,7 +18,9 @@ use Rattle.std.specs.Prelude.{
   None,
   Ok,
   Err,
+  Result,
   length,
+  OnOk,
   IfErr,
   IfSome,
 }
@@ -34,10 +35,12 @@ use Rattle.rapid_text.specs.Cutting.{Cutting, judged, most}
 use Rattle.rapid_text.specs.Tables.{Tables, no_names}
 use Rattle.rapid_text.specs.Taking.{Advances, StopsShort, place_of}
 use Rattle.rapid_text.specs.Texts.{Judgement, judgement}
+use Rattle.rapid_text.specs.Turns.{WithinTurns}
 use Rattle.trace_report.specs.declared.faults.ReplayFault.{ReplayFault}
-use Rattle.trace_report.specs.declared.faults.ReplayFault.TheVariants.{Text, Refused, Write}
+use Rattle.trace_report.specs.declared.faults.TraceFault.{TraceFault}
+use Rattle.trace_report.specs.declared.faults.TraceFault.TheVariants.{Text, Refused}
 use Rattle.trace_report.specs.Findings.{call_of, finding, finding_after, IsReached}
-use Rattle.trace_report.specs.Replayed.{gives_up, OfText}
+use Rattle.trace_report.specs.Replayed.{gives_up, IfFound, OfText}
 use Rattle.trace_report.specs.Reports.{AreNamed}
 
 -- why an event was not accepted: it is refused, or memory ran out and it is not
@@ -50,23 +53,21 @@ abbrev pub is_read : Cause → Bool
 is_read causes.Read = true
 is_read _ = false
 
-abbrev pub is_short : ReplayFault → Bool
-is_short (Text f) = is_read f.cause
-is_short _ = false
+abbrev pub is_read_fault : TraceFault → Bool
+is_read_fault (Text f) = is_read f.cause
+is_read_fault _ = false
 
 -- a growth was refused
-abbrev pub RanOut : ReplayFault → Type 0
+abbrev pub RanOut : TraceFault → Type 0
 RanOut (Text f) = f.cause ≡ causes.OutOfMemory
 RanOut (Refused line r) = r ≡ OutOfMemory
-RanOut Write = ⊥
 
-abbrev pub line_of : ReplayFault → ℕ
+abbrev pub line_of : TraceFault → ℕ
 line_of (Text f) = f.line
 line_of (Refused line r) = line
-line_of Write = 0
 
 -- what a fault says of a judged text after this log: that it comes to it, or where memory ran out
-pub record Says (m : Limits) (log : List Event) (j : Judgement) (f : ReplayFault) : Type 0 where
+pub record Says (m : Limits) (log : List Event) (j : Judgement) (f : TraceFault) : Type 0 where
   pub finds : gives_up f ≡ false → finding_after m log j ≡ Err f
   pub reached : RanOut f → IsReached m log j f
 
@@ -81,10 +82,10 @@ pub record GoesOn (m : Limits) (After : List Event → Type 0) (old : Cutting) (
   pub named : AreNamed old.names log → AreNamed new.names longer
   pub same : (more : List ℕ)
       → finding_after m log (judged old (bytes ++ more)) ≡ finding_after m longer (judged new (rest ++ more))
-  pub reached : (more : List ℕ) (f : ReplayFault) → IsReached m longer (judged new (rest ++ more)) f
+  pub reached : (more : List ℕ) (f : TraceFault) → IsReached m longer (judged new (rest ++ more)) f
       → IsReached m log (judged old (bytes ++ more)) f
 
--- the bytes were taken but for the rest, by a judge that was as after a log and is as after a longer one
+-- all bytes but the rest were taken, by a judge that was as after a log and is as after a longer one
 pub record Takes (Before After : Limits → List Event → Type 0) (old : Cutting) (bytes rest : List ℕ)
     (new : Cutting) : Type 0 where
   pub live : new.failed ≡ None
@@ -92,12 +93,11 @@ pub record Takes (Before After : Limits → List Event → Type 0) (old : Cuttin
   pub goes_on : (m : Limits) (log : List Event) → Before m log → GoesOn m (After m) old log bytes rest new
 
 -- the text stops with this fault, whatever follows the bytes
-pub record Stops (Before : Limits → List Event → Type 0) (old : Cutting) (bytes : List ℕ) (f : ReplayFault)
+pub record Stops (Before : Limits → List Event → Type 0) (old : Cutting) (bytes : List ℕ) (f : TraceFault)
     : Type 0 where
   pub says : (m : Limits) (log : List Event) → Before m log → (more : List ℕ)
       → Says m log (judged old (bytes ++ more)) f
-  pub read : is_short f ≡ true → most < old.taken + length bytes
-  pub unwritten : f ≢ Write
+  pub read : is_read_fault f ≡ true → most < old.taken + length bytes
 
 -- ---- the end
 
@@ -121,7 +121,7 @@ pub record IsFed (m : Limits) (left : Option (List ℕ)) (After : List Event →
   pub after : After log
   pub named : AreNamed now.names log
   pub same : finding m text ≡ finding_after m log (judged now [])
-  pub reached : (f : ReplayFault) → IsReached m log (judged now []) f
+  pub reached : (f : TraceFault) → IsReached m log (judged now []) f
       → IsReached m [] (judgement (no_names m) text) f
 
 -- it is a legal trace, and the judge is as after its log
@@ -135,11 +135,11 @@ pub record FindsTrace (m : Limits) (left : Option (List ℕ)) (After : List Even
   pub finds : finding m text ≡ Ok (record { names = names; log = log })
 
 -- memory ran out at a line with an event, and no event of a line before is refused
-abbrev pub ReachesLine : Limits → Option (List ℕ) → ReplayFault → Type 0
+abbrev pub ReachesLine : Limits → Option (List ℕ) → TraceFault → Type 0
 ReachesLine m left f = OfText left (λ text. IsReached m [] (judgement (no_names m) text) f)
 
 -- it comes to this fault, or memory ran out
-pub record FindsFault (m : Limits) (left : Option (List ℕ)) (f : ReplayFault) : Type 0 where
+pub record FindsFault (m : Limits) (left : Option (List ℕ)) (f : TraceFault) : Type 0 where
   pub text : List ℕ
   pub is_left : IfSome left (λ whole. text ≡ whole)
   pub finds : gives_up f ≡ false → finding m text ≡ Err f
@@ -147,17 +147,21 @@ pub record FindsFault (m : Limits) (left : Option (List ℕ)) (f : ReplayFault) 
 
 -- ---- a text that was not read to its end
 
--- the fault is at line n or at a later one
-abbrev pub IsFrom : ℕ → ReplayFault → Type 0
-IsFrom n (Text f) = n ≤ f.line
-IsFrom n (Refused line r) = n ≤ line
-IsFrom n Write = ⊥
-
 -- a read failed or the turns are used up: the fault is at the line whose end was not seen, and whatever
 -- follows what came, no line before it has a fault or an event that is refused
 pub record IsCutAt (m : Limits) (left rest : Option (List ℕ)) (turns : ℕ) (read_failed : Bool)
-    (f : ReplayFault) : Type 0 where
+    (f : TraceFault) : Type 0 where
   pub line : ℕ
   pub at : f ≡ Text (record { line = line; cause = causes.Read })
   pub stops : StopsShort left rest turns read_failed line
-      (λ came. (more : List ℕ) → IfErr (finding m (came ++ more)) (IsFrom line))
+      (λ came. (more : List ℕ) → IfErr (finding m (came ++ more)) (λ g. line ≤ line_of g))
+
+-- how much of a text was read for an answer, in so many turns
+pub record HasRead {A : Type 0} (m : Limits) (left rest : Option (List ℕ)) (turns : ℕ) (read_failed : Bool)
+    (answer : Result A ReplayFault) : Type 0 where
+  -- however it ended, no more than 65,536 bytes for each turn
+  pub few : WithinTurns turns left rest
+  -- no failed read is passed over where there is a result
+  pub whole : OnOk answer (read_failed ≡ false)
+  -- a read fault is answered only where a read failed, or as many bytes came as there are turns
+  pub cut : IfFound answer (λ f. is_read_fault f ≡ true → IsCutAt m left rest turns read_failed f)

@@ -26,8 +26,8 @@ use Rattle.rapid_text.specs.declared.causes.Cause.{Cause}
 use Rattle.rapid_text.specs.declared.causes.TextFault.{TextFault}
 use Rattle.rapid_text.specs.Tables.{Tables, no_names}
 use Rattle.rapid_text.specs.Texts.{Judgement, judgement}
-use Rattle.trace_report.specs.declared.faults.ReplayFault.{ReplayFault}
-use Rattle.trace_report.specs.declared.faults.ReplayFault.TheVariants.{Text, Refused, Write}
+use Rattle.trace_report.specs.declared.faults.TraceFault.{TraceFault}
+use Rattle.trace_report.specs.declared.faults.TraceFault.TheVariants.{Text, Refused}
 
 -- ---- the finding
 
@@ -41,44 +41,43 @@ pub record Trace : Type 0 where
   pub log : List Event
 
 -- a fault of the text is found where no event before it is refused
-abbrev pub ended_with : Tables → List Event → Option (ℕ × Cause) → Result Trace ReplayFault
+abbrev pub ended_with : Tables → List Event → Option (ℕ × Cause) → Result Trace TraceFault
 ended_with names log None = Ok (record { names = names; log = log })
 ended_with names log (Some f) = Err (Text (record { line = f.0; cause = f.1 }))
 
-abbrev pub refused_or : ℕ → Option Refusal → Result Trace ReplayFault → Result Trace ReplayFault
+abbrev pub refused_or : ℕ → Option Refusal → Result Trace TraceFault → Result Trace TraceFault
 refused_or line None later = later
 refused_or line (Some r) later = Err (Refused line r)
 
 -- the calls of the lines are made one after another, from this log on; the first that is refused ends it
-abbrev pub played : Limits → List Event → List (ℕ × Event) → (List Event → Result Trace ReplayFault)
-    → Result Trace ReplayFault
+abbrev pub played : Limits → List Event → List (ℕ × Event) → (List Event → Result Trace TraceFault)
+    → Result Trace TraceFault
 played m log [] end = end log
 played m log (p ∷ ps) end =
     refused_or p.0 (refusal m log (call_of p.1)) (played m (log ++ event_of log (call_of p.1) ∷ []) ps end)
 
 -- what a judged text comes to after this log: its first event that is refused, else its fault, else its trace
-abbrev pub finding_after : Limits → List Event → Judgement → Result Trace ReplayFault
+abbrev pub finding_after : Limits → List Event → Judgement → Result Trace TraceFault
 finding_after m log j = played m log j.events (λ end. ended_with j.names end j.fault)
 
 -- what a whole text comes to
-unfoldable pub finding : Limits → List ℕ → Result Trace ReplayFault
+unfoldable pub finding : Limits → List ℕ → Result Trace TraceFault
 finding m text = finding_after m [] (judgement (no_names m) text)
 
 -- memory ran out at this line: for the names of its event, or for the event, which is not refused after this
 -- log
-abbrev pub RunsOutAt : Limits → List Event → ℕ × Event → ReplayFault → Type 0
+abbrev pub RunsOutAt : Limits → List Event → ℕ × Event → TraceFault → Type 0
 RunsOutAt m log p (Text f) = p.0 ≡ f.line
 RunsOutAt m log p (Refused line r) = (p.0 ≡ line) × (refusal m log (call_of p.1) ≡ None)
-RunsOutAt m log p Write = ⊥
 
 -- memory ran out at one of the lines, each of which has an event, and no event of a line before it is refused
-abbrev pub RunsOut : Limits → List Event → List (ℕ × Event) → ReplayFault → Type 0
+abbrev pub RunsOut : Limits → List Event → List (ℕ × Event) → TraceFault → Type 0
 RunsOut m log [] f = ⊥
 RunsOut m log (p ∷ ps) f = RunsOutAt m log p f
     ⊎ ((refusal m log (call_of p.1) ≡ None) × RunsOut m (log ++ event_of log (call_of p.1) ∷ []) ps f)
 
 -- the line of the fault is reached in the judged text after this log, and memory ran out at it
-abbrev pub IsReached : Limits → List Event → Judgement → ReplayFault → Type 0
+abbrev pub IsReached : Limits → List Event → Judgement → TraceFault → Type 0
 IsReached m log j f = RunsOut m log j.events f
 
 -- ---- the same, said of the log that the lines make

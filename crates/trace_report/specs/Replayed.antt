@@ -11,7 +11,9 @@ use Rattle.rapid_text.specs.declared.causes.Cause.TheVariants as causes
 use Rattle.rapid_text.specs.Faults.{cause_word, fault_line}
 use Rattle.seq_monitor.specs.Monitored.{AreVerdicts}
 use Rattle.trace_report.specs.declared.faults.ReplayFault.{ReplayFault}
-use Rattle.trace_report.specs.declared.faults.ReplayFault.TheVariants.{Text, Refused, Write}
+use Rattle.trace_report.specs.declared.faults.ReplayFault.TheVariants.{Found, Write}
+use Rattle.trace_report.specs.declared.faults.TraceFault.{TraceFault}
+use Rattle.trace_report.specs.declared.faults.TraceFault.TheVariants.{Text, Refused}
 use Rattle.trace_report.specs.declared.summary.Summary.{Summary}
 use Rattle.trace_report.specs.Findings.{Trace, finding}
 use Rattle.trace_report.specs.Reports.{report_of, summary_of}
@@ -27,19 +29,18 @@ pub record IsReport (t : Trace) (text : List ℕ) (s : Summary) : Type 0 where
   pub summary : s ≡ summary_of t.names t.log verdicts
 
 -- the one line that tells a fault
-abbrev pub fault_text : ReplayFault → List ℕ
+abbrev pub fault_text : TraceFault → List ℕ
 fault_text (Text f) = fault_line f.line (cause_word f.cause)
 fault_text (Refused line r) = fault_line line (refusal_word r)
-fault_text Write = []
 
 -- the answer and what was written tell the finding: the report of a legal trace, or the line of the fault
-abbrev pub Tells : Result Trace ReplayFault → Result Summary ReplayFault → List ℕ → Type 0
+abbrev pub Tells : Result Trace TraceFault → Result Summary ReplayFault → List ℕ → Type 0
 Tells (Ok t) (Ok s) text = IsReport t text s
-Tells (Err f) (Err g) text = (f ≡ g) × (text ≡ fault_text g)
+Tells (Err f) (Err answer) text = (answer ≡ Found f) × (text ≡ fault_text f)
 Tells _ _ text = ⊥
 
 -- something was written, which tells the finding together with the answer
-pub record Told (old new : Option (List ℕ)) (found : Result Trace ReplayFault)
+pub record Told (old new : Option (List ℕ)) (found : Result Trace TraceFault)
     (answer : Result Summary ReplayFault) : Type 0 where
   pub text : List ℕ
   pub tells : Tells found answer text
@@ -67,16 +68,22 @@ abbrev pub refusal_gives_up : Refusal → Bool
 refusal_gives_up refusals.OutOfMemory = true
 refusal_gives_up _ = false
 
--- a read failed or the turns are used up, a growth was refused, or a write failed
-abbrev pub gives_up : ReplayFault → Bool
+-- a read failed or the turns are used up, or a growth was refused
+abbrev pub gives_up : TraceFault → Bool
 gives_up (Text f) = cause_gives_up f.cause
 gives_up (Refused line r) = refusal_gives_up r
-gives_up Write = true
 
-abbrev pub fault_gives_up : Option ReplayFault → Bool
+abbrev pub fault_gives_up : Option TraceFault → Bool
 fault_gives_up None = false
 fault_gives_up (Some f) = gives_up f
 
+-- or a write failed
 abbrev pub answer_gives_up : {A : Type 0} → Result A ReplayFault → Bool
-answer_gives_up (Ok s) = false
-answer_gives_up (Err f) = gives_up f
+answer_gives_up (Ok a) = false
+answer_gives_up (Err (Found f)) = gives_up f
+answer_gives_up (Err Write) = true
+
+-- where the answer is a fault that was found in the text, it is so
+abbrev pub IfFound : {A : Type 0} → Result A ReplayFault → (TraceFault → Type 0) → Type 0
+IfFound (Err (Found f)) IsSo = IsSo f
+IfFound _ IsSo = Unit {0}

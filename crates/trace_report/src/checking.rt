@@ -1,10 +1,8 @@
 //! The check of a trace, from the bytes of a reader to its one line.
-ghost use Rattle.std.specs.Prelude.{◌≡◌, ◌≢◌, ◌≤◌, ◌⊎◌, Err, true, false, length, OnOk, IfErr, IfSome};
-ghost use Rattle.std.specs.Io.KnownBytes.{Appends};
-ghost use Rattle.rapid_text.specs.Turns.{WithinTurns};
-ghost use Rattle.trace_report.specs.Replayed.{answer_gives_up};
-ghost use Rattle.trace_report.specs.Feeding.{IsCutAt, RanOut, ReachesLine, is_short};
-ghost use Rattle.trace_report.specs.Checked.{told, AnswersText, ChecksText};
+ghost use Rattle.std.specs.Prelude.{◌≡◌, ◌≢◌, ◌≤◌, Err, true, false};
+ghost use Rattle.trace_report.specs.Replayed.{answer_gives_up, IfFound};
+ghost use Rattle.trace_report.specs.Feeding.{HasRead, RanOut, ReachesLine};
+ghost use Rattle.trace_report.specs.Checked.{ChecksText};
 
 use crate::counts::Counts;
 use crate::faults::ReplayFault;
@@ -19,8 +17,8 @@ use traced_mem::Memory;
 /// line that is no event or whose event is refused. The lines before are known by the memory alone, and no
 /// log is kept. It reads up to 65,536 bytes for each turn, and there may be 2^44 turns.
 ///
-/// Nothing is written where the text could not be read to its end, or a growth was refused. The two are
-/// told apart by the cause `Read`, and by the cause or the refusal `OutOfMemory`.
+/// Nothing is written where the text could not be read to its end, or a growth was refused. The first has
+/// the cause `Read`, and the second the cause or the refusal `OutOfMemory`.
 pub fn check<I: Input, O: Output>(
     alloc: Global,
     reader: &mut I,
@@ -31,31 +29,19 @@ pub fn check<I: Input, O: Output>(
     requires turns { turns ≤ 17592186044416 }
     requires reads { I.failed reader.old ≡ false }
     requires writes { O.failed writer.old ≡ false }
-    // The answer is what the whole text comes to, read or left unread. A reader that does not tell its text
-    // had some text left of which this holds.
-    ensures finds { answer_gives_up result ≡ false → AnswersText limits (I.left reader.old) result }
-    // What is written is the line for the whole text, and nothing else.
-    ensures checks { answer_gives_up result ≡ false
-        → ChecksText limits (I.left reader.old) (O.written writer.old) (O.written writer.new) }
-    // It tells the answer.
-    ensures tells { answer_gives_up result ≡ false
-        → Appends (O.written writer.old) (O.written writer.new) (told result) }
+    // The answer is what the whole text comes to, read or left unread. The line that tells it is written, and
+    // nothing else. A reader that does not tell its text had some text left of which this holds.
+    ensures checks { answer_gives_up result ≡ false → ChecksText limits (I.left reader.old)
+        (O.written writer.old) (O.written writer.new) result }
     // Nothing is written where the answer says nothing of the text.
     ensures quiet { answer_gives_up result ≡ true → result ≢ Err ReplayFault.Write → writer.new ≡ writer.old }
-    // It is a read fault only where a read failed, or the text has as many bytes as there are turns.
-    ensures short { IfErr result (λ f. is_short f ≡ true
-        → (I.failed reader.new ≡ true) ⊎ IfSome (I.left reader.old) (λ text. turns ≤ length text)) }
     // A read fault is at the line whose end was not seen, of which at most 1,025 bytes came, since with one
     // more it is too long. No line before has a fault or a refused event.
-    ensures cut { IfErr result (λ f. is_short f ≡ true
-        → IsCutAt limits (I.left reader.old) (I.left reader.new) turns (I.failed reader.new) f) }
+    ensures reads { HasRead limits (I.left reader.old) (I.left reader.new) turns (I.failed reader.new)
+        result }
     // Memory ran out at a line with an event. No event of a line before is refused, nor is the line's own
     // unless memory ran out for its names.
-    ensures memory { IfErr result (λ f. RanOut f → ReachesLine limits (I.left reader.old) f) }
-    // However it ends, no more than 65,536 bytes were read for each turn.
-    ensures few { WithinTurns turns (I.left reader.old) (I.left reader.new) }
-    // No failure of the reader is passed over where there are counts.
-    ensures read_whole { OnOk result (I.failed reader.new ≡ false) }
+    ensures memory { IfFound result (λ f. RanOut f → ReachesLine limits (I.left reader.old) f) }
     // It is a fault of the writer exactly where the writer failed or took no byte.
     ensures write_fault { result ≡ Err ReplayFault.Write → O.failed writer.new ≡ true }
     ensures written { result ≢ Err ReplayFault.Write → O.failed writer.new ≡ false }

@@ -4,21 +4,29 @@ use event_core::Refusal;
 use rapid_text::{Cause, TextFault};
 use thiserror::Error;
 
-/// Why a text has no report.
+/// Why a text is no legal trace, or was not judged to its end.
 #[derive(Clone, Copy, Debug, PartialEq, Eq, Error)]
-pub enum ReplayFault {
+pub enum TraceFault {
     /// A line is no event, a read failed, or the turns were used up.
     #[error(transparent)]
     Text(TextFault),
     /// The event of the line is refused.
     #[error("line {line}: {refusal}")]
     Refused { line: u64, refusal: Refusal },
+}
+
+/// Why a text has no report.
+#[derive(Clone, Copy, Debug, PartialEq, Eq, Error)]
+pub enum ReplayFault {
+    /// This was found in the text.
+    #[error(transparent)]
+    Found(TraceFault),
     /// A write failed.
     #[error("the report could not be written")]
     Write,
 }
 
-impl ReplayFault {
+impl TraceFault {
     ghost use Rattle.std.specs.Prelude.{◌≡◌, ◌↔◌, true, IsNone, IfSome};
     ghost use Rattle.rapid_text.specs.Faults.{fault_line};
     ghost use Rattle.trace_report.specs.Replayed.{gives_up, fault_text};
@@ -26,18 +34,17 @@ impl ReplayFault {
     /// Its line and its name; none, where it says nothing of the text.
     pub(crate) fn line_and_word(self) -> Option<(u64, &'static str)>
         ensures none { IsNone result ↔ (gives_up self ≡ true) }
-        ensures some { IfSome result (λ told. fault_line told.0 told.1.now ≡ fault_text self) }
+        ensures some { IfSome result (λ named. fault_line named.0 named.1.now ≡ fault_text self) }
     {
         match self {
-            ReplayFault::Text(fault) => match fault.cause {
+            TraceFault::Text(fault) => match fault.cause {
                 Cause::Read | Cause::OutOfMemory => None,
                 cause => Some((fault.line, cause.word())),
             },
-            ReplayFault::Refused { line, refusal } => match refusal {
+            TraceFault::Refused { line, refusal } => match refusal {
                 Refusal::OutOfMemory => None,
                 refusal => Some((line, refusal_word(refusal))),
             },
-            ReplayFault::Write => None,
         }
     }
 }

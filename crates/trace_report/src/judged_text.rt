@@ -6,10 +6,9 @@ ghost use Rattle.event_core.specs.declared.bounds.Limits.{Limits as Bounds};
 ghost use Rattle.event_core.specs.declared.events.Event.{Event as Entry};
 ghost use Rattle.rapid_text.specs.Cutting.{begun, judged};
 ghost use Rattle.rapid_text.specs.declared.causes.Cause.TheVariants.{Read};
-ghost use Rattle.trace_report.specs.declared.faults.ReplayFault.TheVariants.{Write};
-ghost use Rattle.trace_report.specs.Feeding.{Says, Takes, Stops, Ends, is_short};
+ghost use Rattle.trace_report.specs.Feeding.{Says, Takes, Stops, Ends, is_read_fault};
 
-use crate::faults::ReplayFault;
+use crate::faults::TraceFault;
 use crate::judge::Judge;
 use event_core::Limits;
 use rapid_text::{Cutter, Sink};
@@ -25,7 +24,7 @@ fn rest_after(piece: &[u8], used: usize) -> &[u8]
 }
 
 /// Takes the lines that end in the piece, up to the first that has no event or whose event is refused.
-fn feed_lines<J: Judge>(cutter: &mut Cutter, judge: &mut J, piece: &[u8]) -> Result<(), ReplayFault>
+fn feed_lines<J: Judge>(cutter: &mut Cutter, judge: &mut J, piece: &[u8]) -> Result<(), TraceFault>
     requires live { cutter.old.failed ≡ None }
     ensures ok { OnOk result
         (Takes (J.is_after judge.old) (J.is_after judge.new) cutter.old piece.now [] cutter.new) }
@@ -35,13 +34,13 @@ fn feed_lines<J: Judge>(cutter: &mut Cutter, judge: &mut J, piece: &[u8]) -> Res
     'lines: loop {
         let (used, event) = match cutter.push(rest) {
             Ok(pushed) => pushed,
-            Err(fault) => return Err(ReplayFault::Text(fault)),
+            Err(fault) => return Err(TraceFault::Text(fault)),
         };
         let Some(event) = event else {
             return Ok(());
         };
         if let Err(refusal) = judge.judge(&event) {
-            return Err(ReplayFault::Refused {
+            return Err(TraceFault::Refused {
                 line: cutter.line(),
                 refusal,
             });
@@ -51,25 +50,24 @@ fn feed_lines<J: Judge>(cutter: &mut Cutter, judge: &mut J, piece: &[u8]) -> Res
 }
 
 /// Takes the line whose end was not seen as the last one.
-fn finish_lines<J: Judge>(cutter: &mut Cutter, judge: &mut J) -> Result<(), ReplayFault>
+fn finish_lines<J: Judge>(cutter: &mut Cutter, judge: &mut J) -> Result<(), TraceFault>
     requires live { cutter.old.failed ≡ None }
     ensures live { OnOk result (cutter.new.failed ≡ None) }
     ensures ok { OnOk result ((m : Bounds) (log : List Entry) → J.is_after judge.old m log
         → Ends m (J.is_after judge.new m) cutter.old log cutter.new.names) }
     ensures fault { IfErr result (λ f. (m : Bounds) (log : List Entry) → J.is_after judge.old m log
         → Says m log (judged cutter.old []) f) }
-    ensures whole { IfErr result (λ f. is_short f ≡ false) }
-    ensures unwritten { result ≢ Err ReplayFault.Write }
+    ensures whole { IfErr result (λ f. is_read_fault f ≡ false) }
 {
     let event = match cutter.finish() {
         Ok(event) => event,
-        Err(fault) => return Err(ReplayFault::Text(fault)),
+        Err(fault) => return Err(TraceFault::Text(fault)),
     };
     let Some(event) = event else {
         return Ok(());
     };
     if let Err(refusal) = judge.judge(&event) {
-        return Err(ReplayFault::Refused {
+        return Err(TraceFault::Refused {
             line: cutter.line(),
             refusal,
         });
@@ -82,9 +80,8 @@ fn finish_lines<J: Judge>(cutter: &mut Cutter, judge: &mut J) -> Result<(), Repl
 pub struct JudgedText<J> {
     pub cutter: Cutter,
     pub judge: J,
-    pub fault: Option<ReplayFault>,
+    pub fault: Option<TraceFault>,
     ghost live: { fault ≡ None → cutter.failed ≡ None },
-    ghost unwritten: { fault ≢ Some Write },
 }
 
 impl<J: Judge> JudgedText<J> {
@@ -124,25 +121,24 @@ impl<J: Judge> JudgedText<J> {
     /// stands.
     pub fn read_failed(&mut self)
         ensures fault { self.old.fault ≡ None → self.new.fault
-            ≡ Some (ReplayFault.Text (record { line = self.old.cutter.unfinished; cause = Read })) }
+            ≡ Some (TraceFault.Text (record { line = self.old.cutter.unfinished; cause = Read })) }
         ensures again { self.old.fault ≢ None → self.new ≡ self.old }
         ensures judge { self.new.judge ≡ self.old.judge }
     {
         if self.fault.is_none() {
-            self.fault = Some(ReplayFault::Text(self.cutter.read_failed()));
+            self.fault = Some(TraceFault::Text(self.cutter.read_failed()));
         }
     }
 
     /// Ends the text: the line whose end was not seen is the last one. With a fault it takes nothing.
-    pub fn end(&mut self) -> Result<(), ReplayFault>
+    pub fn end(&mut self) -> Result<(), TraceFault>
         ensures ok { OnOk result ((m : Bounds) (log : List Entry) → J.is_after self.old.judge m log
             → Ends m (J.is_after self.new.judge m) self.old.cutter log self.new.cutter.names) }
         ensures fault { self.old.fault ≡ None → IfErr result (λ f. (m : Bounds) (log : List Entry)
             → J.is_after self.old.judge m log → Says m log (judged self.old.cutter []) f) }
-        ensures whole { IfErr result (λ f. is_short f ≡ true → self.old.fault ≡ Some f) }
+        ensures whole { IfErr result (λ f. is_read_fault f ≡ true → self.old.fault ≡ Some f) }
         ensures stands { OnOk result (self.old.fault ≡ None) }
         ensures answered { IfErr result (λ f. IfSome self.old.fault (λ g. f ≡ g)) }
-        ensures unwritten { result ≢ Err ReplayFault.Write }
     {
         if let Some(fault) = self.fault {
             return Err(fault);

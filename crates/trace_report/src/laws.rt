@@ -1,12 +1,12 @@
 //! What a finding says of the log that a text makes. A law's function does nothing, and its clauses are the
 //! law.
-ghost use Rattle.std.specs.Prelude.{◌≡◌, ◌≢◌, ◌↔◌, ℕ, List, Ok, Err};
+ghost use Rattle.std.specs.Prelude.{◌≡◌, ◌↔◌, ℕ, List, Ok, Err};
 ghost use Rattle.event_core.specs.declared.bounds.Limits.{Limits};
 ghost use Rattle.event_core.specs.declared.replies.Refusal.{Refusal as Why};
 ghost use Rattle.rapid_text.specs.declared.causes.TextFault.{TextFault as Fault};
 ghost use Rattle.rapid_text.specs.Tables.{no_names};
 ghost use Rattle.rapid_text.specs.Texts.{judgement};
-ghost use Rattle.trace_report.specs.declared.faults.ReplayFault.TheVariants.{Text, Refused, Write};
+ghost use Rattle.trace_report.specs.declared.faults.TraceFault.TheVariants.{Text, Refused};
 ghost use Rattle.trace_report.specs.Findings.{Trace, finding};
 ghost use Rattle.trace_report.specs.Findings.{IsLegalTrace, IsFirstRefused, IsFirstFault};
 
@@ -23,6 +23,4 @@ pub fn finding_is_the_first()
     // A fault is found exactly where the text stops with it and all events before it make a well-formed log.
     ensures fault { (m : Limits) (text : List ℕ) (f : Fault)
         → (finding m text ≡ Err (Text f)) ↔ IsFirstFault m (judgement (no_names m) text) f }
-    // There is nothing else that a text comes to.
-    ensures only { (m : Limits) (text : List ℕ) → finding m text ≢ Err Write }
 {}

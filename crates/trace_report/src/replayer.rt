@@ -5,11 +5,11 @@ ghost use Rattle.std.specs.Prelude.{IfOk, IfErr, IfSome, IsTrue, ◌<◌};
 ghost use Rattle.rapid_text.specs.Cutting.{most};
 ghost use Rattle.rapid_text.specs.Taking.{Advances, place_of};
 ghost use Rattle.rapid_text.specs.declared.causes.Cause.TheVariants.{Read};
-ghost use Rattle.trace_report.specs.Replayed.{fault_gives_up, answer_gives_up, Told};
+ghost use Rattle.trace_report.specs.Replayed.{fault_gives_up, answer_gives_up, IfFound, Told};
 ghost use Rattle.trace_report.specs.Replaying.{unfed, after, ReachesIn};
-ghost use Rattle.trace_report.specs.Feeding.{RanOut, is_short};
+ghost use Rattle.trace_report.specs.Feeding.{RanOut, is_read_fault};
 
-use crate::faults::ReplayFault;
+use crate::faults::{ReplayFault, TraceFault};
 use crate::judged_text::JudgedText;
 use crate::summary::Summary;
 use crate::telling::{tell_failure, tell_trace};
@@ -55,13 +55,13 @@ impl Replayer {
 
     /// Takes a piece of the text. It answers whether no fault stands; with a fault it takes nothing.
     pub fn feed(&mut self, piece: &[u8]) -> bool
-        // Whatever follows, the text comes to the same as before; but for a read or a growth that failed.
+        // Whatever follows, the text comes to the same as before, unless a read or a growth failed.
         ensures law { fault_gives_up self.new.fault ≡ false
             → (more : List ℕ) → after self.new more ≡ after self.old (piece.now ++ more) }
         ensures stands { IsTrue result ↔ (self.new.fault ≡ None) }
         ensures again { self.old.fault ≢ None → self.new ≡ self.old }
         // It is a read fault only where the pieces have more bytes than a cutter takes.
-        ensures read { self.old.fault ≡ None → IfSome self.new.fault (λ f. is_short f ≡ true
+        ensures read { self.old.fault ≡ None → IfSome self.new.fault (λ f. is_read_fault f ≡ true
             → most < self.old.text.taken + length piece.now) }
         // Memory ran out at a line still to be judged, which has an event, whatever follows. No event of a
         // line before is refused, nor is the line's own unless memory ran out for its names.
@@ -77,7 +77,7 @@ impl Replayer {
     /// stands.
     pub fn read_failed(&mut self)
         ensures fault { self.old.fault ≡ None → self.new.fault
-            ≡ Some (ReplayFault.Text (record { line = self.old.text.unfinished; cause = Read })) }
+            ≡ Some (TraceFault.Text (record { line = self.old.text.unfinished; cause = Read })) }
         ensures again { self.old.fault ≢ None → self.new ≡ self.old }
         ensures log { self.new.log ≡ self.old.log }
     {
@@ -93,11 +93,12 @@ impl Replayer {
         ensures quiet { answer_gives_up result ≡ true → result ≢ Err ReplayFault.Write
             → writer.new ≡ writer.old }
         // A read fault is answered only where one stands.
-        ensures read { IfErr result (λ f. is_short f ≡ true → self.fault ≡ Some f) }
+        ensures read { IfFound result (λ f. is_read_fault f ≡ true → self.fault ≡ Some f) }
         // Memory ran out at the last line, which has an event, or its fault stands.
-        ensures memory { self.fault ≡ None → IfErr result (λ f. RanOut f → ReachesIn self [] f) }
+        ensures memory { self.fault ≡ None → IfFound result (λ f. RanOut f → ReachesIn self [] f) }
         // A fault that stands is the answer, unless its line could not be written.
-        ensures answered { IfSome self.fault (λ f. (result ≡ Err f) ⊎ (result ≡ Err ReplayFault.Write)) }
+        ensures answered { IfSome self.fault (λ f. (result ≡ Err (ReplayFault.Found f))
+            ⊎ (result ≡ Err ReplayFault.Write)) }
         // It is a fault of the writer exactly where the writer failed or took no byte.
         ensures healthy { result ≢ Err ReplayFault.Write → W.failed writer.new ≡ W.failed writer.old }
         ensures failed { result ≡ Err ReplayFault.Write → W.failed writer.new ≡ true }

@@ -1,10 +1,9 @@
 //! The replay of a trace, from the bytes of a reader to its report.
-ghost use Rattle.std.specs.Prelude.{◌≡◌, ◌≢◌, ◌⊎◌, ◌≤◌, Err, true, false, IfErr, IfSome, OnOk, length};
-ghost use Rattle.rapid_text.specs.Turns.{WithinTurns};
-ghost use Rattle.trace_report.specs.Replayed.{answer_gives_up, TellsText};
-ghost use Rattle.trace_report.specs.Feeding.{IsCutAt, RanOut, ReachesLine, is_short, line_of};
+ghost use Rattle.std.specs.Prelude.{◌≡◌, ◌≢◌, ◌⊎◌, ◌≤◌, Err, true, false};
+ghost use Rattle.trace_report.specs.Replayed.{answer_gives_up, IfFound, TellsText};
+ghost use Rattle.trace_report.specs.Feeding.{HasRead, RanOut, ReachesLine, line_of};
 
-use crate::faults::ReplayFault;
+use crate::faults::{ReplayFault, TraceFault};
 use crate::summary::Summary;
 use crate::telling::{tell_failure, tell_trace};
 use crate::whole_text::judge_text;
@@ -33,30 +32,25 @@ pub fn replay<I: Input, O: Output>(
     // the answer. A reader that does not tell its text had some text left of which this holds.
     ensures tells { answer_gives_up result ≡ false → TellsText limits (I.left reader.old)
         (O.written writer.old) (O.written writer.new) result }
+    // Nothing is written where the answer says nothing of the text.
     ensures quiet { answer_gives_up result ≡ true → result ≢ Err ReplayFault.Write → writer.new ≡ writer.old }
-    // It is a read fault only where a read failed, or the text has as many bytes as there are turns.
-    ensures short { IfErr result (λ f. is_short f ≡ true
-        → (I.failed reader.new ≡ true) ⊎ IfSome (I.left reader.old) (λ text. turns ≤ length text)) }
     // A read fault is at the line whose end was not seen, of which at most 1,025 bytes came, since with one
     // more it is too long. No line before has a fault or a refused event.
-    ensures cut { IfErr result (λ f. is_short f ≡ true
-        → IsCutAt limits (I.left reader.old) (I.left reader.new) turns (I.failed reader.new) f) }
+    ensures reads { HasRead limits (I.left reader.old) (I.left reader.new) turns (I.failed reader.new)
+        result }
     // Memory ran out at a line with an event. No event of a line before is refused, nor is the line's own
     // unless memory ran out for its names. Or it ran out at line 1, before the first read.
-    ensures memory { IfErr result (λ f. RanOut f → ReachesLine limits (I.left reader.old) f
+    ensures memory { IfFound result (λ f. RanOut f → ReachesLine limits (I.left reader.old) f
         ⊎ ((line_of f ≡ 1) × (reader.new ≡ reader.old))) }
-    // However it ends, no more than 65,536 bytes were read for each turn.
-    ensures few { WithinTurns turns (I.left reader.old) (I.left reader.new) }
-    ensures read_whole { OnOk result (I.failed reader.new ≡ false) }
     // It is a fault of the writer exactly where the writer failed or took no byte.
     ensures write_fault { result ≡ Err ReplayFault.Write → O.failed writer.new ≡ true }
     ensures written { result ≢ Err ReplayFault.Write → O.failed writer.new ≡ false }
 {
     let Ok(monitor) = Monitor::new(alloc, limits) else {
-        return Err(ReplayFault::Refused {
+        return Err(ReplayFault::Found(TraceFault::Refused {
             line: 1,
             refusal: Refusal::OutOfMemory,
-        });
+        }));
     };
     let text = match judge_text(alloc, reader, monitor, limits, turns) {
         Ok(text) => text,

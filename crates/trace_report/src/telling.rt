@@ -4,7 +4,7 @@ ghost use Rattle.std.specs.Io.KnownBytes.{Appends};
 ghost use Rattle.trace_report.specs.Reports.{AreNamed};
 ghost use Rattle.trace_report.specs.Replayed.{answer_gives_up, fault_text, gives_up, Told};
 
-use crate::faults::ReplayFault;
+use crate::faults::{ReplayFault, TraceFault};
 use crate::reporting::report;
 use crate::summary::Summary;
 use rapid_text::{Names, Output, WriteFault, write_fault};
@@ -31,20 +31,19 @@ pub fn tell_trace<W: Output>(
 
 /// Writes the one line that tells the fault; nothing, where the fault says nothing of the text. The answer is
 /// the fault, or that the line could not be written.
-pub fn tell_failure<W: Output>(writer: &mut W, fault: ReplayFault) -> ReplayFault
-    requires unwritten { fault ≢ ReplayFault.Write }
-    ensures is { (result ≡ fault) ⊎ (result ≡ ReplayFault.Write) }
-    ensures tells { gives_up result ≡ false
-        → Appends (W.written writer.old) (W.written writer.new) (fault_text result) }
-    ensures quiet { gives_up result ≡ true → result ≢ ReplayFault.Write → writer.new ≡ writer.old }
+pub fn tell_failure<W: Output>(writer: &mut W, fault: TraceFault) -> ReplayFault
+    ensures is { (result ≡ ReplayFault.Found fault) ⊎ (result ≡ ReplayFault.Write) }
+    ensures tells { result ≡ ReplayFault.Found fault → gives_up fault ≡ false
+        → Appends (W.written writer.old) (W.written writer.new) (fault_text fault) }
+    ensures quiet { gives_up fault ≡ true → writer.new ≡ writer.old }
     ensures healthy { result ≢ ReplayFault.Write → W.failed writer.new ≡ W.failed writer.old }
     ensures failed { result ≡ ReplayFault.Write → W.failed writer.new ≡ true }
 {
     let Some((line, word)) = fault.line_and_word() else {
-        return fault;
+        return ReplayFault::Found(fault);
     };
     match write_fault(writer, line, word) {
-        Ok(()) => fault,
+        Ok(()) => ReplayFault::Found(fault),
         Err(WriteFault) => ReplayFault::Write,
     }
 }

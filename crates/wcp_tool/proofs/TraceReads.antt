@@ -1,6 +1,6 @@
 -- A trace that was not read to its end.
 use Rattle.std.proofs.Common.{◌≡◌, ℕ, List, Option, Bool, true, false, Result, Ok, Err, refl, subst, cond}
-use Rattle.std.specs.Prelude.{IfErr, nat_eq}
+use Rattle.std.specs.Prelude.{nat_eq}
 use Rattle.event_core.specs.declared.bounds.Limits.{Limits}
 use Rattle.event_core.specs.declared.replies.Refusal.{Refusal}
 use Rattle.event_core.specs.declared.replies.Refusal.TheVariants as refusals
@@ -8,9 +8,11 @@ use Rattle.rapid_text.specs.declared.causes.Cause.{Cause}
 use Rattle.rapid_text.specs.declared.causes.Cause.TheVariants as causes
 use Rattle.trace_report.specs.declared.counts.Counts.{Counts}
 use Rattle.trace_report.specs.declared.faults.ReplayFault.{ReplayFault}
-use Rattle.trace_report.specs.declared.faults.ReplayFault.TheVariants as faults
+use Rattle.trace_report.specs.declared.faults.ReplayFault.TheVariants.{Found, Write}
+use Rattle.trace_report.specs.declared.faults.TraceFault.{TraceFault}
+use Rattle.trace_report.specs.declared.faults.TraceFault.TheVariants.{Text, Refused}
 use Rattle.trace_report.specs.declared.summary.Summary.{Summary}
-use Rattle.trace_report.specs.Feeding.{IsCutAt, is_read, is_short}
+use Rattle.trace_report.specs.Feeding.{HasRead, IsCutAt, is_read, is_read_fault}
 use Rattle.wcp_tool.specs.declared.endings.Ending.TheVariants.{Done, Races, ReadFault}
 use Rattle.wcp_tool.specs.Endings.{cause_ending, check_ending, fault_ending, refusal_ending, replay_ending}
 use Rattle.wcp_tool.specs.Running.{CutsTrace}
@@ -35,26 +37,25 @@ no_read refusals.TargetNotStarted e = cc
 no_read refusals.LogFull e = cc
 no_read refusals.OutOfMemory e = cc
 
-short_where_read : (f : ReplayFault) → fault_ending f ≡ ReadFault → is_short f ≡ true
-short_where_read (faults.Text f) e = read_cause f.cause e
-short_where_read (faults.Refused line r) e = absurd (no_read r e)
-short_where_read faults.Write e = absurd (cc)
-
-cuts : (m n : Limits) (left rest : Option (List ℕ)) (failed : Bool) (f : ReplayFault) → m ≡ n
-    → fault_ending f ≡ ReadFault → (is_short f ≡ true → IsCutAt m left rest 17592186044416 failed f)
-    → CutsTrace n left rest failed
+-- a fault that ends the program so is a read fault
+cuts : (m n : Limits) (left rest : Option (List ℕ)) (failed : Bool) (f : TraceFault) → m ≡ n
+    → fault_ending (Found f) ≡ ReadFault
+    → (is_read_fault f ≡ true → IsCutAt m left rest 17592186044416 failed f) → CutsTrace n left rest failed
 cuts m n left rest failed f same e cut = record {
   fault = f;
-  is = subst (λ (l : Limits). IsCutAt l left rest 17592186044416 failed f) same
-      (cut (short_where_read f e));
+  is = subst (λ (l : Limits). IsCutAt l left rest 17592186044416 failed f) same (cut (is_read_where f e));
 }
+  where
+    is_read_where : (f : TraceFault) → fault_ending (Found f) ≡ ReadFault → is_read_fault f ≡ true
+    is_read_where (Text f) e = read_cause f.cause e
+    is_read_where (Refused line r) e = absurd (no_read r e)
 
 pub check_cuts : (m n : Limits) (left rest : Option (List ℕ)) (failed : Bool) (r : Result Counts ReplayFault)
-    → m ≡ n → check_ending r ≡ ReadFault
-    → IfErr r (λ f. is_short f ≡ true → IsCutAt m left rest 17592186044416 failed f)
+    → m ≡ n → check_ending r ≡ ReadFault → HasRead m left rest 17592186044416 failed r
     → CutsTrace n left rest failed
-check_cuts m n left rest failed (Ok counts) same e cut = absurd (cc)
-check_cuts m n left rest failed (Err f) same e cut = cuts m n left rest failed f same e cut
+check_cuts m n left rest failed (Ok counts) same e reads = absurd (cc)
+check_cuts m n left rest failed (Err (Found f)) same e reads = cuts m n left rest failed f same e reads.cut
+check_cuts m n left rest failed (Err Write) same e reads = absurd (cc)
 
 summary_reads : (b : Bool) → cond b Done Races ≡ ReadFault → ⊥
 summary_reads true e = cc
@@ -62,7 +63,7 @@ summary_reads false e = cc
 
 pub replay_cuts : (m n : Limits) (left rest : Option (List ℕ)) (failed : Bool)
     (r : Result Summary ReplayFault) → m ≡ n → replay_ending r ≡ ReadFault
-    → IfErr r (λ f. is_short f ≡ true → IsCutAt m left rest 17592186044416 failed f)
-    → CutsTrace n left rest failed
-replay_cuts m n left rest failed (Ok summary) same e cut = absurd (summary_reads (nat_eq summary.races 0) e)
-replay_cuts m n left rest failed (Err f) same e cut = cuts m n left rest failed f same e cut
+    → HasRead m left rest 17592186044416 failed r → CutsTrace n left rest failed
+replay_cuts m n left rest failed (Ok summary) same e reads = absurd (summary_reads (nat_eq summary.races 0) e)
+replay_cuts m n left rest failed (Err (Found f)) same e reads = cuts m n left rest failed f same e reads.cut
+replay_cuts m n left rest failed (Err Write) same e reads = absurd (cc)

@@ -2,16 +2,16 @@
 use Rattle.std.specs.Prelude.{◌≡◌, ◌≢◌, ◌⊎◌, ℕ, List, [], Option, Some, None, Bool, true, false, Result}
 use Rattle.std.specs.Prelude.{IsSomeAnd}
 use Rattle.std.specs.List.{list_any}
-use Rattle.std.specs.Io.KnownBytes.{Appends}
 use Rattle.event_core.specs.declared.bounds.Limits.{Limits}
 use Rattle.event_core.specs.declared.bounds.Roots.{Roots}
 use Rattle.event_core.specs.declared.bounds.Roots.TheVariants.{Free, OnlyMain}
 use Rattle.clap.specs.Words.{Kinds, Text}
 use Rattle.script_text.specs.Readings.{ReadFails}
 use Rattle.trace_report.specs.declared.faults.ReplayFault.{ReplayFault}
+use Rattle.trace_report.specs.declared.faults.TraceFault.{TraceFault}
 use Rattle.trace_report.specs.declared.summary.Summary.{Summary}
 use Rattle.trace_report.specs.declared.counts.Counts.{Counts}
-use Rattle.trace_report.specs.Checked.{AnswersText, told}
+use Rattle.trace_report.specs.Checked.{ChecksText}
 use Rattle.trace_report.specs.Feeding.{IsCutAt}
 use Rattle.trace_report.specs.Replayed.{TellsText, answer_gives_up}
 use Rattle.wcp_tool.specs.declared.requests.UsageFault.{UsageFault}
@@ -38,9 +38,8 @@ limits_with threads roots = record {
 -- ends the program. Where the reader tells the text that it had left, it is that whole text.
 pub record Checks (m : Limits) (left old new : Option (List ℕ)) (status : ℕ) : Type 0 where
   pub answer : Result Counts ReplayFault
-  pub is_for : AnswersText m left answer
   pub says : answer_gives_up answer ≡ false
-  pub written : Appends old new (told answer)
+  pub checks : ChecksText m left old new answer
   pub ends : status ≡ status_of (check_ending answer)
 
 -- a text was replayed: what was written tells what it comes to, its report or its one fault line, and so ends
@@ -79,7 +78,7 @@ Performs opens text (run path) threads left old new status =
 -- of a trace: a read failed or it has as many bytes as there are turns, and no line that came whole has a
 -- fault or an event that is refused
 pub record CutsTrace (m : Limits) (left rest : Option (List ℕ)) (failed : Bool) : Type 0 where
-  pub fault : ReplayFault
+  pub fault : TraceFault
   pub is : IsCutAt m left rest 17592186044416 failed fault
 
 -- of a script: a read failed or it has as many bytes as there are turns, and no line that came whole has a

@@ -5,7 +5,7 @@ ghost use Rattle.wcp_tool.specs.Endings.{summary_ending as for_summary};
 
 use event_core::Refusal;
 use rapid_text::{Cause, Output, write_all};
-use trace_report::{Counts, ReplayFault, Summary};
+use trace_report::{Counts, ReplayFault, Summary, TraceFault};
 
 /// How the program ends.
 #[derive(Clone, Copy)]
@@ -73,15 +73,18 @@ fn fault_ending(fault: ReplayFault) -> Ending
     ensures { result ≡ for_fault fault }
 {
     match fault {
-        ReplayFault::Text(fault) => match fault.cause {
+        ReplayFault::Found(TraceFault::Text(fault)) => match fault.cause {
             Cause::Read => Ending::ReadFault,
             Cause::OutOfMemory => Ending::OutOfMemory,
             Cause::Line(_) | Cause::TooManyNames(_) | Cause::Failed => Ending::Refused,
         },
-        ReplayFault::Refused { refusal, .. } if refusal == Refusal::OutOfMemory => {
-            Ending::OutOfMemory
+        ReplayFault::Found(TraceFault::Refused { refusal, .. }) => {
+            if refusal == Refusal::OutOfMemory {
+                Ending::OutOfMemory
+            } else {
+                Ending::Refused
+            }
         }
-        ReplayFault::Refused { .. } => Ending::Refused,
         ReplayFault::Write => Ending::WriteFault,
     }
 }

@@ -1,4 +1,4 @@
-use Rattle.trace_report.proofs.Found.{legal_found, fault_found, refused_found, nothing_else}
+use Rattle.trace_report.proofs.Found.{legal_found, fault_found, refused_found}
 use Rattle.trace_report.proofs.laws.finding_is_the_first.Goals as goal
 
 pub returns : goal.returns
@@ -6,5 +6,4 @@ returns c = record {
   trace = legal_found;
   refused = refused_found;
   fault = fault_found;
-  only = nothing_else;
 }

@@ -1,5 +1,4 @@
-use Rattle.trace_report.proofs.Whole.{trace_is_found, end_is_found, stood_short}
-use Rattle.trace_report.specs.Feeding.{IsCutAt}
+use Rattle.trace_report.proofs.Whole.{trace_is_found, end_is_found, stood}
 use Rattle.trace_report.proofs.whole_text.judge_text.Goals as goal
 
 pub returns-in-Err-clause-fault : goal.returns-in-Err-clause-fault
@@ -10,17 +9,10 @@ returns-in-Err-clause-fault g c =
     c.read_text-text.ensures.fed c.read_text-text.ensures.fault
     (λ none log. c.in-Err.ensures.fault none c.args.limits log) c.in-Err.ensures.answered
 
-pub returns-in-Err-clause-short : goal.returns-in-Err-clause-short
-returns-in-Err-clause-short g c short =
-    stood_short _ c.read_text-text.result.fault c.in-Err.fault c.read_text-text.ensures.short
-    (c.in-Err.ensures.whole short) short
-
 pub returns-in-Err-clause-cut : goal.returns-in-Err-clause-cut
-returns-in-Err-clause-cut g c short =
-    stood_short (IsCutAt c.args.limits (g.I.Input.left c.args.reader.now)
-    (g.I.Input.left c.read_text-text.new.reader) c.args.turns (g.I.Input.failed c.read_text-text.new.reader))
-    c.read_text-text.result.fault c.in-Err.fault c.read_text-text.ensures.cut (c.in-Err.ensures.whole short)
-    short
+returns-in-Err-clause-cut g c fault =
+    stood _ c.read_text-text.result.fault c.in-Err.fault c.read_text-text.ensures.cut
+    (c.in-Err.ensures.whole fault) fault
 
 pub returns-clause-trace : goal.returns-clause-trace
 returns-clause-trace g c =
