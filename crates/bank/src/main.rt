@@ -1,18 +1,17 @@
-//! A bank, monitored while it runs: three tellers move money between four accounts, each under its own lock,
-//! and the manager looks at one account without its lock. Standard output has the same in every schedule; the
-//! report goes to standard error, since its races are those of one schedule.
+//! A bank, monitored while it runs: three tellers move money between accounts, each under its own lock, and
+//! the manager looks at one without. The report, of one schedule, goes to standard error.
 #![tactic(auto)]
 
 ghost use Rattle.std.specs.Prelude.{◌≡◌};
 
 use closed_report::{Device, NameLists, names_of, report_closed};
 use event_core::{Limits, LockId, Refusal, Roots, SiteId, ThreadId, VarId};
-use live_monitor::{Closed, Tries, Unnamed, start};
+use live_monitor::{Closed, Unnamed, start};
 use log_pass::Name;
 use std::marker::Brand;
 use std::process::ExitCode;
 use std::sync::Wait;
-use std::thread::{Threads, join};
+use std::thread::{Threads, for_each_mut};
 use traced_thread::TracedThread;
 
 const ACCOUNTS: u32 = 4;
@@ -31,35 +30,24 @@ const NAMES: NameLists<'static> = NameLists {
     sites: &["desk", "move", "look"],
 };
 
-/// Moves money between two accounts, under both locks. The lesser lock is acquired first.
-fn transfer<N: Name, R: Wait>(
-    rt: &R,
-    teller: &mut TracedThread<N>,
-    from: u32,
-    to: u32,
-) -> Result<(), Refusal> {
-    teller.acquire_within(rt, LockId(from.min(to)), MOVE, &mut Tries::of(1_000_000))?;
-    teller.acquire_within(rt, LockId(from.max(to)), MOVE, &mut Tries::of(1_000_000))?;
-    let balance = teller.load(rt, VarId(from), MOVE)?.value;
-    let amount = balance.min(10);
-    teller.store(rt, VarId(from), balance - amount, MOVE)?;
-    let balance = teller.load(rt, VarId(to), MOVE)?.value;
-    teller.store(rt, VarId(to), balance.saturating_add(amount), MOVE)?;
-    teller.release(rt, LockId(from), MOVE)?;
-    teller.release(rt, LockId(to), MOVE)?;
-    Ok(())
-}
-
-/// A teller's day: each transfer is to the account that lies so many further on.
+/// A teller's day: transfers, each under both locks, to the account that lies so many further on.
 fn work<N: Name, R: Wait>(rt: &R, teller: &mut TracedThread<N>, step: u32) -> Result<(), Refusal> {
     for round in 0..50 {
         let from = round % ACCOUNTS;
-        transfer(rt, teller, from, (from + step % ACCOUNTS) % ACCOUNTS)?;
+        let to = (from + step % ACCOUNTS) % ACCOUNTS;
+        // The lesser lock is acquired first. Both are released at the end of the round, and by `?`.
+        let mut one = teller.lock_up_to(rt, LockId(from.min(to)), MOVE, 1_000_000)?;
+        let mut both = one.lock_up_to(LockId(from.max(to)), MOVE, 1_000_000)?;
+        let balance = both.load(VarId(from), MOVE)?.value;
+        let amount = balance.min(10);
+        both.store(VarId(from), balance - amount, MOVE)?;
+        let balance = both.load(VarId(to), MOVE)?.value;
+        both.store(VarId(to), balance.saturating_add(amount), MOVE)?;
     }
     Ok(())
 }
 
-/// Opens the accounts, lets the tellers work while the manager looks, and counts the money.
+/// Opens the accounts, lets the tellers work, looks at an account, and counts the money.
 fn day<N: Name + Send + Sync, R: Threads + Wait + Sync>(
     rt: &R,
     manager: &mut TracedThread<N>,
@@ -67,22 +55,17 @@ fn day<N: Name + Send + Sync, R: Threads + Wait + Sync>(
     for account in 0..ACCOUNTS {
         manager.store(rt, VarId(account), 100, DESK)?;
     }
-    let (mut first, _) = manager.fork(rt, ThreadId(1), DESK)?;
-    let (mut second, _) = manager.fork(rt, ThreadId(2), DESK)?;
-    let (mut third, _) = manager.fork(rt, ThreadId(3), DESK)?;
-    let (both, (by_third, look)) = join(
-        rt,
-        || join(rt, || work(rt, &mut first, 1), || work(rt, &mut second, 2)),
-        || join(
-            rt,
-            || work(rt, &mut third, 3),
-            || manager.load(rt, VarId(0), LOOK),
-        ),
-    );
-    both.0.and(both.1).and(by_third).and(look)?;
-    manager.join(rt, first, DESK)?;
-    manager.join(rt, second, DESK)?;
-    manager.join(rt, third, DESK)?;
+    let mut crew = [
+        (1, manager.fork(rt, ThreadId(1), DESK)?.0, Ok(())),
+        (2, manager.fork(rt, ThreadId(2), DESK)?.0, Ok(())),
+        (3, manager.fork(rt, ThreadId(3), DESK)?.0, Ok(())),
+    ];
+    for_each_mut(rt, &mut crew, 3, &|_, it| it.2 = work(rt, &mut it.1, it.0));
+    manager.load(rt, VarId(0), LOOK)?;
+    for (_, teller, day) in crew {
+        day?;
+        manager.join(rt, teller, DESK)?;
+    }
     let mut money = 0u64;
     for account in 0..ACCOUNTS {
         money = money.saturating_add(manager.load(rt, VarId(account), DESK)?.value);
@@ -111,8 +94,7 @@ fn main(rt: HostRuntime) -> anyhow::Result<ExitCode> {
     let unnamed = Unnamed::new(rt.alloc(), limits)?;
     let (closed, money) = run::<Brand, _>(&rt, unnamed);
     let summary = report_closed(&mut Device::new(rt.stderr()), &closed, &names)?;
-    let money = money?;
     let found = if summary.races > 0 { "yes" } else { "no" };
-    println!(rt; "all money: {money}\na race was found: {found}")?;
+    println!(rt; "all money: {}\na race was found: {found}", money?)?;
     Ok(ExitCode::from(u8::from(summary.races > 0)))
 }

@@ -1,7 +1,8 @@
 //! Names for the numbers that a program chose, by lists.
 ghost use Rattle.std.specs.Prelude.{◌≡◌, [], true, ◌↔◌, IfOk, IfErr, OnOk, OnErr, map};
 ghost use Rattle.rapid_text.specs.Tables.{IsNameOf, no_names, space, with_space};
-ghost use Rattle.closed_report.specs.NameLists.{names_in, numbered, AreNone, IsFaultAt, IsFaultIn, IsFaultOf, IsNext};
+ghost use Rattle.closed_report.specs.NameLists.{names_in, numbered, AreNone, IsNext};
+ghost use Rattle.closed_report.specs.NameLists.{IsFaultAt, IsFaultIn, IsFaultOf};
 
 use event_core::Limits;
 use rapid_line::contains;

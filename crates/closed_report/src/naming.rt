@@ -16,7 +16,7 @@ pub fn is_named(names: &Names, event: &Event) -> bool
     unnamed_number(names, event).is_none()
 }
 
-/// A number of the event that has no name, if there is one: its thread's, then its operation's, then its site's.
+/// A number of the event that has no name, if there is one: its thread's, its operation's or its site's.
 fn unnamed_number(names: &Names, event: &Event) -> Option<(Kind, u32)>
     ensures none { IsNone result ↔ HasNames names.now event.now }
     ensures has { IfSome result (λ of. HasNumber event.now of.0 of.1) }

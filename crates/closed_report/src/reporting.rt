@@ -23,9 +23,9 @@ pub enum ReportFault {
     Write,
 }
 
-/// Writes the report of the closed log, as `wcp replay` writes that of a trace. Its lines count events from 1,
-/// where indices and `Racy` count from 0. It takes no memory. The fault is `Unnamed`, with nothing written,
-/// where a number has no name, and `Write` where the writer failed.
+/// Writes the report of the closed log, as `wcp replay` writes that of a trace. Its lines count events from
+/// 1, where indices and `Racy` count from 0. It takes no memory. The fault is `Unnamed`, with nothing
+/// written, where a number has no name, and `Write` where the writer failed.
 pub fn report_closed<W: Output>(
     writer: &mut W,
     closed: &Closed,

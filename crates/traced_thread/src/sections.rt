@@ -67,9 +67,11 @@ impl<'h, 'm, N: Name, R: Wait> Section<'h, 'm, N, R> {
         ensures same_lock { (self.new.lock ≡ self.old.lock) × (self.new.site ≡ self.old.site) }
         ensures later { HasComeTo N.limits self.old.thread.now self.new.thread.now }
         ensures accepted { IfOk result (λ reply. Accepted N.limits
-            (store_by self.old.thread.now.thread var value site) self.old.thread.now self.new.thread.now reply) }
+            (store_by self.old.thread.now.thread var value site)
+            self.old.thread.now self.new.thread.now reply) }
         ensures declined { IfErr result (λ answer. Declined N.limits
-            (store_by self.old.thread.now.thread var value site) self.old.thread.now self.new.thread.now answer) }
+            (store_by self.old.thread.now.thread var value site)
+            self.old.thread.now self.new.thread.now answer) }
     {
         self.thread.store(self.rt, var, value, site)
     }
@@ -158,7 +160,8 @@ impl<'h, 'm, N: Name, R: Wait> Section<'h, 'm, N, R> {
 }
 
 impl<'m, N: Name> TracedThread<'m, N> {
-    /// Begins a section. It is refused while another thread holds the lock.
+    /// Begins a section. It is refused while another thread holds the lock. No clause tells what the handle has
+    /// then seen where no section begins; those of `acquire` do.
     #[inline(always)]
     pub fn lock<'h, R: Wait>(
         &'h mut self,

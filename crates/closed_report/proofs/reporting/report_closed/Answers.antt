@@ -14,7 +14,8 @@ returns-in-Err-clause-unnamed g c =
     let first : IsFirst c.args.names.now c.log-log.result.now.events c.in-Err.fault = search rules in
     let none : AreNamed c.args.names.now c.log-log.result.now.events → ⊥ = search rules in
     told c.args.names.now c.log-log.result.now.events c.in-Err.fault first
-    (λ named. none (subst (λ (l : List Event). AreNamed c.args.names.now l) (sym c.log-log.ensures.log) named))
+    (λ named. none (subst (λ (l : List Event). AreNamed c.args.names.now l) (sym c.log-log.ensures.log)
+    named))
 
 pub returns-in-Err-clause-first : goal.returns-in-Err-clause-first
 returns-in-Err-clause-first g c =
