@@ -79,7 +79,11 @@ const CASES: &[Case] = &[
         has_swaps: true,
         lists: ONE_THREAD,
         has_room: true,
-        answer: Err(ReportFault::Unnamed),
+        answer: Err(ReportFault::Unnamed {
+            kind: Kind::Thread,
+            number: 1,
+            event: 0,
+        }),
         written: "",
     },
     Case {
@@ -87,7 +91,11 @@ const CASES: &[Case] = &[
         has_swaps: true,
         lists: NO_VARIABLE,
         has_room: true,
-        answer: Err(ReportFault::Unnamed),
+        answer: Err(ReportFault::Unnamed {
+            kind: Kind::Variable,
+            number: 0,
+            event: 1,
+        }),
         written: "",
     },
     Case {
@@ -95,7 +103,11 @@ const CASES: &[Case] = &[
         has_swaps: true,
         lists: TWO_SITES,
         has_room: true,
-        answer: Err(ReportFault::Unnamed),
+        answer: Err(ReportFault::Unnamed {
+            kind: Kind::Site,
+            number: 2,
+            event: 3,
+        }),
         written: "",
     },
     Case {

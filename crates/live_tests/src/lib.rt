@@ -22,4 +22,6 @@ mod releases;
 #[cfg(test)]
 mod rows;
 #[cfg(test)]
+mod sections;
+#[cfg(test)]
 mod threads;
