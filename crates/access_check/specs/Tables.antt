@@ -2,7 +2,6 @@
 use Rattle.std.specs.Prelude.{ℕ, ◌+◌, ◌*◌, ◌≡◌, ◌<◌, ◌≤◌, List, [], Option, Some, None, IsTrue, cond}
 use Rattle.std.specs.Prelude.{nat_eq, length, max, slice_index, slice_index_or}
 use Rattle.event_core.specs.declared.ids.ThreadId.{ThreadId}
-use Rattle.event_core.specs.declared.ids.VarId.{VarId}
 use Rattle.event_core.specs.declared.events.Event.{Event}
 use Rattle.event_core.specs.declared.events.Op.{Op}
 use Rattle.event_core.specs.declared.events.Op.TheVariants.{Load, Store}
@@ -59,10 +58,6 @@ RoomFor vars t _ = Unit {0}
 pub record HasRoom (tables : Tables) (t : ThreadId) (o : Op) : Type 0 where
   pub thread : t.0 < length tables.counts
   pub access : RoomFor tables.vars t o
-
--- there is room for both events of a swap
-abbrev pub HasRoomToSwap : Tables → ThreadId → VarId → Type 0
-HasRoomToSwap tables t x = HasRoom tables t (Load x) × HasRoom tables t (Store x)
 
 -- what the thread had room for it still has room for
 abbrev pub KeepsRoom : Tables → Tables → ThreadId → Type 0

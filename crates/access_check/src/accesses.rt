@@ -43,9 +43,8 @@ impl Accesses {
     ghost use Rattle.event_core.specs.Effect.{access_of};
     ghost use Rattle.event_core.specs.Verdict.{IsVerdict};
     ghost use Rattle.hb_clocks.specs.Counts.{counts_of};
-    ghost use Rattle.access_check.specs.Tables.{HasRoom, HasRoomToSwap, KeepsRoom, Notes, Grown, GrownFor};
+    ghost use Rattle.access_check.specs.Tables.{HasRoom, KeepsRoom, Notes, Grown, GrownFor};
     ghost use Rattle.access_check.specs.Tables.{count_at, no_tables, verdict_of, RoomAt};
-    ghost use Rattle.event_core.specs.declared.events.Op.{Op as Operation};
     ghost use Rattle.access_check.specs.Standing.{Stands};
 
     /// The accesses of the empty log. It takes no memory, and so succeeds.
@@ -62,32 +61,20 @@ impl Accesses {
         })
     }
 
-    /// Makes room for the event, whose thread's number is within the limits. Nothing else changes.
-    pub fn make_room(&mut self, event: &Event) -> Result<(), OutOfMemory>
-        requires { event.now.thread.0 < self.old.limits.threads }
-        ensures same { Grown self.old self.new }
-        ensures grown { GrownFor self.old self.new event.now.thread event.now.op }
-        ensures room { OnOk result (HasRoom self.new event.now.thread event.now.op) }
-        ensures again { HasRoom self.old event.now.thread event.now.op → IsOk result }
-    {
-        match event.op {
-            Op::Load(var) => self.grow(event.thread, var, AccessKind::Read),
-            Op::Store(var) => self.grow(event.thread, var, AccessKind::Write),
-            _ => grow_counts(&mut self.counts, event.thread.0 as usize + 1),
-        }
-    }
-
-    /// Makes room for both events of a swap, a load and then a store of the variable, by a thread whose
-    /// number is within the limits. Nothing else changes.
-    pub fn make_room_swap(&mut self, thread: ThreadId, var: VarId) -> Result<(), OutOfMemory>
+    /// Makes room for the operation of the thread, whose number is within the limits. Nothing else changes. A
+    /// swap needs the room of its load and that of its store.
+    pub fn prepare(&mut self, thread: ThreadId, op: Op) -> Result<(), OutOfMemory>
         requires { thread.0 < self.old.limits.threads }
         ensures same { Grown self.old self.new }
-        ensures grown { GrownFor self.old self.new thread (Operation.Load var) }
-        ensures room { OnOk result (HasRoomToSwap self.new thread var) }
-        ensures again { HasRoomToSwap self.old thread var → IsOk result }
+        ensures grown { GrownFor self.old self.new thread op }
+        ensures room { OnOk result (HasRoom self.new thread op) }
+        ensures again { HasRoom self.old thread op → IsOk result }
     {
-        self.grow(thread, var, AccessKind::Read)?;
-        self.grow(thread, var, AccessKind::Write)
+        match op {
+            Op::Load(var) => self.grow(thread, var, AccessKind::Read),
+            Op::Store(var) => self.grow(thread, var, AccessKind::Write),
+            _ => grow_counts(&mut self.counts, thread.0 as usize + 1),
+        }
     }
 
     fn grow(&mut self, thread: ThreadId, var: VarId, kind: AccessKind) -> Result<(), OutOfMemory>
@@ -101,16 +88,15 @@ impl Accesses {
         grow_at(&mut self.vars, self.alloc, var.0 as usize, thread, kind)
     }
 
-    /// Whether there is room for the event.
+    /// Whether there is room for the thread's operation.
     #[inline(always)]
-    pub fn ready(&self, event: &Event) -> bool
-        ensures { IsTrue result ↔ HasRoom self.now event.now.thread event.now.op }
+    pub fn ready(&self, thread: ThreadId, op: Op) -> bool
+        ensures { IsTrue result ↔ HasRoom self.now thread op }
     {
-        let thread = event.thread.0 as usize;
-        thread < self.counts.len()
-            && match event.op {
-                Op::Load(var) => self.ready_at(event.thread, var, AccessKind::Read),
-                Op::Store(var) => self.ready_at(event.thread, var, AccessKind::Write),
+        (thread.0 as usize) < self.counts.len()
+            && match op {
+                Op::Load(var) => self.ready_at(thread, var, AccessKind::Read),
+                Op::Store(var) => self.ready_at(thread, var, AccessKind::Write),
                 _ => true,
             }
     }

@@ -1,7 +1,6 @@
 -- The tables of clocks: what they mean, and the room in them.
 use Rattle.std.specs.Prelude.{◌≡◌, ℕ, ◌+◌, ◌*◌, ◌<◌, ◌≤◌, ◌⊎◌, List, [], length, max, replicate}
 use Rattle.event_core.specs.declared.ids.ThreadId.{ThreadId}
-use Rattle.event_core.specs.declared.events.Event.{Event}
 use Rattle.event_core.specs.declared.events.Op.{Op}
 use Rattle.event_core.specs.declared.events.Op.TheVariants.{Acquire, Release, Fork, Join}
 use Rattle.event_core.specs.Rows.{Rows}
@@ -121,8 +120,8 @@ NamesWithin w (Fork u) = u.0 < w
 NamesWithin w (Join u) = u.0 < w
 NamesWithin w _ = Unit {0}
 
-abbrev pub IsWithin : ℕ → Event → Type 0
-IsWithin w e = (e.thread.0 < w) × NamesWithin w e.op
+abbrev pub IsWithin : ℕ → ThreadId → Op → Type 0
+IsWithin w t op = (t.0 < w) × NamesWithin w op
 
 -- what the fields keep
 pub record AreTables (width : ℕ) (zeros : List ℕ) (po hb lock : List (List ℕ)) : Type 0 where

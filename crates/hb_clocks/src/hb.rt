@@ -96,49 +96,48 @@ impl HbClocks {
         Ok((clocks, Work::new(), ReleaseClocks::new(alloc)))
     }
 
-    /// Makes room for the event, whose threads are below the width. No number changes, whether there
-    /// is memory or not. Where there is room nothing changes, and none is needed.
-    pub fn prepare(&mut self, event: &Event) -> Result<(), OutOfMemory>
-        requires { IsWithin self.old.width event.now }
+    /// Makes room for the thread's operation, whose threads are below the width. No number changes, whether
+    /// there is memory or not. Where there is room nothing changes, and none is needed.
+    pub fn prepare(&mut self, thread: ThreadId, op: Op) -> Result<(), OutOfMemory>
+        requires { IsWithin self.old.width thread op }
         ensures same { state_of self.new ≡ state_of self.old }
-        ensures ready { OnOk result (IsReady self.new event.now.thread event.now.op) }
-        ensures again { IsReady self.old event.now.thread event.now.op
-            → IsOk result × (self.new ≡ self.old) }
+        ensures ready { OnOk result (IsReady self.new thread op) }
+        ensures again { IsReady self.old thread op → IsOk result × (self.new ≡ self.old) }
         ensures kept { KeepsRoom self.old self.new }
-        ensures grown { GrownFor self.old self.new event.now.thread event.now.op }
+        ensures grown { GrownFor self.old self.new thread op }
         ensures width { self.new.width ≡ self.old.width }
     {
-        if self.ready(event) {
+        if self.ready(thread, op) {
             return Ok(());
         }
-        self.make_thread(event.thread)?;
-        match event.op {
+        self.make_thread(thread)?;
+        match op {
             Op::Fork(child) | Op::Join(child) => self.make_thread(child),
             Op::Acquire(lock) | Op::Release(lock) => self.make_lock(lock),
             Op::Load(_) | Op::Store(_) => Ok(()),
         }
     }
 
-    /// Whether there is room for the event. What is ready for an acquire is ready for its release too.
-    pub fn ready(&self, event: &Event) -> bool
-        ensures { IsTrue result ↔ IsReady self.now event.now.thread event.now.op }
+    /// Whether there is room for the operation. What is ready for an acquire is ready for its release too.
+    pub fn ready(&self, thread: ThreadId, op: Op) -> bool
+        ensures { IsTrue result ↔ IsReady self.now thread op }
     {
-        self.has_thread(event.thread)
-            && match event.op {
+        self.has_thread(thread)
+            && match op {
                 Op::Fork(child) | Op::Join(child) => self.has_thread(child),
                 Op::Acquire(lock) | Op::Release(lock) => self.has_lock(lock),
                 Op::Load(_) | Op::Store(_) => true,
             }
     }
 
-    /// Whether `advance` may take the event: no other thread holds the lock that it acquires, and it
-    /// forks or joins another thread than its own.
-    pub fn admits(&self, event: &Event) -> bool
-        ensures { IsTrue result ↔ Admits (state_of self.now) event.now.thread event.now.op }
+    /// Whether `advance` may take the thread's operation: no other thread holds the lock that it acquires,
+    /// and it forks or joins another thread than its own.
+    pub fn admits(&self, thread: ThreadId, op: Op) -> bool
+        ensures { IsTrue result ↔ Admits (state_of self.now) thread op }
     {
-        match event.op {
-            Op::Acquire(lock) => may_enter(&self.holds, lock.0 as usize, event.thread),
-            Op::Fork(child) | Op::Join(child) => child != event.thread,
+        match op {
+            Op::Acquire(lock) => may_enter(&self.holds, lock.0 as usize, thread),
+            Op::Fork(child) | Op::Join(child) => child != thread,
             Op::Load(_) | Op::Store(_) | Op::Release(_) => true,
         }
     }

@@ -7,10 +7,11 @@ use Rattle.std.proofs.lemmas.List.Sums.{count_by-le-length}
 use Rattle.std.proofs.lemmas.Option.{slice_get_within}
 use Rattle.event_core.specs.declared.ids.ThreadId.{ThreadId}
 use Rattle.event_core.specs.declared.ids.LockId.{LockId}
+use Rattle.event_core.specs.declared.ids.VarId.{VarId}
 use Rattle.event_core.specs.declared.events.Event.{Event}
 use Rattle.event_core.specs.declared.events.Call.{Call}
 use Rattle.event_core.specs.declared.events.Op.{Op}
-use Rattle.event_core.specs.declared.events.Op.TheVariants.{Acquire, Release, Fork, Join}
+use Rattle.event_core.specs.declared.events.Op.TheVariants.{Load, Store, Acquire, Release, Fork, Join}
 use Rattle.event_core.specs.declared.bounds.Limits.{Limits}
 use Rattle.event_core.specs.declared.replies.Refusal.TheVariants.{ThreadRange, TargetRange}
 use Rattle.event_core.specs.declared.replies.Verdict.{Verdict}
@@ -45,7 +46,7 @@ use Rattle.traced_mem.specs.Tables.{Allows}
 use Rattle.traced_mem.specs.Tables.{Tables as MemoryTables}
 use Rattle.wcp_clocks.proofs.Conditions.{log_within}
 use Rattle.wcp_clocks.specs.declared.parts.Parts.{Parts as Clocks}
-use Rattle.wcp_clocks.specs.Parts.{hb_of, width_of, limits_of, Fits, NamesWithin, SameLimits, event_by}
+use Rattle.wcp_clocks.specs.Parts.{hb_of, width_of, limits_of, Fits, NamesWithin, SameLimits}
 use Rattle.wcp_clocks.specs.Parts.{IsWithin as ClocksAreWithin}
 use Rattle.wcp_clocks.specs.StandsFor.{FitsWhereLegal}
 use Rattle.wcp_clocks.specs.StandsFor.{StandsFor as ClocksStandFor}
@@ -74,8 +75,14 @@ within m mem t o h =
       target = un_not _ (when_none _ TargetRange r.1.1.1.0);
     }
 
+-- a store is refused as a load is
+pub store_too : (m : Limits) (mem : Meaning) (t : ThreadId) (x : VarId) → refusal_at m mem t (Load x) ≡ None
+    → refusal_at m mem t (Store x) ≡ None
+unfolding refusal_at
+store_too m mem t x none = none
+
 pub clocks_within : (m : Limits) (t : ThreadId) (o : Op) (p : Clocks) → width_of p ≡ m.threads
-    → limits_of p ≡ m → t.0 < m.threads → in_range m o ≡ true → ClocksAreWithin p (event_by t o)
+    → limits_of p ≡ m → t.0 < m.threads → in_range m o ≡ true → ClocksAreWithin p t o
 clocks_within m t o p width limits lt is = (subst (λ (n : ℕ). t.0 < n) (sym width) lt, go o is)
   where
     lock : (l : LockId) → nat_lt l.0 m.locks ≡ true → l.0 < (limits_of p).locks

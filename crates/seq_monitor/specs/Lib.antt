@@ -2,3 +2,4 @@ pub mod Monitored
 pub mod Answers
 pub mod RunAnswers
 pub mod Joins
+pub mod Grown

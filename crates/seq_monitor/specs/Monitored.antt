@@ -18,7 +18,7 @@ use Rattle.access_check.specs.Tables.{Tables as AccessTables, HasRoom as AccessH
 use Rattle.access_check.specs.Standing.{Stands as AccessesStand}
 use Rattle.wcp_laws.specs.Found.{threads_in}
 use Rattle.wcp_clocks.specs.declared.parts.Parts.{Parts as Clocks}
-use Rattle.wcp_clocks.specs.Parts.{width_of, limits_of, work_of, event_by}
+use Rattle.wcp_clocks.specs.Parts.{width_of, limits_of, work_of}
 use Rattle.wcp_clocks.specs.Parts.{IsReady as ClocksIsReady}
 use Rattle.wcp_clocks.specs.StandsFor.{StandsFor as ClocksStandFor}
 use Rattle.wcp_clocks.specs.WorkWithin.{WorkWithin}
@@ -62,10 +62,16 @@ slots_for open' o = open' + 1
 -- there is room for the thread's operation
 pub record HasRoom (m : Monitored) (t : ThreadId) (o : Op) : Type 0 where
   pub memory : MemoryIsReady m.parts.memory t o
-  pub clocks : ClocksIsReady m.parts.clocks (event_by t o)
+  pub clocks : ClocksIsReady m.parts.clocks t o
   pub accesses : AccessHasRoom m.parts.accesses t o
   pub events : slots_for (open_acquires m.log) o ≤ m.parts.events
   pub verdicts : slots_for (open_acquires m.log) o ≤ m.parts.verdicts
+
+-- and for so many events more
+pub record HasRoomAnd (m : Monitored) (t : ThreadId) (o : Op) (more : ℕ) : Type 0 where
+  pub room : HasRoom m t o
+  pub events : slots_for (open_acquires m.log) o + more ≤ m.parts.events
+  pub verdicts : slots_for (open_acquires m.log) o + more ≤ m.parts.verdicts
 
 -- there is room for it in each part but the clocks
 pub record HasOtherRoom (m : Monitored) (t : ThreadId) (o : Op) : Type 0 where

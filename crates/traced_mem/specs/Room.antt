@@ -3,7 +3,6 @@ use Rattle.std.specs.Prelude.{◌≡◌, ℕ, ◌+◌, ◌*◌, ◌^◌, ◌<◌
 use Rattle.std.specs.Prelude.{cond}
 use Rattle.smallvec.specs.SmallVec.{HasRoomFor}
 use Rattle.event_core.specs.declared.ids.ThreadId.{ThreadId}
-use Rattle.event_core.specs.declared.ids.VarId.{VarId}
 use Rattle.event_core.specs.declared.events.Op.{Op}
 use Rattle.event_core.specs.declared.events.Op.TheVariants.{Load, Store, Acquire, Release, Fork, Join}
 use Rattle.traced_mem.specs.declared.rows.ThreadRow.{ThreadRow}
@@ -23,10 +22,6 @@ HasRoom threads locks cells u (Join v) = v.0 < length threads
 pub record IsReady (t : Tables) (u : ThreadId) (o : Op) : Type 0 where
   pub caller : u.0 < length t.threads
   pub room : HasRoom t.threads (length t.locks) t.room u o
-
--- there is room for both operations of a swap
-abbrev pub IsReadyToSwap : Tables → ThreadId → VarId → Type 0
-IsReadyToSwap t u x = IsReady t u (Load x) × IsReady t u (Store x)
 
 -- an acquire may use up the place that was made for another one by its thread
 abbrev pub takes_place : ThreadId → Op → ThreadId → Op → Bool

@@ -7,7 +7,7 @@ ghost use Rattle.event_core.specs.Refusal.{value_of, event_of};
 ghost use Rattle.traced_mem.specs.Meaning.{nothing};
 ghost use Rattle.traced_mem.specs.After.{after, value_at, holds_after};
 ghost use Rattle.traced_mem.specs.Tables.{meaning, Allows};
-ghost use Rattle.traced_mem.specs.Room.{IsReady, IsReadyToSwap, GrownFor, HoldsFit, takes_place};
+ghost use Rattle.traced_mem.specs.Room.{IsReady, GrownFor, HoldsFit, takes_place};
 ghost use Rattle.traced_mem.specs.OfLog.{StandsFor};
 
 mod permission;
@@ -16,7 +16,7 @@ mod queries;
 use crate::growth::grow;
 use crate::rows::{LockRow, ThreadRow};
 use crate::step::apply_rows;
-use event_core::{Call, Limits, Op, OutOfMemory, ThreadId, VarId};
+use event_core::{Call, Limits, Op, OutOfMemory, ThreadId};
 use std::alloc::Global;
 use std::marker::Model;
 
@@ -91,43 +91,19 @@ impl Memory {
         })
     }
 
-    /// Makes room for a call, or answers `OutOfMemory`. Nothing else changes, and each call that was ready
-    /// stays so. A table that grows has memory for at most twice what the call needs.
-    pub fn prepare(&mut self, call: &Call) -> Result<(), OutOfMemory>
-        ensures same { meaning self.new ≡ meaning self.old }
-        ensures limits { self.new.limits ≡ self.old.limits }
-        ensures ready { OnOk result (IsReady self.new call.now.thread call.now.op) }
-        ensures again { IsReady self.old call.now.thread call.now.op → IsOk result }
-        ensures kept { (u : Thread) (o : Operation) → IsReady self.old u o → IsReady self.new u o }
-        ensures grown { GrownFor self.old self.new call.now.thread call.now.op }
-        ensures stands { (log : List Event) → StandsFor self.old log → StandsFor self.new log }
-    {
-        self.make_room(call.thread, call.op)
-    }
-
-    /// Makes room for both calls of a swap, or answers `OutOfMemory`. Nothing else changes, and each call
-    /// that was ready stays so.
-    pub fn prepare_swap(&mut self, thread: ThreadId, var: VarId) -> Result<(), OutOfMemory>
-        ensures same { meaning self.new ≡ meaning self.old }
-        ensures limits { self.new.limits ≡ self.old.limits }
-        ensures ready { OnOk result (IsReadyToSwap self.new thread var) }
-        ensures again { IsReadyToSwap self.old thread var → IsOk result }
-        ensures kept { (u : Thread) (o : Operation) → IsReady self.old u o → IsReady self.new u o }
-        ensures grown { GrownFor self.old self.new thread (Operation.Store var) }
-        ensures stands { (log : List Event) → StandsFor self.old log → StandsFor self.new log }
-    {
-        self.make_room(thread, Op::Store(var))
-    }
-
-    fn make_room(&mut self, thread: ThreadId, op: Op) -> Result<(), OutOfMemory>
+    /// Makes room for the thread's operation, or answers `OutOfMemory`. Nothing else changes, and what was
+    /// ready stays so. A table that grows has memory for at most twice what the operation needs. A swap needs
+    /// the room of its load and that of its store.
+    pub fn prepare(&mut self, thread: ThreadId, op: Op) -> Result<(), OutOfMemory>
         ensures same { meaning self.new ≡ meaning self.old }
         ensures limits { self.new.limits ≡ self.old.limits }
         ensures ready { OnOk result (IsReady self.new thread op) }
         ensures again { IsReady self.old thread op → IsOk result }
         ensures kept { (u : Thread) (o : Operation) → IsReady self.old u o → IsReady self.new u o }
         ensures grown { GrownFor self.old self.new thread op }
+        ensures stands { (log : List Event) → StandsFor self.old log → StandsFor self.new log }
     {
-        if self.has_room(thread, op) {
+        if self.ready(thread, op) {
             return Ok(());
         }
         grow(

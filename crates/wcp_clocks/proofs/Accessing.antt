@@ -112,23 +112,21 @@ pub access_keeps : (old : Parts) (rows : StrictTables) (tables : hb_tables.Table
       held = old.held;
       work = work;
     })
-access_keeps old rows tables sums work hb kept rooms e ready = record {
-  hb = hb e.thread e.op ready.hb;
-  thread = kept.thread e.thread.0 ready.thread;
-  named = named e.op ready.named;
+access_keeps old rows tables sums work hb kept rooms t op ready = record {
+  hb = hb t op ready.hb;
+  thread = kept.thread t.0 ready.thread;
+  named = named op ready.named;
 }
   where
-    named : (op : Op) → HasNamed old e.thread op
+    named : (op : Op) → HasNamed old t op
         → HasNamed (record {
           hb = tables;
           rows = rows;
           sums = sums;
           queues = old.queues;
           held = old.held;
-          work
-              = work;
-        })
-        e.thread op
+          work = work;
+        }) t op
     named (Load x) room = λ l h. rooms l x.0 (room l h)
     named (Store x) room = λ l h. rooms l x.0 (room l h)
     named (Acquire l) room = (kept.lock l.0 room.0, room.1, room.2)

@@ -144,10 +144,10 @@ named_kept old new t op g = go op
     go (Join u) r = g.rows_room.thread u.0 r
 
 pub grown_ready : (old new : Parts) → HasGrown old new → KeepsReady old new
-grown_ready old new g e r = record {
-  hb = g.order_room e.thread e.op r.hb;
-  thread = g.rows_room.thread e.thread.0 r.thread;
-  named = named_kept old new e.thread e.op g r.named;
+grown_ready old new g t op r = record {
+  hb = g.order_room t op r.hb;
+  thread = g.rows_room.thread t.0 r.thread;
+  named = named_kept old new t op g r.named;
 }
 
 pub grown_parts : (old new : Parts) → HasGrown old new → AreParts old → AreParts new

@@ -56,7 +56,7 @@ target_in_range limits log e w =
 -- a legal event names numbers within the limits of the clocks
 pub within_where_legal : (limits : Limits) (log : List Event) (e : Event) (p : Parts)
     → WellFormed limits (log ++ e ∷ []) → width_of p ≡ limits.threads → limits_of p ≡ limits
-    → IsWithin p e
+    → IsWithin p e.thread e.op
 within_where_legal limits log e p w width same = (
   subst (λ n. e.thread.0 < n) (sym width) (thread_within limits log e w),
   named e.op (target_in_range limits log e w),

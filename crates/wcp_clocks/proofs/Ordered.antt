@@ -3,7 +3,6 @@ use Rattle.std.proofs.Common.{◌≡◌, ℕ, ◌<◌, length, inl, inr, ◌⊎�
 use Rattle.std.proofs.lemmas.Bool.{cases_eq}
 use Rattle.event_core.specs.declared.ids.ThreadId.{ThreadId}
 use Rattle.event_core.specs.declared.ids.LockId.{LockId}
-use Rattle.event_core.specs.declared.events.Event.{Event}
 use Rattle.event_core.specs.declared.events.Op.{Op}
 use Rattle.event_core.specs.declared.events.Op.TheVariants.{Load, Store, Acquire, Release, Fork, Join}
 use Rattle.event_core.specs.Bounds.{Bounds}
@@ -94,13 +93,13 @@ named_of p t (Release l) clock places = clock
 named_of p t (Fork u) clock places = clock
 named_of p t (Join u) clock places = clock
 
--- so the event is ready where the parts have its clocks and its places
-pub ready_of : (p : Parts) (e : Event) → AreOrdered p.rows p.hb → HasClocks p.rows e.thread e.op
-    → HasPlaces p e.thread e.op → IsReady p e
-ready_of p e o clocks places = record {
-  hb = order_ready p.rows p.hb e.thread e.op o clocks;
+-- so the operation is ready where the parts have its clocks and its places
+pub ready_of : (p : Parts) (t : ThreadId) (op : Op) → AreOrdered p.rows p.hb → HasClocks p.rows t op
+    → HasPlaces p t op → IsReady p t op
+ready_of p t op o clocks places = record {
+  hb = order_ready p.rows p.hb t op o clocks;
   thread = clocks.thread;
-  named = named_of p e.thread e.op clocks.named places;
+  named = named_of p t op clocks.named places;
 }
 
 -- the lock and the thread that an operation names

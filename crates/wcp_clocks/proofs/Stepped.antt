@@ -91,7 +91,7 @@ module _ (e : Event) (k : Effect) (old new : Parts) (told : effect e (state_of o
   whole : AreParts old → Fits e old → AreWhole (state_of new)
   whole parts fits = subst AreWhole (sym exact) (whole_after e (state_of old) parts.whole fits.own_grows)
 
-  kept_parts : AreParts old → IsReady old e → Fits e old → AreParts new
+  kept_parts : AreParts old → IsReady old e.thread e.op → Fits e old → AreParts new
   kept_parts parts ready fits = record {
     rows = by.room.width ∙ parts.rows ∙ sym by.limits.width;
     queues = ap (λ b. b.threads) by.limits.limits ∙ parts.queues ∙ sym by.limits.width;
@@ -115,7 +115,7 @@ module _ (e : Event) (k : Effect) (old new : Parts) (told : effect e (state_of o
       lock l t (inr p) = by.room.lock l (subst (λ m. HasLock old.rows m) (sym p.3)
           (subst (λ (op : Op). HasNamed old e.thread op) p.2 ready.named).0)
 
-  pub stepped : AreParts old → IsReady old e → Fits e old → (IsAccess e.op → KeepsReady old new)
+  pub stepped : AreParts old → IsReady old e.thread e.op → Fits e old → (IsAccess e.op → KeepsReady old new)
       → IsStep e old new
   stepped parts ready fits kept = record {
     exact = exact;
@@ -153,7 +153,8 @@ module _ (e : Event) (parts : Parts) (l : LockId) where
 -- the step of an acquire or a release, which is rebuilt with its own operation
 pub rebuilt : (e : Event) (o : Op) (k : Effect) (old new : Parts) → e.op ≡ o
     → effect_of ((hb_of old).depth e.thread.0) o ≡ k → (IsAccess o → ⊥)
-    → IsStepBy (record e { op = o }) k old new → AreParts old → IsReady old e → Fits e old → IsStep e old new
+    → IsStepBy (record e { op = o }) k old new → AreParts old → IsReady old e.thread e.op → Fits e old
+    → IsStep e old new
 rebuilt e o k old new op effect none by parts ready fits =
     stepped e k old new (ap (effect_of ((hb_of old).depth e.thread.0)) op ∙ effect)
     (subst (λ (x : Event). IsStepBy x k old new) (ap (λ (p : Op). record e { op = p }) (sym op)) by)

@@ -2,7 +2,6 @@
 use Rattle.std.specs.Prelude.{◌≡◌, ℕ, ◌+◌, ◌*◌, ◌<◌, ◌≤◌, ◌↔◌, length, IsTrue}
 use Rattle.event_core.specs.declared.ids.ThreadId.{ThreadId}
 use Rattle.event_core.specs.declared.ids.LockId.{LockId}
-use Rattle.event_core.specs.declared.ids.VarId.{VarId}
 use Rattle.event_core.specs.declared.events.Op.{Op}
 use Rattle.event_core.specs.declared.events.Op.TheVariants.{Load, Store, Acquire, Release, Fork, Join}
 use Rattle.event_core.specs.declared.events.Event.{Event}
@@ -93,19 +92,11 @@ HasPlaces p t (Store x) = HasRoom p.sums (list_at p.held t.0).locks x.0
 HasPlaces p t (Acquire l) = IsTrue (has_room p.queues t.0 l.0) × (0 < room_at p.held t.0)
 HasPlaces p t _ = Unit {0}
 
--- there is room for the event
-pub record IsReady (p : Parts) (e : Event) : Type 0 where
-  pub hb : hb.IsReady p.hb e.thread e.op
-  pub thread : HasThread p.rows e.thread.0
-  pub named : HasNamed p e.thread e.op
-
--- an event of the thread with the operation: room does not depend on its site and its value
-abbrev pub event_by : ThreadId → Op → Event
-event_by t op = record { thread = t; op = op; site = record { 0 = 0 }; value = 0 }
-
--- there is room for both events of a swap
-abbrev pub IsReadyToSwap : Parts → ThreadId → VarId → Type 0
-IsReadyToSwap p t x = IsReady p (event_by t (Load x)) × IsReady p (event_by t (Store x))
+-- there is room for the thread's operation
+pub record IsReady (p : Parts) (t : ThreadId) (op : Op) : Type 0 where
+  pub hb : hb.IsReady p.hb t op
+  pub thread : HasThread p.rows t.0
+  pub named : HasNamed p t op
 
 -- what is asked of the numbers at the event, with no log
 pub record Fits (e : Event) (p : Parts) : Type 0 where
@@ -142,7 +133,7 @@ pub record AreParts (p : Parts) : Type 0 where
 
 -- what was ready stays so
 abbrev pub KeepsReady : Parts → Parts → Type 0
-KeepsReady old new = (e : Event) → IsReady old e → IsReady new e
+KeepsReady old new = (t : ThreadId) (op : Op) → IsReady old t op → IsReady new t op
 
 -- the same limits
 pub record SameLimits (old new : Parts) : Type 0 where
@@ -178,7 +169,7 @@ NoFewer t (Closes l) old new = (work_of old).comparisons + found_in new l.0 t.0
     ≤ (work_of new).comparisons + found_in old l.0 t.0
 NoFewer t _ old new = Unit {0}
 
--- the numbers that the event names are within the limits
+-- the numbers that the operation names are within the limits
 abbrev pub NamesWithin : Parts → Op → Type 0
 NamesWithin p (Fork u) = u.0 < width_of p
 NamesWithin p (Join u) = u.0 < width_of p
@@ -186,8 +177,9 @@ NamesWithin p (Acquire l) = l.0 < (limits_of p).locks
 NamesWithin p (Release l) = l.0 < (limits_of p).locks
 NamesWithin p _ = Unit {0}
 
-abbrev pub IsWithin : Parts → Event → Type 0
-IsWithin p e = (e.thread.0 < width_of p) × NamesWithin p e.op
+-- and so is the thread's
+abbrev pub IsWithin : Parts → ThreadId → Op → Type 0
+IsWithin p t op = (t.0 < width_of p) × NamesWithin p op
 
 abbrev pub IsAccess : Op → Type 0
 IsAccess (Load x) = Unit {0}

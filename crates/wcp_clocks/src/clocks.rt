@@ -10,7 +10,6 @@ ghost use Rattle.std.specs.Prelude.{◌≡◌, ℕ, ◌<◌, ◌≤◌, ◌+◌,
 ghost use Rattle.std.specs.Prelude.{IsOk, OnOk, IsTrue};
 ghost use Rattle.event_core.specs.declared.events.Event.{Event as AnEvent};
 ghost use Rattle.event_core.specs.declared.ids.ThreadId.{ThreadId as AThread};
-ghost use Rattle.event_core.specs.declared.events.Op.TheVariants.{Load};
 ghost use Rattle.event_core.specs.declared.bounds.Limits.{Limits as Bounds};
 ghost use Rattle.event_core.specs.Refusal.{WellFormed};
 ghost use Rattle.event_core.specs.Count.{Counts};
@@ -26,21 +25,20 @@ ghost use Rattle.wcp_laws.specs.Conditions.{found_at};
 ghost use Rattle.wcp_clocks.specs.Parts.{hb_of, state_of, width_of, limits_of, work_of, found_in};
 ghost use Rattle.wcp_clocks.specs.Parts.{IsReady, Fits, KeepsReady, SameLimits, SameNumbers, most_joins};
 ghost use Rattle.wcp_clocks.specs.Parts.{joins_at, FewComparisons, NoFewer, IsWithin, IsAccess};
-ghost use Rattle.wcp_clocks.specs.Parts.{IsReadyToSwap};
 ghost use Rattle.wcp_clocks.specs.Growth.{GrownFor, MadeFor, SameMade};
 ghost use Rattle.wcp_clocks.specs.StandsFor.{StandsFor};
 
 use crate::effects::step;
 use crate::parts::Parts;
-use crate::room::{are_both_ready, are_ready, make_ready, new_parts, prepare_both, prepare_parts};
-use event_core::{Event, Limits, OutOfMemory, ThreadId, VarId};
+use crate::room::{are_ready, make_ready, new_parts, prepare_parts};
+use event_core::{Event, Limits, Op, OutOfMemory, ThreadId};
 use hb_clocks::JoinedClocks;
 use std::alloc::Global;
 use std::marker::Model;
 
 /// The clocks of the strict relation, and of all that it stands on.
 ///
-/// Each call but `new`, `prepare`, `prepare_swap` and `make_ready` takes no memory.
+/// Each call but `new`, `prepare` and `make_ready` takes no memory.
 #[derive(Drop)]
 pub struct WcpClocks {
     parts: Parts,
@@ -71,67 +69,46 @@ impl WcpClocks {
         })
     }
 
-    /// Makes room for the event, whose numbers are within the limits. No number changes, whether there
-    /// is memory or not. Where there is room nothing changes, and none is needed.
-    pub fn prepare(&mut self, event: &Event) -> Result<(), OutOfMemory>
-        requires { IsWithin self.old event.now }
+    /// Makes room for the thread's operation, whose numbers are within the limits. No number changes, whether
+    /// there is memory or not. Where there is room nothing changes, and none is needed. A load and a store of
+    /// a variable need the same room.
+    pub fn prepare(&mut self, thread: ThreadId, op: Op) -> Result<(), OutOfMemory>
+        requires { IsWithin self.old thread op }
         ensures same { SameNumbers self.old self.new }
-        ensures ready { OnOk result (IsReady self.new event.now) }
-        ensures again { IsReady self.old event.now → IsOk result × (self.new ≡ self.old) }
+        ensures ready { OnOk result (IsReady self.new thread op) }
+        ensures again { IsReady self.old thread op → IsOk result × (self.new ≡ self.old) }
         ensures kept { KeepsReady self.old self.new }
-        ensures grown { GrownFor self.old self.new event.now.thread event.now.op }
-        ensures made { MadeFor self.old self.new event.now.thread event.now.op }
+        ensures grown { GrownFor self.old self.new thread op }
+        ensures made { MadeFor self.old self.new thread op }
         ensures limits { SameLimits self.old self.new }
     {
-        prepare_parts(&mut self.parts, event)
+        prepare_parts(&mut self.parts, thread, op)
     }
 
-    /// Whether there is room for the event. There is for each release by a holder.
+    /// Whether there is room for the operation. There is for each release by a holder.
     #[inline(always)]
-    pub fn ready(&self, event: &Event) -> bool
-        ensures ready { IsTrue result ↔ IsReady self.now event.now }
-        ensures releases { IsHeldRelease (hb_of self.now) event.now.thread event.now.op → IsTrue result }
+    pub fn ready(&self, thread: ThreadId, op: Op) -> bool
+        ensures ready { IsTrue result ↔ IsReady self.now thread op }
+        ensures releases { IsHeldRelease (hb_of self.now) thread op → IsTrue result }
     {
-        are_ready(&self.parts, event)
+        are_ready(&self.parts, thread, op)
     }
 
-    /// Whether there is room for the event, as `ready` tells, once room for an access is made, and room for
-    /// a section where that takes no memory; no clause tells which is made. A growth that is refused is
+    /// Whether there is room for the operation, as `ready` tells, once room for an access is made, and room
+    /// for a section where that takes no memory; no clause tells which is made. A growth that is refused is
     /// answered `false`. Where there is room, an `advance` that comes next does not search again for the
     /// places of an access.
     #[inline(always)]
-    pub fn make_ready(&mut self, event: &Event) -> bool
-        ensures ready { IsTrue result ↔ IsReady self.new event.now }
-        ensures releases { IsHeldRelease (hb_of self.old) event.now.thread event.now.op → IsTrue result }
+    pub fn make_ready(&mut self, thread: ThreadId, op: Op) -> bool
+        ensures ready { IsTrue result ↔ IsReady self.new thread op }
+        ensures releases { IsHeldRelease (hb_of self.old) thread op → IsTrue result }
         ensures same { SameNumbers self.old self.new }
         ensures kept { KeepsReady self.old self.new }
-        ensures grown { GrownFor self.old self.new event.now.thread event.now.op }
+        ensures grown { GrownFor self.old self.new thread op }
         ensures made { SameMade self.old self.new }
         ensures limits { SameLimits self.old self.new }
     {
-        make_ready(&mut self.parts, event)
-    }
-
-    /// Makes room for both events of a swap, a load and then a store of the variable. No number changes,
-    /// whether there is memory or not. Where there is room nothing changes, and none is needed.
-    pub fn prepare_swap(&mut self, thread: ThreadId, var: VarId) -> Result<(), OutOfMemory>
-        requires { thread.0 < width_of self.old }
-        ensures same { SameNumbers self.old self.new }
-        ensures ready { OnOk result (IsReadyToSwap self.new thread var) }
-        ensures again { IsReadyToSwap self.old thread var → IsOk result × (self.new ≡ self.old) }
-        ensures kept { KeepsReady self.old self.new }
-        ensures grown { GrownFor self.old self.new thread (Load var) }
-        ensures made { MadeFor self.old self.new thread (Load var) }
-        ensures limits { SameLimits self.old self.new }
-    {
-        prepare_both(&mut self.parts, thread, var)
-    }
-
-    /// Whether there is room for both events of a swap.
-    pub fn ready_swap(&self, thread: ThreadId, var: VarId) -> bool
-        ensures { IsTrue result ↔ IsReadyToSwap self.now thread var }
-    {
-        are_both_ready(&self.parts, thread, var)
+        make_ready(&mut self.parts, thread, op)
     }
 
     /// The event joins the log that the clocks stand for.
@@ -142,7 +119,7 @@ impl WcpClocks {
     /// nothing else makes one.
     #[inline(always)]
     pub fn advance(&mut self, event: &Event)
-        requires ready { IsReady self.old event.now }
+        requires ready { IsReady self.old event.now.thread event.now.op }
         requires fits { Fits event.now self.old }
         ensures exact { state_of self.new ≡ after event.now (state_of self.old) }
         ensures happens_before { hb_of self.new ≡ hb_after event.now (hb_of self.old) }

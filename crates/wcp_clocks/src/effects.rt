@@ -30,7 +30,7 @@ use section_sum::Summaries;
 #[inline(always)]
 pub(crate) fn step(parts: &mut Parts, event: &Event)
     requires parts { AreParts parts.old }
-    requires ready { IsReady parts.old event.now }
+    requires ready { IsReady parts.old event.now.thread event.now.op }
     requires fits { Fits event.now parts.old }
     ensures { IsStep event.now parts.old parts.new }
 {
@@ -48,7 +48,7 @@ pub(crate) fn step(parts: &mut Parts, event: &Event)
 fn acquire(parts: &mut Parts, event: &Event, lock: LockId)
     requires op { event.now.op ≡ Acquire lock }
     requires parts { AreParts parts.old }
-    requires ready { IsReady parts.old event.now }
+    requires ready { IsReady parts.old event.now.thread event.now.op }
     requires fits { Fits event.now parts.old }
     ensures { IsStep event.now parts.old parts.new }
 {
@@ -68,7 +68,7 @@ fn acquire(parts: &mut Parts, event: &Event, lock: LockId)
 fn release(parts: &mut Parts, event: &Event, lock: LockId)
     requires op { event.now.op ≡ Release lock }
     requires parts { AreParts parts.old }
-    requires ready { IsReady parts.old event.now }
+    requires ready { IsReady parts.old event.now.thread event.now.op }
     requires fits { Fits event.now parts.old }
     ensures { IsStep event.now parts.old parts.new }
 {
@@ -89,7 +89,7 @@ fn release(parts: &mut Parts, event: &Event, lock: LockId)
 pub(crate) fn access(parts: &mut Parts, event: &Event, var: VarId, kind: AccessKind)
     requires effect { effect event.now (state_of parts.old) ≡ Accesses var kind }
     requires parts { AreParts parts.old }
-    requires ready { IsReady parts.old event.now }
+    requires ready { IsReady parts.old event.now.thread event.now.op }
     requires fits { Fits event.now parts.old }
     ensures step { IsStepBy event.now (Accesses var kind) parts.old parts.new }
     ensures kept { KeepsReady parts.old parts.new }
@@ -155,7 +155,7 @@ fn meet_sections(
 pub(crate) fn open(parts: &mut Parts, event: &Event, lock: LockId)
     requires effect { effect event.now (state_of parts.old) ≡ Opens lock }
     requires parts { AreParts parts.old }
-    requires ready { IsReady parts.old event.now }
+    requires ready { IsReady parts.old event.now.thread event.now.op }
     requires fits { Fits event.now parts.old }
     ensures { IsStepBy event.now (Opens lock) parts.old parts.new }
 {
@@ -171,7 +171,7 @@ pub(crate) fn open(parts: &mut Parts, event: &Event, lock: LockId)
 pub(crate) fn close(parts: &mut Parts, event: &Event, lock: LockId)
     requires effect { effect event.now (state_of parts.old) ≡ Closes lock }
     requires parts { AreParts parts.old }
-    requires ready { IsReady parts.old event.now }
+    requires ready { IsReady parts.old event.now.thread event.now.op }
     requires fits { Fits event.now parts.old }
     ensures { IsStepBy event.now (Closes lock) parts.old parts.new }
 {
@@ -195,7 +195,7 @@ pub(crate) fn close(parts: &mut Parts, event: &Event, lock: LockId)
 pub(crate) fn fork(parts: &mut Parts, event: &Event, child: ThreadId)
     requires effect { effect event.now (state_of parts.old) ≡ Forks child }
     requires parts { AreParts parts.old }
-    requires ready { IsReady parts.old event.now }
+    requires ready { IsReady parts.old event.now.thread event.now.op }
     requires fits { Fits event.now parts.old }
     ensures { IsStepBy event.now (Forks child) parts.old parts.new }
 {
@@ -208,7 +208,7 @@ pub(crate) fn fork(parts: &mut Parts, event: &Event, child: ThreadId)
 pub(crate) fn join(parts: &mut Parts, event: &Event, child: ThreadId)
     requires effect { effect event.now (state_of parts.old) ≡ Joins child }
     requires parts { AreParts parts.old }
-    requires ready { IsReady parts.old event.now }
+    requires ready { IsReady parts.old event.now.thread event.now.op }
     requires fits { Fits event.now parts.old }
     ensures { IsStepBy event.now (Joins child) parts.old parts.new }
 {
@@ -221,7 +221,7 @@ pub(crate) fn join(parts: &mut Parts, event: &Event, child: ThreadId)
 pub(crate) fn count_inner(parts: &mut Parts, event: &Event)
     requires effect { effect event.now (state_of parts.old) ≡ Inner }
     requires parts { AreParts parts.old }
-    requires ready { IsReady parts.old event.now }
+    requires ready { IsReady parts.old event.now.thread event.now.op }
     requires fits { Fits event.now parts.old }
     ensures { IsStepBy event.now Inner parts.old parts.new }
 {

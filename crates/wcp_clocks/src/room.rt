@@ -1,4 +1,4 @@
-//! Room for an event, part by part.
+//! Room for an operation, part by part.
 ghost use Rattle.std.specs.Prelude.{◌≡◌, ◌<◌, ◌↔◌, IsOk, IfOk, OnOk, IsTrue};
 ghost use Rattle.hb_clocks.specs.State.{empty as hb_empty};
 ghost use Rattle.hb_clocks.specs.Stands.{IsHeldRelease};
@@ -11,17 +11,17 @@ ghost use Rattle.wcp_laws.specs.State.{empty};
 ghost use Rattle.wcp_clocks.specs.HeldLists.{list_at, room_at, HaveGrownFor};
 ghost use Rattle.wcp_clocks.specs.StrictRows.{HasThread, HasLock};
 ghost use Rattle.wcp_clocks.specs.Parts.{hb_of, state_of, found_in, IsReady, HasNamed, IsWithin, AreParts};
-ghost use Rattle.wcp_clocks.specs.Parts.{event_by, IsReadyToSwap, NamesWithin, HasClocks};
+ghost use Rattle.wcp_clocks.specs.Parts.{NamesWithin, HasClocks};
 ghost use Rattle.wcp_clocks.specs.Parts.{HasPlaces, HasNamedClock};
 ghost use Rattle.event_core.specs.declared.ids.ThreadId.{ThreadId as AThread};
 ghost use Rattle.event_core.specs.declared.events.Op.{Op as Operation};
-ghost use Rattle.event_core.specs.declared.events.Op.TheVariants.{Load, Release};
+ghost use Rattle.event_core.specs.declared.events.Op.TheVariants.{Release};
 ghost use Rattle.wcp_clocks.specs.Growth.{HasGrown, GrownFor, MadeFor, SamePlaces, SameMade};
 
 use crate::holdings::Holdings;
 use crate::parts::Parts;
 use crate::strict::StrictRows;
-use event_core::{Event, Limits, LockId, Op, OutOfMemory, SiteId, ThreadId, VarId};
+use event_core::{Limits, LockId, Op, OutOfMemory, ThreadId, VarId};
 use hb_clocks::HbClocks;
 use lock_queues::Queues;
 use section_sum::Summaries;
@@ -50,69 +50,32 @@ pub(crate) fn new_parts(alloc: Global, limits: Limits) -> Result<Parts, OutOfMem
     })
 }
 
-// Makes room for the event, where there is none.
+// Makes room for the thread's operation, where there is none.
 #[tactic(auto, using(crate::proofs::Growth::grown_then))]
-pub(crate) fn prepare_parts(parts: &mut Parts, event: &Event) -> Result<(), OutOfMemory>
+pub(crate) fn prepare_parts(parts: &mut Parts, thread: ThreadId, op: Op) -> Result<(), OutOfMemory>
     requires parts { AreParts parts.old }
-    requires within { IsWithin parts.old event.now }
+    requires within { IsWithin parts.old thread op }
     ensures grown { HasGrown parts.old parts.new }
-    ensures only { GrownFor parts.old parts.new event.now.thread event.now.op }
-    ensures clocks { MadeFor parts.old parts.new event.now.thread event.now.op }
-    ensures ready { OnOk result (IsReady parts.new event.now) }
-    ensures again { IsReady parts.old event.now → IsOk result × (parts.new ≡ parts.old) }
+    ensures only { GrownFor parts.old parts.new thread op }
+    ensures clocks { MadeFor parts.old parts.new thread op }
+    ensures ready { OnOk result (IsReady parts.new thread op) }
+    ensures again { IsReady parts.old thread op → IsOk result × (parts.new ≡ parts.old) }
 {
-    if are_ready(parts, event) {
+    if are_ready(parts, thread, op) {
         return Ok(());
     }
-    make_clocks(parts, event)?;
-    make_places(parts, event.thread, event.op)
+    make_clocks(parts, thread, op)?;
+    make_places(parts, thread, op)
 }
 
-// Whether there is room for the event. Where there are strict clocks there are those of happens-before.
+// Whether there is room for the operation. Where there are strict clocks there are those of happens-before.
 #[inline(always)]
-pub(crate) fn are_ready(parts: &Parts, event: &Event) -> bool
+pub(crate) fn are_ready(parts: &Parts, thread: ThreadId, op: Op) -> bool
     requires parts { AreParts parts.now }
-    ensures ready { IsTrue result ↔ IsReady parts.now event.now }
-    ensures releases { IsHeldRelease (hb_of parts.now) event.now.thread event.now.op → IsTrue result }
+    ensures ready { IsTrue result ↔ IsReady parts.now thread op }
+    ensures releases { IsHeldRelease (hb_of parts.now) thread op → IsTrue result }
 {
-    parts.rows.has_thread(event.thread) && has_named(parts, event.thread, event.op)
-}
-
-// An event by the thread. Room does not depend on its site and its value.
-fn event_by(thread: ThreadId, op: Op) -> Event
-    ensures { result ≡ event_by thread op }
-{
-    Event {
-        thread,
-        op,
-        site: SiteId(0),
-        value: 0,
-    }
-}
-
-// Makes room for both events of a swap. A load and a store need the same.
-pub(crate) fn prepare_both(
-    parts: &mut Parts,
-    thread: ThreadId,
-    var: VarId,
-) -> Result<(), OutOfMemory>
-    requires parts { AreParts parts.old }
-    requires within { thread.0 < parts.old.hb.width }
-    ensures grown { HasGrown parts.old parts.new }
-    ensures only { GrownFor parts.old parts.new thread (Load var) }
-    ensures clocks { MadeFor parts.old parts.new thread (Load var) }
-    ensures ready { OnOk result (IsReadyToSwap parts.new thread var) }
-    ensures again { IsReadyToSwap parts.old thread var → IsOk result × (parts.new ≡ parts.old) }
-{
-    prepare_parts(parts, &event_by(thread, Op::Load(var)))
-}
-
-// Whether there is room for both events of a swap.
-pub(crate) fn are_both_ready(parts: &Parts, thread: ThreadId, var: VarId) -> bool
-    requires parts { AreParts parts.now }
-    ensures { IsTrue result ↔ IsReadyToSwap parts.now thread var }
-{
-    are_ready(parts, &event_by(thread, Op::Load(var)))
+    parts.rows.has_thread(thread) && has_named(parts, thread, op)
 }
 
 // Whether there is room for what the operation names.
@@ -140,16 +103,16 @@ fn has_access(parts: &Parts, thread: ThreadId, var: VarId) -> bool
 // The same as `are_ready`, once room for an access is made, and room for a section where that takes no
 // memory. The places of an access are kept for the step that comes next.
 #[inline(always)]
-pub(crate) fn make_ready(parts: &mut Parts, event: &Event) -> bool
+pub(crate) fn make_ready(parts: &mut Parts, thread: ThreadId, op: Op) -> bool
     requires parts { AreParts parts.old }
-    ensures ready { IsTrue result ↔ IsReady parts.new event.now }
-    ensures releases { IsHeldRelease (hb_of parts.old) event.now.thread event.now.op → IsTrue result }
+    ensures ready { IsTrue result ↔ IsReady parts.new thread op }
+    ensures releases { IsHeldRelease (hb_of parts.old) thread op → IsTrue result }
     ensures hb { parts.new.hb ≡ parts.old.hb }
     ensures rows { parts.new.rows ≡ parts.old.rows }
     ensures grown { HasGrown parts.old parts.new }
-    ensures only { GrownFor parts.old parts.new event.now.thread event.now.op }
+    ensures only { GrownFor parts.old parts.new thread op }
 {
-    parts.rows.has_thread(event.thread) && make_named_ready(parts, event.thread, event.op)
+    parts.rows.has_thread(thread) && make_named_ready(parts, thread, op)
 }
 
 // Whether there is room for what the operation names, once that for an access is made, and that for a section
@@ -207,7 +170,7 @@ fn has_section(parts: &Parts, thread: ThreadId, lock: LockId) -> bool
     parts.rows.has_lock(lock) && parts.queues.ready(thread, lock) && parts.held.ready(thread)
 }
 
-// Whether the strict clocks of the event's thread and of what it names were made.
+// Whether the strict clocks of the thread and of what it names were made.
 fn has_clocks(rows: &StrictRows, thread: ThreadId, op: Op) -> bool
     ensures { IsTrue result ↔ HasClocks rows.now thread op }
 {
@@ -219,22 +182,22 @@ fn has_clocks(rows: &StrictRows, thread: ThreadId, op: Op) -> bool
         }
 }
 
-// Makes the clocks of the event's thread and of what it names where one is missing, those of happens-before
+// Makes the clocks of the thread and of what it names where one is missing, those of happens-before
 // first.
 #[tactic(auto, using(crate::proofs::Growth::grown_then))]
-fn make_clocks(parts: &mut Parts, event: &Event) -> Result<(), OutOfMemory>
-    requires { hb.IsWithin parts.old.hb.width event.now }
+fn make_clocks(parts: &mut Parts, thread: ThreadId, op: Op) -> Result<(), OutOfMemory>
+    requires { hb.IsWithin parts.old.hb.width thread op }
     ensures grown { HasGrown parts.old parts.new }
     ensures same { SamePlaces parts.old parts.new }
-    ensures clocks { MadeFor parts.old parts.new event.now.thread event.now.op }
-    ensures made { OnOk result (HasClocks parts.new.rows event.now.thread event.now.op) }
+    ensures clocks { MadeFor parts.old parts.new thread op }
+    ensures made { OnOk result (HasClocks parts.new.rows thread op) }
 {
-    if has_clocks(&parts.rows, event.thread, event.op) {
+    if has_clocks(&parts.rows, thread, op) {
         return Ok(());
     }
-    make_order(parts, event)?;
-    make_thread(parts, event.thread)?;
-    make_named(parts, event.op)
+    make_order(parts, thread, op)?;
+    make_thread(parts, thread)?;
+    make_named(parts, op)
 }
 
 // Makes the strict clocks of what the operation names.
@@ -253,14 +216,14 @@ fn make_named(parts: &mut Parts, op: Op) -> Result<(), OutOfMemory>
 }
 
 // Makes the clocks of program order and of happens-before.
-fn make_order(parts: &mut Parts, event: &Event) -> Result<(), OutOfMemory>
-    requires { hb.IsWithin parts.old.hb.width event.now }
+fn make_order(parts: &mut Parts, thread: ThreadId, op: Op) -> Result<(), OutOfMemory>
+    requires { hb.IsWithin parts.old.hb.width thread op }
     ensures grown { HasGrown parts.old parts.new }
     ensures same { SamePlaces parts.old parts.new }
-    ensures clocks { MadeFor parts.old parts.new event.now.thread event.now.op }
-    ensures made { OnOk result (hb.IsReady parts.new.hb event.now.thread event.now.op) }
+    ensures clocks { MadeFor parts.old parts.new thread op }
+    ensures made { OnOk result (hb.IsReady parts.new.hb thread op) }
 {
-    parts.hb.prepare(event)
+    parts.hb.prepare(thread, op)
 }
 
 // Makes the strict clocks of a thread that has its clocks of happens-before.

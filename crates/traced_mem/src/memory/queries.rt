@@ -6,12 +6,12 @@ ghost use Rattle.event_core.specs.declared.ids.LockId.{LockId as Lock};
 ghost use Rattle.event_core.specs.Refusal.{last_value, lock_depth, open_acquires};
 ghost use Rattle.event_core.specs.Refusal.{holder as holder_of};
 ghost use Rattle.traced_mem.specs.Tables.{meaning, Allows};
-ghost use Rattle.traced_mem.specs.Room.{HasRoom, IsReady, IsReadyToSwap};
+ghost use Rattle.traced_mem.specs.Room.{HasRoom, IsReady};
 ghost use Rattle.traced_mem.specs.OfLog.{StandsFor};
 ghost use Rattle.traced_mem.specs.Held.{AreHeld};
 
 use crate::memory::Memory;
-use event_core::{Call, LockId, Op, ThreadId, VarId};
+use event_core::{LockId, Op, ThreadId, VarId};
 
 impl Memory {
     /// How many events there were.
@@ -65,26 +65,9 @@ impl Memory {
         self.find_held(thread)
     }
 
-    /// Whether there is room for the call. There is for each release that is allowed.
+    /// Whether there is room for the thread's operation. There is for each release that is allowed.
     #[inline(always)]
-    pub fn ready(&self, call: &Call) -> bool
-        ensures room { IsTrue result ↔ IsReady self.now call.now.thread call.now.op }
-        ensures release { (lock : Lock) → call.now.op ≡ Operation.Release lock
-            → Allows self.now call.now.thread call.now.op
-            → IsTrue result }
-    {
-        self.has_room(call.thread, call.op)
-    }
-
-    /// Whether there is room for both calls of a swap.
-    pub fn ready_swap(&self, thread: ThreadId, var: VarId) -> bool
-        ensures { IsTrue result ↔ IsReadyToSwap self.now thread var }
-    {
-        self.has_room(thread, Op::Store(var))
-    }
-
-    #[inline(always)]
-    pub(super) fn has_room(&self, thread: ThreadId, op: Op) -> bool
+    pub fn ready(&self, thread: ThreadId, op: Op) -> bool
         ensures room { IsTrue result ↔ IsReady self.now thread op }
         ensures release { (lock : Lock) → op ≡ Operation.Release lock
             → Allows self.now thread op → IsTrue result }

@@ -8,7 +8,7 @@ pub make_places-requires-clause-named : goal.make_places-requires-clause-named
 make_places-requires-clause-named c =
     let old = c.args.parts.now in
     let new = c.make_clocks.new.parts in
-    names_kept old new c.args.event.now.op (grown_limits old new c.make_clocks.ensures.grown)
+    names_kept old new c.args.op (grown_limits old new c.make_clocks.ensures.grown)
     c.requires.within.1
 
 pub returns-clause-grown : goal.returns-clause-grown
@@ -16,11 +16,12 @@ returns-clause-grown c = grown_then _ _ _ c.make_clocks.ensures.grown c.make_pla
 
 pub returns-clause-ready : goal.returns-clause-ready
 returns-clause-ready c =
-    let e = c.args.event.now in
+    let t = c.args.thread in
+    let op = c.args.op in
     let made = c.make_clocks in
     let new = c.make_places.new.parts in
     let more = c.make_places.ensures.grown in
-    on_ok c.make_places.result (HasPlaces new e.thread e.op) (IsReady new e)
-    (ready_of new e (more.ordered (made.ensures.grown.ordered c.requires.parts.ordered))
-    (clocks_kept made.new.parts.rows new.rows e.thread e.op more.rows_room c.in_ok-make_clocks.ensures.made))
+    on_ok c.make_places.result (HasPlaces new t op) (IsReady new t op)
+    (ready_of new t op (more.ordered (made.ensures.grown.ordered c.requires.parts.ordered))
+    (clocks_kept made.new.parts.rows new.rows t op more.rows_room c.in_ok-make_clocks.ensures.made))
     c.make_places.ensures.made

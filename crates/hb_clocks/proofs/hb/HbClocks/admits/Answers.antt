@@ -7,7 +7,7 @@ use Rattle.hb_clocks.proofs.hb.HbClocks.admits.Goals as goal
 
 pub returns-in-Acquire : goal.returns-in-Acquire
 returns-in-Acquire c =
-    let t = c.args.event.now.thread in
+    let t = c.args.thread in
     let l = c.in-Acquire.lock in
     let holds : List Hold = c.args.self.now.holds in
     let same : c.deref.result.now ≡ holds = c.deref.ensures.value

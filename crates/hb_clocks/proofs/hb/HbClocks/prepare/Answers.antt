@@ -16,44 +16,44 @@ returns-in-Fork-clause-kept c t op ready =
 pub returns-in-Acquire-clause-ready : goal.returns-in-Acquire-clause-ready
 returns-in-Acquire-clause-ready c =
     let new = c.make_lock.new.self in
-    let t = c.args.event.now.thread in
+    let t = c.args.thread in
     let l = c.in-Acquire.lock in
     on_both c.make_lock.result (IsMade new.width new.lock l.0) (l.0 < length new.holds)
-    (IsReady new t c.args.event.now.op)
-    (ready_lock new t c.args.event.now.op l c.in-Acquire.is
+    (IsReady new t c.args.op)
+    (ready_lock new t c.args.op l c.in-Acquire.is
     (thread_stays c.make_thread.new.self new t c.make_lock.ensures.kept c.in_ok-make_thread.ensures.made))
     c.make_lock.ensures.clock c.make_lock.ensures.hold
 
 pub returns-in-Fork-clause-ready : goal.returns-in-Fork-clause-ready
 returns-in-Fork-clause-ready c =
     let new = c.make_thread-in-Fork.new.self in
-    let t = c.args.event.now.thread in
+    let t = c.args.thread in
     let u = c.in-Fork.child in
     on_ok c.make_thread-in-Fork.result (HasThread new.width new.po new.hb u.0)
-    (IsReady new t c.args.event.now.op)
-    (ready_thread new t c.args.event.now.op u c.in-Fork.is
+    (IsReady new t c.args.op)
+    (ready_thread new t c.args.op u c.in-Fork.is
     (thread_stays c.make_thread.new.self new t c.make_thread-in-Fork.ensures.kept
     c.in_ok-make_thread.ensures.made))
     c.make_thread-in-Fork.ensures.made
 
 pub returns-in_err-make_thread-clause-grown : goal.returns-in_err-make_thread-clause-grown
 returns-in_err-make_thread-clause-grown c =
-    c.make_thread.ensures.grown c.args.event.now.thread c.args.event.now.op (omega arith) (inl refl)
+    c.make_thread.ensures.grown c.args.thread c.args.op (omega arith) (inl refl)
 
 pub returns-in-Load-clause-grown : goal.returns-in-Load-clause-grown
 returns-in-Load-clause-grown c =
-    c.make_thread.ensures.grown c.args.event.now.thread c.args.event.now.op (omega arith) (inl refl)
+    c.make_thread.ensures.grown c.args.thread c.args.op (omega arith) (inl refl)
 
 pub returns-in-Acquire-clause-grown : goal.returns-in-Acquire-clause-grown
 returns-in-Acquire-clause-grown c =
-    let t = c.args.event.now.thread in
-    let op = c.args.event.now.op in
+    let t = c.args.thread in
+    let op = c.args.op in
     grown_then _ _ _ t op (c.make_thread.ensures.grown t op (omega arith) (inl refl))
     (lock_grown _ _ t op c.in-Acquire.lock c.in-Acquire.is (c.make_lock.ensures.grown t))
 
 pub returns-in-Fork-clause-grown : goal.returns-in-Fork-clause-grown
 returns-in-Fork-clause-grown c =
-    let t = c.args.event.now.thread in
-    let op = c.args.event.now.op in
+    let t = c.args.thread in
+    let op = c.args.op in
     grown_then _ _ _ t op (c.make_thread.ensures.grown t op (omega arith) (inl refl))
     (thread_grown _ _ t op c.in-Fork.child c.in-Fork.is (c.make_thread-in-Fork.ensures.grown t))

@@ -1,0 +1,34 @@
+-- What making room does to the parts of a monitor.
+use Rattle.std.specs.Prelude.{◌≡◌, ℕ, ◌≤◌, List}
+use Rattle.event_core.specs.declared.ids.ThreadId.{ThreadId}
+use Rattle.event_core.specs.declared.events.Event.{Event}
+use Rattle.event_core.specs.declared.events.Op.{Op}
+use Rattle.traced_mem.specs.Tables.{meaning}
+use Rattle.traced_mem.specs.Room.{IsReady as MemoryIsReady}
+use Rattle.traced_mem.specs.OfLog.{StandsFor}
+use Rattle.access_check.specs.Tables.{Grown, HasRoom as AccessesHaveRoom}
+use Rattle.wcp_clocks.specs.Parts.{SameNumbers, SameLimits, KeepsReady, IsReady as ClocksAreReady}
+use Rattle.seq_monitor.specs.declared.parts.Parts.{Parts}
+
+-- each part has as much room as before, or more, and all else is as it was
+pub record HasGrown (old new : Parts) : Type 0 where
+  pub memory : meaning new.memory ≡ meaning old.memory
+  pub memory_limits : new.memory.limits ≡ old.memory.limits
+  pub memory_stands : (past : List Event) → StandsFor old.memory past → StandsFor new.memory past
+  pub memory_room : (t : ThreadId) (o : Op) → MemoryIsReady old.memory t o → MemoryIsReady new.memory t o
+  pub numbers : SameNumbers old.clocks new.clocks
+  pub clock_limits : SameLimits old.clocks new.clocks
+  pub clock_room : KeepsReady old.clocks new.clocks
+  pub accesses : Grown old.accesses new.accesses
+  pub events : new.log.events ≡ old.log.events
+  pub event_room : old.log.room ≤ new.log.room
+  pub verdicts : new.verdicts.verdicts ≡ old.verdicts.verdicts
+  pub verdict_room : old.verdicts.room ≤ new.verdicts.room
+
+-- each part has room for the thread's operation, and the lists for so many more events
+pub record HasRoomFor (p : Parts) (t : ThreadId) (o : Op) (slots : ℕ) : Type 0 where
+  pub memory : MemoryIsReady p.memory t o
+  pub clocks : ClocksAreReady p.clocks t o
+  pub accesses : AccessesHaveRoom p.accesses t o
+  pub events : slots ≤ p.log.room
+  pub verdicts : slots ≤ p.verdicts.room
