@@ -80,7 +80,7 @@ legal log e m next = subst (λ (k : Limits). WellFormed k (log ++ e ∷ [])) nex
 
 -- room can be made for it in the clocks
 pub next_within : (old new : Tables) (p : Parts) (e : Event) (r : StandForOneLog old p) → IsNext r.log e new
-    → IsWithin p e
+    → IsWithin p e.thread e.op
 next_within old new p e r next =
     within_where_legal small r.log e p (legal r.log e new next) r.width r.clock_limits
 

@@ -99,8 +99,8 @@ impl Log {
         requires { length clock.now ≡ 3 }
     {
         assert!(rt; event.thread.0 < self.limits.threads());
-        assert!(rt; self.accesses.make_room(event).is_ok(), "memory");
-        assert!(rt; self.accesses.ready(event));
+        assert!(rt; self.accesses.prepare(event.thread, event.op).is_ok(), "memory");
+        assert!(rt; self.accesses.ready(event.thread, event.op));
         assert!(rt; self.length < 64);
         let verdict = self.accesses.verdict(event, clock);
         self.accesses.note(event, self.length, verdict);
@@ -158,8 +158,9 @@ fn accesses_of_one_thread_do_not_conflict(rt: HostRuntime) {
 #[test]
 fn a_swap_gets_room_for_both_its_events(rt: HostRuntime) {
     let mut log = Log::new(&rt, rt.alloc());
-    assert!(rt; log.accesses.make_room_swap(T1, X).is_ok(), "memory");
-    assert!(rt; log.accesses.ready(&event(T1, Op::Load(X))));
-    assert!(rt; log.accesses.ready(&event(T1, Op::Store(X))));
+    assert!(rt; log.accesses.prepare(T1, Op::Load(X)).is_ok(), "memory");
+    assert!(rt; log.accesses.prepare(T1, Op::Store(X)).is_ok(), "memory");
+    assert!(rt; log.accesses.ready(T1, Op::Load(X)));
+    assert!(rt; log.accesses.ready(T1, Op::Store(X)));
     drop(log);
 }

@@ -43,7 +43,7 @@ pub fn event(thread: ThreadId, op: Op) -> Event
 
 // Whether the threads that the event names are below 3.
 fn is_within(event: &Event) -> bool
-    ensures { IsTrue result ↔ IsWithin 3 event.now }
+    ensures { IsTrue result ↔ IsWithin 3 event.now.thread event.now.op }
 {
     event.thread.0 < 3
         && match event.op {
@@ -85,8 +85,8 @@ impl Run {
         let mut work = self.no_work(rt);
         assert!(rt; self.events < 100);
         assert!(rt; is_within(event));
-        assert!(rt; self.clocks.prepare(event).is_ok(), "memory");
-        assert!(rt; self.clocks.admits(event));
+        assert!(rt; self.clocks.prepare(event.thread, event.op).is_ok(), "memory");
+        assert!(rt; self.clocks.admits(event.thread, event.op));
         self.clocks.advance(event, &mut work);
         self.events += 1;
     }
@@ -158,7 +158,7 @@ impl Run {
                 expect(rt, at, self.clocks.depth(*thread, *lock), *wanted);
             }
             Row::Admits(thread, op, wanted) => {
-                expect(rt, at, self.clocks.admits(&event(*thread, *op)), *wanted);
+                expect(rt, at, self.clocks.admits(*thread, *op), *wanted);
             }
             Row::Mark(thread) => self.marked = Some(self.latest(rt, *thread)),
             Row::Counts(thread, wanted) => self.expect_counts(rt, at, *thread, wanted),

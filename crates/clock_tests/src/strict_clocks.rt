@@ -33,12 +33,12 @@ fn small_limits(rt: &impl Abort) -> Limits
 
 // Makes room for the event.
 fn make_room(rt: &impl Abort, clocks: &mut WcpClocks, event: &Event)
-    requires { IsWithin clocks.old event.now }
+    requires { IsWithin clocks.old event.now.thread event.now.op }
     ensures same { SameNumbers clocks.old clocks.new }
     ensures limits { SameLimits clocks.old clocks.new }
-    ensures ready { IsReady clocks.new event.now }
+    ensures ready { IsReady clocks.new event.now.thread event.now.op }
 {
-    assert!(rt; clocks.prepare(event).is_ok(), "memory");
+    assert!(rt; clocks.prepare(event.thread, event.op).is_ok(), "memory");
 }
 
 // The call is permitted, and there is room for it.
@@ -49,9 +49,9 @@ fn permit(rt: &impl Abort, memory: &mut Memory, call: &Call)
     ensures stands { (log : List AnEvent) → MemoryStandsFor memory.old log → MemoryStandsFor memory.new log }
 {
     assert!(rt; memory.permit(call).is_ok(), "a legal event");
-    assert!(rt; memory.prepare(call).is_ok(), "memory");
+    assert!(rt; memory.prepare(call.thread, call.op).is_ok(), "memory");
     assert!(rt; memory.permit(call).is_ok());
-    assert!(rt; memory.ready(call));
+    assert!(rt; memory.ready(call.thread, call.op));
 }
 
 fn strict_numbers(clocks: &WcpClocks, thread: ThreadId) -> [u64; 3]
@@ -151,10 +151,10 @@ fn an_inner_release_ends_no_section(rt: HostRuntime) {
 fn room_for_a_swap_serves_its_load_and_its_store(rt: HostRuntime) {
     let limits = small_limits(&rt);
     let mut clocks = WcpClocks::new(rt.alloc(), limits).expect(&rt, "memory");
-    assert!(rt; !clocks.ready_swap(MAIN, Y));
-    assert!(rt; clocks.prepare_swap(MAIN, Y).is_ok(), "memory");
-    assert!(rt; clocks.ready_swap(MAIN, Y));
-    assert!(rt; clocks.ready(&event(MAIN, Op::Load(Y))));
-    assert!(rt; clocks.ready(&event(MAIN, Op::Store(Y))));
+    assert!(rt; !clocks.ready(MAIN, Op::Load(Y)));
+    assert!(rt; !clocks.ready(MAIN, Op::Store(Y)));
+    assert!(rt; clocks.prepare(MAIN, Op::Load(Y)).is_ok(), "memory");
+    assert!(rt; clocks.ready(MAIN, Op::Load(Y)));
+    assert!(rt; clocks.ready(MAIN, Op::Store(Y)));
     drop(clocks);
 }

@@ -20,7 +20,7 @@ fn call(thread: u32, op: Op, arg: u64) -> Call {
 
 fn make_once(memory: &mut Memory, call: &Call) -> Answer {
     memory.permit(call)?;
-    if memory.prepare(call).is_err() {
+    if memory.prepare(call.thread, call.op).is_err() {
         return Err(Refusal::OutOfMemory);
     }
     Ok(memory.apply(call))
@@ -37,8 +37,10 @@ fn make(memory: &mut Memory, call: &Call, asks_again: bool) -> Answer {
 /// What a swap is answered: its load's value.
 fn swap_once(memory: &mut Memory, thread: u32, arg: u64) -> Answer {
     memory.permit_swap(ThreadId(thread), VarId(0))?;
-    if memory.prepare_swap(ThreadId(thread), VarId(0)).is_err()
-        || !memory.ready_swap(ThreadId(thread), VarId(0))
+    if memory.prepare(ThreadId(thread), LOAD).is_err()
+        || memory.prepare(ThreadId(thread), STORE).is_err()
+        || !memory.ready(ThreadId(thread), LOAD)
+        || !memory.ready(ThreadId(thread), STORE)
     {
         return Err(Refusal::OutOfMemory);
     }
