@@ -99,7 +99,10 @@ impl Log {
         requires { length clock.now ≡ 3 }
     {
         assert!(rt; event.thread.0 < self.limits.threads());
-        assert!(rt; self.accesses.prepare(event.thread, event.op).is_ok(), "memory");
+        assert!(rt;
+            self.accesses.prepare(event.thread, event.op).is_ok(),
+            "memory"
+        );
         assert!(rt; self.accesses.ready(event.thread, event.op));
         assert!(rt; self.length < 64);
         let verdict = self.accesses.verdict(event, clock);
