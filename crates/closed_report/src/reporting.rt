@@ -34,7 +34,7 @@ pub fn report_closed<W: Output>(
     // What is written is the report, with the definition's verdict on each event, and nothing else.
     ensures ok { IfOk result (λ summary.
         IsReportOf names.now closed.now.log (W.written writer.old) (W.written writer.new) summary) }
-    // A number has no name exactly where it is told so, with the first, and then nothing is written.
+    // It answers that a number has no name exactly where one has none, and then nothing is written.
     ensures unnamed { TellsUnnamed result ↔ (AreNamed names.now closed.now.log → ⊥) }
     ensures first { IfErr result (IsReason names.now closed.now.log) }
     ensures quiet { TellsUnnamed result → writer.new ≡ writer.old }

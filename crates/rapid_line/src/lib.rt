@@ -1,7 +1,7 @@
 //! One line of a RAPID STD trace: `thread|word(argument)|location`.
 //!
-//! The grammar says which content has which named event, and in which order the causes are looked at
-//! why a content has none. `read_line` reads a content from left to right and meets both.
+//! The grammar says which named event a content has. Where it has none, the causes have an order.
+//! `read_line` reads a content from left to right and meets both.
 #![tactic(auto)]
 
 mod bytes;

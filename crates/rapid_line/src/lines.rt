@@ -192,7 +192,7 @@ fn parts(bytes: &[u8]) -> Result<NamedLine<'_>, LineFault>
     named(thread, field, location)
 }
 
-/// The same as `read_line`, of a content of which it is known where its bars stand, and that it has no CR.
+/// The same as `read_line`, for a content without a CR whose bars are known.
 #[inline(always)]
 pub fn read_barred(
     bytes: &[u8],

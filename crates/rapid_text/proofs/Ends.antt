@@ -42,7 +42,7 @@ same_ends a b lengths few same =
     read_all a (length a) refl ∙ same_read (length a) a b few ends
     ∙ sym (read_all b (length a) (sym lengths))
 
--- what comes after the first n numbers is told by the last n, of up to twice as many
+-- of up to 2n numbers the last n tell what comes after the first n
 rest_of : (n : ℕ) (xs : List ℕ) → n ≤ length xs → length xs ≤ n + n
     → drop n xs ≡ drop (n + n - length xs) (drop (length xs - n) xs)
 rest_of n xs enough few =

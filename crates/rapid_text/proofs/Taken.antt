@@ -1,9 +1,8 @@
 -- What the steps of a cutter take of a text, and where a text stands that was not read to its end.
 use Rattle.std.proofs.Common.{◌≡◌, ℕ, ◌≤◌, ◌⊎◌, List, [], ◌∷◌, ◌++◌, length, length-append}
-use Rattle.std.proofs.Common.{Option, Some, None, Bool, true, refl, sym, ap, subst, ◌∙◌, append_assoc}
-use Rattle.std.proofs.Common.{append-nil, arith, inl, inr, take, drop}
+use Rattle.std.proofs.Common.{Option, Bool, true, refl, sym, ap, subst, ◌∙◌, append_assoc}
+use Rattle.std.proofs.Common.{append-nil, arith, take, drop}
 use Rattle.std.proofs.lemmas.List.{length-drop, take-append-drop}
-use Rattle.std.specs.Prelude.{IfSome}
 use Rattle.std.specs.Io.KnownBytes.{Consumes}
 use Rattle.rapid_line.specs.Cut.{count, after_last}
 use Rattle.rapid_line.specs.Lines.{Lines, Cuts, Keeps}
@@ -12,7 +11,6 @@ use Rattle.rapid_line.proofs.Cuts.{count-Lacks}
 use Rattle.rapid_line.proofs.LineLaws.{first_cut}
 use Rattle.event_core.specs.declared.events.Event.{Event}
 use Rattle.rapid_text.specs.Cutting.{Cutting, Pushes}
-use Rattle.rapid_text.specs.Feeding.{Pulled}
 use Rattle.rapid_text.specs.Taking.{Place, lines_place, place_of, start, AreUnended}
 use Rattle.rapid_text.specs.Taking.{Advances, StopsShort}
 
@@ -68,43 +66,21 @@ push_advances s t piece used o p few =
       taken = let left = length-drop used piece in omega (arith, p.taken, p.used_within, left);
     }
 
--- a text of which these bytes were pulled and taken, where the pulling stopped
+-- a text of which these bytes came and were taken, where the reading stopped
 pub stops_short : (left rest : Option (List ℕ)) (turns : ℕ) (failed : Bool) (now : Place)
-    (So Then : List ℕ → Type 0)
-    → Pulled left rest turns (λ bytes. So bytes × ((failed ≡ true) ⊎ (turns ≤ length bytes)))
-    → ((bytes : List ℕ) → So bytes → Advances start bytes [] now × Then bytes)
-    → StopsShort left rest turns failed now.unfinished Then
-stops_short left rest turns failed now So Then p takes =
-    let both = takes p.bytes p.so.0 in
-    let unended = both.0.unended (refl, omega arith) in
-    let kept : now.kept ≡ after_last 10 p.bytes =
+    (So : List ℕ → Type 0) (came : List ℕ) → Consumes left rest came
+    → (failed ≡ true) ⊎ (turns ≤ length came) → Advances start came [] now → So came
+    → StopsShort left rest turns failed now.unfinished So
+stops_short left rest turns failed now So came bytes why took so =
+    let unended = took.unended (refl, omega arith) in
+    let kept : now.kept ≡ after_last 10 came =
     sym (after_last-Lacks 10 now.kept unended.0)
-    ∙ ap (λ (b : List ℕ). after_last 10 b) (sym (append-nil now.kept)) ∙ both.0.kept in
+    ∙ ap (λ (b : List ℕ). after_last 10 b) (sym (append-nil now.kept)) ∙ took.kept in
     record {
-      came = p.bytes;
-      bytes = p.came;
-      why = p.so.1;
-      at = let lines = both.0.lines in omega (arith, lines);
+      came = came;
+      bytes = bytes;
+      why = why;
+      at = let lines = took.lines in omega (arith, lines);
       short = subst (λ (b : List ℕ). length b ≤ 1025) kept unended.1;
-      so = both.1;
+      so = so;
     }
-
--- so many bytes came, and so the text had as many at least
-many_bytes : (left rest : Option (List ℕ)) (came : List ℕ) (turns : ℕ) → Consumes left rest came
-    → turns ≤ length came → IfSome left (λ text. turns ≤ length text)
-many_bytes None rest came turns c many = tt
-many_bytes (Some text) None came turns c many = absurd c
-many_bytes (Some text) (Some rest) came turns c many =
-    let both : length text ≡ length (came ++ rest) = ap (λ (t : List ℕ). length t) c in
-    let parts = length-append came rest in
-    omega (arith, both, parts, many)
-
--- a text was not read to its end since a read failed or it has as many bytes as there are turns
-pub why_short : (left rest : Option (List ℕ)) (turns : ℕ) (failed : Bool) (n : ℕ) (So : List ℕ → Type 0)
-    → StopsShort left rest turns failed n So → (failed ≡ true) ⊎ IfSome left (λ text. turns ≤ length text)
-why_short left rest turns failed n So s = by s.why
-  where
-    by : (failed ≡ true) ⊎ (turns ≤ length s.came)
-        → (failed ≡ true) ⊎ IfSome left (λ text. turns ≤ length text)
-    by (inl bad) = inl bad
-    by (inr many) = inr (many_bytes left rest s.came turns s.bytes many)

@@ -32,7 +32,7 @@ judged s more = judge (lines_of (s.kept ++ more)) s.names s.unfinished
 
 -- a push that took the bytes and gave the event, if there was one
 pub record Pushes (old new : Cutting) (piece : List ℕ) (used : ℕ) (event : Option Event) : Type 0 where
-  -- what is still to be judged is the same text, but for the event
+  -- what is still to be judged is the same text without the event
   pub sound : (more : List ℕ)
       → judged old (piece ++ more) ≡ with_event new.line event (judged new (drop used piece ++ more))
   pub used_within : used ≤ length piece

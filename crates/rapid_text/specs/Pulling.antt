@@ -27,10 +27,9 @@ use Rattle.rapid_text.specs.Tables.{Tables, no_names}
 use Rattle.rapid_text.specs.Cutting.{Cutting}
 use Rattle.rapid_text.specs.Texts.{Judgement, judge, lines_of, with_event, ended, FirstAt}
 
--- what a reader holds but for its input: the names, the last answer's line, the number of the line whose end
--- was not seen,
--- the bytes that came and are still to be judged, the turns left, whether the text ended, and the line of
--- the first fault
+-- what a reader holds beside its input: the names, the last answer's line, the number of the line whose end
+-- was not seen, the bytes that came and are still to be judged, the turns left, whether the text ended, and
+-- the line of the first fault
 pub record Pulling : Type 0 where
   pub names : Tables
   pub line : ℕ

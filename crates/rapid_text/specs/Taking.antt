@@ -26,7 +26,7 @@ start = record { unfinished = 1; kept = []; taken = 0 }
 abbrev pub AreUnended : List ℕ → Type 0
 AreUnended kept = Lacks 10 kept × (length kept ≤ 1025)
 
--- the bytes were taken but for the rest
+-- all bytes but the rest were taken
 pub record Advances (old : Place) (bytes rest : List ℕ) (new : Place) : Type 0 where
   -- each LF ends a line, and what follows the last one is kept
   pub lines : new.unfinished + count 10 rest ≡ old.unfinished + count 10 bytes

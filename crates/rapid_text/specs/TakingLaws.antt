@@ -1,4 +1,5 @@
--- Pieces of a text that were taken, one after another, are one piece.
+-- Pieces of a text that were taken, one after another, are one piece. These lemmas stand among the
+-- definitions since ghost members of types cite them, in the crates that take texts.
 use Rattle.std.proofs.Common.{ℕ, List, [], ◌++◌, length-append, refl, sym, ap, ◌∙◌}
 use Rattle.std.proofs.Common.{append_assoc, append-nil, arith}
 use Rattle.rapid_line.proofs.Cuts.{after_last-append, count-append}

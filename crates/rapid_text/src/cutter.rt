@@ -1,7 +1,7 @@
 //! A text, which comes in pieces, read as events.
 //!
-//! It is cut into lines, and each is judged where it lies. So memory does not grow with the text but for new
-//! names.
+//! It is cut into lines, and each is judged where it lies. So memory grows with new names, and not with
+//! the text.
 //!
 //! The way of a line that lies whole in a piece is inlined from here to its event, since an answer that is
 //! handed up through memory costs more than the judgement. What is rare stands in functions of its own.
@@ -79,12 +79,12 @@ impl Cutter {
     }
 
     /// Takes bytes up to the end of the first line with an event, or all of them where no line with an event
-    /// ends, and says how many. The fault of a line is told with its number. A piece with which the text
+    /// ends, and says how many. The fault of a line has its number. A piece with which the text
     /// would pass 2^60 bytes is answered `Read`, a refused growth of the names `OutOfMemory`, at the line
     /// whose event would be the next answer, and each call after a fault `Failed`.
     #[inline(always)]
     pub fn push(&mut self, piece: &[u8]) -> Result<(usize, Option<Event>), TextFault>
-        // What is still to be judged is the same text, but for the event.
+        // What is still to be judged is the same text without the event.
         ensures ok { IfOk result (λ r. Pushes self.old self.new piece.now r.0 r.1) }
         // A fault is the one at which the text stops, whatever follows. A growth is refused at the first line
         // with an event, and no line before has a fault.

@@ -11,7 +11,7 @@ use indexmap::IndexSet;
 use std::alloc::{AllocError, Global};
 use std::marker::Model;
 
-/// Makes room for the note of one name more, and cache again what was noted where new places forget it.
+/// Makes room for the note of one name more. New places hold no note, so it notes all names again.
 fn make_room(cache: &mut NumberCache, alloc: Global, names: &[StoredName]) -> Result<(), AllocError>
     requires right { AreRight names.now cache.old }
     requires few { length names.now + 1 < 2 ^ 32 }

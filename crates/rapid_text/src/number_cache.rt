@@ -1,7 +1,7 @@
 //! A cache of the numbers of names.
 //!
 //! The set of names is searched by a hash of all the bytes and a comparison of them, through a table of its
-//! own. A name of up to sixteen bytes is told by its length and two words. So here it has a place by its
+//! own. The length and two words identify a name of up to sixteen bytes. So here it has a place by its
 //! words, and at each place stands a note of one name: most names are found by one read of memory. Where two
 //! names have one place, the second goes to a place beside it; where all those are taken, the note of an
 //! earlier name goes. Of a longer name there is no note.

@@ -2,7 +2,7 @@
 //!
 //! What waits in the window is pushed to the cutter. Where no line with an event ended, the next piece is
 //! pulled, for one turn; the end of the text finishes the cutter. So the number of pulls is bounded for an
-//! input of any behaviour, and each line that came whole is judged before a failure is told.
+//! input of any behaviour, and each line that came whole is judged before a failure is reported.
 ghost use Rattle.std.specs.Prelude.{◌≡◌, ◌≢◌, ℕ, ◌+◌, ◌*◌, ◌≤◌, length, IfOk, IfErr, IfSome, OnOk, Ok, None};
 ghost use Rattle.std.specs.Prelude.{Some, true, false};
 ghost use Rattle.std.specs.Result.{IsErrOf};
@@ -133,8 +133,8 @@ impl<I: Input> Reader<I> {
         })
     }
 
-    /// The next event of the text, or that it ended. Events have the value 0. The fault of a line is told
-    /// with its number; a failed read and turns that are used up are `Read`, a refused growth is
+    /// The next event of the text, or that it ended. Events have the value 0. The fault of a line has its
+    /// number; a failed read and turns that are used up are `Read`, a refused growth is
     /// `OutOfMemory`, at the line whose event would be the next answer, and each call after a fault is
     /// answered `Failed`.
     pub fn next(&mut self) -> Result<Option<Event>, TextFault>
@@ -153,14 +153,14 @@ impl<I: Input> Reader<I> {
         ensures failed { IfErr result (λ f. self.new.text.failed ≡ Some f.line) }
         ensures line { IfErr result (λ f. self.new.text.line ≡ f.line) }
         ensures live { OnOk result (self.new.text.failed ≡ None) }
-        // A failure of the input is never passed over: it is told as `Read`.
+        // A failure of the input is never passed over: it is answered `Read`.
         ensures healthy { OnOk result (self.new.read_failed ≡ self.old.read_failed) }
         ensures told { IfErr result (λ f.
             f.cause ≢ Cause.Read → self.new.read_failed ≡ self.old.read_failed) }
         ensures turns { self.new.text.turns ≤ self.old.text.turns }
         // However it ends, no more than 4,096 bytes were pulled for each turn.
         ensures few { TakeFew self.old.text.turns self.old.left self.new.text.turns self.new.left }
-        // Each turn took a byte, but for the one that found the end of the text or a failure.
+        // Each turn took a byte, except one that found the end of the text or a failure.
         ensures bytes { OnOk result (self.new.text.ended ≡ false
             → TakeBytes self.old.text.turns self.old.left self.new.text.turns self.new.left) }
         ensures read { IfErr result (λ f. f.cause ≡ Cause.Read → self.new.read_failed ≡ false

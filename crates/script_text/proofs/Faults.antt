@@ -113,12 +113,8 @@ module _ (limits : Bounds) (left rest : Option (List ℕ)) (turns : ℕ) (failed
           → n ≡ now.cutter.unfinished
           → IsFault limits left rest turns failed (record { line = n; cause = causes.Read }) causes.Read
       read_fault n p at =
+          let t = taken p.bytes p.so.0 in
           subst (λ (m : ℕ). ReadFails limits left rest turns failed m) (sym at)
-          (stops_short left rest turns failed (lines_place now.cutter) IsRead
-          (λ came. (more : List ℕ) (g : ScriptFault) → script_of limits (came ++ more) ≡ Err g
-          → now.cutter.unfinished ≤ g.line) p (λ bytes is_read.
-          let t = taken bytes is_read in (
-            t.advances,
-            λ more g e. judge_from now.parsed now.cutter.unfinished
-                (lines_of (now.cutter.kept ++ more)) g (sym (t.law more) ∙ e),
-          )))
+          (stops_short left rest turns failed (lines_place now.cutter) _ p.bytes p.came p.so.1 t.advances
+          (λ more g e. judge_from now.parsed now.cutter.unfinished (lines_of (now.cutter.kept ++ more)) g
+          (sym (t.law more) ∙ e)))

@@ -1,4 +1,5 @@
--- Pieces of a script, one after another, are one piece.
+-- Pieces of a script, one after another, are one piece. These lemmas stand among the definitions since the
+-- ghost members of `Reading` cite them.
 use Rattle.std.proofs.Common.{ℕ, List, [], ◌++◌, Option, Some, None, refl, sym, ap, ◌∙◌, append_assoc}
 use Rattle.std.proofs.Common.{arith}
 use Rattle.std.specs.Prelude.{IsSomeAnd}

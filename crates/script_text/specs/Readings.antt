@@ -29,7 +29,7 @@ judged p more = judge p.parsed p.cutter.unfinished (to_come p.cutter more)
 
 -- ---- a piece
 
--- the bytes were taken but for the rest, and what is still to be judged is the same
+-- all bytes but the rest were taken, and what is still to be judged is the same
 pub record Takes (old : Progress) (bytes rest : List ℕ) (new : Progress) : Type 0 where
   pub law : (more : List ℕ) → judged old (bytes ++ more) ≡ judged new (rest ++ more)
   pub advances : Advances (lines_place old.cutter) bytes rest (lines_place new.cutter)
@@ -91,8 +91,8 @@ HasNoneBefore limits left n = IfSome left (λ text. (g : ScriptFault) → script
 abbrev pub LacksFork : Bounds → Option (List ℕ) → ℕ → Type 0
 LacksFork limits left n = IfSome left (λ text. IsUnforked limits text n)
 
--- the fault is that of the text that the input had left; a failed read is told at the line whose end was not
--- seen, and want of memory at no later line than the first that has a cause
+-- the fault is that of the text that the input had left; a failed read is at the line whose end was not seen,
+-- and want of memory at no later line than the first that has a cause
 abbrev pub IsFault : Bounds → Option (List ℕ) → Option (List ℕ) → ℕ → Bool → ScriptFault → ScriptCause
     → Type 0
 IsFault limits left rest turns failed f causes.OutOfMemory = HasNoneBefore limits left f.line

@@ -8,7 +8,7 @@ ghost use Rattle.script_text.specs.Scripts.{Parsed, kind_of, numbered_line, numb
 ghost use Rattle.script_text.specs.Scripts.{is_bad_fork, is_bad_join, after_content};
 
 use crate::causes::ScriptCause;
-use crate::forms::{NamedAct, Word, read_content};
+use crate::forms::{NamedAct, Word, read_form};
 use crate::lines::ScriptLine;
 use crate::stored_lines::StoredLine;
 use event_core::ThreadId;
@@ -25,7 +25,7 @@ fn kind_of(word: Word) -> Kind
 }
 
 /// The number of a name in a line.
-fn number_in_line(names: &mut Names, kind: Kind, name: &[u8]) -> Result<u32, ScriptCause>
+fn number_of_name(names: &mut Names, kind: Kind, name: &[u8]) -> Result<u32, ScriptCause>
     requires { IsNameOf kind name.now }
     ensures ok { IfOk result (λ n. number_in names.old kind name.now ≡ Some (n, names.new)) }
     ensures fault { IfErr result (λ f. Fails f (number_or_cause (number_in names.old kind name.now))) }
@@ -39,15 +39,15 @@ fn number_in_line(names: &mut Names, kind: Kind, name: &[u8]) -> Result<u32, Scr
 
 /// What a line says, with its names numbered. After an `Err` some of its names may have been numbered.
 #[tactic(auto, unfolding(crate::specs::Scripts::numbered_line))]
-fn number_line(names: &mut Names, line: u64, said: &NamedAct<'_>) -> Result<StoredLine, ScriptCause>
+fn store_line(names: &mut Names, line: u64, said: &NamedAct<'_>) -> Result<StoredLine, ScriptCause>
     requires { AreNames (named_of said.now) }
     ensures ok { IfOk result (λ l. numbered_line names.old line (named_of said.now) ≡ Ok (l, names.new)) }
     ensures fault { IfErr result (λ f. Fails f (numbered_line names.old line (named_of said.now))) }
 {
     let mut digits = itoa::Buffer::new();
-    let thread = number_in_line(names, Kind::Thread, said.thread)?;
-    let target = number_in_line(names, kind_of(said.word), said.argument)?;
-    let site = number_in_line(names, Kind::Site, digits.format(line).as_bytes())?;
+    let thread = number_of_name(names, Kind::Thread, said.thread)?;
+    let target = number_of_name(names, kind_of(said.word), said.argument)?;
+    let site = number_of_name(names, Kind::Site, digits.format(line).as_bytes())?;
     Ok(StoredLine {
         word: said.word,
         thread,
@@ -108,8 +108,8 @@ pub fn add_line(
     if content.is_empty() {
         return Ok(());
     }
-    let said = read_content(content)?;
-    let stored = number_line(names, number, &said)?;
+    let said = read_form(content)?;
+    let stored = store_line(names, number, &said)?;
     let line = stored.get();
     if is_bad_fork(lines.as_slice(), &line) {
         return Err(ScriptCause::BadFork);

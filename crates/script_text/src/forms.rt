@@ -29,7 +29,7 @@ pub struct NamedAct<'a> {
 }
 
 #[tactic(auto, unfolding(crate::specs::Forms::word_of))]
-fn word_at(bytes: &[u8]) -> Option<Word>
+fn script_word(bytes: &[u8]) -> Option<Word>
     ensures { result ≡ word_of bytes.now }
 {
     if bytes == b"swap".as_slice() {
@@ -117,7 +117,7 @@ fn numbered_form<'a>(
 
 /// What a content says, which stands without its ending, or the first cause why it has none of the forms.
 #[tactic(auto, unfolding(crate::specs::Forms::line_of))]
-pub fn read_content(bytes: &[u8]) -> Result<NamedAct<'_>, ScriptCause>
+pub fn read_form(bytes: &[u8]) -> Result<NamedAct<'_>, ScriptCause>
     ensures is { Gives named_of result (line_of bytes.now) }
     ensures named { IfOk result (λ said. AreNames (named_of said)) }
     ensures fault { IfErr result (λ f. Fails f (line_of bytes.now)) }
@@ -134,7 +134,7 @@ pub fn read_content(bytes: &[u8]) -> Result<NamedAct<'_>, ScriptCause>
     let Some((word, rest)) = cut_at(rest, b' ') else {
         return Err(ScriptCause::BadLine);
     };
-    let Some(word) = word_at(word) else {
+    let Some(word) = script_word(word) else {
         return Err(ScriptCause::BadLine);
     };
     if word.takes_number() {

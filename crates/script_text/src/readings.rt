@@ -23,7 +23,7 @@ struct Reading {
     fault: Option<ScriptFault>,
 }
 
-/// The fault of a read that failed, which is told at the line whose end was not seen.
+/// The fault of a read that failed. It is at the line whose end was not seen.
 fn read_fault(cutter: &LineCutter) -> ScriptFault
     ensures { result ≡ record { line = cutter.now.unfinished; cause = ScriptCause.Read } }
 {
@@ -54,7 +54,7 @@ fn judge_line(
 }
 
 /// Takes the lines that end in the piece, up to the first that has a cause.
-fn take_lines(
+fn read_piece(
     names: &mut Names,
     lines: &mut Vec<StoredLine>,
     cutter: &mut LineCutter,
@@ -111,7 +111,7 @@ impl Sink for Reading {
     ghost stops = { λ s bytes t. IsSomeAnd t.fault (Stops (progress s.names s.lines.items s.cutter) bytes) };
 
     fn feed(&mut self, piece: &[u8]) -> bool {
-        if let Err(fault) = take_lines(&mut self.names, &mut self.lines, &mut self.cutter, piece) {
+        if let Err(fault) = read_piece(&mut self.names, &mut self.lines, &mut self.cutter, piece) {
             self.fault = Some(fault);
             return false;
         }
@@ -144,7 +144,7 @@ impl Reading {
 }
 
 /// Takes the text that the reader has left, to its end.
-fn read_text<I: Input>(
+fn read_script<I: Input>(
     reading: &mut Reading,
     reader: &mut I,
     limits: Limits,
@@ -193,7 +193,7 @@ pub fn read_lines<I: Input>(
     ensures told { IfErr result (λ f. f.cause ≢ ScriptCause.Read → I.failed reader.new ≡ false) }
 {
     let mut reading = Reading::new(alloc, limits);
-    match read_text(&mut reading, reader, limits, turns) {
+    match read_script(&mut reading, reader, limits, turns) {
         Ok(()) => Ok((reading.names, reading.lines)),
         Err(fault) => {
             drop(reading);

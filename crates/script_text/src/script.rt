@@ -98,14 +98,14 @@ impl Script {
         // Forks lead from thread 0 to each thread, and no thread is forked or joined twice.
         ensures script { IfOk result (λ s. IsScript s) }
         // The fault is the first of the text, or a growth was refused at no later line, or a read failed or
-        // the turns are used up. A read fault is told at the line whose end was not seen: each line that came
+        // the turns are used up. A read fault is at the line whose end was not seen. Each line that came
         // whole is without a cause, and at most 1,025 bytes came of that line, since with one more it is too
         // long.
         ensures fault { IfErr result (λ f.
             IsFault limits (I.left reader.old) (I.left reader.new) turns (I.failed reader.new) f f.cause) }
         // However it ends, no more than 65,536 bytes were read for each turn.
         ensures few { WithinTurns turns (I.left reader.old) (I.left reader.new) }
-        // A failure of the reader is never passed over: it is told as `Read`.
+        // A failure of the reader is never passed over: it is answered `Read`.
         ensures healthy { OnOk result (I.failed reader.new ≡ false) }
         ensures told { IfErr result (λ f. f.cause ≢ ScriptCause.Read → I.failed reader.new ≡ false) }
     {

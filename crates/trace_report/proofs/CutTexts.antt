@@ -3,6 +3,7 @@
 use Rattle.std.proofs.Common.{◌≡◌, ℕ, ◌+◌, List, [], ◌∷◌, ◌++◌, Option, Some, None, Result, Ok, Err}
 use Rattle.std.proofs.Common.{refl, sym, ap, subst, ◌∙◌, arith, ◌≤◌, ◌⊎◌, length, Bool, true}
 use Rattle.std.specs.Prelude.{IfErr}
+use Rattle.std.specs.Io.KnownBytes.{Consumes}
 use Rattle.event_core.specs.declared.bounds.Limits.{Limits}
 use Rattle.event_core.specs.declared.events.Event.{Event}
 use Rattle.event_core.specs.declared.replies.Refusal.{Refusal}
@@ -14,12 +15,11 @@ use Rattle.rapid_text.specs.Cutting.{Cutting, begun, judged}
 use Rattle.rapid_text.specs.Events.{reading}
 use Rattle.rapid_text.specs.Tables.{Tables}
 use Rattle.rapid_text.specs.Taking.{Advances, place_of}
-use Rattle.rapid_text.specs.Feeding.{Pulled}
 use Rattle.rapid_text.specs.Texts.{after_line, judge, lines_of}
 use Rattle.trace_report.specs.declared.faults.TraceFault.{TraceFault}
 use Rattle.trace_report.specs.declared.faults.TraceFault.TheVariants.{Text, Refused}
 use Rattle.trace_report.specs.Findings.{Trace, call_of, finding, finding_after, refused_or}
-use Rattle.trace_report.specs.Feeding.{IsCutAt, Takes, line_of}
+use Rattle.trace_report.specs.Judging.{IsCutAt, Takes, line_of}
 use Rattle.rapid_text.proofs.Taken.{stops_short}
 use Rattle.trace_report.proofs.Playing.{with_line}
 
@@ -60,22 +60,19 @@ from_line m log [] t n = tt
 from_line m log (l ∷ ls) t n =
     at_line m log ls t n (λ longer u. from_next n _ (from_line m longer ls u (n + 1))) (reading t (content l))
 
--- a text of which these bytes came and were taken, where the pulling stopped
+-- a text of which these bytes came and were taken, where the reading stopped
 pub cut_text : (m : Limits) (A B : Limits → List Event → Type 0) (left rest : Option (List ℕ)) (turns : ℕ)
-    (failed : Bool) (s t : Cutting) (So : List ℕ → Type 0) → s ≡ begun m → A m []
-    → Pulled left rest turns (λ bytes. So bytes × ((failed ≡ true) ⊎ (turns ≤ length bytes)))
-    → ((bytes : List ℕ) → So bytes → Takes A B s bytes [] t)
+    (failed : Bool) (s t : Cutting) → s ≡ begun m → A m [] → (came : List ℕ) → Consumes left rest came
+    → (failed ≡ true) ⊎ (turns ≤ length came) → Takes A B s came [] t
     → IsCutAt m left rest turns failed (Text (record { line = t.unfinished; cause = Read }))
 unfolding finding
-cut_text m A B left rest turns failed s t So is a pulled takes = record {
+cut_text m A B left rest turns failed s t is a came bytes why takes = record {
   line = t.unfinished;
   at = refl;
-  stops = stops_short left rest turns failed (place_of t) So _ pulled (λ bytes so. let all = takes bytes so in
-      let on = all.goes_on m [] a in (
-        subst (λ (c : Cutting). Advances (place_of c) bytes [] (place_of t)) is all.advances,
-        λ (more : List ℕ). subst (λ (found : Result Trace TraceFault). IsFrom t.unfinished found)
-            (sym (ap (λ (c : Cutting). finding_after m [] (judged c (bytes ++ more))) (sym is)
-            ∙ on.same more))
-            (from_line m on.longer (lines_of (t.kept ++ more)) t.names t.unfinished),
-      ));
+  stops = let on = takes.goes_on m [] a in
+      stops_short left rest turns failed (place_of t) _ came bytes why
+      (subst (λ (c : Cutting). Advances (place_of c) came [] (place_of t)) is takes.advances)
+      (λ more. subst (λ (found : Result Trace TraceFault). IsFrom t.unfinished found)
+      (sym (ap (λ (c : Cutting). finding_after m [] (judged c (came ++ more))) (sym is) ∙ on.same more))
+      (from_line m on.longer (lines_of (t.kept ++ more)) t.names t.unfinished));
 }

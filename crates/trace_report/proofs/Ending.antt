@@ -9,7 +9,7 @@ use Rattle.rapid_text.specs.Texts.{ended}
 use Rattle.rapid_text.specs.Events.{IsOfNames}
 use Rattle.rapid_text.specs.Cutting.{Cutting, Closes}
 use Rattle.trace_report.specs.Findings.{call_of, finding_after}
-use Rattle.trace_report.specs.Feeding.{Ends}
+use Rattle.trace_report.specs.Judging.{Ends}
 use Rattle.trace_report.proofs.Naming.{named_kept, named_line}
 use Rattle.trace_report.proofs.Playing.{with_line, goes_on, event_closed, closed_nothing}
 

@@ -10,7 +10,7 @@ use Rattle.trace_report.specs.declared.faults.TraceFault.{TraceFault}
 use Rattle.trace_report.specs.Findings.{finding_after, IsReached}
 use Rattle.trace_report.specs.Replayed.{fault_gives_up}
 use Rattle.trace_report.specs.Replaying.{fault_or}
-use Rattle.trace_report.specs.Feeding.{RanOut, Takes, Stops}
+use Rattle.trace_report.specs.Judging.{RanOut, Takes, Stops}
 
 -- these are its limits and its log
 abbrev pub IsOf : Limits → List Event → Limits → List Event → Type 0

@@ -17,7 +17,7 @@ use Rattle.rapid_text.specs.Cutting.{Cutting, judged, Pushes, FailsAt}
 use Rattle.rapid_text.specs.Texts.{Judgement}
 use Rattle.trace_report.specs.declared.faults.TraceFault.TheVariants.{Text, Refused}
 use Rattle.trace_report.specs.Findings.{call_of, finding_after, IsReached}
-use Rattle.trace_report.specs.Feeding.{Declines, Takes, Stops}
+use Rattle.trace_report.specs.Judging.{Declines, Takes, Stops}
 use Rattle.rapid_text.proofs.Taken.{push_advances}
 use Rattle.trace_report.proofs.Naming.{named_kept, named_line}
 use Rattle.trace_report.proofs.Playing.{with_line, goes_on, event_pushed, nothing_pushed, declined}

@@ -18,7 +18,7 @@ use Rattle.trace_report.specs.declared.faults.TraceFault.TheVariants.{Text, Refu
 use Rattle.trace_report.specs.Findings.{call_of, ended_with, refused_or, played, finding_after, IsReached}
 use Rattle.trace_report.specs.Findings.{RunsOut}
 use Rattle.trace_report.specs.Replayed.{cause_gives_up, refusal_gives_up}
-use Rattle.trace_report.specs.Feeding.{Declines, is_read, Says}
+use Rattle.trace_report.specs.Judging.{Declines, is_read, Says}
 
 -- ---- a judgement after a log
 

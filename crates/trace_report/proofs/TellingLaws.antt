@@ -19,7 +19,7 @@ use Rattle.trace_report.specs.Reports.{AreWithin}
 use Rattle.trace_report.specs.Findings.{Trace, finding}
 use Rattle.trace_report.specs.Replayed.{answer_gives_up, gives_up, fault_text, IfFound, Told, TellsText}
 use Rattle.trace_report.specs.Replaying.{fault_or}
-use Rattle.trace_report.specs.Feeding.{FindsTrace, FindsFault, RanOut, ReachesLine}
+use Rattle.trace_report.specs.Judging.{FindsTrace, FindsFault, RanOut, ReachesLine}
 use Rattle.trace_report.specs.Checked.{ChecksText, counted, counts_line, counts_of, told}
 
 -- the verdicts on a log name earlier events of it

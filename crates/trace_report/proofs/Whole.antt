@@ -13,7 +13,7 @@ use Rattle.rapid_text.specs.declared.feeding.Fed.{Fed}
 use Rattle.rapid_text.specs.declared.feeding.Fed.TheVariants as fed
 use Rattle.trace_report.specs.declared.faults.TraceFault.{TraceFault}
 use Rattle.trace_report.specs.Findings.{finding, finding_after, IsReached}
-use Rattle.trace_report.specs.Feeding.{Says, Takes, Stops, Ends, IsFed, FindsTrace, FindsFault, is_read_fault}
+use Rattle.trace_report.specs.Judging.{Says, Takes, Stops, Ends, IsFed, FindsTrace, FindsFault, is_read_fault}
 use Rattle.rapid_text.specs.declared.causes.Cause.TheVariants.{Read}
 use Rattle.trace_report.specs.declared.faults.TraceFault.TheVariants.{Text}
 use Rattle.trace_report.proofs.Naming.{nothing_named}

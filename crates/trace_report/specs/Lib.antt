@@ -4,6 +4,6 @@ pub mod Reports
 pub mod Findings
 pub mod Replayed
 pub mod Replaying
-pub mod Feeding
-pub mod FeedLaws
+pub mod Judging
+pub mod JudgingLaws
 pub mod Checked

@@ -1,7 +1,7 @@
 //! The check of a trace, from the bytes of a reader to its one line.
 ghost use Rattle.std.specs.Prelude.{◌≡◌, ◌≢◌, ◌≤◌, Err, true, false};
 ghost use Rattle.trace_report.specs.Replayed.{answer_gives_up, IfFound};
-ghost use Rattle.trace_report.specs.Feeding.{HasRead, RanOut, ReachesLine};
+ghost use Rattle.trace_report.specs.Judging.{HasRead, RanOut, ReachesLine};
 ghost use Rattle.trace_report.specs.Checked.{ChecksText};
 
 use crate::counts::Counts;

@@ -4,7 +4,7 @@ ghost use Rattle.event_core.specs.declared.bounds.Limits.{Limits as Bounds};
 ghost use Rattle.event_core.specs.declared.events.Event.{Event as Entry};
 ghost use Rattle.event_core.specs.Refusal.{event_of, refusal};
 ghost use Rattle.trace_report.specs.Findings.{call_of};
-ghost use Rattle.trace_report.specs.Feeding.{Declines};
+ghost use Rattle.trace_report.specs.Judging.{Declines};
 
 use event_core::{Call, Event, Refusal};
 use seq_monitor::Monitor;

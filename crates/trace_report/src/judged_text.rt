@@ -6,7 +6,7 @@ ghost use Rattle.event_core.specs.declared.bounds.Limits.{Limits as Bounds};
 ghost use Rattle.event_core.specs.declared.events.Event.{Event as Entry};
 ghost use Rattle.rapid_text.specs.Cutting.{begun, judged};
 ghost use Rattle.rapid_text.specs.declared.causes.Cause.TheVariants.{Read};
-ghost use Rattle.trace_report.specs.Feeding.{Says, Takes, Stops, Ends, is_read_fault};
+ghost use Rattle.trace_report.specs.Judging.{Says, Takes, Stops, Ends, is_read_fault};
 
 use crate::faults::TraceFault;
 use crate::judge::Judge;
@@ -99,7 +99,7 @@ impl<J: Judge> JudgedText<J> {
     }
 
     /// Takes the next piece, and answers whether no fault stands. With a fault it takes nothing.
-    pub fn take(&mut self, piece: &[u8]) -> bool
+    pub fn feed_piece(&mut self, piece: &[u8]) -> bool
         ensures again { self.old.fault ≢ None → (result ≡ false) × (self.new ≡ self.old) }
         ensures takes { result ≡ true → (self.new.fault ≡ None)
             × Takes (J.is_after self.old.judge) (J.is_after self.new.judge) self.old.cutter piece.now []
@@ -153,8 +153,8 @@ impl<J: Judge> JudgedText<J> {
 
 impl<J: Judge> Sink for JudgedText<J> {
     ghost use Rattle.std.specs.Prelude.{◌≡◌, None, [], IsSomeAnd};
-    ghost use Rattle.trace_report.specs.Feeding.{Takes, Stops};
-    ghost use Rattle.trace_report.specs.FeedLaws.{takes_none, takes_both, some_stops_after};
+    ghost use Rattle.trace_report.specs.Judging.{Takes, Stops};
+    ghost use Rattle.trace_report.specs.JudgingLaws.{takes_none, takes_both, some_stops_after};
 
     ghost takes = { λ s bytes t. s.fault ≡ None → (t.fault ≡ None)
         × Takes (J.is_after s.judge) (J.is_after t.judge) s.cutter bytes [] t.cutter };
@@ -163,7 +163,7 @@ impl<J: Judge> Sink for JudgedText<J> {
         → IsSomeAnd t.fault (Stops (J.is_after s.judge) s.cutter bytes) };
 
     fn feed(&mut self, piece: &[u8]) -> bool {
-        self.take(piece)
+        self.feed_piece(piece)
     }
 
     ghost takes_nothing = { λ s fault. (fault, takes_none (J.is_after s.judge) s.cutter [] (s.live fault)) };

@@ -7,7 +7,7 @@ ghost use Rattle.rapid_text.specs.Taking.{Advances, place_of};
 ghost use Rattle.rapid_text.specs.declared.causes.Cause.TheVariants.{Read};
 ghost use Rattle.trace_report.specs.Replayed.{fault_gives_up, answer_gives_up, IfFound, Told};
 ghost use Rattle.trace_report.specs.Replaying.{unfed, after, ReachesIn};
-ghost use Rattle.trace_report.specs.Feeding.{RanOut, is_read_fault};
+ghost use Rattle.trace_report.specs.Judging.{RanOut, is_read_fault};
 
 use crate::faults::{ReplayFault, TraceFault};
 use crate::judged_text::JudgedText;
@@ -70,7 +70,7 @@ impl Replayer {
         ensures advances { self.new.fault ≡ None
             → Advances (place_of self.old.text) piece.now [] (place_of self.new.text) }
     {
-        self.text.take(piece)
+        self.text.feed_piece(piece)
     }
 
     /// Stands for a read that failed, at the line whose end was not seen. It is without effect where a fault

@@ -1,7 +1,7 @@
 //! The replay of a trace, from the bytes of a reader to its report.
 ghost use Rattle.std.specs.Prelude.{◌≡◌, ◌≢◌, ◌⊎◌, ◌≤◌, Err, true, false};
 ghost use Rattle.trace_report.specs.Replayed.{answer_gives_up, IfFound, TellsText};
-ghost use Rattle.trace_report.specs.Feeding.{HasRead, RanOut, ReachesLine, line_of};
+ghost use Rattle.trace_report.specs.Judging.{HasRead, RanOut, ReachesLine, line_of};
 
 use crate::faults::{ReplayFault, TraceFault};
 use crate::summary::Summary;

@@ -1,7 +1,7 @@
 //! A text that is judged whole, from an input.
 ghost use Rattle.std.specs.Prelude.{◌≡◌, ◌≤◌, [], None, true, IfErr, IfOk, IfSome, OnOk};
 ghost use Rattle.rapid_text.specs.Turns.{WithinTurns};
-ghost use Rattle.trace_report.specs.Feeding.{IsFed, FindsTrace, FindsFault, IsCutAt, is_read_fault};
+ghost use Rattle.trace_report.specs.Judging.{IsFed, FindsTrace, FindsFault, IsCutAt, is_read_fault};
 
 use crate::faults::TraceFault;
 use crate::judge::Judge;

@@ -12,7 +12,7 @@ use Rattle.trace_report.specs.declared.faults.ReplayFault.TheVariants.{Found, Wr
 use Rattle.trace_report.specs.declared.faults.TraceFault.{TraceFault}
 use Rattle.trace_report.specs.declared.faults.TraceFault.TheVariants.{Text, Refused}
 use Rattle.trace_report.specs.declared.summary.Summary.{Summary}
-use Rattle.trace_report.specs.Feeding.{HasRead, IsCutAt, is_read, is_read_fault}
+use Rattle.trace_report.specs.Judging.{HasRead, IsCutAt, is_read, is_read_fault}
 use Rattle.wcp_tool.specs.declared.endings.Ending.TheVariants.{Done, Races, ReadFault}
 use Rattle.wcp_tool.specs.Endings.{cause_ending, check_ending, fault_ending, refusal_ending, replay_ending}
 use Rattle.wcp_tool.specs.Running.{CutsTrace}

@@ -12,7 +12,7 @@ use Rattle.trace_report.specs.declared.faults.TraceFault.{TraceFault}
 use Rattle.trace_report.specs.declared.summary.Summary.{Summary}
 use Rattle.trace_report.specs.declared.counts.Counts.{Counts}
 use Rattle.trace_report.specs.Checked.{ChecksText}
-use Rattle.trace_report.specs.Feeding.{IsCutAt}
+use Rattle.trace_report.specs.Judging.{IsCutAt}
 use Rattle.trace_report.specs.Replayed.{TellsText, answer_gives_up}
 use Rattle.wcp_tool.specs.declared.requests.UsageFault.{UsageFault}
 use Rattle.wcp_tool.specs.declared.requests.UsageFault.TheVariants as faults

@@ -141,8 +141,8 @@ pub fn tool<
     }
 }
 
-/// The words that the process was started with, but for the program's own name. Where they cannot be had, one
-/// is no text, which is told, or memory ran out.
+/// The words that the process was started with, without the program's own name. Where they cannot be had, one
+/// is no text, which standard error says, or memory ran out.
 fn words<R: Env + AllocGlobal, E: Output>(rt: &R, errors: &mut E) -> Result<Vec<String>, Ending>
     ensures { IfErr result (λ e. (e ≡ Ending.WrongUsage) ⊎ (e ≡ Ending.OutOfMemory)) }
 {

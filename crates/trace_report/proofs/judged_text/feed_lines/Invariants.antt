@@ -1,5 +1,5 @@
 use Rattle.std.proofs.Common.{length}
-use Rattle.trace_report.specs.Feeding.{Takes}
+use Rattle.trace_report.specs.Judging.{Takes}
 use Rattle.trace_report.proofs.judged_text.feed_lines.Given as goal
 
 abbrev pub invariant-lines : goal.invariant-lines

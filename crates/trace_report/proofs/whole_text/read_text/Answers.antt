@@ -39,6 +39,6 @@ returns-clause-cut g c =
     if_stands _ (c.read_failed.ensures.fault takes.0) (λ _.
     cut_text c.args.limits (after c.new-text.result.judge) (after c.feed_all.new.sink.judge)
     (left c.args.reader.now) (left c.feed_all.new.input) c.args.turns (g.I.Input.failed c.feed_all.new.input)
-    c.new-text.result.cutter c.feed_all.new.sink.cutter _ c.new-text.ensures.cutter
-    (subst (λ j. after j c.args.limits []) (sym c.new-text.ensures.judge) c.requires.begins) pulled
-    (λ bytes so. (so c.new-text.ensures.fault).1))
+    c.new-text.result.cutter c.feed_all.new.sink.cutter c.new-text.ensures.cutter
+    (subst (λ j. after j c.args.limits []) (sym c.new-text.ensures.judge) c.requires.begins) pulled.bytes
+    pulled.came pulled.so.1 takes.1)

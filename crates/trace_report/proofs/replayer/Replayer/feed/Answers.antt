@@ -4,7 +4,7 @@ use Rattle.event_core.specs.declared.events.Event.{Event}
 use Rattle.seq_monitor.specs.declared.monitor.Monitor.{Monitor}
 use Rattle.trace_report.specs.declared.judged_text.JudgedText.{JudgedText}
 use Rattle.trace_report.specs.Reports.{AreNamed}
-use Rattle.trace_report.specs.Feeding.{RanOut}
+use Rattle.trace_report.specs.Judging.{RanOut}
 use Rattle.trace_report.specs.Replaying.{Replaying, ReachesIn, after}
 use Rattle.trace_report.proofs.FedLaws.{was_taken, fed_law, fed_reached}
 use Rattle.trace_report.proofs.replayer.Replayer.feed.Goals as goal
@@ -12,32 +12,32 @@ use Rattle.trace_report.proofs.replayer.Replayer.feed.Goals as goal
 pub invariant_of-self : goal.invariant_of-self
 invariant_of-self c none =
     let s = c.self.inside.text in
-    let t = c.take.new.self in
-    let both = was_taken _ c.take.result s.fault t.fault
-    (λ stood. let same = c.take.ensures.again stood in
+    let t = c.feed_piece.new.self in
+    let both = was_taken _ c.feed_piece.result s.fault t.fault
+    (λ stood. let same = c.feed_piece.ensures.again stood in
     (same.0, ap (λ (x : JudgedText Monitor). x.fault) same.1))
-    c.take.ensures.stops none in
-    let on = (c.take.ensures.takes both.0).1.goes_on s.judge.limits s.judge.log (refl, refl) in
+    c.feed_piece.ensures.stops none in
+    let on = (c.feed_piece.ensures.takes both.0).1.goes_on s.judge.limits s.judge.log (refl, refl) in
     subst (λ (log : List Event). AreNamed t.cutter.names log) (sym on.after.1)
     (on.named (c.self.invariant both.1))
 
 pub returns-clause-law : goal.returns-clause-law
 returns-clause-law c gives more =
     let s = c.self.inside.text in
-    let t = c.take.new.self in
+    let t = c.feed_piece.new.self in
     fed_law s.judge.limits t.judge.limits s.judge.log t.judge.log s.cutter t.cutter c.args.piece.now more
-    c.take.result s.fault t.fault
-    (λ stood. let same = c.take.ensures.again stood in
+    c.feed_piece.result s.fault t.fault
+    (λ stood. let same = c.feed_piece.ensures.again stood in
     (same.0, ap (λ (x : JudgedText Monitor). x.fault) same.1))
-    c.take.ensures.takes c.take.ensures.stops gives
+    c.feed_piece.ensures.takes c.feed_piece.ensures.stops gives
     ∙ ap (λ (r : Replaying). after r (c.args.piece.now ++ more)) c.self.view_is
 
 pub returns-clause-memory : goal.returns-clause-memory
 returns-clause-memory c none =
     let s = c.self.inside.text in
-    let t = c.take.new.self in
+    let t = c.feed_piece.new.self in
     let stood : s.fault ≡ None = ap (λ (r : Replaying). r.fault) c.self.view_is ∙ none in
     subst (λ (r : Replaying). IfSome t.fault (λ f. RanOut f → (more : List ℕ)
     → ReachesIn r (c.args.piece.now ++ more) f)) c.self.view_is
-    (fed_reached s.judge.limits s.judge.log s.cutter c.args.piece.now c.take.result t.fault
-    (λ took. (c.take.ensures.takes took).0) (c.take.ensures.stops stood))
+    (fed_reached s.judge.limits s.judge.log s.cutter c.args.piece.now c.feed_piece.result t.fault
+    (λ took. (c.feed_piece.ensures.takes took).0) (c.feed_piece.ensures.stops stood))

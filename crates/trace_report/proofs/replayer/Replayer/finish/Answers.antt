@@ -10,7 +10,7 @@ use Rattle.trace_report.specs.declared.summary.Summary.{Summary}
 use Rattle.trace_report.specs.Findings.{Trace, finding_after}
 use Rattle.trace_report.specs.Replayed.{Told}
 use Rattle.trace_report.specs.Replaying.{Replaying, ReachesIn, after}
-use Rattle.trace_report.specs.Feeding.{RanOut}
+use Rattle.trace_report.specs.Judging.{RanOut}
 use Rattle.trace_report.specs.Reports.{AreNamed}
 use Rattle.trace_report.proofs.TellingLaws.{answered, answered_or, ended_fault, ended_trace, fault_told}
 use Rattle.trace_report.proofs.TellingLaws.{gives, if_found}

@@ -10,7 +10,7 @@ use Rattle.rapid_text.specs.Taking.{place_of}
 use Rattle.rapid_text.specs.TakingLaws.{advances_none, advances_more, advances_before}
 use Rattle.trace_report.specs.declared.faults.TraceFault.{TraceFault}
 use Rattle.trace_report.specs.Findings.{finding_after, IsReached}
-use Rattle.trace_report.specs.Feeding.{Takes, Stops}
+use Rattle.trace_report.specs.Judging.{Takes, Stops}
 
 pub takes_none : (A : Limits → List Event → Type 0) (s : Cutting) (bytes : List ℕ) → s.failed ≡ None
     → Takes A A s bytes bytes s

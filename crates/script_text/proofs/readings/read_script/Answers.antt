@@ -2,7 +2,7 @@ use Rattle.std.proofs.Common.{refl, sym, subst}
 use Rattle.script_text.specs.declared.causes.ScriptFault.{ScriptFault}
 use Rattle.script_text.specs.Readings.{IsFault, progress}
 use Rattle.script_text.proofs.Faults.{stopped_fault, read_fault, end_fault, all_draft}
-use Rattle.script_text.proofs.readings.read_text.Goals as goal
+use Rattle.script_text.proofs.readings.read_script.Goals as goal
 
 pub returns-in-Stopped-clause-fault : goal.returns-in-Stopped-clause-fault
 returns-in-Stopped-clause-fault g c =

@@ -5,7 +5,7 @@ use Rattle.rapid_text.proofs.Pieces.{goes_down}
 use Rattle.script_text.specs.Readings.{progress}
 use Rattle.script_text.specs.ReadingLaws.{takes_none, takes_more, stops_later}
 use Rattle.script_text.proofs.Steps.{takes_line, takes_rest, ended_stops, long_stops, no_room}
-use Rattle.script_text.proofs.readings.take_lines.Goals as goal
+use Rattle.script_text.proofs.readings.read_piece.Goals as goal
 
 pub returns-then-not-has_room-clause-fault : goal.returns-then-not-has_room-clause-fault
 returns-then-not-has_room-clause-fault c =
