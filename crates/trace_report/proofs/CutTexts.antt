@@ -3,7 +3,6 @@
 use Rattle.std.proofs.Common.{◌≡◌, ℕ, ◌+◌, List, [], ◌∷◌, ◌++◌, Option, Some, None, Result, Ok, Err}
 use Rattle.std.proofs.Common.{refl, sym, ap, subst, ◌∙◌, arith, ◌≤◌, ◌⊎◌, length, Bool, true}
 use Rattle.std.specs.Prelude.{IfErr}
-use Rattle.std.specs.Io.KnownBytes.{Consumes}
 use Rattle.event_core.specs.declared.bounds.Limits.{Limits}
 use Rattle.event_core.specs.declared.events.Event.{Event}
 use Rattle.event_core.specs.declared.replies.Refusal.{Refusal}
@@ -14,10 +13,11 @@ use Rattle.rapid_text.specs.declared.causes.Cause.TheVariants.{Read}
 use Rattle.rapid_text.specs.Cutting.{Cutting, begun, judged}
 use Rattle.rapid_text.specs.Events.{reading}
 use Rattle.rapid_text.specs.Tables.{Tables}
+use Rattle.rapid_text.specs.Feeding.{Pulled}
 use Rattle.rapid_text.specs.Taking.{Advances, place_of}
 use Rattle.rapid_text.specs.Texts.{after_line, judge, lines_of}
 use Rattle.trace_report.specs.declared.faults.TraceFault.{TraceFault}
-use Rattle.trace_report.specs.declared.faults.TraceFault.TheVariants.{Text, Refused}
+use Rattle.trace_report.specs.declared.faults.TraceFault.TheVariants.{Text}
 use Rattle.trace_report.specs.Findings.{Trace, call_of, finding, finding_after, refused_or}
 use Rattle.trace_report.specs.Judging.{IsCutAt, Takes, line_of}
 use Rattle.rapid_text.proofs.Taken.{stops_short}
@@ -60,19 +60,22 @@ from_line m log [] t n = tt
 from_line m log (l ∷ ls) t n =
     at_line m log ls t n (λ longer u. from_next n _ (from_line m longer ls u (n + 1))) (reading t (content l))
 
--- a text of which these bytes came and were taken, where the reading stopped
-pub cut_text : (m : Limits) (A B : Limits → List Event → Type 0) (left rest : Option (List ℕ)) (turns : ℕ)
-    (failed : Bool) (s t : Cutting) → s ≡ begun m → A m [] → (came : List ℕ) → Consumes left rest came
-    → (failed ≡ true) ⊎ (turns ≤ length came) → Takes A B s came [] t
+-- a text of which some bytes came and were taken, where the reading stopped
+pub cut_text : {m : Limits} {A B : Limits → List Event → Type 0} {left rest : Option (List ℕ)} {turns : ℕ}
+    {failed : Bool} {So : List ℕ → Type 0} {s t : Cutting} → s ≡ begun m
+    → (p : Pulled left rest turns (λ bytes. So bytes × ((failed ≡ true) ⊎ (turns ≤ length bytes))))
+    → Takes A B s p.bytes [] t → A m []
     → IsCutAt m left rest turns failed (Text (record { line = t.unfinished; cause = Read }))
 unfolding finding
-cut_text m A B left rest turns failed s t is a came bytes why takes = record {
-  line = t.unfinished;
-  at = refl;
-  stops = let on = takes.goes_on m [] a in
-      stops_short left rest turns failed (place_of t) _ came bytes why
-      (subst (λ (c : Cutting). Advances (place_of c) came [] (place_of t)) is takes.advances)
-      (λ more. subst (λ (found : Result Trace TraceFault). IsFrom t.unfinished found)
-      (sym (ap (λ (c : Cutting). finding_after m [] (judged c (came ++ more))) (sym is) ∙ on.same more))
-      (from_line m on.longer (lines_of (t.kept ++ more)) t.names t.unfinished));
-}
+cut_text {m} {left = left} {rest = rest} {turns = turns} {failed = failed} {s = s} {t = t} is p takes first =
+    let on = takes.goes_on m [] first in
+    record {
+      line = t.unfinished;
+      at = refl;
+      stops = stops_short left rest turns failed (place_of t) _ p.bytes p.came p.so.1
+          (subst (λ (c : Cutting). Advances (place_of c) p.bytes [] (place_of t)) is takes.advances)
+          (λ more. subst (λ (found : Result Trace TraceFault). IsFrom t.unfinished found)
+          (sym (ap (λ (c : Cutting). finding_after m [] (judged c (p.bytes ++ more))) (sym is)
+          ∙ on.same more))
+          (from_line m on.longer (lines_of (t.kept ++ more)) t.names t.unfinished));
+    }

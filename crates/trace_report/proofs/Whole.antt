@@ -1,7 +1,6 @@
 -- A text that was pulled whole, and what it comes to.
-use Rattle.std.proofs.Common.{◌≡◌, ℕ, ◌*◌, ◌≤◌, List, [], ◌++◌, Option, Some, None, true}
-use Rattle.std.proofs.Common.{length, length-append, append-nil, refl, sym, ap, subst, ◌∙◌, arith, ◌⊎◌, inl}
-use Rattle.std.proofs.Common.{inr}
+use Rattle.std.proofs.Common.{◌≡◌, ℕ, List, [], ◌++◌, Option, Some, None}
+use Rattle.std.proofs.Common.{append-nil, refl, sym, ap, subst, ◌∙◌}
 use Rattle.std.specs.Prelude.{IfSome, IsSomeAnd}
 use Rattle.std.specs.Io.KnownBytes.{Consumes, IsAtEnd}
 use Rattle.event_core.specs.declared.bounds.Limits.{Limits}
@@ -9,11 +8,9 @@ use Rattle.event_core.specs.declared.events.Event.{Event}
 use Rattle.rapid_text.specs.Cutting.{Cutting, begun, judged}
 use Rattle.rapid_text.specs.Feeding.{Pulled, Whole}
 use Rattle.rapid_text.specs.Tables.{Tables}
-use Rattle.rapid_text.specs.declared.feeding.Fed.{Fed}
-use Rattle.rapid_text.specs.declared.feeding.Fed.TheVariants as fed
 use Rattle.trace_report.specs.declared.faults.TraceFault.{TraceFault}
 use Rattle.trace_report.specs.Findings.{finding, finding_after, IsReached}
-use Rattle.trace_report.specs.Judging.{Says, Takes, Stops, Ends, IsFed, FindsTrace, FindsFault, is_read_fault}
+use Rattle.trace_report.specs.Judging.{Says, Takes, Stops, Ends, IsFed, FindsTrace, FindsFault}
 use Rattle.rapid_text.specs.declared.causes.Cause.TheVariants.{Read}
 use Rattle.trace_report.specs.declared.faults.TraceFault.TheVariants.{Text}
 use Rattle.trace_report.proofs.Naming.{nothing_named}
@@ -36,38 +33,42 @@ begins None rest bytes came = record { more = []; is_left = tt }
 begins (Some text) None bytes came = absurd came
 begins (Some text) (Some rest) bytes came = record { more = rest; is_left = sym came }
 
--- ---- what was taken
+-- ---- what was taken of a text, from its first byte and by a judge that is before any event
 
-module _ (m : Limits) (A : Limits → List Event → Type 0) (left rest : Option (List ℕ)) (s : Cutting)
-    (is : s ≡ begun m) (a : A m []) where
-  pub taken_whole : (B : Limits → List Event → Type 0) (t : Cutting) (bytes : List ℕ)
-      → Consumes left rest bytes → IsAtEnd rest → Takes A B s bytes [] t → IsFed m left (B m) t
-  unfolding finding
-  taken_whole B t bytes came ended takes =
-      let on = takes.goes_on m [] a in
-      record {
-        text = bytes;
-        is_left = all_left left rest bytes came ended;
-        log = on.longer;
-        after = on.after;
-        named = on.named (nothing_named s.names);
-        same = ap (λ (c : Cutting). finding_after m [] (judged c bytes)) (sym is)
-            ∙ ap (λ (text : List ℕ). finding_after m [] (judged s text)) (sym (append-nil bytes))
-            ∙ on.same [];
-        reached = λ f h. subst (λ (text : List ℕ). IsReached m [] (judged (begun m) text) f)
-            (append-nil bytes)
-            (subst (λ (c : Cutting). IsReached m [] (judged c (bytes ++ [])) f) is (on.reached [] f h));
-      }
+-- all of it
+pub taken_whole : {m : Limits} {A B : Limits → List Event → Type 0} {left rest : Option (List ℕ)} {turns : ℕ}
+    {So : List ℕ → Type 0} {s t : Cutting} → s ≡ begun m → (w : Whole left rest turns So)
+    → Takes A B s w.pulled.bytes [] t → A m [] → IsFed m left (B m) t
+unfolding finding
+taken_whole {m = m} {left = left} {rest = rest} {s = s} is w takes first =
+    let bytes = w.pulled.bytes in
+    let on = takes.goes_on m [] first in
+    record {
+      text = bytes;
+      is_left = all_left left rest bytes w.pulled.came w.ended;
+      log = on.longer;
+      after = on.after;
+      named = on.named (nothing_named s.names);
+      same = ap (λ (c : Cutting). finding_after m [] (judged c bytes)) (sym is)
+          ∙ ap (λ (text : List ℕ). finding_after m [] (judged s text)) (sym (append-nil bytes))
+          ∙ on.same [];
+      reached = λ f h. subst (λ (text : List ℕ). IsReached m [] (judged (begun m) text) f)
+          (append-nil bytes)
+          (subst (λ (c : Cutting). IsReached m [] (judged c (bytes ++ [])) f) is (on.reached [] f h));
+    }
 
-  pub stop_found : (o : Option TraceFault) (bytes : List ℕ) → Consumes left rest bytes
-      → IsSomeAnd o (Stops A s bytes) → IfSome o (FindsFault m left)
-  unfolding finding
-  stop_found None bytes came stops = absurd stops
-  stop_found (Some f) bytes came stops =
-      let b = begins left rest bytes came in
-      let says = subst (λ (c : Cutting). Says m [] (judged c (bytes ++ b.more)) f) is
-      (stops.says m [] a b.more) in
-      record { text = bytes ++ b.more; is_left = b.is_left; finds = says.finds; reached = says.reached }
+-- what came up to a fault
+pub stop_found : {m : Limits} (A : Limits → List Event → Type 0) {left rest : Option (List ℕ)} {turns : ℕ}
+    {So : List ℕ → Type 0} {s : Cutting} (o : Option TraceFault) → s ≡ begun m
+    → (p : Pulled left rest turns So) → IsSomeAnd o (Stops A s p.bytes) → A m []
+    → IfSome o (FindsFault m left)
+unfolding finding
+stop_found A None is p stops first = absurd stops
+stop_found {m = m} A {left = left} {rest = rest} (Some f) is p stops first =
+    let b = begins left rest p.bytes p.came in
+    let says = subst (λ (c : Cutting). Says m [] (judged c (p.bytes ++ b.more)) f) is
+    (stops.says m [] first b.more) in
+    record { text = p.bytes ++ b.more; is_left = b.is_left; finds = says.finds; reached = says.reached }
 
 -- ---- what it comes to
 
@@ -112,12 +113,12 @@ end_is_found m left B s (Some h) f fed stood at_end same =
     subst (λ (k : TraceFault). FindsFault m left k) (sym same) stood
 
 -- a read that failed says nothing of the text
-pub cut_says_nothing : (m : Limits) (left rest : Option (List ℕ)) (bytes : List ℕ) (n : ℕ)
-    → Consumes left rest bytes → FindsFault m left (Text (record { line = n; cause = Read }))
-cut_says_nothing m left rest bytes n came =
-    let b = begins left rest bytes came in
+pub cut_says_nothing : {m : Limits} {left rest : Option (List ℕ)} {turns : ℕ} {So : List ℕ → Type 0} {n : ℕ}
+    → Pulled left rest turns So → FindsFault m left (Text (record { line = n; cause = Read }))
+cut_says_nothing {left = left} {rest = rest} p =
+    let b = begins left rest p.bytes p.came in
     record {
-      text = bytes ++ b.more;
+      text = p.bytes ++ b.more;
       is_left = b.is_left;
       finds = λ g. absurd (cc);
       reached = λ out. absurd (cc);
