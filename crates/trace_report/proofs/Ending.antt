@@ -13,21 +13,21 @@ use Rattle.trace_report.specs.Judging.{Ends}
 use Rattle.trace_report.proofs.Naming.{named_kept, named_line}
 use Rattle.trace_report.proofs.Playing.{with_line, goes_on, event_closed, closed_nothing}
 
-pub ends_nothing : (m : Limits) (After : List Event → Type 0) (s t : Cutting) (log : List Event)
-    (o : Option Event) → Closes s t o → o ≡ None → TablesGrow s.names t.names → After log
+pub ends_nothing : (m : Limits) (After : List Event → Type 0) {s t : Cutting} (log : List Event)
+    {o : Option Event} → Closes s t o → o ≡ None → TablesGrow s.names t.names → After log
     → Ends m After s log t.names
-ends_nothing m After s t log o p is grows a = record {
+ends_nothing m After {s = s} {t = t} log {o = o} p is grows a = record {
   longer = log;
   after = a;
   named = named_kept s.names t.names log grows;
   finds = closed_nothing m log s t o p is;
 }
 
-pub ends_event : (m : Limits) (After : List Event → Type 0) (s t : Cutting) (log : List Event)
-    (o : Option Event) (e : Event) → Closes s t o → o ≡ Some e → TablesGrow s.names t.names
+pub ends_event : (m : Limits) (After : List Event → Type 0) {s t : Cutting} (log : List Event)
+    {o : Option Event} {e : Event} → Closes s t o → o ≡ Some e → TablesGrow s.names t.names
     → IfSome o (IsOfNames t.names) → refusal m log (call_of e) ≡ None → After (with_line log e)
     → Ends m After s log t.names
-ends_event m After s t log o e p is grows named allowed a = record {
+ends_event m After {s = s} {t = t} log {o = o} {e = e} p is grows named allowed a = record {
   longer = with_line log e;
   after = a;
   named = λ h. named_line s.names t.names log e grows h

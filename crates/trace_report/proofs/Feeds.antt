@@ -23,13 +23,13 @@ use Rattle.trace_report.proofs.Naming.{named_kept, named_line}
 use Rattle.trace_report.proofs.Playing.{with_line, goes_on, event_pushed, nothing_pushed, declined}
 use Rattle.trace_report.proofs.Playing.{push_stops, push_read, first_reached}
 
-pub takes_event : (A B : Limits → List Event → Type 0) (s t : Cutting) (piece : List ℕ) (used : ℕ)
-    (o : Option Event) (e : Event) → Pushes s t piece used o → AreUnended t.kept → o ≡ Some e
+pub takes_event : (A B : Limits → List Event → Type 0) {s t : Cutting} {piece : List ℕ} {used : ℕ}
+    {o : Option Event} {e : Event} → Pushes s t piece used o → AreUnended t.kept → o ≡ Some e
     → TablesGrow s.names t.names → IfSome o (IsOfNames t.names)
     → ((m : Limits) (log : List Event) → A m log → refusal m log (call_of e) ≡ None)
     → ((m : Limits) (log : List Event) → A m log → B m (with_line log e))
     → Takes A B s piece (drop used piece) t
-takes_event A B s t piece used o e p few is grows named allowed after = record {
+takes_event A B {s = s} {t = t} {piece = piece} {used = used} {o = o} {e = e} p few is grows named allowed after = record {
   live = p.live.1;
   advances = push_advances s t piece used o p few;
   goes_on = λ m log a. record {
@@ -44,10 +44,10 @@ takes_event A B s t piece used o e p few is grows named allowed after = record {
   };
 }
 
-pub takes_rest : (A : Limits → List Event → Type 0) (s t : Cutting) (piece : List ℕ) (used : ℕ)
-    (o : Option Event) → Pushes s t piece used o → AreUnended t.kept → o ≡ None → TablesGrow s.names t.names
+pub takes_rest : (A : Limits → List Event → Type 0) {s t : Cutting} {piece : List ℕ} {used : ℕ}
+    {o : Option Event} → Pushes s t piece used o → AreUnended t.kept → o ≡ None → TablesGrow s.names t.names
     → Takes A A s piece [] t
-takes_rest A s t piece used o p few is grows = record {
+takes_rest A {s = s} {t = t} {piece = piece} {used = used} {o = o} p few is grows = record {
   live = p.live.1;
   advances = subst (λ (rest : List ℕ). Advances (place_of s) piece rest (place_of t))
       (ap (λ (n : ℕ). drop n piece) (p.all_used is) ∙ drop-length piece)
@@ -63,10 +63,9 @@ takes_rest A s t piece used o p few is grows = record {
 }
 
 -- each event takes a byte at least
-pub fewer : (s t : Cutting) (piece : List ℕ) (used : ℕ) (o : Option Event) (e : Event) → Pushes s t piece
-    used o
-    → o ≡ Some e → length (drop used piece) < length piece
-fewer s t piece used o e p is =
+pub fewer : {s t : Cutting} {piece : List ℕ} {used : ℕ} {o : Option Event} {e : Event}
+    → Pushes s t piece used o → o ≡ Some e → length (drop used piece) < length piece
+fewer {piece = piece} {used = used} p is =
     let some : 0 < used = subst (λ (x : Option Event). IfSome x (λ _. 0 < used)) is p.some in
     let within = p.used_within in
     let left = length-drop used piece in
@@ -83,11 +82,11 @@ text_stops A s piece f live fails = record {
   read = λ short. push_read s piece f f.cause fails short;
 }
 
-pub event_stops : (A : Limits → List Event → Type 0) (s t : Cutting) (piece : List ℕ) (used line : ℕ)
-    (o : Option Event) (e : Event) (r : Refusal) → Pushes s t piece used o → o ≡ Some e
+pub event_stops : (A : Limits → List Event → Type 0) {s t : Cutting} {piece : List ℕ} {used line : ℕ}
+    {o : Option Event} {e : Event} (r : Refusal) → Pushes s t piece used o → o ≡ Some e
     → ((m : Limits) (log : List Event) → A m log → Declines m log e r) → line ≡ t.line
     → Stops A s piece (Refused line r)
-event_stops A s t piece used line o e r p is declines at = record {
+event_stops A {s = s} {t = t} {piece = piece} {used = used} {line = line} {o = o} {e = e} r p is declines at = record {
   says = λ m log a more. declined m log line t.line e r (judged t (drop used piece ++ more)) _
       (event_pushed s t piece used o e p is more) (declines m log a) at;
   read = λ short. absurd (cc);

@@ -81,56 +81,56 @@ pub fault_told : (found : Result Trace TraceFault) (old new : Option (List ℕ))
 fault_told found old new r f e is a = subst (λ (x : Result Trace TraceFault). Told old new x (Err r)) (sym e)
     (record { text = fault_text f; tells = (is, refl); written = a })
 
-module _ (m : Limits) (left old new : Option (List ℕ)) where
-  pub trace_tells : (After : List Event → Type 0) (names told_names : Tables) (log : List Event)
-      (answer : Result Summary ReplayFault) → FindsTrace m left After names
-      → ((found : List Event) → After found → log ≡ found) → told_names ≡ names
-      → Told old new (Ok (record { names = told_names; log = log })) answer → TellsText m left old new answer
-  trace_tells After names told_names log answer f is named tells = record {
-    text = f.text;
-    is_left = f.is_left;
-    holds = subst (λ (found : Result Trace TraceFault). Told old new found answer)
-        (ap₂ (λ (t : Tables) (l : List Event). Ok (record { names = t; log = l })) named (is f.log f.after)
-        ∙ sym f.finds)
-        tells;
-  }
+pub trace_tells : {m : Limits} {left old new : Option (List ℕ)} {After : List Event → Type 0}
+    {names told_names : Tables} {log : List Event} {answer : Result Summary ReplayFault}
+    → FindsTrace m left After names → ((found : List Event) → After found → log ≡ found) → told_names ≡ names
+    → Told old new (Ok (record { names = told_names; log = log })) answer → TellsText m left old new answer
+trace_tells {old = old} {new = new} {answer = answer} f is named tells = record {
+  text = f.text;
+  is_left = f.is_left;
+  holds = subst (λ (found : Result Trace TraceFault). Told old new found answer)
+      (ap₂ (λ (t : Tables) (l : List Event). Ok (record { names = t; log = l })) named (is f.log f.after)
+      ∙ sym f.finds)
+      tells;
+}
 
-  pub fault_tells : (r : ReplayFault) (f : TraceFault) → FindsFault m left f
-      → (r ≡ Found f) × (gives_up f ≡ false) → Appends old new (fault_text f)
-      → TellsText m left old new (Err r)
-  fault_tells r f found is written = record {
-    text = found.text;
-    is_left = found.is_left;
-    holds = fault_told _ old new r f (found.finds is.1) is.0 written;
-  }
+pub fault_tells : {m : Limits} {left : Option (List ℕ)} (old new : Option (List ℕ)) {r : ReplayFault}
+    {f : TraceFault} → FindsFault m left f → (r ≡ Found f) × (gives_up f ≡ false)
+    → Appends old new (fault_text f) → TellsText m left old new (Err r)
+fault_tells old new {r = r} {f = f} found is written = record {
+  text = found.text;
+  is_left = found.is_left;
+  holds = fault_told _ old new r f (found.finds is.1) is.0 written;
+}
 
-  -- ---- a check
+-- ---- a check
 
-  pub trace_checks : (After : List Event → Type 0) (events : ℕ) (names : Tables) (c : Counts)
-      → FindsTrace m left After names → ((log : List Event) → After log → events ≡ length log)
-      → c ≡ counts_of events names → Appends old new (counts_line c) → ChecksText m left old new (Ok c)
-  trace_checks After events names c f count is written = record {
-    text = f.text;
-    is_left = f.is_left;
-    holds = (
-      ap (λ (x : Counts). Ok x) (is ∙ ap (λ (n : ℕ). counts_of n names) (count f.log f.after))
-          ∙ sym (ap counted f.finds),
-      written,
-    );
-  }
+pub trace_checks : {m : Limits} {left : Option (List ℕ)} (old new : Option (List ℕ))
+    {After : List Event → Type 0} {events : ℕ} {names : Tables} {c : Counts} → FindsTrace m left After names
+    → ((log : List Event) → After log → events ≡ length log) → c ≡ counts_of events names
+    → Appends old new (counts_line c) → ChecksText m left old new (Ok c)
+trace_checks old new {names = names} f count is written = record {
+  text = f.text;
+  is_left = f.is_left;
+  holds = (
+    ap (λ (x : Counts). Ok x) (is ∙ ap (λ (n : ℕ). counts_of n names) (count f.log f.after))
+        ∙ sym (ap counted f.finds),
+    written,
+  );
+}
 
-  pub fault_checks : (r : ReplayFault) (f : TraceFault) → FindsFault m left f
-      → (r ≡ Found f) × (gives_up f ≡ false) → Appends old new (fault_text f)
-      → ChecksText m left old new (Err r)
-  fault_checks r f found is written = record {
-    text = found.text;
-    is_left = found.is_left;
-    holds = subst (λ (x : ReplayFault). (answered Counts x ≡ counted (finding m found.text))
-        × Appends old new (told (answered Counts x))) (sym is.0)
-        (sym (ap counted (found.finds is.1)), written);
-  }
+pub fault_checks : {m : Limits} {left : Option (List ℕ)} (old new : Option (List ℕ)) {r : ReplayFault}
+    {f : TraceFault} → FindsFault m left f → (r ≡ Found f) × (gives_up f ≡ false)
+    → Appends old new (fault_text f) → ChecksText m left old new (Err r)
+fault_checks {m} old new found is written = record {
+  text = found.text;
+  is_left = found.is_left;
+  holds = subst (λ (x : ReplayFault). (answered Counts x ≡ counted (finding m found.text))
+      × Appends old new (told (answered Counts x))) (sym is.0)
+      (sym (ap counted (found.finds is.1)), written);
+}
 
-pub found_reached : (m : Limits) (left : Option (List ℕ)) (f : TraceFault) → FindsFault m left f → RanOut f
+pub found_reached : {m : Limits} {left : Option (List ℕ)} {f : TraceFault} → FindsFault m left f → RanOut f
     → ReachesLine m left f
-found_reached m left f found out =
+found_reached found out =
     record { text = found.text; is_left = found.is_left; holds = found.reached out }

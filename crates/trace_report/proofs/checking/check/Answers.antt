@@ -7,9 +7,8 @@ use Rattle.trace_report.proofs.checking.check.Goals as goal
 
 pub returns-in-Ok-write-clause-checks : goal.returns-in-Ok-write-clause-checks
 returns-in-Ok-write-clause-checks g c _ =
-    trace_checks c.args.limits (g.I.Input.left c.args.reader.now) (g.O.Output.written c.args.writer.now)
-    (g.O.Output.written c.write.new.writer) _ c.len.result c.in-Ok.text.cutter.names
-    c.of-counts.result c.in-Ok.ensures.trace (λ log after. c.len.ensures.count log after.1)
+    trace_checks (g.O.Output.written c.args.writer.now) (g.O.Output.written c.write.new.writer)
+    c.in-Ok.ensures.trace (λ log after. c.len.ensures.count log after.1)
     (c.of-counts.ensures ∙ ap (λ (t : Tables). counts_of c.len.result t) c.names.ensures)
     c.in-Ok-write.ensures.ok
 
@@ -17,9 +16,8 @@ pub returns-in-Err-clause-checks : goal.returns-in-Err-clause-checks
 returns-in-Err-clause-checks g c says =
     let f = c.in-Err.fault in
     let is = gives Counts c.tell_failure.result f c.tell_failure.ensures.is says in
-    fault_checks c.args.limits (g.I.Input.left c.args.reader.now) (g.O.Output.written c.args.writer.now)
-    (g.O.Output.written c.tell_failure.new.writer) c.tell_failure.result f c.in-Err.ensures.fault is
-    (c.tell_failure.ensures.tells is.0 is.1)
+    fault_checks (g.O.Output.written c.args.writer.now) (g.O.Output.written c.tell_failure.new.writer)
+    c.in-Err.ensures.fault is (c.tell_failure.ensures.tells is.0 is.1)
 
 pub returns-in-Err-clause-reads : goal.returns-in-Err-clause-reads
 returns-in-Err-clause-reads g c = record {
@@ -32,4 +30,4 @@ returns-in-Err-clause-reads g c = record {
 pub returns-in-Err-clause-memory : goal.returns-in-Err-clause-memory
 returns-in-Err-clause-memory g c =
     if_found Counts _ c.tell_failure.result c.in-Err.fault c.tell_failure.ensures.is
-    (found_reached c.args.limits (g.I.Input.left c.args.reader.now) c.in-Err.fault c.in-Err.ensures.fault)
+    (found_reached c.in-Err.ensures.fault)

@@ -21,16 +21,15 @@ returns-in_default-clause-ok g c =
     let before = g.J.Judge.is_after c.lines.judge in
     takes_more (g.J.Judge.is_after c.args.judge.now) before before c.args.cutter.now c.lines.cutter
     c.push.new.self c.args.piece.now c.lines.rest.now _ c.lines.invariant
-    (takes_rest before c.lines.cutter c.push.new.self c.lines.rest.now c.in-Ok.pushed.0 c.in-Ok.pushed.1
-    c.in-Ok.ensures.ok (c.push.ensures.unfinished, c.push.ensures.kept) c.in_default.is c.push.ensures.grows)
+    (takes_rest before c.in-Ok.ensures.ok (c.push.ensures.unfinished, c.push.ensures.kept) c.in_default.is
+    c.push.ensures.grows)
 
 pub returns-in-Err-judge-clause-fault : goal.returns-in-Err-judge-clause-fault
 returns-in-Err-judge-clause-fault g c =
     let before = g.J.Judge.is_after c.lines.judge in
     stops_later (g.J.Judge.is_after c.args.judge.now) before c.args.cutter.now c.lines.cutter c.args.piece.now
     c.lines.rest.now _ c.lines.invariant
-    (event_stops before c.lines.cutter c.push.new.self c.lines.rest.now c.in-Ok.pushed.0 c.line.result
-    c.in-Ok.pushed.1 c.in-Some.event c.in-Err-judge.refusal c.in-Ok.ensures.ok c.in-Some.is
+    (event_stops before c.in-Err-judge.refusal c.in-Ok.ensures.ok c.in-Some.is
     c.in-Err-judge.ensures.refused c.line.ensures)
 
 pub lines-preserved : goal.lines-preserved
@@ -41,14 +40,11 @@ lines-preserved g c =
     c.push.new.self c.args.piece.now c.lines.rest.now _ c.lines.invariant
     (subst (λ (rest : List ℕ). Takes before after c.lines.cutter c.lines.rest.now rest c.push.new.self)
     (sym c.rest_after-rest.ensures)
-    (takes_event before after c.lines.cutter c.push.new.self c.lines.rest.now c.in-Ok.pushed.0
-    c.in-Ok.pushed.1
-    c.in-Some.event c.in-Ok.ensures.ok (c.push.ensures.unfinished, c.push.ensures.kept) c.in-Some.is
-    c.push.ensures.grows c.in-Ok.ensures.named
-    c.in_default-judge.ensures.allowed c.in_default-judge.ensures.after))
+    (takes_event before after c.in-Ok.ensures.ok (c.push.ensures.unfinished, c.push.ensures.kept) c.in-Some.is
+    c.push.ensures.grows c.in-Ok.ensures.named c.in_default-judge.ensures.allowed
+    c.in_default-judge.ensures.after))
 
 pub lines-smaller : goal.lines-smaller
 lines-smaller g c =
     subst (λ (rest : List ℕ). length rest < length c.lines.rest.now) (sym c.rest_after-rest.ensures)
-    (fewer c.lines.cutter c.push.new.self c.lines.rest.now c.in-Ok.pushed.0 c.in-Ok.pushed.1 c.in-Some.event
-    c.in-Ok.ensures.ok c.in-Some.is)
+    (fewer c.in-Ok.ensures.ok c.in-Some.is)

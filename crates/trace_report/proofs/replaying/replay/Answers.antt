@@ -1,4 +1,4 @@
-use Rattle.std.proofs.Common.{◌≡◌, List, inl, sym, subst}
+use Rattle.std.proofs.Common.{List, inl, sym, subst}
 use Rattle.event_core.specs.declared.events.Event.{Event}
 use Rattle.rapid_text.specs.Tables.{Tables}
 use Rattle.trace_report.specs.declared.summary.Summary.{Summary}
@@ -17,21 +17,15 @@ tell_trace-answer-requires g c =
 
 pub returns-clause-tells : goal.returns-clause-tells
 returns-clause-tells g c says =
-    let text = c.in-Ok-judge_text.text in
-    let written = g.O.Output.written in
-    trace_tells c.args.limits (g.I.Input.left c.args.reader.now) (written c.args.writer.now)
-    (written c.tell_trace-answer.new.writer)
-    (λ (log : List Event). (text.judge.limits ≡ c.args.limits) × (text.judge.log ≡ log)) text.cutter.names
-    c.names.result.now text.judge.log c.tell_trace-answer.result c.in-Ok-judge_text.ensures.trace
-    (λ log a. a.1) c.names.ensures (c.tell_trace-answer.ensures.tells says)
+    trace_tells c.in-Ok-judge_text.ensures.trace (λ log a. a.1) c.names.ensures
+    (c.tell_trace-answer.ensures.tells says)
 
 pub returns-in-Err-clause-tells : goal.returns-in-Err-clause-tells
 returns-in-Err-clause-tells g c says =
     let f = c.in-Err.fault in
     let is = gives Summary c.tell_failure.result f c.tell_failure.ensures.is says in
-    fault_tells c.args.limits (g.I.Input.left c.args.reader.now) (g.O.Output.written c.args.writer.now)
-    (g.O.Output.written c.tell_failure.new.writer) c.tell_failure.result f c.in-Err.ensures.fault is
-    (c.tell_failure.ensures.tells is.0 is.1)
+    fault_tells (g.O.Output.written c.args.writer.now) (g.O.Output.written c.tell_failure.new.writer)
+    c.in-Err.ensures.fault is (c.tell_failure.ensures.tells is.0 is.1)
 
 pub returns-in-Err-clause-reads : goal.returns-in-Err-clause-reads
 returns-in-Err-clause-reads g c = record {
@@ -44,5 +38,4 @@ returns-in-Err-clause-reads g c = record {
 pub returns-in-Err-clause-memory : goal.returns-in-Err-clause-memory
 returns-in-Err-clause-memory g c =
     if_found Summary _ c.tell_failure.result c.in-Err.fault c.tell_failure.ensures.is (λ out.
-    inl (found_reached c.args.limits (g.I.Input.left c.args.reader.now) c.in-Err.fault
-    c.in-Err.ensures.fault out))
+    inl (found_reached c.in-Err.ensures.fault out))

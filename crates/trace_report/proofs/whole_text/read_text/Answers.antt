@@ -19,7 +19,8 @@ returns-in-Stopped-clause-fault g c =
 pub returns-clause-fault : goal.returns-clause-fault
 returns-clause-fault g c =
     let pulled = c.feed_all.ensures.cut c.in-Cut.is in
-    if_stands _ (c.read_failed.ensures.fault (pulled.so.0 c.new-text.ensures.fault).0) (cut_says_nothing pulled)
+    if_stands _ (c.read_failed.ensures.fault (pulled.so.0 c.new-text.ensures.fault).0)
+    (cut_says_nothing pulled)
 
 pub returns-clause-cut : goal.returns-clause-cut
 returns-clause-cut g c =
