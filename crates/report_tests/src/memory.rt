@@ -35,7 +35,9 @@ fn expect_whole<R: Abort + AllocGlobal + ScriptFiles + Threads + Wait + Sync>(
     let run = Run::of(program, Text::whole(text.as_bytes()));
     let ran = run.ran(rt);
     let answer = ran.answer();
-    if answer != OUT_OF_MEMORY && answer != NO_WORKER {
+    if answer == OUT_OF_MEMORY || answer == NO_WORKER {
+        run.expect(rt, name, output, "", status);
+    } else {
         let errors = "";
         expect(
             rt,
@@ -48,7 +50,6 @@ fn expect_whole<R: Abort + AllocGlobal + ScriptFiles + Threads + Wait + Sync>(
             },
         );
     }
-    run.expect(rt, name, output, "", status);
 }
 
 #[test]
