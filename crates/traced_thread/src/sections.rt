@@ -160,8 +160,8 @@ impl<'h, 'm, N: Name, R: Wait> Section<'h, 'm, N, R> {
 }
 
 impl<'m, N: Name> TracedThread<'m, N> {
-    /// Begins a section. It is refused while another thread holds the lock. No clause tells what the handle has
-    /// then seen where no section begins; those of `acquire` do.
+    /// Begins a section. It is refused while another thread holds the lock. No clause tells what the handle
+    /// has seen where no section begins; those of `acquire` do.
     #[inline(always)]
     pub fn lock<'h, R: Wait>(
         &'h mut self,
