@@ -87,11 +87,16 @@ fn a_trace_is_replayed_whole_or_not_at_all_where_memory_is_refused(rt: HostRunti
         let text = Text::cut(text.as_bytes(), 7, 3);
         let mut page = Page::blank(Room::AMPLE);
         let came = fault_of(rt.alloc(), text, 8, &mut page);
-        match came {
-            None => expect(&rt, name, &page.text(), &""),
-            Some(Some(fault)) if ran_out(&fault) => expect(&rt, name, &page.text(), &""),
-            came => expect(&rt, name, &(came, page.text()), &(Some(None), *report)),
+        let is_refused = match &came {
+            None => true,
+            Some(None) => false,
+            Some(Some(fault)) => ran_out(fault),
+        };
+        if is_refused {
+            expect(&rt, name, &page.text(), &"");
+            expect_told(&rt, rt.alloc(), name, text, report, true);
+        } else {
+            expect(&rt, name, &(came, page.text()), &(Some(None), *report));
         }
-        expect_told(&rt, rt.alloc(), name, text, report, true);
     }
 }
