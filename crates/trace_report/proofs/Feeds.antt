@@ -29,20 +29,21 @@ pub takes_event : (A B : Limits → List Event → Type 0) {s t : Cutting} {piec
     → ((m : Limits) (log : List Event) → A m log → refusal m log (call_of e) ≡ None)
     → ((m : Limits) (log : List Event) → A m log → B m (with_line log e))
     → Takes A B s piece (drop used piece) t
-takes_event A B {s = s} {t = t} {piece = piece} {used = used} {o = o} {e = e} p few is grows named allowed after = record {
-  live = p.live.1;
-  advances = push_advances s t piece used o p few;
-  goes_on = λ m log a. record {
-    longer = with_line log e;
-    after = after m log a;
-    named = λ h. named_line s.names t.names log e grows h
-        (subst (λ (x : Option Event). IfSome x (IsOfNames t.names)) is named);
-    same = λ more. ap (finding_after m log) (event_pushed s t piece used o e p is more)
-        ∙ goes_on m log t.line e (judged t (drop used piece ++ more)) (allowed m log a);
-    reached = λ more f h. subst (λ (j : Judgement). IsReached m log j f)
-        (sym (event_pushed s t piece used o e p is more)) (inr (allowed m log a, h));
-  };
-}
+takes_event A B {s = s} {t = t} {piece = piece} {used = used} {o = o} {e = e} p few is grows named allowed
+    after = record {
+      live = p.live.1;
+      advances = push_advances s t piece used o p few;
+      goes_on = λ m log a. record {
+        longer = with_line log e;
+        after = after m log a;
+        named = λ h. named_line s.names t.names log e grows h
+            (subst (λ (x : Option Event). IfSome x (IsOfNames t.names)) is named);
+        same = λ more. ap (finding_after m log) (event_pushed s t piece used o e p is more)
+            ∙ goes_on m log t.line e (judged t (drop used piece ++ more)) (allowed m log a);
+        reached = λ more f h. subst (λ (j : Judgement). IsReached m log j f)
+            (sym (event_pushed s t piece used o e p is more)) (inr (allowed m log a, h));
+      };
+    }
 
 pub takes_rest : (A : Limits → List Event → Type 0) {s t : Cutting} {piece : List ℕ} {used : ℕ}
     {o : Option Event} → Pushes s t piece used o → AreUnended t.kept → o ≡ None → TablesGrow s.names t.names
@@ -86,8 +87,9 @@ pub event_stops : (A : Limits → List Event → Type 0) {s t : Cutting} {piece 
     {o : Option Event} {e : Event} (r : Refusal) → Pushes s t piece used o → o ≡ Some e
     → ((m : Limits) (log : List Event) → A m log → Declines m log e r) → line ≡ t.line
     → Stops A s piece (Refused line r)
-event_stops A {s = s} {t = t} {piece = piece} {used = used} {line = line} {o = o} {e = e} r p is declines at = record {
-  says = λ m log a more. declined m log line t.line e r (judged t (drop used piece ++ more)) _
-      (event_pushed s t piece used o e p is more) (declines m log a) at;
-  read = λ short. absurd (cc);
-}
+event_stops A {s = s} {t = t} {piece = piece} {used = used} {line = line} {o = o} {e = e} r p is declines
+    at = record {
+      says = λ m log a more. declined m log line t.line e r (judged t (drop used piece ++ more)) _
+          (event_pushed s t piece used o e p is more) (declines m log a) at;
+      read = λ short. absurd (cc);
+    }

@@ -72,10 +72,10 @@ stop_found {m = m} A {left = left} {rest = rest} (Some f) is p stops first =
 
 -- ---- what it comes to
 
-pub trace_is_found : (m : Limits) (left : Option (List ℕ)) (B C : List Event → Type 0) (s : Cutting)
-    (names : Tables)
-    → IsFed m left B s → ((log : List Event) → B log → Ends m C s log names) → FindsTrace m left C names
-trace_is_found m left B C s names f ends =
+pub trace_is_found : {m : Limits} {left : Option (List ℕ)} {B C : List Event → Type 0} {s : Cutting}
+    {names : Tables} → IsFed m left B s → ((log : List Event) → B log → Ends m C s log names)
+    → FindsTrace m left C names
+trace_is_found f ends =
     let e = ends f.log f.after in
     record {
       text = f.text;
@@ -95,12 +95,12 @@ pub stood : (P : TraceFault → Type 0) (o : Option TraceFault) (f : TraceFault)
 stood P o f h is = subst (λ (x : Option TraceFault). IfSome x P) is h
 
 -- the fault that stood, or the one at the end
-pub end_is_found : (m : Limits) (left : Option (List ℕ)) (B : List Event → Type 0) (s : Cutting)
-    (o : Option TraceFault) (f : TraceFault) → (o ≡ None → IsFed m left B s)
+pub end_is_found : {m : Limits} {left : Option (List ℕ)} {B : List Event → Type 0} {s : Cutting}
+    (o : Option TraceFault) {f : TraceFault} → (o ≡ None → IsFed m left B s)
     → IfSome o (FindsFault m left)
     → (o ≡ None → (log : List Event) → B log → Says m log (judged s []) f)
     → IfSome o (λ g. f ≡ g) → FindsFault m left f
-end_is_found m left B s None f fed stood at_end same =
+end_is_found None {f = f} fed stood at_end same =
     let is = fed refl in
     let says = at_end refl is.log is.after in
     record {
@@ -109,7 +109,7 @@ end_is_found m left B s None f fed stood at_end same =
       finds = λ g. is.same ∙ says.finds g;
       reached = λ out. is.reached f (says.reached out);
     }
-end_is_found m left B s (Some h) f fed stood at_end same =
+end_is_found {m} {left} (Some h) fed stood at_end same =
     subst (λ (k : TraceFault). FindsFault m left k) (sym same) stood
 
 -- a read that failed says nothing of the text

@@ -21,9 +21,9 @@ takes_none A s bytes live = record {
       record { longer = log; after = a; named = λ h. h; same = λ more. refl; reached = λ more f h. h };
 }
 
-pub takes_more : (A B C : Limits → List Event → Type 0) (s t u : Cutting) (bytes rest left : List ℕ)
+pub takes_more : {A B C : Limits → List Event → Type 0} {s t u : Cutting} {bytes rest left : List ℕ}
     → Takes A B s bytes rest t → Takes B C t rest left u → Takes A C s bytes left u
-takes_more A B C s t u bytes rest left p q = record {
+takes_more {s = s} {t = t} {u = u} {bytes = bytes} {rest = rest} {left = left} p q = record {
   live = q.live;
   advances = advances_more (place_of s) (place_of t) (place_of u) bytes rest left p.advances q.advances;
   goes_on = λ m log a.
@@ -61,11 +61,11 @@ fed_before A B s t front rest p = record {
 pub takes_both : (A B C : Limits → List Event → Type 0) (s t u : Cutting) (front rest : List ℕ)
     → Takes A B s front [] t → Takes B C t rest [] u → Takes A C s (front ++ rest) [] u
 takes_both A B C s t u front rest p q =
-    takes_more A B C s t u (front ++ rest) rest [] (fed_before A B s t front rest p) q
+    takes_more (fed_before A B s t front rest p) q
 
-pub stops_later : (A B : Limits → List Event → Type 0) (s t : Cutting) (bytes rest : List ℕ) (f : TraceFault)
-    → Takes A B s bytes rest t → Stops B t rest f → Stops A s bytes f
-stops_later A B s t bytes rest f p q = record {
+pub stops_later : {A B : Limits → List Event → Type 0} {s t : Cutting} {bytes rest : List ℕ}
+    {f : TraceFault} → Takes A B s bytes rest t → Stops B t rest f → Stops A s bytes f
+stops_later {f = f} p q = record {
   says = λ m log a more.
       let on = p.goes_on m log a in
       let later = q.says m on.longer on.after more in
@@ -81,4 +81,4 @@ pub some_stops_after : (A B : Limits → List Event → Type 0) (s t : Cutting) 
     → IsSomeAnd o (Stops A s (front ++ rest))
 some_stops_after A B s t front rest None p q = absurd q
 some_stops_after A B s t front rest (Some f) p q =
-    stops_later A B s t (front ++ rest) rest f (fed_before A B s t front rest p) q
+    stops_later (fed_before A B s t front rest p) q

@@ -21,7 +21,8 @@ returns-in-Err-clause-whole g c =
 
 pub returns-in_default-clause-ok : goal.returns-in_default-clause-ok
 returns-in_default-clause-ok g c m log a =
-    ends_nothing m (g.J.Judge.is_after c.args.judge.now m) log c.in-Ok.ensures.ok c.in_default.is c.finish.ensures.grows a
+    ends_nothing m (g.J.Judge.is_after c.args.judge.now m) log c.in-Ok.ensures.ok c.in_default.is
+    c.finish.ensures.grows a
 
 pub returns-in-Err-judge-clause-fault : goal.returns-in-Err-judge-clause-fault
 returns-in-Err-judge-clause-fault g c m log a =
@@ -32,5 +33,6 @@ returns-in-Err-judge-clause-fault g c m log a =
 
 pub returns-clause-ok : goal.returns-clause-ok
 returns-clause-ok g c m log a =
-    ends_event m (g.J.Judge.is_after c.judge.new.self m) log c.in-Ok.ensures.ok c.in-Some.is c.finish.ensures.grows c.in-Ok.ensures.named
-    (c.in_default-judge.ensures.allowed m log a) (c.in_default-judge.ensures.after m log a)
+    ends_event m (g.J.Judge.is_after c.judge.new.self m) log c.in-Ok.ensures.ok c.in-Some.is
+    c.finish.ensures.grows c.in-Ok.ensures.named (c.in_default-judge.ensures.allowed m log a)
+    (c.in_default-judge.ensures.after m log a)

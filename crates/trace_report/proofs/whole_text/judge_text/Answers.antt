@@ -3,10 +3,7 @@ use Rattle.trace_report.proofs.whole_text.judge_text.Goals as goal
 
 pub returns-in-Err-clause-fault : goal.returns-in-Err-clause-fault
 returns-in-Err-clause-fault g c =
-    let text = c.read_text-text.result in
-    end_is_found c.args.limits (g.I.Input.left c.args.reader.now)
-    (g.J.Judge.is_after text.judge c.args.limits) text.cutter text.fault c.in-Err.fault
-    c.read_text-text.ensures.fed c.read_text-text.ensures.fault
+    end_is_found c.read_text-text.result.fault c.read_text-text.ensures.fed c.read_text-text.ensures.fault
     (λ none log. c.in-Err.ensures.fault none c.args.limits log) c.in-Err.ensures.answered
 
 pub returns-in-Err-clause-cut : goal.returns-in-Err-clause-cut
@@ -16,8 +13,5 @@ returns-in-Err-clause-cut g c fault =
 
 pub returns-clause-trace : goal.returns-clause-trace
 returns-clause-trace g c =
-    let text = c.read_text-text.result in
-    trace_is_found c.args.limits (g.I.Input.left c.args.reader.now)
-    (g.J.Judge.is_after text.judge c.args.limits) (g.J.Judge.is_after c.end.new.self.judge c.args.limits)
-    text.cutter c.end.new.self.cutter.names
-    (c.read_text-text.ensures.fed c.in_default.ensures.stands) (c.in_default.ensures.ok c.args.limits)
+    trace_is_found (c.read_text-text.ensures.fed c.in_default.ensures.stands)
+    (c.in_default.ensures.ok c.args.limits)
