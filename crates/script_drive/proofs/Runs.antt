@@ -1,6 +1,7 @@
 -- What a thread's next line adds to a run of the script is a run again.
 use Rattle.std.proofs.Common.{◌≡◌, ℕ, ◌+◌, ◌≤◌, List, [], ◌∷◌, ◌++◌, Bool, true, false, cond, refl, sym}
-use Rattle.std.proofs.Common.{ap, ◌∙◌, append_assoc, arith, length, length-append, map, nat_eq, subst, ◌⊎◌, ◌||◌}
+use Rattle.std.proofs.Common.{ap, ◌∙◌, append_assoc, arith, length, length-append, map, nat_eq, subst, ◌⊎◌}
+use Rattle.std.proofs.Common.{◌||◌}
 use Rattle.std.specs.List.{list_any, AllByRecursion}
 use Rattle.std.proofs.lemmas.Bool.{eq-eqb, eqb-true, or_cases}
 use Rattle.std.proofs.lemmas.List.{append-nil, map-append}

@@ -178,8 +178,8 @@ pub fn run_script<R: AllocGlobal + Threads + Wait + Sync, I: Input, O: Output, E
     requires reads { I.failed script.old ≡ false }
     requires writes { O.failed writer.old ≡ false }
     // With status 0 or 1 it wrote the report of a well-formed log, and nothing else. The log is of the script
-    // that the reader had left: the report has the script's names, and the log has of each thread the first of
-    // its lines in order, and of the first thread, and each that is joined from it, all of them.
+    // that the reader had left: the report has the script's names, and the log has of each thread the first
+    // of its lines in order, and of the first thread, and each that is joined from it, all of them.
     ensures ran { (result ≡ 0) ⊎ (result ≡ 1) → RunsText (limits_with settings.now.threads OnlyMain)
         (I.left script.old) (O.written writer.old) (O.written writer.new) result }
     // With status 3 it wrote the one line that tells which call of that script is refused, and why. The
