@@ -1,2 +1,4 @@
 mod Listing
+mod PlaceLaws
+mod PlaceLines
 mod Telling

@@ -2,7 +2,6 @@
 use Rattle.std.proofs.Common.{◌≡◌, ◌↔◌, IsOk, List, Result, Ok, Err, refl}
 use Rattle.event_core.specs.declared.events.Event.{Event}
 use Rattle.rapid_text.specs.Tables.{Tables}
-use Rattle.trace_report.specs.Reports.{AreNamed}
 use Rattle.trace_report.specs.declared.summary.Summary.{Summary}
 use Rattle.closed_report.specs.Unnamed.{IsFirst, IsReason, TellsUnnamed}
 use Rattle.closed_report.specs.declared.reporting.ReportFault.{ReportFault}

@@ -1,3 +1,4 @@
 pub mod Closed
 pub mod NameLists
+pub mod Places
 pub mod Unnamed
