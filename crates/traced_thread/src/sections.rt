@@ -5,7 +5,8 @@ ghost use Rattle.event_core.specs.declared.replies.Refusal.TheVariants.{Held};
 ghost use Rattle.live_monitor.specs.Calls.{load_by, store_by, Accepted, Declined, HasComeTo};
 ghost use Rattle.live_monitor.specs.Swaps.{AcceptedSwap, DeclinedSwap};
 ghost use Rattle.live_monitor.specs.Tries.{one_more, AreUsedUp};
-ghost use Rattle.traced_thread.specs.Sections.{IsAcquired, IsReleased};
+ghost use Rattle.traced_thread.specs.Sections.{handle_of, left_of, lock_of, pass_of, site_of, thread_of};
+ghost use Rattle.traced_thread.specs.Sections.{IsAcquired, IsReleased, IsSectionOf, WasRefused};
 
 use crate::handle::TracedThread;
 use event_core::{LockId, Refusal, Reply, SiteId, SwapReply, ThreadId, VarId};
@@ -24,9 +25,9 @@ pub struct Section<'h, 'm, N: Name, R: Wait> {
 
 impl<'h, 'm, N: Name, R: Wait> Drop for Section<'h, 'm, N, R> {
     fn drop(self)
-        ensures later { HasComeTo N.limits self.entry.thread.now self.exit.1.0.now }
-        ensures released { IsReleased N.limits self.entry.lock self.entry.site
-            self.entry.thread.now self.exit.1.0.now }
+        ensures later { HasComeTo N.limits (pass_of self.entry) (left_of self.exit) }
+        ensures released { IsReleased N.limits (lock_of self.entry) (site_of self.entry)
+            (pass_of self.entry) (left_of self.exit) }
     {
         let Section {
             rt,
@@ -39,9 +40,24 @@ impl<'h, 'm, N: Name, R: Wait> Drop for Section<'h, 'm, N, R> {
 }
 
 impl<'h, 'm, N: Name, R: Wait> Section<'h, 'm, N, R> {
+    // The section of the lock that the handle has acquired.
+    #[inline(always)]
+    fn new(rt: &'h R, thread: &'h mut TracedThread<'m, N>, lock: LockId, site: SiteId) -> Self
+        ensures same_reference { handle_of result ≡ thread.entry.ghost_name }
+        ensures same_pass { pass_of result ≡ thread.old }
+        ensures same_lock { IsSectionOf lock site result }
+    {
+        Section {
+            rt,
+            thread,
+            lock,
+            site,
+        }
+    }
+
     /// Whose section it is.
     pub fn thread(&self) -> ThreadId
-        ensures { result ≡ self.now.thread.now.thread }
+        ensures { result ≡ thread_of self.now }
     {
         self.thread.thread()
     }
@@ -49,13 +65,13 @@ impl<'h, 'm, N: Name, R: Wait> Section<'h, 'm, N, R> {
     /// Loads the variable: the reply has the last value that was stored to it, or 0.
     #[inline(always)]
     pub fn load(&mut self, var: VarId, site: SiteId) -> Result<Reply, Refusal>
-        ensures same_reference { self.new.thread.ghost_name ≡ self.old.thread.ghost_name }
-        ensures same_lock { (self.new.lock ≡ self.old.lock) × (self.new.site ≡ self.old.site) }
-        ensures later { HasComeTo N.limits self.old.thread.now self.new.thread.now }
+        ensures same_reference { handle_of self.new ≡ handle_of self.old }
+        ensures same_lock { IsSectionOf (lock_of self.old) (site_of self.old) self.new }
+        ensures later { HasComeTo N.limits (pass_of self.old) (pass_of self.new) }
         ensures accepted { IfOk result (λ reply. Accepted N.limits
-            (load_by self.old.thread.now.thread var site) self.old.thread.now self.new.thread.now reply) }
+            (load_by (thread_of self.old) var site) (pass_of self.old) (pass_of self.new) reply) }
         ensures declined { IfErr result (λ answer. Declined N.limits
-            (load_by self.old.thread.now.thread var site) self.old.thread.now self.new.thread.now answer) }
+            (load_by (thread_of self.old) var site) (pass_of self.old) (pass_of self.new) answer) }
     {
         self.thread.load(self.rt, var, site)
     }
@@ -63,28 +79,28 @@ impl<'h, 'm, N: Name, R: Wait> Section<'h, 'm, N, R> {
     /// Stores the value to the variable.
     #[inline(always)]
     pub fn store(&mut self, var: VarId, value: u64, site: SiteId) -> Result<Reply, Refusal>
-        ensures same_reference { self.new.thread.ghost_name ≡ self.old.thread.ghost_name }
-        ensures same_lock { (self.new.lock ≡ self.old.lock) × (self.new.site ≡ self.old.site) }
-        ensures later { HasComeTo N.limits self.old.thread.now self.new.thread.now }
+        ensures same_reference { handle_of self.new ≡ handle_of self.old }
+        ensures same_lock { IsSectionOf (lock_of self.old) (site_of self.old) self.new }
+        ensures later { HasComeTo N.limits (pass_of self.old) (pass_of self.new) }
         ensures accepted { IfOk result (λ reply. Accepted N.limits
-            (store_by self.old.thread.now.thread var value site)
-            self.old.thread.now self.new.thread.now reply) }
+            (store_by (thread_of self.old) var value site)
+            (pass_of self.old) (pass_of self.new) reply) }
         ensures declined { IfErr result (λ answer. Declined N.limits
-            (store_by self.old.thread.now.thread var value site)
-            self.old.thread.now self.new.thread.now answer) }
+            (store_by (thread_of self.old) var value site)
+            (pass_of self.old) (pass_of self.new) answer) }
     {
         self.thread.store(self.rt, var, value, site)
     }
 
     /// Loads the variable and stores the value to it, as one step: no other thread's event stands between.
     pub fn swap(&mut self, var: VarId, value: u64, site: SiteId) -> Result<SwapReply, Refusal>
-        ensures same_reference { self.new.thread.ghost_name ≡ self.old.thread.ghost_name }
-        ensures same_lock { (self.new.lock ≡ self.old.lock) × (self.new.site ≡ self.old.site) }
-        ensures later { HasComeTo N.limits self.old.thread.now self.new.thread.now }
+        ensures same_reference { handle_of self.new ≡ handle_of self.old }
+        ensures same_lock { IsSectionOf (lock_of self.old) (site_of self.old) self.new }
+        ensures later { HasComeTo N.limits (pass_of self.old) (pass_of self.new) }
         ensures accepted { IfOk result (λ reply. AcceptedSwap N.limits
-            self.old.thread.now.thread var site value self.old.thread.now self.new.thread.now reply) }
+            (thread_of self.old) var site value (pass_of self.old) (pass_of self.new) reply) }
         ensures declined { IfErr result (λ answer. DeclinedSwap N.limits
-            self.old.thread.now.thread var self.old.thread.now self.new.thread.now answer) }
+            (thread_of self.old) var (pass_of self.old) (pass_of self.new) answer) }
     {
         self.thread.swap(self.rt, var, value, site)
     }
@@ -92,18 +108,14 @@ impl<'h, 'm, N: Name, R: Wait> Section<'h, 'm, N, R> {
     /// Begins a section within this one, and waits for no lock.
     #[inline(always)]
     pub fn lock(&mut self, lock: LockId, site: SiteId) -> Result<Section<'_, 'm, N, R>, Refusal>
-        ensures same_lock { IfOk result (λ section. (section.lock ≡ lock) × (section.site ≡ site)) }
-        ensures later { IfOk result (λ section. HasComeTo N.limits self.old.thread.now section.thread.now) }
+        ensures same_lock { IfOk result (λ section. IsSectionOf lock site section) }
+        ensures later { IfOk result (λ section. HasComeTo N.limits (pass_of self.old) (pass_of section)) }
         ensures accepted { IfOk result (λ section.
-            IsAcquired N.limits lock site self.old.thread.now section.thread.now) }
+            IsAcquired N.limits lock site (pass_of self.old) (pass_of section)) }
+        ensures declined { IfErr result (WasRefused N.limits lock site (pass_of self.old)) }
     {
         match self.thread.acquire(self.rt, lock, site) {
-            Ok(_) => Ok(Section {
-                rt: self.rt,
-                thread: self.thread,
-                lock,
-                site,
-            }),
+            Ok(_) => Ok(Section::new(self.rt, self.thread, lock, site)),
             Err(refusal) => Err(refusal),
         }
     }
@@ -116,21 +128,17 @@ impl<'h, 'm, N: Name, R: Wait> Section<'h, 'm, N, R> {
         site: SiteId,
         tries: &mut Tries,
     ) -> Result<Section<'_, 'm, N, R>, Refusal>
-        ensures same_lock { IfOk result (λ section. (section.lock ≡ lock) × (section.site ≡ site)) }
-        ensures later { IfOk result (λ section. HasComeTo N.limits self.old.thread.now section.thread.now) }
+        ensures same_lock { IfOk result (λ section. IsSectionOf lock site section) }
+        ensures later { IfOk result (λ section. HasComeTo N.limits (pass_of self.old) (pass_of section)) }
         ensures accepted { IfOk result (λ section.
-            IsAcquired N.limits lock site self.old.thread.now section.thread.now) }
+            IsAcquired N.limits lock site (pass_of self.old) (pass_of section)) }
+        ensures declined { IfErr result (WasRefused N.limits lock site (pass_of self.old)) }
         ensures used_up { (by : Thread) → IfErr result (λ answer. answer ≡ Held by → AreUsedUp tries.new) }
         ensures same_most { tries.new.most ≡ tries.old.most }
         ensures counts_up { (one_more tries.old).made ≤ tries.new.made }
     {
         match self.thread.acquire_within(self.rt, lock, site, tries) {
-            Ok(_) => Ok(Section {
-                rt: self.rt,
-                thread: self.thread,
-                lock,
-                site,
-            }),
+            Ok(_) => Ok(Section::new(self.rt, self.thread, lock, site)),
             Err(refusal) => Err(refusal),
         }
     }
@@ -142,26 +150,22 @@ impl<'h, 'm, N: Name, R: Wait> Section<'h, 'm, N, R> {
         site: SiteId,
         most: u32,
     ) -> Result<Section<'_, 'm, N, R>, Refusal>
-        ensures same_lock { IfOk result (λ section. (section.lock ≡ lock) × (section.site ≡ site)) }
-        ensures later { IfOk result (λ section. HasComeTo N.limits self.old.thread.now section.thread.now) }
+        ensures same_lock { IfOk result (λ section. IsSectionOf lock site section) }
+        ensures later { IfOk result (λ section. HasComeTo N.limits (pass_of self.old) (pass_of section)) }
         ensures accepted { IfOk result (λ section.
-            IsAcquired N.limits lock site self.old.thread.now section.thread.now) }
+            IsAcquired N.limits lock site (pass_of self.old) (pass_of section)) }
+        ensures declined { IfErr result (WasRefused N.limits lock site (pass_of self.old)) }
     {
         match self.thread.acquire_up_to(self.rt, lock, site, most) {
-            Ok(_) => Ok(Section {
-                rt: self.rt,
-                thread: self.thread,
-                lock,
-                site,
-            }),
+            Ok(_) => Ok(Section::new(self.rt, self.thread, lock, site)),
             Err(refusal) => Err(refusal),
         }
     }
 }
 
 impl<'m, N: Name> TracedThread<'m, N> {
-    /// Begins a section. It is refused while another thread holds the lock. No clause tells what the handle
-    /// has seen where no section begins; those of `acquire` do.
+    /// Begins a section. It is refused while another thread holds the lock, after what the handle had then
+    /// seen. No clause tells that it has seen that afterwards; those of `acquire` do.
     #[inline(always)]
     pub fn lock<'h, R: Wait>(
         &'h mut self,
@@ -169,19 +173,15 @@ impl<'m, N: Name> TracedThread<'m, N> {
         lock: LockId,
         site: SiteId,
     ) -> Result<Section<'h, 'm, N, R>, Refusal>
-        ensures same_reference { IfOk result (λ section. section.thread.ghost_name ≡ self.entry.ghost_name) }
-        ensures same_lock { IfOk result (λ section. (section.lock ≡ lock) × (section.site ≡ site)) }
-        ensures later { IfOk result (λ section. HasComeTo N.limits self.old section.thread.now) }
+        ensures same_reference { IfOk result (λ section. handle_of section ≡ self.entry.ghost_name) }
+        ensures same_lock { IfOk result (λ section. IsSectionOf lock site section) }
+        ensures later { IfOk result (λ section. HasComeTo N.limits self.old (pass_of section)) }
         ensures accepted { IfOk result (λ section.
-            IsAcquired N.limits lock site self.old section.thread.now) }
+            IsAcquired N.limits lock site self.old (pass_of section)) }
+        ensures declined { IfErr result (WasRefused N.limits lock site self.old) }
     {
         match self.acquire(rt, lock, site) {
-            Ok(_) => Ok(Section {
-                rt,
-                thread: self,
-                lock,
-                site,
-            }),
+            Ok(_) => Ok(Section::new(rt, self, lock, site)),
             Err(refusal) => Err(refusal),
         }
     }
@@ -195,22 +195,18 @@ impl<'m, N: Name> TracedThread<'m, N> {
         site: SiteId,
         tries: &mut Tries,
     ) -> Result<Section<'h, 'm, N, R>, Refusal>
-        ensures same_reference { IfOk result (λ section. section.thread.ghost_name ≡ self.entry.ghost_name) }
-        ensures same_lock { IfOk result (λ section. (section.lock ≡ lock) × (section.site ≡ site)) }
-        ensures later { IfOk result (λ section. HasComeTo N.limits self.old section.thread.now) }
+        ensures same_reference { IfOk result (λ section. handle_of section ≡ self.entry.ghost_name) }
+        ensures same_lock { IfOk result (λ section. IsSectionOf lock site section) }
+        ensures later { IfOk result (λ section. HasComeTo N.limits self.old (pass_of section)) }
         ensures accepted { IfOk result (λ section.
-            IsAcquired N.limits lock site self.old section.thread.now) }
+            IsAcquired N.limits lock site self.old (pass_of section)) }
+        ensures declined { IfErr result (WasRefused N.limits lock site self.old) }
         ensures used_up { (by : Thread) → IfErr result (λ answer. answer ≡ Held by → AreUsedUp tries.new) }
         ensures same_most { tries.new.most ≡ tries.old.most }
         ensures counts_up { (one_more tries.old).made ≤ tries.new.made }
     {
         match self.acquire_within(rt, lock, site, tries) {
-            Ok(_) => Ok(Section {
-                rt,
-                thread: self,
-                lock,
-                site,
-            }),
+            Ok(_) => Ok(Section::new(rt, self, lock, site)),
             Err(refusal) => Err(refusal),
         }
     }
@@ -223,19 +219,15 @@ impl<'m, N: Name> TracedThread<'m, N> {
         site: SiteId,
         most: u32,
     ) -> Result<Section<'h, 'm, N, R>, Refusal>
-        ensures same_reference { IfOk result (λ section. section.thread.ghost_name ≡ self.entry.ghost_name) }
-        ensures same_lock { IfOk result (λ section. (section.lock ≡ lock) × (section.site ≡ site)) }
-        ensures later { IfOk result (λ section. HasComeTo N.limits self.old section.thread.now) }
+        ensures same_reference { IfOk result (λ section. handle_of section ≡ self.entry.ghost_name) }
+        ensures same_lock { IfOk result (λ section. IsSectionOf lock site section) }
+        ensures later { IfOk result (λ section. HasComeTo N.limits self.old (pass_of section)) }
         ensures accepted { IfOk result (λ section.
-            IsAcquired N.limits lock site self.old section.thread.now) }
+            IsAcquired N.limits lock site self.old (pass_of section)) }
+        ensures declined { IfErr result (WasRefused N.limits lock site self.old) }
     {
         match self.acquire_up_to(rt, lock, site, most) {
-            Ok(_) => Ok(Section {
-                rt,
-                thread: self,
-                lock,
-                site,
-            }),
+            Ok(_) => Ok(Section::new(rt, self, lock, site)),
             Err(refusal) => Err(refusal),
         }
     }
