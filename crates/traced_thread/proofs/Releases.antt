@@ -92,8 +92,8 @@ only_ended {m} {before} {after} l site answer later mine why holds =
     go false joined is = absurd (cc)
 
 -- what a release answers is the end of a section
-pub is_released : {m : Limits} {before after : PassView} (l : LockId) (site : SiteId) (r : Result Reply Refusal)
-    → HasComeTo m before after
+pub is_released : {m : Limits} {before after : PassView} (l : LockId) (site : SiteId)
+    (r : Result Reply Refusal) → HasComeTo m before after
     → IfOk r (λ reply. Accepted m (release_by before.thread l site) before after reply)
     → IfErr r (λ answer. Declined m (release_by before.thread l site) before after answer)
     → IfErr r (λ answer. refusal m (log_of after.seen) (release_by before.thread l site) ≡ Some answer)
