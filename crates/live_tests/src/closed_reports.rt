@@ -210,7 +210,7 @@ fn reported<W: Output, R: Wait>(
 }
 
 /// What is written on a page of spaces.
-fn text_on(page: &[u8]) -> &str {
+pub fn text_on(page: &[u8]) -> &str {
     str::from_utf8(page)
         .unwrap_or("no text")
         .trim_end_matches(' ')

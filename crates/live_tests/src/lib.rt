@@ -18,6 +18,8 @@ mod expected;
 #[cfg(test)]
 mod handles;
 #[cfg(test)]
+mod places;
+#[cfg(test)]
 mod releases;
 #[cfg(test)]
 mod rows;
