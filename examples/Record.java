@@ -3,8 +3,8 @@
  *     java examples/Record.java > trace.txt
  *     wcp replay < trace.txt
  *
- * The class Trace is the recorder. The rest is a program that tells it each access and each call. It has a
- * race on `config`, whatever the schedule. */
+ * The class Trace is the recorder. The rest is a program that reports each access and each call to it. It has
+ * a race on `config`, whatever the schedule. */
 public class Record {
     static int config, jobs;
     static final Object m = new Object();

@@ -6,7 +6,7 @@
  *
  * The first part is the recorder, in C or C++. A name is the text in the source: where one text stands for
  * several things, as threads[i] does, a number or the address has to be written into the name. The rest is a
- * program that makes its accesses and its calls by it. It has a race on `config`, whatever the schedule. */
+ * program that makes its accesses and its calls through it. It has a race on `config` in each schedule. */
 #include <pthread.h>
 #include <stdio.h>
 #include <stdlib.h>
