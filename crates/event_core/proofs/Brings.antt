@@ -1,20 +1,20 @@
 -- The clock of an event, for a relation and what its thread and its operation bring to it.
 use Rattle.std.proofs.Common.{◌≡◌, ℕ, ◌<◌, ◌≤◌, ◌+◌, List, [], ◌∷◌, ◌++◌, Bool, length, sym, ap, subst, ◌∙◌}
-use Rattle.std.proofs.Common.{arith, cond, inl, ◌⊎◌}
+use Rattle.std.proofs.Common.{arith, cond, ◌⊎◌}
+use Rattle.std.proofs.lemmas.Bool.{cond-true, eq-eqb}
 use Rattle.std.proofs.lemmas.Option.{slice_get_within}
 use Rattle.event_core.specs.declared.ids.ThreadId.{ThreadId}
 use Rattle.event_core.specs.declared.ids.LockId.{LockId}
 use Rattle.event_core.specs.declared.events.Event.{Event}
-use Rattle.event_core.specs.declared.events.Op.TheVariants.{Load, Store, Acquire, Release, Fork, Join}
-use Rattle.event_core.specs.declared.events.AccessKind.TheVariants.{Read, Write}
+use Rattle.event_core.specs.declared.events.Op.TheVariants.{Acquire, Fork, Join}
 use Rattle.event_core.specs.Log.{Does, Of, depth}
 use Rattle.event_core.specs.Count.{events_of, Past}
 use Rattle.event_core.specs.Orderly.{Orderly}
-use Rattle.event_core.specs.Effect.{Effect, Accesses, Opens, Closes, Forks, Joins, Inner}
+use Rattle.event_core.specs.Effect.{Effect, Opens, Joins}
 use Rattle.event_core.specs.Rows.{join, brought, clock_after, Rows, Counted}
-use Rattle.event_core.proofs.Effects.{Fits, accesses, opens, closes, forks, joins, again, inner}
+use Rattle.event_core.proofs.Effects.{Fits, effect_at}
 use Rattle.event_core.proofs.CountLaws.{counts_same, counts_none, counts_all, counts_at_most}
-use Rattle.event_core.proofs.Counting.{counted_none, counted_join, counted_bump, nat_eq_same, last_does}
+use Rattle.event_core.proofs.Counting.{counted_none, counted_join, counted_bump, nat_eq_same, last_as}
 use Rattle.event_core.proofs.Counting.{grown_length}
 
 -- what a join or an outer acquire brings, where L is what each lock has
@@ -26,34 +26,13 @@ Brings log R L _ i = ⊥
 module _ (log : List Event) (e : Event) (R : ℕ → ℕ → Type 0) (L : LockId → ℕ → Type 0) where
   pub join_brings : (u : ThreadId) (i : ℕ) (k : Effect) → Fits log e k → e.op ≡ Join u → Past log R u i
       → Brings log R L k i
-  join_brings u i _ (joins v o) a p =
-      let q : Join u ≡ Join v = sym a ∙ o in
-      let r : u ≡ v = cc in
-      subst (λ x. Past log R x i) r p
-  join_brings u i _ (accesses x Read o) a p = absurd (let q : Join u ≡ Load x = sym a ∙ o in cc)
-  join_brings u i _ (accesses x Write o) a p = absurd (let q : Join u ≡ Store x = sym a ∙ o in cc)
-  join_brings u i _ (opens l o d) a p = absurd (let q : Join u ≡ Acquire l = sym a ∙ o in cc)
-  join_brings u i _ (closes l o d) a p = absurd (let q : Join u ≡ Release l = sym a ∙ o in cc)
-  join_brings u i _ (forks v o) a p = absurd (let q : Join u ≡ Fork v = sym a ∙ o in cc)
-  join_brings u i _ (again l o d) a p = absurd (let q : Join u ≡ Acquire l = sym a ∙ o in cc)
-  join_brings u i _ (inner l o d) a p = absurd (let q : Join u ≡ Release l = sym a ∙ o in cc)
+  join_brings u i k f a p = subst (λ j. Brings log R L j i) (sym (effect_at log e k (Join u) f a)) p
 
   pub acquire_brings : (l : LockId) (i : ℕ) (k : Effect) → Fits log e k → e.op ≡ Acquire l
       → depth log e.thread l ≡ 0 → L l i → Brings log R L k i
-  acquire_brings l i _ (opens n o d) a z p =
-      let q : Acquire l ≡ Acquire n = sym a ∙ o in
-      let r : l ≡ n = cc in
-      subst (λ x. L x i) r p
-  acquire_brings l i _ (again n o d) a z p =
-      let q : Acquire l ≡ Acquire n = sym a ∙ o in
-      let r : l ≡ n = cc in
-      absurd (d (subst (λ x. depth log e.thread x ≡ 0) r z))
-  acquire_brings l i _ (joins v o) a z p = absurd (let q : Acquire l ≡ Join v = sym a ∙ o in cc)
-  acquire_brings l i _ (accesses x Read o) a z p = absurd (let q : Acquire l ≡ Load x = sym a ∙ o in cc)
-  acquire_brings l i _ (accesses x Write o) a z p = absurd (let q : Acquire l ≡ Store x = sym a ∙ o in cc)
-  acquire_brings l i _ (closes n o d) a z p = absurd (let q : Acquire l ≡ Release n = sym a ∙ o in cc)
-  acquire_brings l i _ (forks v o) a z p = absurd (let q : Acquire l ≡ Fork v = sym a ∙ o in cc)
-  acquire_brings l i _ (inner n o d) a z p = absurd (let q : Acquire l ≡ Release n = sym a ∙ o in cc)
+  acquire_brings l i k f a z p =
+      subst (λ j. Brings log R L j i)
+      (sym (effect_at log e k (Acquire l) f a ∙ cond-true _ _ _ (eq-eqb _ 0 z))) p
 
 module _ (log : List Event) (R : ℕ → ℕ → Type 0) (L : LockId → ℕ → Type 0) (r : Rows)
     (threads : (t : ThreadId) → Counted log (Past log R t) (r.thread t.0))
@@ -61,10 +40,7 @@ module _ (log : List Event) (R : ℕ → ℕ → Type 0) (L : LockId → ℕ →
   pub counted_brings : (k : Effect) → Counted log (Brings log R L k) (brought k r)
   counted_brings (Joins u) = threads u
   counted_brings (Opens l) = locks l
-  counted_brings (Accesses x k) = counted_none log (λ i. ⊥) (λ i b. b)
-  counted_brings (Closes l) = counted_none log (λ i. ⊥) (λ i b. b)
-  counted_brings (Forks u) = counted_none log (λ i. ⊥) (λ i b. b)
-  counted_brings Inner = counted_none log (λ i. ⊥) (λ i b. b)
+  counted_brings _ = counted_none log (λ i. ⊥) (λ i b. b)
 
 module _ (log : List Event) (R : ℕ → ℕ → Type 0) (L : LockId → ℕ → Type 0) (r : Rows)
     (threads : (t : ThreadId) → Counted log (Past log R t) (r.thread t.0))
@@ -90,8 +66,7 @@ module _ (log : List Event) (R : ℕ → ℕ → Type 0) (L : LockId → ℕ →
     pub clock_counted : Counted (log ++ e ∷ []) (λ i. Q i (length log)) (clock_after e.thread k r)
     clock_counted =
         counted_bump log e (λ i. Past log R e.thread i ⊎ Brings log R L k i) (λ i. Q i (length log))
-        (join (r.thread e.thread.0) (brought k r)) from to itself (λ i lt o. inl (i, inl o, own_past i))
-        (own_number e.thread k)
+        (join (r.thread e.thread.0) (brought k r)) from to itself (own_number e.thread k)
         (counted_join log (Past log R e.thread) (Brings log R L k) (r.thread e.thread.0) (brought k r)
         (threads e.thread) (counted_brings log R L r threads locks k))
 
@@ -99,8 +74,7 @@ module _ (log : List Event) (R : ℕ → ℕ → Type 0) (L : LockId → ℕ →
     pub forked_none : Orderly (log ++ e ∷ []) → (t : ThreadId) → e.op ≡ Fork t
         → clock_after e.thread k r t.0 ≡ events_of (log ++ e ∷ []) t
     forked_none ord t o =
-        let d : Does (log ++ e ∷ []) (length log) e.thread (Fork t) =
-        subst (λ p. Does (log ++ e ∷ []) (length log) e.thread p) o (last_does log e) in
+        let d = last_as log e o in
         let le : clock_after e.thread k r t.0 ≤ events_of (log ++ e ∷ []) t = (clock_counted t).within in
         let z : events_of (log ++ e ∷ []) t ≤ 0 =
         counts_at_most (log ++ e ∷ []) t (λ i. Of (log ++ e ∷ []) i t) (events_of (log ++ e ∷ []) t) 0

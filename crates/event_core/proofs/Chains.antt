@@ -1,5 +1,5 @@
 -- Laws of program order and happens-before.
-use Rattle.std.proofs.Common.{◌≡◌, ℕ, ◌<◌, ◌≤◌, List, subst, arith, ◌⊎◌}
+use Rattle.std.proofs.Common.{◌≡◌, ℕ, ◌<◌, ◌≤◌, List, subst, arith}
 use Rattle.std.proofs.lemmas.Bool.{cases_lt}
 use mathlib.Core.Logic.{inl, inr}
 use Rattle.event_core.specs.declared.ids.ThreadId.{ThreadId}
@@ -48,11 +48,10 @@ hb_of_po (step c e) = step (hb_of_po c) (program e)
 
 -- the events of one thread are in order
 pub po_thread : {log : List Event} {i j : ℕ} (u : ThreadId) → Of log i u → Of log j u → i ≤ j → Po log i j
-po_thread {log = log} {i = i} {j = j} u a b le = go (cases_lt i j)
-  where
-    go : (i < j) ⊎ (j ≤ i) → Po log i j
-    go (inl lt) = chain_one (same_thread u lt a b)
-    go (inr ge) = let same : i ≡ j = omega arith in subst (λ x. Po log i x) same here
+po_thread {log = log} {i = i} {j = j} u a b le = elim (cases_lt i j) [
+  | inl lt ↦ chain_one (same_thread u lt a b)
+  | inr ge ↦ let same : i ≡ j = omega arith in subst (λ x. Po log i x) same here
+]
 
 pub hb_thread : {log : List Event} {i j : ℕ} (u : ThreadId) → Of log i u → Of log j u → i ≤ j → Hb log i j
 hb_thread u a b le = hb_of_po (po_thread u a b le)

@@ -1,34 +1,47 @@
 -- What happens before the event that a log grows by.
-use Rattle.std.proofs.Common.{◌≡◌, ℕ, ◌<◌, List, [], ◌∷◌, ◌++◌, length, sym, subst}
+use Rattle.std.proofs.Common.{◌≡◌, ℕ, List, [], ◌∷◌, ◌++◌, length, refl, sym, subst, inl, inr}
 use Rattle.std.proofs.Math.Seq.{take-append_seam}
 use Rattle.std.proofs.lemmas.Option.{slice_get_within}
 use Rattle.event_core.specs.declared.events.Event.{Event}
-use Rattle.event_core.specs.Log.{Does, depth}
+use Rattle.event_core.specs.declared.events.Op.TheVariants.{Fork}
+use Rattle.event_core.specs.Log.{Does, Of, depth}
 use Rattle.event_core.specs.Newest.{HbNew, itself, by_thread, by_join, by_lock}
-use Rattle.event_core.specs.Order.{Hb, here}
-use Rattle.event_core.proofs.CountLaws.{Brought, itself as brought_itself, own, by_join as brought_join}
-use Rattle.event_core.proofs.CountLaws.{by_lock as brought_lock, hb_brought, brought_hb}
-use Rattle.event_core.proofs.Counting.{last_of, last_does}
+use Rattle.event_core.specs.Order.{here, step, ProgramEdge, same_thread, fork_to_event, fork_to_join}
+use Rattle.event_core.specs.Order.{event_to_join, HbEdge, program, lock, Hb}
+use Rattle.event_core.proofs.Counting.{last_of, last_does, last_as}
 use Rattle.event_core.proofs.Effects.{last_opens}
-use Rattle.event_core.proofs.LogFacts.{does_op}
-use Rattle.event_core.proofs.Pasts.{source_within, old_source, new_source}
-use Rattle.event_core.proofs.Stable.{Agree, longer, back, releases_it, hb_too}
+use Rattle.event_core.proofs.LogFacts.{does_op, of_does, of_one}
+use Rattle.event_core.proofs.Pasts.{source_within}
+use Rattle.event_core.proofs.Stable.{Agree, longer, back, of, does, releases_it, hb_too}
 
 pub hb_new : (log : List Event) (e : Event) (i : ℕ) → Hb (log ++ e ∷ []) i (length log) → HbNew log e i
-hb_new log e i h = go (hb_brought (log ++ e ∷ []) e.thread i (length log) (last_of log e) h)
+hb_new log e i h = go (length log) h refl
   where
     a : Agree (length log) (log ++ e ∷ []) log
     a = back (longer log (e ∷ []))
 
-    go : Brought (log ++ e ∷ []) e.thread i (length log) → HbNew log e i
-    go (brought_itself same) = itself same
-    go (own g lt s c) = by_thread (g, old_source log e e.thread g lt s, hb_too a lt c)
-    go (brought_join u g lt d s c) =
-        by_join u (does_op (last_does log e) d) (g, old_source log e u g lt s, hb_too a lt c)
-    go (brought_lock l g lt d r c) =
-        by_lock l (does_op (last_does log e) d.does)
-        (subst (λ xs. depth xs e.thread l ≡ 0) (take-append_seam log (e ∷ [])) d.outer)
-        (g, (r.0, releases_it a lt r.1), hb_too a lt c)
+    edge : (g : ℕ) → Hb (log ++ e ∷ []) i g → HbEdge (log ++ e ∷ []) g (length log) → HbNew log e i
+    edge g c (program (same_thread u lt x y)) =
+        by_thread (g, inl (subst (λ t. Of log g t) (of_one y (last_of log e)) (of a lt x)), hb_too a lt c)
+    edge g c (program (fork_to_event u v lt x y)) =
+        by_thread (
+          g,
+          inr (v, subst (λ t. Does log g v (Fork t)) (of_one y (last_of log e)) (does a lt x)),
+          hb_too a lt c,
+        )
+    edge g c (program (fork_to_join u v t lt x y)) =
+        by_join u (does_op (last_does log e) y) (g, inr (v, does a lt x), hb_too a lt c)
+    edge g c (program (event_to_join u t lt x y)) =
+        by_join u (does_op (last_does log e) y) (g, inl (of a lt x), hb_too a lt c)
+    edge g c (lock u v l lt x y) =
+        by_lock l (does_op (last_does log e) y.does)
+        (subst (λ t. depth log t l ≡ 0) (of_one (of_does y.does) (last_of log e))
+        (subst (λ xs. depth xs v l ≡ 0) (take-append_seam log (e ∷ [])) y.outer))
+        (g, (u, releases_it a lt x), hb_too a lt c)
+
+    go : (j : ℕ) → Hb (log ++ e ∷ []) i j → j ≡ length log → HbNew log e i
+    go j here is = itself is
+    go j (step {g = g} c d) is = edge g c (subst (λ n. HbEdge (log ++ e ∷ []) g n) is d)
 
 pub new_hb : (log : List Event) (e : Event) (i : ℕ) → HbNew log e i → Hb (log ++ e ∷ []) i (length log)
 new_hb log e i n = go n
@@ -36,20 +49,22 @@ new_hb log e i n = go n
     a : Agree (length log) log (log ++ e ∷ [])
     a = longer log (e ∷ [])
 
-    into : Brought (log ++ e ∷ []) e.thread i (length log) → Hb (log ++ e ∷ []) i (length log)
-    into b = brought_hb (log ++ e ∷ []) e.thread i (length log) (last_of log e) b
-
     go : HbNew log e i → Hb (log ++ e ∷ []) i (length log)
     go (itself is) = subst (λ x. Hb (log ++ e ∷ []) x (length log)) (sym is) here
     go (by_thread p) =
         let lt = source_within log e.thread p.0 p.1 in
-        into (own p.0 lt (new_source log e e.thread p.0 lt p.1) (hb_too a lt p.2))
+        let d : ProgramEdge (log ++ e ∷ []) p.0 (length log) = elim p.1 [
+          | inl o ↦ same_thread e.thread lt (of a lt o) (last_of log e)
+          | inr f ↦ fork_to_event e.thread f.0 lt (does a lt f.1) (last_of log e)
+        ] in
+        step (hb_too a lt p.2) (program d)
     go (by_join u o p) =
         let lt = source_within log u p.0 p.1 in
-        into (brought_join u p.0 lt
-        (subst (λ q. Does (log ++ e ∷ []) (length log) e.thread q) o (last_does log e))
-        (new_source log e u p.0 lt p.1) (hb_too a lt p.2))
+        let d : ProgramEdge (log ++ e ∷ []) p.0 (length log) = elim p.1 [
+          | inl x ↦ event_to_join u e.thread lt (of a lt x) (last_as log e o)
+          | inr f ↦ fork_to_join u f.0 e.thread lt (does a lt f.1) (last_as log e o)
+        ] in
+        step (hb_too a lt p.2) (program d)
     go (by_lock l o z p) =
-        let lt : p.0 < length log = slice_get_within log p.0 p.1.1.does.event p.1.1.does.at in
-        into (brought_lock l p.0 lt (last_opens log e l o z) (p.1.0, releases_it a lt p.1.1)
-        (hb_too a lt p.2))
+        let lt = slice_get_within log p.0 p.1.1.does.event p.1.1.does.at in
+        step (hb_too a lt p.2) (lock p.1.0 e.thread l lt (releases_it a lt p.1.1) (last_opens log e l o z))

@@ -1,7 +1,7 @@
 -- Clocks that count sets, as a whole.
-use Rattle.std.proofs.Common.{◌≡◌, ℕ, ◌<◌, ◌≤◌, ◌+◌, List, [], ◌∷◌, ◌++◌, Bool, true, false, length, refl}
-use Rattle.std.proofs.Common.{sym, ap, subst, ◌∙◌, arith, cond, ◌⊎◌, nat_eq, length-append}
-use Rattle.std.proofs.lemmas.Bool.{cases_lt, eq-eqb, eqb-true, cases_Bool}
+use Rattle.std.proofs.Common.{◌≡◌, ℕ, ◌<◌, ◌+◌, List, [], ◌∷◌, ◌++◌, Bool, true, false, length, refl}
+use Rattle.std.proofs.Common.{sym, ap, subst, ◌∙◌, arith, cond, take, ◌⊎◌, nat_eq, length-append}
+use Rattle.std.proofs.lemmas.Bool.{cases_lt, cases_eq, eq-eqb, ne_eqb}
 use Rattle.std.proofs.lemmas.Option.{slice_get_within}
 use mathlib.Core.Logic.{inl, inr}
 use Rattle.event_core.specs.declared.ids.ThreadId.{ThreadId}
@@ -9,22 +9,19 @@ use Rattle.event_core.specs.declared.events.Event.{Event}
 use Rattle.event_core.specs.declared.events.Op.{Op}
 use Rattle.event_core.specs.Log.{Does, Of}
 use Rattle.event_core.specs.Count.{events_of, Counts}
-use Rattle.event_core.proofs.Depth.{count_snoc, same_thread_id, thread_cases}
+use Rattle.event_core.specs.Rows.{join, no_clock, bump, Counted}
+use Rattle.event_core.proofs.Depth.{count_snoc, count_with, same_thread_id, thread_cases}
 use Rattle.event_core.proofs.Places.{get_last}
 use Rattle.event_core.proofs.LogFacts.{of_one, does_op}
 use Rattle.event_core.proofs.Stable.{longer, back, of}
 use Rattle.event_core.proofs.CountLaws.{counts_none, counts_union, counts_all, counts_same, counts_longer}
-use Rattle.event_core.specs.Rows.{join, no_clock, bump, Counted}
+use Rattle.event_core.proofs.CountLaws.{rank_below}
 
 pub nat_eq_same : (n : ℕ) → nat_eq n n ≡ true
 nat_eq_same n = eq-eqb n n refl
 
 pub nat_eq_other : (m n : ℕ) → (m ≡ n → ⊥) → nat_eq m n ≡ false
-nat_eq_other m n ne = go (cases_Bool (nat_eq m n))
-  where
-    go : (nat_eq m n ≡ true) ⊎ (nat_eq m n ≡ false) → nat_eq m n ≡ false
-    go (inl t) = absurd (ne (eqb-true m n t))
-    go (inr f) = f
+nat_eq_other m n ne = ne_eqb m n ne
 
 pub counted_none : (log : List Event) (P : ℕ → Type 0) → ((i : ℕ) → P i → ⊥) → Counted log P no_clock
 counted_none log P none u =
@@ -55,16 +52,20 @@ last_of log e = record { event = e; at = get_last log e; thread = refl }
 pub last_does : (log : List Event) (e : Event) → Does (log ++ e ∷ []) (length log) e.thread e.op
 last_does log e = record { event = e; at = get_last log e; thread = refl; does = refl }
 
+pub last_as : (log : List Event) (e : Event) {p : Op} → e.op ≡ p
+    → Does (log ++ e ∷ []) (length log) e.thread p
+last_as log e o = record { event = e; at = get_last log e; thread = refl; does = o }
+
 -- an index is of the old log or the last
 pub is_last : (log : List Event) (e : Event) (i : ℕ) (u : ThreadId) → Of (log ++ e ∷ []) i u
     → (i < length log) ⊎ (i ≡ length log)
-is_last log e i u o = go (cases_lt i (length log))
-  where
-    go : (i < length log) ⊎ (length log ≤ i) → (i < length log) ⊎ (i ≡ length log)
-    go (inl lt) = inl lt
-    go (inr ge) =
-        inr (let h : i < length (log ++ e ∷ []) = slice_get_within (log ++ e ∷ []) i o.event o.at in
-        let g = grown_length log e in omega arith)
+is_last log e i u o = elim (cases_lt i (length log)) [
+  | inl lt ↦ inl lt
+  | inr ge ↦ inr (
+      let h : i < length (log ++ e ∷ []) = slice_get_within (log ++ e ∷ []) i o.event o.at in
+      let g = grown_length log e in
+      omega arith)
+]
 
 pub last_thread : (log : List Event) (e : Event) (i : ℕ) (u : ThreadId) → i ≡ length log
     → Of (log ++ e ∷ []) i u → e.thread ≡ u
@@ -81,58 +82,66 @@ events_grow log e u = count_snoc (λ (x : Event). nat_eq x.thread.0 u.0) log e
 
 pub events_own : (log : List Event) (e : Event)
     → events_of (log ++ e ∷ []) e.thread ≡ events_of log e.thread + 1
+unfolding events_of
 events_own log e =
-    events_grow log e e.thread
-    ∙ ap (λ (b : Bool). events_of log e.thread + cond b 1 0) (nat_eq_same e.thread.0)
+    count_with (λ (x : Event). nat_eq x.thread.0 e.thread.0) log e true (nat_eq_same e.thread.0)
 
 pub events_other : (log : List Event) (e : Event) (u : ThreadId) → (e.thread ≡ u → ⊥)
     → events_of (log ++ e ∷ []) u ≡ events_of log u
+unfolding events_of
 events_other log e u ne =
-    let h : events_of (log ++ e ∷ []) u ≡ events_of log u + 0
-    = events_grow log e u
-    ∙ ap (λ (b : Bool). events_of log u + cond b 1 0)
-    (nat_eq_other e.thread.0 u.0 (λ q. ne (same_thread_id q))) in
+    let h = count_with (λ (x : Event). nat_eq x.thread.0 u.0) log e false
+    (ne_eqb e.thread.0 u.0 (λ q. ne (same_thread_id q))) in
     omega arith
 
 -- a set that the last event joins, and that has all of its thread's events
-pub counted_bump : (log : List Event) (e : Event) (P Q : ℕ → Type 0) (f : ℕ → ℕ)
+pub counts_bump : (log : List Event) (e : Event) (u : ThreadId) (P Q : ℕ → Type 0) (n : ℕ)
     → ((i : ℕ) → P i → Q i) → ((i : ℕ) → i < length log → Q i → P i) → Q (length log)
-    → ((i : ℕ) → i < length log → Of log i e.thread → P i)
-    → f e.thread.0 ≡ events_of log e.thread → Counted log P f → Counted (log ++ e ∷ []) Q (bump e.thread.0 f)
-counted_bump log e P Q f to from last own all a u = go (thread_cases e.thread u)
+    → (e.thread ≡ u → n ≡ events_of log u) → Counts log u P n
+    → Counts (log ++ e ∷ []) u Q (n + cond (nat_eq e.thread.0 u.0) 1 0)
+counts_bump log e u P Q n to from last all a = elim (thread_cases e.thread u) [
+  | inl same ↦
+      subst (λ k. Counts new u Q k)
+      (events_grow log e u ∙ ap (λ k. k + cond {A = ℕ} (nat_eq e.thread.0 u.0) 1 0) (sym (all same)))
+      (counts_same new u (λ i. Of new i u) Q (events_of new u)
+      (λ i o. (λ p. has same i o (is_last log e i u o), λ q. o)) (counts_all new u))
+  | inr other ↦
+      subst (λ k. Counts new u Q k) (
+      let none = ap (λ (b : Bool). cond {A = ℕ} b 1 0)
+      (ne_eqb e.thread.0 u.0 (λ q. other (same_thread_id q))) in
+      omega arith)
+      (counts_same new u (λ i. Q i × (i < length log)) Q n (λ i o. (λ p. p.0, λ q. (q, old other i o)))
+      (counts_longer log (e ∷ []) u P (λ i. Q i × (i < length log)) n
+      (λ i lt. (λ p. (to i p, lt), λ q. from i lt q.0))
+      (λ i le q. let lt : i < length log = q.1 in omega arith) a))
+]
   where
     new : List Event
     new = log ++ e ∷ []
 
-    go : (e.thread ≡ u) ⊎ (e.thread ≡ u → ⊥) → Counts new u Q (bump e.thread.0 f u.0)
-    go (inl same) = subst (λ v. Counts new v Q (bump e.thread.0 f v.0)) same mine
-      where
-        number : events_of new e.thread ≡ bump e.thread.0 f e.thread.0
-        number =
-            events_own log e ∙ sym (ap (λ n. n + 1) all)
-            ∙ sym (ap (λ (b : Bool). cond b (f e.thread.0 + 1) (f e.thread.0)) (nat_eq_same e.thread.0))
+    has : e.thread ≡ u → (i : ℕ) → Of new i u → (i < length log) ⊎ (i ≡ length log) → Q i
+    has same i o (inr is) = subst Q (sym is) last
+    has same i o (inl lt) =
+        let o' = of (back (longer log (e ∷ []))) lt o in
+        to i ((a.first i o').1
+        (subst (λ k. events_of (take i log) u < k) (sym (all same)) (rank_below log u i o')))
 
-        has : (i : ℕ) → Of new i e.thread → Q i
-        has i o = at (is_last log e i e.thread o)
-          where
-            at : (i < length log) ⊎ (i ≡ length log) → Q i
-            at (inl lt) = to i (own i lt (of (back (longer log (e ∷ []))) lt o))
-            at (inr is) = subst Q (sym is) last
+    old : (e.thread ≡ u → ⊥) → (i : ℕ) → Of new i u → i < length log
+    old other i o = elim (is_last log e i u o) [
+      | inl lt ↦ lt
+      | inr is ↦ absurd (other (last_thread log e i u is o))
+    ]
 
-        mine : Counts new e.thread Q (bump e.thread.0 f e.thread.0)
-        mine = subst (λ n. Counts new e.thread Q n) number
-            (counts_same new e.thread (λ i. Of new i e.thread) Q (events_of new e.thread)
-            (λ i o. (λ p. has i o, λ q. o)) (counts_all new e.thread))
-    go (inr other) =
-        subst (λ n. Counts new u Q n)
-        (sym (ap (λ (b : Bool). cond b (f u.0 + 1) (f u.0))
-        (nat_eq_other u.0 e.thread.0 (λ q. other (same_thread_id (sym q))))))
-        (counts_same new u (λ i. Q i × (i < length log)) Q (f u.0)
-        (λ i o. (λ p. p.0, λ q. (q, old i o (is_last log e i u o))))
-        (counts_longer log (e ∷ []) u P (λ i. Q i × (i < length log)) (f u.0)
-        (λ i lt. (λ p. (to i p, lt), λ q. from i lt q.0)) (λ i le q. let lt : i < length log = q.1 in
-        omega arith) (a u)))
-      where
-        old : (i : ℕ) → Of new i u → (i < length log) ⊎ (i ≡ length log) → i < length log
-        old i o (inl lt) = lt
-        old i o (inr is) = absurd (other (last_thread log e i u is o))
+bumped : (t : ℕ) (f : ℕ → ℕ) (u : ℕ) → f u + cond (nat_eq t u) 1 0 ≡ bump t f u
+bumped t f u = elim (cases_eq t u) [
+  | inl e ↦ rw (eq-eqb t u e, eq-eqb u t (sym e)) refl
+  | inr n ↦ rw (ne_eqb t u n, ne_eqb u t (λ q. n (sym q))) (omega arith)
+]
+
+pub counted_bump : (log : List Event) (e : Event) (P Q : ℕ → Type 0) (f : ℕ → ℕ)
+    → ((i : ℕ) → P i → Q i) → ((i : ℕ) → i < length log → Q i → P i) → Q (length log)
+    → f e.thread.0 ≡ events_of log e.thread → Counted log P f → Counted (log ++ e ∷ []) Q (bump e.thread.0 f)
+counted_bump log e P Q f to from last all a u =
+    subst (λ n. Counts (log ++ e ∷ []) u Q n) (bumped e.thread.0 f u.0)
+    (counts_bump log e u P Q (f u.0) to from last
+    (λ q. subst (λ (v : ThreadId). f v.0 ≡ events_of log v) q all) (a u))

@@ -1,12 +1,13 @@
 -- A log is well formed when its beginning is and its last event is legal after it; who has started stays so;
 -- a run has one answer.
-use Rattle.std.proofs.Common.{◌≡◌, ℕ, ◌<◌, ◌≤◌, ◌+◌, List, [], ◌∷◌, ◌++◌, length, refl, sym, ap, subst, ◌∙◌}
-use Rattle.std.proofs.Common.{arith, take, ◌⊎◌, slice_get, Some, None, length-append, true, nat_eq}
-use Rattle.std.proofs.lemmas.Bool.{cases_lt, or_left, or_right, or_cases}
+use Rattle.std.proofs.Common.{◌≡◌, ℕ, ◌<◌, List, [], ◌∷◌, ◌++◌, length, refl, sym, ap, subst, ◌∙◌}
+use Rattle.std.proofs.Common.{arith, take, drop, slice_get, Some, None, true, nat_eq, suc}
+use Rattle.std.proofs.Common.{take-append-drop}
+use Rattle.std.proofs.lemmas.Bool.{or_left, or_right, or_cases}
 use Rattle.std.proofs.lemmas.List.{take-append-le}
 use Rattle.std.proofs.lemmas.List.Folds.{list_any-append}
 use Rattle.std.proofs.lemmas.Option.{slice_get_within}
-use Rattle.std.proofs.Math.Seq.{take-append_seam}
+use Rattle.std.proofs.Math.Seq.{take-append_seam, take-length}
 use Rattle.std.specs.List.{list_any}
 use mathlib.Core.Logic.{inl, inr}
 use Rattle.event_core.specs.declared.ids.ThreadId.{ThreadId}
@@ -20,9 +21,10 @@ use Rattle.event_core.specs.declared.replies.Outcome.{Outcome}
 use Rattle.event_core.specs.declared.replies.Outcome.TheVariants.{Accepted, Refused}
 use Rattle.event_core.specs.Refusal.{Legal, WellFormed, event_of, forked, forks}
 use Rattle.event_core.specs.Verdict.{IsOutcome, log_after, IsRun}
+use Rattle.event_core.proofs.Depth.{take_event, each_front}
 use Rattle.event_core.proofs.Stable.{longer}
 use Rattle.event_core.proofs.MoreLaws.{verdict_is_unique}
-use Rattle.event_core.proofs.Places.{get_last}
+use Rattle.event_core.proofs.Places.{get_last, front_or_last}
 
 pub well_formed_front : (m : Limits) (log more : List Event) → WellFormed m (log ++ more) → WellFormed m log
 well_formed_front m log more w = record { legal = legal }
@@ -40,32 +42,39 @@ well_formed_last m log e w =
 
 pub well_formed_grown : (m : Limits) (log : List Event) (e : Event) → WellFormed m log → Legal m log e
     → WellFormed m (log ++ e ∷ [])
-well_formed_grown m log e w l = record { legal = λ i x at. go i x at (cases_lt i (length log)) }
-  where
-    go : (i : ℕ) (x : Event) → slice_get (log ++ e ∷ []) i ≡ Some x → (i < length log) ⊎ (length log ≤ i)
-        → Legal m (take i (log ++ e ∷ [])) x
-    go i x at (inl lt) =
-        subst (λ xs. Legal m xs x) (sym (take-append-le i log (e ∷ []) (omega arith)))
-        (w.legal i x ((longer log (e ∷ [])).events i lt ∙ at))
-    go i x at (inr ge) =
-        let within : i < length (log ++ e ∷ []) = slice_get_within (log ++ e ∷ []) i x at in
-        let long : length (log ++ e ∷ []) ≡ length log + 1 = length-append log (e ∷ []) in
-        let is : length log ≡ i = omega arith in
-        let here : Some e ≡ Some x = sym (get_last log e) ∙ ap (slice_get (log ++ e ∷ [])) is ∙ at in
-        let same : e ≡ x = cc in
-        subst (λ y. Legal m (take i (log ++ e ∷ [])) y) same
-        (subst (λ k. Legal m (take k (log ++ e ∷ [])) e) is
-        (subst (λ xs. Legal m xs e) (sym (take-append_seam log (e ∷ []))) l))
+well_formed_grown m log e w l = record {
+  legal = λ i x at. elim (front_or_last log e i x at) [
+    | inl old ↦
+        let lt = slice_get_within log i x old in
+        subst (λ xs. Legal m xs x) (sym (take-append-le i log (e ∷ []) (omega arith))) (w.legal i x old)
+    | inr new ↦
+        subst (Legal m (take i (log ++ e ∷ []))) (sym new.1)
+        (subst (λ xs. Legal m xs e)
+        (sym (ap (λ k. take k (log ++ e ∷ [])) new.0 ∙ take-append_seam log (e ∷ []))) l)
+  ];
+}
+
+-- a beginning of a well-formed log is well formed
+pub formed_take : (m : Limits) (log : List Event) (k : ℕ) → WellFormed m log → WellFormed m (take k log)
+formed_take m log k w =
+    well_formed_front m (take k log) (drop k log) (subst (WellFormed m) (sym (take-append-drop k log)) w)
+
+-- what is so of no events, and stays so as a well-formed log grows, is so of each well-formed log
+pub each_formed : (P : List Event → Type 0) (m : Limits) (log : List Event) → WellFormed m log → P []
+    → ((xs : List Event) (e : Event) → WellFormed m (xs ++ e ∷ []) → P xs → P (xs ++ e ∷ [])) → P log
+each_formed P m log w none more =
+    subst P (take-length log)
+    (each_front P log none (λ i e at h. more (take i log) e
+    (subst (WellFormed m) (take_event log i e at) (formed_take m log (suc i) w)) h) (length log))
 
 -- who has started has started in every longer log
 pub still_forked : (r : Roots) (log more : List Event) (u : ThreadId) → forked r log u ≡ true
     → forked r (log ++ more) u ≡ true
 still_forked Free log more u h = refl
-still_forked OnlyMain log more u h = go (or_cases (nat_eq u.0 0) (list_any (forks u) log) h)
-  where
-    go : (nat_eq u.0 0 ≡ true) ⊎ (list_any (forks u) log ≡ true) → forked OnlyMain (log ++ more) u ≡ true
-    go (inl t) = or_left _ _ t
-    go (inr t) = or_right (nat_eq u.0 0) _ (list_any-append (forks u) log more ∙ or_left _ _ t)
+still_forked OnlyMain log more u h = elim (or_cases (nat_eq u.0 0) (list_any (forks u) log) h) [
+  | inl t ↦ or_left _ _ t
+  | inr t ↦ or_right (nat_eq u.0 0) _ (list_any-append (forks u) log more ∙ or_left _ _ t)
+]
 
 same_reply : (a b : Reply) → a.index ≡ b.index → a.value ≡ b.value → a.verdict ≡ b.verdict → a ≡ b
 same_reply a b p q r = λ i. record { index = p i; value = q i; verdict = r i }
@@ -93,7 +102,6 @@ run_is_unique m log (c ∷ cs) (a ∷ os') (b ∷ bs) x y p q =
     let rest = run_is_unique m (log_after log c a) cs os' bs x y p.1 q' in
     let tails : os' ≡ bs = rest.0 in
     (let whole : a ∷ os' ≡ b ∷ bs = cc in whole, rest.1)
-run_is_unique m log [] [] (b ∷ bs) x y p q = absurd q
 run_is_unique m log [] (a ∷ os') bs x y p q = absurd p
 run_is_unique m log (c ∷ cs) [] bs x y p q = absurd p
-run_is_unique m log (c ∷ cs) (a ∷ os') [] x y p q = absurd q
+run_is_unique m log _ _ _ x y p q = absurd q

@@ -4,21 +4,20 @@ use Rattle.event_core.specs.declared.events.Event.{Event}
 use Rattle.event_core.specs.Order.{Hb}
 use Rattle.event_core.specs.Count.{Past, LockPast}
 use Rattle.event_core.specs.Effect.{Effect}
-use Rattle.event_core.specs.Newest.{HbNew, itself, by_thread, by_join, by_lock}
+use Rattle.event_core.specs.Newest.{itself, by_thread, by_join, by_lock}
 use Rattle.event_core.proofs.ClockStep.{hb_new, new_hb}
-use Rattle.event_core.proofs.Effects.{Fits, accesses, opens, closes, forks, joins, again, inner}
+use Rattle.event_core.proofs.Effects.{Fits, opens, joins}
 use Rattle.event_core.proofs.Brings.{Brings, join_brings, acquire_brings}
 
 module _ (log : List Event) (e : Event) where
   pub hb_to : (k : Effect) → Fits log e k → (i : ℕ) → i < length log → Hb (log ++ e ∷ []) i (length log)
       → Past log (Hb log) e.thread i ⊎ Brings log (Hb log) (LockPast log (Hb log)) k i
-  hb_to k f i lt h = go (hb_new log e i h)
-    where
-      go : HbNew log e i → Past log (Hb log) e.thread i ⊎ Brings log (Hb log) (LockPast log (Hb log)) k i
-      go (itself is) = absurd (omega arith)
-      go (by_thread p) = inl p
-      go (by_join u o p) = inr (join_brings log e (Hb log) (LockPast log (Hb log)) u i k f o p)
-      go (by_lock l o z p) = inr (acquire_brings log e (Hb log) (LockPast log (Hb log)) l i k f o z p)
+  hb_to k f i lt h = elim (hb_new log e i h) [
+    | itself is ↦ absurd (omega arith)
+    | by_thread p ↦ inl p
+    | by_join u o p ↦ inr (join_brings log e (Hb log) (LockPast log (Hb log)) u i k f o p)
+    | by_lock l o z p ↦ inr (acquire_brings log e (Hb log) (LockPast log (Hb log)) l i k f o z p)
+  ]
 
   pub hb_from : (k : Effect) → Fits log e k → (i : ℕ)
       → Past log (Hb log) e.thread i ⊎ Brings log (Hb log) (LockPast log (Hb log)) k i
@@ -26,8 +25,4 @@ module _ (log : List Event) (e : Event) where
   hb_from k f i (inl p) = new_hb log e i (by_thread p)
   hb_from _ (joins u o) i (inr p) = new_hb log e i (by_join u o p)
   hb_from _ (opens l o d) i (inr p) = new_hb log e i (by_lock l o d p)
-  hb_from _ (accesses x k o) i (inr p) = absurd p
-  hb_from _ (closes l o d) i (inr p) = absurd p
-  hb_from _ (forks u o) i (inr p) = absurd p
-  hb_from _ (again l o d) i (inr p) = absurd p
-  hb_from _ (inner l o d) i (inr p) = absurd p
+  hb_from _ f i (inr p) = absurd p

@@ -1,7 +1,7 @@
 -- A release by a lock's holder is refused exactly where the holder has been joined.
 use Rattle.std.proofs.Common.{◌≡◌, ℕ, ◌<◌, List, [], ◌∷◌, Bool, true, false, Some, None, not}
 use Rattle.std.proofs.Common.{refl, sym, ap, subst, ◌∙◌, arith, take, length}
-use Rattle.std.proofs.lemmas.Bool.{eq-eqb}
+use Rattle.std.proofs.lemmas.Bool.{eq-eqb, not-false}
 use Rattle.std.proofs.lemmas.List.{take-append-drop}
 use Rattle.std.proofs.Math.ListN.{drop}
 use Rattle.std.proofs.Math.Seq.{take-length}
@@ -19,7 +19,6 @@ use Rattle.event_core.specs.Refusal.{refusal, first_of, when, holder, is_holder,
 use Rattle.event_core.proofs.Depth.{Opener, opener}
 use Rattle.event_core.proofs.Legality.{Reasons, reasons_at, when_none, holder_depth}
 use Rattle.event_core.proofs.Growth.{still_forked}
-use Rattle.event_core.proofs.Holds.{not_out}
 
 -- the acquire since which the holder holds the lock
 holder_opener : (log : List Event) (l : LockId) (u : ThreadId) → holder log l ≡ Some u
@@ -58,7 +57,7 @@ release_by_holder m log c l w h =
     let r : Reasons m (take o.index log) c.thread (Acquire l)
     = reasons_at m log o.index c.thread (Acquire l) w o.opened.does in
     let started : forked m.roots log c.thread ≡ true
-    = started_since m log o.index c.thread (not_out _ (when_none _ NotStarted r.may_act)) in
+    = started_since m log o.index c.thread (not-false _ (when_none _ NotStarted r.may_act)) in
     only_ended _ _ (list_any (joins c.thread) log) _ _ (when_none _ ThreadRange r.thread_on_table)
     (ap not started) (when_none _ TargetRange r.on_table) (ap not (is_the_holder log l c.thread h))
 

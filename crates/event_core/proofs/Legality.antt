@@ -1,11 +1,13 @@
 -- Each well-formed log is orderly.
-use Rattle.std.proofs.Common.{◌≡◌, ℕ, suc, zero, ◌<◌, ◌≤◌, ◌+◌, List, [], ◌∷◌, ◌++◌, Bool, true, false}
-use Rattle.std.proofs.Common.{length, refl, sym, ap, subst, ◌∙◌, arith, take, cond, ◌⊎◌, get_or, not}
-use Rattle.std.proofs.Common.{take_all, nat_lt, nat_eq, ◌||◌, count_by, option_and_then, Option, Some, None}
-use Rattle.std.proofs.Common.{slice_get, if◌then◌else◌, nat_le}
-use Rattle.std.proofs.lemmas.Bool.{cases_lt, cases_Bool, eqb-true, eq-eqb, lt-ltb, ltb-true, or_parts}
-use Rattle.std.proofs.lemmas.Bool.{or_cases, or_left, or_right, cond-true, cond-false}
-use Rattle.std.proofs.lemmas.Option.{slice_get_cases, cond_some}
+use Rattle.std.proofs.Common.{◌≡◌, ℕ, suc, zero, ◌<◌, ◌≤◌, List, [], ◌∷◌, ◌++◌, Bool, true, false, drop, refl}
+use Rattle.std.proofs.Common.{sym, ap, subst, ◌∙◌, arith, take, cond, not, nat_lt, nat_eq, option_and_then}
+use Rattle.std.proofs.Common.{Option, Some, None, slice_get, if◌then◌else◌, nat_le, take-append-drop}
+use Rattle.std.proofs.lemmas.Bool.{cases_order, cases_Bool, eqb-true, eq-eqb, lt-ltb, ltb-true, both_ways}
+use Rattle.std.proofs.lemmas.Bool.{or_parts, or_cases, or_left, and_right, cond-true, cond-false, not-false}
+use Rattle.std.proofs.lemmas.List.{take-take}
+use Rattle.std.proofs.lemmas.List.Folds.{list_any-append}
+use Rattle.std.proofs.lemmas.Map.Keys.{any_passes_from_place}
+use Rattle.std.proofs.lemmas.Option.{cond_some, option_and_then_some}
 use Rattle.std.specs.List.{list_any}
 use Rattle.std.specs.Option.{option_or}
 use mathlib.Core.Logic.{inl, inr}
@@ -16,22 +18,24 @@ use Rattle.event_core.specs.declared.bounds.Limits.{Limits}
 use Rattle.event_core.specs.declared.bounds.Roots.{Roots}
 use Rattle.event_core.specs.declared.bounds.Roots.TheVariants.{OnlyMain, Free}
 use Rattle.event_core.specs.declared.replies.Refusal.{Refusal}
-use Rattle.event_core.specs.declared.replies.Refusal.TheVariants.{ThreadRange, NotStarted, TargetRange, Held}
-use Rattle.event_core.specs.declared.replies.Refusal.TheVariants.{NotHolder, SelfTarget, AlreadyStarted}
+use Rattle.event_core.specs.declared.replies.Refusal.TheVariants.{ThreadRange, NotStarted, Ended, TargetRange}
+use Rattle.event_core.specs.declared.replies.Refusal.TheVariants.{Held, NotHolder, SelfTarget, AlreadyStarted}
 use Rattle.event_core.specs.declared.events.Op.{Op}
 use Rattle.event_core.specs.declared.events.Op.TheVariants.{Acquire, Release, Fork}
-use Rattle.event_core.specs.Log.{Does, Of, depth, acquires, releases, op_acquires}
+use Rattle.event_core.specs.Log.{Does, Of, depth, acquires, op_acquires}
 use Rattle.event_core.specs.Refusal.{refusal, reasons, first_of, when, held, held_by, holder, is_holder}
 use Rattle.event_core.specs.Refusal.{last_acquirer, not_holder, self_target, already_started, known, forked}
-use Rattle.event_core.specs.Refusal.{in_range, forks, mentions, Legal, WellFormed, log_full}
+use Rattle.event_core.specs.Refusal.{in_range, forks, joins, mentions, Legal, WellFormed, log_full}
 use Rattle.event_core.specs.Orderly.{Orderly}
-use Rattle.event_core.proofs.Depth.{same_thread_id, same_lock_id, take_event, acquires_is, depth_nil}
-use Rattle.event_core.proofs.Depth.{count_snoc}
+use Rattle.event_core.proofs.Depth.{same_thread_id, each_front, acquires_is, op_acquires_is, depth_nil}
+use Rattle.event_core.proofs.Depth.{not_risen}
+use Rattle.event_core.proofs.LogFacts.{of_does, of_one}
 
 -- none of the reasons that the laws need applies
 pub record Reasons (m : Limits) (log : List Event) (u : ThreadId) (o : Op) : Type 0 where
   pub thread_on_table : when (nat_le m.threads u.0) ThreadRange ≡ None
   pub may_act : when (not (forked m.roots log u)) NotStarted ≡ None
+  pub not_ended : when (list_any (joins u) log) Ended ≡ None
   pub on_table : when (not (in_range m o)) TargetRange ≡ None
   pub no_holder : held log u o ≡ None
   pub holds : not_holder log u o ≡ None
@@ -62,6 +66,7 @@ legal_reasons m log e legal =
     = record {
       thread_on_table = r.0;
       may_act = r.1.0;
+      not_ended = r.1.1.0;
       on_table = r.1.1.1.0;
       no_holder = r.1.1.1.1.0;
       holds = r.1.1.1.1.1.0;
@@ -82,14 +87,9 @@ reasons_at m log i u o w d =
 -- the holder holds
 pub holder_depth : (log : List Event) (l : LockId) (v : ThreadId) → holder log l ≡ Some v → 0 < depth log v l
 unfolding holder
-holder_depth log l v h = go (last_acquirer log l) h
-  where
-    go : (o : Option ThreadId) → option_and_then (λ u. if nat_lt 0 (depth log u l) then Some u else None) o
-        ≡ Some v → 0 < depth log v l
-    go None e = absurd (cc)
-    go (Some w) e =
-        let p = cond_some (nat_lt 0 (depth log w l)) w v e in
-        subst (λ x. 0 < depth log x l) p.1 (ltb-true 0 (depth log w l) p.0)
+holder_depth log l v h = option_and_then_some _ (last_acquirer log l) v h (λ u is e.
+    let p = cond_some (nat_lt 0 (depth log u l)) u v e in
+    subst (λ x. 0 < depth log x l) p.1 (ltb-true 0 (depth log u l) p.0))
 
 pub holder_is : (log : List Event) (l : LockId) (u : ThreadId) → last_acquirer log l ≡ Some u
     → 0 < depth log u l → holder log l ≡ Some u
@@ -98,23 +98,22 @@ holder_is log l u e lt =
     ap (option_and_then (λ (v : ThreadId). if nat_lt 0 (depth log v l) then Some v else None)) e
     ∙ cond-true (nat_lt 0 (depth log u l)) (Some u) None (lt-ltb 0 (depth log u l) lt)
 
+-- who may acquire a lock that is held is its holder
+pub own_again : (u v : ThreadId) → held_by (Some u) v ≡ None → u ≡ v
+own_again u v free = same_thread_id (eqb-true u.0 v.0 (not-false _ (when_none _ (Held u) free)))
+
 pub held_at : (m : Limits) (log : List Event) (r : ℕ) (u : ThreadId) (l : LockId) → WellFormed m log
     → Does log r u (Release l) → 0 < depth (take r log) u l
 held_at m log r u l w d =
-    go (holder (take r log) l) refl (when_none _ NotHolder (reasons_at m log r u (Release l) w d).holds)
+    go (holder (take r log) l) refl
+    (not-false _ (when_none _ NotHolder (reasons_at m log r u (Release l) w d).holds))
   where
-    go : (h : Option ThreadId) → holder (take r log) l ≡ h → not (is_holder h u) ≡ false
+    go : (h : Option ThreadId) → holder (take r log) l ≡ h → is_holder h u ≡ true
         → 0 < depth (take r log) u l
-    go None e n = absurd (cc)
-    go (Some v) e n = by_eq (cases_Bool (nat_eq v.0 u.0))
-      where
-        by_eq : (nat_eq v.0 u.0 ≡ true) ⊎ (nat_eq v.0 u.0 ≡ false) → 0 < depth (take r log) u l
-        by_eq (inl t) =
-            subst (λ x. 0 < depth (take r log) x l) (same_thread_id (eqb-true v.0 u.0 t))
-            (holder_depth (take r log) l v e)
-        by_eq (inr f) =
-            absurd (let n' : not (nat_eq v.0 u.0) ≡ false = n in
-            let g : not (nat_eq v.0 u.0) ≡ true = ap not f in cc)
+    go None e t = absurd (cc)
+    go (Some v) e t =
+        subst (λ x. 0 < depth (take r log) x l) (same_thread_id (eqb-true v.0 u.0 t))
+        (holder_depth (take r log) l v e)
 
 -- the last acquire after one more event
 pub acquirer_snoc : (xs : List Event) (e : Event) (l : LockId)
@@ -130,85 +129,39 @@ acquirer_snoc (x ∷ xs) e l =
     out true o p = refl
     out false o p = refl
 
--- an event that is not the thread's acquire does not raise the depth
-not_risen : (xs : List Event) (e : Event) (u : ThreadId) (l : LockId) → acquires u l e ≡ false
-    → depth (xs ++ e ∷ []) u l ≤ depth xs u l
-unfolding depth
-not_risen xs e u l does_not =
-    let c : count_by (acquires u l) (xs ++ e ∷ []) ≡ count_by (acquires u l) xs + 0
-    = count_snoc (acquires u l) xs e ∙ ap (λ b. count_by (acquires u l) xs + cond b 1 0) does_not in
-    let d : count_by (releases u l) (xs ++ e ∷ []) ≡ count_by (releases u l) xs + cond (releases u l e) 1 0
-    = count_snoc (releases u l) xs e in
-    omega arith
-
 -- the thread that holds a lock made its last acquire
 pub held_last : (m : Limits) (log : List Event) (u : ThreadId) (l : LockId) → WellFormed m log → (k : ℕ)
     → 0 < depth (take k log) u l → last_acquirer (take k log) l ≡ Some u
-held_last m log u l w zero h = absurd (let z : depth (take 0 log) u l ≡ 0 = depth_nil log u l in omega arith)
-held_last m log u l w (suc k) h = go (slice_get_cases log k).1 (held_last m log u l w k)
+held_last m log u l w =
+    each_front (λ xs. 0 < depth xs u l → last_acquirer xs l ≡ Some u) log
+    (λ h. absurd (let z : depth [] u l ≡ 0 = depth_nil log u l in omega arith)) more
   where
-    go : (((e : Event) × (k < length log) × (slice_get log k ≡ Some e) × (get_or log k e ≡ e))
-        ⊎ ((length log ≤ k) × (slice_get log k ≡ None)))
-        → (0 < depth (take k log) u l → last_acquirer (take k log) l ≡ Some u)
-        → last_acquirer (take (suc k) log) l ≡ Some u
-    go (inr past) ih =
-        let p : length log ≤ k = past.0 in
-        let same : take (suc k) log ≡ take k log = take_all (suc k) log (omega arith)
-        ∙ sym (take_all k log p) in
-        subst (λ xs. last_acquirer xs l ≡ Some u) (sym same) (ih (subst (λ xs. 0 < depth xs u l) same h))
-    go (inl x) ih =
-        subst (λ ys. last_acquirer ys l ≡ Some u) (sym grown) (by_acquires (cases_Bool (acquires u l e)))
+    more : (i : ℕ) (e : Event) → slice_get log i ≡ Some e
+        → (0 < depth (take i log) u l → last_acquirer (take i log) l ≡ Some u)
+        → 0 < depth (take i log ++ e ∷ []) u l → last_acquirer (take i log ++ e ∷ []) l ≡ Some u
+    more i e at ih after = elim (cases_Bool (op_acquires l e.op)) [
+      | inl t ↦
+          let mine : e.thread ≡ u = elim (cases_Bool (acquires u l e)) [
+            | inl a ↦ (acquires_is u l e a).0
+            | inr f ↦ sym (own (op_acquires_is l e.op t) (before f))
+          ] in
+          acquirer_snoc xs e l ∙ cond-true _ _ _ t ∙ ap Some mine
+      | inr f ↦ acquirer_snoc xs e l ∙ cond-false _ _ _ f ∙ ih (before (and_right _ _ f))
+    ]
       where
-        e : Event
-        e = x.0
-
         xs : List Event
-        xs = take k log
+        xs = take i log
 
-        grown : take (suc k) log ≡ xs ++ e ∷ []
-        grown = take_event log k e x.2
+        before : acquires u l e ≡ false → 0 < depth xs u l
+        before none = let le = not_risen xs e u l none in omega (arith, after)
 
-        after : 0 < depth (xs ++ e ∷ []) u l
-        after = subst (λ ys. 0 < depth ys u l) grown h
-
-        r : Reasons m xs e.thread e.op
-        r = legal_reasons m xs e (w.legal k e x.2)
-
-        by_acquires : (acquires u l e ≡ true) ⊎ (acquires u l e ≡ false)
-            → last_acquirer (xs ++ e ∷ []) l ≡ Some u
-        by_acquires (inl it_does) =
-            let is = acquires_is u l e it_does in
-            let test : op_acquires l e.op ≡ true = ap (op_acquires l) is.1 ∙ eq-eqb l.0 l.0 refl in
-            acquirer_snoc xs e l ∙ cond-true _ _ _ test ∙ ap Some is.0
-        by_acquires (inr it_does_not) = by_lock (cases_Bool (op_acquires l e.op))
-          where
-            before : 0 < depth xs u l
-            before = let le = not_risen xs e u l it_does_not in omega (arith, after)
-
-            last : last_acquirer xs l ≡ Some u
-            last = ih before
-
-            op_is : (o : Op) → op_acquires l o ≡ true → o ≡ Acquire l
-            op_is (Acquire n) t = ap Acquire (same_lock_id (eqb-true n.0 l.0 t))
-            op_is _ t = cc
-
-            by_lock : (op_acquires l e.op ≡ true) ⊎ (op_acquires l e.op ≡ false)
-                → last_acquirer (xs ++ e ∷ []) l ≡ Some u
-            by_lock (inr other) = acquirer_snoc xs e l ∙ cond-false _ _ _ other ∙ last
-            by_lock (inl same) =
-                let op : e.op ≡ Acquire l = op_is e.op same in
-                let none : held_by (holder xs l) e.thread ≡ None
-                = subst (λ o. held xs e.thread o ≡ None) op r.no_holder in
-                let none' : held_by (Some u) e.thread ≡ None
-                = subst (λ o. held_by o e.thread ≡ None) (holder_is xs l u last before) none in
-                let own : not (nat_eq u.0 e.thread.0) ≡ false = when_none _ (Held u) none' in
-                acquirer_snoc xs e l ∙ cond-true _ _ _ same
-                ∙ ap Some (own_thread (cases_Bool (nat_eq u.0 e.thread.0)) own)
-              where
-                own_thread : (nat_eq u.0 e.thread.0 ≡ true) ⊎ (nat_eq u.0 e.thread.0 ≡ false)
-                    → not (nat_eq u.0 e.thread.0) ≡ false → e.thread ≡ u
-                own_thread (inl t) n = sym (same_thread_id (eqb-true u.0 e.thread.0 t))
-                own_thread (inr f) n = absurd (let g : not (nat_eq u.0 e.thread.0) ≡ true = ap not f in cc)
+        own : e.op ≡ Acquire l → 0 < depth xs u l → u ≡ e.thread
+        own op up =
+            let r = legal_reasons m xs e (w.legal i e at) in
+            let free : held_by (holder xs l) e.thread ≡ None
+            = subst (λ o. held xs e.thread o ≡ None) op r.no_holder in
+            own_again u e.thread
+            (subst (λ o. held_by o e.thread ≡ None) (holder_is xs l u (ih up) up) free)
 
 pub one_holder : (m : Limits) (log : List Event) → WellFormed m log → (k : ℕ) (u v : ThreadId) (l : LockId)
     → 0 < depth (take k log) u l → 0 < depth (take k log) v l → u ≡ v
@@ -216,29 +169,13 @@ one_holder m log w k u v l p q =
     let a = held_last m log u l w k p in let b = held_last m log v l w k q in let same : Some u ≡ Some v
     = sym a ∙ b in cc
 
--- one event that passes settles the test, also of a longer beginning
-pub any_at : (p : Event → Bool) (xs : List Event) (i : ℕ) (e : Event) → slice_get xs i ≡ Some e → p e ≡ true
-    → list_any p xs ≡ true
-any_at p [] i e at h = absurd (cc)
-any_at p (x ∷ xs) zero e at h =
-    or_left (p x) (list_any p xs) (let same : Some x ≡ Some e = at in let same' : x ≡ e = cc in
-    ap p same' ∙ h)
-any_at p (x ∷ xs) (suc i) e at h = or_right (p x) (list_any p xs) (any_at p xs i e at h)
-
+-- what passes in a beginning passes in a longer one
 any_take : (p : Event → Bool) (xs : List Event) (i k : ℕ) → i ≤ k → list_any p (take i xs) ≡ true
     → list_any p (take k xs) ≡ true
-any_take p [] zero k le h = absurd (cc)
-any_take p [] (suc i) k le h = absurd (cc)
-any_take p (x ∷ xs) zero k le h = absurd (cc)
-any_take p (x ∷ xs) (suc i) zero le h = absurd (omega arith)
-any_take p (x ∷ xs) (suc i) (suc k) le h =
-    go (or_cases (p x) (list_any p (take i xs)) h) (λ t. any_take p xs i k (omega arith) t)
-  where
-    go : (p x ≡ true) ⊎ (list_any p (take i xs) ≡ true)
-        → (list_any p (take i xs) ≡ true → list_any p (take k xs) ≡ true)
-        → list_any p (take (suc k) (x ∷ xs)) ≡ true
-    go (inl a) ih = or_left (p x) (list_any p (take k xs)) a
-    go (inr b) ih = or_right (p x) (list_any p (take k xs)) (ih b)
+any_take p xs i k le h =
+    subst (λ ys. list_any p ys ≡ true) (take-append-drop i (take k xs))
+    (list_any-append p (take i (take k xs)) (drop i (take k xs))
+    ∙ or_left _ _ (ap (list_any p) (take-take i k xs le) ∙ h))
 
 pub at_take : (xs : List Event) (i k : ℕ) (e : Event) → i < k → slice_get xs i ≡ Some e
     → slice_get (take k xs) i ≡ Some e
@@ -250,60 +187,36 @@ at_take (x ∷ xs) (suc i) (suc k) e lt at = at_take xs i k e (omega arith) at
 -- a fork of a thread is before all its events
 pub fork_first : (m : Limits) (log : List Event) → WellFormed m log → (g k : ℕ) (u v : ThreadId)
     → Does log g v (Fork u) → Of log k u → g < k
-fork_first m log w g k u v d o = go (cases_lt g k)
+fork_first m log w g k u v d o = elim (cases_order g k) [
+  | inl same ↦ absurd (both_ways _ (when_none _ SelfTarget r.no_self)
+      (eq-eqb _ _ (ap (λ (t : ThreadId). t.0) (of_one o (subst (λ i. Of log i v) same (of_does d))))))
+  | inr a ↦ elim a [
+    | inl lt ↦ lt
+    | inr gt ↦ absurd (late m.roots gt (when_none _ AlreadyStarted r.not_known) may)
+  ]
+]
   where
     r : Reasons m (take g log) v (Fork u)
     r = reasons_at m log g v (Fork u) w d
 
-    s : Reasons m (take k log) o.event.thread o.event.op
-    s = legal_reasons m (take k log) o.event (w.legal k o.event o.at)
-
-    unknown : known m.roots (take g log) u ≡ false
-    unknown = when_none _ AlreadyStarted r.not_known
-
-    not_self : nat_eq u.0 v.0 ≡ false
-    not_self = when_none _ SelfTarget r.no_self
-
-    may : not (forked m.roots (take k log) u) ≡ false
-    may = subst (λ t. not (forked m.roots (take k log) t) ≡ false) o.thread (when_none _ NotStarted s.may_act)
-
-    true_not_false : (b : Bool) → b ≡ true → b ≡ false → ⊥
-    true_not_false b p q = cc
+    may : forked m.roots (take k log) u ≡ true
+    may =
+        let s = legal_reasons m (take k log) o.event (w.legal k o.event o.at) in
+        subst (λ t. forked m.roots (take k log) t ≡ true) o.thread
+        (not-false _ (when_none _ NotStarted s.may_act))
 
     late : (roots : Roots) → k < g → known roots (take g log) u ≡ false
-        → not (forked roots (take k log) u) ≡ false → ⊥
+        → forked roots (take k log) u ≡ true → ⊥
     late Free lt a b =
-        let test : mentions u o.event ≡ true
-        = or_left _ _ (eq-eqb _ _ (ap (λ (t : ThreadId). t.0) o.thread)) in
-        true_not_false _ (any_at (mentions u) (take g log) k o.event (at_take log k g o.event lt o.at) test) a
-    late OnlyMain lt a b = by_forked (cases_Bool (nat_eq u.0 0 || list_any (forks u) (take k log)))
-      where
-        a' : (nat_eq u.0 0 ≡ false) × (list_any (forks u) (take g log) ≡ false)
-        a' = or_parts _ _ a
-
-        by_any : (nat_eq u.0 0 ≡ true) ⊎ (list_any (forks u) (take k log) ≡ true) → ⊥
-        by_any (inl t) = true_not_false _ t a'.0
-        by_any (inr t) = true_not_false _ (any_take (forks u) log k g (omega arith) t) a'.1
-
-        by_forked : ((nat_eq u.0 0 || list_any (forks u) (take k log)) ≡ true)
-            ⊎ ((nat_eq u.0 0 || list_any (forks u) (take k log)) ≡ false) → ⊥
-        by_forked (inl t) = by_any (or_cases _ _ t)
-        by_forked (inr f) = true_not_false _ (ap not f) b
-
-    go : (g < k) ⊎ (k ≤ g) → g < k
-    go (inl lt) = lt
-    go (inr ge) = by_order (cases_lt k g)
-      where
-        by_order : (k < g) ⊎ (g ≤ k) → g < k
-        by_order (inl lt) = absurd (late m.roots lt unknown may)
-        by_order (inr le) =
-            let same : k ≡ g = omega arith in
-            let o' : Of log g u = subst (λ x. Of log x u) same o in
-            let here : Some o'.event ≡ Some d.event = sym o'.at ∙ d.at in
-            let t : o'.event.thread ≡ u = o'.thread in
-            let t' : d.event.thread ≡ v = d.thread in
-            let same_thread : u ≡ v = cc in
-            absurd (true_not_false _ (eq-eqb _ _ (ap (λ (x : ThreadId). x.0) same_thread)) not_self)
+        both_ways _ a
+        (any_passes_from_place (mentions u) (take g log) k o.event (at_take log k g o.event lt o.at)
+        (or_left _ _ (eq-eqb _ _ (ap (λ (t : ThreadId). t.0) o.thread))))
+    late OnlyMain lt a b =
+        let p : (nat_eq u.0 0 ≡ false) × (list_any (forks u) (take g log) ≡ false) = or_parts _ _ a in
+        elim (or_cases (nat_eq u.0 0) (list_any (forks u) (take k log)) b) [
+          | inl t ↦ both_ways _ p.0 t
+          | inr t ↦ both_ways _ p.1 (any_take (forks u) log k g (omega arith) t)
+        ]
 
 pub orderly : (m : Limits) (log : List Event) → WellFormed m log → Orderly log
 orderly m log w = record {

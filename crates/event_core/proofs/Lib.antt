@@ -16,7 +16,6 @@ pub mod SmallSections
 pub mod SmallRuns
 pub mod Slots
 pub mod CountLaws
-pub mod StrictStep
 pub mod PlainLaw
 pub mod Growth
 pub mod Pasts
@@ -30,7 +29,6 @@ pub mod EndedLaw
 pub mod HolderLaw
 pub mod Swaps
 pub mod RunFacts
-pub mod OwnCount
 pub mod NewestFacts
 pub mod StepLaws
 pub mod Members

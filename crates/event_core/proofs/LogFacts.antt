@@ -1,5 +1,5 @@
 -- Facts on the events and the sections of a log.
-use Rattle.std.proofs.Common.{◌≡◌, ℕ, suc, ◌<◌, ◌≤◌, List, Some, sym, subst, ◌∙◌, arith, take, ◌⊎◌}
+use Rattle.std.proofs.Common.{◌≡◌, ℕ, suc, ◌<◌, ◌≤◌, List, Some, sym, subst, ◌∙◌, arith, take}
 use Rattle.std.proofs.lemmas.Bool.{cases_lt}
 use mathlib.Core.Logic.{inl, inr}
 use Rattle.event_core.specs.declared.ids.ThreadId.{ThreadId}
@@ -40,7 +40,7 @@ inside_opener h = of_does h.opened.does
 pub sections_apart : {log : List Event} {u v : ThreadId} {l : LockId} {a r b s : ℕ}
     → Orderly log → Section log u l a r → Section log v l b s → r < s → r < b
 sections_apart {log = log} {u = u} {v = v} {l = l} {a = a} {r = r} {b = b} {s = s} w p q lt =
-    go (cases_lt r b)
+    elim (cases_lt r b) [ inl h ↦ h | inr h ↦ absurd (below (let ne : b ≡ r → ⊥ = b_not_r in omega arith)) ]
   where
     b_not_r : b ≡ r → ⊥
     b_not_r e =
@@ -54,15 +54,9 @@ sections_apart {log = log} {u = u} {v = v} {l = l} {a = a} {r = r} {b = b} {s = 
     below h =
         let a_lt : a < r
         = (let from : a ≤ r = p.inside.from in let ne : a ≡ r → ⊥ = a_not_r in omega arith) in
-        let mine : 0 < depth (take r log) u l = p.inside.held r a_lt (omega arith) in
-        let theirs : 0 < depth (take r log) v l = q.inside.held r h (omega arith) in
-        let same : u ≡ v = w.one_holder r u v l mine theirs in
-        let after : 0 < depth (take (suc r) log) v l = q.inside.held (suc r) (omega arith) (omega arith) in
-        let none : depth (take (suc r) log) u l ≡ 0 = p.closed.outer in
-        let none' : depth (take (suc r) log) v l ≡ 0
-        = subst (λ x. depth (take (suc r) log) x l ≡ 0) same none in
+        let mine = p.inside.held r a_lt (omega arith) in
+        let theirs = q.inside.held r h (omega arith) in
+        let after = q.inside.held (suc r) (omega arith) (omega arith) in
+        let none = subst (λ x. depth (take (suc r) log) x l ≡ 0) (w.one_holder r u v l mine theirs)
+        p.closed.outer in
         omega arith
-
-    go : (r < b) ⊎ (b ≤ r) → r < b
-    go (inl h) = h
-    go (inr h) = absurd (below (let ne : b ≡ r → ⊥ = b_not_r in omega arith))

@@ -1,17 +1,17 @@
 -- The recurrence gives the least relation.
-use Rattle.std.proofs.Common.{◌≡◌, ℕ, suc, zero, ◌<◌, ◌≤◌, List, subst, arith, ◌⊎◌}
+use Rattle.std.proofs.Common.{◌≡◌, ℕ, suc, zero, ◌<◌, ◌≤◌, List, sym, subst, ◌∙◌, arith, ◌⊎◌}
 use Rattle.std.proofs.lemmas.Bool.{cases_order}
 use mathlib.Core.Logic.{inl, inr}
 use Rattle.event_core.specs.declared.ids.ThreadId.{ThreadId}
 use Rattle.event_core.specs.declared.ids.LockId.{LockId}
 use Rattle.event_core.specs.declared.events.Event.{Event}
-use Rattle.event_core.specs.declared.events.Op.{Op}
-use Rattle.event_core.specs.declared.events.Op.TheVariants.{Load, Store, Release}
-use Rattle.event_core.specs.Log.{Does, OuterRelease, Section, InSection, OpsConflict}
+use Rattle.event_core.specs.declared.events.Op.TheVariants.{Release}
+use Rattle.event_core.specs.Log.{Does, OuterRelease, Section, InSection}
 use Rattle.event_core.specs.Order.{here, lock, Hb}
 use Rattle.event_core.specs.Wcp.{Meets, Strict, rule_a, rule_b, rule_c_left, rule_c_right, IsClosed}
 use Rattle.event_core.specs.Recurrence.{Pre, old, access, release}
 use Rattle.event_core.specs.Orderly.{Orderly}
+use Rattle.event_core.proofs.Accesses.{access_no_release, conflict_access}
 use Rattle.event_core.proofs.LogFacts.{of_does, sections_apart, does_op, release_lock}
 use Rattle.event_core.proofs.Chains.{chain_one, hb_trans, hb_thread, hb_forward, acquire_below, below_release}
 use Rattle.event_core.proofs.Depth.{section_of}
@@ -73,7 +73,7 @@ pre_right log (suc bound) i g j w lt p h =
   where
     go : (g ≡ j) ⊎ Through log g j → ((n : ℕ) → n < bound → Hb log g n → Pre log i n) → Pre log i j
     go (inl e) ih = subst (λ x. Pre log i x) e p
-    go (inr t) ih = old t.near (ih t.index (let b : t.index < j = near_before t.near in omega arith) t.above)
+    go (inr t) ih = old t.near (ih t.index (let b = near_before t.near in omega arith) t.above)
 
 pub pre_up : {log : List Event} {i g j : ℕ} → Orderly log → Pre log i g → Hb log g j → Pre log i j
 pre_up {log = log} {i = i} {g = g} {j = j} w p h = pre_right log (suc j) i g j w (omega arith) p h
@@ -81,17 +81,9 @@ pre_up {log = log} {i = i} {g = g} {j = j} w p h = pre_right log (suc j) i g j w
 -- a release is no access
 release_no_access : {log : List Event} {r j : ℕ} {v : ThreadId} {l : LockId} → Meets log r j
     → Does log j v (Release l) → ⊥
-release_no_access {log = log} {j = j} {v = v} {l = l} m d =
-    go m.conflict.first m.conflict.second m.conflict.does_second m.conflict.ops
-  where
-    go : (p q : Op) → Does log j m.conflict.other q → OpsConflict p q → ⊥
-    go p q e o = by_op p q (does_op e d) o
-      where
-        by_op : (p q : Op) → q ≡ Release l → OpsConflict p q → ⊥
-        by_op (Load x) (Store y) same o = cc
-        by_op (Store x) (Load y) same o = cc
-        by_op (Store x) (Store y) same o = cc
-        by_op _ _ same o = o
+release_no_access m d =
+    let c = conflict_access m.conflict.first m.conflict.second m.conflict.ops in
+    access_no_release c.0 c.1 _ (sym c.2 ∙ does_op m.conflict.does_second d)
 
 -- rule (b): what is left to do once the earlier section's acquire is a member of the later release
 pub pre_b : {log : List Event} {u v : ThreadId} {l : LockId} {a r s : ℕ} → Orderly log → Section log u l a r
@@ -99,26 +91,23 @@ pub pre_b : {log : List Event} {u v : ThreadId} {l : LockId} {a r s : ℕ} → O
 pre_b w p o lt (old n q) = release _ _ _ lt p o n q here
 pre_b w p o lt (access h m) = absurd (release_no_access m o.does)
 pre_b {log = log} {u = u} {v = v} {l = l} {a = a} {r = r} {s = s} w p o lt
-    (release {a = b} {r = t} u' v' l' lt' p' o' n q h) = go (cases_order r t)
+    (release {a = b} {r = t} u' v' l' lt' p' o' n q h) = elim (cases_order r t) [
+      | inl e ↦ release u' v l lt' p'' o n q (subst (λ x. Hb log r x) e here)
+      | inr c ↦ elim c [
+        | inl early ↦
+            let up = hb_trans
+            (hb_thread u (of_does p.inside.opened.does) (of_does p.closed.does) p.inside.from)
+            (chain_one (lock u u' l (sections_apart w p p'' early) p.closed p''.inside.opened)) in
+            release u v l lt p o n (pre_left up q) here
+        | inr late ↦ absurd (
+            let apart : t < a = sections_apart w p'' p late in
+            let le : a ≤ t = hb_forward h in
+            omega arith)
+      ]
+    ]
   where
-    same_lock : l' ≡ l
-    same_lock = release_lock o'.does o.does
-
     p'' : Section log u' l b t
-    p'' = subst (λ x. Section log u' x b t) same_lock p'
-
-    go : (r ≡ t) ⊎ ((r < t) ⊎ (t < r)) → Pre log r s
-    go (inl e) = release u' v l lt' p'' o n q (subst (λ x. Hb log r x) e here)
-    go (inr (inl early)) =
-        let apart : r < b = sections_apart w p p'' early in
-        let up : Hb log a b
-        = hb_trans (hb_thread u (of_does p.inside.opened.does) (of_does p.closed.does) p.inside.from)
-        (chain_one (lock u u' l apart p.closed p''.inside.opened)) in
-        release u v l lt p o n (pre_left up q) here
-    go (inr (inr late)) =
-        let apart : t < a = sections_apart w p'' p late in
-        let le : a ≤ t = hb_forward h in
-        absurd (omega arith)
+    p'' = subst (λ x. Section log u' x b t) (release_lock o'.does o.does) p'
 
 -- the recurrence gives each strict pair
 pub strict_pre : {log : List Event} {i j : ℕ} → Orderly log → Strict log i j → Pre log i j

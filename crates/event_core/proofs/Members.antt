@@ -1,6 +1,7 @@
 -- Members of lists.
-use Rattle.std.proofs.Common.{◌≡◌, List, [], ◌∷◌, ◌++◌, Bool, true, false, ◌||◌, refl, ◌⊎◌}
+use Rattle.std.proofs.Common.{◌≡◌, List, [], ◌∷◌, ◌++◌, Bool, true, refl, ◌⊎◌}
 use Rattle.std.specs.List.{list_any}
+use Rattle.std.proofs.lemmas.Bool.{or_cases}
 use mathlib.Core.Logic.{inl, inr}
 use Rattle.event_core.specs.Closed.{Has, first, later}
 
@@ -17,11 +18,9 @@ has_back (x ∷ xs) ys h = later x (xs ++ ys) (has_back xs ys h)
 
 pub has_either : {A : Type 0} {a : A} (xs ys : List A) → Has a (xs ++ ys) → Has a xs ⊎ Has a ys
 has_either [] ys h = inr h
-has_either {a = a} (x ∷ xs) ys h = go h (has_either xs ys)
-  where
-    go : Has a (x ∷ (xs ++ ys)) → (Has a (xs ++ ys) → Has a xs ⊎ Has a ys) → Has a (x ∷ xs) ⊎ Has a ys
-    go (first _ _ is) rest = inl (first x xs is)
-    go (later _ _ g) rest = elim (rest g) [ inl l ↦ inl (later x xs l) | inr r ↦ inr r ]
+has_either (x ∷ xs) ys (first _ _ is) = inl (first x xs is)
+has_either (x ∷ xs) ys (later _ _ h) =
+    elim (has_either xs ys h) [ inl l ↦ inl (later x xs l) | inr r ↦ inr r ]
 
 pub has_last : {A : Type 0} (xs : List A) (a : A) → Has a (xs ++ a ∷ [])
 has_last [] a = first a [] refl
@@ -31,19 +30,16 @@ pub has_split : {A : Type 0} (a : A) (xs : List A) (y : A) → Has a (xs ++ y �
 has_split a [] y (first _ _ is) = inr is
 has_split a [] y (later _ _ h) = absurd (none_in h)
 has_split a (x ∷ xs) y (first _ _ is) = inl (first x xs is)
-has_split a (x ∷ xs) y (later _ _ h) = go (has_split a xs y h)
-  where
-    go : Has a xs ⊎ (a ≡ y) → Has a (x ∷ xs) ⊎ (a ≡ y)
-    go (inl h) = inl (later x xs h)
-    go (inr is) = inr is
+has_split a (x ∷ xs) y (later _ _ h) =
+    elim (has_split a xs y h) [ inl l ↦ inl (later x xs l) | inr is ↦ inr is ]
 
 -- a test of a list's members
-any_or : {A : Type 0} (p : A → Bool) (x : A) (xs : List A) (b : Bool) → p x ≡ b → (b || list_any p xs) ≡ true
-    → (list_any p xs ≡ true → (a : A) × Has a xs × (p a ≡ true)) → (a : A) × Has a (x ∷ xs) × (p a ≡ true)
-any_or p x xs true px is rest = (x, first x xs refl, px)
-any_or p x xs false px is rest = let r = rest is in (r.0, later x xs r.1, r.2)
-
 pub any_has : {A : Type 0} (p : A → Bool) (xs : List A) → list_any p xs ≡ true
     → (a : A) × Has a xs × (p a ≡ true)
 any_has p [] is = absurd cc
-any_has p (x ∷ xs) is = any_or p x xs (p x) refl is (any_has p xs)
+any_has p (x ∷ xs) is =
+    let ih = any_has p xs in
+    elim (or_cases (p x) (list_any p xs) is) [
+      | inl t ↦ (x, first x xs refl, t)
+      | inr t ↦ let r = ih t in (r.0, later x xs r.1, r.2)
+    ]

@@ -1,5 +1,5 @@
 -- The further laws of the relations.
-use Rattle.std.proofs.Common.{◌≡◌, ℕ, ◌<◌, ◌≤◌, List, refl, ap, subst, arith, ◌⊎◌, take}
+use Rattle.std.proofs.Common.{◌≡◌, ℕ, ◌<◌, ◌≤◌, List, refl, ap, subst, arith}
 use Rattle.std.proofs.lemmas.Bool.{cases_order}
 use mathlib.Core.Logic.{inl, inr}
 use Rattle.event_core.specs.declared.ids.ThreadId.{ThreadId}
@@ -8,7 +8,7 @@ use Rattle.event_core.specs.declared.events.Event.{Event}
 use Rattle.event_core.specs.declared.replies.Verdict.{Verdict}
 use Rattle.event_core.specs.declared.replies.Verdict.TheVariants.{Clear, Racy}
 use Rattle.event_core.specs.Verdict.{IsVerdict}
-use Rattle.event_core.specs.Log.{Of, depth, Section, InSection}
+use Rattle.event_core.specs.Log.{Of, Section, InSection}
 use Rattle.event_core.specs.Order.{here, lock, Po, Hb}
 use Rattle.event_core.specs.Wcp.{Strict, rule_c_left, rule_c_right, Below}
 use Rattle.event_core.specs.Orderly.{Orderly}
@@ -44,24 +44,17 @@ sections_ordered {u = u} {v = v} {l = l} w p q lt =
 -- a section's acquire is the only one
 pub one_acquire : {log : List Event} {u v : ThreadId} {l : LockId} {a b r : ℕ} → Section log u l a r
     → Section log v l b r → a ≡ b
-one_acquire {log = log} {u = u} {v = v} {l = l} {a = a} {b = b} {r = r} p q = go (cases_order a b)
+one_acquire {log = log} {u = u} {v = v} {l = l} {a = a} {b = b} {r = r} p q = elim (cases_order a b) [
+  | inl e ↦ e
+  | inr c ↦ elim c [ inl lt ↦ absurd (apart a b p q' lt) | inr gt ↦ absurd (apart b a q' p gt) ]
+]
   where
-    same : v ≡ u
-    same = of_one q.inside.of p.inside.of
-
     q' : Section log u l b r
-    q' = subst (λ x. Section log x l b r) same q
+    q' = subst (λ x. Section log x l b r) (of_one q.inside.of p.inside.of) q
 
     apart : (c d : ℕ) → Section log u l c r → Section log u l d r → c < d → ⊥
     apart c d x y lt =
-        let h : 0 < depth (take d log) u l = x.inside.held d lt y.inside.from in
-        let z : depth (take d log) u l ≡ 0 = y.inside.opened.outer in
-        omega arith
-
-    go : (a ≡ b) ⊎ ((a < b) ⊎ (b < a)) → a ≡ b
-    go (inl e) = e
-    go (inr (inl lt)) = absurd (apart a b p q' lt)
-    go (inr (inr gt)) = absurd (apart b a q' p gt)
+        let h = x.inside.held d lt y.inside.from in let z = y.inside.opened.outer in omega arith
 
 -- the premise of rule (b), as one pair
 pub premise_from : {log : List Event} {u v : ThreadId} {l : LockId} {a r b s : ℕ} → Section log u l a r
@@ -78,17 +71,17 @@ premise_is {log = log} {s = s} x p q d =
 -- a section whose acquire is below the end of another on its lock ends below it
 pub ends_below : {log : List Event} {u v : ThreadId} {l : LockId} {a r b s : ℕ}
     → Orderly log → Section log u l a r → Section log v l b s → Hb log a s → Hb log r s
-ends_below {log = log} {u = u} {v = v} {l = l} {a = a} {r = r} {b = b} {s = s} w p q h = go (cases_order r s)
-  where
-    go : (r ≡ s) ⊎ ((r < s) ⊎ (s < r)) → Hb log r s
-    go (inl e) = subst (λ x. Hb log r x) e here
-    go (inr (inl lt)) =
-        hb_trans (sections_ordered w p q lt)
+ends_below {log = log} {v = v} {a = a} {r = r} {s = s} w p q h = elim (cases_order r s) [
+  | inl e ↦ subst (λ x. Hb log r x) e here
+  | inr c ↦ elim c [
+    | inl lt ↦ hb_trans (sections_ordered w p q lt)
         (hb_thread v (of_does q.inside.opened.does) (of_does q.closed.does) q.inside.from)
-    go (inr (inr gt)) =
+    | inr gt ↦ absurd (
         let apart : s < a = sections_apart w q p gt in
         let le : a ≤ s = hb_forward h in
-        absurd (omega arith)
+        omega arith)
+  ]
+]
 
 -- an event has one verdict
 pub verdict_is_unique : (log : List Event) (j : ℕ) (v w : Verdict) → IsVerdict log j v → IsVerdict log j w
@@ -96,9 +89,7 @@ pub verdict_is_unique : (log : List Event) (j : ℕ) (v w : Verdict) → IsVerdi
 verdict_is_unique log j Clear Clear p q = refl
 verdict_is_unique log j Clear (Racy i) p q = absurd (p i q.0)
 verdict_is_unique log j (Racy i) Clear p q = absurd (q i p.0)
-verdict_is_unique log j (Racy i) (Racy k) p q = go (cases_order i k)
-  where
-    go : (i ≡ k) ⊎ ((i < k) ⊎ (k < i)) → Racy i ≡ Racy k
-    go (inl e) = ap Racy e
-    go (inr (inl lt)) = absurd (p.1 k lt q.0)
-    go (inr (inr gt)) = absurd (q.1 i gt p.0)
+verdict_is_unique log j (Racy i) (Racy k) p q = elim (cases_order i k) [
+  | inl e ↦ ap Racy e
+  | inr c ↦ elim c [ inl lt ↦ absurd (p.1 k lt q.0) | inr gt ↦ absurd (q.1 i gt p.0) ]
+]

@@ -59,19 +59,34 @@ through_join log g j u w lt a b =
 
 through_fork : (log : List Event) (g j : ℕ) (u v : ThreadId) → Orderly log → g < j → Does log g v (Fork u)
     → Of log j u → Through log g j
-through_fork log g j u v w lt a b = go (latest (λ k. Of log k u) (of_cases log u) j)
-  where
-    go : Latest (λ k. Of log k u) j ⊎ ((k : ℕ) → k < j → Of log k u → ⊥) → Through log g j
-    go (inl p) = record {
-      index = p.index;
-      near = previous u p.below p.holds b p.none_after;
-      above = chain_one (program (fork_to_event u v (w.fork_first g p.index u v a p.holds) a p.holds));
-    }
-    go (inr none) = record { index = g; near = forked u v lt a b none; above = here }
+through_fork log g j u v w lt a b = elim (latest (λ k. Of log k u) (of_cases log u) j) [
+  | inl p ↦ record {
+    index = p.index;
+    near = previous u p.below p.holds b p.none_after;
+    above = chain_one (program (fork_to_event u v (w.fork_first g p.index u v a p.holds) a p.holds));
+  }
+  | inr none ↦ record { index = g; near = forked u v lt a b none; above = here }
+]
 
 through_lock : (log : List Event) (g j : ℕ) (u v : ThreadId) (l : LockId) → Orderly log → g < j
     → OuterRelease log g u l → OuterAcquire log j v l → Through log g j
-through_lock log g j u v l w lt a b = go (cases_lt g p.index)
+through_lock log g j u v l w lt a b =
+    record {
+      index = p.index;
+      near = near;
+      above = elim (cases_lt g p.index) [
+        | inl early ↦
+            let s = section_of log p.holds.0 l p.index w p.holds.1 in
+            let t = section_of log u l g w a in
+            hb_trans
+            (chain_one (lock u p.holds.0 l (sections_apart w t.1 s.1 early) a s.1.inside.opened))
+            (hb_thread p.holds.0 (of_does s.1.inside.opened.does) (of_does p.holds.1.does) s.1.inside.from)
+        | inr late ↦
+            let le : g ≤ p.index = at_most_latest p lt (u, a) in
+            let same : g ≡ p.index = omega arith in
+            subst (λ x. Hb log g x) same here
+      ];
+    }
   where
     P : ℕ → Type 0
     P k = (t : ThreadId) × OuterRelease log k t l
@@ -81,25 +96,6 @@ through_lock log g j u v l w lt a b = go (cases_lt g p.index)
 
     near : Near log p.index j
     near = released p.holds.0 v l p.below p.holds.1 b (λ k t c d o. p.none_after k c d (t, o))
-
-    le : g ≤ p.index
-    le = at_most_latest p lt (u, a)
-
-    go : (g < p.index) ⊎ (p.index ≤ g) → Through log g j
-    go (inl early) =
-        let s = section_of log p.holds.0 l p.index w p.holds.1 in
-        let t = section_of log u l g w a in
-        let apart : g < s.0 = sections_apart w t.1 s.1 early in
-        record {
-          index = p.index;
-          near = near;
-          above = hb_trans
-              (chain_one (lock u p.holds.0 l apart a s.1.inside.opened))
-              (hb_thread p.holds.0 (of_does s.1.inside.opened.does) (of_does p.holds.1.does) s.1.inside.from);
-        }
-    go (inr late) =
-        let same : g ≡ p.index = (let le' : g ≤ p.index = le in omega arith) in
-        record { index = p.index; near = near; above = subst (λ x. Hb log g x) same here }
 
 pub edge_through : (log : List Event) (g j : ℕ) → Orderly log → HbEdge log g j → Through log g j
 edge_through log g j w (program (same_thread u lt a b)) = through_thread log g j u lt a b

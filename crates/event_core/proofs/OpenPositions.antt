@@ -1,6 +1,6 @@
 -- The positions of the acquires of open sections, after an event.
-use Rattle.std.proofs.Common.{◌≡◌, ℕ, ◌<◌, ◌+◌, ◌-◌, List, [], ◌∷◌, ◌++◌, length, refl, sym, ap}
-use Rattle.std.proofs.Common.{subst, ◌∙◌, arith, take, ◌⊎◌}
+use Rattle.std.proofs.Common.{◌≡◌, ℕ, ◌+◌, ◌-◌, List, [], ◌∷◌, ◌++◌, refl, sym, ap}
+use Rattle.std.proofs.Common.{subst, ◌∙◌, arith, take}
 use Rattle.std.proofs.Math.Seq.{take-append_seam}
 use mathlib.Core.Logic.{inl, inr}
 use Rattle.event_core.specs.declared.events.Event.{Event}
@@ -24,6 +24,15 @@ abbrev pub ArePositions : List Event → (ℕ → ℕ → ℕ) → Type 0
 ArePositions log f =
     (t : ThreadId) (l : LockId) (a : ℕ) → Open log t l a → f t.0 l.0 ≡ events_of (take a log) t + 1
 
+-- a lock that is not held has no open section
+not_open : (xs : List Event) (u : ThreadId) (l : LockId) → depth xs u l ≡ 0
+    → (t : ThreadId) (m : LockId) (a : ℕ) → Open xs t m a → t.0 ≡ u.0 → m.0 ≡ l.0 → ⊥
+not_open xs u l none t m a p q r =
+    let up = open_held xs t m a p in
+    let zero = subst (λ v. depth xs v m ≡ 0) (same_thread_id (sym q))
+    (subst (λ v. depth xs u v ≡ 0) (same_lock_id (sym r)) none) in
+    omega arith
+
 module _ (log : List Event) (e : Event) (ord : Orderly (log ++ e ∷ [])) where
   -- a section that is open after the event was so before it, or the event opens it
   each_open : (f : ℕ → ℕ → ℕ)
@@ -31,23 +40,22 @@ module _ (log : List Event) (e : Event) (ord : Orderly (log ++ e ∷ [])) where
       → f t.0 l.0 ≡ events_of (take a log) t + 1)
       → ((l : LockId) → OpensSection log e.thread l e → f e.thread.0 l.0 ≡ events_of log e.thread + 1)
       → ArePositions (log ++ e ∷ []) f
-  each_open f old new t l a p = go (is_last log e a t (of_does p.opened.does))
-    where
-      go : (a < length log) ⊎ (a ≡ length log) → f t.0 l.0 ≡ events_of (take a (log ++ e ∷ [])) t + 1
-      go (inl lt) =
-          old t l a (open_old log e ord t l a p lt) p
-          ∙ sym (ap (λ xs. events_of xs t + 1) (front log e a (omega arith)))
-      go (inr is) =
-          let th : e.thread ≡ t = last_thread log e a t is (of_does p.opened.does) in
-          let taken : take a (log ++ e ∷ []) ≡ log
-          = ap (λ n. take n (log ++ e ∷ [])) is ∙ take-append_seam log (e ∷ []) in
-          let outer : depth log t l ≡ 0 = subst (λ xs. depth xs t l ≡ 0) taken p.opened.outer in
-          subst (λ (v : ThreadId). f v.0 l.0 ≡ events_of log v + 1) th
-          (new l (record {
-            thread = refl;
-            op = last_op log e a t (Acquire l) is p.opened.does;
-            outer = subst (λ v. depth log v l ≡ 0) (sym th) outer;
-          })) ∙ sym (ap (λ xs. events_of xs t + 1) taken)
+  each_open f old new t l a p = elim (is_last log e a t (of_does p.opened.does)) [
+    | inl lt ↦
+        old t l a (open_old log e ord t l a p lt) p
+        ∙ sym (ap (λ xs. events_of xs t + 1) (front log e a (omega arith)))
+    | inr is ↦
+        let th : e.thread ≡ t = last_thread log e a t is (of_does p.opened.does) in
+        let taken : take a (log ++ e ∷ []) ≡ log
+        = ap (λ n. take n (log ++ e ∷ [])) is ∙ take-append_seam log (e ∷ []) in
+        let outer : depth log t l ≡ 0 = subst (λ xs. depth xs t l ≡ 0) taken p.opened.outer in
+        subst (λ (v : ThreadId). f v.0 l.0 ≡ events_of log v + 1) th
+        (new l (record {
+          thread = refl;
+          op = last_op log e a t (Acquire l) is p.opened.does;
+          outer = subst (λ v. depth log v l ≡ 0) (sym th) outer;
+        })) ∙ sym (ap (λ xs. events_of xs t + 1) taken)
+  ]
 
   -- an event that opens no section
   pub positions_same : (f : ℕ → ℕ → ℕ) → ArePositions log f
@@ -60,18 +68,12 @@ module _ (log : List Event) (e : Event) (ord : Orderly (log ++ e ∷ [])) where
       → OpensSection log e.thread l e → n ≡ events_of log e.thread + 1
       → ArePositions (log ++ e ∷ []) (with_row e.thread.0 (with_row l.0 n (f e.thread.0)) f)
   positions_more f l n was is number =
-      each_open new (λ t m a p q. cell_other e.thread.0 l.0 n f t.0 m.0 (apart t m a p) ∙ was t m a p) here
+      each_open new
+      (λ t m a p q. cell_other e.thread.0 l.0 n f t.0 m.0 (not_open log e.thread l is.outer t m a p)
+      ∙ was t m a p) here
     where
       new : ℕ → ℕ → ℕ
       new = with_row e.thread.0 (with_row l.0 n (f e.thread.0)) f
-
-      apart : (t : ThreadId) (m : LockId) (a : ℕ) → Open log t m a → t.0 ≡ e.thread.0 → m.0 ≡ l.0 → ⊥
-      apart t m a p q r =
-          let up : 0 < depth log t m = open_held log t m a p in
-          let none : depth log t m ≡ 0
-          = subst (λ v. depth log v m ≡ 0) (same_thread_id (sym q))
-          (subst (λ v. depth log e.thread v ≡ 0) (same_lock_id (sym r)) is.outer) in
-          omega arith
 
       here : (m : LockId) → OpensSection log e.thread m e → new e.thread.0 m.0 ≡ events_of log e.thread + 1
       here m o =
@@ -85,16 +87,7 @@ module _ (log : List Event) (e : Event) (ord : Orderly (log ++ e ∷ [])) where
       → ArePositions (log ++ e ∷ []) (with_row e.thread.0 (with_row l.0 0 (f e.thread.0)) f)
   positions_less f l was is =
       each_open (with_row e.thread.0 (with_row l.0 0 (f e.thread.0)) f)
-      (λ t m a p q. cell_other e.thread.0 l.0 0 f t.0 m.0 (apart t m a q) ∙ was t m a p)
+      (λ t m a p q. cell_other e.thread.0 l.0 0 f t.0 m.0
+      (not_open (log ++ e ∷ []) e.thread l (depth_down log e l is.op ∙ ap (λ v. v - 1) is.outer) t m a q)
+      ∙ was t m a p)
       (λ m o. absurd (let q : Acquire m ≡ Release l = sym o.op ∙ is.op in cc))
-    where
-      apart : (t : ThreadId) (m : LockId) (a : ℕ) → Open (log ++ e ∷ []) t m a → t.0 ≡ e.thread.0
-          → m.0 ≡ l.0 → ⊥
-      apart t m a p q r =
-          let up : 0 < depth (log ++ e ∷ []) t m = open_held (log ++ e ∷ []) t m a p in
-          let down : depth (log ++ e ∷ []) e.thread l ≡ 0
-          = depth_down log e l is.op ∙ ap (λ v. v - 1) is.outer in
-          let none : depth (log ++ e ∷ []) t m ≡ 0
-          = subst (λ v. depth (log ++ e ∷ []) v m ≡ 0) (same_thread_id (sym q))
-          (subst (λ v. depth (log ++ e ∷ []) e.thread v ≡ 0) (same_lock_id (sym r)) down) in
-          omega arith

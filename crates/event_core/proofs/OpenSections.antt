@@ -1,12 +1,12 @@
 -- Open sections: which stay open at an event, and which the event opens or closes.
-use Rattle.std.proofs.Common.{◌≡◌, ℕ, suc, ◌<◌, ◌≤◌, List, [], ◌∷◌, ◌++◌, length, sym, ap}
-use Rattle.std.proofs.Common.{subst, ◌∙◌, arith, take, ◌⊎◌, refl}
+use Rattle.std.proofs.Common.{◌≡◌, ℕ, suc, ◌<◌, ◌≤◌, List, [], ◌∷◌, ◌++◌, length, sym}
+use Rattle.std.proofs.Common.{subst, ◌∙◌, arith, take, refl}
 use Rattle.std.proofs.Math.Seq.{take-length}
-use Rattle.std.proofs.lemmas.Bool.{cases_lt}
+use Rattle.std.proofs.lemmas.Bool.{cases_lt, cond-true, eq-eqb}
 use Rattle.std.proofs.lemmas.Option.{slice_get_within}
 use mathlib.Core.Logic.{inl, inr}
 use Rattle.event_core.specs.declared.events.Event.{Event}
-use Rattle.event_core.specs.declared.events.Op.TheVariants.{Acquire, Release, Fork, Join}
+use Rattle.event_core.specs.declared.events.Op.TheVariants.{Acquire, Release}
 use Rattle.event_core.specs.declared.ids.LockId.{LockId}
 use Rattle.event_core.specs.declared.ids.ThreadId.{ThreadId}
 use Rattle.event_core.specs.Closed.{Open, EndsSection}
@@ -17,15 +17,16 @@ use Rattle.event_core.proofs.Counting.{last_of, last_does, grown_length}
 use Rattle.event_core.proofs.Depth.{Opener, opener}
 use Rattle.event_core.proofs.LogFacts.{does_op, acquire_no_release}
 use Rattle.event_core.proofs.Stable.{longer, back, acquire}
-use Rattle.event_core.proofs.Effects.{Fits, accesses, opens, closes, forks, joins, again, inner}
-use Rattle.event_core.proofs.Effects.{fits, whole, front, closes_at_one}
-use Rattle.event_core.proofs.Accesses.{access_no_acquire, access_no_release}
+use Rattle.event_core.proofs.Effects.{Fits, closes, fits, effect_at, whole, front, closes_at_one}
 
--- the lock of an open section is held
+-- an open section stands in the log, and its lock is held
+pub open_within : (xs : List Event) (t : ThreadId) (l : LockId) (a : ℕ) → Open xs t l a → a < length xs
+open_within xs t l a p = slice_get_within xs a p.opened.does.event p.opened.does.at
+
 pub open_held : (xs : List Event) (t : ThreadId) (l : LockId) (a : ℕ) → Open xs t l a → 0 < depth xs t l
 open_held xs t l a p =
-    let lt : a < length xs = slice_get_within xs a p.opened.does.event p.opened.does.at in
-    subst (λ ys. 0 < depth ys t l) (take-length xs) (p.held (length xs) lt (omega arith))
+    subst (λ ys. 0 < depth ys t l) (take-length xs)
+    (p.held (length xs) (open_within xs t l a p) (omega arith))
 
 -- a lock that is held has an open section
 pub open_by_depth : (log : List Event) (t : ThreadId) (l : LockId) → 0 < depth log t l
@@ -46,30 +47,13 @@ module _ (log : List Event) (e : Event) (ord : Orderly (log ++ e ∷ [])) where
   -- the effect of an outer acquire, and of an outer release
   pub is_opens : (k : Effect) → Fits log e k → (l : LockId) → e.op ≡ Acquire l → depth log e.thread l ≡ 0
       → k ≡ Opens l
-  is_opens _ (opens n o d) l a z = ap Opens (let q : Acquire n ≡ Acquire l = sym o ∙ a in cc)
-  is_opens _ (again n o d) l a z =
-      absurd (let q : Acquire l ≡ Acquire n = sym a ∙ o in let r : l ≡ n = cc in
-      d (subst (λ x. depth log e.thread x ≡ 0) r z))
-  is_opens _ (accesses x j o) l a z = absurd (access_no_acquire x j l (sym o ∙ a))
-  is_opens _ (forks u o) l a z = absurd (let q : Fork u ≡ Acquire l = sym o ∙ a in cc)
-  is_opens _ (joins u o) l a z = absurd (let q : Join u ≡ Acquire l = sym o ∙ a in cc)
-  is_opens _ (closes n o d) l a z = absurd (let q : Release n ≡ Acquire l = sym o ∙ a in cc)
-  is_opens _ (inner n o d) l a z = absurd (let q : Release n ≡ Acquire l = sym o ∙ a in cc)
+  is_opens k f l a z = effect_at log e k (Acquire l) f a ∙ cond-true _ _ _ (eq-eqb _ 0 z)
 
   pub is_closes : (k : Effect) → Fits log e k → (l : LockId)
       → OuterRelease (log ++ e ∷ []) (length log) e.thread l → k ≡ Closes l
-  is_closes k f l r = go k f (does_op (last_does log e) r.does)
-    where
-      go : (k : Effect) → Fits log e k → e.op ≡ Release l → k ≡ Closes l
-      go _ (closes n o d) a = ap Closes (let q : Release n ≡ Release l = sym o ∙ a in cc)
-      go _ (inner n o d) a =
-          absurd (let q : Release l ≡ Release n = sym a ∙ o in let p : l ≡ n = cc in
-          d (subst (λ x. depth log e.thread x ≡ 1) p (closes_at_one log e l ord r)))
-      go _ (accesses x j o) a = absurd (access_no_release x j l (sym o ∙ a))
-      go _ (forks u o) a = absurd (let q : Fork u ≡ Release l = sym o ∙ a in cc)
-      go _ (joins u o) a = absurd (let q : Join u ≡ Release l = sym o ∙ a in cc)
-      go _ (opens n o d) a = absurd (let q : Acquire n ≡ Release l = sym o ∙ a in cc)
-      go _ (again n o d) a = absurd (let q : Acquire n ≡ Release l = sym o ∙ a in cc)
+  is_closes k f l r =
+      effect_at log e k (Release l) f (does_op (last_does log e) r.does)
+      ∙ cond-true _ _ _ (eq-eqb _ 1 (closes_at_one log e l ord r))
 
   -- and what the effect of an outer release says
   pub closes_at : (k : Effect) → Fits log e k → (l : LockId) → k ≡ Closes l → EndsSection log e.thread l e
@@ -80,12 +64,7 @@ module _ (log : List Event) (e : Event) (ord : Orderly (log ++ e ∷ [])) where
         op = subst (λ y. e.op ≡ Release y) same o;
         outer = subst (λ y. depth log e.thread y ≡ 1) same d;
       }
-  closes_at _ (accesses x j o) l is = absurd cc
-  closes_at _ (opens n o d) l is = absurd cc
-  closes_at _ (forks u o) l is = absurd cc
-  closes_at _ (joins u o) l is = absurd cc
-  closes_at _ (again n o d) l is = absurd cc
-  closes_at _ (inner n o d) l is = absurd cc
+  closes_at _ f l is = absurd cc
 
   -- an outer release ends a section
   pub ends_at : (l : LockId) → OuterRelease (log ++ e ∷ []) (length log) e.thread l
@@ -110,22 +89,16 @@ module _ (log : List Event) (e : Event) (ord : Orderly (log ++ e ∷ [])) where
   pub open_new : (t : ThreadId) (l : LockId) (a : ℕ) → Open log t l a → 0 < depth (log ++ e ∷ []) t l
       → Open (log ++ e ∷ []) t l a
   open_new t l a p up = record {
-    opened = acquire (longer log (e ∷ [])) lt p.opened;
-    held = λ k b c. held k b c (cases_lt k (suc (length log)));
-  }
-    where
-      lt : a < length log
-      lt = slice_get_within log a p.opened.does.event p.opened.does.at
-
-      held : (k : ℕ) → a < k → k ≤ length (log ++ e ∷ []) → (k < suc (length log)) ⊎ (suc (length log) ≤ k)
-          → 0 < depth (take k (log ++ e ∷ [])) t l
-      held k b c (inl s) =
-          subst (λ xs. 0 < depth xs t l) (sym (front log e k (omega arith))) (p.held k b (omega arith))
-      held k b c (inr s) =
+    opened = acquire (longer log (e ∷ [])) (open_within log t l a p) p.opened;
+    held = λ k b c. elim (cases_lt k (suc (length log))) [
+      | inl s ↦ subst (λ xs. 0 < depth xs t l) (sym (front log e k (omega arith))) (p.held k b (omega arith))
+      | inr s ↦
           let g = grown_length log e in
           let is : suc (length log) ≡ k = omega arith in
           subst (λ n. 0 < depth (take n (log ++ e ∷ [])) t l) is
           (subst (λ xs. 0 < depth xs t l) (sym (whole log e)) up)
+    ];
+  }
 
   -- it was open
   pub closing_open : (t : ThreadId) (l : LockId) (a : ℕ) → Section (log ++ e ∷ []) t l a (length log)
@@ -150,15 +123,14 @@ module _ (log : List Event) (e : Event) (ord : Orderly (log ++ e ∷ [])) where
   pub closing_section : (l : LockId) (a : ℕ) → Open log e.thread l a
       → OuterRelease (log ++ e ∷ []) (length log) e.thread l
       → Section (log ++ e ∷ []) e.thread l a (length log)
-  closing_section l a p r = record {
-    inside = record {
-      opened = acquire (longer log (e ∷ [])) lt p.opened;
-      of = last_of log e;
-      from = omega (arith, lt);
-      held = λ k b c. subst (λ xs. 0 < depth xs e.thread l) (sym (front log e k c)) (p.held k b c);
-    };
-    closed = r;
-  }
-    where
-      lt : a < length log
-      lt = slice_get_within log a p.opened.does.event p.opened.does.at
+  closing_section l a p r =
+      let lt = open_within log e.thread l a p in
+      record {
+        inside = record {
+          opened = acquire (longer log (e ∷ [])) lt p.opened;
+          of = last_of log e;
+          from = omega arith;
+          held = λ k b c. subst (λ xs. 0 < depth xs e.thread l) (sym (front log e k c)) (p.held k b c);
+        };
+        closed = r;
+      }

@@ -1,5 +1,5 @@
 -- The events of a thread and its forks: what its past goes out from.
-use Rattle.std.proofs.Common.{ℕ, ◌<◌, ◌≤◌, List, [], ◌∷◌, ◌++◌, length, ◌⊎◌, inl, inr}
+use Rattle.std.proofs.Common.{ℕ, ◌<◌, List, [], ◌∷◌, ◌++◌, length, ◌⊎◌, inl, inr}
 use Rattle.std.proofs.lemmas.Bool.{cases_lt}
 use Rattle.std.proofs.lemmas.Option.{slice_get_within}
 use Rattle.event_core.specs.declared.ids.ThreadId.{ThreadId}
@@ -47,10 +47,9 @@ past_latest log R t u j n ord on o last is =
     (λ i of_i. (λ p. to i p.0 p.1 p.2, λ d. (j, inl o, d))) is
   where
     to : (i g : ℕ) → Source log t g → R i g → R i j
-    to i g (inl a) d = by (cases_lt j g)
-      where
-        by : (j < g) ⊎ (g ≤ j) → R i j
-        by (inl lt) = absurd (last g lt a)
-        by (inr le) = on i g d (po_thread t a o le)
+    to i g (inl a) d = elim (cases_lt j g) [
+      | inl lt ↦ absurd (last g lt a)
+      | inr le ↦ on i g d (po_thread t a o le)
+    ]
     to i g (inr a) d =
         on i g d (chain_one (fork_to_event t a.0 (ord.fork_first g j t a.0 a.1 o) a.1 o))

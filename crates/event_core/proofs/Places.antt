@@ -19,19 +19,14 @@ pub front_or_last : {A : Type 0} (xs : List A) (x : A) (j : ℕ) (y : A) → sli
 front_or_last [] x zero y is = inr (refl, cc)
 front_or_last [] x (suc j) y is = absurd cc
 front_or_last (z ∷ zs) x zero y is = inl is
-front_or_last (z ∷ zs) x (suc j) y is = go (front_or_last zs x j y is)
-  where
-    go : (slice_get zs j ≡ Some y) ⊎ ((j ≡ length zs) × (y ≡ x))
-        → (slice_get zs j ≡ Some y) ⊎ ((suc j ≡ length (z ∷ zs)) × (y ≡ x))
-    go (inl h) = inl h
-    go (inr h) = inr (ap suc h.0, h.1)
+front_or_last (z ∷ zs) x (suc j) y is =
+    elim (front_or_last zs x j y is) [ inl h ↦ inl h | inr h ↦ inr (ap suc h.0, h.1) ]
 
 -- a fact of each element, and of one more
 pub each_push : {A : Type 0} (P : A → Type 0) (xs : List A) (y : A)
     → ((i : ℕ) (x : A) → slice_get xs i ≡ Some x → P x) → P y
     → (i : ℕ) (x : A) → slice_get (xs ++ y ∷ []) i ≡ Some x → P x
-each_push P xs y h last i x at = go (front_or_last xs y i x at)
-  where
-    go : (slice_get xs i ≡ Some x) ⊎ ((i ≡ length xs) × (x ≡ y)) → P x
-    go (inl old) = h i x old
-    go (inr new) = subst P (sym new.1) last
+each_push P xs y h last i x at = elim (front_or_last xs y i x at) [
+  | inl old ↦ h i x old
+  | inr new ↦ subst P (sym new.1) last
+]

@@ -23,9 +23,9 @@ use Rattle.event_core.specs.Plain.{plain_holder, plain_holder_from, holder_after
 use Rattle.event_core.specs.Plain.{plain_not_holder, plain_reasons, plain_refusal, held_one, plain_held_locks}
 use Rattle.event_core.specs.Plain.{PlainLegal, PlainWellFormed}
 use Rattle.event_core.proofs.Depth.{same_thread_id, thread_cases, take_event, count_snoc, acquires_is}
+use Rattle.event_core.proofs.Depth.{op_acquires_is, op_releases_is}
 use Rattle.event_core.proofs.DepthLaws.{releases_is, not_both, does_release, does_acquire}
 use Rattle.event_core.proofs.Legality.{when_none, acquirer_snoc, AllNone, all_none, holder_depth, holder_is}
-use Rattle.event_core.proofs.Holds.{op_acquires_is, op_releases_is}
 
 -- who holds the lock, in the terms of both rules
 State : Option ThreadId → List Event → LockId → Type 0

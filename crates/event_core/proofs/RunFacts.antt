@@ -1,6 +1,5 @@
 -- Runs of calls and of acts: each has one, and it ends in a well-formed log.
-use Rattle.std.proofs.Common.{◌≡◌, List, [], ◌∷◌, ◌++◌, length, ◌+◌, refl, sym, ap, subst, ◌∙◌, Some, None}
-use Rattle.std.proofs.lemmas.List.{append-nil, append_assoc}
+use Rattle.std.proofs.Common.{◌≡◌, List, [], ◌∷◌, length, ◌+◌, refl, sym, ap, subst, ◌∙◌, Some, None}
 use Rattle.event_core.specs.declared.events.Event.{Event}
 use Rattle.event_core.specs.declared.events.Call.{Call}
 use Rattle.event_core.specs.declared.events.Act.{Act}
@@ -14,19 +13,11 @@ use Rattle.event_core.specs.declared.replies.Done.TheVariants.{One as Did, Swap 
 use Rattle.event_core.specs.declared.replies.Done.TheVariants.{Refused as Declined}
 use Rattle.event_core.specs.Refusal.{refusal, Legal, WellFormed, event_of}
 use Rattle.event_core.specs.Verdict.{IsOutcome, log_after, IsRun}
-use Rattle.event_core.specs.Steps.{MayFollow}
 use Rattle.event_core.specs.Acts.{log_after_swap, log_after_act, IsDone, IsActRun}
 use Rattle.event_core.proofs.MoreLaws.{verdict_is_unique}
 use Rattle.event_core.proofs.Growth.{well_formed_grown, outcome_is_unique}
+use Rattle.event_core.proofs.StepLaws.{follow_formed}
 use Rattle.event_core.proofs.Swaps.{swap_legal}
-
--- a log with legal events added is well formed
-pub may_follow : (m : Limits) (log es : List Event) → WellFormed m log → MayFollow m log es
-    → WellFormed m (log ++ es)
-may_follow m log [] w f = subst (λ xs. WellFormed m xs) (sym (append-nil log)) w
-may_follow m log (e ∷ es) w f =
-    subst (λ xs. WellFormed m xs) (append_assoc log (e ∷ []) es)
-    (may_follow m (log ++ e ∷ []) es (well_formed_grown m log e w f.0) f.1)
 
 pub allowed_legal : (m : Limits) (log : List Event) (c : Call) → refusal m log c ≡ None
     → Legal m log (event_of log c)
@@ -53,7 +44,7 @@ after_act m log (One c) (Did a) w p = well_formed_grown m log (event_of log c) w
 after_act m log (One c) (Declined r) w p = w
 after_act m log (One c) (Swapped a) w p = absurd p
 after_act m log (Swap u x site arg) (Swapped a) w p =
-    may_follow m log _ w (swap_legal m log u x site arg w p.allowed)
+    follow_formed m log _ w (swap_legal m log u x site arg w p.allowed)
 after_act m log (Swap u x site arg) (Declined r) w p = w
 after_act m log (Swap u x site arg) (Did a) w p = absurd p
 
@@ -83,8 +74,6 @@ act_outcome_is_unique m log (One c) (Declined r) (Did a) p q =
 act_outcome_is_unique m log (One c) (Did a) (Declined s) p q =
     absurd (let same : Some s ≡ None = sym q ∙ p.0 in cc)
 act_outcome_is_unique m log (One c) (Swapped a) e p q = absurd p
-act_outcome_is_unique m log (One c) (Did a) (Swapped b) p q = absurd q
-act_outcome_is_unique m log (One c) (Declined r) (Swapped b) p q = absurd q
 act_outcome_is_unique m log (Swap u x site arg) (Swapped a) (Swapped b) p q =
     let after = log_after_swap log u x site arg in
     ap Swapped (same_swap_reply a b (p.index ∙ sym q.index) (p.value ∙ sym q.value)
@@ -97,8 +86,7 @@ act_outcome_is_unique m log (Swap u x site arg) (Declined r) (Swapped b) p q =
 act_outcome_is_unique m log (Swap u x site arg) (Swapped a) (Declined s) p q =
     absurd (let same : Some s ≡ None = sym q ∙ p.allowed in cc)
 act_outcome_is_unique m log (Swap u x site arg) (Did a) e p q = absurd p
-act_outcome_is_unique m log (Swap u x site arg) (Swapped a) (Did b) p q = absurd q
-act_outcome_is_unique m log (Swap u x site arg) (Declined r) (Did b) p q = absurd q
+act_outcome_is_unique m log _ _ _ p q = absurd q
 
 -- and a list of acts has one run
 pub act_run_is_unique : (m : Limits) (log : List Event) (acts : List Act) (ds es : List Done)
@@ -111,7 +99,6 @@ act_run_is_unique m log (a ∷ acts) (d ∷ ds) (e ∷ es) x y p q =
     let rest = act_run_is_unique m (log_after_act log a d) acts ds es x y p.1 q' in
     let tails : ds ≡ es = rest.0 in
     (let whole : d ∷ ds ≡ e ∷ es = cc in whole, rest.1)
-act_run_is_unique m log [] [] (e ∷ es) x y p q = absurd q
 act_run_is_unique m log [] (d ∷ ds) es x y p q = absurd p
 act_run_is_unique m log (a ∷ acts) [] es x y p q = absurd p
-act_run_is_unique m log (a ∷ acts) (d ∷ ds) [] x y p q = absurd q
+act_run_is_unique m log _ _ _ x y p q = absurd q

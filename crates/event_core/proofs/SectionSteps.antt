@@ -1,7 +1,7 @@
 -- Closed sections and their entries, after an event.
-use Rattle.std.proofs.Common.{◌≡◌, ℕ, ◌<◌, ◌≤◌, ◌+◌, List, [], ◌∷◌, ◌++◌, Bool, true, false, cond}
-use Rattle.std.proofs.Common.{suc, length, sym, ap, subst, ◌∙◌, arith, take, ◌⊎◌}
-use Rattle.std.proofs.lemmas.Bool.{cases_lt, leb-true, le-leb}
+use Rattle.std.proofs.Common.{◌≡◌, ℕ, ◌<◌, ◌≤◌, ◌+◌, List, [], ◌∷◌, ◌++◌, true}
+use Rattle.std.proofs.Common.{length, sym, ap, subst, ◌∙◌, arith, take}
+use Rattle.std.proofs.lemmas.Bool.{cases_lt, cases_Bool, leb-true, le-leb, cond-true, cond-false}
 use Rattle.std.proofs.lemmas.Option.{slice_get_within}
 use mathlib.Core.Logic.{inl, inr}
 use Rattle.event_core.specs.declared.events.Event.{Event}
@@ -58,32 +58,28 @@ is_counted_of log P c u l a r q n is p =
 -- no more sections are counted than there are
 pub number_most : (c : ℕ → ℕ) (qs : List Closed) → number_counted c qs ≤ length qs
 number_most c [] = omega arith
-number_most c (q ∷ qs) = go (is_counted c q) (number_most c qs)
-  where
-    go : (b : Bool) → number_counted c qs ≤ length qs
-        → cond {A = ℕ} b 1 0 + number_counted c qs ≤ suc (length qs)
-    go true h = omega arith
-    go false h = omega arith
+number_most c (q ∷ qs) = let ih = number_most c qs in elim (cases_Bool (is_counted c q)) [
+  | inl t ↦ let one = cond-true {A = ℕ} (is_counted c q) 1 0 t in omega arith
+  | inr f ↦ let none = cond-false {A = ℕ} (is_counted c q) 1 0 f in omega arith
+]
 
 -- with the acquire of a section, those of the earlier ones on its lock are in a thread's past
 earlier_past : {log : List Event} {u v : ThreadId} {l : LockId} {a r b s : ℕ} → Orderly log
     → (t : ThreadId) → Section log u l a r → Section log v l b s → r ≤ s → Past log (Strict log) t b
     → Past log (Strict log) t a
-earlier_past {log = log} {u = u} {l = l} {a = a} {r = r} {b = b} {s = s} ord t x y le p =
-    go (cases_lt r s)
-  where
-    go : (r < s) ⊎ (s ≤ r) → Past log (Strict log) t a
-    go (inl lt) = (
-      p.0,
-      p.1,
-      rule_c_left
-          (hb_trans (hb_thread u (of_does x.inside.opened.does) (of_does x.closed.does) x.inside.from)
-          (sections_ordered ord x y lt)) p.2,
-    )
-    go (inr ge) =
-        let same : r ≡ s = omega (arith, le, ge) in
-        let z : Section log u l a s = subst (λ n. Section log u l a n) same x in
-        subst (λ n. Past log (Strict log) t n) (sym (one_acquire z y)) p
+earlier_past {log = log} {u = u} {l = l} {a = a} {r = r} {s = s} ord t x y le p = elim (cases_lt r s) [
+  | inl lt ↦ (
+    p.0,
+    p.1,
+    rule_c_left
+        (hb_trans (hb_thread u (of_does x.inside.opened.does) (of_does x.closed.does) x.inside.from)
+        (sections_ordered ord x y lt)) p.2,
+  )
+  | inr ge ↦
+      let same : r ≡ s = omega arith in
+      let z : Section log u l a s = subst (λ n. Section log u l a n) same x in
+      subst (λ n. Past log (Strict log) t n) (sym (one_acquire z y)) p
+]
 
 -- so the clock of that past counts them with it
 pub counted_before : (log : List Event) (t : ThreadId) (c : ℕ → ℕ) (u v : ThreadId) (l : LockId)
@@ -118,16 +114,15 @@ module _ (log : List Event) (e : Event) where
       → ((u : ThreadId) (a r : ℕ) → r < length log → Section log u l a r → P u a r)
       → ((a : ℕ) → Section (log ++ e ∷ []) e.thread l a (length log) → P e.thread a (length log))
       → (u : ThreadId) (a r : ℕ) → Section (log ++ e ∷ []) u l a r → P u a r
-  each_section l P old new u a r x = go (is_last log e r u (of_does x.closed.does))
-    where
-      go : (r < length log) ⊎ (r ≡ length log) → P u a r
-      go (inl lt) = old u a r lt (section_too (back (longer log (e ∷ []))) lt x)
-      go (inr at) =
-          let th : e.thread ≡ u = last_thread log e r u at (of_does x.closed.does) in
-          subst (λ n. P u a n) (sym at)
-          (subst (λ v. P v a (length log)) th
-          (new a (subst (λ v. Section (log ++ e ∷ []) v l a (length log)) (sym th)
-          (subst (λ n. Section (log ++ e ∷ []) u l a n) at x))))
+  each_section l P old new u a r x = elim (is_last log e r u (of_does x.closed.does)) [
+    | inl lt ↦ old u a r lt (section_too (back (longer log (e ∷ []))) lt x)
+    | inr at ↦
+        let th : e.thread ≡ u = last_thread log e r u at (of_does x.closed.does) in
+        subst (λ n. P u a n) (sym at)
+        (subst (λ v. P v a (length log)) th
+        (new a (subst (λ v. Section (log ++ e ∷ []) v l a (length log)) (sym th)
+        (subst (λ n. Section (log ++ e ∷ []) u l a n) at x))))
+  ]
 
   -- the entry of a closed section is its entry in the longer log
   pub closed_longer : (u : ThreadId) (l : LockId) (a r : ℕ) (q : Closed) → IsClosed log u l a r q
@@ -169,13 +164,9 @@ module _ (log : List Event) (e : Event) (ord : Orderly (log ++ e ∷ [])) where
   pub before_end : (l : LockId) → EndsSection log e.thread l e → (i : ℕ) (u : ThreadId) (a r : ℕ)
       → Section log u l a r → Hb log i r → Hb (log ++ e ∷ []) i (length log)
   before_end l is i u a r x b =
+      let lt = section_within x in
+      let mine = section_of (log ++ e ∷ []) e.thread l (length log) ord (last_closes log e l is.op is.outer) in
       hb_trans (hb_too (longer log (e ∷ [])) lt b)
       (hb_trans (sections_ordered ord (section_too (longer log (e ∷ [])) lt x) mine.1 lt)
       (hb_thread e.thread (of_does mine.1.inside.opened.does) (of_does mine.1.closed.does)
       mine.1.inside.from))
-    where
-      lt : r < length log
-      lt = section_within x
-
-      mine : (a : ℕ) × Section (log ++ e ∷ []) e.thread l a (length log)
-      mine = section_of (log ++ e ∷ []) e.thread l (length log) ord (last_closes log e l is.op is.outer)

@@ -1,5 +1,5 @@
 -- The relations on the events below n depend on the log's first n events alone.
-use Rattle.std.proofs.Common.{◌≡◌, ℕ, suc, zero, ◌<◌, ◌≤◌, List, [], ◌∷◌, ◌++◌, length, refl, sym, subst, ◌∙◌}
+use Rattle.std.proofs.Common.{◌≡◌, ℕ, suc, ◌<◌, ◌≤◌, List, ◌++◌, length, sym, subst, ◌∙◌}
 use Rattle.std.proofs.Common.{arith, take, slice_get}
 use Rattle.std.proofs.lemmas.List.{take-append-le}
 use mathlib.Core.Logic.{inl, inr}
@@ -16,7 +16,9 @@ use Rattle.event_core.specs.Order.{event_to_join, HbEdge, program, lock, Po, Hb}
 use Rattle.event_core.specs.Wcp.{Meets, Strict, rule_a, rule_b, rule_c_left, rule_c_right, Below}
 use Rattle.event_core.specs.Verdict.{Races, IsVerdict}
 use Rattle.event_core.proofs.Chains.{program_forward, edge_forward, hb_forward}
+use Rattle.event_core.proofs.Depth.{event_at}
 use Rattle.event_core.proofs.Main.{strict_forward}
+use Rattle.event_core.proofs.Places.{get_before}
 
 -- the two logs have the same first n events
 pub record Agree (n : ℕ) (log other : List Event) : Type 0 where
@@ -27,9 +29,7 @@ pub back : {n : ℕ} {log other : List Event} → Agree n log other → Agree n 
 back a = record { events = λ i lt. sym (a.events i lt); fronts = λ k le. sym (a.fronts k le) }
 
 get_append : (log more : List Event) (i : ℕ) → i < length log → slice_get log i ≡ slice_get (log ++ more) i
-get_append [] more i lt = absurd (omega arith)
-get_append (x ∷ xs) more zero lt = refl
-get_append (x ∷ xs) more (suc i) lt = get_append xs more i (omega arith)
+get_append log more i lt = let x = event_at log i lt in x.1 ∙ sym (get_before log more i x.0 x.1)
 
 pub longer : (log more : List Event) → Agree (length log) log (log ++ more)
 longer log more = record { events = get_append log more; fronts = λ k le. sym (take-append-le k log more le) }

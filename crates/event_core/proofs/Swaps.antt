@@ -1,8 +1,7 @@
 -- When a swap is refused, and that its two events are legal, one after the other.
 use Rattle.std.proofs.Common.{◌≡◌, ℕ, ◌<◌, ◌≤◌, ◌+◌, List, [], ◌∷◌, ◌++◌, Bool, true, false, length, refl}
-use Rattle.std.proofs.Common.{sym, ap, ◌∙◌, arith, ◌⊎◌, count_by, nat_le, not, ◌||◌, Option}
-use Rattle.std.proofs.Common.{Some, None, length-append}
-use Rattle.std.proofs.lemmas.Bool.{leb-true, leb-false, le-leb, lt-leb}
+use Rattle.std.proofs.Common.{sym, ap, ◌∙◌, arith, ◌⊎◌, nat_le, not, ◌||◌, Option, Some, None, length-append}
+use Rattle.std.proofs.lemmas.Bool.{leb-true, leb-false, le-leb, lt-leb, not-true, not-false}
 use Rattle.std.proofs.lemmas.List.Folds.{list_any-append}
 use Rattle.std.specs.List.{list_any}
 use mathlib.Core.Logic.{inl, inr}
@@ -20,7 +19,7 @@ use Rattle.event_core.specs.Refusal.{refusal, first_of, when, forked, joins, in_
 use Rattle.event_core.specs.Refusal.{open_acquires, op_is_acquire, op_is_release, Legal, WellFormed}
 use Rattle.event_core.specs.Steps.{MayFollow}
 use Rattle.event_core.specs.Acts.{swap_refusal, swap_load, swap_store, load_call}
-use Rattle.event_core.proofs.Depth.{count_snoc}
+use Rattle.event_core.proofs.Depth.{count_with}
 use Rattle.event_core.proofs.Holds.{depths_are_open}
 use Rattle.event_core.proofs.Growth.{well_formed_grown, still_forked}
 
@@ -33,11 +32,7 @@ chain a b c d e =
 none_parts : (a b c d e : Bool) → chain a b c d e ≡ None
     → (a ≡ false) × (b ≡ false) × (c ≡ false) × (d ≡ false) × (e ≡ false)
 none_parts false false false false false h = (refl, refl, refl, refl, refl)
-none_parts true b c d e h = absurd (cc)
-none_parts false true c d e h = absurd (cc)
-none_parts false false true d e h = absurd (cc)
-none_parts false false false true e h = absurd (cc)
-none_parts false false false false true h = absurd (cc)
+none_parts _ _ _ _ _ h = absurd cc
 
 none_again : (a b c d e f : Bool) → chain a b c d e ≡ None → f ≡ false → chain a b c d f ≡ None
 none_again a b c d e f h g =
@@ -47,43 +42,22 @@ none_again a b c d e f h g =
 
 same_reason : (a b c d e f : Bool) (r : Refusal) → (r ≡ LogFull → ⊥) → chain a b c d e ≡ Some r
     → chain a b c d f ≡ Some r
-same_reason true b c d e f r n h = h
-same_reason false true c d e f r n h = h
-same_reason false false true d e f r n h = h
-same_reason false false false true e f r n h = h
 same_reason false false false false true f r n h = absurd (n (let q : Some LogFull ≡ Some r = h in cc))
-same_reason false false false false false f r n h = absurd (let q : None ≡ Some r = h in cc)
+same_reason false false false false false f r n h = absurd cc
+same_reason _ _ _ _ e f r n h = h
 
 full_parts : (a b c d e f : Bool) → chain a b c d e ≡ Some LogFull
     → (e ≡ true) × ((chain a b c d f ≡ None) ⊎ (chain a b c d f ≡ Some LogFull))
-full_parts true b c d e f h = absurd (let q : Some ThreadRange ≡ Some LogFull = h in cc)
-full_parts false true c d e f h = absurd (let q : Some NotStarted ≡ Some LogFull = h in cc)
-full_parts false false true d e f h = absurd (let q : Some Ended ≡ Some LogFull = h in cc)
-full_parts false false false true e f h = absurd (let q : Some TargetRange ≡ Some LogFull = h in cc)
-full_parts false false false false false f h = absurd (let q : None ≡ Some LogFull = h in cc)
 full_parts false false false false true true h = (refl, inr refl)
 full_parts false false false false true false h = (refl, inl refl)
+full_parts _ _ _ _ _ f h = absurd cc
 
 full_from : (a b c d e f : Bool) → (chain a b c d f ≡ None) ⊎ (chain a b c d f ≡ Some LogFull) → e ≡ true
     → chain a b c d e ≡ Some LogFull
-full_from true b c d e f (inl h) t = absurd (let q : Some ThreadRange ≡ None = h in cc)
-full_from false true c d e f (inl h) t = absurd (let q : Some NotStarted ≡ None = h in cc)
-full_from false false true d e f (inl h) t = absurd (let q : Some Ended ≡ None = h in cc)
-full_from false false false true e f (inl h) t = absurd (let q : Some TargetRange ≡ None = h in cc)
-full_from true b c d e f (inr h) t = absurd (let q : Some ThreadRange ≡ Some LogFull = h in cc)
-full_from false true c d e f (inr h) t = absurd (let q : Some NotStarted ≡ Some LogFull = h in cc)
-full_from false false true d e f (inr h) t = absurd (let q : Some Ended ≡ Some LogFull = h in cc)
-full_from false false false true e f (inr h) t = absurd (let q : Some TargetRange ≡ Some LogFull = h in cc)
 full_from false false false false true f s t = refl
-full_from false false false false false f s t = absurd (cc)
-
-not_true : (b : Bool) → not b ≡ true → b ≡ false
-not_true true h = absurd (cc)
-not_true false h = refl
-
-not_false : (b : Bool) → not b ≡ false → b ≡ true
-not_false true h = refl
-not_false false h = absurd (cc)
+full_from false false false false false f s t = absurd cc
+full_from _ _ _ _ e f (inl h) t = absurd cc
+full_from _ _ _ _ e f (inr h) t = absurd cc
 
 -- the test that there are so many slots beside those that are kept
 abbrev lacks : Limits → List Event → ℕ → Bool
@@ -124,7 +98,7 @@ unfolding access_chain
 swap_allowed m log u x site h =
     let c : access_chain m log u x 2 ≡ None = sym (swap_chain m log u x) ∙ h in
     let p = none_parts _ _ _ _ _ c in
-    let room : length log + held_depths m log + 2 ≤ m.events = leb-true _ _ (not_false _ p.4) in
+    let room : length log + held_depths m log + 2 ≤ m.events = leb-true _ _ (not-false _ p.4) in
     let one : lacks m log 1 ≡ false
     = ap not (le-leb (length log + held_depths m log + 1) m.events (omega arith)) in
     (load_chain m log u x site ∙ none_again _ _ _ _ _ (lacks m log 1) c one, room)
@@ -142,7 +116,7 @@ pub swap_full : (m : Limits) (log : List Event) (u : ThreadId) (x : VarId) (site
     → ((refusal m log (load_call u x site) ≡ None) ⊎ (refusal m log (load_call u x site) ≡ Some LogFull))
     × (m.events < length log + held_depths m log + 2)
 unfolding access_chain
-swap_full m log u x site h = (go p.1, leb-false _ _ (not_true _ p.0))
+swap_full m log u x site h = (go p.1, leb-false _ _ (not-true _ p.0))
   where
     p : (lacks m log 2 ≡ true)
         × ((access_chain m log u x 1 ≡ None) ⊎ (access_chain m log u x 1 ≡ Some LogFull))
@@ -170,13 +144,8 @@ load_opens : (log : List Event) (u : ThreadId) (x : VarId) (site : SiteId)
     → open_acquires (log ++ swap_load log u x site ∷ []) ≡ open_acquires log
 unfolding open_acquires
 load_opens log u x site =
-    let e : Event = swap_load log u x site in
-    let a : count_by (λ (y : Event). op_is_acquire y.op) (log ++ e ∷ [])
-    ≡ count_by (λ (y : Event). op_is_acquire y.op) log + 0
-    = count_snoc (λ (y : Event). op_is_acquire y.op) log e in
-    let b : count_by (λ (y : Event). op_is_release y.op) (log ++ e ∷ [])
-    ≡ count_by (λ (y : Event). op_is_release y.op) log + 0
-    = count_snoc (λ (y : Event). op_is_release y.op) log e in
+    let a = count_with (λ (y : Event). op_is_acquire y.op) log (swap_load log u x site) false refl in
+    let b = count_with (λ (y : Event). op_is_release y.op) log (swap_load log u x site) false refl in
     omega arith
 
 load_depths : (m : Limits) (log : List Event) (u : ThreadId) (x : VarId) (site : SiteId) → WellFormed m log
@@ -217,7 +186,7 @@ swap_legal m log u x site arg w h = (first, (second, tt))
 
         started : not (forked m.roots new u) ≡ false
         started =
-            ap not (still_forked m.roots log (swap_load log u x site ∷ []) u (not_false _ parts.1))
+            ap not (still_forked m.roots log (swap_load log u x site ∷ []) u (not-false _ parts.1))
 
         not_joined : list_any (joins u) new ≡ false
         not_joined =

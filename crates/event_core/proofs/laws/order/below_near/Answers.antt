@@ -1,11 +1,10 @@
-use Rattle.std.proofs.Common.{◌≡◌, ℕ, ◌⊎◌}
+use Rattle.std.proofs.Common.{◌≡◌, ℕ, ◌⊎◌, List}
 use mathlib.Core.Logic.{inl, inr}
 use Rattle.event_core.proofs.NearLaw.{Through, near_law}
 use Rattle.event_core.proofs.Legality.{orderly}
 use Rattle.event_core.specs.declared.events.Event.{Event}
 use Rattle.event_core.specs.Order.{Hb}
 use Rattle.event_core.specs.Recurrence.{Near}
-use Rattle.std.proofs.Common.{List}
 use Rattle.event_core.proofs.laws.order.below_near.Goals as goal
 
 pub returns : goal.returns

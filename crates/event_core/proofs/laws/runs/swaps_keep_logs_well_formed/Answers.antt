@@ -1,6 +1,6 @@
 use Rattle.event_core.proofs.Swaps.{swap_legal}
-use Rattle.event_core.proofs.RunFacts.{may_follow}
+use Rattle.event_core.proofs.StepLaws.{follow_formed}
 use Rattle.event_core.proofs.laws.runs.swaps_keep_logs_well_formed.Goals as goal
 
 pub returns : goal.returns
-returns c = λ m log u x site arg w h. may_follow m log _ w (swap_legal m log u x site arg w h)
+returns c = λ m log u x site arg w h. follow_formed m log _ w (swap_legal m log u x site arg w h)
