@@ -1,7 +1,7 @@
 -- What is known of an operation that is not refused.
 use Rattle.std.proofs.Common.{◌≡◌, ℕ, ◌+◌, ◌<◌, ◌≤◌, Bool, true, false, List, Option, Some, None, length, not}
 use Rattle.std.proofs.Common.{nat_eq, nat_le, nat_lt, ap, refl, sym, subst, ◌⊎◌, arith}
-use Rattle.std.proofs.lemmas.Bool.{leb-true, eqb-true, ltb-true, cases_lt}
+use Rattle.std.proofs.lemmas.Bool.{leb-true, eqb-true, ltb-true, cases_lt, not-false}
 use Rattle.std.proofs.lemmas.Option.{cond_some}
 use Rattle.std.proofs.lemmas.List.{get_or_past}
 use Rattle.std.proofs.lemmas.List.Sums.{get_or-le-sum_by}
@@ -11,7 +11,7 @@ use Rattle.event_core.specs.declared.ids.LockId.{LockId}
 use Rattle.event_core.specs.declared.bounds.Limits.{Limits}
 use Rattle.event_core.specs.declared.replies.Refusal.TheVariants.{LogFull, NotHolder, Held}
 use Rattle.event_core.specs.declared.events.Op.{Op}
-use Rattle.event_core.specs.declared.events.Op.TheVariants.{Load, Store, Acquire, Release, Fork, Join}
+use Rattle.event_core.specs.declared.events.Op.TheVariants.{Acquire, Release}
 use Rattle.event_core.specs.Refusal.{is_holder, held_by}
 use Rattle.event_core.proofs.Legality.{AllNone, all_none, when_none}
 use Rattle.event_core.proofs.Depth.{same_thread_id}
@@ -34,8 +34,7 @@ allowed k m u o h =
     record { no_holder = r.1.1.1.1.0; holds = r.1.1.1.1.1.0; fits = r.1.1.1.1.1.1.1.1.1.0 }
 
 pub un_not : (b : Bool) → not b ≡ false → b ≡ true
-un_not true e = refl
-un_not false e = absurd (cc)
+un_not b e = not-false b e
 
 pub room : (n m : ℕ) → not (nat_le n m) ≡ false → n ≤ m
 room n m e = leb-true n m (un_not (nat_le n m) e)
@@ -65,13 +64,7 @@ pub slots_after : (k : Limits) (m : Meaning) (u : ThreadId) (o : Op) → Allowed
 slots_after k m u (Acquire l) a h r = let b =
     room (m.length + m.holds + 2) k.events (when_none _ LogFull a.fits) in omega arith
 slots_after k m u (Release l) a h r = let b = r l refl in omega arith
-slots_after k m u (Load x) a h r = let b =
-    room (m.length + m.holds + 1) k.events (when_none _ LogFull a.fits) in omega arith
-slots_after k m u (Store x) a h r = let b =
-    room (m.length + m.holds + 1) k.events (when_none _ LogFull a.fits) in omega arith
-slots_after k m u (Fork x) a h r = let b =
-    room (m.length + m.holds + 1) k.events (when_none _ LogFull a.fits) in omega arith
-slots_after k m u (Join x) a h r = let b =
+slots_after k m u _ a h r = let b =
     room (m.length + m.holds + 1) k.events (when_none _ LogFull a.fits) in omega arith
 
 pub acquire_fits : (k : Limits) (m : Meaning) (l : LockId) → log_full_at k m (Acquire l) ≡ None

@@ -1,18 +1,16 @@
 -- The variables after an accepted call.
-use Rattle.std.proofs.Common.{◌≡◌, ℕ, None, List, [], ◌∷◌, ◌++◌, nat_eq, ap, sym, refl, ◌∙◌, ◌⊎◌}
-use Rattle.std.proofs.Common.{if◌then◌else◌}
-use Rattle.std.proofs.lemmas.Bool.{cases_eq, eq-eqb, cond-true, cond-false}
-use mathlib.Core.Logic.{inl, inr}
+use Rattle.std.proofs.Common.{◌≡◌, ℕ, None, List, [], ◌∷◌, ◌++◌, nat_eq, ap, sym, refl, ◌∙◌, if◌then◌else◌}
+use Rattle.std.proofs.lemmas.Bool.{eq-eqb, cond-true, cond-false}
 use Rattle.event_core.specs.declared.events.Event.{Event}
 use Rattle.event_core.specs.declared.events.Call.{Call}
 use Rattle.event_core.specs.declared.bounds.Limits.{Limits}
 use Rattle.event_core.specs.declared.events.Op.{Op}
-use Rattle.event_core.specs.declared.events.Op.TheVariants.{Load, Store, Acquire, Release, Fork, Join}
+use Rattle.event_core.specs.declared.events.Op.TheVariants.{Store}
 use Rattle.event_core.specs.Refusal.{refusal, op_stores, last_value, last_value_from, event_of, value_of}
 use Rattle.event_core.specs.Refusal.{WellFormed}
-use Rattle.traced_mem.specs.After.{updated, cells_after}
+use Rattle.traced_mem.specs.After.{cells_after}
 use Rattle.traced_mem.specs.OfLog.{var_id, meaning_of}
-use Rattle.traced_mem.proofs.Updates.{eqb_ne, updated_other}
+use Rattle.traced_mem.proofs.Updates.{eqb_ne, is_updated}
 use Rattle.traced_mem.proofs.OneMore.{value_snoc}
 
 module _ (k : Limits) (log : List Event) (c : Call) (w : WellFormed k log) (h : refusal k log c ≡ None) where
@@ -20,33 +18,19 @@ module _ (k : Limits) (log : List Event) (c : Call) (w : WellFormed k log) (h : 
       → last_value (log ++ event_of log c ∷ []) (var_id n)
       ≡ cells_after o c.arg (λ x. last_value log (var_id x)) n
   unfolding last_value
-  cells_law_at (Store x) q n = go (cases_eq n x.0)
+  cells_law_at (Store x) q =
+      is_updated x.0 c.arg (λ x. last_value_from 0 log (var_id x))
+      (λ n. last_value_from 0 (log ++ event_of log c ∷ []) (var_id n))
+      (stored x.0 ∙ cond-true _ _ _ (eq-eqb x.0 x.0 refl))
+      (λ n other. stored n ∙ cond-false _ _ _ (eqb_ne x.0 n (λ e. other (sym e))))
     where
-      next : last_value_from 0 (log ++ event_of log c ∷ []) (var_id n)
-          ≡ (if op_stores (var_id n) c.op then value_of log c.op c.arg else last_value_from 0 log (var_id n))
-      next = value_snoc 0 log (event_of log c) (var_id n)
-
-      stored : last_value_from 0 (log ++ event_of log c ∷ []) (var_id n)
+      stored : (n : ℕ) → last_value_from 0 (log ++ event_of log c ∷ []) (var_id n)
           ≡ (if nat_eq x.0 n then c.arg else last_value_from 0 log (var_id n))
-      stored = next ∙ ap (λ (o : Op). if op_stores
+      stored n =
+          value_snoc 0 log (event_of log c) (var_id n)
+          ∙ ap (λ (o : Op). if op_stores
           (var_id n) o then value_of log o c.arg else last_value_from 0 log (var_id n)) q
-
-      go : (n ≡ x.0) ⊎ (n ≡ x.0 → ⊥)
-          → last_value_from 0 (log ++ event_of log c ∷ []) (var_id n)
-          ≡ updated x.0 c.arg (λ x. last_value_from 0 log (var_id x)) n
-      go (inl same) = stored ∙ cond-true _ _ _ (eq-eqb x.0 n (sym same))
-          ∙ sym (cond-true _ _ _ (eq-eqb n x.0 same))
-      go (inr other) = stored ∙ cond-false _ _ _ (eqb_ne x.0 n (λ e. other (sym e)))
-          ∙ sym (updated_other x.0 c.arg (λ x. last_value_from 0 log (var_id x)) n other)
-  cells_law_at (Load x) q n = value_snoc 0 log (event_of log c) (var_id n)
-      ∙ cond-false _ _ _ (ap (op_stores (var_id n)) q)
-  cells_law_at (Acquire x) q n = value_snoc 0 log (event_of log c) (var_id n)
-      ∙ cond-false _ _ _ (ap (op_stores (var_id n)) q)
-  cells_law_at (Release x) q n = value_snoc 0 log (event_of log c) (var_id n)
-      ∙ cond-false _ _ _ (ap (op_stores (var_id n)) q)
-  cells_law_at (Fork x) q n = value_snoc 0 log (event_of log c) (var_id n)
-      ∙ cond-false _ _ _ (ap (op_stores (var_id n)) q)
-  cells_law_at (Join x) q n = value_snoc 0 log (event_of log c) (var_id n)
+  cells_law_at _ q = λ n. value_snoc 0 log (event_of log c) (var_id n)
       ∙ cond-false _ _ _ (ap (op_stores (var_id n)) q)
 
   pub cells_law : (meaning_of (log ++ event_of log c ∷ [])).cell

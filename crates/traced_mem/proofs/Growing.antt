@@ -4,7 +4,7 @@ use Rattle.std.proofs.Common.{arith, subst}
 use Rattle.traced_mem.specs.declared.rows.ThreadRow.{ThreadRow}
 use Rattle.event_core.specs.declared.ids.ThreadId.{ThreadId}
 use Rattle.event_core.specs.declared.events.Op.{Op}
-use Rattle.event_core.specs.declared.events.Op.TheVariants.{Load, Store, Acquire, Release, Fork, Join}
+use Rattle.event_core.specs.declared.events.Op.TheVariants.{Load, Acquire}
 use Rattle.traced_mem.specs.declared.rows.LockRow.{LockRow}
 use Rattle.traced_mem.specs.Meaning.{Thread}
 use Rattle.traced_mem.specs.Tables.{Tables, meaning, cells_of, lock_of, lock_at, HeldBelow, thread_at}
@@ -65,7 +65,6 @@ ready_grown old new g ls cs u o r =
     room : (o : Op) → HasRoom old.threads (length old.locks) old.room u o
         → HasRoom new.threads (length new.locks) new.room u o
     room (Load x) h = tt
-    room (Store x) h = omega arith
     room (Acquire l) h = (
       let a = h.0 in omega arith,
       let a = h.1 in
@@ -75,6 +74,4 @@ ready_grown old new g ls cs u o r =
           = ap (λ (f : ℕ → Thread). length (f u.0).held) g.rows in
           omega arith,
     )
-    room (Release l) h = omega arith
-    room (Fork v) h = let b = g.more in omega arith
-    room (Join v) h = let b = g.more in omega arith
+    room _ h = let b = g.more in omega arith

@@ -2,8 +2,7 @@
 use Rattle.std.proofs.Common.{◌≡◌, ℕ, suc, ◌+◌, ◌-◌, ◌<◌, ◌≤◌, Bool, true, false, List, [], ◌∷◌, ◌++◌, length}
 use Rattle.std.proofs.Common.{take, nat_eq, ◌&&◌, ap, sym, ◌∙◌, subst, ◌⊎◌, if◌then◌else◌, arith}
 use Rattle.std.proofs.Common.{refl, append-nil, append_assoc}
-use Rattle.std.proofs.lemmas.Bool.{eqb-true, eq-eqb, and_from}
-use Rattle.std.proofs.lemmas.Option.{slice_get_within}
+use Rattle.std.proofs.lemmas.Bool.{eqb-true, eq-eqb, and_from, and_left, and_right}
 use mathlib.Core.Logic.{inl, inr}
 use Rattle.event_core.specs.declared.ids.ThreadId.{ThreadId}
 use Rattle.event_core.specs.declared.ids.LockId.{LockId}
@@ -26,7 +25,7 @@ use Rattle.event_core.proofs.Growth.{well_formed_front}
 use Rattle.event_core.proofs.HeldDepths.{held_now, held_same, still_held}
 use Rattle.event_core.proofs.Legality.{holder_depth, orderly}
 use Rattle.event_core.proofs.Members.{none_in, has_front, has_last}
-use Rattle.event_core.proofs.OpenSections.{its_effect, open_held, open_new}
+use Rattle.event_core.proofs.OpenSections.{its_effect, open_held, open_new, open_within}
 use Rattle.traced_mem.specs.After.{without}
 use Rattle.traced_mem.specs.Held.{InOrder, none, more, AreHeld}
 use Rattle.traced_mem.specs.OfLog.{held_after, held_from, held_in}
@@ -37,9 +36,6 @@ use Rattle.traced_mem.proofs.Without.{without_here, without_next, eqb_cases, has
 record Are (log : List Event) (u : ThreadId) (ls : List LockId) : Type 0 where
   in_order : InOrder log u 0 ls
   all : (l : LockId) → 0 < depth log u l → Has l ls
-
-within : (log : List Event) (u : ThreadId) (l : LockId) (a : ℕ) → Open log u l a → a < length log
-within log u l a s = slice_get_within log a s.opened.does.event s.opened.does.at
 
 -- each lock of the list is held
 has_depth : (log : List Event) (u : ThreadId) (n : ℕ) (ls : List LockId) → InOrder log u n ls → (l : LockId)
@@ -54,7 +50,7 @@ no_again : (log : List Event) (u : ThreadId) (l : LockId) (a n : ℕ) (ls : List
     → a < n → InOrder log u n ls → Has l ls → ⊥
 no_again log u l a n [] s lt o h = none_in h
 no_again log u l a n (y ∷ ls) s lt (more m b x xs le t r) (first _ _ same) =
-    let w = within log u y b t in
+    let w = open_within log u y b t in
     let up : 0 < depth (take b log) u l = s.held b (omega arith) (omega arith) in
     let zero : depth (take b log) u l ≡ 0
     = ap (λ (q : LockId). depth (take b log) u q) same ∙ t.opened.outer in
@@ -75,7 +71,7 @@ module _ (log : List Event) (e : Event) (u : ThreadId) (ord : Orderly (log ++ e 
       → n ≤ length log → Open (log ++ e ∷ []) u y (length log) → InOrder (log ++ e ∷ []) u n (ls ++ y ∷ [])
   push n [] y (none m) d le s = more n (length log) y [] le s (none (suc (length log)))
   push n (l ∷ ls) y (more m a x xs le s r) d le2 t =
-      let lt : a < length log = within log u l a s in
+      let lt = open_within log u l a s in
       more n a l (ls ++ y ∷ []) le (open_new log e ord u l a s (d l (first l ls refl)))
       (push (suc a) ls y r (λ z h. d z (later l ls h)) (omega arith) t)
 
@@ -140,11 +136,10 @@ module _ (log : List Event) (e : Event) (u : ThreadId) (ord : Orderly (log ++ e 
 
   -- an event that does not begin or end the thread's hold of its lock passes no test
   no_test : (n : ℕ) → (e.thread ≡ u → n ≡ 0 → ⊥) → (nat_eq e.thread.0 u.0 && nat_eq n 0) ≡ false
-  no_test n never = go (thread_cases e.thread u)
-    where
-      go : (e.thread ≡ u) ⊎ (e.thread ≡ u → ⊥) → (nat_eq e.thread.0 u.0 && nat_eq n 0) ≡ false
-      go (inl t) = ap (λ b. b && nat_eq n 0) (same_thread t) ∙ eqb_ne n 0 (never t)
-      go (inr other) = ap (λ b. b && nat_eq n 0) (eqb_ne _ _ (λ x. other (same_thread_id x)))
+  no_test n never = elim (thread_cases e.thread u) [
+    | inl t ↦ and_right _ _ (eqb_ne n 0 (never t))
+    | inr other ↦ and_left _ _ (eqb_ne _ _ (λ x. other (same_thread_id x)))
+  ]
 
   acquires_if : (y : LockId) (b : Bool) → e.op ≡ Acquire y
       → (nat_eq e.thread.0 u.0 && nat_eq (depth log u y) 0) ≡ b
@@ -196,15 +191,13 @@ module _ (log : List Event) (e : Event) (u : ThreadId) (ord : Orderly (log ++ e 
                 (λ l h. still_held log e ord k (opens y o d) u l (has_depth log u 0 ls are.in_order l h)
                 (λ p is. cc))
                 (omega arith) (opened log e u ord y t o d);
-            all = λ l up. all_of l up (lock_cases l y);
+            all = λ l up. elim (lock_cases l y) [
+              | inl same ↦ subst (λ (x : LockId). Has x (ls ++ y ∷ [])) (sym same) (has_last ls y)
+              | inr n ↦ has_front l ls (y ∷ []) (are.all l
+                  ((held_same log e ord (Opens y) (opens y o d) u l
+                  (λ p is. n (let q : Opens y ≡ Opens l = is in cc)) (λ p is. cc)).0 up))
+            ];
           })
-        where
-          all_of : (l : LockId) → 0 < depth (log ++ e ∷ []) u l → (l ≡ y) ⊎ (l ≡ y → ⊥) → Has l (ls ++ y ∷ [])
-          all_of l up (inl same) = subst (λ (x : LockId). Has x (ls ++ y ∷ [])) (sym same) (has_last ls y)
-          all_of l up (inr n) =
-              has_front l ls (y ∷ []) (are.all l
-              ((held_same log e ord (Opens y) (opens y o d) u l
-              (λ p is. n (let q : Opens y ≡ Opens l = is in cc)) (λ p is. cc)).0 up))
       go k (closes y o d) (inl t) =
           let down : depth (log ++ e ∷ []) e.thread y ≡ depth log e.thread y - 1 = depth_down log e y o in
           let zero : depth (log ++ e ∷ []) u y ≡ 0
@@ -216,17 +209,15 @@ module _ (log : List Event) (e : Event) (u : ThreadId) (ord : Orderly (log ++ e 
                 drops log e u ord 0 ls y are.in_order
                 (λ l n h. still_held log e ord k (closes y o d) u l (has_depth log u 0 ls are.in_order l h)
                 (λ p is. n (let q : Closes y ≡ Closes l = is in cc)));
-            all = λ l up. all_of l up (lock_cases l y) zero;
+            all = λ l up. elim (lock_cases l y) [
+              | inl same ↦ absurd (
+                  let up' = subst (λ (x : LockId). 0 < depth (log ++ e ∷ []) u x) same up in
+                  omega arith)
+              | inr n ↦ has_without l y ls n (are.all l
+                  ((held_same log e ord (Closes y) (closes y o d) u l (λ p is. cc)
+                  (λ p is. n (let q : Closes y ≡ Closes l = is in cc))).0 up))
+            ];
           })
-        where
-          all_of : (l : LockId) → 0 < depth (log ++ e ∷ []) u l → (l ≡ y) ⊎ (l ≡ y → ⊥)
-              → depth (log ++ e ∷ []) u y ≡ 0 → Has l (without y ls)
-          all_of l up (inl same) zero = absurd (let up2 : 0 < depth (log ++ e ∷ []) u y =
-              subst (λ (x : LockId). 0 < depth (log ++ e ∷ []) u x) same up in omega arith)
-          all_of l up (inr n) zero =
-              has_without l y ls n (are.all l
-              ((held_same log e ord (Closes y) (closes y o d) u l (λ p is. cc)
-              (λ p is. n (let q : Closes y ≡ Closes l = is in cc))).0 up))
 
 -- event by event
 list_from : (m : Limits) (before es : List Event) (u : ThreadId) (ls : List LockId)

@@ -1,8 +1,8 @@
 -- One more event at the end of a log: what its searches and depths come to.
-use Rattle.std.proofs.Common.{◌≡◌, ℕ, Bool, true, false, Some, None, List, [], ◌∷◌, ◌++◌}
-use Rattle.std.proofs.Common.{nat_lt, ◌||◌, option_and_then, ap, sym, refl}
-use Rattle.std.proofs.Common.{◌∙◌, if◌then◌else◌, append-nil, append_assoc}
+use Rattle.std.proofs.Common.{◌≡◌, ℕ, Bool, false, Some, None, List, [], ◌∷◌, ◌++◌, nat_lt, ◌||◌}
+use Rattle.std.proofs.Common.{option_and_then, ap, sym, refl, ◌∙◌, if◌then◌else◌, append-nil, append_assoc}
 use Rattle.std.proofs.lemmas.Bool.{cond-false}
+use Rattle.std.proofs.lemmas.List.Folds.{list_any-append}
 use Rattle.std.specs.List.{list_any}
 use Rattle.event_core.specs.declared.ids.ThreadId.{ThreadId}
 use Rattle.event_core.specs.declared.ids.LockId.{LockId}
@@ -17,12 +17,7 @@ use Rattle.traced_mem.proofs.Updates.{eqb_refl, or_false}
 
 pub any_snoc : (p : Event → Bool) (xs : List Event) (e : Event)
     → list_any p (xs ++ e ∷ []) ≡ (list_any p xs || p e)
-any_snoc p [] e = or_false (p e)
-any_snoc p (x ∷ xs) e = ap (λ b. p x || b) (any_snoc p xs e) ∙ or_assoc (p x) (list_any p xs) (p e)
-  where
-    or_assoc : (a b c : Bool) → (a || (b || c)) ≡ ((a || b) || c)
-    or_assoc true b c = refl
-    or_assoc false b c = refl
+any_snoc p xs e = list_any-append p xs (e ∷ []) ∙ ap (λ b. list_any p xs || b) (or_false (p e))
 
 pub value_snoc : (n : ℕ) (xs : List Event) (e : Event) (x : VarId)
     → last_value_from n (xs ++ e ∷ []) x ≡ (if op_stores x e.op then e.value else last_value_from n xs x)

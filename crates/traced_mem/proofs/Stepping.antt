@@ -10,7 +10,7 @@ use mathlib.Core.Logic.{inl, inr}
 use Rattle.event_core.specs.declared.ids.ThreadId.{ThreadId}
 use Rattle.event_core.specs.declared.ids.LockId.{LockId}
 use Rattle.event_core.specs.declared.events.Op.{Op}
-use Rattle.event_core.specs.declared.events.Op.TheVariants.{Load, Store, Acquire, Release, Fork, Join}
+use Rattle.event_core.specs.declared.events.Op.TheVariants.{Load, Acquire, Release, Fork, Join}
 use Rattle.traced_mem.specs.declared.rows.ThreadRow.{ThreadRow}
 use Rattle.traced_mem.specs.declared.rows.LockRow.{LockRow}
 use Rattle.traced_mem.specs.Meaning.{Thread, Lock}
@@ -71,17 +71,12 @@ step_no_more : (c : ThreadId) (p : Op) (locks : ℕ → Lock) (f : ℕ → Threa
     (f u.0).held
 step_no_more c p locks f u m free = by_op p free
   where
-    F : ℕ → Thread
-    F = updated c.0 (mentioned_again (f c.0)) f
-
     first : (n : ℕ) → length (updated c.0 (mentioned_again (f c.0)) f n).held ≤ length (f n).held
     first n = no_more c.0 (mentioned_again (f c.0)) f (omega arith) n
 
     by_op : (p : Op) → takes_place c p u (Acquire m) ≡ false
         → length (threads_after c p locks (updated c.0 (mentioned_again (f c.0)) f) u.0).held ≤ length
         (f u.0).held
-    by_op (Load x) free = first u.0
-    by_op (Store x) free = first u.0
     by_op (Fork v) free = let a = first u.0 in let b =
         no_more v.0 (now_forked (updated c.0 (mentioned_again (f c.0)) f v.0))
         (updated c.0 (mentioned_again (f c.0)) f) (omega arith) u.0 in omega arith
@@ -104,6 +99,7 @@ step_no_more c p locks f u m free = by_op p free
         (updated_other c.0 (gains l (locks l.0).depth (updated c.0 (mentioned_again (f c.0)) f c.0))
         (updated c.0 (mentioned_again (f c.0)) f) u.0 other) in
         omega arith
+    by_op _ free = first u.0
 
 -- what stays ready over a step
 pub still_ready : (old new : Tables) (locks : ℕ → Lock) (c : ThreadId) (p : Op) (u : ThreadId) (o : Op)
@@ -121,7 +117,6 @@ still_ready old new locks c p u o free ts ls cs caps rows r =
         → HasRoom old.threads (length old.locks) old.room u o
         → HasRoom new.threads (length new.locks) new.room u o
     room (Load x) free h = tt
-    room (Store x) free h = omega arith
     room (Acquire l) free h = (
       let a = h.0 in omega arith,
       let a = h.1 in
@@ -134,9 +129,7 @@ still_ready old new locks c p u o free ts ls cs caps rows r =
           let n = step_no_more c p locks (threads_of old.threads) u l free in
           omega arith,
     )
-    room (Release l) free h = omega arith
-    room (Fork v) free h = omega arith
-    room (Join v) free h = omega arith
+    room _ free h = omega arith
 
 -- readiness, of equal tables
 pub ready_of_parts : (t : Tables) (threads : List ThreadRow) (locks : List LockRow)

@@ -1,5 +1,5 @@
 -- A swap that is allowed: its load is, and after that its store.
-use Rattle.std.proofs.Common.{◌≡◌, ℕ, List, ◌+◌, ◌≤◌, ◌==◌, Bool, true, false, cond, [], ◌∷◌, Option, Some}
+use Rattle.std.proofs.Common.{◌≡◌, ℕ, ◌+◌, ◌≤◌, ◌==◌, Bool, true, false, cond, [], ◌∷◌, Option, Some}
 use Rattle.std.proofs.Common.{None, not, nat_eq, ◌||◌, ap, refl, sym, subst, Result, OnOk, ◌∙◌, arith}
 use Rattle.std.proofs.lemmas.Bool.{le-leb}
 use Rattle.event_core.specs.declared.ids.ThreadId.{ThreadId}
@@ -13,7 +13,7 @@ use Rattle.event_core.specs.declared.events.Op.TheVariants.{Load, Store}
 use Rattle.event_core.specs.Refusal.{first_of, when}
 use Rattle.event_core.proofs.Legality.{AllNone, all_none, when_none}
 use Rattle.traced_mem.specs.Meaning.{Meaning, Thread}
-use Rattle.traced_mem.specs.Refusals.{answer, refusal_at, reasons_at, swap_refusal_at, swap_reasons_at}
+use Rattle.traced_mem.specs.Refusals.{answer, refusal_at, swap_refusal_at, swap_reasons_at}
 use Rattle.traced_mem.specs.Refusals.{forked_at, full_at}
 use Rattle.traced_mem.specs.After.{after, mentioned_again}
 use Rattle.traced_mem.proofs.Allowed.{room}
@@ -36,13 +36,6 @@ forked_again : (r : Roots) (m : Meaning) (u : ThreadId) (x : VarId) (arg : ℕ)
 forked_again OnlyMain m u x arg = ap (λ b. nat_eq u.0 0 || b) (same_forked (u.0 == u.0) (m.thread u.0))
 forked_again Free m u x arg = refl
 
--- where no reason applies there is no first one
-no_first : (os : List (Option Refusal)) → AllNone os → first_of os ≡ None
-unfolding AllNone
-no_first [] a = refl
-no_first (None ∷ os) a = no_first os a.1
-no_first (Some r ∷ os) a = absurd (let same : Some r ≡ None = a.0 in cc)
-
 pub load_allowed : (k : Limits) (m : Meaning) (u : ThreadId) (x : VarId) → swap_refusal_at k m u x ≡ None
     → refusal_at k m u (Load x) ≡ None
 unfolding swap_refusal_at refusal_at AllNone
@@ -50,18 +43,10 @@ load_allowed k m u x h =
     let r : AllNone (swap_reasons_at k m u x) = all_none (swap_reasons_at k m u x) h in
     let two : m.length + m.holds + 2 ≤ k.events
     = room (m.length + m.holds + 2) k.events (when_none _ LogFull r.1.1.1.1.0) in
-    let none : AllNone (reasons_at k m u (Load x))
-    = (
-      r.0,
-      (
-        r.1.0,
-        (
-          r.1.1.0,
-          (r.1.1.1.0, (refl, (refl, (refl, (refl, (refl, (fits k m 1 (omega arith), tt))))))),
-        ),
-      ),
-    ) in
-    no_first (reasons_at k m u (Load x)) none
+    λ i. first_of (
+    r.0 i ∷ r.1.0 i ∷ r.1.1.0 i ∷ r.1.1.1.0 i ∷ None ∷ None ∷ None ∷ None ∷ None
+    ∷ fits k m 1 (omega arith) i ∷ []
+    )
 
 pub store_allowed : (k : Limits) (m : Meaning) (u : ThreadId) (x : VarId) → swap_refusal_at k m u x ≡ None
     → refusal_at k (after u (Load x) 0 m) u (Store x) ≡ None
@@ -75,18 +60,10 @@ store_allowed k m u x h =
     = ap (λ b. when (not b) NotStarted) (forked_again k.roots m u x 0) ∙ r.1.0 in
     let going : when (n.thread u.0).joined Ended ≡ None
     = ap (λ b. when b Ended) (same_joined (u.0 == u.0) (m.thread u.0)) ∙ r.1.1.0 in
-    let none : AllNone (reasons_at k n u (Store x))
-    = (
-      r.0,
-      (
-        started,
-        (
-          going,
-          (r.1.1.1.0, (refl, (refl, (refl, (refl, (refl, (fits k n 1 (omega arith), tt))))))),
-        ),
-      ),
-    ) in
-    no_first (reasons_at k n u (Store x)) none
+    λ i. first_of (
+    r.0 i ∷ started i ∷ going i ∷ r.1.1.1.0 i ∷ None ∷ None ∷ None ∷ None ∷ None
+    ∷ fits k n 1 (omega arith) i ∷ []
+    )
 
 -- what follows where the answer is Ok
 pub on_ok : {P : Type 0} (o : Option Refusal) (r : Result (Unit {0}) Refusal) → r ≡ answer o → (o ≡ None → P)

@@ -1,7 +1,7 @@
 -- A list without a lock, and what it has.
-use Rattle.std.proofs.Common.{◌≡◌, ℕ, suc, ◌+◌, ◌<◌, true, false, cond, Some, None, List, [], ◌∷◌}
-use Rattle.std.proofs.Common.{length, not, nat_eq, nat_lt, ap, sym, ◌∙◌, subst, ◌⊎◌, arith}
-use Rattle.std.proofs.lemmas.Bool.{cases_Bool, lt-ltb, ltb-true, eqb-true}
+use Rattle.std.proofs.Common.{◌≡◌, ℕ, suc, ◌+◌, Bool, true, false, cond, Some, None, List, [], ◌∷◌}
+use Rattle.std.proofs.Common.{length, not, nat_eq, nat_lt, ap, sym, ◌∙◌, subst, ◌⊎◌, refl, arith}
+use Rattle.std.proofs.lemmas.Bool.{cases_Bool, cases_lt, lt-ltb, le-ltb, eqb-true}
 use Rattle.std.specs.List.{prefix_len}
 use mathlib.Core.Logic.{inl, inr}
 use Rattle.event_core.specs.declared.ids.LockId.{LockId}
@@ -18,15 +18,10 @@ without_here l x xs t =
     ∙ ap (λ b. without_at (cond b (Some 0) None) (x ∷ xs)) (lt-ltb 0 (suc (length xs)) (omega arith))
 
 lifted : (n len : ℕ) → nat_lt (suc n) (suc len) ≡ nat_lt n len
-lifted n len = go (cases_Bool (nat_lt n len)) (cases_Bool (nat_lt (suc n) (suc len)))
-  where
-    go : (nat_lt n len ≡ true) ⊎ (nat_lt n len ≡ false)
-        → (nat_lt (suc n) (suc len) ≡ true) ⊎ (nat_lt (suc n) (suc len) ≡ false)
-        → nat_lt (suc n) (suc len) ≡ nat_lt n len
-    go (inl t) s = (let a : n < len = ltb-true n len t in lt-ltb (suc n) (suc len) (omega arith)) ∙ sym t
-    go (inr f) (inr g) = g ∙ sym f
-    go (inr f) (inl t) = absurd (let a : suc n < suc len = ltb-true (suc n) (suc len) t in
-        let b : nat_lt n len ≡ true = lt-ltb n len (omega arith) in cc)
+lifted n len = elim (cases_lt n len) [
+  | inl lt ↦ lt-ltb (suc n) (suc len) (omega arith) ∙ sym (lt-ltb n len lt)
+  | inr ge ↦ le-ltb (suc n) (suc len) (omega arith) ∙ sym (le-ltb n len ge)
+]
 
 next : (n len : ℕ) (x : LockId) (xs : List LockId)
     → without_at (cond (nat_lt (1 + n) (suc len)) (Some (1 + n)) None) (x ∷ xs)
@@ -34,15 +29,12 @@ next : (n len : ℕ) (x : LockId) (xs : List LockId)
 next n len x xs =
     let one : 1 + n ≡ suc n = omega arith in
     ap (λ k. without_at (cond (nat_lt k (suc len)) (Some k) None) (x ∷ xs)) one
-    ∙ go (cases_Bool (nat_lt n len))
+    ∙ ap (λ b. without_at (cond b (Some (suc n)) None) (x ∷ xs)) (lifted n len) ∙ pick (nat_lt n len)
   where
-    go : (nat_lt n len ≡ true) ⊎ (nat_lt n len ≡ false)
-        → without_at (cond (nat_lt (suc n) (suc len)) (Some (suc n)) None) (x ∷ xs)
-        ≡ x ∷ without_at (cond (nat_lt n len) (Some n) None) xs
-    go (inl t) = ap (λ b. without_at (cond b (Some (suc n)) None) (x ∷ xs)) (lifted n len ∙ t)
-        ∙ sym (ap (λ b. x ∷ without_at (cond b (Some n) None) xs) t)
-    go (inr f) = ap (λ b. without_at (cond b (Some (suc n)) None) (x ∷ xs)) (lifted n len ∙ f)
-        ∙ sym (ap (λ b. x ∷ without_at (cond b (Some n) None) xs) f)
+    pick : (b : Bool) → without_at (cond b (Some (suc n)) None) (x ∷ xs)
+        ≡ x ∷ without_at (cond b (Some n) None) xs
+    pick true = refl
+    pick false = refl
 
 pub without_next : (l x : LockId) (xs : List LockId) → nat_eq x.0 l.0 ≡ false
     → without l (x ∷ xs) ≡ x ∷ without l xs

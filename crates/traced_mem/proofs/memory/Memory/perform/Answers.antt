@@ -2,8 +2,7 @@ use Rattle.std.proofs.Common.{◌≡◌, ◌+◌, ◌≤◌, List, ◌++◌, tak
 use Rattle.std.proofs.Common.{vec_capacity}
 use Rattle.traced_mem.specs.declared.rows.ThreadRow.{ThreadRow}
 use Rattle.traced_mem.specs.declared.rows.LockRow.{LockRow}
-use Rattle.traced_mem.specs.After.{holds_after, after, threads_after, locks_after, updated}
-use Rattle.traced_mem.specs.After.{mentioned_again}
+use Rattle.traced_mem.specs.After.{holds_after, after, threads_after, locks_after, updated, mentioned_again}
 use Rattle.traced_mem.specs.Tables.{Tables, AreTables, HeldBelow, total, locks_of, threads_of, meaning}
 use Rattle.traced_mem.specs.Room.{DepthFits, HoldsFit, IsReady}
 use Rattle.traced_mem.proofs.Allowed.{fits_inside}
