@@ -1,12 +1,7 @@
 -- Accesses as operations, and which are in conflict.
 use Rattle.std.proofs.Common.{◌≡◌, refl}
-use Rattle.event_core.specs.declared.events.AccessKind.{AccessKind}
-use Rattle.event_core.specs.declared.events.AccessKind.TheVariants.{Read, Write}
-use Rattle.event_core.specs.declared.events.Op.{Op}
-use Rattle.event_core.specs.declared.events.Op.TheVariants.{Load, Store, Acquire, Release, Fork, Join}
-use Rattle.event_core.specs.declared.ids.LockId.{LockId}
-use Rattle.event_core.specs.declared.ids.ThreadId.{ThreadId}
-use Rattle.event_core.specs.declared.ids.VarId.{VarId}
+use Rattle.event_core.proofs.Words.{AccessKind, Read, Write, Op, Load, Store, Acquire, Release, Fork, Join}
+use Rattle.event_core.proofs.Words.{LockId, ThreadId, VarId}
 use Rattle.event_core.specs.Log.{OpsConflict}
 use Rattle.event_core.specs.Effect.{access_of}
 

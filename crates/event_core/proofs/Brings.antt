@@ -3,10 +3,7 @@ use Rattle.std.proofs.Common.{◌≡◌, ℕ, ◌<◌, ◌≤◌, ◌+◌, List,
 use Rattle.std.proofs.Common.{arith, cond, ◌⊎◌}
 use Rattle.std.proofs.lemmas.Bool.{cond-true, eq-eqb}
 use Rattle.std.proofs.lemmas.Option.{slice_get_within}
-use Rattle.event_core.specs.declared.ids.ThreadId.{ThreadId}
-use Rattle.event_core.specs.declared.ids.LockId.{LockId}
-use Rattle.event_core.specs.declared.events.Event.{Event}
-use Rattle.event_core.specs.declared.events.Op.TheVariants.{Acquire, Fork, Join}
+use Rattle.event_core.proofs.Words.{ThreadId, LockId, Event, Acquire, Fork, Join}
 use Rattle.event_core.specs.Log.{Does, Of, depth}
 use Rattle.event_core.specs.Count.{events_of, Past}
 use Rattle.event_core.specs.Orderly.{Orderly}

@@ -2,9 +2,7 @@
 use Rattle.std.proofs.Common.{◌≡◌, ℕ, ◌<◌, ◌≤◌, List, subst, arith}
 use Rattle.std.proofs.lemmas.Bool.{cases_lt}
 use mathlib.Core.Logic.{inl, inr}
-use Rattle.event_core.specs.declared.ids.ThreadId.{ThreadId}
-use Rattle.event_core.specs.declared.ids.LockId.{LockId}
-use Rattle.event_core.specs.declared.events.Event.{Event}
+use Rattle.event_core.proofs.Words.{ThreadId, LockId, Event}
 use Rattle.event_core.specs.Log.{Of, InSection}
 use Rattle.event_core.specs.Order.{Chain, here, step, ProgramEdge, same_thread, fork_to_event, fork_to_join}
 use Rattle.event_core.specs.Order.{event_to_join, HbEdge, program, lock, Po, Hb}

@@ -6,8 +6,7 @@ use Rattle.std.proofs.lemmas.List.{take-append-le}
 use Rattle.std.proofs.lemmas.List.Sums.{sum_by-append, sum_by-take-le}
 use Rattle.std.proofs.Math.Seq.{take-append_seam, take-take, take-length}
 use mathlib.Core.Logic.{inl, inr}
-use Rattle.event_core.specs.declared.ids.ThreadId.{ThreadId}
-use Rattle.event_core.specs.declared.events.Event.{Event}
+use Rattle.event_core.proofs.Words.{ThreadId, Event}
 use Rattle.event_core.specs.Log.{Of}
 use Rattle.event_core.specs.Count.{events_of, Counts}
 use Rattle.event_core.proofs.Depth.{event_at, take_event, count_snoc, count_with, same_thread_id}
@@ -20,7 +19,7 @@ counts_none log u = record { within = omega arith; first = λ i o. (λ b. absurd
 pub counts_union : (log : List Event) (u : ThreadId) (P Q : ℕ → Type 0) (m n : ℕ) → Counts log u P m
     → Counts log u Q n → Counts log u (λ i. P i ⊎ Q i) (max m n)
 counts_union log u P Q m n a b = record {
-  within = (let x = a.within in let y = b.within in omega arith);
+  within = (let x = a.within in omega arith);
   first = λ i o. (
     λ s. elim s [
       | inl p ↦ (let lt = (a.first i o).0 p in omega arith)
@@ -124,7 +123,6 @@ counts_at_most log u P m n a b = elim (cases_lt n m) [
       let whole : events_of (take (length log) log) u ≡ events_of log u
       = ap (λ xs. events_of xs u) (take-length log) in
       let e = at_rank log u n (length log) (omega arith) (omega arith) in
-      let rank : events_of (take e.0 log) u ≡ n = e.2 in
       let again : events_of (take e.0 log) u < n
       = (b.first e.0 e.1).0 ((a.first e.0 e.1).1 (omega arith)) in
       omega arith)
@@ -148,4 +146,4 @@ pub counts_grow : (log : List Event) (e : Event) (u : ThreadId) (P Q : ℕ → T
 counts_grow log e u P Q m n sub within a b =
     counts_mono (log ++ e ∷ []) u (λ i. P i × (i < length log)) Q m n (λ i p. sub i p.0)
     (counts_longer log (e ∷ []) u P (λ i. P i × (i < length log)) m (λ i lt. (λ p. (p, lt), λ p. p.0))
-    (λ i le p. let lt : i < length log = p.1 in omega arith) a) b
+    (λ i le p. omega arith) a) b

@@ -4,9 +4,7 @@ use Rattle.std.proofs.Common.{sym, ap, subst, ◌∙◌, arith, cond, take, ◌�
 use Rattle.std.proofs.lemmas.Bool.{cases_lt, cases_eq, eq-eqb, ne_eqb}
 use Rattle.std.proofs.lemmas.Option.{slice_get_within}
 use mathlib.Core.Logic.{inl, inr}
-use Rattle.event_core.specs.declared.ids.ThreadId.{ThreadId}
-use Rattle.event_core.specs.declared.events.Event.{Event}
-use Rattle.event_core.specs.declared.events.Op.{Op}
+use Rattle.event_core.proofs.Words.{ThreadId, Event, Op}
 use Rattle.event_core.specs.Log.{Does, Of}
 use Rattle.event_core.specs.Count.{events_of, Counts}
 use Rattle.event_core.specs.Rows.{join, no_clock, bump, Counted}
@@ -113,7 +111,7 @@ counts_bump log e u P Q n to from last all a = elim (thread_cases e.thread u) [
       (counts_same new u (λ i. Q i × (i < length log)) Q n (λ i o. (λ p. p.0, λ q. (q, old other i o)))
       (counts_longer log (e ∷ []) u P (λ i. Q i × (i < length log)) n
       (λ i lt. (λ p. (to i p, lt), λ q. from i lt q.0))
-      (λ i le q. let lt : i < length log = q.1 in omega arith) a))
+      (λ i le q. omega arith) a))
 ]
   where
     new : List Event

@@ -9,11 +9,7 @@ use Rattle.std.proofs.Math.Seq.{take-suc}
 use Rattle.std.specs.List.{count_by}
 use Rattle.std.specs.Prelude.{slice_get, Option, Some, None}
 use mathlib.Core.Logic.{inl, inr}
-use Rattle.event_core.specs.declared.ids.ThreadId.{ThreadId}
-use Rattle.event_core.specs.declared.ids.LockId.{LockId}
-use Rattle.event_core.specs.declared.events.Event.{Event}
-use Rattle.event_core.specs.declared.events.Op.{Op}
-use Rattle.event_core.specs.declared.events.Op.TheVariants.{Acquire, Release}
+use Rattle.event_core.proofs.Words.{ThreadId, LockId, Event, Op, Acquire, Release}
 use Rattle.event_core.specs.Log.{Of, depth, acquires, releases, op_acquires, op_releases, OuterAcquire}
 use Rattle.event_core.specs.Log.{OuterRelease, Section}
 use Rattle.event_core.specs.Orderly.{Orderly}
@@ -149,7 +145,7 @@ section_of log u l r w o =
             record {
               opened = p.opened;
               of = of_does o.does;
-              from = (let b : p.index < r = p.below in omega arith);
+              from = omega arith;
               held = p.held;
             };
       },

@@ -5,10 +5,7 @@ use Rattle.std.proofs.lemmas.Bool.{cases_lt, cases_eq, cases_Bool, eq-eqb, eqb-t
 use Rattle.std.proofs.lemmas.Bool.{false_from_ne_true}
 use Rattle.std.proofs.lemmas.Option.{slice_get_within}
 use mathlib.Core.Logic.{inl, inr}
-use Rattle.event_core.specs.declared.ids.ThreadId.{ThreadId}
-use Rattle.event_core.specs.declared.ids.LockId.{LockId}
-use Rattle.event_core.specs.declared.events.Event.{Event}
-use Rattle.event_core.specs.declared.events.Op.TheVariants.{Acquire, Release}
+use Rattle.event_core.proofs.Words.{ThreadId, LockId, Event, Acquire, Release}
 use Rattle.event_core.specs.Log.{Does, Of, depth, acquires, releases, op_acquires, op_releases, OuterAcquire}
 use Rattle.event_core.specs.Log.{OuterRelease, Inside}
 use Rattle.event_core.specs.Orderly.{Orderly}
@@ -128,4 +125,4 @@ inside_from log u l a i w o of_i le none = record { opened = o; of = of_i; from 
 pub inside_to : (log : List Event) (u : ThreadId) (l : LockId) (a i k : ℕ) → Inside log u l a i → a < k
     → k < i → OuterRelease log k u l → ⊥
 inside_to log u l a i k h lt lt' r =
-    let up = h.held (suc k) (omega arith) lt' in let none = r.outer in omega arith
+    let up = h.held (suc k) (omega arith) lt' in omega arith

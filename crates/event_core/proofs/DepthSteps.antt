@@ -1,10 +1,6 @@
 -- How often each lock is held, after an event.
 use Rattle.std.proofs.Common.{◌≡◌, ℕ, ◌+◌, ◌-◌, List, [], ◌∷◌, ◌++◌, refl, sym, ap, subst, ◌∙◌, inl, inr, ◌⊎◌}
-use Rattle.event_core.specs.declared.ids.ThreadId.{ThreadId}
-use Rattle.event_core.specs.declared.ids.LockId.{LockId}
-use Rattle.event_core.specs.declared.events.Event.{Event}
-use Rattle.event_core.specs.declared.events.Op.{Op}
-use Rattle.event_core.specs.declared.events.Op.TheVariants.{Acquire, Release}
+use Rattle.event_core.proofs.Words.{ThreadId, LockId, Event, Op, Acquire, Release}
 use Rattle.event_core.specs.Log.{depth}
 use Rattle.event_core.specs.Orderly.{Orderly}
 use Rattle.event_core.specs.Rows.{with_row, depth_after}

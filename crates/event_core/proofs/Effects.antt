@@ -5,14 +5,8 @@ use Rattle.std.proofs.lemmas.Bool.{cases_eq, eq-eqb, ne_eqb, cond-true, cond-fal
 use Rattle.std.proofs.Math.Seq.{take-append_seam}
 use Rattle.std.proofs.lemmas.List.{take-append-le}
 use mathlib.Core.Logic.{inl, inr}
-use Rattle.event_core.specs.declared.ids.ThreadId.{ThreadId}
-use Rattle.event_core.specs.declared.ids.LockId.{LockId}
-use Rattle.event_core.specs.declared.ids.VarId.{VarId}
-use Rattle.event_core.specs.declared.events.AccessKind.{AccessKind}
-use Rattle.event_core.specs.declared.events.AccessKind.TheVariants.{Read, Write}
-use Rattle.event_core.specs.declared.events.Event.{Event}
-use Rattle.event_core.specs.declared.events.Op.{Op}
-use Rattle.event_core.specs.declared.events.Op.TheVariants.{Load, Store, Acquire, Release, Fork, Join}
+use Rattle.event_core.proofs.Words.{ThreadId, LockId, VarId, AccessKind, Read, Write, Event, Op, Load, Store}
+use Rattle.event_core.proofs.Words.{Acquire, Release, Fork, Join}
 use Rattle.event_core.specs.Log.{depth, acquires, releases, OuterAcquire, OuterRelease}
 use Rattle.event_core.specs.Orderly.{Orderly}
 use Rattle.event_core.specs.Refusal.{lock_at}

@@ -4,11 +4,7 @@ use Rattle.std.proofs.lemmas.Bool.{cases_order, eq-eqb, both_ways}
 use Rattle.std.proofs.lemmas.Map.Keys.{any_passes_from_place}
 use Rattle.std.specs.List.{list_any}
 use mathlib.Core.Logic.{inl, inr}
-use Rattle.event_core.specs.declared.ids.ThreadId.{ThreadId}
-use Rattle.event_core.specs.declared.events.Event.{Event}
-use Rattle.event_core.specs.declared.events.Op.TheVariants.{Join}
-use Rattle.event_core.specs.declared.bounds.Limits.{Limits}
-use Rattle.event_core.specs.declared.replies.Refusal.TheVariants.{Ended, SelfTarget}
+use Rattle.event_core.proofs.Words.{ThreadId, Event, Join, Limits, Ended, SelfTarget}
 use Rattle.event_core.specs.Log.{Does, Of}
 use Rattle.event_core.specs.Refusal.{joins, op_joins, WellFormed}
 use Rattle.event_core.proofs.LogFacts.{of_does, of_one}

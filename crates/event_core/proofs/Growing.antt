@@ -5,15 +5,8 @@ use Rattle.std.proofs.lemmas.Bool.{cases_eq, both_ways, or_left, or_right}
 use Rattle.std.proofs.lemmas.Map.Keys.{any_passes_from_place}
 use Rattle.std.proofs.lemmas.Option.{slice_get_within}
 use mathlib.Core.Logic.{inl, inr}
-use Rattle.event_core.specs.declared.ids.ThreadId.{ThreadId}
-use Rattle.event_core.specs.declared.ids.LockId.{LockId}
-use Rattle.event_core.specs.declared.events.Event.{Event}
-use Rattle.event_core.specs.declared.bounds.Limits.{Limits}
-use Rattle.event_core.specs.declared.bounds.Roots.{Roots}
-use Rattle.event_core.specs.declared.bounds.Roots.TheVariants.{OnlyMain, Free}
-use Rattle.event_core.specs.declared.replies.Refusal.TheVariants.{AlreadyStarted}
-use Rattle.event_core.specs.declared.events.Op.{Op}
-use Rattle.event_core.specs.declared.events.Op.TheVariants.{Release, Fork}
+use Rattle.event_core.proofs.Words.{ThreadId, LockId, Event, Limits, Roots, OnlyMain, Free, AlreadyStarted}
+use Rattle.event_core.proofs.Words.{Op, Release, Fork}
 use Rattle.event_core.specs.Log.{Does, Of, OuterRelease}
 use Rattle.event_core.specs.Order.{Hb, here}
 use Rattle.event_core.specs.Orderly.{Orderly}

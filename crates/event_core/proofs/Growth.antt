@@ -10,12 +10,7 @@ use Rattle.std.proofs.lemmas.Option.{slice_get_within}
 use Rattle.std.proofs.Math.Seq.{take-append_seam, take-length}
 use Rattle.std.specs.List.{list_any}
 use mathlib.Core.Logic.{inl, inr}
-use Rattle.event_core.specs.declared.ids.ThreadId.{ThreadId}
-use Rattle.event_core.specs.declared.events.Event.{Event}
-use Rattle.event_core.specs.declared.events.Call.{Call}
-use Rattle.event_core.specs.declared.bounds.Limits.{Limits}
-use Rattle.event_core.specs.declared.bounds.Roots.{Roots}
-use Rattle.event_core.specs.declared.bounds.Roots.TheVariants.{OnlyMain, Free}
+use Rattle.event_core.proofs.Words.{ThreadId, Event, Call, Limits, Roots, OnlyMain, Free}
 use Rattle.event_core.specs.declared.replies.Reply.{Reply}
 use Rattle.event_core.specs.declared.replies.Outcome.{Outcome}
 use Rattle.event_core.specs.declared.replies.Outcome.TheVariants.{Accepted, Refused}
@@ -100,7 +95,6 @@ run_is_unique m log (c ∷ cs) (a ∷ os') (b ∷ bs) x y p q =
     let q' : IsRun m (log_after log c a) cs bs y
     = subst (λ o. IsRun m (log_after log c o) cs bs y) (sym same) q.1 in
     let rest = run_is_unique m (log_after log c a) cs os' bs x y p.1 q' in
-    let tails : os' ≡ bs = rest.0 in
     (let whole : a ∷ os' ≡ b ∷ bs = cc in whole, rest.1)
 run_is_unique m log [] (a ∷ os') bs x y p q = absurd p
 run_is_unique m log (c ∷ cs) [] bs x y p q = absurd p

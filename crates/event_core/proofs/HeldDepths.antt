@@ -2,12 +2,7 @@
 use Rattle.std.proofs.Common.{◌≡◌, ◌<◌, List, [], ◌∷◌, ◌++◌, length, sym, ap, subst, ◌∙◌, arith, ◌⊎◌, ◌↔◌}
 use Rattle.std.proofs.Math.Seq.{take-append_seam}
 use mathlib.Core.Logic.{inl, inr}
-use Rattle.event_core.specs.declared.events.AccessKind.{AccessKind}
-use Rattle.event_core.specs.declared.events.Event.{Event}
-use Rattle.event_core.specs.declared.events.Op.TheVariants.{Acquire, Release}
-use Rattle.event_core.specs.declared.ids.LockId.{LockId}
-use Rattle.event_core.specs.declared.ids.ThreadId.{ThreadId}
-use Rattle.event_core.specs.declared.ids.VarId.{VarId}
+use Rattle.event_core.proofs.Words.{AccessKind, Event, Acquire, Release, LockId, ThreadId, VarId}
 use Rattle.event_core.specs.Log.{depth}
 use Rattle.event_core.specs.Orderly.{Orderly}
 use Rattle.event_core.specs.Effect.{Effect, Opens, Closes, access_of}

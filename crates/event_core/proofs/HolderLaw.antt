@@ -6,14 +6,8 @@ use Rattle.std.proofs.lemmas.List.{take-append-drop}
 use Rattle.std.proofs.Math.ListN.{drop}
 use Rattle.std.proofs.Math.Seq.{take-length}
 use Rattle.std.specs.List.{list_any}
-use Rattle.event_core.specs.declared.ids.ThreadId.{ThreadId}
-use Rattle.event_core.specs.declared.ids.LockId.{LockId}
-use Rattle.event_core.specs.declared.events.Event.{Event}
-use Rattle.event_core.specs.declared.events.Call.{Call}
-use Rattle.event_core.specs.declared.events.Op.TheVariants.{Acquire, Release}
-use Rattle.event_core.specs.declared.bounds.Limits.{Limits}
-use Rattle.event_core.specs.declared.replies.Refusal.TheVariants.{ThreadRange, NotStarted, Ended, TargetRange}
-use Rattle.event_core.specs.declared.replies.Refusal.TheVariants.{NotHolder}
+use Rattle.event_core.proofs.Words.{ThreadId, LockId, Event, Call, Acquire, Release, Limits, ThreadRange}
+use Rattle.event_core.proofs.Words.{NotStarted, Ended, TargetRange, NotHolder}
 use Rattle.event_core.specs.Log.{depth}
 use Rattle.event_core.specs.Refusal.{refusal, first_of, when, holder, is_holder, joins, forked, WellFormed}
 use Rattle.event_core.proofs.Depth.{Opener, opener}

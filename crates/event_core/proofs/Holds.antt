@@ -7,13 +7,8 @@ use Rattle.std.proofs.lemmas.Bool.{cond-true, cond-false, false_from_ne_true}
 use Rattle.std.proofs.lemmas.List.Sums.{sum_by-cons}
 use Rattle.std.proofs.Math.Seq.{take-length}
 use mathlib.Core.Logic.{inl, inr}
-use Rattle.event_core.specs.declared.ids.ThreadId.{ThreadId}
-use Rattle.event_core.specs.declared.ids.LockId.{LockId}
-use Rattle.event_core.specs.declared.events.Event.{Event}
-use Rattle.event_core.specs.declared.bounds.Limits.{Limits}
-use Rattle.event_core.specs.declared.replies.Refusal.TheVariants.{TargetRange, LogFull}
-use Rattle.event_core.specs.declared.events.Op.{Op}
-use Rattle.event_core.specs.declared.events.Op.TheVariants.{Acquire, Release}
+use Rattle.event_core.proofs.Words.{ThreadId, LockId, Event, Limits, TargetRange, LogFull, Op, Acquire}
+use Rattle.event_core.proofs.Words.{Release}
 use Rattle.event_core.specs.Log.{depth, op_acquires}
 use Rattle.event_core.specs.Refusal.{open_acquires, op_is_acquire, op_is_release, last_acquirer, holder}
 use Rattle.event_core.specs.Refusal.{held_by, held, in_range, depth_by, lock_depth, lock_at, sum_locks}

@@ -11,17 +11,9 @@ use Rattle.std.proofs.lemmas.Option.{cond_some, option_and_then_some}
 use Rattle.std.specs.List.{list_any}
 use Rattle.std.specs.Option.{option_or}
 use mathlib.Core.Logic.{inl, inr}
-use Rattle.event_core.specs.declared.ids.ThreadId.{ThreadId}
-use Rattle.event_core.specs.declared.ids.LockId.{LockId}
-use Rattle.event_core.specs.declared.events.Event.{Event}
-use Rattle.event_core.specs.declared.bounds.Limits.{Limits}
-use Rattle.event_core.specs.declared.bounds.Roots.{Roots}
-use Rattle.event_core.specs.declared.bounds.Roots.TheVariants.{OnlyMain, Free}
-use Rattle.event_core.specs.declared.replies.Refusal.{Refusal}
-use Rattle.event_core.specs.declared.replies.Refusal.TheVariants.{ThreadRange, NotStarted, Ended, TargetRange}
-use Rattle.event_core.specs.declared.replies.Refusal.TheVariants.{Held, NotHolder, SelfTarget, AlreadyStarted}
-use Rattle.event_core.specs.declared.events.Op.{Op}
-use Rattle.event_core.specs.declared.events.Op.TheVariants.{Acquire, Release, Fork}
+use Rattle.event_core.proofs.Words.{ThreadId, LockId, Event, Limits, Roots, OnlyMain, Free, Refusal}
+use Rattle.event_core.proofs.Words.{ThreadRange, NotStarted, Ended, TargetRange, Held, NotHolder, SelfTarget}
+use Rattle.event_core.proofs.Words.{AlreadyStarted, Op, Acquire, Release, Fork}
 use Rattle.event_core.specs.Log.{Does, Of, depth, acquires, op_acquires}
 use Rattle.event_core.specs.Refusal.{refusal, reasons, first_of, when, held, held_by, holder, is_holder}
 use Rattle.event_core.specs.Refusal.{last_acquirer, not_holder, self_target, already_started, known, forked}

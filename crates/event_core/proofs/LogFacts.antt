@@ -2,11 +2,7 @@
 use Rattle.std.proofs.Common.{◌≡◌, ℕ, suc, ◌<◌, ◌≤◌, List, Some, sym, subst, ◌∙◌, arith, take}
 use Rattle.std.proofs.lemmas.Bool.{cases_lt}
 use mathlib.Core.Logic.{inl, inr}
-use Rattle.event_core.specs.declared.ids.ThreadId.{ThreadId}
-use Rattle.event_core.specs.declared.ids.LockId.{LockId}
-use Rattle.event_core.specs.declared.events.Event.{Event}
-use Rattle.event_core.specs.declared.events.Op.{Op}
-use Rattle.event_core.specs.declared.events.Op.TheVariants.{Acquire, Release}
+use Rattle.event_core.proofs.Words.{ThreadId, LockId, Event, Op, Acquire, Release}
 use Rattle.event_core.specs.Log.{Does, Of, depth, Inside, Section}
 use Rattle.event_core.specs.Orderly.{Orderly}
 

@@ -2,11 +2,7 @@
 use Rattle.std.proofs.Common.{◌≡◌, ℕ, ◌<◌, ◌≤◌, List, refl, ap, subst, arith}
 use Rattle.std.proofs.lemmas.Bool.{cases_order}
 use mathlib.Core.Logic.{inl, inr}
-use Rattle.event_core.specs.declared.ids.ThreadId.{ThreadId}
-use Rattle.event_core.specs.declared.ids.LockId.{LockId}
-use Rattle.event_core.specs.declared.events.Event.{Event}
-use Rattle.event_core.specs.declared.replies.Verdict.{Verdict}
-use Rattle.event_core.specs.declared.replies.Verdict.TheVariants.{Clear, Racy}
+use Rattle.event_core.proofs.Words.{ThreadId, LockId, Event, Verdict, Clear, Racy}
 use Rattle.event_core.specs.Verdict.{IsVerdict}
 use Rattle.event_core.specs.Log.{Of, Section, InSection}
 use Rattle.event_core.specs.Order.{here, lock, Po, Hb}
@@ -54,7 +50,7 @@ one_acquire {log = log} {u = u} {v = v} {l = l} {a = a} {b = b} {r = r} p q = el
 
     apart : (c d : ℕ) → Section log u l c r → Section log u l d r → c < d → ⊥
     apart c d x y lt =
-        let h = x.inside.held d lt y.inside.from in let z = y.inside.opened.outer in omega arith
+        let h = x.inside.held d lt y.inside.from in omega arith
 
 -- the premise of rule (b), as one pair
 pub premise_from : {log : List Event} {u v : ThreadId} {l : LockId} {a r b s : ℕ} → Section log u l a r

@@ -2,10 +2,7 @@
 use Rattle.std.proofs.Common.{◌≡◌, ℕ, ◌<◌, ◌≤◌, List, refl, subst, arith, ◌⊎◌}
 use Rattle.std.proofs.lemmas.Bool.{cases_lt}
 use mathlib.Core.Logic.{inl, inr}
-use Rattle.event_core.specs.declared.ids.ThreadId.{ThreadId}
-use Rattle.event_core.specs.declared.ids.LockId.{LockId}
-use Rattle.event_core.specs.declared.events.Event.{Event}
-use Rattle.event_core.specs.declared.events.Op.TheVariants.{Fork, Join}
+use Rattle.event_core.proofs.Words.{ThreadId, LockId, Event, Fork, Join}
 use Rattle.event_core.specs.Log.{Does, Of, OuterAcquire, OuterRelease}
 use Rattle.event_core.specs.Order.{here, step, same_thread, fork_to_event, fork_to_join, event_to_join}
 use Rattle.event_core.specs.Order.{HbEdge, program, lock, Hb}

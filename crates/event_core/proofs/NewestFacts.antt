@@ -3,10 +3,7 @@ use Rattle.std.proofs.Common.{◌≡◌, ℕ, ◌<◌, ◌+◌, List, [], ◌∷
 use Rattle.std.proofs.Common.{refl}
 use Rattle.std.proofs.lemmas.Option.{slice_get_within}
 use mathlib.Core.Logic.{inl, inr}
-use Rattle.event_core.specs.declared.ids.ThreadId.{ThreadId}
-use Rattle.event_core.specs.declared.ids.LockId.{LockId}
-use Rattle.event_core.specs.declared.events.Event.{Event}
-use Rattle.event_core.specs.declared.events.Op.TheVariants.{Release}
+use Rattle.event_core.proofs.Words.{ThreadId, LockId, Event, Release}
 use Rattle.event_core.specs.Log.{OuterRelease}
 use Rattle.event_core.specs.Order.{here}
 use Rattle.event_core.specs.Wcp.{Strict, rule_a, rule_b, rule_c_left, rule_c_right}

@@ -5,12 +5,7 @@ use Rattle.std.proofs.lemmas.Bool.{and_from, and_parts, or_left, or_right, or_ca
 use Rattle.std.proofs.lemmas.Option.{slice_get_within}
 use Rattle.std.specs.Prelude.{IsTrue}
 use mathlib.Core.Logic.{inl, inr}
-use Rattle.event_core.specs.declared.events.AccessKind.{AccessKind}
-use Rattle.event_core.specs.declared.events.Event.{Event}
-use Rattle.event_core.specs.declared.events.Op.TheVariants.{Release}
-use Rattle.event_core.specs.declared.ids.LockId.{LockId}
-use Rattle.event_core.specs.declared.ids.ThreadId.{ThreadId}
-use Rattle.event_core.specs.declared.ids.VarId.{VarId}
+use Rattle.event_core.proofs.Words.{AccessKind, Event, Release, LockId, ThreadId, VarId}
 use Rattle.event_core.specs.Closed.{Noted}
 use Rattle.event_core.specs.Log.{depth}
 use Rattle.event_core.specs.Orderly.{Orderly}
@@ -45,7 +40,7 @@ module _ (log : List Event) (e : Event) (ord : Orderly (log ++ e ∷ [])) where
     | inl at ↦ inl (record {
       acquire = n.acquire;
       is_open = open_old log e ord t l n.acquire n.is_open
-          (let from : n.acquire ≤ n.access = n.from in omega arith);
+          (omega arith);
       access = n.access;
       from = n.from;
       does = does (back (longer log (e ∷ []))) at n.does;

@@ -3,10 +3,7 @@ use Rattle.std.proofs.Common.{◌≡◌, ℕ, ◌+◌, ◌-◌, List, [], ◌∷
 use Rattle.std.proofs.Common.{subst, ◌∙◌, arith, take}
 use Rattle.std.proofs.Math.Seq.{take-append_seam}
 use mathlib.Core.Logic.{inl, inr}
-use Rattle.event_core.specs.declared.events.Event.{Event}
-use Rattle.event_core.specs.declared.events.Op.TheVariants.{Acquire, Release}
-use Rattle.event_core.specs.declared.ids.LockId.{LockId}
-use Rattle.event_core.specs.declared.ids.ThreadId.{ThreadId}
+use Rattle.event_core.proofs.Words.{Event, Acquire, Release, LockId, ThreadId}
 use Rattle.event_core.specs.Closed.{Open, OpensSection, EndsSection}
 use Rattle.event_core.specs.Count.{events_of}
 use Rattle.event_core.specs.Log.{depth}

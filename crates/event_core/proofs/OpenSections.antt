@@ -5,10 +5,7 @@ use Rattle.std.proofs.Math.Seq.{take-length}
 use Rattle.std.proofs.lemmas.Bool.{cases_lt, cond-true, eq-eqb}
 use Rattle.std.proofs.lemmas.Option.{slice_get_within}
 use mathlib.Core.Logic.{inl, inr}
-use Rattle.event_core.specs.declared.events.Event.{Event}
-use Rattle.event_core.specs.declared.events.Op.TheVariants.{Acquire, Release}
-use Rattle.event_core.specs.declared.ids.LockId.{LockId}
-use Rattle.event_core.specs.declared.ids.ThreadId.{ThreadId}
+use Rattle.event_core.proofs.Words.{Event, Acquire, Release, LockId, ThreadId}
 use Rattle.event_core.specs.Closed.{Open, EndsSection}
 use Rattle.event_core.specs.Log.{Does, depth, OuterRelease, Section}
 use Rattle.event_core.specs.Orderly.{Orderly}

@@ -6,14 +6,8 @@ use Rattle.std.proofs.lemmas.Option.{slice_get_within}
 use Rattle.std.proofs.Math.Seq.{take-length}
 use Rattle.std.specs.Prelude.{IsTrue}
 use mathlib.Core.Logic.{inl, inr}
-use Rattle.event_core.specs.declared.events.AccessKind.{AccessKind}
-use Rattle.event_core.specs.declared.events.AccessKind.TheVariants.{Read, Write}
-use Rattle.event_core.specs.declared.events.Event.{Event}
-use Rattle.event_core.specs.declared.events.Op.{Op}
-use Rattle.event_core.specs.declared.events.Op.TheVariants.{Load, Store, Release}
-use Rattle.event_core.specs.declared.ids.LockId.{LockId}
-use Rattle.event_core.specs.declared.ids.ThreadId.{ThreadId}
-use Rattle.event_core.specs.declared.ids.VarId.{VarId}
+use Rattle.event_core.proofs.Words.{AccessKind, Read, Write, Event, Op, Load, Store, Release, LockId}
+use Rattle.event_core.proofs.Words.{ThreadId, VarId}
 use Rattle.event_core.specs.Closed.{Noted, OtherSection, Others}
 use Rattle.event_core.specs.Log.{Does, depth, OuterRelease, Section, InSection, OpsConflict}
 use Rattle.event_core.specs.Order.{Hb}
@@ -87,7 +81,7 @@ module _ (log : List Event) (e : Event) where
           subst (λ q. Does log m.access s.thread q) c.1
           (subst (λ v. Does log m.access v m.conflict.first) by
           (does (back (longer log (e ∷ [])))
-          (let to : m.access ≤ r = s.to in let lt : r < length log = m.before in omega arith)
+          (let to : m.access ≤ r = s.to in omega arith)
           m.conflict.does_first));
     },
   )
@@ -208,7 +202,7 @@ module _ (log : List Event) (e : Event) (ord : Orderly (log ++ e ∷ [])) where
       access = q.access;
       from = q.from;
       to = q.to;
-      does = does (back (longer log (e ∷ []))) (let to : q.access ≤ r = q.to in omega arith) q.does;
+      does = does (back (longer log (e ∷ []))) (omega arith) q.does;
     })
     | inr at ↦
         let th = last_thread log e r q.thread at (of_does q.section.closed.does) in

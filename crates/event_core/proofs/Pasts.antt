@@ -2,9 +2,7 @@
 use Rattle.std.proofs.Common.{ℕ, ◌<◌, List, [], ◌∷◌, ◌++◌, length, ◌⊎◌, inl, inr}
 use Rattle.std.proofs.lemmas.Bool.{cases_lt}
 use Rattle.std.proofs.lemmas.Option.{slice_get_within}
-use Rattle.event_core.specs.declared.ids.ThreadId.{ThreadId}
-use Rattle.event_core.specs.declared.events.Event.{Event}
-use Rattle.event_core.specs.declared.events.Op.TheVariants.{Fork}
+use Rattle.event_core.proofs.Words.{ThreadId, Event, Fork}
 use Rattle.event_core.specs.Count.{Counts, Past}
 use Rattle.event_core.specs.Log.{Does, Of}
 use Rattle.event_core.specs.Order.{Po, fork_to_event}

@@ -1,10 +1,8 @@
 -- Runs of calls and of acts: each has one, and it ends in a well-formed log.
 use Rattle.std.proofs.Common.{◌≡◌, List, [], ◌∷◌, length, ◌+◌, refl, sym, ap, subst, ◌∙◌, Some, None}
-use Rattle.event_core.specs.declared.events.Event.{Event}
-use Rattle.event_core.specs.declared.events.Call.{Call}
+use Rattle.event_core.proofs.Words.{Event, Call, Limits}
 use Rattle.event_core.specs.declared.events.Act.{Act}
 use Rattle.event_core.specs.declared.events.Act.TheVariants.{One, Swap}
-use Rattle.event_core.specs.declared.bounds.Limits.{Limits}
 use Rattle.event_core.specs.declared.replies.SwapReply.{SwapReply}
 use Rattle.event_core.specs.declared.replies.Outcome.{Outcome}
 use Rattle.event_core.specs.declared.replies.Outcome.TheVariants.{Accepted, Refused}
@@ -97,7 +95,6 @@ act_run_is_unique m log (a ∷ acts) (d ∷ ds) (e ∷ es) x y p q =
     let q' : IsActRun m (log_after_act log a d) acts es y
     = subst (λ o. IsActRun m (log_after_act log a o) acts es y) (sym same) q.1 in
     let rest = act_run_is_unique m (log_after_act log a d) acts ds es x y p.1 q' in
-    let tails : ds ≡ es = rest.0 in
     (let whole : d ∷ ds ≡ e ∷ es = cc in whole, rest.1)
 act_run_is_unique m log [] (d ∷ ds) es x y p q = absurd p
 act_run_is_unique m log (a ∷ acts) [] es x y p q = absurd p

@@ -7,9 +7,7 @@ use Rattle.std.proofs.lemmas.Option.{slice_get_within}
 use Rattle.std.proofs.lemmas.List.{take-append-le, append-nil, take-take}
 use Rattle.std.proofs.Math.Seq.{take-append_seam, take-length}
 use mathlib.Core.Logic.{inl, inr}
-use Rattle.event_core.specs.declared.ids.ThreadId.{ThreadId}
-use Rattle.event_core.specs.declared.ids.LockId.{LockId}
-use Rattle.event_core.specs.declared.events.Event.{Event}
+use Rattle.event_core.proofs.Words.{ThreadId, LockId, Event}
 use Rattle.event_core.specs.Log.{depth, op_releases, OuterRelease}
 use Rattle.event_core.specs.Closed.{ends, ended_after, ended, number_of}
 use Rattle.event_core.specs.LogLaws.{SectionsAreNumbered}

@@ -4,9 +4,7 @@ use Rattle.std.proofs.Common.{length, sym, ap, subst, ◌∙◌, arith, take}
 use Rattle.std.proofs.lemmas.Bool.{cases_lt, cases_Bool, leb-true, le-leb, cond-true, cond-false}
 use Rattle.std.proofs.lemmas.Option.{slice_get_within}
 use mathlib.Core.Logic.{inl, inr}
-use Rattle.event_core.specs.declared.events.Event.{Event}
-use Rattle.event_core.specs.declared.ids.LockId.{LockId}
-use Rattle.event_core.specs.declared.ids.ThreadId.{ThreadId}
+use Rattle.event_core.proofs.Words.{Event, LockId, ThreadId}
 use Rattle.event_core.specs.Closed.{Closed, EndsSection, IsClosed, Open, is_counted, number_counted}
 use Rattle.event_core.specs.Count.{events_of, Past}
 use Rattle.event_core.specs.Log.{Of, Section}
@@ -34,7 +32,6 @@ pub counts_acquire : (log : List Event) (c : ℕ → ℕ) (u : ThreadId) (l : Lo
 counts_acquire log c u l a r q is h =
     let le : q.position ≤ c q.thread = leb-true q.position (c q.thread) h in
     let same : c q.thread ≡ c u.0 = ap c is.thread in
-    let at : q.position ≡ events_of (take a log) u + 1 = is.position in
     omega arith
 
 pub acquire_counted : (log : List Event) (c : ℕ → ℕ) (u : ThreadId) (l : LockId) (a r : ℕ) (q : Closed)

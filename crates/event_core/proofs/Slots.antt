@@ -1,8 +1,7 @@
 -- A slot of the log is kept for the release of each open acquire.
 use Rattle.std.proofs.Common.{ℕ, ◌≤◌, ◌+◌, List, length, arith, take, count_by}
 use Rattle.std.proofs.Math.Seq.{length-take-le}
-use Rattle.event_core.specs.declared.events.Event.{Event}
-use Rattle.event_core.specs.declared.bounds.Limits.{Limits}
+use Rattle.event_core.proofs.Words.{Event, Limits}
 use Rattle.event_core.specs.Refusal.{open_acquires, op_is_acquire, op_is_release, WellFormed}
 use Rattle.event_core.proofs.Growth.{formed_take}
 use Rattle.event_core.proofs.Holds.{balanced, depths_are_open}

@@ -3,12 +3,7 @@ use Rattle.std.proofs.Common.{◌≡◌, ℕ, suc, ◌<◌, ◌≤◌, List, ◌
 use Rattle.std.proofs.Common.{arith, take, slice_get}
 use Rattle.std.proofs.lemmas.List.{take-append-le}
 use mathlib.Core.Logic.{inl, inr}
-use Rattle.event_core.specs.declared.ids.ThreadId.{ThreadId}
-use Rattle.event_core.specs.declared.ids.LockId.{LockId}
-use Rattle.event_core.specs.declared.events.Event.{Event}
-use Rattle.event_core.specs.declared.events.Op.{Op}
-use Rattle.event_core.specs.declared.replies.Verdict.{Verdict}
-use Rattle.event_core.specs.declared.replies.Verdict.TheVariants.{Clear, Racy}
+use Rattle.event_core.proofs.Words.{ThreadId, LockId, Event, Op, Verdict, Clear, Racy}
 use Rattle.event_core.specs.Log.{Does, Of, depth, OuterAcquire, OuterRelease, Inside, Section, InSection}
 use Rattle.event_core.specs.Log.{Conflict}
 use Rattle.event_core.specs.Order.{here, step, ProgramEdge, same_thread, fork_to_event, fork_to_join}
@@ -62,7 +57,7 @@ releases_it {i = i} {u = u} {l = l} a lt d =
 pub inside : {n : ℕ} {log other : List Event} {b i : ℕ} {u : ThreadId} {l : LockId} → Agree n log other
     → i < n → Inside log u l b i → Inside other u l b i
 inside {b = b} {u = u} {l = l} a lt d = record {
-  opened = acquire a (let le : b ≤ _ = d.from in omega arith) d.opened;
+  opened = acquire a (omega arith) d.opened;
   of = of a lt d.of;
   from = d.from;
   held = λ k c e. subst (λ xs. 0 < depth xs u l) (a.fronts k (omega arith)) (d.held k c e);
@@ -78,7 +73,7 @@ in_section {r = r} {i = i} a lt s = record {
   thread = s.thread;
   acquire = s.acquire;
   section = section_too a lt s.section;
-  of = of a (let le : i ≤ r = s.to in omega arith) s.of;
+  of = of a (omega arith) s.of;
   from = s.from;
   to = s.to;
 }
@@ -100,7 +95,6 @@ pub meets : {n : ℕ} {log other : List Event} {r j : ℕ} → Agree n log other
     → Meets other r j
 meets {n = n} {r = r} {j = j} a lt m =
     let before : r < j = m.before in
-    let to : m.access ≤ r = m.in_section.to in
     record {
       before = m.before;
       lock = m.lock;
@@ -140,7 +134,6 @@ pub strict_too : {n : ℕ} {log other : List Event} {i j : ℕ} → Agree n log 
     → Strict other i j
 strict_too a lt (rule_a m) = rule_a (meets a lt m)
 strict_too a lt (rule_b {s = s} {f = f} l b p q d) =
-    let to : f ≤ s = q.to in
     rule_b l b (in_section a (omega arith) p) (in_section a lt q) (strict_too a (omega arith) d)
 strict_too a lt (rule_c_left {g = g} {j = j} h d) =
     let b : g < j = strict_forward d in rule_c_left (hb_too a (omega arith) h) (strict_too a lt d)

@@ -5,16 +5,8 @@ use Rattle.std.proofs.lemmas.Bool.{leb-true, leb-false, le-leb, lt-leb, not-true
 use Rattle.std.proofs.lemmas.List.Folds.{list_any-append}
 use Rattle.std.specs.List.{list_any}
 use mathlib.Core.Logic.{inl, inr}
-use Rattle.event_core.specs.declared.ids.ThreadId.{ThreadId}
-use Rattle.event_core.specs.declared.ids.VarId.{VarId}
-use Rattle.event_core.specs.declared.ids.SiteId.{SiteId}
-use Rattle.event_core.specs.declared.events.Event.{Event}
-use Rattle.event_core.specs.declared.events.Call.{Call}
-use Rattle.event_core.specs.declared.events.Op.TheVariants.{Load, Store}
-use Rattle.event_core.specs.declared.bounds.Limits.{Limits}
-use Rattle.event_core.specs.declared.replies.Refusal.{Refusal}
-use Rattle.event_core.specs.declared.replies.Refusal.TheVariants.{ThreadRange, NotStarted, Ended, TargetRange}
-use Rattle.event_core.specs.declared.replies.Refusal.TheVariants.{LogFull}
+use Rattle.event_core.proofs.Words.{ThreadId, VarId, SiteId, Event, Call, Load, Store, Limits, Refusal}
+use Rattle.event_core.proofs.Words.{ThreadRange, NotStarted, Ended, TargetRange, LogFull}
 use Rattle.event_core.specs.Refusal.{refusal, first_of, when, forked, joins, in_range, held_depths}
 use Rattle.event_core.specs.Refusal.{open_acquires, op_is_acquire, op_is_release, Legal, WellFormed}
 use Rattle.event_core.specs.Steps.{MayFollow}
@@ -69,75 +61,57 @@ access_chain m log u x n =
     (not (in_range m (Load x)))
     (lacks m log n)
 
-swap_chain : (m : Limits) (log : List Event) (u : ThreadId) (x : VarId)
-    → swap_refusal m log u x ≡ access_chain m log u x 2
-unfolding swap_refusal access_chain
-swap_chain m log u x = refl
-
-load_chain : (m : Limits) (log : List Event) (u : ThreadId) (x : VarId) (site : SiteId)
-    → refusal m log (load_call u x site) ≡ access_chain m log u x 1
-unfolding refusal access_chain
-load_chain m log u x site = refl
-
 pub swap_as_load : (m : Limits) (log : List Event) (u : ThreadId) (x : VarId) (site : SiteId) (r : Refusal)
     → (r ≡ LogFull → ⊥) → swap_refusal m log u x ≡ Some r → refusal m log (load_call u x site) ≡ Some r
-unfolding access_chain
+unfolding access_chain refusal swap_refusal
 swap_as_load m log u x site r n h =
-    load_chain m log u x site ∙ same_reason _ _ _ _ _ (lacks m log 1) r n (sym (swap_chain m log u x) ∙ h)
+    let c : access_chain m log u x 2 ≡ Some r = h in same_reason _ _ _ _ _ (lacks m log 1) r n c
 
 pub load_as_swap : (m : Limits) (log : List Event) (u : ThreadId) (x : VarId) (site : SiteId) (r : Refusal)
     → (r ≡ LogFull → ⊥) → refusal m log (load_call u x site) ≡ Some r → swap_refusal m log u x ≡ Some r
-unfolding access_chain
+unfolding access_chain refusal swap_refusal
 load_as_swap m log u x site r n h =
-    swap_chain m log u x ∙ same_reason _ _ _ _ _ (lacks m log 2) r n (sym (load_chain m log u x site) ∙ h)
+    let c : access_chain m log u x 1 ≡ Some r = h in same_reason _ _ _ _ _ (lacks m log 2) r n c
 
 pub swap_allowed : (m : Limits) (log : List Event) (u : ThreadId) (x : VarId) (site : SiteId)
     → swap_refusal m log u x ≡ None
     → (refusal m log (load_call u x site) ≡ None) × (length log + held_depths m log + 2 ≤ m.events)
-unfolding access_chain
+unfolding access_chain refusal swap_refusal
 swap_allowed m log u x site h =
-    let c : access_chain m log u x 2 ≡ None = sym (swap_chain m log u x) ∙ h in
+    let c : access_chain m log u x 2 ≡ None = h in
     let p = none_parts _ _ _ _ _ c in
     let room : length log + held_depths m log + 2 ≤ m.events = leb-true _ _ (not-false _ p.4) in
     let one : lacks m log 1 ≡ false
     = ap not (le-leb (length log + held_depths m log + 1) m.events (omega arith)) in
-    (load_chain m log u x site ∙ none_again _ _ _ _ _ (lacks m log 1) c one, room)
+    (none_again _ _ _ _ _ (lacks m log 1) c one, room)
 
 pub swap_if_room : (m : Limits) (log : List Event) (u : ThreadId) (x : VarId) (site : SiteId)
     → refusal m log (load_call u x site) ≡ None → length log + held_depths m log + 2 ≤ m.events
     → swap_refusal m log u x ≡ None
-unfolding access_chain
+unfolding access_chain refusal swap_refusal
 swap_if_room m log u x site h room =
-    let c : access_chain m log u x 1 ≡ None = sym (load_chain m log u x site) ∙ h in
-    swap_chain m log u x ∙ none_again _ _ _ _ _ (lacks m log 2) c (ap not (le-leb _ _ room))
+    let c : access_chain m log u x 1 ≡ None = h in
+    none_again _ _ _ _ _ (lacks m log 2) c (ap not (le-leb _ _ room))
 
 pub swap_full : (m : Limits) (log : List Event) (u : ThreadId) (x : VarId) (site : SiteId)
     → swap_refusal m log u x ≡ Some LogFull
     → ((refusal m log (load_call u x site) ≡ None) ⊎ (refusal m log (load_call u x site) ≡ Some LogFull))
     × (m.events < length log + held_depths m log + 2)
-unfolding access_chain
-swap_full m log u x site h = (go p.1, leb-false _ _ (not-true _ p.0))
-  where
-    p : (lacks m log 2 ≡ true)
-        × ((access_chain m log u x 1 ≡ None) ⊎ (access_chain m log u x 1 ≡ Some LogFull))
-    p = full_parts _ _ _ _ _ (lacks m log 1) (sym (swap_chain m log u x) ∙ h)
-
-    go : (access_chain m log u x 1 ≡ None) ⊎ (access_chain m log u x 1 ≡ Some LogFull)
-        → (refusal m log (load_call u x site) ≡ None) ⊎ (refusal m log (load_call u x site) ≡ Some LogFull)
-    go (inl n) = inl (load_chain m log u x site ∙ n)
-    go (inr f) = inr (load_chain m log u x site ∙ f)
+unfolding access_chain refusal swap_refusal
+swap_full m log u x site h =
+    let c : access_chain m log u x 2 ≡ Some LogFull = h in
+    let p = full_parts _ _ _ _ _ (lacks m log 1) c in
+    (p.1, leb-false _ _ (not-true _ p.0))
 
 pub swap_full_from : (m : Limits) (log : List Event) (u : ThreadId) (x : VarId) (site : SiteId)
     → (refusal m log (load_call u x site) ≡ None) ⊎ (refusal m log (load_call u x site) ≡ Some LogFull)
     → m.events < length log + held_depths m log + 2 → swap_refusal m log u x ≡ Some LogFull
-unfolding access_chain
+unfolding access_chain refusal swap_refusal
 swap_full_from m log u x site s short =
-    swap_chain m log u x ∙ full_from _ _ _ _ _ (lacks m log 1) (go s) (ap not (lt-leb _ _ short))
-  where
-    go : (refusal m log (load_call u x site) ≡ None) ⊎ (refusal m log (load_call u x site) ≡ Some LogFull)
-        → (access_chain m log u x 1 ≡ None) ⊎ (access_chain m log u x 1 ≡ Some LogFull)
-    go (inl n) = inl (sym (load_chain m log u x site) ∙ n)
-    go (inr f) = inr (sym (load_chain m log u x site) ∙ f)
+    let c : (access_chain m log u x 1 ≡ None) ⊎ (access_chain m log u x 1 ≡ Some LogFull) = s in
+    let full : access_chain m log u x 2 ≡ Some LogFull
+    = full_from _ _ _ _ _ (lacks m log 1) c (ap not (lt-leb _ _ short)) in
+    full
 
 -- a load opens and closes nothing
 load_opens : (log : List Event) (u : ThreadId) (x : VarId) (site : SiteId)
@@ -178,7 +152,7 @@ swap_legal m log u x site arg w h = (first, (second, tt))
     second = record { call = store_call; allowed = allowed; is = refl }
       where
         c : access_chain m log u x 1 ≡ None
-        c = sym (load_chain m log u x site) ∙ p.0
+        c = p.0
 
         parts : (nat_le m.threads u.0 ≡ false) × (not (forked m.roots log u) ≡ false)
             × (list_any (joins u) log ≡ false) × (not (in_range m (Load x)) ≡ false) × (lacks m log 1 ≡ false)
