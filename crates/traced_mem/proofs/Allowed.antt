@@ -109,11 +109,11 @@ step_fits t u o inv small h = record {
     deep l n = (holder_of (lock_at t.locks l.0) u (release_holder (meaning t) u l n)).0
 
     held : (l : LockId) → not_holder_at (meaning t) u (Release l) ≡ None → 0 < t.holds
-    held l n = let p = deep l n in let q = depth_total t.locks l.0 in let s = inv.sum in omega arith
+    held l n = let p = deep l n in let q = depth_total t.locks l.0 in omega arith
 
     depth : (o : Op) → Allowed t.limits (meaning t) u o → DepthFits t.locks o
     depth (Acquire l) a = let p = acquire_fits t.limits (meaning t) l a.fits in let q =
-        depth_total t.locks l.0 in let s = inv.sum in omega arith
+        depth_total t.locks l.0 in omega arith
     depth (Release l) a = deep l a.holds
     depth _ a = tt
 

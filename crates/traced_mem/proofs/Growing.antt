@@ -60,18 +60,17 @@ pub ready_grown : (old new : Tables) → Grown old.threads new.threads → lengt
     → old.room ≤ new.room
     → (u : ThreadId) (o : Op) → IsReady old u o → IsReady new u o
 ready_grown old new g ls cs u o r =
-    record { caller = (let a = r.caller in let b = g.more in omega arith); room = room o r.room }
+    record { caller = (let a = r.caller in omega arith); room = room o r.room }
   where
     room : (o : Op) → HasRoom old.threads (length old.locks) old.room u o
         → HasRoom new.threads (length new.locks) new.room u o
     room (Load x) h = tt
     room (Acquire l) h = (
-      let a = h.0 in omega arith,
-      let a = h.1 in
+      omega arith,
           let b = g.capacity u.0 in
           let e : length (thread_at new.threads u.0).held.items
           ≡ length (thread_at old.threads u.0).held.items
           = ap (λ (f : ℕ → Thread). length (f u.0).held) g.rows in
           omega arith,
     )
-    room _ h = let b = g.more in omega arith
+    room _ h = omega arith

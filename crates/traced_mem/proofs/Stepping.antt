@@ -111,15 +111,14 @@ pub still_ready : (old new : Tables) (locks : ℕ → Lock) (c : ThreadId) (p : 
     (updated c.0 (mentioned_again (threads_of old.threads c.0)) (threads_of old.threads))
     → IsReady old u o → IsReady new u o
 still_ready old new locks c p u o free ts ls cs caps rows r =
-    record { caller = (let a = r.caller in omega arith); room = room o free r.room }
+    record { caller = omega arith; room = room o free r.room }
   where
     room : (o : Op) → takes_place c p u o ≡ false
         → HasRoom old.threads (length old.locks) old.room u o
         → HasRoom new.threads (length new.locks) new.room u o
     room (Load x) free h = tt
     room (Acquire l) free h = (
-      let a = h.0 in omega arith,
-      let a = h.1 in
+      omega arith,
           let b = caps u.0 in
           let e : length (thread_at new.threads u.0).held.items
           ≡ length (threads_after c p locks
