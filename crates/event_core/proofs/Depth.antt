@@ -175,7 +175,6 @@ release_cases log l k = go (slice_get log k) refl
 
     test : (x : Event) → slice_get log k ≡ Some x → Yes → closes x ≡ true
     test x e h =
-        let same : Some x ≡ Some h.1.does.event = sym e ∙ h.1.does.at in
         let op : h.1.does.event.op ≡ Release l = h.1.does.does in
         let thread : h.1.does.event.thread ≡ h.0 = h.1.does.thread in
         let op' : x.op ≡ Release l = cc in

@@ -34,7 +34,6 @@ pub not_both : (u : ThreadId) (l : LockId) (e : Event) → acquires u l e ≡ tr
 not_both u l e a = false_from_ne_true _ (λ r.
     let p = (acquires_is u l e a).1 in
     let q = (releases_is u l e r).1 in
-    let clash : Acquire l ≡ Release l = sym p ∙ q in
     cc)
 
 -- a thread never released a lock more often than it acquired it

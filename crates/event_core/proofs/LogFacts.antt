@@ -52,7 +52,6 @@ sections_apart {log = log} {u = u} {v = v} {l = l} {a = a} {r = r} {b = b} {s = 
         = (let from : a ≤ r = p.inside.from in let ne : a ≡ r → ⊥ = a_not_r in omega arith) in
         let mine = p.inside.held r a_lt (omega arith) in
         let theirs = q.inside.held r h (omega arith) in
-        let after = q.inside.held (suc r) (omega arith) (omega arith) in
         let none = subst (λ x. depth (take (suc r) log) x l ≡ 0) (w.one_holder r u v l mine theirs)
         p.closed.outer in
         omega arith
