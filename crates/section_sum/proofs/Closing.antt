@@ -2,14 +2,13 @@
 use Rattle.std.proofs.Common.{◌≡◌, ℕ, ◌<◌, true, ◌&&◌, inl, inr, List, [], ◌∷◌, ◌++◌}
 use Rattle.std.proofs.Common.{length, nat_eq, refl, sym, ap, subst, ◌∙◌}
 use Rattle.std.specs.List.{list_any}
-use Rattle.std.proofs.lemmas.Bool.{cases_eq, eq-eqb, ne_eqb}
+use Rattle.std.proofs.lemmas.Bool.{cases_eq, eq-eqb, ne_eqb, and_parts, false≢true}
 use Rattle.section_sum.specs.declared.cell.Cell.{Cell}
-use Rattle.section_sum.specs.declared.cells.Place.{Place}
 use Rattle.section_sum.specs.Cell.{cell_at, is_noted, closed, closed_as}
-use Rattle.section_sum.specs.Cells.{Stored, lock_at}
-use Rattle.section_sum.specs.Kept.{is_own, AreListed}
-use Rattle.section_sum.proofs.Basics.{false_true, and_right, any_left, any_here}
-use Rattle.section_sum.proofs.Basics.{any_more}
+use Rattle.section_sum.specs.Cells.{Stored}
+use Rattle.section_sum.specs.LockSums.{is_own, AreListed}
+use Rattle.section_sum.proofs.Basics.{any_left, any_here, any_more}
+use Rattle.section_sum.proofs.Keeping.{own_same, own_in}
 
 -- some of the listed cells are closed, and the others are left in the list
 pub record Closing (l t n : ℕ) (before now : Stored) (left : List ℕ) : Type 0 where
@@ -34,27 +33,24 @@ next l t n before now after xs ys at e places same exact c =
     = exact at ∙ ap (λ b. closed_as b t n (cell_at now.cells at)) (eq-eqb at at refl) in
     let else : (i : ℕ) → (i ≡ at → ⊥) → cell_at after.cells i ≡ cell_at now.cells i
     = λ i o. exact i ∙ ap (λ b. closed_as b t n (cell_at now.cells i)) (ne_eqb i at o) in
-    let own : (i : ℕ) → is_own l after i ≡ is_own l now i
-    = λ i. ap (λ (ps : List Place). nat_eq (lock_at ps i) l) places in
-    let size : length after.places ≡ length now.places = ap (λ (ps : List Place). length ps) places in
     let mine : is_own l before at ≡ true
-    = sym (ap (λ (ps : List Place). nat_eq (lock_at ps at) l) c.places)
-    ∙ (c.listed.own at (ap (list_any (nat_eq at)) e ∙ any_here xs at)).1 in
+    = sym (own_same l before now c.places at) ∙ (c.listed.own at
+    (ap (list_any (nat_eq at)) e ∙ any_here xs at)).1 in
     record {
       places = places ∙ c.places;
       same = same;
       listed = record {
         marks = λ i mark. elim (cases_eq i at) [
-          | inl q ↦ false_true (sym (ap is_noted (ap (cell_at after.cells) q ∙ there))
-              ∙ and_right _ _ mark)
+          | inl q ↦ absurd (false≢true (sym (ap is_noted (ap (cell_at after.cells) q ∙ there))
+              ∙ (and_parts _ _ mark).1))
           | inr o ↦ any_left xs at i
               (sym (ap (list_any (nat_eq i)) e)
-              ∙ c.listed.marks i (sym (ap (λ b. b && is_noted (cell_at after.cells i)) (own i)
+              ∙ c.listed.marks i (sym (ap (λ b. b && is_noted (cell_at after.cells i))
+              (own_same l now after places i)
               ∙ ap (λ (x : Cell). is_own l now i && is_noted x) (else i o)) ∙ mark)) o
         ];
-        own = λ i any.
-            let was = c.listed.own i (ap (list_any (nat_eq i)) e ∙ any_more xs at i any) in
-            (subst (λ (b : ℕ). i < b) (sym size) was.0, own i ∙ was.1);
+        own = λ i any. own_in l now after places i
+            (c.listed.own i (ap (list_any (nat_eq i)) e ∙ any_more xs at i any));
       };
       exact = λ i. elim (cases_eq i at) [
         | inl q ↦ subst (λ j. closed_as (is_own l before j) t n (cell_at after.cells j)

@@ -1,9 +1,9 @@
 -- How many numbers pass.
 use Rattle.std.proofs.Common.{◌≡◌, ℕ, zero, suc, ◌+◌, ◌<◌, ◌≤◌, Bool, true, false, ◌||◌, cond, nat_eq}
 use Rattle.std.proofs.Common.{inl, inr, refl, sym, ap, ◌∙◌, arith}
-use Rattle.std.proofs.lemmas.Bool.{cases_eq, eq-eqb, eqb-true, ne_eqb}
+use Rattle.std.proofs.lemmas.Bool.{cases_eq, eq-eqb, eqb-true, ne_eqb, or_right, false≢true}
 use Rattle.section_sum.specs.Cells.{count_to}
-use Rattle.section_sum.proofs.Basics.{false_true, or_false, or_true}
+use Rattle.section_sum.proofs.Basics.{or_false}
 
 -- one number more
 pub count_more : (f : ℕ → Bool) (n : ℕ) → count_to f (n + 1) ≡ count_to f n + cond {A = ℕ} (f n) 1 0
@@ -45,7 +45,7 @@ count_le f g (suc n) h =
   where
     less : (a b : Bool) → (a ≡ true → b ≡ true) → cond {A = ℕ} a 1 0 ≤ cond b 1 0
     less true true h = omega arith
-    less true false h = false_true (h refl)
+    less true false h = absurd (false≢true (h refl))
     less false true h = omega arith
     less false false h = omega arith
 
@@ -54,7 +54,8 @@ pub count_less : (f g : ℕ → Bool) (n at : ℕ) → at < n → f at ≡ false
     → ((i : ℕ) → f i ≡ true → g i ≡ true) → count_to f n < count_to g n
 count_less f g n at h off on all =
     let both : ℕ → Bool = λ i. f i || nat_eq i at in
-    let one = count_one f both n at h off (ap (λ b. f at || b) (eq-eqb at at refl) ∙ or_true (f at))
+    let one = count_one f both n at h off (ap (λ b. f at || b) (eq-eqb at at refl) ∙ or_right
+    (f at) true refl)
     (λ i o. ap (λ b. f i || b) (ne_eqb i at o) ∙ or_false (f i)) in
     let le = count_le both g n (λ i e. either i (f i) refl e) in
     omega (arith, one, le)
@@ -67,4 +68,4 @@ count_less f g n at h off on all =
 -- one number passes
 pub count_some : (f : ℕ → Bool) (n at : ℕ) → at < n → f at ≡ true → 0 < count_to f n
 count_some f n at h on =
-    let less = count_less (λ _. false) f n at h refl on (λ _ e. false_true e) in omega (arith, less)
+    let less = count_less (λ _. false) f n at h refl on (λ _ e. absurd (false≢true e)) in omega (arith, less)

@@ -11,3 +11,4 @@ mod Meaning
 mod ClosedAccesses
 mod Steps
 mod PairedSections
+mod Growing

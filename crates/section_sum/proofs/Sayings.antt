@@ -1,6 +1,6 @@
 -- What is said of each lock after a call on one of them.
 use Rattle.std.proofs.Common.{◌≡◌, ℕ, ◌<◌, ◌≤◌, Bool, true, false, ◌&&◌, ◌⊎◌, inl, inr, List, [], ◌++◌, cond}
-use Rattle.std.proofs.Common.{length, get_or}
+use Rattle.std.proofs.Common.{length, get_or, take}
 use Rattle.std.proofs.Common.{nat_eq, set, refl, sym, ap, subst, ◌∙◌, arith}
 use Rattle.std.specs.Prelude.{nat_lt}
 use Rattle.std.proofs.lemmas.Bool.{cases_lt, eq-eqb, ltb-true, lt-ltb, le-ltb}
@@ -14,37 +14,38 @@ use Rattle.section_sum.specs.Newest.{section}
 use Rattle.section_sum.specs.Cell.{no_cell, cell_at, closed_as, marked_as, sources_in}
 use Rattle.section_sum.specs.Cells.{Stored, is_place, place_of, has_cell, place, lock_at, with_place}
 use Rattle.section_sum.specs.Cells.{HasGrown}
-use Rattle.section_sum.specs.Kept.{Kept, no_kept, kept_at, IsKept, AreKept}
-use Rattle.section_sum.specs.Entries.{entries_of, IsAlone, SaysSame, HasNoted, HasClosed}
-use Rattle.section_sum.specs.Locks.{SaySame, HaveGrown, HaveClosed}
+use Rattle.section_sum.specs.LockSums.{LockSum, no_kept, kept_at, IsKept, AreKept}
+use Rattle.section_sum.specs.Entries.{Entries, entries_of, IsAlone, SaysSame, HasNoted, HasClosed}
+use Rattle.section_sum.specs.Locks.{HaveNoted, HaveClosed}
+use Rattle.section_sum.specs.Sums.{is_held}
 use Rattle.section_sum.proofs.Basics.{at_set}
 use Rattle.section_sum.proofs.Standing.{own_place, same_place, place_high, place_left, place_end, joined}
-use Rattle.section_sum.proofs.Keeping.{Changed, not_own, kept_more, has_lock}
+use Rattle.section_sum.proofs.Keeping.{Changed, not_own, kept_more, has_lock, no_lock}
 use Rattle.section_sum.proofs.Says.{says_same, says_noted, says_closed, says_none}
-use Rattle.section_sum.proofs.Passing.{same_said, closed_one, not_held}
+use Rattle.section_sum.proofs.Passing.{same_said, one_lock, closed_none, is_held_at}
 
 -- one lock's is changed
-pub kept_set : (l : ℕ) (s : Stored) (locks : List Kept) (k : Kept) → l < length locks → IsKept l s k
+pub kept_set : (l : ℕ) (s : Stored) (locks : List LockSum) (k : LockSum) → l < length locks → IsKept l s k
     → ((m : ℕ) → (m ≡ l → ⊥) → IsKept m s (kept_at locks m)) → AreKept s (set locks l k)
 kept_set l s locks k h own others m =
-    at_set no_kept (λ (i : ℕ) (q : Kept). IsKept i s q) locks l k h own m (λ n. others m n)
+    at_set no_kept (λ (i : ℕ) (q : LockSum). IsKept i s q) locks l k h own m (λ n. others m n)
 
 -- what is kept of a lock that was read, and written back as it was
-pub kept_read : (l : ℕ) (s : Stored) (locks : List Kept) (k : Kept) → l < length locks → AreKept s locks
+pub kept_read : (l : ℕ) (s : Stored) (locks : List LockSum) (k : LockSum) → l < length locks → AreKept s locks
     → k ≡ get_or locks l k → IsKept l s k
 kept_read l s locks k h kept e = subst (IsKept l s) (sym (e ∙ get_or_default locks l k no_kept h)) (kept l)
 
-pub kept_back : (l : ℕ) (s : Stored) (locks : List Kept) (k : Kept) → l < length locks → AreKept s locks
+pub kept_back : (l : ℕ) (s : Stored) (locks : List LockSum) (k : LockSum) → l < length locks → AreKept s locks
     → k ≡ get_or locks l k → AreKept s (set locks l k)
 kept_back l s locks k h kept e = kept_set l s locks k h (kept_read l s locks k h kept e) (λ m n. kept m)
 
 -- what is said of the other locks
-pub says_other : (l m : ℕ) (old new : Stored) (locks : List Kept) (k : Kept) → (m ≡ l → ⊥)
+pub says_other : (l m : ℕ) (old new : Stored) (locks : List LockSum) (k : LockSum) → (m ≡ l → ⊥)
     → Changed l old new → SaysSame (entries_of old locks m) (entries_of new (set locks l k) m)
 says_other l m old new locks k n c = says_same (entries_of old locks m) (entries_of new (set locks l k) m)
     (λ v. ap (λ (ps : List Place). cell_at new.cells (place_of ps m v)) c.places
     ∙ at v (cases_lt (place_of old.places m v) (length old.places)))
-    (ap (λ (q : Kept). q.by) (get_or-set_other locks l m k no_kept n))
+    (ap (λ (q : LockSum). q.by) (get_or-set_other locks l m k no_kept n))
     (λ v h. subst (λ (ps : List Place). nat_lt (place_of ps m v) (length ps) ≡ true) (sym c.places) h)
   where
     at : (v : ℕ)
@@ -60,36 +61,53 @@ says_other l m old new locks k n c = says_same (entries_of old locks m) (entries
         get_or_past new.cells (place_of old.places m v) no_cell (omega (arith, g, size, same))
         ∙ sym (get_or_past old.cells (place_of old.places m v) no_cell (omega (arith, g, was)))
 
+-- under a lock of the list the variable has a cell, and something is kept of the lock
+pub record Here (s : Stored) (locks : List LockSum) (l var : ℕ) : Type 0 where
+  pub place : place_of s.places l var < length s.places
+  pub within : l < length locks
+
+pub here_at : {s : Stored} {locks : List LockSum} (thread var : ℕ) (kind : AccessKind) (held : List LockId)
+    (i : ℕ) (m : LockId) (before : ℕ → Entries) → i < length held → AreKept s locks
+    → HaveNoted thread (take i held) var kind before (entries_of s locks)
+    → ((l : ℕ) → is_held held l ≡ true → (before l).ready var ≡ true)
+    → Here s locks (get_or held i m).0 var
+here_at {s = s} {locks = locks} thread var kind held i m before h kept noted ready =
+    let l : ℕ = (get_or held i m).0 in
+    let place : place_of s.places l var < length s.places
+    = ltb-true _ _ ((noted l).ready var (ready l (is_held_at held i m h))) in
+    record { place = place; within = has_lock s locks l var kept place }
+
 -- what is said of the lock of an access
-pub says_marked : (l thread var : ℕ) (kind : AccessKind) (old new : Stored) (locks : List Kept) (k : Kept)
+pub says_marked : (l thread var : ℕ) (kind : AccessKind) (old new : Stored) (locks : List LockSum)
+    (k : LockSum)
     → l < length locks → place_of old.places l var < length old.places → k.by ≡ thread
     → new.places ≡ old.places
     → ((i : ℕ) → cell_at new.cells i
     ≡ marked_as (nat_eq i (place_of old.places l var)) kind (cell_at old.cells i))
     → IsAlone (entries_of old locks l) thread
-    → HasNoted thread var kind (entries_of old locks l) (entries_of new (set locks l k) l)
-says_marked l thread var kind old new locks k h room by places exact alone =
+    → HasNoted thread var kind true (entries_of old locks l) (entries_of new (set locks l k) l)
+says_marked l thread var kind old new locks k h ready by places exact alone =
     says_noted thread var kind (entries_of old locks l) (entries_of new (set locks l k) l) alone
     (λ v. ap (λ (ps : List Place). cell_at new.cells (place_of ps l v)) places
     ∙ exact (place_of old.places l v)
     ∙ ap (λ b. marked_as b kind (cell_at old.cells (place_of old.places l v)))
-    (same_place old.places l var v room))
-    (ap (λ (q : Kept). q.by) (get_or-set_same locks l k no_kept h) ∙ by)
+    (same_place old.places l var v ready))
+    (ap (λ (q : LockSum). q.by) (get_or-set_same locks l k no_kept h) ∙ by)
     (λ v r. subst (λ (ps : List Place). nat_lt (place_of ps l v) (length ps) ≡ true) (sym places) r)
 
 -- what is said of the lock of a section that ended
-pub says_ended : (l thread number : ℕ) (old new : Stored) (locks : List Kept) (k : Kept)
+pub says_ended : (l thread number : ℕ) (old new : Stored) (locks : List LockSum) (k : LockSum)
     → l < length locks → k.by ≡ (kept_at locks l).by → (kept_at locks l).by ≡ thread
     → length old.cells ≡ length old.places → new.places ≡ old.places
     → ((i : ℕ) → cell_at new.cells i
     ≡ closed_as (nat_eq (lock_at old.places i) l) (kept_at locks l).by number (cell_at old.cells i))
-    → HasClosed thread number (entries_of old locks l) (entries_of new (set locks l k) l)
+    → HasClosed thread number true (entries_of old locks l) (entries_of new (set locks l k) l)
 says_ended l thread number old new locks k h by own was places exact =
     says_closed thread number (entries_of old locks l) (entries_of new (set locks l k) l)
     (λ v. ap (λ (ps : List Place). cell_at new.cells (place_of ps l v)) places
     ∙ exact (place_of old.places l v)
     ∙ at v (cases_lt (place_of old.places l v) (length old.places)))
-    (ap (λ (q : Kept). q.by) (get_or-set_same locks l k no_kept h) ∙ by)
+    (ap (λ (q : LockSum). q.by) (get_or-set_same locks l k no_kept h) ∙ by)
     (λ v r. subst (λ (ps : List Place). nat_lt (place_of ps l v) (length ps) ≡ true) (sym places) r)
     own
   where
@@ -123,7 +141,7 @@ cell_stays s l v m x h =
     lt-ltb _ _ (omega (arith, left, long, h))
 
 -- and no other pair of a lock and a variable got one
-no_more : (s : Stored) (l v m x : ℕ) → (nat_eq m l && nat_eq x v) ≡ false
+pub no_more : (s : Stored) (l v m x : ℕ) → (nat_eq m l && nat_eq x v) ≡ false
     → has_cell (with_place s l v) m x ≡ has_cell s m x
 no_more s l v m x off = elim (cases_lt (place_of s.places m x) (length s.places)) [
   | inl h ↦ cell_stays s l v m x h ∙ sym (lt-ltb _ _ h)
@@ -134,17 +152,8 @@ no_more s l v m x off = elim (cases_lt (place_of s.places m x) (length s.places)
       le-ltb _ _ (omega (arith, end, one, long)) ∙ sym (le-ltb _ _ g)
 ]
 
--- room is made under one of the locks
-pub held_grown : (held : List LockId) (var i : ℕ) (m : LockId) (before old new : Stored) → i < length held
-    → HaveGrown held var before old → HasGrown (get_or held i m).0 var old new → HaveGrown held var before new
-held_grown held var i m before old new h had (inl e) l v off =
-    ap (λ (s : Stored). has_cell s l v) e ∙ had l v off
-held_grown held var i m before old new h had (inr (n, e)) l v off =
-    ap (λ (s : Stored). has_cell s l v) e
-    ∙ no_more old (get_or held i m).0 var l v (not_held held i m h l (nat_eq v var) off) ∙ had l v off
-
 -- a cell that joins says nothing new
-pub says_more : (l v m : ℕ) (old new : Stored) (locks after : List Kept)
+pub says_more : (l v m : ℕ) (old new : Stored) (locks after : List LockSum)
     → length old.cells ≡ length old.places → HasGrown l v old new
     → (kept_at after m).by ≡ (kept_at locks m).by → SaysSame (entries_of old locks m) (entries_of new after m)
 says_more l v m old new locks after same (inl e) by =
@@ -157,27 +166,11 @@ says_more l v m old new locks after same (inr (n, e)) by =
     (λ x r. subst (λ (s : Stored). nat_lt (place_of s.places m x) (length s.places) ≡ true) (sym e)
     (cell_stays old l v m x (ltb-true _ _ r)))
 
-pub kept_grown : (l v m : ℕ) (old new : Stored) (k : Kept) → (m ≡ l → ⊥) → HasGrown l v old new
+pub kept_grown : (l v m : ℕ) (old new : Stored) (k : LockSum) → (m ≡ l → ⊥) → HasGrown l v old new
     → IsKept m old k → IsKept m new k
 kept_grown l v m old new k n (inl e) kept = subst (λ (s : Stored). IsKept m s k) (sym e) kept
 kept_grown l v m old new k n (inr (p, e)) kept =
     subst (λ (s : Stored). IsKept m s k) (sym e) (kept_more old l v m k n kept)
-
--- a cell joins one lock's, or none
-pub grown_kept : (l v : ℕ) (old new : Stored) (before locks : List Kept) (k : Kept) → l < length locks
-    → ((m : ℕ) → kept_at locks m ≡ kept_at before m) → AreKept old before → HasGrown l v old new
-    → IsKept l new k → AreKept new (set locks l k)
-grown_kept l v old new before locks k h same kept grown own =
-    kept_set l new locks k h own (λ m n. kept_grown l v m old new (kept_at locks m) n grown
-    (subst (IsKept m old) (sym (same m)) (kept m)))
-
-pub grown_says : (l v : ℕ) (old new : Stored) (before locks : List Kept) (k : Kept) → l < length locks
-    → ((m : ℕ) → kept_at locks m ≡ kept_at before m) → AreKept old before → HasGrown l v old new
-    → k.by ≡ (kept_at locks l).by → SaySame (entries_of old before) (entries_of new (set locks l k))
-grown_says l v old new before locks k h same kept grown by m =
-    says_more l v m old new before (set locks l k) (kept 0).same grown
-    (at_set no_kept (λ (i : ℕ) (q : Kept). q.by ≡ (kept_at before i).by) locks l k h
-    (by ∙ ap (λ (q : Kept). q.by) (same l)) m (λ _. ap (λ (q : Kept). q.by) (same m)))
 
 -- the end of a section changes its lock's cells alone
 pub ended_changed : (l by number : ℕ) (old new : Stored) → length old.cells ≡ length old.places
@@ -209,19 +202,11 @@ none_met Write t = by (nat_eq t 0)
     by true = refl
     by false = refl
 
--- of a lock that is not kept
-pub no_lock : (s : Stored) (locks : List Kept) (l v : ℕ) → AreKept s locks → length locks ≤ l
-    → length s.places ≤ place_of s.places l v
-no_lock s locks l v kept past = elim (cases_lt (place_of s.places l v) (length s.places)) [
-  | inl h ↦ let less = has_lock s locks l v kept h in absurd (omega (arith, past, less))
-  | inr g ↦ g
-]
-
 -- no section of it had an access
-pub ended_none : (thread lock number : ℕ) (s : Stored) (locks : List Kept) → AreKept s locks
+pub ended_none : (thread lock number : ℕ) (s : Stored) (locks : List LockSum) → AreKept s locks
     → length locks ≤ lock → HaveClosed thread lock number (entries_of s locks) (entries_of s locks)
 ended_none thread lock number s locks kept past =
-    closed_one thread lock number (entries_of s locks) (entries_of s locks)
+    one_lock (HasClosed thread number) lock (entries_of s locks) (entries_of s locks)
     (says_none thread number (entries_of s locks lock)
     (λ v. none_there s lock v (kept 0).same (no_lock s locks lock v kept past)))
-    (λ m n. same_said (entries_of s locks) m)
+    (λ m n. closed_none thread number _ _ (same_said (entries_of s locks) m))

@@ -1,18 +1,18 @@
 -- Where cells stand, and a cell that joins the others.
-use Rattle.std.proofs.Common.{◌≡◌, ℕ, ◌+◌, ◌<◌, ◌≤◌, suc, Bool, true, false, not, ◌&&◌, ◌||◌, inl, inr, cond}
+use Rattle.std.proofs.Common.{◌≡◌, ℕ, ◌+◌, ◌<◌, ◌≤◌, zero, suc, true, false, not, ◌&&◌, inl}
+use Rattle.std.proofs.Common.{inr, cond}
 use Rattle.std.proofs.Common.{List, [], ◌∷◌, ◌++◌, length, nat_eq, get_or, ◌⊎◌, refl, sym, ap, subst, ◌∙◌}
 use Rattle.std.proofs.Common.{arith}
 use Rattle.std.specs.List.{list_any}
-use Rattle.std.proofs.lemmas.Bool.{cases_eq, cases_lt, eqb-true, eq-eqb, ne_eqb}
-use Rattle.std.proofs.lemmas.List.{get_or_append_left, get_or_past, length_push}
+use Rattle.std.proofs.lemmas.Bool.{cases_eq, cases_lt, eqb-true, eq-eqb, ne_eqb, and_parts, not-true}
+use Rattle.std.proofs.lemmas.List.{get_or_append_left, get_or_past}
 use Rattle.std.proofs.Math.Seq.{get_or-append_seam}
-use Rattle.std.proofs.lemmas.List.Sums.{passes_at_first, prefix_len-le-length}
-use Rattle.std.proofs.lemmas.List.Folds.{position_or_len_push}
+use Rattle.std.proofs.lemmas.List.Sums.{passes_at_first, prefix_len-le-length, prefix_len_passes}
+use Rattle.std.proofs.lemmas.List.Folds.{position_or_len_push, list_any_none}
 use Rattle.section_sum.specs.declared.cell.Cell.{Cell}
 use Rattle.section_sum.specs.declared.cells.Place.{Place}
 use Rattle.section_sum.specs.Cell.{no_cell, cell_at}
 use Rattle.section_sum.specs.Cells.{Stored, is_place, place_of, place, lock_at, with_place}
-use Rattle.section_sum.proofs.Basics.{and_left, and_right}
 
 here : (places : List Place) (l v : ℕ) → place_of places l v < length places
     → is_place l v (get_or places (place_of places l v) (place 0 0)) ≡ true
@@ -21,7 +21,7 @@ here places l v h = passes_at_first (is_place l v) places (place 0 0) h
 -- a lock's variable stands at a place of the lock
 pub own_place : (places : List Place) (l v : ℕ) → place_of places l v < length places
     → lock_at places (place_of places l v) ≡ l
-own_place places l v h = sym (eqb-true l _ (and_left _ _ (here places l v h)))
+own_place places l v h = sym (eqb-true l _ (and_parts _ _ (here places l v h)).0)
 
 -- variables at one place are the same
 pub same_place : (places : List Place) (l var v : ℕ) → place_of places l var < length places
@@ -32,9 +32,9 @@ same_place places l var v h = elim (cases_eq v var) [
       ne_eqb _ _ (λ q. n (
       let at = place_of places l v in
       let one : v ≡ (get_or places at (place 0 0)).var.0
-      = eqb-true _ _ (and_right _ _ (here places l v (subst (λ (b : ℕ). b < length places) (sym q) h))) in
+      = eqb-true _ _ (and_parts _ _ (here places l v (subst (λ (b : ℕ). b < length places) (sym q) h))).1 in
       let two : var ≡ (get_or places (place_of places l var) (place 0 0)).var.0
-      = eqb-true _ _ (and_right _ _ (here places l var h)) in
+      = eqb-true _ _ (and_parts _ _ (here places l var h)).1 in
       one ∙ ap (λ b. (get_or places b (place 0 0)).var.0) q ∙ sym two))
       ∙ sym (ne_eqb v var n)
 ]
@@ -68,17 +68,10 @@ place_new places l v e =
 
 -- the cell without accesses is also what is said past the end
 pub more_cells : (cells : List Cell) (i : ℕ) → cell_at (cells ++ no_cell ∷ []) i ≡ cell_at cells i
-more_cells cells i = elim (cases_lt i (length cells)) [
-  | inl h ↦ get_or_append_left cells (no_cell ∷ []) no_cell i h
-  | inr g ↦ past (cases_eq i (length cells)) g ∙ sym (get_or_past cells i no_cell g)
-]
-  where
-    past : (i ≡ length cells) ⊎ (i ≡ length cells → ⊥) → length cells ≤ i
-        → cell_at (cells ++ no_cell ∷ []) i ≡ no_cell
-    past (inl e) g = ap (cell_at (cells ++ no_cell ∷ [])) e ∙ get_or-append_seam cells no_cell [] no_cell
-    past (inr o) g =
-        let long : length (cells ++ no_cell ∷ []) ≡ length cells + 1 = length_push cells no_cell in
-        get_or_past (cells ++ no_cell ∷ []) i no_cell (omega (arith, g, o, long))
+more_cells [] zero = refl
+more_cells [] (suc i) = refl
+more_cells (c ∷ cs) zero = refl
+more_cells (c ∷ cs) (suc i) = more_cells cs i
 
 -- of each variable the same is said
 pub joined : (s : Stored) (l v : ℕ) → length s.cells ≡ length s.places → (m x : ℕ)
@@ -109,18 +102,6 @@ lock_new places l v =
 -- what has no place is none of them
 pub absent : (places : List Place) (l v : ℕ) → place_of places l v ≡ length places
     → list_any (is_place l v) places ≡ false
-absent [] l v e = refl
-absent (x ∷ xs) l v e = by (is_place l v x) refl (absent xs l v)
-  where
-    by : (b : Bool) → is_place l v x ≡ b
-        → (place_of xs l v ≡ length xs → list_any (is_place l v) xs ≡ false)
-        → list_any (is_place l v) (x ∷ xs) ≡ false
-    by true t r =
-        let z : place_of (x ∷ xs) l v ≡ 0 = ap (λ b. cond (not b) (1 + place_of xs l v) 0) t in
-        let n : length (x ∷ xs) ≡ suc (length xs) = refl in
-        absurd (omega (arith, e, z, n))
-    by false f r =
-        let z : place_of (x ∷ xs) l v
-        ≡ 1 + place_of xs l v = ap (λ b. cond (not b) (1 + place_of xs l v) 0) f in
-        let n : length (x ∷ xs) ≡ suc (length xs) = refl in
-        ap (λ b. b || list_any (is_place l v) xs) f ∙ r (omega (arith, e, z, n))
+absent places l v e =
+    list_any_none (is_place l v) places
+    (λ k d lt. not-true _ (prefix_len_passes (λ p. not (is_place l v p)) places k d (omega (arith, lt, e))))

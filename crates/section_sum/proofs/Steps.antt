@@ -31,8 +31,8 @@ use Rattle.event_core.proofs.Tests.{not_both}
 use Rattle.section_sum.specs.Cell.{is_kind}
 use Rattle.section_sum.specs.Laws.{OthersLeaveThem, HoldersAreAlone}
 use Rattle.section_sum.specs.Standing.{Stands, IsNewest, IsAccess, AreHeld}
-use Rattle.section_sum.specs.Sums.{Sums, noted_of, others_of, is_held, SameNoted, SameOthers}
-use Rattle.section_sum.proofs.Meaning.{Notes, Closes as Ends}
+use Rattle.section_sum.specs.Sums.{Sums, said_of, noted_of, others_of, is_held, SameNoted, SameOthers}
+use Rattle.section_sum.specs.Locks.{HaveNoted, HaveClosed}
 use Rattle.section_sum.proofs.ClosedAccesses.{newest_same, newest_new}
 
 -- summaries that say nothing stand for the empty log
@@ -86,14 +86,16 @@ kind_same Write Read h = absurd cc
 
 -- an access in the sections that are open at it
 note_own : (limits : Limits) (log : List Event) (e : Event) (old new : Sums) (held : List LockId) (x : VarId)
-    (k : AccessKind) → Notes e.thread.0 held x.0 k old new → WellFormed limits (log ++ e ∷ [])
+    (k : AccessKind) → HaveNoted e.thread.0 held x.0 k (said_of old) (said_of new) → WellFormed limits
+    (log ++ e ∷ [])
     → e.op ≡ access_of x k → AreHeld log e.thread held → Stands log old → Stands (log ++ e ∷ []) new
+unfolding noted_of others_of
 note_own limits log e old new held x k notes w o are st = record {
   noted = λ t l y j. subst (λ b. IsTrue b ↔ Noted (log ++ e ∷ []) t l y j)
-      (sym (notes.noted t.0 l.0 y.0 j))
+      (sym ((notes l.0).noted t.0 y.0 j))
       (noted_more log e ord x k o t l y j (noted_of old t.0 l.0 y.0 j) (is_held held l.0) (is_kind j k)
       (st.noted t l y j) (are l) (kind_is j k, kind_same j k));
-  others = λ l y j t. subst (λ n. IsNewest (log ++ e ∷ []) l y j t n) (sym (notes.others l.0 y.0 j t.0))
+  others = λ l y j t. subst (λ n. IsNewest (log ++ e ∷ []) l y j t n) (sym ((notes l.0).others y.0 j t.0))
       (newest_same log e ord l y j t (others_of old l.0 y.0 j t.0)
       (λ q. access_no_release x k l (sym o ∙ (ends_at log e ord l q.closes).op)) (st.others l y j t));
 }
@@ -102,22 +104,25 @@ note_own limits log e old new held x k notes w o are st = record {
     ord = orderly limits (log ++ e ∷ []) w
 
 pub note_stands : (limits : Limits) (log : List Event) (e : Event) (old new : Sums) (t : ThreadId)
-    (held : List LockId) (x : VarId) (k : AccessKind) → Notes t.0 held x.0 k old new
+    (held : List LockId) (x : VarId) (k : AccessKind) → HaveNoted t.0 held x.0 k (said_of old) (said_of new)
     → WellFormed limits (log ++ e ∷ []) → IsAccess t x k e → AreHeld log t held → Stands log old
     → Stands (log ++ e ∷ []) new
 note_stands limits log e old new t held x k notes w is are st =
     note_own limits log e old new held x k
-    (subst (λ (u : ThreadId). Notes u.0 held x.0 k old new) (sym is.thread) notes) w is.op
+    (subst (λ (u : ThreadId). HaveNoted u.0 held x.0 k (said_of old) (said_of new))
+    (sym is.thread) notes) w is.op
     (subst (λ (u : ThreadId). AreHeld log u held) (sym is.thread) are) st
 
 -- the end of a section
 close_own : (limits : Limits) (log : List Event) (e : Event) (old new : Sums) (l : LockId) (n : ℕ)
-    → Ends e.thread.0 l.0 n old new → WellFormed limits (log ++ e ∷ []) → e.op ≡ Release l
+    → HaveClosed e.thread.0 l.0 n (said_of old) (said_of new) → WellFormed limits (log ++ e ∷ []) → e.op
+    ≡ Release l
     → depth log e.thread l ≡ 1 → n ≡ ended log l + 1 → Stands log old → Stands (log ++ e ∷ []) new
+unfolding noted_of others_of
 close_own limits log e old new l n ends w o one number st = record {
-  noted = λ t m x k. subst (λ b. IsTrue b ↔ Noted (log ++ e ∷ []) t m x k) (sym (ends.noted t.0 m.0 x.0 k))
+  noted = λ t m x k. subst (λ b. IsTrue b ↔ Noted (log ++ e ∷ []) t m x k) (sym ((ends m.0).noted t.0 x.0 k))
       (noted_less log e ord l o one t m x k (noted_of old t.0 m.0 x.0 k) (st.noted t m x k));
-  others = λ m x k t. subst (λ i. IsNewest (log ++ e ∷ []) m x k t i) (sym (ends.others m.0 x.0 k t.0))
+  others = λ m x k t. subst (λ i. IsNewest (log ++ e ∷ []) m x k t i) (sym ((ends m.0).others x.0 k t.0))
       (others m x k t (leaves_test log e ord l (last_closes log e l o one) m x k t
       (noted_of old e.thread.0 m.0 x.0 k) (st.noted e.thread m x k)) (cases_Bool (test m x k t)));
 }
@@ -142,11 +147,12 @@ close_own limits log e old new l n ends w o one number st = record {
         (λ q. not_both (leaves.1 q) h) (st.others m x k t))
 
 pub close_stands : (limits : Limits) (log : List Event) (e : Event) (old new : Sums) (t : ThreadId)
-    (l : LockId) (n : ℕ) → Ends t.0 l.0 n old new → WellFormed limits (log ++ e ∷ []) → EndsSection log t l e
+    (l : LockId) (n : ℕ) → HaveClosed t.0 l.0 n (said_of old) (said_of new) → WellFormed limits
+    (log ++ e ∷ []) → EndsSection log t l e
     → n ≡ ended log l + 1 → Stands log old → Stands (log ++ e ∷ []) new
 close_stands limits log e old new t l n ends w is number st =
     close_own limits log e old new l n
-    (subst (λ (u : ThreadId). Ends u.0 l.0 n old new) (sym is.thread) ends) w is.op
+    (subst (λ (u : ThreadId). HaveClosed u.0 l.0 n (said_of old) (said_of new)) (sym is.thread) ends) w is.op
     (subst (λ u. depth log u l ≡ 1) (sym is.thread) is.outer) number st
 
 -- a lock that the thread holds is held by no other

@@ -3,20 +3,20 @@ use Rattle.std.specs.Prelude.{ℕ, ◌≡◌, Bool, true, false, not, ◌&&◌, 
 use Rattle.section_sum.specs.Newest.{others_at}
 use Rattle.section_sum.specs.Cell.{cell_at, side, is_kind, sources_in}
 use Rattle.section_sum.specs.Cells.{Stored, place_of, has_cell}
-use Rattle.section_sum.specs.Kept.{Kept, kept_at}
+use Rattle.section_sum.specs.LockSums.{LockSum, kept_at}
 use Rattle.section_sum.specs.declared.cell.Cell.{Cell}
 use Rattle.event_core.specs.declared.events.AccessKind.{AccessKind}
 
 -- of each variable its cell, and whether there is one; and the one thread with an open section
 pub record Entries : Type 0 where
   pub cell : ℕ → Cell
-  pub room : ℕ → Bool
+  pub ready : ℕ → Bool
   pub by : ℕ
 
-abbrev pub entries_of : Stored → List Kept → ℕ → Entries
+abbrev pub entries_of : Stored → List LockSum → ℕ → Entries
 entries_of s locks l = record {
   cell = λ v. cell_at s.cells (place_of s.places l v);
-  room = has_cell s l;
+  ready = has_cell s l;
   by = (kept_at locks l).by;
 }
 
@@ -40,20 +40,20 @@ IsAlone p t = (u v : ℕ) (k : AccessKind) → (u ≡ t → ⊥) → noted_at p 
 pub record SaysSame (before after : Entries) : Type 0 where
   pub noted : (t v : ℕ) (k : AccessKind) → noted_at after t v k ≡ noted_at before t v k
   pub others : (v : ℕ) (k : AccessKind) (t : ℕ) → others_on after v k t ≡ others_on before v k t
-  pub room : (v : ℕ) → before.room v ≡ true → after.room v ≡ true
+  pub ready : (v : ℕ) → before.ready v ≡ true → after.ready v ≡ true
 
--- the thread's open section gained such an access
-pub record HasNoted (thread var : ℕ) (kind : AccessKind) (before after : Entries) : Type 0 where
+-- the thread's open section gained such an access, where the test passes
+pub record HasNoted (thread var : ℕ) (kind : AccessKind) (on : Bool) (before after : Entries) : Type 0 where
   pub noted : (t v : ℕ) (k : AccessKind)
       → noted_at after t v k ≡ (noted_at before t v k
-      || (nat_eq t thread && (nat_eq v var && is_kind k kind)))
+      || (nat_eq t thread && (on && (nat_eq v var && is_kind k kind))))
   pub others : (v : ℕ) (k : AccessKind) (t : ℕ) → others_on after v k t ≡ others_on before v k t
-  pub room : (v : ℕ) → before.room v ≡ true → after.room v ≡ true
+  pub ready : (v : ℕ) → before.ready v ≡ true → after.ready v ≡ true
 
--- the thread's section with the number ended
-pub record HasClosed (thread number : ℕ) (before after : Entries) : Type 0 where
+-- the thread's section with the number ended, where the test passes
+pub record HasClosed (thread number : ℕ) (on : Bool) (before after : Entries) : Type 0 where
   pub noted : (t v : ℕ) (k : AccessKind) → noted_at after t v k
-      ≡ (noted_at before t v k && not (nat_eq t thread))
+      ≡ (noted_at before t v k && not (nat_eq t thread && on))
   pub others : (v : ℕ) (k : AccessKind) (t : ℕ) → others_on after v k t
-      ≡ cond (not (nat_eq t thread) && noted_at before thread v k) number (others_on before v k t)
-  pub room : (v : ℕ) → before.room v ≡ true → after.room v ≡ true
+      ≡ cond (on && (not (nat_eq t thread) && noted_at before thread v k)) number (others_on before v k t)
+  pub ready : (v : ℕ) → before.ready v ≡ true → after.ready v ≡ true

@@ -1,7 +1,7 @@
 pub mod Newest
 pub mod Cell
 pub mod Cells
-pub mod Kept
+pub mod LockSums
 pub mod Entries
 pub mod Sums
 pub mod Locks

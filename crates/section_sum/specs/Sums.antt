@@ -7,13 +7,13 @@ use Rattle.event_core.specs.declared.events.AccessKind.TheVariants.{Read, Write}
 use Rattle.section_sum.specs.Newest.{section}
 use Rattle.section_sum.specs.Cell.{is_kind}
 use Rattle.section_sum.specs.Cells.{Stored}
-use Rattle.section_sum.specs.Kept.{Kept}
+use Rattle.section_sum.specs.LockSums.{LockSum}
 use Rattle.section_sum.specs.Entries.{Entries, entries_of, noted_at, others_on}
 
 -- the cells of all locks, and what is kept of each lock beside them
 pub record Sums : Type 0 where
   pub cells : Stored
-  pub locks : List Kept
+  pub locks : List LockSum
 
 -- what is said of the lock
 abbrev pub said_of : Sums → ℕ → Entries
@@ -29,16 +29,16 @@ unfoldable pub others_of : Sums → ℕ → ℕ → AccessKind → ℕ → ℕ
 others_of s lock var kind thread = others_on (said_of s lock) var kind thread
 
 -- an access to the variable in a section on the lock, and that section's end, need no memory
-unfoldable pub room_of : Sums → ℕ → ℕ → Bool
-room_of s lock var = (said_of s lock).room var
+unfoldable pub is_ready : Sums → ℕ → ℕ → Bool
+is_ready s lock var = (said_of s lock).ready var
 
 -- the lock is one of the list
 abbrev pub is_held : List LockId → ℕ → Bool
 is_held held lock = list_any (λ (m : LockId). nat_eq lock m.0) held
 
 -- there is room for an access to the variable in sections on each of the locks
-abbrev pub HasRoom : Sums → List LockId → ℕ → Type 0
-HasRoom s held var = (l : ℕ) → is_held held l ≡ true → room_of s l var ≡ true
+abbrev pub IsReady : Sums → List LockId → ℕ → Type 0
+IsReady s held var = (l : ℕ) → is_held held l ≡ true → is_ready s l var ≡ true
 
 -- no other thread has an open section on one of the locks with an access
 abbrev pub IsAlone : Sums → ℕ → List LockId → Type 0
@@ -59,13 +59,13 @@ abbrev pub SameOthers : Sums → Sums → Type 0
 SameOthers old new = (l v : ℕ) (k : AccessKind) (t : ℕ) → others_of new l v k t ≡ others_of old l v k t
 
 -- where there was room there is room
-abbrev pub KeepsRoom : Sums → Sums → Type 0
-KeepsRoom old new = (l v : ℕ) → room_of old l v ≡ true → room_of new l v ≡ true
+abbrev pub KeepsReady : Sums → Sums → Type 0
+KeepsReady old new = (l v : ℕ) → is_ready old l v ≡ true → is_ready new l v ≡ true
 
 -- no other pair of a lock and a variable got room than the variable under one of the locks
 abbrev pub GrownFor : Sums → Sums → List LockId → ℕ → Type 0
 GrownFor old new held var = (l v : ℕ) → (is_held held l && nat_eq v var) ≡ false
-    → room_of new l v ≡ room_of old l v
+    → is_ready new l v ≡ is_ready old l v
 
 -- the numbers of the sections that an access of the kind by the thread meets under the lock: a load meets
 -- the newest with a store, and a store that and the newest with a load

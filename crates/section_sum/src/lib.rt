@@ -13,7 +13,7 @@
 //! here. So a variable has a cell of one size under each lock, whatever the number of threads.
 //!
 //! Contracts speak of numbers: which open section has which access (`noted_of`), the newest of the other
-//! threads' closed sections (`others_of`, 0 where there is none), and where there is room (`room_of`). And
+//! threads' closed sections (`others_of`, 0 where there is none), and where there is room (`is_ready`). And
 //! they say what the numbers mean for a log (`Stands`), which each call keeps: no log is stored.
 #![tactic(auto)]
 

@@ -5,7 +5,7 @@
 ghost use Rattle.std.specs.Prelude.{◌≡◌, ℕ, ◌<◌, ◌≤◌, length, nat_eq, nat_lt, true, is_ok, MatchOption};
 ghost use Rattle.section_sum.specs.Cell.{cell_at, closed_as, marked_as};
 ghost use Rattle.section_sum.specs.Cells.{place_of, lock_at, HasGrown};
-ghost use Rattle.section_sum.specs.Kept.{no_kept, IsSought, IsKept};
+ghost use Rattle.section_sum.specs.LockSums.{no_kept, IsSought, IsKept};
 
 use crate::cells::Cells;
 use event_core::{AccessKind, LockId, OutOfMemory, ThreadId, VarId, reserve_to};
@@ -32,9 +32,9 @@ pub struct Sought {
 
 impl Model for Lock {
     ghost use Rattle.std.specs.Prelude.{vec_capacity};
-    ghost use Rattle.section_sum.specs.Kept.{Kept};
+    ghost use Rattle.section_sum.specs.LockSums.{LockSum};
 
-    ghost Value = { Kept };
+    ghost Value = { LockSum };
 
     ghost view = { λ a. record {
       by = a.by.0;
@@ -82,7 +82,7 @@ impl Lock {
 
     /// Makes room for accesses to the variable in sections on the lock, and for the ends of those sections.
     /// Where there is room it takes no memory. The next calls for the variable find its cell by no hash.
-    pub fn make_room(
+    pub fn prepare(
         &mut self,
         cells: &mut Cells,
         lock: LockId,
@@ -92,10 +92,15 @@ impl Lock {
         ensures kept { IsKept lock.0 cells.new self.new }
         ensures by { self.new.by ≡ self.old.by }
         ensures grown { HasGrown lock.0 var.0 cells.old cells.new }
-        ensures room { is_ok result
+        ensures ready { is_ok result
             ≡ nat_lt (place_of cells.new.places lock.0 var.0) (length cells.new.places) }
     {
-        if let Some(at) = self.find(cells, lock, var) {
+        if let Some(known) = self.sought {
+            if known.var == var.0 {
+                return Ok(());
+            }
+        }
+        if let Some(at) = cells.find(lock, var) {
             self.sought = Some(Sought { var: var.0, at });
             return Ok(());
         }
@@ -118,7 +123,7 @@ impl Lock {
         kind: AccessKind,
     )
         requires kept { IsKept lock.0 cells.old self.old }
-        requires room { place_of cells.old.places lock.0 var.0 < length cells.old.places }
+        requires ready { place_of cells.old.places lock.0 var.0 < length cells.old.places }
         ensures kept { IsKept lock.0 cells.new self.new }
         ensures by { self.new.by ≡ thread.0 }
         ensures places { cells.new.places ≡ cells.old.places }

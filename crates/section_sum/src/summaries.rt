@@ -8,17 +8,17 @@ ghost use Rattle.event_core.specs.declared.bounds.Limits.{Limits};
 ghost use Rattle.event_core.specs.Log.{depth};
 ghost use Rattle.event_core.specs.Refusal.{WellFormed};
 ghost use Rattle.event_core.specs.Closed.{EndsSection, ended};
-ghost use Rattle.section_sum.specs.Sums.{noted_of, others_of, sources_of, is_access, HasRoom};
-ghost use Rattle.section_sum.specs.Sums.{IsAlone, SameNoted, SameOthers, KeepsRoom, GrownFor};
+ghost use Rattle.section_sum.specs.Sums.{noted_of, others_of, sources_of, is_access, IsReady};
+ghost use Rattle.section_sum.specs.Sums.{IsAlone, SameNoted, SameOthers, KeepsReady, GrownFor};
 ghost use Rattle.section_sum.specs.Sources.{left, most_sources};
 ghost use Rattle.section_sum.specs.Standing.{Stands, IsAccess, AreHeld};
 ghost use Rattle.section_sum.specs.Paired.{AreSources};
 
 use crate::cells::Cells;
 use crate::lock::Lock;
-use crate::locks::{close_under, has_room_held, make_room_held, note_held, sources_under};
+use crate::locks::{close_under, note_held, ready_under, sources_under};
 use crate::sources::Sources;
-use event_core::{AccessKind, LockId, OutOfMemory, ThreadId, VarId};
+use event_core::{AccessKind, LockId, OutOfMemory, ThreadId, VarId, grow_to};
 use std::alloc::Global;
 use std::marker::Model;
 
@@ -33,7 +33,7 @@ pub struct Summaries {
 
 impl Model for Summaries {
     ghost use Rattle.section_sum.specs.Sums.{Sums};
-    ghost use Rattle.section_sum.specs.Kept.{AreKept, IsFitted};
+    ghost use Rattle.section_sum.specs.LockSums.{AreKept, IsFitted};
 
     ghost Value = { Sums };
 
@@ -61,10 +61,10 @@ impl Summaries {
     /// these locks take no hash. A refused growth is answered by `OutOfMemory`, and the same call can be made
     /// again.
     #[inline(always)]
-    pub fn make_room(&mut self, held: &[LockId], var: VarId) -> Result<(), OutOfMemory>
-        ensures room { OnOk result (HasRoom self.new held.now var.0) }
-        ensures refused { OnErr result (HasRoom self.new held.now var.0 → ⊥) }
-        ensures kept { KeepsRoom self.old self.new }
+    pub fn prepare(&mut self, held: &[LockId], var: VarId) -> Result<(), OutOfMemory>
+        ensures ready { OnOk result (IsReady self.new held.now var.0) }
+        ensures refused { OnErr result (IsReady self.new held.now var.0 → ⊥) }
+        ensures kept { KeepsReady self.old self.new }
         ensures grown { GrownFor self.old self.new held.now var.0 }
 
         // In any case the same is known.
@@ -72,20 +72,32 @@ impl Summaries {
         ensures others { SameOthers self.old self.new }
         ensures stands { (log : List Event) → Stands log self.old → Stands log self.new }
     {
-        make_room_held(&mut self.cells, &mut self.locks, self.alloc, held, var)
+        let alloc = self.alloc;
+        for lock in held {
+            let at = lock.0 as usize;
+            grow_to(&mut self.locks, at + 1, || Lock::new(alloc))?;
+            let kept = &mut self.locks[at];
+            kept.prepare(&mut self.cells, *lock, var)?;
+        }
+        Ok(())
     }
 
     /// Whether such accesses need no memory. Takes none.
     pub fn ready(&self, held: &[LockId], var: VarId) -> bool
-        ensures { IsTrue result ↔ HasRoom self.now held.now var.0 }
+        ensures { IsTrue result ↔ IsReady self.now held.now var.0 }
     {
-        has_room_held(&self.cells, &self.locks, held, var)
+        for lock in held {
+            if !ready_under(&self.cells, &self.locks, *lock, var) {
+                return false;
+            }
+        }
+        true
     }
 
     /// The thread, which has open sections on the locks, has such an access in each of them. Takes no memory.
     #[inline(always)]
     pub fn note(&mut self, thread: ThreadId, held: &[LockId], var: VarId, kind: AccessKind)
-        requires room { HasRoom self.old held.now var.0 }
+        requires ready { IsReady self.old held.now var.0 }
         requires alone { IsAlone self.old thread.0 held.now }
         ensures noted { (t l v : ℕ) (k : Kind) → noted_of self.new t l v k
             ≡ (noted_of self.old t l v k || is_access thread.0 held.now var.0 kind t l v k) }
@@ -93,7 +105,7 @@ impl Summaries {
         ensures stands { (limits : Limits) (log : List Event) (e : Event) → WellFormed limits (log ++ e ∷ [])
             → IsAccess thread var kind e → AreHeld log thread held.now
             → Stands log self.old → Stands (log ++ e ∷ []) self.new }
-        ensures kept { KeepsRoom self.old self.new }
+        ensures kept { KeepsReady self.old self.new }
     {
         note_held(&mut self.cells, &mut self.locks, thread, held, var, kind);
     }
@@ -110,7 +122,7 @@ impl Summaries {
         ensures stands { (limits : Limits) (log : List Event) (e : Event) → WellFormed limits (log ++ e ∷ [])
             → EndsSection log thread lock e → number ≡ ended log lock + 1
             → Stands log self.old → Stands (log ++ e ∷ []) self.new }
-        ensures kept { KeepsRoom self.old self.new }
+        ensures kept { KeepsReady self.old self.new }
     {
         close_under(&mut self.cells, &mut self.locks, thread, lock, number);
     }

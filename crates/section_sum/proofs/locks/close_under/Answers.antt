@@ -3,9 +3,10 @@ use Rattle.std.proofs.lemmas.List.{get_or_default}
 use Rattle.std.specs.Prelude.{nat_eq}
 use Rattle.section_sum.specs.Cell.{cell_at, closed_as}
 use Rattle.section_sum.specs.Cells.{lock_at}
-use Rattle.section_sum.specs.Kept.{Kept, no_kept, kept_at}
+use Rattle.section_sum.specs.LockSums.{LockSum, no_kept, kept_at}
 use Rattle.section_sum.proofs.Keeping.{kept_other}
-use Rattle.section_sum.proofs.Passing.{closed_one}
+use Rattle.section_sum.specs.Entries.{HasClosed}
+use Rattle.section_sum.proofs.Passing.{one_lock, closed_none}
 use Rattle.section_sum.proofs.Sayings.{kept_set, kept_read, kept_back, says_other, says_ended}
 use Rattle.section_sum.proofs.Sayings.{ended_changed, ended_none}
 use Rattle.section_sum.proofs.locks.close_under.Goals as goal
@@ -38,16 +39,16 @@ returns-then-eq-clause-closed c =
     let by : c.index_mut-kept.result.now.by ≡ c.args.thread.0 = search rules in
     let changed = ended_changed c.args.lock.0 _ c.args.number c.args.cells.now c.close.new.cells
     (c.requires.kept 0).same c.close.ensures.kept.same c.close.ensures.places c.close.ensures.exact in
-    closed_one c.args.thread.0 c.args.lock.0 c.args.number _ _
+    one_lock (HasClosed c.args.thread.0 c.args.number) c.args.lock.0 _ _
     (says_ended c.args.lock.0 c.args.thread.0 c.args.number c.args.cells.now c.close.new.cells
-    c.args.locks.now.items c.close.new.self h (c.close.ensures.by ∙ ap (λ (k : Kept). k.by) old)
-    (sym (ap (λ (k : Kept). k.by) old) ∙ by) (c.requires.kept 0).same c.close.ensures.places
+    c.args.locks.now.items c.close.new.self h (c.close.ensures.by ∙ ap (λ (k : LockSum). k.by) old)
+    (sym (ap (λ (k : LockSum). k.by) old) ∙ by) (c.requires.kept 0).same c.close.ensures.places
     (λ i. c.close.ensures.exact i
-    ∙ ap (λ (k : Kept).
+    ∙ ap (λ (k : LockSum).
     closed_as (nat_eq (lock_at c.args.cells.now.places i) c.args.lock.0) k.by c.args.number
     (cell_at c.args.cells.now.cells i)) old))
-    (λ m n. says_other c.args.lock.0 m c.args.cells.now c.close.new.cells c.args.locks.now.items
-    c.close.new.self n changed)
+    (λ m n. closed_none c.args.thread.0 c.args.number _ _ (says_other c.args.lock.0 m c.args.cells.now
+    c.close.new.cells c.args.locks.now.items c.close.new.self n changed))
 
 pub returns-else-at-len-clause-closed : goal.returns-else-at-len-clause-closed
 returns-else-at-len-clause-closed c =

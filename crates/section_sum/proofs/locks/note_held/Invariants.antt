@@ -1,5 +1,5 @@
 use Rattle.std.proofs.Common.{take}
-use Rattle.section_sum.specs.Kept.{AreKept, IsFitted}
+use Rattle.section_sum.specs.LockSums.{AreKept, IsFitted}
 use Rattle.section_sum.specs.Entries.{entries_of}
 use Rattle.section_sum.specs.Locks.{HaveNoted}
 use Rattle.section_sum.proofs.locks.note_held.Given as goal

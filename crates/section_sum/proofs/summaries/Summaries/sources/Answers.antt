@@ -1,6 +1,6 @@
 use Rattle.std.proofs.Common.{◌≤◌, List, length, subst, sym, ap, ◌∙◌}
 use Rattle.std.specs.Prelude.{ℕ}
-use Rattle.section_sum.specs.Kept.{Kept}
+use Rattle.section_sum.specs.LockSums.{LockSum}
 use Rattle.section_sum.specs.Entries.{entries_of, sources_on}
 use Rattle.section_sum.specs.Sums.{Sums, sources_of}
 use Rattle.section_sum.specs.Sources.{left, most_sources}
@@ -11,7 +11,7 @@ use Rattle.section_sum.proofs.summaries.Summaries.sources.Goals as goal
 pub returns-clause-exact : goal.returns-clause-exact
 returns-clause-exact c =
     c.sources_under.ensures
-    ∙ ap (λ (ks : List Kept). sources_on (entries_of c.self.inside.cells ks c.args.lock.0) c.args.var.0
+    ∙ ap (λ (ks : List LockSum). sources_on (entries_of c.self.inside.cells ks c.args.lock.0) c.args.var.0
     c.args.kind c.args.thread.0) c.deref.ensures.value
     ∙ meets (sums c.self.inside.cells c.self.inside.locks.items) c.args.lock.0 c.args.var.0 c.args.kind
     c.args.thread.0

@@ -28,17 +28,17 @@ use Rattle.section_sum.specs.declared.lock.Sought.{Sought}
 
 -- the thread of the open section, how many cells the lock has, those with an access in the open section, for
 -- how many of them there is room, and what was sought
-pub record Kept : Type 0 where
+pub record LockSum : Type 0 where
   pub by : ℕ
   pub count : ℕ
   pub listed : List ℕ
   pub most : ℕ
   pub sought : Option Sought
 
-abbrev pub no_kept : Kept
+abbrev pub no_kept : LockSum
 no_kept = record { by = 0; count = 0; listed = []; most = 0; sought = None }
 
-abbrev pub kept_at : List Kept → ℕ → Kept
+abbrev pub kept_at : List LockSum → ℕ → LockSum
 kept_at locks l = slice_index_or locks l no_kept
 
 -- the cell with the number is one of the lock
@@ -59,7 +59,7 @@ pub record AreListed (l : ℕ) (s : Stored) (listed : List ℕ) : Type 0 where
   pub own : (i : ℕ) → list_any (nat_eq i) listed ≡ true → (i < length s.places) × (is_own l s i ≡ true)
 
 -- what is kept of the lock fits its cells
-pub record IsKept (l : ℕ) (s : Stored) (k : Kept) : Type 0 where
+pub record IsKept (l : ℕ) (s : Stored) (k : LockSum) : Type 0 where
   -- a cell for each place
   pub same : length s.cells ≡ length s.places
   pub listed : AreListed l s k.listed
@@ -72,7 +72,7 @@ pub record IsKept (l : ℕ) (s : Stored) (k : Kept) : Type 0 where
   pub sought : IsSought l s.places k.sought
 
 -- and so is what is kept of each lock
-abbrev pub AreKept : Stored → List Kept → Type 0
+abbrev pub AreKept : Stored → List LockSum → Type 0
 AreKept s locks = (l : ℕ) → IsKept l s (kept_at locks l)
 
 -- there is memory for at most twice as many rows as there are

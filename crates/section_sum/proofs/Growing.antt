@@ -1,0 +1,102 @@
+-- What is so of all locks while cells join for one lock after another.
+use Rattle.std.proofs.Common.{◌≡◌, ℕ, ◌<◌, true, List, length, get_or, set, take, refl, sym, ap, subst, ◌∙◌}
+use Rattle.std.proofs.Common.{◌+◌, inl, inr, nat_eq, ◌&&◌, false}
+use Rattle.event_core.specs.declared.ids.LockId.{LockId}
+use Rattle.std.proofs.lemmas.Bool.{false≢true}
+use Rattle.section_sum.specs.Cells.{Stored, has_cell, HasGrown}
+use Rattle.section_sum.specs.LockSums.{LockSum, no_kept, kept_at, IsKept, AreKept}
+use Rattle.section_sum.specs.Entries.{entries_of, SaysSame}
+use Rattle.section_sum.specs.Locks.{SaySame, HaveGrown}
+use Rattle.section_sum.specs.Sums.{Sums, said_of, is_held, is_ready, noted_of, others_of, GrownFor}
+use Rattle.section_sum.specs.Sums.{KeepsReady}
+use Rattle.section_sum.specs.Sums.{SameNoted, SameOthers}
+use Rattle.section_sum.specs.Standing.{Stands}
+use Rattle.event_core.specs.declared.events.Event.{Event}
+use Rattle.section_sum.proofs.Basics.{at_set}
+use Rattle.section_sum.proofs.Passing.{same_said, same_then, held_each, not_held}
+use Rattle.section_sum.proofs.Sayings.{kept_set, kept_grown, says_more, no_more}
+use Rattle.section_sum.proofs.Meaning.{sums}
+use Rattle.section_sum.proofs.Steps.{same_stands}
+
+-- the variable has cells under the first so many of the locks, and no other cell joined
+pub record Grown (held : List LockId) (var i : ℕ) (before : Sums) (cells : Stored) (locks : List LockSum)
+    : Type 0 where
+  pub kept : AreKept cells locks
+  pub same : SaySame (said_of before) (entries_of cells locks)
+  pub ready : (l : ℕ) → is_held (take i held) l ≡ true → has_cell cells l var ≡ true
+  pub grown : HaveGrown held var before.cells cells
+
+pub none_grown : (held : List LockId) (var : ℕ) (cells : Stored) (locks : List LockSum) → AreKept cells locks
+    → Grown held var 0 (sums cells locks) cells locks
+none_grown held var cells locks kept = record {
+  kept = kept;
+  same = same_said (entries_of cells locks);
+  ready = λ l on. absurd (false≢true on);
+  grown = λ l v off. refl;
+}
+
+module _ {held : List LockId} {var i : ℕ} {before : Sums} {cells : Stored} {locks : List LockSum}
+    (g : Grown held var i before cells locks) where
+  -- locks join of which nothing is kept
+  pub more_locks : (after : List LockSum) → ((m : ℕ) → kept_at after m ≡ kept_at locks m)
+      → Grown held var i before cells after
+  more_locks after alike = record {
+    kept = λ m. subst (IsKept m cells) (sym (alike m)) (g.kept m);
+    same = λ m. subst (λ (k : LockSum). SaysSame (said_of before m)
+        (record (entries_of cells locks m) { by = k.by })) (sym (alike m)) (g.same m);
+    ready = g.ready;
+    grown = g.grown;
+  }
+
+  -- a cell joins for one of the locks, or none
+  pub one_grown : (new : Stored) (l : ℕ) (k : LockSum) → l < length locks → is_held held l ≡ true
+      → HasGrown l var cells new → IsKept l new k → k.by ≡ (kept_at locks l).by
+      → Grown held var i before new (set locks l k)
+  one_grown new l k h on grown own by = record {
+    kept = kept_set l new locks k h own
+        (λ m n. kept_grown l var m cells new (kept_at locks m) n grown (g.kept m));
+    same = same_then (said_of before) (entries_of cells locks) (entries_of new (set locks l k)) g.same says;
+    ready = λ m e. (says m).ready var (g.ready m e);
+    grown = λ m v off. joins grown m v (not_held held l on m _ off) ∙ g.grown m v off;
+  }
+    where
+      says : SaySame (entries_of cells locks) (entries_of new (set locks l k))
+      says m =
+          says_more l var m cells new locks (set locks l k) (g.kept 0).same grown
+          (at_set no_kept (λ (j : ℕ) (q : LockSum). q.by ≡ (kept_at locks j).by) locks l k h by m (λ _. refl))
+
+      joins : HasGrown l var cells new → (m v : ℕ) → (nat_eq m l && nat_eq v var) ≡ false
+          → has_cell new m v ≡ has_cell cells m v
+      joins (inl e) m v off = ap (λ (s : Stored). has_cell s m v) e
+      joins (inr (n, e)) m v off =
+          ap (λ (s : Stored). has_cell s m v) e ∙ no_more cells l var m v off
+
+  -- the variable has a cell under one lock more
+  pub next_grown : (m : LockId) → i < length held → has_cell cells (get_or held i m).0 var ≡ true
+      → Grown held var (i + 1) before cells locks
+  next_grown m h there = record {
+    kept = g.kept;
+    same = g.same;
+    ready = held_each (λ l. has_cell cells l var ≡ true) held i m h g.ready there;
+    grown = g.grown;
+  }
+
+-- so what they mean is the same
+pub record Prepared (held : List LockId) (var : ℕ) (old new : Sums) : Type 0 where
+  pub kept : KeepsReady old new
+  pub grown : GrownFor old new held var
+  pub noted : SameNoted old new
+  pub others : SameOthers old new
+  pub stands : (log : List Event) → Stands log old → Stands log new
+
+pub prepared : {held : List LockId} {var i : ℕ} {before : Sums} {cells : Stored} {locks : List LockSum}
+    → Grown held var i before cells locks → Prepared held var before (sums cells locks)
+unfolding noted_of others_of is_ready
+prepared g = record {
+  kept = λ l v. (g.same l).ready v;
+  grown = g.grown;
+  noted = λ t l v k. (g.same l).noted t v k;
+  others = λ l v k t. (g.same l).others v k t;
+  stands = λ log. same_stands log _ _ (λ t l v k. (g.same l).noted t v k)
+      (λ l v k t. (g.same l).others v k t);
+}
