@@ -1,119 +1,222 @@
--- Which sections a clock counts, where it counts each that is earlier than a counted one.
-use Rattle.std.proofs.Common.{◌≡◌, ℕ, suc, zero, ◌+◌, ◌<◌, ◌≤◌, ◌⊎◌, Bool, true, false, cond, List, [], ◌∷◌}
-use Rattle.std.proofs.Common.{map, length}
-use Rattle.std.proofs.Common.{refl, ap, arith}
-use Rattle.std.proofs.lemmas.Bool.{cases_Bool, leb-true, le-leb}
+-- Which sections of a list a clock counts, where it counts each that stands before a counted one.
+use Rattle.std.proofs.Common.{◌≡◌, ℕ, suc, zero, ◌-◌, ◌<◌, ◌≤◌, ◌⊎◌, max, Bool, true, false, cond, List, []}
+use Rattle.std.proofs.Common.{◌∷◌}
+use Rattle.std.proofs.Common.{length, refl, sym, ap, ◌∙◌, arith, Option, Some, None}
+use Rattle.std.proofs.lemmas.Bool.{cases_Bool, cases_lt}
+use Rattle.std.specs.Option.{option_or}
 use mathlib.Core.Logic.{inl, inr}
-use Rattle.event_core.specs.Closed.{Has, first, later, is_counted, number_counted}
-use Rattle.hb_clocks.specs.Counts.{counts_of}
-use Rattle.lock_queues.specs.Sections.{Section, closed_as, section_at, closed_at, IsCounted, AreRising}
-use Rattle.lock_queues.specs.Searched.{CountsEarlier}
+use Rattle.event_core.specs.Closed.{Closed, Has, first, later, is_counted, number_counted, below_closed}
+use Rattle.event_core.specs.Rows.{no_clock}
+use Rattle.event_core.proofs.SectionSteps.{number_most}
+use Rattle.lock_queues.specs.Sections.{closed_at, latest_counted, AreRising}
+use Rattle.lock_queues.specs.Searched.{CountsEarlier, IsLatestBefore}
 
--- a clock that counts a section counts each one before it
-abbrev pub CountsBefore : List Section → List ℕ → Type 0
-CountsBefore ss clock = (k m : ℕ) → k ≤ m → m < length ss → IsCounted ss clock m → IsCounted ss clock k
+-- the clock counts the section at the place
+abbrev pub CountsAt : (ℕ → ℕ) → List Closed → ℕ → Type 0
+CountsAt c qs k = is_counted c (closed_at qs k) ≡ true
 
--- how many the clock counts
-abbrev pub number : List ℕ → List Section → ℕ
-number clock ss = number_counted (counts_of clock) (map closed_as ss)
+-- with a section it counts each one before it
+abbrev pub CountsBefore : (ℕ → ℕ) → List Closed → Type 0
+CountsBefore c qs = (k m : ℕ) → k ≤ m → m < length qs → CountsAt c qs m → CountsAt c qs k
 
--- whether it counts the section
-abbrev pub counts : List ℕ → Section → Bool
-counts clock s = is_counted (counts_of clock) (closed_as s)
-
-pub closed_at_is : (ss : List Section) (k : ℕ) → closed_at (map closed_as ss) k ≡ closed_as (section_at ss k)
-closed_at_is [] k = refl
-closed_at_is (s ∷ ss) zero = refl
-closed_at_is (s ∷ ss) (suc k) = closed_at_is ss k
-
-pub has_at : (ss : List Section) (k : ℕ) → k < length ss
-    → Has (closed_as (section_at ss k)) (map closed_as ss)
+pub has_at : (qs : List Closed) (k : ℕ) → k < length qs → Has (closed_at qs k) qs
 has_at [] k lt = absurd (omega arith)
-has_at (s ∷ ss) zero lt = first (closed_as s) (map closed_as ss) refl
-has_at (s ∷ ss) (suc k) lt = later (closed_as s) (map closed_as ss) (has_at ss k (omega arith))
-
-pub is_counted_at : (ss : List Section) (clock : List ℕ) (k : ℕ) → IsCounted ss clock k
-    → counts clock (section_at ss k) ≡ true
-is_counted_at ss clock k h =
-    le-leb (section_at ss k).acquire.position (counts_of clock (section_at ss k).acquire.thread) h
-
-counted_at : (ss : List Section) (clock : List ℕ) (k : ℕ) → counts clock (section_at ss k) ≡ true
-    → IsCounted ss clock k
-counted_at ss clock k t =
-    leb-true (section_at ss k).acquire.position (counts_of clock (section_at ss k).acquire.thread) t
+has_at (q ∷ qs) zero lt = first q qs refl
+has_at (q ∷ qs) (suc k) lt = later q qs (has_at qs k (omega arith))
 
 -- what is asked of the clock, by place
-pub counts_before : (ss : List Section) (clock : List ℕ) → AreRising ss
-    → CountsEarlier (counts_of clock) (map closed_as ss) → CountsBefore ss clock
-counts_before ss clock rising earlier k m le lt h =
-    let x = section_at ss k in
-    let y = section_at ss m in
-    counted_at ss clock k (earlier (closed_as x) (closed_as y) (has_at ss k (omega arith)) (has_at ss m lt)
-    (λ u. rising k m u le lt) (is_counted_at ss clock m h))
+pub counts_before : (c : ℕ → ℕ) (qs : List Closed) → AreRising qs → CountsEarlier c qs → CountsBefore c qs
+counts_before c qs rising earlier k m le lt h =
+    earlier (closed_at qs k) (closed_at qs m) (has_at qs k (omega arith)) (has_at qs m lt)
+    (λ u. rising k m u le lt) h
 
-pub rest_before : (s : Section) (ss : List Section) (clock : List ℕ) → CountsBefore (s ∷ ss) clock
-    → CountsBefore ss clock
-rest_before s ss clock h k m le lt is = h (suc k) (suc m) (omega arith) (omega arith) is
+-- where the first n are counted, so many are
+pub number_least : (c : ℕ → ℕ) (qs : List Closed) (n : ℕ) → n ≤ length qs
+    → ((k : ℕ) → k < n → CountsAt c qs k) → n ≤ number_counted c qs
+number_least c qs zero le counted = omega arith
+number_least c [] (suc n) le counted = absurd (omega arith)
+number_least c (q ∷ qs) (suc n) le counted =
+    let rest = number_least c qs n (omega arith) (λ k lt. counted (suc k) (omega arith)) in
+    let head : cond {A = ℕ} (is_counted c q) 1 0 ≡ 1
+    = ap (λ b. cond {A = ℕ} b 1 0) (counted 0 (omega arith)) in
+    omega (arith, rest, head)
 
-pub counts_head : (s : Section) (ss : List Section) (clock : List ℕ) → counts clock s ≡ true
-    → number clock (s ∷ ss) ≡ 1 + number clock ss
-counts_head s ss clock t = ap (λ (b : Bool). cond {A = ℕ} b 1 0 + number clock ss) t
-
-pub skips_head : (s : Section) (ss : List Section) (clock : List ℕ) → counts clock s ≡ false
-    → number clock (s ∷ ss) ≡ 0 + number clock ss
-skips_head s ss clock f = ap (λ (b : Bool). cond {A = ℕ} b 1 0 + number clock ss) f
-
-not_counted : (s : Section) (ss : List Section) (clock : List ℕ) → (IsCounted (s ∷ ss) clock 0 → ⊥)
-    → counts clock s ≡ false
-not_counted s ss clock not_so = go (cases_Bool (counts clock s))
+-- where the counted ones come first, they are so many
+pub counted_first : (c : ℕ → ℕ) (qs : List Closed) → CountsBefore c qs → (k : ℕ) → k < number_counted c qs
+    → CountsAt c qs k
+counted_first c [] before k lt = absurd (omega arith)
+counted_first c (q ∷ qs) before k lt =
+    go (cases_Bool (is_counted c q)) k lt
+    (counted_first c qs (λ i m le l h. before (suc i) (suc m) (omega arith) (omega arith) h))
   where
-    go : (counts clock s ≡ true) ⊎ (counts clock s ≡ false) → counts clock s ≡ false
-    go (inl t) = absurd (not_so (counted_at (s ∷ ss) clock 0 t))
-    go (inr f) = f
+    go : (is_counted c q ≡ true) ⊎ (is_counted c q ≡ false) → (k : ℕ) → k < number_counted c (q ∷ qs)
+        → ((k : ℕ) → k < number_counted c qs → CountsAt c qs k) → CountsAt c (q ∷ qs) k
+    go (inl t) zero lt rest = t
+    go (inl t) (suc k) lt rest =
+        let head : cond {A = ℕ} (is_counted c q) 1 0 ≡ 1 = ap (λ b. cond {A = ℕ} b 1 0) t in
+        rest k (omega (arith, lt, head))
+    go (inr f) k lt rest =
+        let head : cond {A = ℕ} (is_counted c q) 1 0 ≡ 0 = ap (λ b. cond {A = ℕ} b 1 0) f in
+        let most = number_most c qs in
+        let t : is_counted c q ≡ true
+        = before 0 1 (omega arith) (omega (arith, lt, head, most)) (rest 0 (omega (arith, lt, head))) in
+        absurd (let both : true ≡ false = sym t ∙ f in cc)
 
--- a search that stops at f has found the counted ones
-pub number_is : (ss : List Section) (clock : List ℕ) (f : ℕ) → f ≤ length ss
-    → ((k : ℕ) → k < f → IsCounted ss clock k) → (f < length ss → IsCounted ss clock f → ⊥)
-    → CountsBefore ss clock → number clock ss ≡ f
-number_is [] clock f le counted stop before = omega arith
-number_is (s ∷ ss) clock zero le counted stop before =
-    let rest : number clock ss ≡ 0
-    = number_is ss clock 0 (omega arith) (λ k lt. absurd (omega arith))
-    (λ lt is. stop (omega arith) (before 0 1 (omega arith) (omega arith) is))
-    (rest_before s ss clock before) in
-    let head = skips_head s ss clock (not_counted s ss clock (stop (omega arith))) in
+-- a counted one is among so many
+counted_within : (c : ℕ → ℕ) (qs : List Closed) (k : ℕ) → CountsBefore c qs → k < length qs → CountsAt c qs k
+    → k < number_counted c qs
+counted_within c qs k before lt is =
+    let le = number_least c qs (suc k) (omega arith) (λ j l. before j k (omega arith) lt is) in
+    omega (arith, le)
+
+-- a search that stops at n has found the counted ones
+pub number_is : (c : ℕ → ℕ) (qs : List Closed) (n : ℕ) → n ≤ length qs → ((k : ℕ) → k < n → CountsAt c qs k)
+    → (n < length qs → CountsAt c qs n → ⊥) → CountsBefore c qs → number_counted c qs ≡ n
+number_is c qs n le counted stopped before =
+    let least = number_least c qs n le counted in
+    let most = number_most c qs in
+    elim (cases_lt n (number_counted c qs)) [
+      | inl lt ↦ absurd (stopped (omega (arith, lt, most)) (counted_first c qs before n lt))
+      | inr past ↦ omega (arith, least, past)
+    ]
+
+-- the latest that is counted, by its place
+pub record IsLatestAt (c : ℕ → ℕ) (qs : List Closed) (q : Closed) : Type 0 where
+  pub place : ℕ
+  pub within : place < length qs
+  pub is : closed_at qs place ≡ q
+  pub counted : CountsAt c qs place
+  pub latest : (m : ℕ) → m < length qs → CountsAt c qs m → m ≤ place
+
+pub none_counted : (c : ℕ → ℕ) (qs : List Closed) → latest_counted c qs ≡ None → (m : ℕ) → m < length qs
+    → CountsAt c qs m → ⊥
+none_counted c [] e m lt h = omega arith
+none_counted c (q ∷ qs) e m lt h =
+    go (latest_counted c qs) refl (is_counted c q) refl e m lt h (none_counted c qs)
+  where
+    go : (o : Option Closed) → latest_counted c qs ≡ o → (b : Bool) → is_counted c q ≡ b
+        → option_or o (cond b (Some q) None) ≡ None → (m : ℕ) → m < length (q ∷ qs) → CountsAt c (q ∷ qs) m
+        → (latest_counted c qs ≡ None → (m : ℕ) → m < length qs → CountsAt c qs m → ⊥) → ⊥
+    go (Some x) oe b be e m lt h rest = cc
+    go None oe true be e m lt h rest = cc
+    go None oe false be e zero lt h rest = let both : true ≡ false = sym h ∙ be in cc
+    go None oe false be e (suc m) lt h rest = rest oe m (omega arith) h
+
+pub latest_place : (c : ℕ → ℕ) (qs : List Closed) (x : Closed) → latest_counted c qs ≡ Some x
+    → IsLatestAt c qs x
+latest_place c [] x e = absurd cc
+latest_place c (q ∷ qs) x e =
+    go (latest_counted c qs) refl (is_counted c q) refl e (latest_place c qs x) (none_counted c qs)
+  where
+    go : (o : Option Closed) → latest_counted c qs ≡ o → (b : Bool) → is_counted c q ≡ b
+        → option_or o (cond b (Some q) None) ≡ Some x
+        → (latest_counted c qs ≡ Some x → IsLatestAt c qs x)
+        → (latest_counted c qs ≡ None → (m : ℕ) → m < length qs → CountsAt c qs m → ⊥)
+        → IsLatestAt c (q ∷ qs) x
+    go (Some y) oe b be e rest none =
+        let r = rest (oe ∙ e) in
+        let lt : r.place < length qs = r.within in
+        record {
+          place = suc r.place;
+          within = omega arith;
+          is = r.is;
+          counted = r.counted;
+          latest = later r;
+        }
+      where
+        later : (r : IsLatestAt c qs x) → (m : ℕ) → m < length (q ∷ qs) → CountsAt c (q ∷ qs) m
+            → m ≤ suc r.place
+        later r zero lt h = omega arith
+        later r (suc m) lt h = let le = r.latest m (omega arith) h in omega (arith, le)
+    go None oe true be e rest none = record {
+      place = 0;
+      within = omega arith;
+      is = (let same : Some q ≡ Some x = e in cc);
+      counted = be;
+      latest = only;
+    }
+      where
+        only : (m : ℕ) → m < length (q ∷ qs) → CountsAt c (q ∷ qs) m → m ≤ 0
+        only zero lt h = omega arith
+        only (suc m) lt h = absurd (none oe m (omega arith) h)
+    go None oe false be e rest none = absurd cc
+
+-- the greatest release clock is the least bound of those of the counted ones
+below_least : (c : ℕ → ℕ) (qs : List Closed) (u bound : ℕ)
+    → ((k : ℕ) → k < length qs → CountsAt c qs k → (closed_at qs k).release u ≤ bound)
+    → below_closed c qs u ≤ bound
+below_least c [] u bound h = omega arith
+below_least c (q ∷ qs) u bound h =
+    go (is_counted c q) refl (below_least c qs u bound (λ k lt is. h (suc k) (omega arith) is))
+  where
+    go : (b : Bool) → is_counted c q ≡ b → below_closed c qs u ≤ bound
+        → max (cond b q.release no_clock u) (below_closed c qs u) ≤ bound
+    go true is rest = let head = h 0 (omega arith) is in omega arith
+    go false is rest = omega arith
+
+below_most : (c : ℕ → ℕ) (qs : List Closed) (u k : ℕ) → k < length qs → CountsAt c qs k
+    → (closed_at qs k).release u ≤ below_closed c qs u
+below_most c [] u k lt is = absurd (omega arith)
+below_most c (q ∷ qs) u zero lt is =
+    let all : below_closed c (q ∷ qs) u ≡ max (q.release u) (below_closed c qs u)
+    = ap (λ b. max (cond b q.release no_clock u) (below_closed c qs u)) is in
     omega arith
-number_is (s ∷ ss) clock (suc f) le counted stop before =
-    let rest : number clock ss ≡ f
-    = number_is ss clock f (omega arith) (λ k lt. counted (suc k) (omega arith))
-    (λ lt is. stop (omega arith) is) (rest_before s ss clock before) in
-    let head = counts_head s ss clock (is_counted_at (s ∷ ss) clock 0 (counted 0 (omega arith))) in
+below_most c (q ∷ qs) u (suc k) lt is =
+    let rest = below_most c qs u k (omega arith) is in
+    let all : below_closed c (q ∷ qs) u
+    ≡ max (cond (is_counted c q) q.release no_clock u) (below_closed c qs u) = refl in
     omega arith
 
-pub number_within : (ss : List Section) (clock : List ℕ) → number clock ss ≤ length ss
-number_within [] clock = omega arith
-number_within (s ∷ ss) clock = go (number_within ss clock) (cases_Bool (counts clock s))
-  where
-    go : number clock ss ≤ length ss → (counts clock s ≡ true) ⊎ (counts clock s ≡ false)
-        → number clock (s ∷ ss) ≤ length (s ∷ ss)
-    go rest (inl t) = let head = counts_head s ss clock t in omega arith
-    go rest (inr f) = let head = skips_head s ss clock f in omega arith
+module _ (c : ℕ → ℕ) (qs : List Closed) (before : CountsBefore c qs) (rising : AreRising qs) where
+  none_latest : number_counted c qs ≡ 0 → latest_counted c qs ≡ None
+  none_latest none = go (latest_counted c qs) refl
+    where
+      go : (o : Option Closed) → latest_counted c qs ≡ o → o ≡ None
+      go None e = refl
+      go (Some x) e =
+          let p = latest_place c qs x e in
+          let lt = counted_within c qs p.place before p.within p.counted in
+          absurd (omega (arith, lt, none))
 
--- the counted sections are the first ones
-pub counted_below : (ss : List Section) (clock : List ℕ) (k : ℕ) → CountsBefore ss clock → k < number clock ss
-    → IsCounted ss clock k
-counted_below [] clock k before lt = absurd (omega arith)
-counted_below (s ∷ ss) clock k before lt =
-    go k lt (λ j l. counted_below ss clock j (rest_before s ss clock before) l) (cases_Bool (counts clock s))
-  where
-    go : (k : ℕ) → k < number clock (s ∷ ss) → ((j : ℕ) → j < number clock ss → IsCounted ss clock j)
-        → (counts clock s ≡ true) ⊎ (counts clock s ≡ false) → IsCounted (s ∷ ss) clock k
-    go zero lt rest (inl t) = counted_at (s ∷ ss) clock 0 t
-    go (suc k) lt rest (inl t) = let head = counts_head s ss clock t in rest k (omega arith)
-    go k lt rest (inr f) =
-        let head = skips_head s ss clock f in
-        let some : 0 < number clock ss = omega arith in
-        let n = number_within ss clock in
-        let t : counts clock s ≡ true
-        = is_counted_at (s ∷ ss) clock 0 (before 0 1 (omega arith) (omega arith) (rest 0 some)) in
-        absurd (cc)
+  last_latest : 0 < number_counted c qs → latest_counted c qs ≡ Some (closed_at qs (number_counted c qs - 1))
+  last_latest some = go (latest_counted c qs) refl
+    where
+      last : CountsAt c qs (number_counted c qs - 1)
+      last = counted_first c qs before (number_counted c qs - 1) (omega arith)
+
+      go : (o : Option Closed) → latest_counted c qs ≡ o → o ≡ Some (closed_at qs (number_counted c qs - 1))
+      go None e =
+          let most = number_most c qs in
+          absurd (none_counted c qs e (number_counted c qs - 1) (omega arith) last)
+      go (Some x) e =
+          let p = latest_place c qs x e in
+          let lt = counted_within c qs p.place before p.within p.counted in
+          let most = number_most c qs in
+          let le = p.latest (number_counted c qs - 1) (omega arith) last in
+          let at : p.place ≡ number_counted c qs - 1 = omega (arith, lt, le, some) in
+          ap Some (sym p.is ∙ ap (closed_at qs) at)
+
+  last_below : (u : ℕ) → 0 < number_counted c qs
+      → below_closed c qs u ≡ (closed_at qs (number_counted c qs - 1)).release u
+  last_below u some =
+      let most = number_most c qs in
+      let least = below_least c qs u ((closed_at qs (number_counted c qs - 1)).release u)
+      (λ k lt is. let l = counted_within c qs k before lt is in
+      rising k (number_counted c qs - 1) u (omega (arith, l)) (omega (arith, most, some))) in
+      let greatest = below_most c qs u (number_counted c qs - 1) (omega (arith, most, some))
+      (counted_first c qs before (number_counted c qs - 1) (omega arith)) in
+      omega (arith, least, greatest)
+
+  pub latest_before : IsLatestBefore c qs (number_counted c qs)
+  latest_before = record {
+    none_latest = none_latest;
+    none_below = λ none i u. none_below none u i;
+    latest = last_latest;
+    below = λ some i u. last_below u some i;
+  }
+    where
+      none_below : number_counted c qs ≡ 0 → (u : ℕ) → below_closed c qs u ≡ 0
+      none_below none u =
+          let le = below_least c qs u 0 (λ k lt is.
+          (let l = counted_within c qs k before lt is in absurd (omega (arith, l, none)))) in
+          omega (arith, le)

@@ -8,55 +8,50 @@ use Rattle.std.proofs.lemmas.List.{get_or_push, get_or_append_left, length_push,
 use Rattle.std.proofs.lemmas.List.{get_or-set_other}
 use Rattle.std.proofs.lemmas.List.Edits.{length-remove}
 use mathlib.Core.Logic.{inl, inr}
-use Rattle.lock_queues.specs.declared.rooms.Room.{Room}
+use Rattle.lock_queues.specs.declared.slots.Slot.{Slot}
 use Rattle.lock_queues.specs.declared.sections.Entry.{Entry}
 use Rattle.lock_queues.specs.Sections.{entry_at, no_entry}
-use Rattle.lock_queues.specs.Rooms.{has_room_in, IsRoom, AreRooms}
-use Rattle.lock_queues.specs.Queue.{Kept, IsKept}
-use Rattle.lock_queues.proofs.Lookup.{thread_at, room_is, rooms_more, rooms_set, rooms_push, rooms_remove}
-use Rattle.lock_queues.proofs.Placing.{Placed, placed_within}
+use Rattle.lock_queues.specs.Slots.{has_slot, no_slot, IsSlot, AreSlots}
+use Rattle.lock_queues.specs.Queue.{OneQueue, IsKept}
+use Rattle.lock_queues.proofs.Lookup.{Placed, has_placed, slots_more, slots_set, slots_push, slots_remove}
 
--- a thread with room has its number among those found
-pub thread_within : {w : ℕ} {es : List Entry} {rooms : List Room} {found : List ℕ}
-    {m : ℕ} (t : ℕ)
-    → IsKept w es rooms found m → has_room_in rooms t ≡ true → t < length found
-thread_within {rooms = rooms} {found = found} t kept has =
-    let lt = (room_is (length found) rooms t kept.own has).within in
-    let is = thread_at rooms t has in
-    omega arith
+-- a thread with a slot has its number among those found
+pub thread_within : {w : ℕ} {es : List Entry} {slots : List Slot} {found : List ℕ}
+    {m t i : ℕ} → IsKept w es slots found m → Placed slots t i → t < length found
+thread_within {found = found} {i = i} kept p =
+    let lt = (kept.own.each i no_slot p.within).within in let is = p.thread in omega arith
 
--- so has one with room as the queue is seen
-pub seen_within : {inside now : Kept} {m : ℕ} (t : ℕ) → inside ≡ now
-    → IsKept inside.width inside.entries inside.rooms inside.found m → has_room_in now.rooms t ≡ true
+-- so has one with a slot as the queue is seen
+pub seen_within : {inside now : OneQueue} {m : ℕ} (t : ℕ) → inside ≡ now
+    → IsKept inside.width inside.entries inside.slots inside.found m → has_slot now.slots t ≡ true
     → t < length inside.found
-seen_within t is kept has = thread_within t kept (ap (λ (k : Kept). has_room_in k.rooms t) is ∙ has)
+seen_within {inside = inside} t is kept has =
+    thread_within kept (has_placed inside.slots t (ap (λ (k : OneQueue). has_slot k.slots t) is ∙ has))
 
 -- the thread enters
-pub kept_entered : {w : ℕ} {es : List Entry} {rooms : List Room} {found : List ℕ}
-    {m t i : ℕ} (s : Room)
-    → IsKept w es rooms found m → Placed rooms t i → t ≡ s.thread.0
-    → IfSome s.opened (λ m. m.thread ≡ s.thread.0) → IsKept w es (set rooms i s) found m
-kept_entered {rooms = rooms} {found = found} {t = t} {i = i} s kept p own marked =
-    let lt = thread_within t kept p.has in
-    let room : IsRoom (length found) s = record { within = omega arith; own = marked } in
-    let same : length (set rooms i s) ≡ length rooms = length-set rooms i s in
+pub kept_entered : {w : ℕ} {es : List Entry} {slots : List Slot} {found : List ℕ}
+    {m t i : ℕ} (s : Slot)
+    → IsKept w es slots found m → Placed slots t i → t ≡ s.thread.0
+    → IfSome s.opened (λ m. m.thread ≡ s.thread.0) → IsKept w es (set slots i s) found m
+kept_entered {slots = slots} {found = found} {t = t} {i = i} s kept p own marked =
+    let lt = thread_within kept p in
+    let slot : IsSlot (length found) s = record { within = omega arith; own = marked } in
+    let same : length (set slots i s) ≡ length slots = length-set slots i s in
     let spare = kept.spare in
     record {
       threads = kept.threads;
       within = kept.within;
       wide = kept.wide;
       marked = kept.marked;
-      own =
-          subst (λ k. AreRooms (length found) (set rooms k s)) (sym p.at)
-          (rooms_set (length found) rooms t s own p.has room kept.own);
+      own = slots_set (length found) s p own slot kept.own;
       spare = omega arith;
     }
 
 -- the thread has found so many
-pub kept_found : {w : ℕ} {es : List Entry} {rooms : List Room} {found : List ℕ} {m : ℕ}
-    (t n : ℕ) → IsKept w es rooms found m → t < length found → n ≤ length es
-    → IsKept w es rooms (set found t n) m
-kept_found {es = es} {rooms = rooms} {found = found} t n kept lt le =
+pub kept_found : {w : ℕ} {es : List Entry} {slots : List Slot} {found : List ℕ} {m : ℕ}
+    (t n : ℕ) → IsKept w es slots found m → t < length found → n ≤ length es
+    → IsKept w es slots (set found t n) m
+kept_found {es = es} {slots = slots} {found = found} t n kept lt le =
     let same = length-set found t n in
     record {
       threads = omega (arith, same, kept.threads);
@@ -67,7 +62,7 @@ kept_found {es = es} {rooms = rooms} {found = found} t n kept lt le =
       ];
       wide = kept.wide;
       marked = kept.marked;
-      own = subst (λ k. AreRooms k rooms) (sym same) kept.own;
+      own = subst (λ k. AreSlots k slots) (sym same) kept.own;
       spare = kept.spare;
     }
 
@@ -83,14 +78,14 @@ each_pushed P es x old new k lt = go (cases_lt k (length es))
         let n = length_push es x in subst P (sym (get_or_push es x no_entry k (omega arith))) new
 
 -- the thread leaves
-pub kept_left : {w : ℕ} {es : List Entry} {rooms : List Room} {found : List ℕ}
+pub kept_left : {w : ℕ} {es : List Entry} {slots : List Slot} {found : List ℕ}
     {m t i : ℕ} (x : Entry) (more : ℕ)
-    → IsKept w es rooms found m → Placed rooms t i → x.place.width ≤ w
+    → IsKept w es slots found m → Placed slots t i → x.place.width ≤ w
     → x.acquire.thread < x.place.width → m ≤ more
-    → IsKept w (es ++ x ∷ []) (remove rooms i) found more
-kept_left {w = w} {es = es} {rooms = rooms} {found = found} {t = t} {i = i} x more kept p wide
+    → IsKept w (es ++ x ∷ []) (remove slots i) found more
+kept_left {w = w} {es = es} {slots = slots} {found = found} {t = t} {i = i} x more kept p wide
     own le =
-    let fewer : length (remove rooms i) + 1 ≡ length rooms = length-remove rooms i (placed_within p) in
+    let fewer : length (remove slots i) + 1 ≡ length slots = length-remove slots i p.within in
     let longer : length (es ++ x ∷ []) ≡ length es + 1 = length_push es x in
     let spare = kept.spare in
     record {
@@ -98,20 +93,18 @@ kept_left {w = w} {es = es} {rooms = rooms} {found = found} {t = t} {i = i} x mo
       within = λ v. (let h = kept.within v in omega arith);
       wide = each_pushed (λ (e : Entry). e.place.width ≤ w) es x kept.wide wide;
       marked = each_pushed (λ (e : Entry). e.acquire.thread < e.place.width) es x kept.marked own;
-      own =
-          subst (λ k. AreRooms (length found) (remove rooms k)) (sym p.at)
-          (rooms_remove (length found) rooms t p.has kept.own);
+      own = slots_remove (length found) slots i p.within kept.own;
       spare = omega arith;
     }
 
 -- there is more memory
-pub kept_grown : {w : ℕ} {es same : List Entry} {rooms : List Room} {found : List ℕ}
-    {m : ℕ} (more : List ℕ) (larger : ℕ) → IsKept w es rooms found m → same ≡ es
+pub kept_grown : {w : ℕ} {es same : List Entry} {slots : List Slot} {found : List ℕ}
+    {m : ℕ} (more : List ℕ) (larger : ℕ) → IsKept w es slots found m → same ≡ es
     → slice_index more ≡ slice_index found → length found ≤ length more → length more ≤ w → m ≤ larger
-    → IsKept w same rooms more larger
-kept_grown {w = w} {es = es} {rooms = rooms} {found = found} more larger kept is alike longer few le =
+    → IsKept w same slots more larger
+kept_grown {w = w} {es = es} {slots = slots} {found = found} more larger kept is alike longer few le =
     let spare = kept.spare in
-    subst (λ (xs : List Entry). IsKept w xs rooms more larger) (sym is) (record {
+    subst (λ (xs : List Entry). IsKept w xs slots more larger) (sym is) (record {
       threads = few;
       within = λ t. (
           let e : slice_index more t ≡ slice_index found t = ap (λ (f : ℕ → ℕ). f t) alike in
@@ -120,21 +113,21 @@ kept_grown {w = w} {es = es} {rooms = rooms} {found = found} more larger kept is
           );
       wide = kept.wide;
       marked = kept.marked;
-      own = rooms_more (length found) (length more) rooms longer kept.own;
+      own = slots_more (length found) (length more) slots longer kept.own;
       spare = omega arith;
     })
 
--- a room joins
-pub kept_pushed : {w : ℕ} {es : List Entry} {rooms : List Room} {found : List ℕ} {m : ℕ}
-    (s : Room) → IsKept w es rooms found m → has_room_in rooms s.thread.0 ≡ false → IsRoom (length found) s
-    → length es + (length rooms + 1) ≤ m → IsKept w es (rooms ++ s ∷ []) found m
-kept_pushed {rooms = rooms} {found = found} s kept none is spare =
-    let more : length (rooms ++ s ∷ []) ≡ length rooms + 1 = length_push rooms s in
+-- a slot joins
+pub kept_pushed : {w : ℕ} {es : List Entry} {slots : List Slot} {found : List ℕ} {m : ℕ}
+    (s : Slot) → IsKept w es slots found m → has_slot slots s.thread.0 ≡ false → IsSlot (length found) s
+    → length es + (length slots + 1) ≤ m → IsKept w es (slots ++ s ∷ []) found m
+kept_pushed {slots = slots} {found = found} s kept none is spare =
+    let more : length (slots ++ s ∷ []) ≡ length slots + 1 = length_push slots s in
     record {
       threads = kept.threads;
       within = kept.within;
       wide = kept.wide;
       marked = kept.marked;
-      own = rooms_push (length found) rooms s none is kept.own;
+      own = slots_push (length found) slots s none is kept.own;
       spare = omega arith;
     }

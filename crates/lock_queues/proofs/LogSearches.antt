@@ -1,6 +1,6 @@
 -- What a search by a clock finds of the sections that stand for a log.
 use Rattle.std.proofs.Common.{◌≡◌, ℕ, ◌<◌, ◌≤◌, ◌-◌, List, [], ◌∷◌, ◌++◌, length, refl, sym, ap}
-use Rattle.std.proofs.Common.{subst, ◌∙◌, arith, ◌⊎◌, Option, Some, None}
+use Rattle.std.proofs.Common.{subst, ◌∙◌, arith, Option, Some, None}
 use Rattle.std.specs.Prelude.{IsSomeAnd}
 use mathlib.Core.Logic.{inl, inr}
 use Rattle.event_core.specs.declared.bounds.Limits.{Limits}
@@ -26,12 +26,12 @@ use Rattle.event_core.proofs.SectionSteps.{counts_acquire, acquire_counted, coun
 use Rattle.event_core.proofs.SectionSteps.{counted_before, release_order, before_end, before_within}
 use Rattle.event_core.proofs.SectionSteps.{number_most}
 use Rattle.lock_queues.specs.Sections.{closed_at, latest_counted}
-use Rattle.lock_queues.specs.Queues.{Tables, closed_of, opened_of, found_of}
+use Rattle.lock_queues.specs.Queues.{AllQueues, closed_of, opened_of, found_of}
 use Rattle.lock_queues.specs.Searched.{CountsEarlier}
 use Rattle.lock_queues.specs.Standing.{AreSections, AreOf, Stands, CountsEvent, CountsNone, IsLatest}
 use Rattle.lock_queues.specs.Laws.{StrictClocksMayAsk, FindingKeepsThem, ReleasesAreAbove}
-use Rattle.lock_queues.proofs.CountedLists.{CountsAt, number_least, counted_first, none_counted}
-use Rattle.lock_queues.proofs.CountedLists.{IsLatestAt, latest_place}
+use Rattle.lock_queues.proofs.Counting.{CountsAt, number_least, counted_first, none_counted}
+use Rattle.lock_queues.proofs.Counting.{IsLatestAt, latest_place}
 use Rattle.lock_queues.proofs.LogSteps.{same_are, holder_has_events}
 use Rattle.lock_queues.proofs.SectionLists.{Entered, entered, has_place, place_within}
 
@@ -94,17 +94,23 @@ strict_clocks_may_ask limits log v t l c w counted st =
       counts_earlier log ord t c counted l (closed_of v l.0) (st.closed_are l),
     )
 
+-- how many sections on the lock the thread has found, as the queues say it of a log
+record IsFound (log : List Event) (t : ThreadId) (l : LockId) (n : ℕ) : Type 0 where
+  pub are : (u : ThreadId) (a r : ℕ) → Section log u l a r → number_of log l r ≤ n → Past log (Strict log) t a
+  pub most : n ≤ ended log l
+  pub none : events_of log t ≡ 0 → n ≡ 0
+
 -- what is found by it keeps the meaning
-finds : (limits : Limits) (log : List Event) (v : Tables) (t : ThreadId) (l : LockId) (c : ℕ → ℕ)
+finds : (limits : Limits) (log : List Event) (v : AllQueues) (t : ThreadId) (l : LockId) (c : ℕ → ℕ)
     → WellFormed limits log → Counted log (Past log (Strict log) t) c → 0 < depth log t l → Stands log v
     → AreOf log (closed_of v) (opened_of v)
     (with_row l.0 (with_row t.0 (number_counted c (closed_of v l.0)) (found_of v l.0)) (found_of v))
 finds limits log v t l c w counted up st = record {
   closed_are = st.closed_are;
   opened_are = st.opened_are;
-  found_are = λ u m. by u m (cell_cases t u l m);
-  most = λ u m. most u m (cell_cases t u l m);
-  none = λ u m. none u m (cell_cases t u l m);
+  found_are = λ u m. (each u m).are;
+  most = λ u m. (each u m).most;
+  none = λ u m. (each u m).none;
 }
   where
     n : ℕ
@@ -113,46 +119,24 @@ finds limits log v t l c w counted up st = record {
     new : ℕ → ℕ → ℕ
     new = with_row l.0 (with_row t.0 n (found_of v l.0)) (found_of v)
 
-    ord : Orderly log
-    ord = orderly limits log w
+    here : IsFound log t l n
+    here = record {
+      are = counted_found log (orderly limits log w) t c counted l (closed_of v l.0) (st.closed_are l);
+      most =
+          let few = number_most c (closed_of v l.0) in
+          let count = (st.closed_are l).count in omega (arith, few, count);
+      none = λ z. absurd (let some = holder_has_events log t l up in omega (arith, some, z));
+    }
 
-    kept : (u : ThreadId) (m : LockId) → (t ≡ u → l ≡ m → ⊥) → new m.0 u.0 ≡ found_of v m.0 u.0
-    kept u m ne =
-        cell_other l.0 t.0 n (found_of v) m.0 u.0
-        (λ q r. ne (same_thread_id (sym r)) (same_lock_id (sym q)))
-
-    here_is : new l.0 t.0 ≡ n
-    here_is = cell_same l.0 t.0 n (found_of v)
-
-    by : (u : ThreadId) (m : LockId) → ((t ≡ u) × (l ≡ m)) ⊎ (t ≡ u → l ≡ m → ⊥)
-        → (x : ThreadId) (a r : ℕ) → Section log x m a r → number_of log m r ≤ new m.0 u.0
-        → Past log (Strict log) u a
-    by u m (inl same) =
-        subst (λ (z : ThreadId). (x : ThreadId) (a r : ℕ) → Section log x m a r
-        → number_of log m r ≤ new m.0 z.0 → Past log (Strict log) z a) same.0
-        (subst (λ (y : LockId). (x : ThreadId) (a r : ℕ) → Section log x y a r
-        → number_of log y r ≤ new y.0 t.0 → Past log (Strict log) t a) same.1
-        (λ x a r s le. counted_found log ord t c counted l (closed_of v l.0) (st.closed_are l) x a r s
-        (subst (λ k. number_of log l r ≤ k) here_is le)))
-    by u m (inr ne) =
-        λ x a r s le. st.found_are u m x a r s (subst (λ k. number_of log m r ≤ k) (kept u m ne) le)
-
-    most : (u : ThreadId) (m : LockId) → ((t ≡ u) × (l ≡ m)) ⊎ (t ≡ u → l ≡ m → ⊥)
-        → new m.0 u.0 ≤ ended log m
-    most u m (inl same) =
-        subst (λ (z : ThreadId). new m.0 z.0 ≤ ended log m) same.0
-        (subst (λ (y : LockId). new y.0 t.0 ≤ ended log y) same.1
-        (let few = number_most c (closed_of v l.0) in
-        let count = (st.closed_are l).count in omega (arith, here_is, few, count)))
-    most u m (inr ne) = let few = st.most u m in let same = kept u m ne in omega (arith, few, same)
-
-    none : (u : ThreadId) (m : LockId) → ((t ≡ u) × (l ≡ m)) ⊎ (t ≡ u → l ≡ m → ⊥)
-        → events_of log u ≡ 0 → new m.0 u.0 ≡ 0
-    none u m (inl same) z =
-        absurd (let some = holder_has_events log t l up in
-        let same_events : events_of log t ≡ events_of log u = ap (events_of log) same.0 in
-        omega (arith, some, same_events, z))
-    none u m (inr ne) z = kept u m ne ∙ st.none u m z
+    each : (u : ThreadId) (m : LockId) → IsFound log u m (new m.0 u.0)
+    each u m = elim (cell_cases t u l m) [
+      | inl same ↦ subst (λ (z : ThreadId). IsFound log z m (new m.0 z.0)) same.0
+          (subst (λ (y : LockId). IsFound log t y (new y.0 t.0)) same.1
+          (subst (IsFound log t l) (sym (cell_same l.0 t.0 n (found_of v))) here))
+      | inr ne ↦ subst (IsFound log u m) (sym (cell_other l.0 t.0 n (found_of v) m.0 u.0
+          (λ q r. ne (same_thread_id (sym r)) (same_lock_id (sym q)))))
+          (record { are = st.found_are u m; most = st.most u m; none = st.none u m })
+    ]
 
 pub finding_keeps_them : FindingKeepsThem
 finding_keeps_them limits log old new t l c w counted up is st =
@@ -175,7 +159,7 @@ releases_are_above limits log e v l c w is counted st q u h =
     thread = record { 0 = u }
 
 -- no section has an acquire that the clock counts
-pub none_in_log : (limits : Limits) (log : List Event) (v : Tables) (l : LockId) (c : ℕ → ℕ)
+pub none_in_log : (limits : Limits) (log : List Event) (v : AllQueues) (l : LockId) (c : ℕ → ℕ)
     → WellFormed limits log → Stands log v → latest_counted c (closed_of v l.0) ≡ None → CountsNone log l c
 none_in_log limits log v l c w st none u a r s is =
     none_counted c (closed_of v l.0) none (number_of log l r - 1)
@@ -184,7 +168,8 @@ none_in_log limits log v l c w st none u a r s is =
     ((st.closed_are l).each u a r s) is)
 
 -- or the latest that has one is that of the entry
-pub latest_in_log : (limits : Limits) (log : List Event) (v : Tables) (l : LockId) (c : ℕ → ℕ) (u : ThreadId)
+pub latest_in_log : (limits : Limits) (log : List Event) (v : AllQueues) (l : LockId) (c : ℕ → ℕ)
+    (u : ThreadId)
     (clock : ℕ → ℕ) (q : Closed) → WellFormed limits log → Stands log v
     → latest_counted c (closed_of v l.0) ≡ Some q → q.thread ≡ u.0 → q.release ≡ clock
     → IsLatest log l c u clock
@@ -224,7 +209,7 @@ latest_in_log limits log v l c u clock q w st is thread release = record {
     same = same_thread_id (sym x.is.thread ∙ ap (λ (z : Closed). z.thread) p.is ∙ thread)
 
 -- the same of what is told of the entry
-pub told_in_log : (limits : Limits) (log : List Event) (v : Tables) (l : LockId) (c : ℕ → ℕ) (u : ThreadId)
+pub told_in_log : (limits : Limits) (log : List Event) (v : AllQueues) (l : LockId) (c : ℕ → ℕ) (u : ThreadId)
     (clock : ℕ → ℕ) → WellFormed limits log → Stands log v
     → IsSomeAnd (latest_counted c (closed_of v l.0)) (λ q. (q.thread ≡ u.0) × (q.release ≡ clock))
     → IsLatest log l c u clock

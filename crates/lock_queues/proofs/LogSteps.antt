@@ -31,7 +31,7 @@ use Rattle.event_core.proofs.SectionNumbers.{number_longer, number_last}
 use Rattle.event_core.proofs.SectionNumbers.{ended_none, ended_snoc}
 use Rattle.event_core.proofs.SectionSteps.{each_section}
 use Rattle.hb_clocks.specs.Marks.{Named, Names}
-use Rattle.lock_queues.specs.Queues.{Tables, closed_of, opened_of, found_of}
+use Rattle.lock_queues.specs.Queues.{AllQueues, closed_of, opened_of, found_of}
 use Rattle.lock_queues.specs.Standing.{AreSections, AreOf, Stands, IsOther}
 use Rattle.lock_queues.specs.Laws.{SameStand, OthersLeaveThem, HoldersHaveEntered}
 use Rattle.lock_queues.proofs.SectionLists.{sections_same, sections_more}
@@ -172,7 +172,7 @@ others_leave_them limits log e v w other st =
     others_leave log e (orderly limits (log ++ e ∷ []) w) other st
 
 pub enter_stands : {closed : ℕ → List Closed} {opened found : ℕ → ℕ → ℕ} (limits : Limits) (log : List Event)
-    (e : Event) (old : Tables) (t : ThreadId) (l : LockId) (mark : Named) → closed ≡ closed_of old
+    (e : Event) (old : AllQueues) (t : ThreadId) (l : LockId) (mark : Named) → closed ≡ closed_of old
     → opened ≡ with_row t.0 (with_row l.0 mark.position (opened_of old t.0)) (opened_of old)
     → found ≡ found_of old → WellFormed limits (log ++ e ∷ []) → OpensSection log t l e
     → Names (log ++ e ∷ []) mark t (length log) → Stands log old → AreOf (log ++ e ∷ []) closed opened found
@@ -187,7 +187,7 @@ enter_stands limits log e old t l mark c o f w is names st =
     (number ∙ sym (ap (λ u. events_of log u + 1) is.thread)) st))
 
 pub leave_stands : {closed : ℕ → List Closed} {opened found : ℕ → ℕ → ℕ} (limits : Limits) (log : List Event)
-    (e : Event) (old : Tables) (t : ThreadId) (l : LockId) (clock : ℕ → ℕ)
+    (e : Event) (old : AllQueues) (t : ThreadId) (l : LockId) (clock : ℕ → ℕ)
     → closed ≡ with_row l.0 (closed_of old l.0 ++ record {
       thread = t.0;
       position = opened_of old t.0 l.0;

@@ -1,220 +1,217 @@
--- What a list of rooms says of each thread, and what it says after a change.
-use Rattle.std.proofs.Common.{◌≡◌, ℕ, suc, ◌<◌, ◌≤◌, true, false, cond, nat_eq, List, [], ◌∷◌, ◌++◌, length}
-use Rattle.std.proofs.Common.{set}
-use Rattle.std.proofs.Common.{refl, sym, ap, subst, ◌∙◌, arith, ◌⊎◌}
-use Rattle.std.proofs.lemmas.Bool.{cases_Bool, eq-eqb, ne_eqb, cond-true, cond-false, cases_eq}
-use Rattle.std.specs.List.{remove}
+-- What a list of slots says of each thread, and what it says after a change.
+use Rattle.std.proofs.Common.{◌≡◌, ℕ, suc, ◌+◌, ◌<◌, ◌≤◌, true, false, not, cond, nat_eq, nat_lt, List, []}
+use Rattle.std.proofs.Common.{◌∷◌, ◌++◌}
+use Rattle.std.proofs.Common.{length, set, get_or, take, drop, refl, sym, ap, ap₂, subst, ◌∙◌, arith, ◌⊎◌}
+use Rattle.std.proofs.Common.{Bool, Option, Some, None, length-set}
+use Rattle.std.specs.Option.{is_some, option_or}
+use Rattle.std.specs.List.{find, remove}
+use Rattle.std.proofs.lemmas.Bool.{cases_eq, cases_lt, eqb-true, eq-eqb, ne_eqb, lt-ltb, le-ltb, not-true}
+use Rattle.std.proofs.lemmas.List.{get_or-set_same, get_or-set_other, get_or_default, set_split, set-get_or}
+use Rattle.std.proofs.lemmas.List.Edits.{length-remove, get_or-remove_below, get_or-remove_above}
+use Rattle.std.proofs.lemmas.List.Elements.{All-set, All-push, All-weaker, All-append, All-take, All-drop}
+use Rattle.std.proofs.lemmas.List.Folds.{find_at, find-set, find_past, find-append}
+use Rattle.std.proofs.lemmas.List.Quantifiers.{all_pairs_push, all_pairs_remove}
+use Rattle.std.proofs.lemmas.List.Sums.{passes_at_first, prefix_len_passes}
+use Rattle.std.proofs.lemmas.Option.{slice_get-get_or, slice_get_past}
 use mathlib.Core.Logic.{inl, inr}
 use Rattle.event_core.specs.Rows.{with_row}
 use Rattle.event_core.proofs.Growing.{row_same, row_other}
-use Rattle.lock_queues.specs.declared.rooms.Room.{Room}
-use Rattle.lock_queues.specs.Rooms.{at_room, has_room_in, opened_in, position_of, place_in, room_at, IsRoom}
-use Rattle.lock_queues.specs.Rooms.{AreRooms}
+use Rattle.lock_queues.specs.declared.slots.Slot.{Slot}
+use Rattle.lock_queues.specs.Slots.{is_of, slot_of, has_slot, place_in, opened_at, opened_in, no_slot}
+use Rattle.lock_queues.specs.Slots.{slot_at}
+use Rattle.lock_queues.specs.Slots.{IsSlot, AreSlots}
 
 abbrev pub Whether : ℕ → ℕ → Type 0
 Whether a b = (a ≡ b) ⊎ (a ≡ b → ⊥)
+
+pub row_here : {A : Type 0} (t : ℕ) (g : A) (f : ℕ → A) (a : ℕ) → a ≡ t → with_row t g f a ≡ g
+row_here t g f a is = subst (λ b. with_row t g f b ≡ g) (sym is) (row_same t g f)
 
 -- a row at what it is
 pub row_kept : {A : Type 0} (t : ℕ) (g : A) (f : ℕ → A) → f t ≡ g → with_row t g f ≡ f
 row_kept t g f e i a = go (cases_eq a t) i
   where
     go : Whether a t → with_row t g f a ≡ f a
-    go (inl same) = subst (λ b. with_row t g f b ≡ f b) (sym same) (row_same t g f ∙ sym e)
+    go (inl is) = row_here t g f a is ∙ sym e ∙ ap f (sym is)
     go (inr other) = row_other t g f a other
 
-pub row_here : {A : Type 0} (t : ℕ) (g : A) (f : ℕ → A) (a : ℕ) → a ≡ t → with_row t g f a ≡ g
-row_here t g f a is = subst (λ b. with_row t g f b ≡ g) (sym is) (row_same t g f)
-
--- the head's thread, and another
-here : {A : Type 0} (f : Room → A) (d : A) (r : Room) (rs : List Room) (t : ℕ)
-    → t ≡ r.thread.0 → at_room f d (r ∷ rs) t ≡ f r
-here f d r rs t same = cond-true (nat_eq t r.thread.0) (f r) (at_room f d rs t) (eq-eqb t r.thread.0 same)
-
-there : {A : Type 0} (f : Room → A) (d : A) (r : Room) (rs : List Room) (t : ℕ)
-    → (t ≡ r.thread.0 → ⊥) → at_room f d (r ∷ rs) t ≡ at_room f d rs t
-there f d r rs t other =
-    cond-false (nat_eq t r.thread.0) (f r) (at_room f d rs t) (ne_eqb t r.thread.0 other)
-
-place_here : (r : Room) (rs : List Room) (t : ℕ) → t ≡ r.thread.0 → place_in (r ∷ rs) t ≡ 0
-place_here r rs t same =
-    cond-true (nat_eq t r.thread.0) 0 (suc (place_in rs t)) (eq-eqb t r.thread.0 same)
-
-place_there : (r : Room) (rs : List Room) (t : ℕ) → (t ≡ r.thread.0 → ⊥)
-    → place_in (r ∷ rs) t ≡ suc (place_in rs t)
-place_there r rs t other =
-    cond-false (nat_eq t r.thread.0) 0 (suc (place_in rs t)) (ne_eqb t r.thread.0 other)
-
-has_rest : (r : Room) (rs : List Room) (t : ℕ) → (t ≡ r.thread.0 → ⊥)
-    → has_room_in (r ∷ rs) t ≡ true → has_room_in rs t ≡ true
-has_rest r rs t other has = sym (there (λ _. true) false r rs t other) ∙ has
-
-not_head : (r : Room) (rs : List Room) (t : ℕ) → has_room_in (r ∷ rs) t ≡ false → t ≡ r.thread.0 → ⊥
-not_head r rs t none same = let h : has_room_in (r ∷ rs) t ≡ true = here (λ _. true) false r rs t same in cc
-
-not_rest : (r : Room) (rs : List Room) (t : ℕ) → has_room_in (r ∷ rs) t ≡ false → has_room_in rs t ≡ false
-not_rest r rs t none = sym (there (λ _. true) false r rs t (not_head r rs t none)) ∙ none
-
--- a fact about the place of a thread's room, by whether it is the head's
-by_place : (P : List Room → ℕ → Type 0) (r : Room) (rs : List Room) (t : ℕ) → has_room_in (r ∷ rs) t ≡ true
-    → (t ≡ r.thread.0 → P (r ∷ rs) 0)
-    → ((t ≡ r.thread.0 → ⊥) → has_room_in rs t ≡ true → P (r ∷ rs) (suc (place_in rs t)))
-    → P (r ∷ rs) (place_in (r ∷ rs) t)
-by_place P r rs t has head rest = go (cases_eq t r.thread.0)
+-- what is said of each thread, where one row is another
+pub said : {A B : Type 0} {f : ℕ → A} (F : A → B) (t : ℕ) (x : A) (g : ℕ → A) → f ≡ with_row t x g
+    → ◌≡◌ {A = ℕ → B} (λ u. F (f u)) (with_row t (F x) (λ u. F (g u)))
+said {A = A} {B = B} F t x g e =
+    ap {B = ℕ → B} (λ (h : ℕ → A) (u : ℕ). F (h u)) e ∙ (λ i u. by u (nat_eq u t) i)
   where
-    go : Whether t r.thread.0 → P (r ∷ rs) (place_in (r ∷ rs) t)
-    go (inl same) = subst (P (r ∷ rs)) (sym (place_here r rs t same)) (head same)
-    go (inr other) =
-        subst (P (r ∷ rs)) (sym (place_there r rs t other)) (rest other (has_rest r rs t other has))
+    by : (u : ℕ) (b : Bool) → F (cond b x (g u)) ≡ cond b (F x) (F (g u))
+    by u true = refl
+    by u false = refl
 
-pub place_within : (rooms : List Room) (t : ℕ) → has_room_in rooms t ≡ true → place_in rooms t < length rooms
-place_within [] t has = absurd (cc)
-place_within (r ∷ rs) t has =
-    by_place (λ rooms k. k < length rooms) r rs t has (λ _. omega arith)
-    (λ _ h. (let lt = place_within rs t h in omega arith))
+-- the thread has a slot, and it stands there
+pub record Placed (slots : List Slot) (t i : ℕ) : Type 0 where
+  pub at : i ≡ place_in slots t
+  pub within : i < length slots
+  pub thread : t ≡ (slot_at slots i).thread.0
+  pub is : slot_of slots t ≡ Some (slot_at slots i)
 
-pub no_place : (rooms : List Room) (t : ℕ) → has_room_in rooms t ≡ false → place_in rooms t ≡ length rooms
-no_place [] t none = refl
-no_place (r ∷ rs) t none =
-    let at = place_there r rs t (not_head r rs t none) in
-    let rest = no_place rs t (not_rest r rs t none) in
-    omega arith
+slot_past : (slots : List Slot) (t : ℕ) → length slots ≤ place_in slots t → slot_of slots t ≡ None
+slot_past slots t past = find_at (is_of t) slots ∙ slice_get_past slots (place_in slots t) past
 
-pub thread_at : (rooms : List Room) (t : ℕ) → has_room_in rooms t ≡ true
-    → t ≡ (room_at rooms (place_in rooms t)).thread.0
-thread_at [] t has = absurd (cc)
-thread_at (r ∷ rs) t has =
-    by_place (λ rooms k. t ≡ (room_at rooms k).thread.0) r rs t has (λ same. same) (λ _ h. thread_at rs t h)
+slot_here : (slots : List Slot) (t : ℕ) → place_in slots t < length slots → Placed slots t (place_in slots t)
+slot_here slots t lt = record {
+  at = refl;
+  within = lt;
+  thread = eqb-true t _ (passes_at_first (is_of t) slots no_slot lt);
+  is = find_at (is_of t) slots ∙ slice_get-get_or slots (place_in slots t) no_slot lt;
+}
 
-pub room_is : (n : ℕ) (rooms : List Room) (t : ℕ) → AreRooms n rooms → has_room_in rooms t ≡ true
-    → IsRoom n (room_at rooms (place_in rooms t))
-room_is n [] t are has = absurd (cc)
-room_is n (r ∷ rs) t are has =
-    by_place (λ rooms k. IsRoom n (room_at rooms k)) r rs t has (λ _. are.0)
-    (λ _ h. room_is n rs t are.2 h)
+pub has_placed : (slots : List Slot) (t : ℕ) → has_slot slots t ≡ true → Placed slots t (place_in slots t)
+has_placed slots t has = elim (cases_lt (place_in slots t) (length slots)) [
+  | inl lt ↦ slot_here slots t lt
+  | inr past ↦ absurd (let none : has_slot slots t ≡ false = ap is_some (slot_past slots t past) in cc)
+]
 
-pub looked_up : {A : Type 0} (f : Room → A) (d : A) (rooms : List Room) (t : ℕ) → has_room_in rooms t ≡ true
-    → at_room f d rooms t ≡ f (room_at rooms (place_in rooms t))
-looked_up f d [] t has = absurd (cc)
-looked_up f d (r ∷ rs) t has =
-    by_place (λ rooms k. at_room f d rooms t ≡ f (room_at rooms k)) r rs t has (λ same. here f d r rs t same)
-    (λ other h. there f d r rs t other ∙ looked_up f d rs t h)
+pub has_by_place : (slots : List Slot) (t i n : ℕ) → i ≡ place_in slots t → n ≡ length slots
+    → nat_lt i n ≡ has_slot slots t
+has_by_place slots t i n is len = elim (cases_lt i n) [
+  | inl lt ↦ lt-ltb i n lt ∙ sym (ap is_some (slot_here slots t (omega arith)).is)
+  | inr past ↦ le-ltb i n past ∙ sym (ap is_some (slot_past slots t (omega arith)))
+]
 
-pub looked_past : {A : Type 0} (f : Room → A) (d : A) (rooms : List Room) (t : ℕ)
-    → has_room_in rooms t ≡ false → at_room f d rooms t ≡ d
-looked_past f d [] t none = refl
-looked_past f d (r ∷ rs) t none =
-    there f d r rs t (not_head r rs t none) ∙ looked_past f d rs t (not_rest r rs t none)
-
--- a thread that is in its section has room
-pub entered_has : (rooms : List Room) (t : ℕ) → 0 < opened_in rooms t → has_room_in rooms t ≡ true
-entered_has rooms t lt = go (cases_Bool (has_room_in rooms t))
+-- a thread that is in its section has a slot
+pub entered_has : (slots : List Slot) (t : ℕ) → 0 < opened_in slots t → has_slot slots t ≡ true
+entered_has slots t lt = by (slot_of slots t) lt
   where
-    go : (has_room_in rooms t ≡ true) ⊎ (has_room_in rooms t ≡ false) → has_room_in rooms t ≡ true
-    go (inl has) = has
-    go (inr none) =
-        let shut : opened_in rooms t ≡ 0 = looked_past (λ (r : Room). position_of r.opened) 0 rooms t none in
-        absurd (omega arith)
+    by : (o : Option Slot) → 0 < opened_at o → is_some o ≡ true
+    by None lt = absurd (omega arith)
+    by (Some s) lt = refl
 
--- an equation of what the head says, and of what the rest says, is one of both
-behind : {A : Type 0} (f : Room → A) (d g : A) (r : Room) (rs ss : List Room) (t u : ℕ)
-    → (t ≡ r.thread.0 → ⊥) → at_room f d ss u ≡ with_row t g (at_room f d rs) u
-    → at_room f d (r ∷ ss) u ≡ with_row t g (at_room f d (r ∷ rs)) u
-behind f d g r rs ss t u other rest = go (cases_eq u r.thread.0)
+-- a thread without one is that of no slot, and the other way round
+not_at : (slots : List Slot) (t : ℕ) → has_slot slots t ≡ false → (k : ℕ) (d : Slot) → k < length slots
+    → (get_or slots k d).thread.0 ≡ t → ⊥
+not_at slots t none k d lt e = elim (cases_lt (place_in slots t) (length slots)) [
+  | inl here ↦ (let has : has_slot slots t ≡ true = ap is_some (slot_here slots t here).is in cc)
+  | inr past ↦
+      let off : is_of t (get_or slots k d) ≡ false
+      = not-true _ (prefix_len_passes (λ s. not (is_of t s)) slots k d (omega arith)) in
+      let on : is_of t (get_or slots k d) ≡ true = eq-eqb t (get_or slots k d).thread.0 (sym e) in
+      cc
+]
+
+none_at : (slots : List Slot) (t : ℕ) → ((k : ℕ) → k < length slots → (slot_at slots k).thread.0 ≡ t → ⊥)
+    → slot_of slots t ≡ None
+none_at slots t not_so = elim (cases_lt (place_in slots t) (length slots)) [
+  | inl here ↦ absurd (not_so (place_in slots t) here (sym (slot_here slots t here).thread))
+  | inr past ↦ slot_past slots t past
+]
+
+-- a slot changes
+pub slot_set : {slots : List Slot} {t i : ℕ} (s : Slot) → Placed slots t i → t ≡ s.thread.0
+    → slot_of (set slots i s) ≡ with_row t (Some s) (slot_of slots)
+slot_set {slots = slots} {t = t} {i = i} s p own j u = go (cases_eq u t) j
   where
-    go : Whether u r.thread.0 → at_room f d (r ∷ ss) u ≡ with_row t g (at_room f d (r ∷ rs)) u
+    go : Whether u t → slot_of (set slots i s) u ≡ with_row t (Some s) (slot_of slots) u
     go (inl is) =
-        here f d r ss u is ∙ sym (here f d r rs u is)
-        ∙ sym (row_other t g (at_room f d (r ∷ rs)) u (λ q. other (sym q ∙ is)))
+        find-set (is_of u) slots i s (p.at ∙ ap (place_in slots) (sym is)) p.within
+        (eq-eqb u s.thread.0 (is ∙ own))
+        ∙ sym (row_here t (Some s) (slot_of slots) u is)
     go (inr away) =
-        there f d r ss u away ∙ rest ∙ ap (λ x. cond (nat_eq u t) g x) (sym (there f d r rs u away))
+        find_past (is_of u) slots i s no_slot (ne_eqb u (slot_at slots i).thread.0
+        (λ e. away (e ∙ sym p.thread)))
+        (ne_eqb u s.thread.0 (λ e. away (e ∙ sym own)))
+        ∙ sym (row_other t (Some s) (slot_of slots) u away)
 
--- a room changes
-pub looked_set : {A : Type 0} (f : Room → A) (d : A) (rooms : List Room) (t : ℕ) (s : Room)
-    → t ≡ s.thread.0 → has_room_in rooms t ≡ true → (u : ℕ)
-    → at_room f d (set rooms (place_in rooms t) s) u ≡ with_row t (f s) (at_room f d rooms) u
-looked_set f d [] t s own has u = absurd (cc)
-looked_set f d (r ∷ rs) t s own has u =
-    by_place (λ rooms k. at_room f d (set rooms k s) u ≡ with_row t (f s) (at_room f d rooms) u) r rs t has
-    (λ same. head same (cases_eq u t))
-    (λ other h. behind f d (f s) r rs (set rs (place_in rs t) s) t u other (looked_set f d rs t s own h u))
+or_none : (o : Option Slot) → option_or o None ≡ o
+or_none None = refl
+or_none (Some s) = refl
+
+pub is_none : (o : Option Slot) → is_some o ≡ false → o ≡ None
+is_none None e = refl
+is_none (Some s) e = absurd cc
+
+-- a slot joins
+pub slot_push : (slots : List Slot) (s : Slot) → has_slot slots s.thread.0 ≡ false
+    → slot_of (slots ++ s ∷ []) ≡ with_row s.thread.0 (Some s) (slot_of slots)
+slot_push slots s none j u = (find-append (is_of u) slots (s ∷ []) ∙ go (cases_eq u s.thread.0)) j
   where
-    head : t ≡ r.thread.0 → Whether u t → at_room f d (s ∷ rs) u ≡ with_row t (f s) (at_room f d (r ∷ rs)) u
-    head same (inl is) = here f d s rs u (is ∙ own) ∙ sym (row_here t (f s) (at_room f d (r ∷ rs)) u is)
-    head same (inr away) =
-        there f d s rs u (λ q. away (q ∙ sym own)) ∙ sym (there f d r rs u (λ q. away (q ∙ sym same)))
-        ∙ sym (row_other t (f s) (at_room f d (r ∷ rs)) u away)
+    go : Whether u s.thread.0 → option_or (slot_of slots u) (cond (nat_eq u s.thread.0) (Some s) None)
+        ≡ with_row s.thread.0 (Some s) (slot_of slots) u
+    go (inl is) =
+        ap₂ (λ (o : Option Slot) (b : Bool). option_or o (cond b (Some s) None))
+        (ap (slot_of slots) is ∙ is_none (slot_of slots s.thread.0) none) (eq-eqb u s.thread.0 is)
+        ∙ sym (row_here s.thread.0 (Some s) (slot_of slots) u is)
+    go (inr away) =
+        ap (λ b. option_or (slot_of slots u) (cond b (Some s) None)) (ne_eqb u s.thread.0 away)
+        ∙ or_none (slot_of slots u) ∙ sym (row_other s.thread.0 (Some s) (slot_of slots) u away)
 
--- a room joins
-pub looked_push : {A : Type 0} (f : Room → A) (d : A) (rooms : List Room) (s : Room)
-    → has_room_in rooms s.thread.0 ≡ false → (u : ℕ)
-    → at_room f d (rooms ++ s ∷ []) u ≡ with_row s.thread.0 (f s) (at_room f d rooms) u
-looked_push f d [] s none u = refl
-looked_push f d (r ∷ rs) s none u =
-    behind f d (f s) r rs (rs ++ s ∷ []) s.thread.0 u (not_head r rs s.thread.0 none)
-    (looked_push f d rs s (not_rest r rs s.thread.0 none) u)
-
--- a room goes
-pub looked_remove : {A : Type 0} (f : Room → A) (d : A) (n : ℕ) (rooms : List Room) (t : ℕ)
-    → AreRooms n rooms → has_room_in rooms t ≡ true → (u : ℕ)
-    → at_room f d (remove rooms (place_in rooms t)) u ≡ with_row t d (at_room f d rooms) u
-looked_remove f d n [] t are has u = absurd (cc)
-looked_remove f d n (r ∷ rs) t are has u =
-    by_place (λ rooms k. at_room f d (remove rooms k) u ≡ with_row t d (at_room f d rooms) u) r rs t has
-    (λ same. head same (cases_eq u t))
-    (λ other h. behind f d d r rs (remove rs (place_in rs t)) t u other
-    (looked_remove f d n rs t are.2 h u))
+-- a slot goes
+pub slot_remove : (n : ℕ) {slots : List Slot} {t i : ℕ} → AreSlots n slots → Placed slots t i
+    → slot_of (remove slots i) ≡ with_row t None (slot_of slots)
+slot_remove n {slots = slots} {t = t} {i = i} are p j u = go (cases_eq u t) j
   where
-    head : t ≡ r.thread.0 → Whether u t → at_room f d rs u ≡ with_row t d (at_room f d (r ∷ rs)) u
-    head same (inl is) =
-        looked_past f d rs u (ap (has_room_in rs) (is ∙ same) ∙ are.1)
-        ∙ sym (row_here t d (at_room f d (r ∷ rs)) u is)
-    head same (inr away) =
-        sym (there f d r rs u (λ q. away (q ∙ sym same))) ∙ sym (row_other t d (at_room f d (r ∷ rs)) u away)
+    fewer : length (remove slots i) + 1 ≡ length slots
+    fewer = length-remove slots i p.within
 
--- what is kept of rooms stays so
-room_more : (n m : ℕ) (r : Room) → n ≤ m → IsRoom n r → IsRoom m r
-room_more n m r le is =
-    record { within = (let h = is.within in omega arith); own = is.own }
+    gone : (k : ℕ) → k < length (remove slots i) → (slot_at (remove slots i) k).thread.0 ≡ t → ⊥
+    gone k lt e = elim (cases_lt k i) [
+      | inl below ↦ are.others k i no_slot below p.within
+          (ap (λ (s : Slot). s.thread.0) (sym (get_or-remove_below slots i no_slot k below p.within)) ∙ e
+          ∙ p.thread)
+      | inr past ↦ are.others i (k + 1) no_slot (omega arith) (omega (arith, fewer, lt))
+          (sym (ap (λ (s : Slot). s.thread.0) (sym (get_or-remove_above slots i no_slot k past p.within)) ∙ e
+          ∙ p.thread))
+    ]
 
-pub rooms_more : (n m : ℕ) (rooms : List Room) → n ≤ m → AreRooms n rooms → AreRooms m rooms
-rooms_more n m [] le are = tt
-rooms_more n m (r ∷ rs) le are = (room_more n m r le are.0, are.1, rooms_more n m rs le are.2)
+    go : Whether u t → slot_of (remove slots i) u ≡ with_row t None (slot_of slots) u
+    go (inl is) =
+        none_at (remove slots i) u (λ k lt e. gone k lt (e ∙ is)) ∙ sym (row_here t None (slot_of slots) u is)
+    go (inr away) =
+        find-append (is_of u) (take i slots) (drop (suc i) slots)
+        ∙ ap (λ b. option_or (find (is_of u) (take i slots))
+        (cond b (Some (slot_at slots i)) (find (is_of u) (drop (suc i) slots))))
+        (sym (ne_eqb u (slot_at slots i).thread.0 (λ e. away (e ∙ sym p.thread))))
+        ∙ sym (find-append (is_of u) (take i slots) (slot_at slots i ∷ drop (suc i) slots))
+        ∙ ap (find (is_of u)) (sym (set_split slots i (slot_at slots i) p.within)
+        ∙ set-get_or slots i no_slot)
+        ∙ sym (row_other t None (slot_of slots) u away)
 
-pub rooms_set : (n : ℕ) (rooms : List Room) (t : ℕ) (s : Room) → t ≡ s.thread.0
-    → has_room_in rooms t ≡ true → IsRoom n s → AreRooms n rooms
-    → AreRooms n (set rooms (place_in rooms t) s)
-rooms_set n [] t s own has is are = absurd (cc)
-rooms_set n (r ∷ rs) t s own has is are =
-    by_place (λ rooms k. AreRooms n (set rooms k s)) r rs t has
-    (λ same. (is, ap (has_room_in rs) (sym own ∙ same) ∙ are.1, are.2))
-    (λ other h. (are.0, none other h, rooms_set n rs t s own h is are.2))
+-- what is kept of slots stays so
+pub slots_more : (n m : ℕ) (slots : List Slot) → n ≤ m → AreSlots n slots → AreSlots m slots
+slots_more n m slots le are = record {
+  each = All-weaker (IsSlot n) (IsSlot m)
+      (λ s is. record { within = (let lt = is.within in omega arith); own = is.own }) slots are.each;
+  others = are.others;
+}
+
+pub slots_set : (n : ℕ) {slots : List Slot} {t i : ℕ} (s : Slot) → Placed slots t i → t ≡ s.thread.0
+    → IsSlot n s → AreSlots n slots → AreSlots n (set slots i s)
+slots_set n {slots = slots} {i = i} s p own is are = record {
+  each = All-set (IsSlot n) slots i s is are.each;
+  others = λ j k d lt within e. are.others j k d lt (let len = length-set slots i s in omega arith)
+      (sym (same j d (omega (arith, length-set slots i s))) ∙ e ∙ same k d
+      (omega (arith, length-set slots i s)));
+}
   where
-    none : (t ≡ r.thread.0 → ⊥) → has_room_in rs t ≡ true
-        → has_room_in (set rs (place_in rs t) s) r.thread.0 ≡ false
-    none other h =
-        looked_set (λ _. true) false rs t s own h r.thread.0
-        ∙ row_other t true (has_room_in rs) r.thread.0 (λ q. other (sym q)) ∙ are.1
+    same : (k : ℕ) (d : Slot) → k < length slots → (get_or (set slots i s) k d).thread.0 ≡
+        (get_or slots k d).thread.0
+    same k d lt = elim (cases_eq k i) [
+      | inl e ↦ ap (λ m. (get_or (set slots i s) m d).thread.0) e
+          ∙ ap (λ (x : Slot). x.thread.0) (get_or-set_same slots i s d p.within) ∙ sym own ∙ p.thread
+          ∙ ap (λ (x : Slot). x.thread.0) (get_or_default slots i no_slot d p.within)
+          ∙ ap (λ m. (get_or slots m d).thread.0) (sym e)
+      | inr away ↦ ap (λ (x : Slot). x.thread.0) (get_or-set_other slots i k s d away)
+    ]
 
-pub rooms_push : (n : ℕ) (rooms : List Room) (s : Room) → has_room_in rooms s.thread.0 ≡ false
-    → IsRoom n s → AreRooms n rooms → AreRooms n (rooms ++ s ∷ [])
-rooms_push n [] s none is are = (is, refl, tt)
-rooms_push n (r ∷ rs) s none is are = (
-  are.0,
-  looked_push (λ _. true) false rs s (not_rest r rs s.thread.0 none) r.thread.0
-      ∙ row_other s.thread.0 true (has_room_in rs) r.thread.0 (λ q. not_head r rs s.thread.0 none (sym q))
-      ∙ are.1,
-  rooms_push n rs s (not_rest r rs s.thread.0 none) is are.2,
-)
+pub slots_push : (n : ℕ) (slots : List Slot) (s : Slot) → has_slot slots s.thread.0 ≡ false
+    → IsSlot n s → AreSlots n slots → AreSlots n (slots ++ s ∷ [])
+slots_push n slots s none is are = record {
+  each = All-push (IsSlot n) slots s are.each is;
+  others = all_pairs_push (λ (a b : Slot). a.thread.0 ≡ b.thread.0 → ⊥) slots s are.others
+      (λ k d lt e. not_at slots s.thread.0 none k d lt e);
+}
 
-pub rooms_remove : (n : ℕ) (rooms : List Room) (t : ℕ) → has_room_in rooms t ≡ true
-    → AreRooms n rooms → AreRooms n (remove rooms (place_in rooms t))
-rooms_remove n [] t has are = absurd (cc)
-rooms_remove n (r ∷ rs) t has are =
-    by_place (λ rooms k. AreRooms n (remove rooms k)) r rs t has (λ _. are.2)
-    (λ other h. (are.0, none other h, rooms_remove n rs t h are.2))
-  where
-    none : (t ≡ r.thread.0 → ⊥) → has_room_in rs t ≡ true
-        → has_room_in (remove rs (place_in rs t)) r.thread.0 ≡ false
-    none other h =
-        looked_remove (λ _. true) false n rs t are.2 h r.thread.0
-        ∙ row_other t false (has_room_in rs) r.thread.0 (λ q. other (sym q)) ∙ are.1
+pub slots_remove : (n : ℕ) (slots : List Slot) (i : ℕ) → i < length slots → AreSlots n slots
+    → AreSlots n (remove slots i)
+slots_remove n slots i lt are = record {
+  each = All-append (IsSlot n) (take i slots) (drop (suc i) slots) (All-take (IsSlot n) i slots are.each)
+      (All-drop (IsSlot n) (suc i) slots are.each);
+  others = all_pairs_remove (λ (a b : Slot). a.thread.0 ≡ b.thread.0 → ⊥) slots i lt are.others;
+}

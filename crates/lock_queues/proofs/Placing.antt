@@ -1,85 +1,68 @@
--- Where a thread's room stands.
-use Rattle.std.proofs.Common.{◌≡◌, ℕ, suc, zero, ◌<◌, ◌≤◌, true, false, nat_eq, nat_lt, List, [], ◌∷◌, length}
-use Rattle.std.proofs.Common.{get_or, sym, ap, subst, ◌∙◌, arith, ◌⊎◌}
-use Rattle.std.specs.Prelude.{IfSome}
-use Rattle.std.proofs.lemmas.Bool.{cases_Bool, eqb-true, eq-eqb, cond-true, cond-false, lt-ltb, le-ltb}
+-- The thread's slot, as a search finds it and a read gives it.
+use Rattle.std.proofs.Common.{◌≡◌, ℕ, ◌<◌, ◌≤◌, true, List, length, get_or, Option, Some, None, sym, ap}
+use Rattle.std.proofs.Common.{subst, ◌∙◌}
+use Rattle.std.proofs.Common.{rules, arith}
+use Rattle.std.specs.Prelude.{IfSome, IsSome}
+use Rattle.std.proofs.lemmas.Bool.{eq-eqb, ne_eqb}
 use Rattle.std.proofs.lemmas.List.{get_or_read}
-use mathlib.Core.Logic.{inl, inr}
-use Rattle.lock_queues.specs.declared.rooms.Room.{Room}
-use Rattle.lock_queues.specs.Rooms.{place_in, room_at, no_room, has_room_in, opened_in, position_of, IsRoom}
-use Rattle.lock_queues.specs.Rooms.{AreRooms}
-use Rattle.lock_queues.proofs.Lookup.{place_within, no_place, thread_at, room_is, looked_up, entered_has}
+use Rattle.std.proofs.lemmas.List.Sums.{position_or_len_is}
+use Rattle.hb_clocks.specs.Marks.{Named}
+use Rattle.lock_queues.specs.declared.slots.Slot.{Slot}
+use Rattle.lock_queues.specs.Slots.{is_of, has_slot, place_in, position_of, opened_at, opened_in, no_slot}
+use Rattle.lock_queues.specs.Slots.{slot_at}
+use Rattle.lock_queues.specs.Slots.{IsSlot, AreSlots}
+use Rattle.lock_queues.specs.Queue.{OneQueue}
+use Rattle.lock_queues.proofs.Lookup.{Placed, has_placed, entered_has}
 
 -- where a search for the thread stops
-pub place_is : (rooms : List Room) (t i : ℕ) → i ≤ length rooms
-    → ((k : ℕ) → k < i → t ≡ (room_at rooms k).thread.0 → ⊥)
-    → (i < length rooms → t ≡ (room_at rooms i).thread.0)
-    → i ≡ place_in rooms t
-place_is [] t i le before at = omega arith
-place_is (r ∷ rs) t zero le before at =
-    sym (cond-true (nat_eq t r.thread.0) 0 (suc (place_in rs t)) (eq-eqb t r.thread.0 (at (omega arith))))
-place_is (r ∷ rs) t (suc i) le before at =
-    go (place_is rs t i (omega arith) (λ k lt. before (suc k) (omega arith)) (λ lt. at (omega arith)))
-    (cases_Bool (nat_eq t r.thread.0))
-  where
-    go : i ≡ place_in rs t → (nat_eq t r.thread.0 ≡ true) ⊎ (nat_eq t r.thread.0 ≡ false)
-        → suc i ≡ place_in (r ∷ rs) t
-    go rest (inl same) = absurd (before 0 (omega arith) (eqb-true t r.thread.0 same))
-    go rest (inr other) = ap suc rest ∙ sym (cond-false (nat_eq t r.thread.0) 0 (suc (place_in rs t)) other)
+pub place_is : (slots : List Slot) (t i : ℕ) → i ≤ length slots
+    → ((k : ℕ) → k < i → t ≡ (slot_at slots k).thread.0 → ⊥)
+    → (i < length slots → t ≡ (slot_at slots i).thread.0)
+    → i ≡ place_in slots t
+place_is slots t i le before at =
+    sym (position_or_len_is (is_of t) slots i no_slot le
+    (λ k lt. ne_eqb t (slot_at slots k).thread.0 (before k lt))
+    (λ lt. eq-eqb t (slot_at slots i).thread.0 (at lt)))
 
-pub has_by_place : (rooms : List Room) (t i n : ℕ) → i ≡ place_in rooms t → n ≡ length rooms
-    → nat_lt i n ≡ has_room_in rooms t
-has_by_place rooms t i n is len = go (cases_Bool (has_room_in rooms t))
-  where
-    go : (has_room_in rooms t ≡ true) ⊎ (has_room_in rooms t ≡ false) → nat_lt i n ≡ has_room_in rooms t
-    go (inl has) = (let lt = place_within rooms t has in lt-ltb i n (omega arith)) ∙ sym has
-    go (inr none) = (let le = no_place rooms t none in le-ltb i n (omega arith)) ∙ sym none
-
--- the thread has a room, and it stands there
-pub record Placed (rooms : List Room) (t i : ℕ) : Type 0 where
-  pub has : has_room_in rooms t ≡ true
-  pub at : i ≡ place_in rooms t
-
--- a search of the rooms found it, where the thread is known to have one
-pub placed : (rooms seen known : List Room) (t i : ℕ) → rooms ≡ known → seen ≡ rooms → i ≡ place_in seen t
-    → has_room_in known t ≡ true → Placed rooms t i
-placed rooms seen known t i is read at has = record {
-  has = ap (λ (xs : List Room). has_room_in xs t) is ∙ has;
-  at = at ∙ ap (λ (xs : List Room). place_in xs t) read;
-}
+-- it found the slot, where the thread is known to have one
+pub placed : {inside now : OneQueue} {seen : List Slot} {t i : ℕ} → inside ≡ now → seen ≡ inside.slots
+    → i ≡ place_in seen t → has_slot now.slots t ≡ true → Placed inside.slots t i
+placed {inside = inside} {t = t} is read at has =
+    subst (Placed inside.slots t) (sym (at ∙ ap (λ (xs : List Slot). place_in xs t) read))
+    (has_placed inside.slots t (ap (λ (q : OneQueue). has_slot q.slots t) is ∙ has))
 
 -- or to be in its section
-pub placed_entered : (rooms seen known : List Room) (t i : ℕ) → rooms ≡ known → seen ≡ rooms
-    → i ≡ place_in seen t
-    → 0 < opened_in known t → Placed rooms t i
-placed_entered rooms seen known t i is read at entered =
-    placed rooms seen known t i is read at (entered_has known t entered)
+pub placed_entered : {inside now : OneQueue} {seen : List Slot} {t i : ℕ} → inside ≡ now → seen ≡ inside.slots
+    → i ≡ place_in seen t → 0 < opened_in now.slots t → Placed inside.slots t i
+placed_entered {now = now} {t = t} is read at entered = placed is read at (entered_has now.slots t entered)
 
-pub placed_within : {rooms : List Room} {t i : ℕ} → Placed rooms t i → i < length rooms
-placed_within {rooms = rooms} {t = t} {i = i} p =
-    let lt = place_within rooms t p.has in let at = p.at in omega arith
-
--- the room is the thread's
-pub record IsOf (n : ℕ) (rooms : List Room) (t : ℕ) (x : Room) : Type 0 where
+-- the slot is the thread's
+pub record IsOf (n : ℕ) (slots : List Slot) (t : ℕ) (x : Slot) : Type 0 where
   pub thread : t ≡ x.thread.0
-  pub opened : opened_in rooms t ≡ position_of x.opened
+  pub opened : opened_in slots t ≡ position_of x.opened
   pub within : t < n
   pub own : IfSome x.opened (λ m. m.thread ≡ x.thread.0)
 
 -- as a read at its place gives it
-pub room_read : {n : ℕ} {rooms : List Room} {t i : ℕ} (x : Room) → AreRooms n rooms → Placed rooms t i
-    → x ≡ get_or rooms i x → IsOf n rooms t x
-room_read {n = n} {rooms = rooms} {t = t} {i = i} x are p read =
-    let is : room_at rooms (place_in rooms t) ≡ x
-    = sym (get_or_read rooms i x (placed_within p) read no_room ∙ ap (room_at rooms) p.at) in
-    let room : IsRoom n x = subst (IsRoom n) is (room_is n rooms t are p.has) in
-    let thread : t ≡ x.thread.0 = thread_at rooms t p.has ∙ ap (λ (r : Room). r.thread.0) is in
-    let within = room.within in
+pub slot_read : {n : ℕ} {slots : List Slot} {t i : ℕ} (x : Slot) → AreSlots n slots → Placed slots t i
+    → x ≡ get_or slots i x → IsOf n slots t x
+slot_read {n = n} {slots = slots} {t = t} {i = i} x are p read =
+    let is : slot_at slots i ≡ x = sym (get_or_read slots i x p.within read no_slot) in
+    let slot : IsSlot n x = subst (IsSlot n) is (are.each i no_slot p.within) in
+    let thread : t ≡ x.thread.0 = p.thread ∙ ap (λ (r : Slot). r.thread.0) is in
+    let within = slot.within in
     record {
       thread = thread;
-      opened =
-          looked_up (λ (r : Room). position_of r.opened) 0 rooms t p.has
-          ∙ ap (λ (r : Room). position_of r.opened) is;
+      opened = ap opened_at p.is ∙ ap (λ (r : Slot). position_of r.opened) is;
       within = omega arith;
-      own = room.own;
+      own = slot.own;
     }
+
+-- the mark of an entered slot
+pub some_opened : (o : Option Named) → 0 < position_of o → IsSome o
+some_opened None h = absurd (omega arith)
+some_opened (Some m) h = search rules
+
+pub mark_of : (o : Option Named) (m : Named) (t : ℕ) → o ≡ Some m → IfSome o (λ m. m.thread ≡ t)
+    → m.thread ≡ t
+mark_of o m t e h = subst (λ o. IfSome o (λ m. m.thread ≡ t)) e h

@@ -1,111 +1,108 @@
--- What the tables mean where a queue has other room.
-use Rattle.std.proofs.Common.{◌≡◌, ℕ, ◌+◌, ◌<◌, ◌≤◌, Bool, true, List, length, get_or, map, set, ap, ◌∙◌}
-use Rattle.std.proofs.Common.{refl, arith, length-set}
+-- What the tables mean where a queue has other slots, or more memory.
+use Rattle.std.proofs.Common.{◌≡◌, ℕ, ◌+◌, ◌<◌, ◌≤◌, Bool, true, List, length, get_or, set, refl, ap, ◌∙◌}
+use Rattle.std.proofs.Common.{arith}
+use Rattle.std.proofs.Common.{length-set}
 use Rattle.std.proofs.lemmas.List.{get_or_read}
 use Rattle.std.specs.Prelude.{◌*◌, max, slice_index}
 use Rattle.event_core.specs.Bounds.{Bounds}
 use Rattle.event_core.specs.Rows.{with_row}
-use Rattle.lock_queues.specs.Sections.{closed_as, sections_of}
-use Rattle.lock_queues.specs.Rooms.{has_room_in, opened_in}
-use Rattle.lock_queues.specs.Queue.{Kept, queue_at, no_queue, AreAlike, places_for}
+use Rattle.lock_queues.specs.Sections.{sections_of}
+use Rattle.lock_queues.specs.Slots.{has_slot, opened_in}
+use Rattle.lock_queues.specs.Queue.{OneQueue, queue_at, no_queue, AreAlike, places_for}
 use Rattle.lock_queues.specs.Queue.{SameMeaning as SameQueue}
-use Rattle.lock_queues.specs.Queues.{Tables, SameMeaning, closed_of, opened_of, found_of, has_room}
-use Rattle.lock_queues.specs.Queues.{GrownFor, count_rooms}
+use Rattle.lock_queues.specs.Queues.{SameMeaning, GrownFor, count_slots}
 use Rattle.lock_queues.proofs.Lifting.{at_same, at_other, lifted_same, lifted_cell}
 use Rattle.lock_queues.proofs.Searching.{tables}
 
--- the queues rs hold the same as qs, and x of them is replaced by q
-pub same_tables : (v : Tables) (b : Bounds) (qs rs : List Kept) (ns ms : List ℕ) (l : ℕ) (x q : Kept)
-    {r n r' n' : ℕ}
-    → tables b qs ns r n ≡ v → AreAlike qs rs → ms ≡ ns → l < length rs → x ≡ get_or rs l x → SameQueue x q
-    → SameMeaning v (tables b (set rs l q) ms r' n')
-same_tables v b qs rs ns ms l x q is alike numbers lt found same =
-    let read : x ≡ queue_at rs l = get_or_read rs l x lt found no_queue in
-    let entries = same.entries ∙ ap (λ (y : Kept). y.entries) read in
-    let closed = ap (λ es. map closed_as (sections_of ms es)) entries in
-    let opened = same.opened ∙ ap (λ (y : Kept). opened_in y.rooms) read in
-    let searched = same.found ∙ ap (λ (y : Kept). slice_index y.found) read in
-    record {
-      closed =
-          (λ i m. lifted_same (λ (y : Kept). map closed_as (sections_of ms y.entries)) rs l q lt closed m i)
-          ∙ (λ i m. map closed_as (sections_of (numbers i) ((alike m).0 i))) ∙ ap closed_of is;
-      opened =
-          (λ i u m. lifted_same (λ (y : Kept). opened_in y.rooms) rs l q lt opened m i u)
-          ∙ (λ i u m. opened_in ((alike m).1 i) u) ∙ ap opened_of is;
-      found =
-          (λ i m. lifted_same (λ (y : Kept). slice_index y.found) rs l q lt searched m i)
-          ∙ (λ i m. slice_index ((alike m).2 i)) ∙ ap found_of is;
-      limits = ap (λ (u : Tables). u.limits) is;
-    }
+-- the queues rs hold what qs hold, and x is that of the lock
+pub record Found (qs rs : List OneQueue) (l : ℕ) (x : OneQueue) : Type 0 where
+  pub alike : AreAlike qs rs
+  pub within : l < length rs
+  pub is : x ≡ queue_at rs l
 
--- where a room is made
-pub room_made : (v : Tables) (b : Bounds) (qs rs : List Kept) (ns ms : List ℕ) (t l : ℕ) (x q : Kept)
-    {r n : ℕ}
-    → tables b qs ns r n ≡ v → AreAlike qs rs → l < length rs → x ≡ get_or rs l x
-    → has_room_in q.rooms ≡ with_row t true (has_room_in x.rooms)
-    → has_room (tables b (set rs l q) ms 0 0) ≡ with_row t (with_row l true (has_room v t)) (has_room v)
-room_made v b qs rs ns ms t l x q is alike lt found made =
-    let read : x ≡ queue_at rs l = get_or_read rs l x lt found no_queue in
-    let was : (λ u m. has_room_in (queue_at rs m).rooms u) ≡ has_room v
-    = (λ i u m. has_room_in ((alike m).1 i) u) ∙ ap has_room is in
-    let row = λ (y : Kept). with_row t true (has_room_in y.rooms) in
-    (λ i u m. lifted_cell (λ (y : Kept). has_room_in y.rooms) rs t l q true lt (made ∙ ap row read) u m i)
-    ∙ ap (λ (f : ℕ → ℕ → Bool). with_row t (with_row l true (f t)) f) was
+pub found_at : {qs rs : List OneQueue} {x : OneQueue} (l : ℕ) → AreAlike qs rs → l < length rs
+    → x ≡ get_or rs l x → Found qs rs l x
+found_at {rs = rs} {x = x} l alike lt read =
+    record { alike = alike; within = lt; is = get_or_read rs l x lt read no_queue }
 
--- where none is made
-pub rooms_same : (v : Tables) (b : Bounds) (qs rs : List Kept) (ns ms : List ℕ) (l : ℕ) (x q : Kept)
-    {r n : ℕ}
-    → tables b qs ns r n ≡ v → AreAlike qs rs → l < length rs → x ≡ get_or rs l x → q.rooms ≡ x.rooms
-    → has_room (tables b (set rs l q) ms 0 0) ≡ has_room v
-rooms_same v b qs rs ns ms l x q is alike lt found same =
-    let read : x ≡ queue_at rs l = get_or_read rs l x lt found no_queue in
-    (λ i u m. lifted_same (λ (y : Kept). has_room_in y.rooms) rs l q lt
-    (ap has_room_in same ∙ ap (λ (y : Kept). has_room_in y.rooms) read) m i u)
-    ∙ (λ i u m. has_room_in ((alike m).1 i) u) ∙ ap has_room is
+module _ {qs rs : List OneQueue} {l : ℕ} {x : OneQueue} (q : OneQueue) (f : Found qs rs l x) where
+  -- q is put in its place, with a slot more
+  pub slot_made : (t : ℕ) → has_slot q.slots ≡ with_row t true (has_slot x.slots)
+      → (λ u m. has_slot (queue_at (set rs l q) m).slots u)
+      ≡ with_row t (with_row l true (λ m. has_slot (queue_at qs m).slots t))
+      (λ u m. has_slot (queue_at qs m).slots u)
+  slot_made t made =
+      lifted_cell (λ (y : OneQueue). has_slot y.slots) rs t l q true f.within
+      (made ∙ ap (λ (y : OneQueue). with_row t true (has_slot y.slots)) f.is)
+      ∙ (λ i. with_row t (with_row l true (λ m. has_slot ((f.alike m).1 i) t))
+      (λ u m. has_slot ((f.alike m).1 i) u))
 
--- the queues rs are no more than up to the lock, and so are the numbers of q up to the thread
-pub grown_tables : (v : Tables) (b : Bounds) (qs rs : List Kept) (ns ms : List ℕ) (t l : ℕ) (x q : Kept)
-    {r n r' n' : ℕ}
-    → tables b qs ns r n ≡ v → AreAlike qs rs → ms ≡ ns → l < length rs → x ≡ get_or rs l x
-    → length rs ≤ max (length qs) (l + 1) → length q.found ≤ max (length x.found) (t + 1)
-    → r' ≤ max r (2 * (l + 1)) → n' ≤ max n (2 * (length ns + (count_rooms qs + 1) * b.threads))
-    → q.reserved ≤ max x.reserved (2 * places_for x t)
-    → GrownFor v (tables b (set rs l q) ms r' n') t l
-grown_tables v b qs rs ns ms t l x q is alike numbers lt found most few fit numbers_fit places =
-    let read : x ≡ queue_at rs l = get_or_read rs l x lt found no_queue in
-    rw (← is) (record {
-      queues = omega (arith, most, length-set rs l q);
-      found = omega (
-        arith,
-        few,
-        ap (λ (y : Kept). length y.found) (at_same rs l l q lt refl),
-        ap (λ (y : Kept). length y.found) read,
-        ap length (alike l).2,
-      );
-      others = λ m away. ap (λ (y : Kept). y.found) (at_other rs l m q away) ∙ (alike m).2;
-      numbers = numbers;
-      queue_room = fit;
-      number_room = numbers_fit;
-      places = omega (
-        arith,
-        places,
-        ap (λ (y : Kept). y.reserved) (at_same rs l l q lt refl),
-        ap (λ (y : Kept). y.reserved) read,
-        ap (λ (y : Kept). length y.entries) read,
-        ap (λ (y : Kept). length y.rooms) read,
-        ap length (alike l).0,
-        ap length (alike l).1,
-        (alike l).3,
-      );
-      other_places = λ m away. ap (λ (y : Kept). y.reserved) (at_other rs l m q away) ∙ (alike m).3;
-    })
+  -- or with the same slots
+  pub slots_same : q.slots ≡ x.slots
+      → ◌≡◌ {A = ℕ → ℕ → Bool} (λ u m. has_slot (queue_at (set rs l q) m).slots u)
+      (λ u m. has_slot (queue_at qs m).slots u)
+  slots_same same =
+      (λ i u m. lifted_same (λ (y : OneQueue). has_slot y.slots) rs l q f.within
+      (ap has_slot same ∙ ap (λ (y : OneQueue). has_slot y.slots) f.is) i m u)
+      ∙ (λ i u m. has_slot ((f.alike m).1 i) u)
+
+module _ {qs rs : List OneQueue} {l : ℕ} {x : OneQueue} (q : OneQueue) (f : Found qs rs l x) (b : Bounds)
+    {ns ms : List ℕ} {r n r' n' : ℕ} where
+  -- what it means is the same where q means what x does
+  pub same_tables : ms ≡ ns → SameQueue x q → SameMeaning (tables b qs ns r n)
+      (tables b (set rs l q) ms r' n')
+  same_tables numbers same = record {
+    closed = lifted_same (λ (y : OneQueue). sections_of ms y.entries) rs l q f.within
+        (ap (sections_of ms) (same.entries ∙ ap (λ (y : OneQueue). y.entries) f.is))
+        ∙ (λ i m. sections_of (numbers i) ((f.alike m).0 i));
+    opened = (λ i u m. lifted_same (λ (y : OneQueue). opened_in y.slots) rs l q f.within
+        (same.opened ∙ ap (λ (y : OneQueue). opened_in y.slots) f.is) i m u)
+        ∙ (λ i u m. opened_in ((f.alike m).1 i) u);
+    found = lifted_same (λ (y : OneQueue). slice_index y.found) rs l q f.within
+        (same.found ∙ ap (λ (y : OneQueue). slice_index y.found) f.is)
+        ∙ (λ i m. slice_index ((f.alike m).2 i));
+    limits = refl;
+  }
+
+  -- there are no more queues than up to the lock, and no more numbers of q than up to the thread
+  pub grown_tables : (t : ℕ) → ms ≡ ns → length rs ≤ max (length qs) (l + 1)
+      → length q.found ≤ max (length x.found) (t + 1) → r' ≤ max r (2 * (l + 1))
+      → n' ≤ max n (2 * (length ns + (count_slots qs + 1) * b.threads))
+      → q.reserved ≤ max x.reserved (2 * places_for x t)
+      → GrownFor (tables b qs ns r n) (tables b (set rs l q) ms r' n') t l
+  grown_tables t numbers most few fit numbers_fit places = record {
+    queues = omega (arith, most, length-set rs l q);
+    found = omega (
+      arith,
+      few,
+      ap (λ (y : OneQueue). length y.found) (at_same rs l l q f.within refl),
+      ap (λ (y : OneQueue). length y.found) f.is,
+      ap length (f.alike l).2,
+    );
+    others = λ m away. ap (λ (y : OneQueue). y.found) (at_other rs l m q away) ∙ (f.alike m).2;
+    numbers = numbers;
+    queue_room = fit;
+    number_room = numbers_fit;
+    places = omega (
+      arith,
+      places,
+      ap (λ (y : OneQueue). y.reserved) (at_same rs l l q f.within refl),
+      ap (λ (y : OneQueue). y.reserved) f.is,
+      ap (λ (y : OneQueue). length y.entries) f.is,
+      ap (λ (y : OneQueue). length y.slots) f.is,
+      ap length (f.alike l).0,
+      ap length (f.alike l).1,
+      (f.alike l).3,
+    );
+    other_places = λ m away. ap (λ (y : OneQueue). y.reserved) (at_other rs l m q away) ∙ (f.alike m).3;
+  }
 
 -- the same where there are further queues alone
-pub grown_queues : (v : Tables) (b : Bounds) (qs rs : List Kept) (ns ms : List ℕ) (t l : ℕ) {r n r' n' : ℕ}
-    → tables b qs ns r n ≡ v → AreAlike qs rs → ms ≡ ns → length rs ≤ max (length qs) (l + 1)
-    → r' ≤ max r (2 * (l + 1)) → n' ≤ max n (2 * (length ns + (count_rooms qs + 1) * b.threads))
-    → GrownFor v (tables b rs ms r' n') t l
-grown_queues v b qs rs ns ms t l is alike numbers most fit numbers_fit = rw (← is) (record {
+pub grown_queues : (b : Bounds) {qs rs : List OneQueue} {ns ms : List ℕ} {r n r' n' : ℕ} (t l : ℕ)
+    → AreAlike qs rs → ms ≡ ns → length rs ≤ max (length qs) (l + 1) → r' ≤ max r (2 * (l + 1))
+    → n' ≤ max n (2 * (length ns + (count_slots qs + 1) * b.threads))
+    → GrownFor (tables b qs ns r n) (tables b rs ms r' n') t l
+grown_queues b t l alike numbers most fit numbers_fit = record {
   queues = most;
   found = omega (arith, ap length (alike l).2);
   others = λ m away. (alike m).2;
@@ -114,4 +111,4 @@ grown_queues v b qs rs ns ms t l is alike numbers most fit numbers_fit = rw (←
   number_room = numbers_fit;
   places = omega (arith, (alike l).3);
   other_places = λ m away. (alike m).3;
-})
+}

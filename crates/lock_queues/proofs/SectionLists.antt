@@ -1,8 +1,7 @@
 -- The lists of closed sections: their entries, and what an event makes of them.
 use Rattle.std.proofs.Common.{◌≡◌, ℕ, suc, ◌<◌, ◌+◌, ◌-◌, List, [], ◌∷◌, ◌++◌, length, sym, ap, subst}
 use Rattle.std.proofs.Common.{◌∙◌, arith, take, length-append}
-use Rattle.std.proofs.lemmas.List.{get_or_append_left}
-use Rattle.std.proofs.Math.Seq.{get_or-append_seam, take-length}
+use Rattle.std.proofs.Math.Seq.{take-length}
 use Rattle.event_core.specs.declared.events.Event.{Event}
 use Rattle.event_core.specs.declared.ids.LockId.{LockId}
 use Rattle.event_core.specs.declared.ids.ThreadId.{ThreadId}
@@ -16,20 +15,9 @@ use Rattle.event_core.proofs.Depth.{section_of}
 use Rattle.event_core.proofs.SectionNumbers.{ended_same, ended_one, number_within, number_longer, number_last}
 use Rattle.event_core.proofs.SectionNumbers.{at_number}
 use Rattle.event_core.proofs.SectionSteps.{section_within, each_section, closed_longer, closed_now}
-use Rattle.lock_queues.specs.Sections.{closed_as, no_section, closed_at}
+use Rattle.lock_queues.specs.Sections.{closed_at}
 use Rattle.lock_queues.specs.Standing.{AreSections}
-
-no_closed : Closed
-no_closed = closed_as no_section
-
-pub at_front : (qs : List Closed) (q : Closed) (k : ℕ) → k < length qs
-    → closed_at (qs ++ q ∷ []) k ≡ closed_at qs k
-unfolding no_closed
-at_front qs q k lt = get_or_append_left qs (q ∷ []) no_closed k lt
-
-pub at_end : (qs : List Closed) (q : Closed) → closed_at (qs ++ q ∷ []) (length qs) ≡ q
-unfolding no_closed
-at_end qs q = get_or-append_seam qs q [] no_closed
+use Rattle.lock_queues.proofs.Storing.{at_front, at_end}
 
 -- an entry stands at a place
 pub has_place : (q : Closed) (qs : List Closed) → Has q qs → (k : ℕ) × (k < length qs) × (closed_at qs k ≡ q)
@@ -123,5 +111,5 @@ module _ (log : List Event) (e : Event) (ord : Orderly (log ++ e ∷ [])) where
       new : (a : ℕ) → Section (log ++ e ∷ []) e.thread l a (length log) → Entry e.thread a (length log)
       new a s =
           subst (λ c. IsClosed (log ++ e ∷ []) e.thread l a (length log) c)
-          (sym (ap (closed_at (qs ++ q ∷ [])) last_place ∙ at_end qs q))
+          (sym (at_end qs q _ (sym last_place)))
           (closed_now log e ord l q thread position release a s)

@@ -1,5 +1,5 @@
 pub mod Sections
-pub mod Rooms
+pub mod Slots
 pub mod Queue
 pub mod Queues
 pub mod Searched

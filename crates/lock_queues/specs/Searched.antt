@@ -5,7 +5,7 @@ use Rattle.event_core.specs.Rows.{with_row, no_clock}
 use Rattle.hb_clocks.specs.declared.release.ReleaseClock.{ReleaseClock}
 use Rattle.hb_clocks.specs.Released.{thread_of, before_of, clock_of}
 use Rattle.lock_queues.specs.Sections.{closed_at, latest_counted}
-use Rattle.lock_queues.specs.Queues.{Tables, closed_of, opened_of, found_of, has_room}
+use Rattle.lock_queues.specs.Queues.{AllQueues, closed_of, opened_of, found_of, is_ready}
 
 -- of two sections the one with the lower release clock is counted where the other is
 abbrev pub CountsEarlier : (ℕ → ℕ) → List Closed → Type 0
@@ -24,11 +24,11 @@ pub record IsSection (r : ReleaseClock) (width : ℕ) (q : Closed) : Type 0 wher
   pub within : length (before_of r) ≤ width
 
 -- the thread has found so many of the lock's sections counted, and nothing else has changed
-pub record FindsCounted (old new : Tables) (thread lock number : ℕ) : Type 0 where
+pub record FindsCounted (old new : AllQueues) (thread lock number : ℕ) : Type 0 where
   pub found : found_of new ≡ with_row lock (with_row thread number (found_of old lock)) (found_of old)
   pub closed : closed_of new ≡ closed_of old
   pub opened : opened_of new ≡ opened_of old
-  pub rooms : has_room new ≡ has_room old
+  pub ready : is_ready new ≡ is_ready old
   pub limits : new.limits ≡ old.limits
 
 -- where some are counted, the latest is the last of so many, and its release clock is the greatest

@@ -9,37 +9,16 @@ use Rattle.hb_clocks.specs.Marks.{Named, Counts, no_mark}
 use Rattle.hb_clocks.specs.Releases.{Place, numbers_at, raised, IsReadable, IsAdded}
 use Rattle.lock_queues.specs.declared.sections.Entry.{Entry}
 
--- the mark of the acquire, and the numbers of the release's clock, beyond which each is 0
-pub record Section : Type 0 where
-  pub acquire : Named
-  pub release : List ℕ
-
--- the section as clocks see it
-abbrev pub closed_as : Section → Closed
-closed_as s = record {
-  thread = s.acquire.thread;
-  position = s.acquire.position;
-  release = counts_of s.release;
-}
-
-abbrev pub no_section : Section
-no_section = record { acquire = no_mark; release = [] }
-
-abbrev pub section_at : List Section → ℕ → Section
-section_at sections k = slice_index_or sections k no_section
+abbrev pub no_closed : Closed
+no_closed = record { thread = 0; position = 0; release = counts_of [] }
 
 abbrev pub closed_at : List Closed → ℕ → Closed
-closed_at qs k = slice_index_or qs k (closed_as no_section)
-
--- the clock counts the acquire of the section
-abbrev pub IsCounted : List Section → List ℕ → ℕ → Type 0
-IsCounted sections clock k = Counts clock (section_at sections k).acquire
+closed_at qs k = slice_index_or qs k no_closed
 
 -- later releases have higher clocks
-abbrev pub AreRising : List Section → Type 0
-AreRising sections =
-    (k m u : ℕ) → k ≤ m → m < length sections
-    → counts_of (section_at sections k).release u ≤ counts_of (section_at sections m).release u
+abbrev pub AreRising : List Closed → Type 0
+AreRising qs =
+    (k m u : ℕ) → k ≤ m → m < length qs → (closed_at qs k).release u ≤ (closed_at qs m).release u
 
 -- the latest section whose acquire the clock counts
 abbrev pub latest_counted : (ℕ → ℕ) → List Closed → Option Closed
@@ -48,13 +27,14 @@ latest_counted c (q ∷ qs) = option_or (latest_counted c qs) (cond (is_counted 
 
 -- the section that the entry names, whose numbers stand among those of all sections: those just before its
 -- release are kept
-abbrev pub section_of : List ℕ → Entry → Section
+abbrev pub section_of : List ℕ → Entry → Closed
 section_of numbers e = record {
-  acquire = e.acquire;
-  release = raised e.acquire.thread (numbers_at numbers e.place);
+  thread = e.acquire.thread;
+  position = e.acquire.position;
+  release = counts_of (raised e.acquire.thread (numbers_at numbers e.place));
 }
 
-abbrev pub sections_of : List ℕ → List Entry → List Section
+abbrev pub sections_of : List ℕ → List Entry → List Closed
 sections_of numbers entries = map (section_of numbers) entries
 
 abbrev pub no_entry : Entry

@@ -11,7 +11,7 @@ use Rattle.event_core.specs.Count.{events_of, Past}
 use Rattle.event_core.specs.Rows.{Counted}
 use Rattle.event_core.specs.Closed.{Closed, IsClosed, Open, OpensSection, EndsSection, ended, number_of}
 use Rattle.lock_queues.specs.Sections.{closed_at}
-use Rattle.lock_queues.specs.Queues.{Tables, closed_of, opened_of, found_of}
+use Rattle.lock_queues.specs.Queues.{AllQueues, closed_of, opened_of, found_of}
 
 -- an entry for each section on the lock that has ended, in the order of their releases
 pub record AreSections (log : List Event) (l : LockId) (qs : List Closed) : Type 0 where
@@ -32,7 +32,7 @@ pub record AreOf (log : List Event) (closed : ℕ → List Closed) (opened found
   pub most : (t : ThreadId) (l : LockId) → found l.0 t.0 ≤ ended log l
   pub none : (t : ThreadId) (l : LockId) → events_of log t ≡ 0 → found l.0 t.0 ≡ 0
 
-abbrev pub Stands : List Event → Tables → Type 0
+abbrev pub Stands : List Event → AllQueues → Type 0
 Stands log v = AreOf log (closed_of v) (opened_of v) (found_of v)
 
 -- the event, which follows the log, neither opens nor ends a section

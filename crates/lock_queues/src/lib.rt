@@ -5,8 +5,8 @@
 pub mod laws;
 mod queue;
 mod queues;
-mod rooms;
 mod search;
 mod sections;
+mod slots;
 
 pub use queues::Queues;

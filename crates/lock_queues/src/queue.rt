@@ -1,13 +1,13 @@
 //! The closed sections of one lock, and how many of them each thread has found counted.
 //!
 //! What is kept of a lock grows with the threads that use it: a number for each thread up to the
-//! greatest, and a room for each that is in its section or about to enter it, mostly one. So a room
+//! greatest, and a slot for each that is in its section or about to enter it, mostly one. So a slot
 //! is found by looking through them.
 ghost use Rattle.std.specs.Prelude.{◌≡◌, ◌≤◌, length, max, slice_index, OnOk};
 
-use crate::rooms::{Room, find};
 use crate::search::search_from;
 use crate::sections::{ClosedSections, Entry};
+use crate::slots::{Slot, find};
 use event_core::{OutOfMemory, ThreadId, grow_to, reserve};
 use hb_clocks::{Clock, Mark, ReleaseClock, ReleaseClocks, Work};
 use std::alloc::Global;
@@ -17,30 +17,30 @@ use std::marker::Model;
 pub(crate) struct Queue {
     width: usize,
     // The closed sections, in the order of their releases, whose clocks never go down. There is memory for
-    // one more of each room.
+    // one more of each slot.
     entries: ClosedSections,
-    rooms: Vec<Room>,
+    slots: Vec<Slot>,
     // By the number of the thread, how many of the first closed sections it has found counted.
     found: Vec<usize>,
 }
 
 impl Model for Queue {
     ghost use Rattle.std.specs.Prelude.{max, vec_capacity};
-    ghost use Rattle.lock_queues.specs.Queue.{Kept, IsKept};
+    ghost use Rattle.lock_queues.specs.Queue.{OneQueue, IsKept};
 
-    ghost Value = { Kept };
+    ghost Value = { OneQueue };
 
     ghost view = { λ q. record {
       width = q.width;
       entries = q.entries.entries;
-      rooms = q.rooms.items;
+      slots = q.slots.items;
       found = q.found.items;
       most = q.entries.most;
-      reserved = max q.entries.reserved (max (vec_capacity q.rooms) (vec_capacity q.found));
+      reserved = max q.entries.reserved (max (vec_capacity q.slots) (vec_capacity q.found));
     } };
 
     ghost invariant = { λ q.
-        IsKept q.width q.entries.entries q.rooms.items q.found.items q.entries.most };
+        IsKept q.width q.entries.entries q.slots.items q.found.items q.entries.most };
 }
 
 impl Queue {
@@ -48,9 +48,9 @@ impl Queue {
     ghost use Rattle.std.specs.Prelude.{true, false, MatchOption, IsTrue, OnOk, OnErr, slice_index};
     ghost use Rattle.event_core.specs.Rows.{with_row};
     ghost use Rattle.hb_clocks.specs.Counts.{counts_of};
-    ghost use Rattle.lock_queues.specs.Rooms.{has_room_in, opened_in};
+    ghost use Rattle.lock_queues.specs.Slots.{has_slot, opened_in};
     ghost use Rattle.hb_clocks.specs.Releases.{before};
-    ghost use Rattle.lock_queues.specs.Sections.{entry_at, closed_as, section_of, CountsEntry};
+    ghost use Rattle.lock_queues.specs.Sections.{entry_at, section_of, CountsEntry};
     ghost use Rattle.lock_queues.specs.Sections.{AreReadable, HasJoined};
     ghost use Rattle.lock_queues.specs.Searched.{IsSection};
     ghost use Rattle.lock_queues.specs.Queue.{SameMeaning, no_queue, places_for};
@@ -62,125 +62,99 @@ impl Queue {
         Queue {
             width,
             entries: ClosedSections::new(alloc),
-            rooms: Vec::new(alloc),
+            slots: Vec::new(alloc),
             found: Vec::new(alloc),
         }
     }
 
-    // Whether the thread has made room.
+    // Whether the thread has a slot.
     pub(crate) fn ready(&self, thread: ThreadId) -> bool
-        ensures { result ≡ has_room_in self.now.rooms thread.0 }
+        ensures { result ≡ has_slot self.now.slots thread.0 }
     {
-        find(&self.rooms, thread) < self.rooms.len()
+        find(&self.slots, thread) < self.slots.len()
     }
 
-    // Makes room for a thread that has none, but for the numbers of a release.
-    pub(crate) fn make_room(&mut self, thread: ThreadId) -> Result<(), OutOfMemory>
+    // Makes a slot for a thread that has none, with memory for its section except the numbers of the release.
+    pub(crate) fn prepare(&mut self, thread: ThreadId) -> Result<(), OutOfMemory>
         requires within { thread.0 < self.old.width }
-        requires none { has_room_in self.old.rooms thread.0 ≡ false }
+        requires none { has_slot self.old.slots thread.0 ≡ false }
         ensures same { SameMeaning self.old self.new }
         ensures ok { OnOk result
-            (has_room_in self.new.rooms ≡ with_row thread.0 true (has_room_in self.old.rooms)) }
-        ensures more { OnOk result (length self.new.rooms ≡ length self.old.rooms + 1) }
-        ensures err { OnErr result (self.new.rooms ≡ self.old.rooms) }
+            (has_slot self.new.slots ≡ with_row thread.0 true (has_slot self.old.slots)) }
+        ensures more { OnOk result (length self.new.slots ≡ length self.old.slots + 1) }
+        ensures err { OnErr result (self.new.slots ≡ self.old.slots) }
         ensures most { length self.new.found ≤ max (length self.old.found) (thread.0 + 1) }
         ensures places { self.new.reserved ≤ max self.old.reserved (2 * places_for self.old thread.0) }
     {
         self.reserve(thread)?;
-        reserve(&mut self.rooms, 1)?;
-        self.rooms.push_reserved(Room {
+        reserve(&mut self.slots, 1)?;
+        self.slots.push_reserved(Slot {
             thread,
             opened: None,
         });
         Ok(())
     }
 
-    // Makes room for a thread that has none, where that takes no memory, but for the numbers of a release.
-    // Tells whether it did.
-    pub(crate) fn make_ready(&mut self, thread: ThreadId) -> bool
-        requires none { has_room_in self.old.rooms thread.0 ≡ false }
-        ensures same { SameMeaning self.old self.new }
-        ensures room { result ≡ has_room_in self.new.rooms thread.0 }
-        ensures many { length self.new.rooms ≡ length self.old.rooms + cond {A = ℕ} result 1 0 }
-        ensures kept { (t : ℕ) → IsTrue (has_room_in self.old.rooms t)
-            → IsTrue (has_room_in self.new.rooms t) }
-        ensures found { self.new.found ≡ self.old.found }
-        ensures places { self.new.reserved ≡ self.old.reserved }
-    {
-        let more = self.rooms.len() + 1;
-        if self.found.len() <= thread.0 as usize || self.rooms.capacity() < more {
-            return false;
-        }
-        if !self.entries.ready(more) {
-            return false;
-        }
-        self.rooms.push_reserved(Room {
-            thread,
-            opened: None,
-        });
-        true
-    }
-
-    // Memory for one room more, but for the room itself.
+    // Memory for what a slot more needs, except the slot itself.
     fn reserve(&mut self, thread: ThreadId) -> Result<(), OutOfMemory>
         requires within { thread.0 < self.old.width }
         ensures same { SameMeaning self.old self.new }
-        ensures rooms { self.new.rooms ≡ self.old.rooms }
+        ensures slots { self.new.slots ≡ self.old.slots }
         ensures most { length self.new.found ≤ max (length self.old.found) (thread.0 + 1) }
         ensures found { OnOk result (thread.0 < length self.new.found) }
         ensures spare { OnOk result
-            (length self.new.entries + (length self.new.rooms + 1) ≤ self.new.most) }
+            (length self.new.entries + (length self.new.slots + 1) ≤ self.new.most) }
         ensures places { self.new.reserved ≤ max self.old.reserved (2 * places_for self.old thread.0) }
     {
         grow_to(&mut self.found, thread.0 as usize + 1, || 0)?;
-        self.entries.make_room(self.rooms.len() + 1)
+        self.entries.prepare(self.slots.len() + 1)
     }
 
     // The thread's section is open from the event on.
     pub(crate) fn enter(&mut self, thread: ThreadId, mark: Mark)
-        requires room { IsTrue (has_room_in self.old.rooms thread.0) }
+        requires slot { IsTrue (has_slot self.old.slots thread.0) }
         requires own { mark.thread ≡ thread.0 }
-        ensures opened { opened_in self.new.rooms
-            ≡ with_row thread.0 mark.position (opened_in self.old.rooms) }
-        ensures rooms { has_room_in self.new.rooms ≡ has_room_in self.old.rooms }
-        ensures many { length self.new.rooms ≡ length self.old.rooms }
+        ensures opened { opened_in self.new.slots
+            ≡ with_row thread.0 mark.position (opened_in self.old.slots) }
+        ensures slots { has_slot self.new.slots ≡ has_slot self.old.slots }
+        ensures many { length self.new.slots ≡ length self.old.slots }
         ensures entries { self.new.entries ≡ self.old.entries }
         ensures found { self.new.found ≡ self.old.found }
         ensures width { self.new.width ≡ self.old.width }
     {
-        let at = find(&self.rooms, thread);
-        let room = &mut self.rooms[at];
-        room.enter(mark);
+        let at = find(&self.slots, thread);
+        let slot = &mut self.slots[at];
+        slot.enter(mark);
     }
 
     // The thread's open section is closed with the clock of its release, which joins those of the others.
     pub(crate) fn leave(&mut self, releases: &mut ReleaseClocks, thread: ThreadId, clock: &Clock)
-        requires entered { 0 < opened_in self.old.rooms thread.0 }
+        requires entered { 0 < opened_in self.old.slots thread.0 }
         requires width { length clock.now ≡ self.old.width }
         requires small { self.old.width < 2 ^ 32 }
         requires counted { 0 < counts_of clock.now thread.0 }
         requires few { (u : ℕ) → before thread.0 (counts_of clock.now) u < 2 ^ 32 }
         requires memory { length releases.old.numbers + self.old.width ≤ releases.old.most }
         ensures joined { HasJoined releases.old.numbers releases.new.numbers self.old.entries
-            self.new.entries thread.0 (opened_in self.old.rooms thread.0) self.old.width
+            self.new.entries thread.0 (opened_in self.old.slots thread.0) self.old.width
             (counts_of clock.now) }
-        ensures opened { opened_in self.new.rooms ≡ with_row thread.0 0 (opened_in self.old.rooms) }
-        ensures rooms { has_room_in self.new.rooms ≡ with_row thread.0 false (has_room_in self.old.rooms) }
-        ensures many { length self.new.rooms + 1 ≡ length self.old.rooms }
+        ensures opened { opened_in self.new.slots ≡ with_row thread.0 0 (opened_in self.old.slots) }
+        ensures slots { has_slot self.new.slots ≡ with_row thread.0 false (has_slot self.old.slots) }
+        ensures many { length self.new.slots + 1 ≡ length self.old.slots }
         ensures found { self.new.found ≡ self.old.found }
         ensures width { self.new.width ≡ self.old.width }
         ensures memory { releases.old.most ≤ releases.new.most }
     {
-        let at = find(&self.rooms, thread);
-        let room = self.rooms.remove(at);
-        let acquire = room.opened.unwrap();
+        let at = find(&self.slots, thread);
+        let slot = self.slots.remove(at);
+        let acquire = slot.opened.unwrap();
         let place = releases.push(thread, clock);
         self.entries.push(Entry { acquire, place });
     }
 
     // How many of the sections the clock counts, which the thread then has found.
     pub(crate) fn find_counted(&mut self, thread: ThreadId, clock: &Clock, work: &mut Work) -> usize
-        requires room { IsTrue (has_room_in self.old.rooms thread.0) }
+        requires slot { IsTrue (has_slot self.old.slots thread.0) }
         requires width { length clock.now ≡ self.old.width }
         requires before { (k : ℕ) → k < slice_index self.old.found thread.0
             → CountsEntry self.old.entries clock.now k }
@@ -192,7 +166,7 @@ impl Queue {
         ensures found { slice_index self.new.found
             ≡ with_row thread.0 result (slice_index self.old.found) }
         ensures entries { self.new.entries ≡ self.old.entries }
-        ensures rooms { self.new.rooms ≡ self.old.rooms }
+        ensures slots { self.new.slots ≡ self.old.slots }
         ensures width { self.new.width ≡ self.old.width }
         ensures joins { work.new.joins ≡ work.old.joins }
         ensures most { work.new.comparisons + slice_index self.old.found thread.0
@@ -214,13 +188,13 @@ impl Queue {
         releases: &'a ReleaseClocks,
         thread: ThreadId,
     ) -> Option<ReleaseClock<'a>>
-        requires room { IsTrue (has_room_in self.now.rooms thread.0) }
+        requires slot { IsTrue (has_slot self.now.slots thread.0) }
         requires readable { AreReadable releases.now.numbers self.now.entries }
         ensures { MatchOption result (slice_index self.now.found thread.0 ≡ 0)
             (λ answer. (0 < slice_index self.now.found thread.0)
             × IsSection answer self.now.width
-            (closed_as (section_of releases.now.numbers
-            (entry_at self.now.entries (slice_index self.now.found thread.0 - 1))))) }
+            (section_of releases.now.numbers
+            (entry_at self.now.entries (slice_index self.now.found thread.0 - 1)))) }
     {
         let number = self.found[thread.0 as usize];
         if number == 0 {
@@ -241,7 +215,7 @@ impl Queue {
         requires within { at < length self.now.entries }
         requires readable { AreReadable releases.now.numbers self.now.entries }
         ensures { IsSection result self.now.width
-            (closed_as (section_of releases.now.numbers (entry_at self.now.entries at))) }
+            (section_of releases.now.numbers (entry_at self.now.entries at)) }
     {
         let entry = self.entries.at(at);
         releases.at(entry.acquire.thread(), &entry.place)

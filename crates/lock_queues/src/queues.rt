@@ -12,7 +12,7 @@
 //! the clock of its release is kept once, here.
 ghost use Rattle.std.specs.Prelude.{◌≡◌, ℕ, ◌*◌, ◌≤◌, length, max, vec_capacity, OnOk};
 ghost use Rattle.lock_queues.specs.Queue.{AreAlike};
-ghost use Rattle.lock_queues.specs.Queues.{AreWide, count_rooms};
+ghost use Rattle.lock_queues.specs.Queues.{AreWide, count_slots};
 
 use crate::queue::Queue;
 use event_core::{Limits, LockId, OutOfMemory, ThreadId, grow_to};
@@ -29,19 +29,19 @@ use std::marker::Model;
 pub struct Queues {
     alloc: Global,
     limits: Limits,
-    // By the number of the lock, as far as room was made.
+    // By the number of the lock, as far as `prepare` went.
     queues: Vec<Queue>,
-    // Of all closed sections. There is memory for those of one more of each room.
+    // Of all closed sections. There is memory for those of one more of each slot.
     releases: ReleaseClocks,
-    // How many rooms there are on all locks.
-    rooms: usize,
+    // How many slots there are on all locks.
+    slots: usize,
 }
 
 impl Model for Queues {
     ghost use Rattle.std.specs.Prelude.{vec_capacity};
-    ghost use Rattle.lock_queues.specs.Queues.{Tables, AreKept};
+    ghost use Rattle.lock_queues.specs.Queues.{AllQueues, AreKept};
 
-    ghost Value = { Tables };
+    ghost Value = { AllQueues };
 
     ghost view = { λ a. record {
       limits = a.limits;
@@ -52,7 +52,7 @@ impl Model for Queues {
     } };
 
     ghost invariant = { λ a.
-        AreKept a.limits.threads a.queues.items a.releases.numbers a.rooms a.releases.most };
+        AreKept a.limits.threads a.queues.items a.releases.numbers a.slots a.releases.most };
 }
 
 impl Queues {
@@ -71,7 +71,7 @@ impl Queues {
     ghost use Rattle.hb_clocks.specs.Marks.{Names};
     ghost use Rattle.hb_clocks.specs.Released.{thread_of, before_of, clock_of};
     ghost use Rattle.hb_clocks.specs.Releases.{before};
-    ghost use Rattle.lock_queues.specs.Queues.{closed_of, opened_of, found_of, has_room, counted_of};
+    ghost use Rattle.lock_queues.specs.Queues.{closed_of, opened_of, found_of, is_ready, counted_of};
     ghost use Rattle.lock_queues.specs.Queues.{SameMeaning, GrownFor};
     ghost use Rattle.lock_queues.specs.Sections.{closed_at, latest_counted};
     ghost use Rattle.lock_queues.specs.Searched.{CountsEarlier, FindsCounted, IsAboveAll, IsLatestBefore};
@@ -92,29 +92,29 @@ impl Queues {
         ensures opened { IfOk result (λ v. opened_of v ≡ (λ _ _. 0)) }
         ensures found { IfOk result (λ v. found_of v ≡ (λ _ _. 0)) }
         ensures stands { IfOk result (λ v. Stands [] v) }
-        ensures rooms { IfOk result (λ v. has_room v ≡ (λ _ _. false)) }
+        ensures ready { IfOk result (λ v. is_ready v ≡ (λ _ _. false)) }
     {
         Ok(Queues {
             alloc,
             limits,
             queues: Vec::new(alloc),
             releases,
-            rooms: 0,
+            slots: 0,
         })
     }
 
-    /// Makes the room that the thread's next section on the lock needs: to enter it, to ask for the
-    /// section below it and to leave it. Where there is room already, nothing more is needed.
+    /// Makes room for the thread's next section on the lock: to enter it, to ask for the section below it and
+    /// to leave it. Where there is room already, nothing changes.
     ///
     /// After a refusal all is as it was, and the call can be made again.
-    pub fn make_room(&mut self, thread: ThreadId, lock: LockId) -> Result<(), OutOfMemory>
+    pub fn prepare(&mut self, thread: ThreadId, lock: LockId) -> Result<(), OutOfMemory>
         requires thread { thread.0 < self.old.limits.threads }
         requires lock { lock.0 < self.old.limits.locks }
         ensures same { SameMeaning self.old self.new }
-        ensures ok { OnOk result (has_room self.new
-            ≡ with_row thread.0 (with_row lock.0 true (has_room self.old thread.0)) (has_room self.old)) }
-        ensures err { OnErr result (has_room self.new ≡ has_room self.old) }
-        ensures again { IsTrue (has_room self.old thread.0 lock.0) → IsOk result }
+        ensures ok { OnOk result (is_ready self.new
+            ≡ with_row thread.0 (with_row lock.0 true (is_ready self.old thread.0)) (is_ready self.old)) }
+        ensures err { OnErr result (is_ready self.new ≡ is_ready self.old) }
+        ensures again { IsTrue (is_ready self.old thread.0 lock.0) → IsOk result }
         ensures grown { GrownFor self.old self.new thread.0 lock.0 }
     {
         if self.ready(thread, lock) {
@@ -122,56 +122,29 @@ impl Queues {
         }
         let at = lock.0 as usize;
         let width = self.limits.threads() as usize;
-        let Some(rooms) = self.rooms.checked_add(1) else {
+        let Some(slots) = self.slots.checked_add(1) else {
             return Err(OutOfMemory);
         };
-        self.releases.make_room(rooms, width)?;
+        self.releases.make_room(slots, width)?;
         grow(&mut self.queues, self.alloc, width, at + 1)?;
         let queue = &mut self.queues[at];
-        queue.make_room(thread)?;
-        self.rooms = rooms;
+        queue.prepare(thread)?;
+        self.slots = slots;
         Ok(())
     }
 
     /// Whether there is room for the thread's next section on the lock, or for its open one.
     pub fn ready(&self, thread: ThreadId, lock: LockId) -> bool
-        ensures room { result ≡ has_room self.now thread.0 lock.0 }
+        ensures ready { result ≡ is_ready self.now thread.0 lock.0 }
         ensures entered { 0 < opened_of self.now thread.0 lock.0 → IsTrue result }
     {
         let at = lock.0 as usize;
         at < self.queues.len() && self.queues[at].ready(thread)
     }
 
-    /// Makes room for the thread's next section on the lock where that takes no memory; no clause tells
-    /// whether it does. Tells whether there is room for it now, or for the open one, as `ready` does.
-    pub fn make_ready(&mut self, thread: ThreadId, lock: LockId) -> bool
-        ensures room { result ≡ has_room self.new thread.0 lock.0 }
-        ensures same { SameMeaning self.old self.new }
-        ensures kept { (t l : ℕ) → IsTrue (has_room self.old t l) → IsTrue (has_room self.new t l) }
-        ensures grown { GrownFor self.old self.new thread.0 lock.0 }
-    {
-        if self.ready(thread, lock) {
-            return true;
-        }
-        let at = lock.0 as usize;
-        let Some(rooms) = self.rooms.checked_add(1) else {
-            return false;
-        };
-        let width = self.limits.threads() as usize;
-        if self.queues.len() <= at || !self.releases.ready(rooms, width) {
-            return false;
-        }
-        let queue = &mut self.queues[at];
-        let is_made = queue.make_ready(thread);
-        if is_made {
-            self.rooms = rooms;
-        }
-        is_made
-    }
-
     /// The thread's section on the lock is open, from the event on that the mark names.
     pub fn enter(&mut self, thread: ThreadId, lock: LockId, mark: Mark)
-        requires room { IsTrue (has_room self.old thread.0 lock.0) }
+        requires ready { IsTrue (is_ready self.old thread.0 lock.0) }
         requires own { mark.thread ≡ thread.0 }
         ensures opened { opened_of self.new
             ≡ with_row thread.0 (with_row lock.0 mark.position (opened_of self.old thread.0))
@@ -182,7 +155,7 @@ impl Queues {
             → WellFormed limits (log ++ e ∷ []) → OpensSection log thread lock e
             → Names (log ++ e ∷ []) mark thread (length log)
             → Stands log self.old → Stands (log ++ e ∷ []) self.new }
-        ensures rooms { has_room self.new ≡ has_room self.old }
+        ensures ready { is_ready self.new ≡ is_ready self.old }
         ensures limits { self.new.limits ≡ self.old.limits }
     {
         let queue = &mut self.queues[lock.0 as usize];
@@ -258,15 +231,15 @@ impl Queues {
             → WellFormed limits (log ++ e ∷ []) → EndsSection log thread lock e
             → Counted (log ++ e ∷ []) (λ i. Hb (log ++ e ∷ []) i (length log)) (counts_of clock.now)
             → Stands log self.old → Stands (log ++ e ∷ []) self.new }
-        ensures rooms { has_room self.new
-            ≡ with_row thread.0 (with_row lock.0 false (has_room self.old thread.0)) (has_room self.old) }
+        ensures ready { is_ready self.new
+            ≡ with_row thread.0 (with_row lock.0 false (is_ready self.old thread.0)) (is_ready self.old) }
         ensures limits { self.new.limits ≡ self.old.limits }
     {
         // Asked for its clause alone: how many threads there may be at most.
         let _threads = self.limits.threads();
         let queue = &mut self.queues[lock.0 as usize];
         queue.leave(&mut self.releases, thread, clock);
-        self.rooms -= 1;
+        self.slots -= 1;
     }
 
     /// How many closed sections the lock has: the number of the newest.
@@ -338,7 +311,7 @@ fn grow(
     requires wide { AreWide width queues.old.items }
     ensures same { AreAlike queues.old.items queues.new.items }
     ensures wide { AreWide width queues.new.items }
-    ensures rooms { count_rooms queues.new.items ≡ count_rooms queues.old.items }
+    ensures slots { count_slots queues.new.items ≡ count_slots queues.old.items }
     ensures more { length queues.old.items ≤ length queues.new.items }
     ensures most { length queues.new.items ≤ max (length queues.old.items) count }
     ensures room { vec_capacity queues.new ≤ max (vec_capacity queues.old) (2 * count) }

@@ -50,8 +50,7 @@ impl Model for ClosedSections {
 }
 
 impl ClosedSections {
-    ghost use Rattle.std.specs.Prelude.{◌≡◌, ◌+◌, ◌*◌, ◌<◌, ◌≤◌, ◌∷◌, ◌++◌, [], ◌↔◌, length, max, OnOk};
-    ghost use Rattle.std.specs.Prelude.{IsTrue};
+    ghost use Rattle.std.specs.Prelude.{◌≡◌, ◌+◌, ◌*◌, ◌<◌, ◌≤◌, ◌∷◌, ◌++◌, [], length, max, OnOk};
     ghost use Rattle.lock_queues.specs.Sections.{entry_at, acquires_of, first_of};
 
     // None. It takes no memory.
@@ -73,7 +72,7 @@ impl ClosedSections {
     }
 
     // Makes room for so many more.
-    pub(crate) fn make_room(&mut self, more: usize) -> Result<(), OutOfMemory>
+    pub(crate) fn prepare(&mut self, more: usize) -> Result<(), OutOfMemory>
         ensures same { self.new.entries ≡ self.old.entries }
         ensures larger { self.old.most ≤ self.new.most }
         ensures ok { OnOk result (length self.new.entries + more ≤ self.new.most) }
@@ -82,14 +81,6 @@ impl ClosedSections {
         reserve(&mut self.acquires, more)?;
         reserve(&mut self.places, more)?;
         Ok(())
-    }
-
-    // Whether there is room for so many more.
-    pub(crate) fn ready(&self, more: usize) -> bool
-        ensures { IsTrue result ↔ (length self.now.entries + more ≤ self.now.most) }
-    {
-        let most = self.acquires.capacity().min(self.places.capacity());
-        more <= most - self.acquires.len()
     }
 
     // One more, for which there is room.

@@ -4,7 +4,7 @@ use Rattle.std.proofs.lemmas.List.{get_or_read}
 use Rattle.event_core.specs.Rows.{with_row}
 use Rattle.hb_clocks.specs.Marks.{Named, Counts}
 use Rattle.lock_queues.specs.Sections.{acquires_of}
-use Rattle.lock_queues.specs.Queue.{Kept}
+use Rattle.lock_queues.specs.Queue.{OneQueue}
 use Rattle.lock_queues.proofs.Listing.{mark_seen, count_seen}
 use Rattle.lock_queues.proofs.Keeping.{seen_within, kept_found}
 use Rattle.hb_clocks.proofs.Lowering.{counts_set}
@@ -12,19 +12,19 @@ use Rattle.lock_queues.proofs.queue.Queue.find_counted.Goals as goal
 
 pub index-requires : goal.index-requires
 index-requires c =
-    let lt = seen_within c.args.thread.0 c.self.view_is c.self.invariant c.requires.room in
+    let lt = seen_within c.args.thread.0 c.self.view_is c.self.invariant c.requires.slot in
     let len = c.self.inside.found.ok.0 in
     omega arith
 
 pub index_mut-requires : goal.index_mut-requires
 index_mut-requires c =
-    let lt = seen_within c.args.thread.0 c.self.view_is c.self.invariant c.requires.room in
+    let lt = seen_within c.args.thread.0 c.self.view_is c.self.invariant c.requires.slot in
     let len = c.self.inside.found.ok.0 in
     omega arith
 
 pub search_from-more-requires-clause-within : goal.search_from-more-requires-clause-within
 search_from-more-requires-clause-within c =
-    let lt = seen_within c.args.thread.0 c.self.view_is c.self.invariant c.requires.room in
+    let lt = seen_within c.args.thread.0 c.self.view_is c.self.invariant c.requires.slot in
     let is = get_or_read c.self.inside.found.items c.args.thread.0 _ lt c.index.ensures 0 in
     let le = c.self.invariant.within c.args.thread.0 in
     let seen = count_seen _ c.acquires-acquires.ensures in
@@ -32,10 +32,10 @@ search_from-more-requires-clause-within c =
 
 pub search_from-more-requires-clause-before : goal.search_from-more-requires-clause-before
 search_from-more-requires-clause-before c k small =
-    let lt = seen_within c.args.thread.0 c.self.view_is c.self.invariant c.requires.room in
+    let lt = seen_within c.args.thread.0 c.self.view_is c.self.invariant c.requires.slot in
     let here = get_or_read c.self.inside.found.items c.args.thread.0 _ lt c.index.ensures 0 in
-    let is = ap (λ (k : Kept). slice_index k.found c.args.thread.0) c.self.view_is in
-    let are = c.acquires-acquires.ensures ∙ ap (λ (q : Kept). acquires_of q.entries) c.self.view_is in
+    let is = ap (λ (k : OneQueue). slice_index k.found c.args.thread.0) c.self.view_is in
+    let are = c.acquires-acquires.ensures ∙ ap (λ (q : OneQueue). acquires_of q.entries) c.self.view_is in
     subst (Counts c.args.clock.now) (sym (mark_seen _ are k)) (c.requires.before k (omega arith))
 
 pub search_from-more-requires-clause-widths : goal.search_from-more-requires-clause-widths
@@ -44,42 +44,42 @@ search_from-more-requires-clause-widths c k small =
     let lt : k < length c.self.inside.entries.entries = omega (arith, count, small) in
     let own = c.self.invariant.marked k lt in
     let wide = c.self.invariant.wide k lt in
-    let width = ap (λ (q : Kept). q.width) c.self.view_is in
+    let width = ap (λ (q : OneQueue). q.width) c.self.view_is in
     let clock = c.requires.width in
     let is = ap (λ (m : Named). m.thread) (mark_seen _ c.acquires-acquires.ensures k) in
     omega arith
 
 pub returns-clause-counted : goal.returns-clause-counted
 returns-clause-counted c k small =
-    let are = c.acquires-acquires.ensures ∙ ap (λ (q : Kept). acquires_of q.entries) c.self.view_is in
+    let are = c.acquires-acquires.ensures ∙ ap (λ (q : OneQueue). acquires_of q.entries) c.self.view_is in
     subst (Counts c.args.clock.now) (mark_seen _ are k) (c.search_from-more.ensures.counted k small)
 
 pub returns-clause-found : goal.returns-clause-found
 returns-clause-found c =
-    let lt = seen_within c.args.thread.0 c.self.view_is c.self.invariant c.requires.room in
+    let lt = seen_within c.args.thread.0 c.self.view_is c.self.invariant c.requires.slot in
     counts_set c.self.inside.found.items c.args.thread.0 c.search_from-more.result lt
-    ∙ ap (λ (k : Kept). with_row c.args.thread.0 c.search_from-more.result (slice_index k.found))
+    ∙ ap (λ (k : OneQueue). with_row c.args.thread.0 c.search_from-more.result (slice_index k.found))
     c.self.view_is
 
 pub returns-clause-most : goal.returns-clause-most
 returns-clause-most c =
-    let lt = seen_within c.args.thread.0 c.self.view_is c.self.invariant c.requires.room in
+    let lt = seen_within c.args.thread.0 c.self.view_is c.self.invariant c.requires.slot in
     let here = get_or_read c.self.inside.found.items c.args.thread.0 _ lt c.index.ensures 0 in
-    let is = ap (λ (k : Kept). slice_index k.found c.args.thread.0) c.self.view_is in
+    let is = ap (λ (k : OneQueue). slice_index k.found c.args.thread.0) c.self.view_is in
     let work = c.search_from-more.ensures.most in
     omega arith
 
 pub returns-clause-least : goal.returns-clause-least
 returns-clause-least c =
-    let lt = seen_within c.args.thread.0 c.self.view_is c.self.invariant c.requires.room in
+    let lt = seen_within c.args.thread.0 c.self.view_is c.self.invariant c.requires.slot in
     let here = get_or_read c.self.inside.found.items c.args.thread.0 _ lt c.index.ensures 0 in
-    let is = ap (λ (k : Kept). slice_index k.found c.args.thread.0) c.self.view_is in
+    let is = ap (λ (k : OneQueue). slice_index k.found c.args.thread.0) c.self.view_is in
     let work = c.search_from-more.ensures.least in
     omega arith
 
 pub invariant_of-self : goal.invariant_of-self
 invariant_of-self c =
-    let lt = seen_within c.args.thread.0 c.self.view_is c.self.invariant c.requires.room in
+    let lt = seen_within c.args.thread.0 c.self.view_is c.self.invariant c.requires.slot in
     let seen = count_seen _ c.acquires-acquires.ensures in
     kept_found c.args.thread.0 c.search_from-more.result c.self.invariant lt
     (omega (arith, seen, c.search_from-more.ensures.within))

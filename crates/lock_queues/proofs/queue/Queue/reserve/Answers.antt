@@ -1,5 +1,5 @@
 use Rattle.std.proofs.Common.{rules, refl, ap, arith}
-use Rattle.lock_queues.specs.Queue.{Kept}
+use Rattle.lock_queues.specs.Queue.{OneQueue}
 use Rattle.lock_queues.proofs.Keeping.{kept_grown}
 use Rattle.lock_queues.proofs.queue.Queue.reserve.Goals as goal
 
@@ -8,7 +8,7 @@ invariant_of-self c =
     let most = c.grow_to.ensures.most in
     let few = c.self.invariant.threads in
     let lt = c.requires.within in
-    let width = ap (λ (k : Kept). k.width) c.self.view_is in
+    let width = ap (λ (k : OneQueue). k.width) c.self.view_is in
     kept_grown _ _ c.self.invariant refl (λ i t. c.grow_to.ensures.same 0 (λ n given. search rules) t i)
     c.grow_to.ensures.more (omega arith) (omega arith)
 
@@ -17,8 +17,8 @@ invariant_of-self-2 c =
     let most = c.grow_to.ensures.most in
     let few = c.self.invariant.threads in
     let lt = c.requires.within in
-    let width = ap (λ (k : Kept). k.width) c.self.view_is in
-    kept_grown _ _ c.self.invariant c.make_room.ensures.same
+    let width = ap (λ (k : OneQueue). k.width) c.self.view_is in
+    kept_grown _ _ c.self.invariant c.prepare.ensures.same
     (λ i t. c.grow_to.ensures.same 0 (λ n given. search rules) t i) c.grow_to.ensures.more
     (omega arith)
-    c.make_room.ensures.larger
+    c.prepare.ensures.larger

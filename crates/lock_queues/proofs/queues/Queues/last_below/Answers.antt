@@ -9,7 +9,7 @@ use Rattle.hb_clocks.specs.declared.release.ReleaseClock.{ReleaseClock}
 use Rattle.hb_clocks.specs.Released.{thread_of, before_of, clock_of}
 use Rattle.lock_queues.specs.Sections.{closed_at, latest_counted}
 use Rattle.lock_queues.specs.Searched.{IsSection}
-use Rattle.lock_queues.specs.Queues.{Tables, closed_of, found_of}
+use Rattle.lock_queues.specs.Queues.{AllQueues, closed_of, found_of}
 use Rattle.lock_queues.specs.Standing.{CountsNone, IsLatest}
 use Rattle.lock_queues.proofs.Answering.{match_option, if_some}
 use Rattle.lock_queues.proofs.LogSearches.{none_in_log, told_in_log}
@@ -24,8 +24,8 @@ pub returns : goal.returns
 returns c =
     let t = c.args.thread.0 in
     let l = c.args.lock.0 in
-    let old : Tables = c.args.self.now in
-    let new : Tables = c.find_counted.new.self in
+    let old : AllQueues = c.args.self.now in
+    let new : AllQueues = c.find_counted.new.self in
     let clock : ℕ → ℕ = counts_of c.args.clock.now in
     let qs : List Closed = closed_of old l in
     let n : ℕ = number_counted clock qs in

@@ -1,7 +1,7 @@
 use Rattle.std.proofs.Common.{ap, ap₂, length, arith}
 use Rattle.lock_queues.specs.Sections.{Listed, entries_of}
 use Rattle.lock_queues.proofs.Listing.{count_listed}
-use Rattle.lock_queues.proofs.sections.ClosedSections.make_room.Goals as goal
+use Rattle.lock_queues.proofs.sections.ClosedSections.prepare.Goals as goal
 
 pub returns-clause-ok : goal.returns-clause-ok
 returns-clause-ok c =
