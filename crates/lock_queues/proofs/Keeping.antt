@@ -39,7 +39,6 @@ kept_entered {slots = slots} {found = found} {t = t} {i = i} s kept p own marked
     let same : length (set slots i s) ≡ length slots = length-set slots i s in
     let spare = kept.spare in
     record {
-      threads = kept.threads;
       within = kept.within;
       wide = kept.wide;
       marked = kept.marked;
@@ -54,7 +53,6 @@ pub kept_found : {w : ℕ} {es : List Entry} {slots : List Slot} {found : List �
 kept_found {es = es} {slots = slots} {found = found} t n kept lt le =
     let same = length-set found t n in
     record {
-      threads = omega (arith, same, kept.threads);
       within = λ u. elim (cases_eq u t) [
         | inl e ↦ subst (λ v. slice_index (set found t n) v ≤ length es) (sym e)
             (subst (λ k. k ≤ length es) (sym (get_or-set_same found t n 0 lt)) le)
@@ -89,7 +87,6 @@ kept_left {w = w} {es = es} {slots = slots} {found = found} {t = t} {i = i} x mo
     let longer : length (es ++ x ∷ []) ≡ length es + 1 = length_push es x in
     let spare = kept.spare in
     record {
-      threads = kept.threads;
       within = λ v. (let h = kept.within v in omega arith);
       wide = each_pushed (λ (e : Entry). e.place.width ≤ w) es x kept.wide wide;
       marked = each_pushed (λ (e : Entry). e.acquire.thread < e.place.width) es x kept.marked own;
@@ -100,12 +97,11 @@ kept_left {w = w} {es = es} {slots = slots} {found = found} {t = t} {i = i} x mo
 -- there is more memory
 pub kept_grown : {w : ℕ} {es same : List Entry} {slots : List Slot} {found : List ℕ}
     {m : ℕ} (more : List ℕ) (larger : ℕ) → IsKept w es slots found m → same ≡ es
-    → slice_index more ≡ slice_index found → length found ≤ length more → length more ≤ w → m ≤ larger
+    → slice_index more ≡ slice_index found → length found ≤ length more → m ≤ larger
     → IsKept w same slots more larger
-kept_grown {w = w} {es = es} {slots = slots} {found = found} more larger kept is alike longer few le =
+kept_grown {w = w} {es = es} {slots = slots} {found = found} more larger kept is alike longer le =
     let spare = kept.spare in
     subst (λ (xs : List Entry). IsKept w xs slots more larger) (sym is) (record {
-      threads = few;
       within = λ t. (
           let e : slice_index more t ≡ slice_index found t = ap (λ (f : ℕ → ℕ). f t) alike in
           let h = kept.within t in
@@ -124,7 +120,6 @@ pub kept_pushed : {w : ℕ} {es : List Entry} {slots : List Slot} {found : List 
 kept_pushed {slots = slots} {found = found} s kept none is spare =
     let more : length (slots ++ s ∷ []) ≡ length slots + 1 = length_push slots s in
     record {
-      threads = kept.threads;
       within = kept.within;
       wide = kept.wide;
       marked = kept.marked;

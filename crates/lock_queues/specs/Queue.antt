@@ -20,7 +20,6 @@ pub record OneQueue : Type 0 where
 -- what the fields keep
 pub record IsKept (width : ℕ) (entries : List Entry) (slots : List Slot) (found : List ℕ) (most : ℕ) :
     Type 0 where
-  pub threads : length found ≤ width
   pub within : (t : ℕ) → slice_index found t ≤ length entries
   pub wide : (k : ℕ) → k < length entries → (entry_at entries k).place.width ≤ width
   pub marked : (k : ℕ) → k < length entries

@@ -76,7 +76,6 @@ impl Queue {
 
     // Makes a slot for a thread that has none, with memory for its section except the numbers of the release.
     pub(crate) fn prepare(&mut self, thread: ThreadId) -> Result<(), OutOfMemory>
-        requires within { thread.0 < self.old.width }
         requires none { has_slot self.old.slots thread.0 ≡ false }
         ensures same { SameMeaning self.old self.new }
         ensures ok { OnOk result
@@ -97,7 +96,6 @@ impl Queue {
 
     // Memory for what a slot more needs, except the slot itself.
     fn reserve(&mut self, thread: ThreadId) -> Result<(), OutOfMemory>
-        requires within { thread.0 < self.old.width }
         ensures same { SameMeaning self.old self.new }
         ensures slots { self.new.slots ≡ self.old.slots }
         ensures most { length self.new.found ≤ max (length self.old.found) (thread.0 + 1) }

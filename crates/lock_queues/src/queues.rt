@@ -108,8 +108,6 @@ impl Queues {
     ///
     /// After a refusal all is as it was, and the call can be made again.
     pub fn prepare(&mut self, thread: ThreadId, lock: LockId) -> Result<(), OutOfMemory>
-        requires thread { thread.0 < self.old.limits.threads }
-        requires lock { lock.0 < self.old.limits.locks }
         ensures same { SameMeaning self.old self.new }
         ensures ok { OnOk result (is_ready self.new
             ≡ with_row thread.0 (with_row lock.0 true (is_ready self.old thread.0)) (is_ready self.old)) }

@@ -1,24 +1,14 @@
-use Rattle.std.proofs.Common.{rules, refl, ap, arith}
-use Rattle.lock_queues.specs.Queue.{OneQueue}
+use Rattle.std.proofs.Common.{rules, refl, arith}
 use Rattle.lock_queues.proofs.Keeping.{kept_grown}
 use Rattle.lock_queues.proofs.queue.Queue.reserve.Goals as goal
 
 pub invariant_of-self : goal.invariant_of-self
 invariant_of-self c =
-    let most = c.grow_to.ensures.most in
-    let few = c.self.invariant.threads in
-    let lt = c.requires.within in
-    let width = ap (λ (k : OneQueue). k.width) c.self.view_is in
     kept_grown _ _ c.self.invariant refl (λ i t. c.grow_to.ensures.same 0 (λ n given. search rules) t i)
-    c.grow_to.ensures.more (omega arith) (omega arith)
+    c.grow_to.ensures.more (omega arith)
 
 pub invariant_of-self-2 : goal.invariant_of-self-2
 invariant_of-self-2 c =
-    let most = c.grow_to.ensures.most in
-    let few = c.self.invariant.threads in
-    let lt = c.requires.within in
-    let width = ap (λ (k : OneQueue). k.width) c.self.view_is in
     kept_grown _ _ c.self.invariant c.prepare.ensures.same
     (λ i t. c.grow_to.ensures.same 0 (λ n given. search rules) t i) c.grow_to.ensures.more
-    (omega arith)
     c.prepare.ensures.larger
