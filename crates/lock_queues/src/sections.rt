@@ -65,6 +65,7 @@ impl ClosedSections {
     }
 
     // How many there are.
+    #[tactic(auto, using(crate::proofs::Listing::count_listed))]
     pub(crate) fn len(&self) -> usize
         ensures { result ≡ length self.now.entries }
     {
@@ -72,6 +73,7 @@ impl ClosedSections {
     }
 
     // Makes room for so many more.
+    #[tactic(auto, using(crate::proofs::Listing::count_listed))]
     pub(crate) fn prepare(&mut self, more: usize) -> Result<(), OutOfMemory>
         ensures same { self.new.entries ≡ self.old.entries }
         ensures larger { self.old.most ≤ self.new.most }
@@ -84,6 +86,7 @@ impl ClosedSections {
     }
 
     // One more, for which there is room.
+    #[tactic(auto, using(crate::proofs::Listing::count_listed))]
     pub(crate) fn push(&mut self, entry: Entry)
         requires { length self.old.entries < self.old.most }
         ensures entries { self.new.entries ≡ self.old.entries ++ entry ∷ [] }
@@ -95,6 +98,7 @@ impl ClosedSections {
     }
 
     // The one at the place.
+    #[tactic(auto, using(crate::proofs::Listing::count_listed))]
     pub(crate) fn at(&self, at: usize) -> Entry
         requires { at < length self.now.entries }
         ensures { result ≡ entry_at self.now.entries at }

@@ -4,23 +4,6 @@ use Rattle.lock_queues.specs.Sections.{Listed, entry_at, no_entry}
 use Rattle.lock_queues.proofs.Listing.{count_listed, entry_listed}
 use Rattle.lock_queues.proofs.sections.ClosedSections.at.Goals as goal
 
-pub index-requires : goal.index-requires
-index-requires c =
-    let count = count_listed c.self.inside.acquires.items c.self.inside.places.items c.self.invariant.same in
-    let is = ap (λ (l : Listed). length l.entries) c.self.view_is in
-    let len = c.self.inside.acquires.ok.0 in
-    let within = c.requires in
-    omega arith
-
-pub index-requires-2 : goal.index-requires-2
-index-requires-2 c =
-    let same = c.self.invariant.same in
-    let count = count_listed c.self.inside.acquires.items c.self.inside.places.items same in
-    let is = ap (λ (l : Listed). length l.entries) c.self.view_is in
-    let len = c.self.inside.places.ok.0 in
-    let within = c.requires in
-    omega arith
-
 pub returns : goal.returns
 returns c =
     let ms = c.self.inside.acquires.items in
