@@ -3,6 +3,7 @@ use Rattle.std.proofs.Common.{◌≡◌, ℕ, ◌<◌, true, List, length, get_o
 use Rattle.std.proofs.Common.{◌+◌, inl, inr, nat_eq, ◌&&◌, false}
 use Rattle.event_core.specs.declared.ids.LockId.{LockId}
 use Rattle.std.proofs.lemmas.Bool.{false≢true}
+use Rattle.std.proofs.lemmas.List.{get_or_default}
 use Rattle.section_sum.specs.Cells.{Stored, has_cell, HasGrown}
 use Rattle.section_sum.specs.LockSums.{LockSum, no_kept, kept_at, IsKept, AreKept}
 use Rattle.section_sum.specs.Entries.{entries_of, SaysSame}
@@ -13,7 +14,7 @@ use Rattle.section_sum.specs.Sums.{SameNoted, SameOthers}
 use Rattle.section_sum.specs.Standing.{Stands}
 use Rattle.event_core.specs.declared.events.Event.{Event}
 use Rattle.section_sum.proofs.Basics.{at_set}
-use Rattle.section_sum.proofs.Passing.{same_said, same_then, held_each, not_held}
+use Rattle.section_sum.proofs.Passing.{same_said, same_then, held_each, is_held_at, not_held}
 use Rattle.section_sum.proofs.Sayings.{kept_set, kept_grown, says_more, no_more}
 use Rattle.section_sum.proofs.Meaning.{sums}
 use Rattle.section_sum.proofs.Steps.{same_stands}
@@ -80,6 +81,17 @@ module _ {held : List LockId} {var i : ℕ} {before : Sums} {cells : Stored} {lo
     ready = held_each (λ l. has_cell cells l var ≡ true) held i m h g.ready there;
     grown = g.grown;
   }
+
+-- the lock at hand has grown, once locks have joined
+pub at_grown : {held : List LockId} {var i : ℕ} {before : Sums} {cells : Stored} {locks : List LockSum}
+    → Grown held var i before cells locks → (more : List LockSum) (new : Stored) (m : LockId) (was k : LockSum)
+    → ((j : ℕ) → kept_at more j ≡ kept_at locks j) → i < length held → (get_or held i m).0 < length more
+    → was ≡ get_or more (get_or held i m).0 was → HasGrown (get_or held i m).0 var cells new
+    → IsKept (get_or held i m).0 new k → k.by ≡ was.by
+    → Grown held var i before new (set more (get_or held i m).0 k)
+at_grown {held = held} {i = i} g more new m was k alike h there read grown own by =
+    one_grown (more_locks g more alike) new (get_or held i m).0 k there (is_held_at held i m h) grown own
+    (by ∙ ap (λ (q : LockSum). q.by) (read ∙ get_or_default more (get_or held i m).0 was no_kept there))
 
 -- so what they mean is the same
 pub record Prepared (held : List LockId) (var : ℕ) (old new : Sums) : Type 0 where

@@ -11,7 +11,7 @@ use Rattle.section_sum.proofs.Basics.{refused}
 use Rattle.section_sum.proofs.Keeping.{no_lock}
 use Rattle.section_sum.proofs.Passing.{is_held_at}
 use Rattle.section_sum.proofs.Sayings.{kept_read}
-use Rattle.section_sum.proofs.Growing.{Grown, none_grown, more_locks, one_grown, next_grown, prepared}
+use Rattle.section_sum.proofs.Growing.{Grown, none_grown, more_locks, at_grown, next_grown, prepared}
 use Rattle.section_sum.proofs.summaries.Summaries.prepare.Goals as goal
 
 pub loop-lock-init : goal.loop-lock-init
@@ -36,15 +36,11 @@ prepare-requires c =
 pub loop-lock-preserved : goal.loop-lock-preserved
 loop-lock-preserved c =
     let l : LockId = get_or c.args.held.now c.loop-lock.lock-index (record { 0 = 0 }) in
-    let g = more_locks c.loop-lock.invariant.grown c.grow_to.new.list.items
-    (λ m. c.grow_to.ensures.same no_kept (λ lock given. search rules) m) in
     let ok = c.in_ok-grow_to.ensures.ok in
-    let there : l.0 < length c.grow_to.new.list.items = omega arith in
-    let by = c.prepare.ensures.by ∙ ap (λ (k : LockSum). k.by) (c.index_mut-kept.ensures.value
-    ∙ get_or_default c.grow_to.new.list.items l.0 c.index_mut-kept.result.now no_kept there) in
-    let after = one_grown g c.prepare.new.cells l.0 c.prepare.new.self there
-    (is_held_at c.args.held.now c.loop-lock.lock-index _ c.loop-lock-test.true)
-    c.prepare.ensures.grown c.prepare.ensures.kept by in
+    let after = at_grown c.loop-lock.invariant.grown c.grow_to.new.list.items c.prepare.new.cells
+    (record { 0 = 0 }) c.index_mut-kept.result.now c.prepare.new.self
+    (λ m. c.grow_to.ensures.same no_kept (λ lock given. search rules) m) c.loop-lock-test.true (omega arith)
+    c.index_mut-kept.ensures.value c.prepare.ensures.grown c.prepare.ensures.kept c.prepare.ensures.by in
     record {
       grown = next_grown after (record { 0 = 0 }) c.loop-lock-test.true (sym c.in_ok-prepare.ensures.ready);
       fitted = omega (
@@ -60,15 +56,11 @@ loop-lock-preserved c =
 pub invariant_of-self-in_err-prepare : goal.invariant_of-self-in_err-prepare
 invariant_of-self-in_err-prepare c =
     let l : LockId = get_or c.args.held.now c.loop-lock.lock-index (record { 0 = 0 }) in
-    let g = more_locks c.loop-lock.invariant.grown c.grow_to.new.list.items
-    (λ m. c.grow_to.ensures.same no_kept (λ lock given. search rules) m) in
     let ok = c.in_ok-grow_to.ensures.ok in
-    let there : l.0 < length c.grow_to.new.list.items = omega arith in
-    let by = c.prepare.ensures.by ∙ ap (λ (k : LockSum). k.by) (c.index_mut-kept.ensures.value
-    ∙ get_or_default c.grow_to.new.list.items l.0 c.index_mut-kept.result.now no_kept there) in
-    let after = one_grown g c.prepare.new.cells l.0 c.prepare.new.self there
-    (is_held_at c.args.held.now c.loop-lock.lock-index _ c.loop-lock-test.true)
-    c.prepare.ensures.grown c.prepare.ensures.kept by in (
+    let after = at_grown c.loop-lock.invariant.grown c.grow_to.new.list.items c.prepare.new.cells
+    (record { 0 = 0 }) c.index_mut-kept.result.now c.prepare.new.self
+    (λ m. c.grow_to.ensures.same no_kept (λ lock given. search rules) m) c.loop-lock-test.true (omega arith)
+    c.index_mut-kept.ensures.value c.prepare.ensures.grown c.prepare.ensures.kept c.prepare.ensures.by in (
       after.kept,
       omega (
         arith,
@@ -107,15 +99,11 @@ pub returns-in_err-prepare : goal.returns-in_err-prepare
 unfolding is_ready
 returns-in_err-prepare c =
     let l : LockId = get_or c.args.held.now c.loop-lock.lock-index (record { 0 = 0 }) in
-    let g = more_locks c.loop-lock.invariant.grown c.grow_to.new.list.items
-    (λ m. c.grow_to.ensures.same no_kept (λ lock given. search rules) m) in
     let ok = c.in_ok-grow_to.ensures.ok in
-    let there : l.0 < length c.grow_to.new.list.items = omega arith in
-    let by = c.prepare.ensures.by ∙ ap (λ (k : LockSum). k.by) (c.index_mut-kept.ensures.value
-    ∙ get_or_default c.grow_to.new.list.items l.0 c.index_mut-kept.result.now no_kept there) in
-    let after = one_grown g c.prepare.new.cells l.0 c.prepare.new.self there
-    (is_held_at c.args.held.now c.loop-lock.lock-index _ c.loop-lock-test.true)
-    c.prepare.ensures.grown c.prepare.ensures.kept by in
+    let after = at_grown c.loop-lock.invariant.grown c.grow_to.new.list.items c.prepare.new.cells
+    (record { 0 = 0 }) c.index_mut-kept.result.now c.prepare.new.self
+    (λ m. c.grow_to.ensures.same no_kept (λ lock given. search rules) m) c.loop-lock-test.true (omega arith)
+    c.index_mut-kept.ensures.value c.prepare.ensures.grown c.prepare.ensures.kept c.prepare.ensures.by in
     let means = prepared after in
     record {
       ready = search rules;
