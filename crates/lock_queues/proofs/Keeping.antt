@@ -1,11 +1,12 @@
 -- What is kept of one lock stays so over each change.
 use Rattle.std.proofs.Common.{◌≡◌, ℕ, ◌+◌, ◌<◌, ◌≤◌, ◌⊎◌, true, false, List, [], ◌∷◌, ◌++◌, length, set}
+use Rattle.std.proofs.Common.{get_or}
 use Rattle.std.proofs.Common.{ap, sym, subst, ◌∙◌, arith, length-set}
 use Rattle.std.specs.Prelude.{IfSome, slice_index}
 use Rattle.std.specs.List.{remove}
 use Rattle.std.proofs.lemmas.Bool.{cases_lt, cases_eq}
 use Rattle.std.proofs.lemmas.List.{get_or_push, get_or_append_left, length_push, get_or-set_same}
-use Rattle.std.proofs.lemmas.List.{get_or-set_other}
+use Rattle.std.proofs.lemmas.List.{get_or-set_other, get_or_read}
 use Rattle.std.proofs.lemmas.List.Edits.{length-remove}
 use mathlib.Core.Logic.{inl, inr}
 use Rattle.lock_queues.specs.declared.slots.Slot.{Slot}
@@ -27,6 +28,14 @@ pub seen_within : {inside now : OneQueue} {m : ℕ} (t : ℕ) → inside ≡ now
     → t < length inside.found
 seen_within {inside = inside} t is kept has =
     thread_within kept (has_placed inside.slots t (ap (λ (k : OneQueue). has_slot k.slots t) is ∙ has))
+
+-- what a read gives of how many it has found
+pub found_read : {inside now : OneQueue} {m : ℕ} (t x : ℕ) → inside ≡ now
+    → IsKept inside.width inside.entries inside.slots inside.found m → has_slot now.slots t ≡ true
+    → x ≡ get_or inside.found t x → x ≡ slice_index now.found t
+found_read {inside = inside} t x is kept has read =
+    get_or_read inside.found t x (seen_within t is kept has) read 0
+    ∙ ap (λ (k : OneQueue). slice_index k.found t) is
 
 -- the thread enters
 pub kept_entered : {w : ℕ} {es : List Entry} {slots : List Slot} {found : List ℕ}

@@ -63,6 +63,7 @@ pub some_opened : (o : Option Named) → 0 < position_of o → IsSome o
 some_opened None h = absurd (omega arith)
 some_opened (Some m) h = search rules
 
-pub mark_of : (o : Option Named) (m : Named) (t : ℕ) → o ≡ Some m → IfSome o (λ m. m.thread ≡ t)
-    → m.thread ≡ t
-mark_of o m t e h = subst (λ o. IfSome o (λ m. m.thread ≡ t)) e h
+pub mark_of : {n : ℕ} {slots : List Slot} {t : ℕ} {x : Slot} (m : Named) → IsOf n slots t x
+    → x.opened ≡ Some m → m.thread ≡ t
+mark_of {x = x} m slot e =
+    subst (λ (o : Option Named). IfSome o (λ m. m.thread ≡ x.thread.0)) e slot.own ∙ sym slot.thread

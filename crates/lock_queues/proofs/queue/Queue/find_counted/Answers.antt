@@ -6,7 +6,7 @@ use Rattle.hb_clocks.specs.Marks.{Named, Counts}
 use Rattle.lock_queues.specs.Sections.{acquires_of}
 use Rattle.lock_queues.specs.Queue.{OneQueue}
 use Rattle.lock_queues.proofs.Listing.{mark_seen, count_seen}
-use Rattle.lock_queues.proofs.Keeping.{seen_within, kept_found}
+use Rattle.lock_queues.proofs.Keeping.{seen_within, found_read, kept_found}
 use Rattle.hb_clocks.proofs.Lowering.{counts_set}
 use Rattle.lock_queues.proofs.queue.Queue.find_counted.Goals as goal
 
@@ -32,9 +32,7 @@ search_from-more-requires-clause-within c =
 
 pub search_from-more-requires-clause-before : goal.search_from-more-requires-clause-before
 search_from-more-requires-clause-before c k small =
-    let lt = seen_within c.args.thread.0 c.self.view_is c.self.invariant c.requires.slot in
-    let here = get_or_read c.self.inside.found.items c.args.thread.0 _ lt c.index.ensures 0 in
-    let is = ap (λ (k : OneQueue). slice_index k.found c.args.thread.0) c.self.view_is in
+    let known = found_read c.args.thread.0 _ c.self.view_is c.self.invariant c.requires.slot c.index.ensures in
     let are = c.acquires-acquires.ensures ∙ ap (λ (q : OneQueue). acquires_of q.entries) c.self.view_is in
     subst (Counts c.args.clock.now) (sym (mark_seen _ are k)) (c.requires.before k (omega arith))
 
@@ -63,17 +61,13 @@ returns-clause-found c =
 
 pub returns-clause-most : goal.returns-clause-most
 returns-clause-most c =
-    let lt = seen_within c.args.thread.0 c.self.view_is c.self.invariant c.requires.slot in
-    let here = get_or_read c.self.inside.found.items c.args.thread.0 _ lt c.index.ensures 0 in
-    let is = ap (λ (k : OneQueue). slice_index k.found c.args.thread.0) c.self.view_is in
+    let known = found_read c.args.thread.0 _ c.self.view_is c.self.invariant c.requires.slot c.index.ensures in
     let work = c.search_from-more.ensures.most in
     omega arith
 
 pub returns-clause-least : goal.returns-clause-least
 returns-clause-least c =
-    let lt = seen_within c.args.thread.0 c.self.view_is c.self.invariant c.requires.slot in
-    let here = get_or_read c.self.inside.found.items c.args.thread.0 _ lt c.index.ensures 0 in
-    let is = ap (λ (k : OneQueue). slice_index k.found c.args.thread.0) c.self.view_is in
+    let known = found_read c.args.thread.0 _ c.self.view_is c.self.invariant c.requires.slot c.index.ensures in
     let work = c.search_from-more.ensures.least in
     omega arith
 

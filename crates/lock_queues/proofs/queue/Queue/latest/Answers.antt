@@ -4,7 +4,7 @@ use Rattle.std.proofs.lemmas.List.{get_or_read}
 use Rattle.lock_queues.specs.Sections.{section_of, entry_at}
 use Rattle.lock_queues.specs.Queue.{OneQueue}
 use Rattle.lock_queues.specs.Searched.{IsSection}
-use Rattle.lock_queues.proofs.Keeping.{seen_within}
+use Rattle.lock_queues.proofs.Keeping.{seen_within, found_read}
 use Rattle.lock_queues.proofs.queue.Queue.latest.Goals as goal
 
 pub index-number-requires : goal.index-number-requires
@@ -24,11 +24,8 @@ section-requires-clause-within c =
 
 pub returns : goal.returns
 returns c =
-    let lt = seen_within c.args.thread.0 c.self.view_is c.self.invariant c.requires.slot in
-    let here : c.index-number.result.now ≡ slice_index c.self.inside.found.items c.args.thread.0
-    = get_or_read c.self.inside.found.items c.args.thread.0 _ lt c.index-number.ensures 0 in
-    let is : c.index-number.result.now ≡ slice_index c.args.self.now.found c.args.thread.0
-    = here ∙ ap (λ (k : OneQueue). slice_index k.found c.args.thread.0) c.self.view_is in
+    let is = found_read c.args.thread.0 c.index-number.result.now c.self.view_is c.self.invariant
+    c.requires.slot c.index-number.ensures in
     let some : 0 < c.index-number.result.now = omega (arith, c.if-number-eq0.false) in (
       omega arith,
       subst (λ n. IsSection c.section.result c.args.self.now.width

@@ -41,9 +41,7 @@ invariant_of-self c =
     let t : ℕ = c.args.thread.0 in
     let p = placed_entered c.self.view_is c.deref.ensures.value c.find-at.ensures c.requires.entered in
     let slot = slot_read c.remove-slot.result c.self.invariant.own p c.remove-slot.ensures.value in
-    let marked = mark_of c.remove-slot.result.opened c.unwrap-acquire.result _ c.unwrap-acquire.ensures
-    slot.own in
-    let thread : c.unwrap-acquire.result.thread ≡ t = marked ∙ sym slot.thread in
+    let thread = mark_of c.unwrap-acquire.result slot c.unwrap-acquire.ensures in
     let added = c.push-place.ensures.added in
     let own = added.marked in
     let count = added.count in
@@ -63,13 +61,11 @@ returns-clause-joined c =
     let t : ℕ = c.args.thread.0 in
     let p = placed_entered c.self.view_is c.deref.ensures.value c.find-at.ensures c.requires.entered in
     let slot = slot_read c.remove-slot.result c.self.invariant.own p c.remove-slot.ensures.value in
-    let marked = mark_of c.remove-slot.result.opened c.unwrap-acquire.result _ c.unwrap-acquire.ensures
-    slot.own in
     let x : Entry = record { acquire = c.unwrap-acquire.result; place = c.push-place.result } in
     record {
       entry = x;
       entries = c.push.ensures.entries ∙ ap (λ (k : OneQueue). k.entries ++ x ∷ []) c.self.view_is;
-      thread = marked ∙ sym slot.thread;
+      thread = mark_of c.unwrap-acquire.result slot c.unwrap-acquire.ensures;
       acquired = sym (slot.opened ∙ ap position_of c.unwrap-acquire.ensures)
           ∙ ap (λ (k : OneQueue). opened_in k.slots t) c.self.view_is;
       kept = subst (λ w. IsAdded c.args.releases.now.numbers c.push-place.new.self.numbers t
