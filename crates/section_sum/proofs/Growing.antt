@@ -84,7 +84,8 @@ module _ {held : List LockId} {var i : ℕ} {before : Sums} {cells : Stored} {lo
 
 -- the lock at hand has grown, once locks have joined
 pub at_grown : {held : List LockId} {var i : ℕ} {before : Sums} {cells : Stored} {locks : List LockSum}
-    → Grown held var i before cells locks → (more : List LockSum) (new : Stored) (m : LockId) (was k : LockSum)
+    → Grown held var i before cells locks → (more : List LockSum) (new : Stored) (m : LockId)
+    (was k : LockSum)
     → ((j : ℕ) → kept_at more j ≡ kept_at locks j) → i < length held → (get_or held i m).0 < length more
     → was ≡ get_or more (get_or held i m).0 was → HasGrown (get_or held i m).0 var cells new
     → IsKept (get_or held i m).0 new k → k.by ≡ was.by

@@ -115,40 +115,32 @@ listed_more s l v m xs same a = record {
       (omega (arith, less, long), ap (λ q. nat_eq q m) (lock_left s.places (place l v) i less) ∙ h.1);
 }
 
+-- of one number more it is asked whether it passes
+counted_more : (f g : ℕ → Bool) (n m : ℕ) → m ≡ n + 1 → ((i : ℕ) → i < n → g i ≡ f i)
+    → count_to g m ≡ count_to f n + cond {A = ℕ} (g n) 1 0
+counted_more f g n m e same =
+    ap (count_to g) e ∙ count_more g n ∙ ap (λ x. x + cond {A = ℕ} (g n) 1 0) (count_same g f n same)
+
 few_more : (s : Stored) (l v m n : ℕ) → length s.cells ≡ length s.places
     → n ≤ count_to (is_marked m s) (length s.places)
     → n ≤ count_to (is_marked m (with_place s l v)) (length (with_place s l v).places)
 few_more s l v m n same few =
-    let after : Stored = with_place s l v in
-    let size : length after.places ≡ length s.places + 1 = length_push s.places (place l v) in
-    let more : count_to (is_marked m after) (length after.places)
-    ≡ count_to (is_marked m after) (length s.places) + cond {A = ℕ} (is_marked m after (length s.places)) 1 0
-    = ap (count_to (is_marked m after)) size ∙ count_more (is_marked m after) (length s.places) in
-    let below = count_same (is_marked m after) (is_marked m s) (length s.places)
-    (λ i _. marked_more s l v m i same) in
-    omega (arith, more, below, few)
+    let more = counted_more (is_marked m s) (is_marked m (with_place s l v)) (length s.places) _
+    (length_push s.places (place l v)) (λ i _. marked_more s l v m i same) in
+    omega (arith, more, few)
 
 own_more : (s : Stored) (l v m : ℕ)
     → count_to (is_own m (with_place s l v)) (length (with_place s l v).places)
     ≡ count_to (is_own m s) (length s.places) + cond {A = ℕ} (nat_eq l m) 1 0
 own_more s l v m =
-    let after : Stored = with_place s l v in
-    let size : length after.places ≡ length s.places + 1 = length_push s.places (place l v) in
-    let more : count_to (is_own m after) (length after.places)
-    ≡ count_to (is_own m after) (length s.places) + cond {A = ℕ} (is_own m after (length s.places)) 1 0
-    = ap (count_to (is_own m after)) size ∙ count_more (is_own m after) (length s.places) in
-    let below = count_same (is_own m after) (is_own m s) (length s.places)
-    (λ i h. ap (λ q. nat_eq q m) (lock_left s.places (place l v) i h)) in
-    let last : cond {A = ℕ} (is_own m after (length s.places)) 1 0 ≡ cond (nat_eq l m) 1 0
-    = ap (λ q. cond {A = ℕ} (nat_eq q m) 1 0) (lock_new s.places l v) in
-    omega (arith, more, below, last)
+    counted_more (is_own m s) (is_own m (with_place s l v)) (length s.places) _
+    (length_push s.places (place l v)) (λ i h. ap (λ q. nat_eq q m) (lock_left s.places (place l v) i h))
+    ∙ ap (λ q. count_to (is_own m s) (length s.places) + cond {A = ℕ} (nat_eq q m) 1 0)
+    (lock_new s.places l v)
 
 same_more : (s : Stored) (l v : ℕ) → length s.cells ≡ length s.places
     → length (with_place s l v).cells ≡ length (with_place s l v).places
-same_more s l v same =
-    let a = length_push s.cells no_cell in
-    let b = length_push s.places (place l v) in
-    omega (arith, same, a, b)
+same_more s l v same = omega (arith, same, length_push s.cells no_cell, length_push s.places (place l v))
 
 sought_more : (places : List Place) (p : Place) (m : ℕ) (o : Option Sought) → IsSought m places o
     → IsSought m (places ++ p ∷ []) o
