@@ -20,6 +20,7 @@ use Rattle.event_core.specs.Effect.{access_of}
 use Rattle.event_core.specs.Closed.{Has}
 use Rattle.event_core.specs.Wcp.{Below}
 use Rattle.event_core.specs.Verdict.{Races, IsVerdict}
+use Rattle.event_core.proofs.Accesses.{conflict_access}
 use Rattle.event_core.proofs.Chains.{po_thread}
 use Rattle.event_core.proofs.Counting.{last_does, last_of}
 use Rattle.event_core.proofs.Legality.{orderly}
@@ -55,15 +56,7 @@ pub conflict_clashes : (x : VarId) (k : AccessKind) (o : Op) → OpsConflict o (
 conflict_clashes x Read (Store y) c = record { kind = Write; clashes = write_read; is = ap Store c }
 conflict_clashes x Write (Load y) c = record { kind = Read; clashes = read_write; is = ap Load c }
 conflict_clashes x Write (Store y) c = record { kind = Write; clashes = write_write; is = ap Store c }
-conflict_clashes x Read (Load y) c = absurd c
-conflict_clashes x Read (Acquire l) c = absurd c
-conflict_clashes x Read (Release l) c = absurd c
-conflict_clashes x Read (Fork u) c = absurd c
-conflict_clashes x Read (Join u) c = absurd c
-conflict_clashes x Write (Acquire l) c = absurd c
-conflict_clashes x Write (Release l) c = absurd c
-conflict_clashes x Write (Fork u) c = absurd c
-conflict_clashes x Write (Join u) c = absurd c
+conflict_clashes x _ _ c = absurd c
 
 module _ (log : List Event) (e : Event) (x : VarId) (k : AccessKind) (op : e.op ≡ access_of x k) (c : ℕ → ℕ)
     (counted : Counted (log ++ e ∷ []) (λ i. Below (log ++ e ∷ []) i (length log)) c) (order : Orderly log)
@@ -196,41 +189,21 @@ module _ (log : List Event) (e : Event) (x : VarId) (k : AccessKind) (op : e.op 
             omega arith,
       )
 
--- only accesses conflict
-no_conflict : (o p : Op) → ((x : VarId) (k : AccessKind) → p ≡ access_of x k → ⊥) → OpsConflict o p → ⊥
-no_conflict o (Load x) none c = none x Read refl
-no_conflict o (Store x) none c = none x Write refl
-no_conflict (Load x) (Acquire l) none c = c
-no_conflict (Store x) (Acquire l) none c = c
-no_conflict (Acquire x) (Acquire l) none c = c
-no_conflict (Release x) (Acquire l) none c = c
-no_conflict (Fork x) (Acquire l) none c = c
-no_conflict (Join x) (Acquire l) none c = c
-no_conflict (Load x) (Release l) none c = c
-no_conflict (Store x) (Release l) none c = c
-no_conflict (Acquire x) (Release l) none c = c
-no_conflict (Release x) (Release l) none c = c
-no_conflict (Fork x) (Release l) none c = c
-no_conflict (Join x) (Release l) none c = c
-no_conflict (Load x) (Fork u) none c = c
-no_conflict (Store x) (Fork u) none c = c
-no_conflict (Acquire x) (Fork u) none c = c
-no_conflict (Release x) (Fork u) none c = c
-no_conflict (Fork x) (Fork u) none c = c
-no_conflict (Join x) (Fork u) none c = c
-no_conflict (Load x) (Join u) none c = c
-no_conflict (Store x) (Join u) none c = c
-no_conflict (Acquire x) (Join u) none c = c
-no_conflict (Release x) (Join u) none c = c
-no_conflict (Fork x) (Join u) none c = c
-no_conflict (Join x) (Join u) none c = c
+-- the operation is an access
+abbrev pub IsOne : Op → Type 0
+IsOne (Load x) = Unit {0}
+IsOne (Store x) = Unit {0}
+IsOne _ = ⊥
 
-clear : (log : List Event) (e : Event) (o : Op) → e.op ≡ o → ((x : VarId) (k : AccessKind)
-    → o ≡ access_of x k → ⊥)
-    → IsVerdict (log ++ e ∷ []) (length log) Clear
-clear log e o op none = λ i r. no_conflict r.conflict.first o none
-    (subst (OpsConflict r.conflict.first) (does_op r.conflict.does_second (last_does log e)
-    ∙ op) r.conflict.ops)
+pub is_one : (x : VarId) (k : AccessKind) → IsOne (access_of x k)
+is_one x Read = tt
+is_one x Write = tt
+
+-- where the event is none, nothing conflicts with it
+clear : (log : List Event) (e : Event) → (IsOne e.op → ⊥) → IsVerdict (log ++ e ∷ []) (length log) Clear
+clear log e none i r =
+    let a = conflict_access r.conflict.first r.conflict.second r.conflict.ops in
+    none (subst IsOne (sym (does_op (last_does log e) r.conflict.does_second ∙ a.2)) (is_one a.0 a.1))
 
 pub verdict_stands : (log : List Event) (e : Event) (t : Tables) (c : ℕ → ℕ) → Stands log t
     → Counted (log ++ e ∷ []) (λ i. Below (log ++ e ∷ []) i (length log)) c
@@ -243,23 +216,4 @@ verdict_stands log e t c s counted = go e.op refl
     go : (o : Op) → e.op ≡ o → IsVerdict (log ++ e ∷ []) (length log) (verdict_of t.vars e.thread o c)
     go (Load x) op = is_verdict log e x Read op c counted order (accesses_at t.vars x.0) (s.accesses x)
     go (Store x) op = is_verdict log e x Write op c counted order (accesses_at t.vars x.0) (s.accesses x)
-    go (Acquire l) op = clear log e (Acquire l) op none
-      where
-        none : (x : VarId) (k : AccessKind) → Acquire l ≡ access_of x k → ⊥
-        none x Read q = cc
-        none x Write q = cc
-    go (Release l) op = clear log e (Release l) op none
-      where
-        none : (x : VarId) (k : AccessKind) → Release l ≡ access_of x k → ⊥
-        none x Read q = cc
-        none x Write q = cc
-    go (Fork u) op = clear log e (Fork u) op none
-      where
-        none : (x : VarId) (k : AccessKind) → Fork u ≡ access_of x k → ⊥
-        none x Read q = cc
-        none x Write q = cc
-    go (Join u) op = clear log e (Join u) op none
-      where
-        none : (x : VarId) (k : AccessKind) → Join u ≡ access_of x k → ⊥
-        none x Read q = cc
-        none x Write q = cc
+    go _ op = clear log e (subst IsOne op)

@@ -17,6 +17,7 @@ use Rattle.event_core.specs.Closed.{Has, first, later}
 use Rattle.event_core.specs.Verdict.{IsVerdict}
 use Rattle.event_core.specs.Wcp.{Below, rule_c_right}
 use Rattle.event_core.specs.Order.{Po}
+use Rattle.event_core.proofs.Accesses.{access_one}
 use Rattle.event_core.proofs.Chains.{chain_trans, hb_of_po, po_thread}
 use Rattle.event_core.proofs.Counting.{last_does, last_of, is_last, last_thread}
 use Rattle.event_core.proofs.Counting.{last_op}
@@ -35,13 +36,6 @@ use Rattle.access_check.specs.Standing.{IsAccess, HasLast, IsCovered, VariableSt
 use Rattle.access_check.proofs.Latest.{Clashes, read_write, write_write}
 use Rattle.access_check.proofs.Judging.{clash_conflicts}
 use Rattle.access_check.proofs.Putting.{has_put, put_has, put_new}
-
--- a load is no store
-pub one_kind : (x y : VarId) (k m : AccessKind) → access_of x k ≡ access_of y m → (k ≡ m) × (x ≡ y)
-one_kind x y Read Read is = (refl, cc)
-one_kind x y Write Write is = (refl, cc)
-one_kind x y Read Write is = absurd cc
-one_kind x y Write Read is = absurd cc
 
 kind_cases : (k m : AccessKind) → (k ≡ m) ⊎ (k ≡ m → ⊥)
 kind_cases Read Read = inl refl
@@ -130,7 +124,7 @@ module _ (log : List Event) (e : Event) where
     pub is_new : (j : ℕ) (u : ThreadId) (m : AccessKind) → Does (log ++ e ∷ []) j u (access_of x m)
         → j ≡ length log → (k ≡ m) × (e.thread ≡ u) × (j ≤ a.index)
     is_new j u m d is =
-        let same : k ≡ m = (one_kind x x k m (sym op ∙ last_op log e j u (access_of x m) is d)).0 in
+        let same : k ≡ m = (access_one x x k m (sym op ∙ last_op log e j u (access_of x m) is d)).1 in
         (same, last_thread log e j u is (of_does d), omega arith)
 
     -- what is covered by a store that is taken out is covered by the store that is put in

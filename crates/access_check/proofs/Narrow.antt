@@ -55,6 +55,4 @@ narrow_after width v t (Store y) a x m ts lt all = go (nat_eq x y.0)
     go true = narrow_kept width v Write (last_of t a) m ts lt all
     go false = all m
 narrow_after width v t (Acquire l) a x m ts lt all = all m
-narrow_after width v t (Release l) a x m ts lt all = all m
-narrow_after width v t (Fork u) a x m ts lt all = all m
-narrow_after width v t (Join u) a x m ts lt all = all m
+narrow_after width v t _ a x m ts lt all = all m

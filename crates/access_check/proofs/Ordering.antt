@@ -49,7 +49,6 @@ below_hb w (inl s) = strict_hb w s
 below_hb w (inr p) = hb_of_po p
 
 pub below_trans : {log : List Event} {i g j : ℕ} → Hb log i g → Below log i g → Below log g j → Below log i j
-below_trans h (inl s) (inl d) = inl (rule_c_left h d)
 below_trans h (inl s) (inr p) = inl (rule_c_right s (hb_of_po p))
-below_trans h (inr q) (inl d) = inl (rule_c_left h d)
 below_trans h (inr q) (inr p) = inr (chain_trans q p)
+below_trans h _ (inl d) = inl (rule_c_left h d)

@@ -14,8 +14,8 @@ use Rattle.event_core.proofs.Counting.{nat_eq_same}
 use Rattle.event_core.proofs.Members.{none_in}
 use Rattle.access_check.specs.declared.last_accesses.LastAccess.{LastAccess}
 use Rattle.access_check.specs.declared.variable_accesses.VariableAccesses.{VariableAccesses}
-use Rattle.access_check.specs.Tables.{RoomAt, RoomFor}
-use Rattle.access_check.specs.LastAccesses.{LastList, is_of, has_room, put}
+use Rattle.access_check.specs.Tables.{IsReadyAt, IsReadyFor}
+use Rattle.access_check.specs.LastAccesses.{LastList, is_of, is_ready, put}
 use Rattle.access_check.proofs.Putting.{put_new}
 
 or_true : (b c : Bool) → c ≡ true → (b || c) ≡ true
@@ -31,7 +31,7 @@ any_of f p (q ∷ qs) (later _ _ h) is = or_true (f q) (list_any f qs) (any_of f
 
 -- there is room for the thread's next access
 pub room_put : (p : LastAccess) (old new : LastList) → new.items ≡ put p old.items
-    → has_room p.thread new ≡ true
+    → is_ready p.thread new ≡ true
 room_put p old new is =
     ap (λ (b : Bool). b || nat_lt 0 new.room)
     (ap (list_any (is_of p.thread)) is
@@ -65,7 +65,7 @@ no_place p ps is = elim (none_or p ps) [
 ]
 
 -- where the thread has no access the room is for one more
-pub room_left : (t : ThreadId) (ps : LastList) → position (is_of t) ps.items ≡ None → has_room t ps ≡ true
+pub room_left : (t : ThreadId) (ps : LastList) → position (is_of t) ps.items ≡ None → is_ready t ps ≡ true
     → 0 < ps.room
 room_left t ps found room =
     let none = no_place (is_of t) ps.items found in
@@ -73,11 +73,8 @@ room_left t ps found room =
 
 -- where there is room for the same accesses there is room for the same operations
 pub room_for : (old new : List VariableAccesses) (t : ThreadId)
-    → ((x : ℕ) (k : AccessKind) → RoomAt old t x k → RoomAt new t x k) → (o : Op) → RoomFor old t o
-    → RoomFor new t o
+    → ((x : ℕ) (k : AccessKind) → IsReadyAt old t x k → IsReadyAt new t x k) → (o : Op) → IsReadyFor old t o
+    → IsReadyFor new t o
 room_for old new t kept (Load x) h = kept x.0 Read h
 room_for old new t kept (Store x) h = kept x.0 Write h
-room_for old new t kept (Acquire l) h = tt
-room_for old new t kept (Release l) h = tt
-room_for old new t kept (Fork u) h = tt
-room_for old new t kept (Join u) h = tt
+room_for old new t kept _ h = tt

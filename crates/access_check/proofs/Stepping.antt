@@ -4,12 +4,11 @@ use Rattle.std.proofs.Common.{cond, nat_eq, length, refl, sym, ap, subst, ◌∙
 use Rattle.std.proofs.lemmas.Bool.{eqb-true}
 use mathlib.Core.Logic.{inl, inr}
 use Rattle.event_core.specs.declared.ids.ThreadId.{ThreadId}
-use Rattle.event_core.specs.declared.ids.LockId.{LockId}
 use Rattle.event_core.specs.declared.ids.VarId.{VarId}
 use Rattle.event_core.specs.declared.bounds.Limits.{Limits}
 use Rattle.event_core.specs.declared.events.Event.{Event}
 use Rattle.event_core.specs.declared.events.Op.{Op}
-use Rattle.event_core.specs.declared.events.Op.TheVariants.{Load, Store, Acquire, Release, Fork, Join}
+use Rattle.event_core.specs.declared.events.Op.TheVariants.{Load, Store}
 use Rattle.event_core.specs.declared.events.AccessKind.{AccessKind}
 use Rattle.event_core.specs.declared.events.AccessKind.TheVariants.{Read, Write}
 use Rattle.event_core.specs.declared.replies.Verdict.{Verdict}
@@ -18,6 +17,7 @@ use Rattle.event_core.specs.Count.{events_of}
 use Rattle.event_core.specs.Effect.{access_of}
 use Rattle.event_core.specs.Refusal.{WellFormed}
 use Rattle.event_core.specs.Verdict.{IsVerdict}
+use Rattle.event_core.proofs.Accesses.{access_one}
 use Rattle.event_core.proofs.Counting.{nat_eq_same, nat_eq_other}
 use Rattle.event_core.proofs.Counting.{events_own, events_other}
 use Rattle.event_core.proofs.Depth.{thread_cases, same_thread_id}
@@ -26,7 +26,8 @@ use Rattle.access_check.specs.declared.variable_accesses.VariableAccesses.{Varia
 use Rattle.access_check.specs.VariableAccesses.{kept, kept_after}
 use Rattle.access_check.specs.Tables.{Tables, count_at, last_of as its_last, touched_after, Notes}
 use Rattle.access_check.specs.Standing.{VariableStands, Stands}
-use Rattle.access_check.proofs.Keeping.{one_kind, untouched, put_stands, alone_stands}
+use Rattle.access_check.proofs.Judging.{IsOne, is_one}
+use Rattle.access_check.proofs.Keeping.{untouched, put_stands, alone_stands}
 
 -- the variable's accesses with the access
 touched : (log : List Event) (e : Event) (x : VarId) (k : AccessKind) (v : Verdict) (a : Access)
@@ -71,39 +72,16 @@ accesses_stand log e o v a x old ts op at position is verdict s = go o op is
       where
         none : (m : AccessKind) → e.op ≡ access_of x m → ⊥
         none m r =
-            let y_is_x : y ≡ x = (one_kind y x k m (sym q ∙ r)).1 in
+            let y_is_x : y ≡ x = (access_one y x k m (sym q ∙ r)).0 in
             let there : nat_eq x.0 y.0 ≡ true
             = ap (λ (z : VarId). nat_eq x.0 z.0) y_is_x ∙ nat_eq_same x.0 in
             let clash : true ≡ false = sym there ∙ same in cc
-
-    quiet : (o : Op) → e.op ≡ o → ((m : AccessKind) → o ≡ access_of x m → ⊥)
-        → ((m : AccessKind) → kept m ts ≡ kept m old) → VariableStands (log ++ e ∷ []) x ts
-    quiet o q none is = untouched log e x old ts is (λ m r. none m (sym q ∙ r)) s
 
     go : (o : Op) → e.op ≡ o → ((m : AccessKind) → kept m ts ≡ touched_after v e.thread o a x.0 m old)
         → VariableStands (log ++ e ∷ []) x ts
     go (Load y) q is = by_var Read y q (nat_eq x.0 y.0) refl is
     go (Store y) q is = by_var Write y q (nat_eq x.0 y.0) refl is
-    go (Acquire l) q is = quiet (Acquire l) q (acquire_quiet l) is
-      where
-        acquire_quiet : (l : LockId) (m : AccessKind) → Acquire l ≡ access_of x m → ⊥
-        acquire_quiet l Read r = cc
-        acquire_quiet l Write r = cc
-    go (Release l) q is = quiet (Release l) q (release_quiet l) is
-      where
-        release_quiet : (l : LockId) (m : AccessKind) → Release l ≡ access_of x m → ⊥
-        release_quiet l Read r = cc
-        release_quiet l Write r = cc
-    go (Fork u) q is = quiet (Fork u) q (fork_quiet u) is
-      where
-        fork_quiet : (u : ThreadId) (m : AccessKind) → Fork u ≡ access_of x m → ⊥
-        fork_quiet u Read r = cc
-        fork_quiet u Write r = cc
-    go (Join u) q is = quiet (Join u) q (join_quiet u) is
-      where
-        join_quiet : (u : ThreadId) (m : AccessKind) → Join u ≡ access_of x m → ⊥
-        join_quiet u Read r = cc
-        join_quiet u Write r = cc
+    go _ q is = untouched log e x old ts is (λ m r. subst IsOne (sym r ∙ q) (is_one x m)) s
 
 -- a thread's count after the event
 counts_stand : (log : List Event) (e : Event) (u : ThreadId) (n m : ℕ) → n ≡ events_of log u

@@ -43,8 +43,8 @@ abbrev pub is_of : ThreadId → LastAccess → Bool
 is_of t p = nat_eq p.thread.0 t.0
 
 -- there is room for an access by the thread
-abbrev pub has_room : ThreadId → LastList → Bool
-has_room t ps = list_any (is_of t) ps.items || nat_lt 0 ps.room
+abbrev pub is_ready : ThreadId → LastList → Bool
+is_ready t ps = list_any (is_of t) ps.items || nat_lt 0 ps.room
 
 -- the greater index
 abbrev pub later : Option ℕ → Option ℕ → Option ℕ

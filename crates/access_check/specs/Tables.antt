@@ -13,7 +13,7 @@ use Rattle.event_core.specs.declared.replies.Verdict.TheVariants.{Clear, Racy}
 use Rattle.access_check.specs.declared.last_accesses.Access.{Access}
 use Rattle.access_check.specs.declared.last_accesses.LastAccess.{LastAccess}
 use Rattle.access_check.specs.declared.variable_accesses.VariableAccesses.{VariableAccesses}
-use Rattle.access_check.specs.LastAccesses.{has_room, AreNarrow}
+use Rattle.access_check.specs.LastAccesses.{is_ready, AreNarrow}
 use Rattle.access_check.specs.VariableAccesses.{no_accesses, of_kind, kept, latest_racing, kept_after}
 
 pub record Tables : Type 0 where
@@ -44,24 +44,24 @@ verdict_of vars t (Store x) clock = verdict_at (latest_racing t Write clock (acc
 verdict_of vars t _ clock = Clear
 
 -- there is room for the thread's access of that kind
-pub record RoomAt (vars : List VariableAccesses) (t : ThreadId) (x : ℕ) (k : AccessKind) : Type 0 where
+pub record IsReadyAt (vars : List VariableAccesses) (t : ThreadId) (x : ℕ) (k : AccessKind) : Type 0 where
   pub within : x < length vars
-  pub room : IsTrue (has_room t (of_kind k (accesses_at vars x)))
+  pub room : IsTrue (is_ready t (of_kind k (accesses_at vars x)))
 
 -- there is room for the operation's access by the thread
-abbrev pub RoomFor : List VariableAccesses → ThreadId → Op → Type 0
-RoomFor vars t (Load x) = RoomAt vars t x.0 Read
-RoomFor vars t (Store x) = RoomAt vars t x.0 Write
-RoomFor vars t _ = Unit {0}
+abbrev pub IsReadyFor : List VariableAccesses → ThreadId → Op → Type 0
+IsReadyFor vars t (Load x) = IsReadyAt vars t x.0 Read
+IsReadyFor vars t (Store x) = IsReadyAt vars t x.0 Write
+IsReadyFor vars t _ = Unit {0}
 
 -- there is room for an event of the thread with the operation
-pub record HasRoom (tables : Tables) (t : ThreadId) (o : Op) : Type 0 where
+pub record IsReady (tables : Tables) (t : ThreadId) (o : Op) : Type 0 where
   pub thread : t.0 < length tables.counts
-  pub access : RoomFor tables.vars t o
+  pub access : IsReadyFor tables.vars t o
 
 -- what the thread had room for it still has room for
-abbrev pub KeepsRoom : Tables → Tables → ThreadId → Type 0
-KeepsRoom old new t = (o : Op) → HasRoom old t o → HasRoom new t o
+abbrev pub KeepsReady : Tables → Tables → ThreadId → Type 0
+KeepsReady old new t = (o : Op) → IsReady old t o → IsReady new t o
 
 abbrev pub last_of : ThreadId → Access → LastAccess
 last_of t a = record { thread = t; access = a }
@@ -88,7 +88,7 @@ pub record Grown (old new : Tables) : Type 0 where
   pub limits : new.limits ≡ old.limits
   pub counts : (u : ℕ) → count_at new.counts u ≡ count_at old.counts u
   pub accesses : (x : ℕ) (m : AccessKind) → kept m (accesses_at new.vars x) ≡ kept m (accesses_at old.vars x)
-  pub room : (t : ThreadId) → KeepsRoom old new t
+  pub room : (t : ThreadId) → KeepsReady old new t
 
 -- how many variables get tables for the operation: the next ones get theirs with the one that is named
 abbrev pub vars_for : Op → ℕ

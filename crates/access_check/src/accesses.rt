@@ -1,6 +1,6 @@
 //! Who touched which variable last.
 use crate::last_accesses::Access;
-use crate::tables::{count_event, grow_at, grow_counts, note_access, verdict_at_var};
+use crate::tables::{count_event, grow_counts, note_access, prepare_at, verdict_at_var};
 use crate::variable_accesses::VariableAccesses;
 use event_core::{AccessKind, Event, Limits, Op, OutOfMemory, ThreadId, VarId, Verdict};
 use hb_clocks::JoinedClocks;
@@ -43,8 +43,8 @@ impl Accesses {
     ghost use Rattle.event_core.specs.Effect.{access_of};
     ghost use Rattle.event_core.specs.Verdict.{IsVerdict};
     ghost use Rattle.hb_clocks.specs.Counts.{counts_of};
-    ghost use Rattle.access_check.specs.Tables.{HasRoom, KeepsRoom, Notes, Grown, GrownFor};
-    ghost use Rattle.access_check.specs.Tables.{count_at, no_tables, verdict_of, RoomAt};
+    ghost use Rattle.access_check.specs.Tables.{IsReady, KeepsReady, Notes, Grown, GrownFor};
+    ghost use Rattle.access_check.specs.Tables.{count_at, no_tables, verdict_of, IsReadyAt};
     ghost use Rattle.access_check.specs.Standing.{Stands};
 
     /// The accesses of the empty log. It takes no memory, and so succeeds.
@@ -67,31 +67,36 @@ impl Accesses {
         requires { thread.0 < self.old.limits.threads }
         ensures same { Grown self.old self.new }
         ensures grown { GrownFor self.old self.new thread op }
-        ensures room { OnOk result (HasRoom self.new thread op) }
-        ensures again { HasRoom self.old thread op → IsOk result }
+        ensures room { OnOk result (IsReady self.new thread op) }
+        ensures again { IsReady self.old thread op → IsOk result }
     {
         match op {
-            Op::Load(var) => self.grow(thread, var, AccessKind::Read),
-            Op::Store(var) => self.grow(thread, var, AccessKind::Write),
+            Op::Load(var) => self.prepare_access(thread, var, AccessKind::Read),
+            Op::Store(var) => self.prepare_access(thread, var, AccessKind::Write),
             _ => grow_counts(&mut self.counts, thread.0 as usize + 1),
         }
     }
 
-    fn grow(&mut self, thread: ThreadId, var: VarId, kind: AccessKind) -> Result<(), OutOfMemory>
+    fn prepare_access(
+        &mut self,
+        thread: ThreadId,
+        var: VarId,
+        kind: AccessKind,
+    ) -> Result<(), OutOfMemory>
         requires { thread.0 < self.old.limits.threads }
         ensures same { Grown self.old self.new }
         ensures grown { GrownFor self.old self.new thread (access_of var kind) }
-        ensures room { OnOk result (HasRoom self.new thread (access_of var kind)) }
-        ensures again { HasRoom self.old thread (access_of var kind) → IsOk result }
+        ensures room { OnOk result (IsReady self.new thread (access_of var kind)) }
+        ensures again { IsReady self.old thread (access_of var kind) → IsOk result }
     {
         grow_counts(&mut self.counts, thread.0 as usize + 1)?;
-        grow_at(&mut self.vars, self.alloc, var.0 as usize, thread, kind)
+        prepare_at(&mut self.vars, self.alloc, var.0 as usize, thread, kind)
     }
 
     /// Whether there is room for the thread's operation.
     #[inline(always)]
     pub fn ready(&self, thread: ThreadId, op: Op) -> bool
-        ensures { IsTrue result ↔ HasRoom self.now thread op }
+        ensures { IsTrue result ↔ IsReady self.now thread op }
     {
         (thread.0 as usize) < self.counts.len()
             && match op {
@@ -103,7 +108,7 @@ impl Accesses {
 
     #[inline(always)]
     fn ready_at(&self, thread: ThreadId, var: VarId, kind: AccessKind) -> bool
-        ensures { IsTrue result ↔ RoomAt self.now.vars thread var.0 kind }
+        ensures { IsTrue result ↔ IsReadyAt self.now.vars thread var.0 kind }
     {
         let var = var.0 as usize;
         var < self.vars.len() && self.vars[var].ready(thread, kind)
@@ -156,7 +161,7 @@ impl Accesses {
     /// thread's other events.
     #[inline(always)]
     pub fn note(&mut self, event: &Event, index: u64, verdict: Verdict)
-        requires room { HasRoom self.old event.now.thread event.now.op }
+        requires room { IsReady self.old event.now.thread event.now.op }
         requires index { index < 2 ^ 32 }
         requires few { count_at self.old.counts event.now.thread.0 < 2 ^ 32 }
         ensures exact { Notes self.old self.new event.now index verdict }
@@ -164,7 +169,7 @@ impl Accesses {
             → WellFormed self.old.limits (log ++ event.now ∷ [])
             → IsVerdict (log ++ event.now ∷ []) (length log) verdict
             → Stands (log ++ event.now ∷ []) self.new }
-        ensures kept { KeepsRoom self.old self.new event.now.thread }
+        ensures kept { KeepsReady self.old self.new event.now.thread }
     {
         let position = count_event(&mut self.counts, event.thread.0 as usize);
         note_access(&mut self.vars, event, Access { index, position }, verdict);

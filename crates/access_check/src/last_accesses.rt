@@ -149,7 +149,7 @@ impl LastAccesses {
     ghost use Rattle.std.specs.Prelude.{◌≡◌, ◌+◌, ◌*◌, ◌≤◌, [], length, max, IsTrue, IsOk, OnOk};
     ghost use Rattle.event_core.specs.declared.ids.ThreadId.{ThreadId as Thread};
     ghost use Rattle.hb_clocks.specs.Counts.{counts_of};
-    ghost use Rattle.access_check.specs.LastAccesses.{latest, put, has_room, no_last_accesses};
+    ghost use Rattle.access_check.specs.LastAccesses.{latest, put, is_ready, no_last_accesses};
     ghost use Rattle.access_check.specs.LastAccesses.{AreNarrow, IsShort};
 
     /// There was no access. There is room for one thread.
@@ -163,12 +163,12 @@ impl LastAccesses {
     }
 
     /// Makes room for an access by the thread.
-    pub fn make_room(&mut self, thread: ThreadId) -> Result<(), OutOfMemory>
+    pub fn prepare(&mut self, thread: ThreadId) -> Result<(), OutOfMemory>
         ensures same { self.new.items ≡ self.old.items }
-        ensures more { (t : Thread) → IsTrue (has_room t self.old) → IsTrue (has_room t self.new) }
-        ensures room { OnOk result (IsTrue (has_room thread self.new)) }
+        ensures more { (t : Thread) → IsTrue (is_ready t self.old) → IsTrue (is_ready t self.new) }
+        ensures room { OnOk result (IsTrue (is_ready thread self.new)) }
         ensures most { self.new.reserved ≤ max self.old.reserved (2 * (length self.old.items + 1)) }
-        ensures again { IsTrue (has_room thread self.old) → IsOk result }
+        ensures again { IsTrue (is_ready thread self.old) → IsOk result }
     {
         if self.ready(thread) {
             return Ok(());
@@ -179,7 +179,7 @@ impl LastAccesses {
     /// Whether there is room for an access by the thread.
     #[inline(always)]
     pub fn ready(&self, thread: ThreadId) -> bool
-        ensures { result ≡ has_room thread self.now }
+        ensures { result ≡ is_ready thread self.now }
     {
         match &self.first {
             None => true,
@@ -191,16 +191,16 @@ impl LastAccesses {
     #[inline(always)]
     pub fn note(&mut self, last: LastAccess)
         requires short { IsShort last }
-        requires room { IsTrue (has_room last.thread self.old) }
+        requires room { IsTrue (is_ready last.thread self.old) }
         ensures items { self.new.items ≡ put last self.old.items }
-        ensures room { IsTrue (has_room last.thread self.new) }
+        ensures room { IsTrue (is_ready last.thread self.new) }
     {
         self.put(PackedAccess::new(last));
     }
 
     #[inline(always)]
     fn put(&mut self, last: PackedAccess)
-        requires { IsTrue (has_room last.thread self.old) }
+        requires { IsTrue (is_ready last.thread self.old) }
         ensures { self.new.items ≡ put last self.old.items }
     {
         match &self.first {
@@ -213,7 +213,7 @@ impl LastAccesses {
     #[inline(always)]
     pub fn clear(&mut self)
         ensures items { self.new.items ≡ [] }
-        ensures kept { (t : Thread) → IsTrue (has_room t self.old) → IsTrue (has_room t self.new) }
+        ensures kept { (t : Thread) → IsTrue (is_ready t self.old) → IsTrue (is_ready t self.new) }
     {
         self.first = None;
         self.rest.clear();

@@ -9,7 +9,7 @@ ghost use Rattle.access_check.specs.LastAccesses.{AreNarrow, IsShort};
 ghost use Rattle.access_check.specs.VariableAccesses.{kept, latest_racing, kept_after};
 ghost use Rattle.access_check.specs.Tables.{last_of};
 ghost use Rattle.access_check.specs.Tables.{count_at, accesses_at, touched_after, verdict_at};
-ghost use Rattle.access_check.specs.Tables.{RoomAt, RoomFor, LastsAt};
+ghost use Rattle.access_check.specs.Tables.{IsReadyAt, IsReadyFor, LastsAt};
 
 use crate::last_accesses::{Access, LastAccess};
 use crate::variable_accesses::VariableAccesses;
@@ -47,7 +47,7 @@ fn grow_vars(vars: &mut Vec<VariableAccesses>, alloc: Global, var: usize) -> Res
 }
 
 // The variable's table has room for an access of that kind by the thread.
-fn make_room_at(
+fn prepare_within(
     vars: &mut [VariableAccesses],
     var: usize,
     thread: ThreadId,
@@ -55,18 +55,18 @@ fn make_room_at(
 ) -> Result<(), OutOfMemory>
     requires { var < length vars.old }
     ensures same { (x : ℕ) (k : Kind) → kept k (accesses_at vars.new x) ≡ kept k (accesses_at vars.old x) }
-    ensures more { (t : Thread) (x : ℕ) (k : Kind) → RoomAt vars.old t x k → RoomAt vars.new t x k }
+    ensures more { (t : Thread) (x : ℕ) (k : Kind) → IsReadyAt vars.old t x k → IsReadyAt vars.new t x k }
     ensures as_many { length vars.new ≡ length vars.old }
     ensures lasts { LastsAt var vars.old vars.new }
-    ensures room { OnOk result (RoomAt vars.new thread var kind) }
-    ensures again { RoomAt vars.old thread var kind → IsOk result }
+    ensures room { OnOk result (IsReadyAt vars.new thread var kind) }
+    ensures again { IsReadyAt vars.old thread var kind → IsOk result }
 {
     let accesses = &mut vars[var];
-    accesses.make_room(thread, kind)
+    accesses.prepare(thread, kind)
 }
 
 /// The variable has a table, with room for an access of that kind by the thread.
-pub(crate) fn grow_at(
+pub(crate) fn prepare_at(
     vars: &mut Vec<VariableAccesses>,
     alloc: Global,
     var: usize,
@@ -76,18 +76,18 @@ pub(crate) fn grow_at(
     requires { var < 2 ^ 32 }
     ensures same { (x : ℕ) (k : Kind)
         → kept k (accesses_at vars.new.items x) ≡ kept k (accesses_at vars.old.items x) }
-    ensures more { (t : Thread) (x : ℕ) (k : Kind) → RoomAt vars.old.items t x k
-        → RoomAt vars.new.items t x k }
+    ensures more { (t : Thread) (x : ℕ) (k : Kind) → IsReadyAt vars.old.items t x k
+        → IsReadyAt vars.new.items t x k }
     ensures most { length vars.new.items ≤ max (length vars.old.items) (var + 64) }
     ensures memory { vec_capacity vars.new ≤ max (vec_capacity vars.old) (2 * (var + 64)) }
     ensures lasts { LastsAt var vars.old.items vars.new.items }
-    ensures room { OnOk result (RoomAt vars.new.items thread var kind) }
-    ensures again { RoomAt vars.old.items thread var kind → IsOk result }
+    ensures room { OnOk result (IsReadyAt vars.new.items thread var kind) }
+    ensures again { IsReadyAt vars.old.items thread var kind → IsOk result }
 {
     if vars.len() <= var {
         grow_vars(vars, alloc, var)?;
     }
-    make_room_at(vars, var, thread, kind)
+    prepare_within(vars, var, thread, kind)
 }
 
 // An access, on which there was that verdict, is noted at its variable.
@@ -100,8 +100,9 @@ fn note_at(
     verdict: Verdict,
 )
     requires short { IsShort last }
-    requires room { RoomAt vars.old last.thread var kind }
-    ensures room { (x : ℕ) (k : Kind) → RoomAt vars.old last.thread x k → RoomAt vars.new last.thread x k }
+    requires room { IsReadyAt vars.old last.thread var kind }
+    ensures room { (x : ℕ) (k : Kind) → IsReadyAt vars.old last.thread x k
+        → IsReadyAt vars.new last.thread x k }
     ensures accesses { (x : ℕ) (k : Kind) → kept k (accesses_at vars.new x)
         ≡ cond (nat_eq x var) (kept_after verdict kind last k (accesses_at vars.old x))
         (kept k (accesses_at vars.old x)) }
@@ -157,14 +158,14 @@ pub(crate) fn note_access(
     verdict: Verdict,
 )
     requires short { IsShort (last_of event.now.thread access) }
-    requires room { RoomFor vars.old event.now.thread event.now.op }
+    requires room { IsReadyFor vars.old event.now.thread event.now.op }
     ensures accesses { (x : ℕ) (k : Kind) → kept k (accesses_at vars.new x)
         ≡ touched_after verdict event.now.thread event.now.op access x k (accesses_at vars.old x) }
     ensures narrow { (width : ℕ) → event.now.thread.0 < width
         → ((x : ℕ) (k : Kind) → AreNarrow width (kept k (accesses_at vars.old x)))
         → (x : ℕ) (k : Kind) → AreNarrow width (kept k (accesses_at vars.new x)) }
-    ensures kept { (o : Operation) → RoomFor vars.old event.now.thread o
-        → RoomFor vars.new event.now.thread o }
+    ensures kept { (o : Operation) → IsReadyFor vars.old event.now.thread o
+        → IsReadyFor vars.new event.now.thread o }
 {
     let last = LastAccess {
         thread: event.thread,

@@ -21,7 +21,7 @@ impl VariableAccesses {
     ghost use Rattle.event_core.specs.declared.ids.ThreadId.{ThreadId as Thread};
     ghost use Rattle.event_core.specs.declared.events.AccessKind.{AccessKind as Kind};
     ghost use Rattle.hb_clocks.specs.Counts.{counts_of};
-    ghost use Rattle.access_check.specs.LastAccesses.{has_room, AreNarrow, IsShort};
+    ghost use Rattle.access_check.specs.LastAccesses.{is_ready, AreNarrow, IsShort};
     ghost use Rattle.access_check.specs.VariableAccesses.{no_accesses, of_kind, kept, latest_racing};
     ghost use Rattle.access_check.specs.VariableAccesses.{kept_after};
 
@@ -36,25 +36,25 @@ impl VariableAccesses {
     }
 
     /// Makes room for an access of that kind by the thread.
-    pub fn make_room(&mut self, thread: ThreadId, kind: AccessKind) -> Result<(), OutOfMemory>
+    pub fn prepare(&mut self, thread: ThreadId, kind: AccessKind) -> Result<(), OutOfMemory>
         ensures same { (k : Kind) → kept k self.new ≡ kept k self.old }
-        ensures more { (t : Thread) (k : Kind) → IsTrue (has_room t (of_kind k self.old))
-            → IsTrue (has_room t (of_kind k self.new)) }
-        ensures room { OnOk result (IsTrue (has_room thread (of_kind kind self.new))) }
+        ensures more { (t : Thread) (k : Kind) → IsTrue (is_ready t (of_kind k self.old))
+            → IsTrue (is_ready t (of_kind k self.new)) }
+        ensures room { OnOk result (IsTrue (is_ready thread (of_kind kind self.new))) }
         ensures most { (k : Kind) → (of_kind k self.new).reserved
             ≤ max (of_kind k self.old).reserved (2 * (length (kept k self.old) + 1)) }
-        ensures again { IsTrue (has_room thread (of_kind kind self.old)) → IsOk result }
+        ensures again { IsTrue (is_ready thread (of_kind kind self.old)) → IsOk result }
     {
         match kind {
-            AccessKind::Read => self.loads.make_room(thread),
-            AccessKind::Write => self.stores.make_room(thread),
+            AccessKind::Read => self.loads.prepare(thread),
+            AccessKind::Write => self.stores.prepare(thread),
         }
     }
 
     /// Whether there is room for an access of that kind by the thread.
     #[inline(always)]
     pub fn ready(&self, thread: ThreadId, kind: AccessKind) -> bool
-        ensures { result ≡ has_room thread (of_kind kind self.now) }
+        ensures { result ≡ is_ready thread (of_kind kind self.now) }
     {
         match kind {
             AccessKind::Read => self.loads.ready(thread),
@@ -67,10 +67,10 @@ impl VariableAccesses {
     #[inline(always)]
     pub fn note(&mut self, kind: AccessKind, last: LastAccess, verdict: Verdict)
         requires short { IsShort last }
-        requires room { IsTrue (has_room last.thread (of_kind kind self.old)) }
+        requires room { IsTrue (is_ready last.thread (of_kind kind self.old)) }
         ensures accesses { (k : Kind) → kept k self.new ≡ kept_after verdict kind last k self.old }
-        ensures room { (k : Kind) → IsTrue (has_room last.thread (of_kind k self.old))
-            → IsTrue (has_room last.thread (of_kind k self.new)) }
+        ensures room { (k : Kind) → IsTrue (is_ready last.thread (of_kind k self.old))
+            → IsTrue (is_ready last.thread (of_kind k self.new)) }
     {
         match (kind, verdict) {
             (AccessKind::Read, _) => self.loads.note(last),

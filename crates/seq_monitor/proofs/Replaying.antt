@@ -34,7 +34,7 @@ use Rattle.traced_mem.specs.OfLog.{StandsFor}
 use Rattle.traced_mem.specs.Tables.{meaning}
 use Rattle.traced_mem.proofs.Allowed.{un_not}
 use Rattle.access_check.specs.Tables.{count_at}
-use Rattle.access_check.specs.Tables.{HasRoom as AccessHasRoom}
+use Rattle.access_check.specs.Tables.{IsReady as AccessHasRoom}
 use Rattle.access_check.specs.Tables.{Tables as AccessTables}
 use Rattle.access_check.specs.Standing.{Stands as AccessesStand}
 use Rattle.hb_clocks.specs.Stands.{IsHeldRelease}

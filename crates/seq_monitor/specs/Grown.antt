@@ -6,7 +6,7 @@ use Rattle.event_core.specs.declared.events.Op.{Op}
 use Rattle.traced_mem.specs.Tables.{meaning}
 use Rattle.traced_mem.specs.Room.{IsReady as MemoryIsReady}
 use Rattle.traced_mem.specs.OfLog.{StandsFor}
-use Rattle.access_check.specs.Tables.{Grown, HasRoom as AccessesHaveRoom}
+use Rattle.access_check.specs.Tables.{Grown, IsReady as AccessesHaveRoom}
 use Rattle.wcp_clocks.specs.Parts.{SameNumbers, SameLimits, KeepsReady, IsReady as ClocksAreReady}
 use Rattle.seq_monitor.specs.declared.parts.Parts.{Parts}
 

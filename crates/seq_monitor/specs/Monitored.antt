@@ -14,7 +14,7 @@ use Rattle.event_core.specs.Verdict.{IsVerdict}
 use Rattle.traced_mem.specs.Tables.{Tables as MemoryTables}
 use Rattle.traced_mem.specs.Room.{IsReady as MemoryIsReady}
 use Rattle.traced_mem.specs.OfLog.{StandsFor}
-use Rattle.access_check.specs.Tables.{Tables as AccessTables, HasRoom as AccessHasRoom}
+use Rattle.access_check.specs.Tables.{Tables as AccessTables, IsReady as AccessHasRoom}
 use Rattle.access_check.specs.Standing.{Stands as AccessesStand}
 use Rattle.wcp_laws.specs.Found.{threads_in}
 use Rattle.wcp_clocks.specs.declared.parts.Parts.{Parts as Clocks}

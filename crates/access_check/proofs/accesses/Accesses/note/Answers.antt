@@ -4,7 +4,7 @@ use Rattle.std.proofs.Math.Seq.{take-append_seam}
 use Rattle.access_check.specs.declared.variable_accesses.VariableAccesses.{VariableAccesses}
 use Rattle.access_check.specs.LastAccesses.{AreNarrow}
 use Rattle.access_check.specs.VariableAccesses.{kept}
-use Rattle.access_check.specs.Tables.{Tables, RoomFor, accesses_at, count_at, touched_after}
+use Rattle.access_check.specs.Tables.{Tables, IsReadyFor, accesses_at, count_at, touched_after}
 use Rattle.access_check.proofs.Stepping.{note_stands}
 use Rattle.access_check.proofs.accesses.Accesses.note.Goals as goal
 
@@ -61,9 +61,9 @@ returns-clause-kept c o room =
     let were = c.deref_mut-2.ensures.value ∙ ap (λ (v : Tables). v.vars) c.self.view_is in
     record {
       thread = subst (λ (ns : List ℕ). t.0 < length ns) (sym counts) (omega (arith, room.thread, had));
-      access = subst (λ (vs : List VariableAccesses). RoomFor vs t o) (sym vars)
+      access = subst (λ (vs : List VariableAccesses). IsReadyFor vs t o) (sym vars)
           (c.note_access.ensures.kept o
-          (subst (λ (vs : List VariableAccesses). RoomFor vs t o) (sym were) room.access));
+          (subst (λ (vs : List VariableAccesses). IsReadyFor vs t o) (sym were) room.access));
     }
 
 pub returns-clause-stands : goal.returns-clause-stands
