@@ -8,7 +8,7 @@ use mathlib.Core.Logic.{inl, inr}
 use Rattle.event_core.specs.declared.ids.VarId.{VarId}
 use Rattle.event_core.specs.declared.events.Event.{Event}
 use Rattle.event_core.specs.declared.events.Op.{Op}
-use Rattle.event_core.specs.declared.events.Op.TheVariants.{Load, Store, Acquire, Release, Fork, Join}
+use Rattle.event_core.specs.declared.events.Op.TheVariants.{Load, Store}
 use Rattle.event_core.specs.declared.events.AccessKind.{AccessKind}
 use Rattle.event_core.specs.declared.events.AccessKind.TheVariants.{Read, Write}
 use Rattle.event_core.specs.declared.replies.Verdict.TheVariants.{Clear}

@@ -10,7 +10,7 @@ use Rattle.event_core.specs.declared.ids.ThreadId.{ThreadId}
 use Rattle.event_core.specs.declared.ids.LockId.{LockId}
 use Rattle.event_core.specs.declared.events.Event.{Event}
 use Rattle.event_core.specs.declared.events.Op.{Op}
-use Rattle.event_core.specs.declared.events.Op.TheVariants.{Load, Store, Acquire, Release, Fork, Join}
+use Rattle.event_core.specs.declared.events.Op.TheVariants.{Acquire, Fork, Join}
 use Rattle.event_core.specs.declared.replies.Refusal.TheVariants.{SelfTarget}
 use Rattle.event_core.specs.declared.bounds.Limits.{Limits}
 use Rattle.event_core.specs.Log.{depth, Of, acquires}
@@ -67,19 +67,12 @@ admits_legal limits log e s w st = record {
   where
     by_op : (o : Op) → e.op ≡ o → IsAlone s e.thread o
     by_op (Acquire l) p = alone limits log e s w st l p
-    by_op (Load x) p = tt
-    by_op (Store x) p = tt
-    by_op (Release l) p = tt
-    by_op (Fork u) p = tt
-    by_op (Join u) p = tt
+    by_op _ p = tt
 
     by_self : (o : Op) → self_target e.thread o ≡ None → IsApart e.thread o
     by_self (Fork u) p = apart e.thread u (when_none _ SelfTarget p)
     by_self (Join u) p = apart e.thread u (when_none _ SelfTarget p)
-    by_self (Acquire l) p = tt
-    by_self (Load x) p = tt
-    by_self (Store x) p = tt
-    by_self (Release l) p = tt
+    by_self _ p = tt
 
 pub events_within : (log : List Event) (u : ThreadId) → events_of log u ≤ length log
 unfolding events_of

@@ -3,9 +3,9 @@ use Rattle.std.proofs.Common.{ℕ, ◌≤◌, ◌+◌, ◌-◌, Bool, true, fals
 use Rattle.event_core.specs.declared.ids.ThreadId.{ThreadId}
 use Rattle.event_core.specs.declared.ids.LockId.{LockId}
 use Rattle.event_core.specs.declared.events.Op.{Op}
-use Rattle.event_core.specs.declared.events.Op.TheVariants.{Load, Store, Acquire, Release, Fork, Join}
+use Rattle.event_core.specs.declared.events.Op.TheVariants.{Acquire, Release}
 use Rattle.event_core.specs.Rows.{clock_after, depth_after, join, with_row, Rows, to_child, to_lock, brought}
-use Rattle.event_core.specs.Effect.{Effect, Accesses, Opens, Closes, Forks, Joins, Inner}
+use Rattle.event_core.specs.Effect.{Effect, Closes, Forks}
 use Rattle.event_core.specs.declared.events.Event.{Event}
 use Rattle.hb_clocks.specs.State.{HbState, empty, after, effect, without_locks}
 use Rattle.hb_clocks.specs.Stands.{IsAtMost}
@@ -25,21 +25,13 @@ few_child : (most : ℕ) (k : Effect) (g : ℕ → ℕ) (f : ℕ → ℕ → ℕ
     → ((u : ThreadId) → f a u.0 ≤ most)
     → (u : ThreadId) → to_child k g f a u.0 ≤ most
 few_child most (Forks v) g f few a was u = few_row most v.0 g f few a was u
-few_child most (Joins v) g f few a was u = was u
-few_child most (Opens l) g f few a was u = was u
-few_child most (Closes l) g f few a was u = was u
-few_child most (Accesses x k) g f few a was u = was u
-few_child most Inner g f few a was u = was u
+few_child most _ g f few a was u = was u
 
 few_lock : (most : ℕ) (k : Effect) (g : ℕ → ℕ) (f : ℕ → ℕ → ℕ) → ((u : ThreadId) → g u.0 ≤ most) → (a : ℕ)
     → ((u : ThreadId) → f a u.0 ≤ most)
     → (u : ThreadId) → to_lock k g f a u.0 ≤ most
 few_lock most (Closes l) g f few a was u = few_row most l.0 g f few a was u
-few_lock most (Joins v) g f few a was u = was u
-few_lock most (Opens l) g f few a was u = was u
-few_lock most (Forks v) g f few a was u = was u
-few_lock most (Accesses x k) g f few a was u = was u
-few_lock most Inner g f few a was u = was u
+few_lock most _ g f few a was u = was u
 
 -- the clock of the event
 few_clock : (most : ℕ) (t : ThreadId) (k : Effect) (r : Rows) → ((a u : ThreadId) → r.thread a.0 u.0 ≤ most)
@@ -84,10 +76,7 @@ few_depth most t op d few a l = go op
         (let h = few (record { 0 = t }) n in omega arith) a.0 l.0 (up a l) (up (record { 0 = t }) l)
     go (Release n) = few_cell (most + 1) t n.0 (d t n.0 - 1) d
         (let h = few (record { 0 = t }) n in omega arith) a.0 l.0 (up a l) (up (record { 0 = t }) l)
-    go (Load x) = up a l
-    go (Store x) = up a l
-    go (Fork u) = up a l
-    go (Join u) = up a l
+    go _ = up a l
 
 -- an event makes no number greater by more than one
 pub grows_by_one : (most : ℕ) (e : Event) (s : HbState) → IsAtMost most s → IsAtMost (most + 1) (after e s)

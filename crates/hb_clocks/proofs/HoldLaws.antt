@@ -4,7 +4,7 @@ use Rattle.std.proofs.Common.{cond, nat_eq, refl, sym, ap, subst, ◌∙◌, ari
 use Rattle.std.proofs.lemmas.Bool.{cases_eq, eq-eqb}
 use Rattle.std.proofs.lemmas.List.{get_or-set_same, get_or-set_other, length-set}
 use Rattle.event_core.specs.declared.events.Op.{Op}
-use Rattle.event_core.specs.declared.events.Op.TheVariants.{Load, Store, Acquire, Release, Fork, Join}
+use Rattle.event_core.specs.declared.events.Op.TheVariants.{Acquire, Release}
 use Rattle.event_core.specs.Rows.{with_row}
 use Rattle.event_core.specs.Effect.{effect_of, Opens, Closes, Inner}
 use Rattle.event_core.proofs.Counting.{nat_eq_same, nat_eq_other}
@@ -59,10 +59,7 @@ module _ (holds : List Hold) where
       → effect_of (depths_of holds t) op ≡ effect_by op (is_outer t op holds)
   outer_effect t (Acquire l) alone = ap (λ n. cond (nat_eq n 0) (Opens l) Inner) (alone_depth t l.0 alone)
   outer_effect t (Release l) alone = ap (λ (b : Bool). cond b (Closes l) Inner) (release_outer t l.0)
-  outer_effect t (Load x) alone = refl
-  outer_effect t (Store x) alone = refl
-  outer_effect t (Fork u) alone = refl
-  outer_effect t (Join u) alone = refl
+  outer_effect t _ alone = refl
 
   hold_same : (l : ℕ) (x : Hold) → l < length holds → hold_at (set holds l x) l ≡ x
   hold_same l x lt = get_or-set_same holds l x no_hold lt
@@ -143,18 +140,12 @@ module _ (holds : List Hold) where
       → depths_of (holds_after t op holds) ≡ depth_after t op (depths_of holds)
   depths_after t (Acquire l) room alone = λ i u k. acquired t l.0 room alone u k i
   depths_after t (Release l) room alone = λ i u k. released t l.0 room u k i
-  depths_after t (Load x) room alone = refl
-  depths_after t (Store x) room alone = refl
-  depths_after t (Fork u) room alone = refl
-  depths_after t (Join u) room alone = refl
+  depths_after t _ room alone = refl
 
   pub holds_length : (t : ℕ) (op : Op) → length (holds_after t op holds) ≡ length holds
   holds_length t (Acquire l) = length-set holds l.0 _
   holds_length t (Release l) = length-set holds l.0 _
-  holds_length t (Load x) = refl
-  holds_length t (Store x) = refl
-  holds_length t (Fork u) = refl
-  holds_length t (Join u) = refl
+  holds_length t _ = refl
 
 pub alone_holder : (holds : List Hold) (t l : ℕ) → (hold_at holds l).holder ≡ t → Alone holds t l
 alone_holder holds t l is u n = not_holder holds u l (λ e. n (e ∙ is))

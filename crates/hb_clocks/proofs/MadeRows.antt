@@ -10,7 +10,7 @@ use Rattle.event_core.specs.Rows.{no_clock}
 use Rattle.event_core.proofs.Growing.{row_same, row_other}
 use Rattle.hb_clocks.specs.Counts.{counts_of}
 use Rattle.hb_clocks.specs.Rows.{row_at, rows_of, widths_of, IsMade, AreWide}
-use Rattle.hb_clocks.proofs.RowLaws.{read_set}
+use Rattle.hb_clocks.proofs.RowLaws.{set_read}
 
 -- a row without numbers is past the table's end, or was not made
 pub no_row : (rows : List (List ℕ)) (t : ℕ) → length rows ≤ t → row_at rows t ≡ []
@@ -63,9 +63,10 @@ module _ (w at : ℕ) (rows : List (List ℕ)) (row : List ℕ) (within : at < l
     where
       go : (t : ℕ) → (t ≡ at) ⊎ (t ≡ at → ⊥) → rows_of (set rows at row) t ≡ rows_of rows t
       go t (inl q) = subst (λ b. rows_of (set rows at row) b ≡ rows_of rows b) (sym q)
-          (read_set counts_of rows at row at within ∙ row_same at (counts_of row) (rows_of rows)
+          (set_read counts_of [] rows at row at within ∙ row_same at (counts_of row) (rows_of rows)
           ∙ zeros_for w row rows at is none)
-      go t (inr n) = read_set counts_of rows at row t within ∙ row_other at (counts_of row) (rows_of rows) t n
+      go t (inr n) =
+          set_read counts_of [] rows at row t within ∙ row_other at (counts_of row) (rows_of rows) t n
 
 -- a row with numbers lies within the table
 pub row_within : (rows : List (List ℕ)) (t : ℕ) → 0 < widths_of rows t → t < length rows

@@ -9,23 +9,19 @@ use Rattle.event_core.proofs.Growing.{row_same, row_other}
 use Rattle.hb_clocks.specs.Counts.{counts_of}
 use Rattle.hb_clocks.specs.Rows.{row_at, rows_of, widths_of}
 
+-- a list that is written at one place, by any reading h of its elements
+pub set_read : {E A : Type 0} (h : E → A) (d : E) (xs : List E) (t : ℕ) (x : E) (a : ℕ) → t < length xs
+    → h (get_or (set xs t x) a d) ≡ with_row t (h x) (λ b. h (get_or xs b d)) a
+set_read h d xs t x a lt = go (cases_eq a t)
+  where
+    go : (a ≡ t) ⊎ (a ≡ t → ⊥) → h (get_or (set xs t x) a d) ≡ with_row t (h x) (λ b. h (get_or xs b d)) a
+    go (inl q) =
+        subst (λ b. h (get_or (set xs t x) b d) ≡ with_row t (h x) (λ c. h (get_or xs c d)) b) (sym q)
+        (ap h (get_or-set_same xs t x d lt) ∙ sym (row_same t (h x) (λ b. h (get_or xs b d))))
+    go (inr n) = ap h (get_or-set_other xs t a x d n) ∙ sym (row_other t (h x) (λ b. h (get_or xs b d)) a n)
+
 -- by any reading h of a row
 module _ {A : Type 0} (h : List ℕ → A) where
-  read : List (List ℕ) → ℕ → A
-  read rows a = h (row_at rows a)
-
-  pub read_set : (rows : List (List ℕ)) (t : ℕ) (row : List ℕ) (a : ℕ) → t < length rows
-      → h (row_at (set rows t row) a) ≡ with_row t (h row) (λ b. h (row_at rows b)) a
-  read_set rows t row a lt = go (cases_eq a t)
-    where
-      go : (a ≡ t) ⊎ (a ≡ t → ⊥) → h (row_at (set rows t row) a) ≡ with_row t (h row)
-          (λ b. h (row_at rows b)) a
-      go (inl q) = subst (λ b. h (row_at (set rows t row) b) ≡ with_row t (h row)
-          (λ c. h (row_at rows c)) b) (sym q)
-          (ap h (get_or-set_same rows t row [] lt) ∙ sym (row_same t (h row) (λ b. h (row_at rows b))))
-      go (inr n) = ap h (get_or-set_other rows t a row [] n)
-          ∙ sym (row_other t (h row) (λ b. h (row_at rows b)) a n)
-
   read_left : (xs ys : List (List ℕ)) (a : ℕ) → a < length xs → h (row_at (xs ++ ys) a) ≡ h (row_at xs a)
   read_left xs ys a lt = ap h (get_or_append_left xs ys [] a lt)
 
@@ -99,7 +95,7 @@ module _ {A : Type 0} (h : List ℕ → A) where
 
 pub rows_set : (rows : List (List ℕ)) (t : ℕ) (row : List ℕ) → t < length rows
     → rows_of (set rows t row) ≡ with_row t (counts_of row) (rows_of rows)
-rows_set rows t row lt i a = read_set counts_of rows t row a lt i
+rows_set rows t row lt i a = set_read counts_of [] rows t row a lt i
 
 -- a table in two parts, one of which is written
 module _ (rows front back new : List (List ℕ)) (whole : rows ≡ front ++ back) where

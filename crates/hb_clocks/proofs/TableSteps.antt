@@ -6,9 +6,9 @@ use Rattle.event_core.specs.declared.ids.ThreadId.{ThreadId}
 use Rattle.event_core.specs.declared.ids.LockId.{LockId}
 use Rattle.event_core.specs.declared.events.Event.{Event}
 use Rattle.event_core.specs.declared.events.Op.{Op}
-use Rattle.event_core.specs.declared.events.Op.TheVariants.{Load, Store, Acquire, Release, Fork, Join}
+use Rattle.event_core.specs.declared.events.Op.TheVariants.{Acquire, Release, Fork, Join}
 use Rattle.event_core.specs.Rows.{clock_after, join, bump, with_row, Rows, to_child, to_lock, brought}
-use Rattle.event_core.specs.Effect.{Effect, Accesses, Opens, Closes, Forks, Joins, Inner}
+use Rattle.event_core.specs.Effect.{Effect, Opens, Joins}
 use Rattle.event_core.proofs.Growing.{row_same, row_other}
 use Rattle.hb_clocks.specs.declared.holds.Hold.{Hold}
 use Rattle.hb_clocks.specs.Holds.{hold_at, holds_after, is_outer, effect_by, HasHold}
@@ -16,18 +16,18 @@ use Rattle.hb_clocks.specs.State.{HbState, effect, without_locks, after}
 use Rattle.hb_clocks.specs.Stands.{IsFew, Admits, IsAlone}
 use Rattle.hb_clocks.specs.Tables.{Tables, hb_rows, state_from, HasThread}
 use Rattle.hb_clocks.specs.Rows.{rows_of, widths_of}
-use Rattle.hb_clocks.specs.Tables.{HasClocks, IsReady, KeepsRoom, AreTables}
+use Rattle.hb_clocks.specs.Tables.{HasClocks, KeepsRoom, AreTables}
 use Rattle.hb_clocks.proofs.HoldLaws.{AloneAt, of_holder, outer_effect, depths_after, holds_length}
 use Rattle.hb_clocks.proofs.MadeRows.{made_kept, wide_kept}
 
 -- a row that is written twice
-row_again : (t : ℕ) (g h : ℕ → ℕ) (f : ℕ → ℕ → ℕ) → with_row t g (with_row t h f) ≡ with_row t g f
-row_again t g h f i a = go a (cases_eq a t) i
+pub row_again : {A : Type 0} (t : ℕ) (g h : A) (f : ℕ → A) → with_row t g (with_row t h f) ≡ with_row t g f
+row_again t g h f i a = go (cases_eq a t) i
   where
-    go : (a : ℕ) → (a ≡ t) ⊎ (a ≡ t → ⊥) → with_row t g (with_row t h f) a ≡ with_row t g f a
-    go a (inl q) = subst (λ b. with_row t g (with_row t h f) b ≡ with_row t g f b) (sym q)
+    go : (a ≡ t) ⊎ (a ≡ t → ⊥) → with_row t g (with_row t h f) a ≡ with_row t g f a
+    go (inl q) = subst (λ b. with_row t g (with_row t h f) b ≡ with_row t g f b) (sym q)
         (row_same t g (with_row t h f) ∙ sym (row_same t g f))
-    go a (inr n) = row_other t g (with_row t h f) a n ∙ row_other t h f a n ∙ sym (row_other t g f a n)
+    go (inr n) = row_other t g (with_row t h f) a n ∙ row_other t h f a n ∙ sym (row_other t g f a n)
 
 -- what is taken, then the event
 module _ (t : ℕ) (source : ℕ → ℕ) (f taken bumped : ℕ → ℕ → ℕ)
@@ -67,10 +67,7 @@ pub brought_few : (most : ℕ) (r : Rows) → ((t u : ThreadId) → r.thread t.0
     → (k : Effect) (u : ThreadId) → brought k r u.0 ≤ most
 brought_few most r a b (Joins v) u = a v u
 brought_few most r a b (Opens l) u = b l u
-brought_few most r a b (Accesses x k) u = omega arith
-brought_few most r a b (Closes l) u = omega arith
-brought_few most r a b (Forks v) u = omega arith
-brought_few most r a b Inner u = omega arith
+brought_few most r a b _ u = omega arith
 
 same_state : (a b : HbState) → a.po ≡ b.po → a.hb.thread ≡ b.hb.thread → a.hb.lock ≡ b.hb.lock
     → a.depth ≡ b.depth → a ≡ b
@@ -79,11 +76,7 @@ same_state a b p h l d i = record { po = p i; hb = record { thread = h i; lock =
 pub alone_at : (s : HbState) (holds : List Hold) (t : ThreadId) (op : Op)
     → s.depth ≡ Rattle.hb_clocks.specs.Holds.depths_of holds → IsAlone s t op → AloneAt holds t.0 op
 alone_at s holds t (Acquire l) e a = λ u n. sym (ap (λ (f : ℕ → ℕ → ℕ). f u l.0) e) ∙ a (record { 0 = u }) n
-alone_at s holds t (Load x) e a = tt
-alone_at s holds t (Store x) e a = tt
-alone_at s holds t (Release l) e a = tt
-alone_at s holds t (Fork u) e a = tt
-alone_at s holds t (Join u) e a = tt
+alone_at s holds t _ e a = tt
 
 module _ (po hb lock : List (List ℕ)) (holds : List Hold) (e : Event) where
   abbrev old : HbState
@@ -144,50 +137,37 @@ clocks_kept w po hb lock po' hb' lock' (Fork u) p h l r = thread_kept w u.0 po h
 clocks_kept w po hb lock po' hb' lock' (Join u) p h l r = thread_kept w u.0 po hb po' hb' p h r
 clocks_kept w po hb lock po' hb' lock' (Acquire n) p h l r = made_kept w n.0 lock lock' l r
 clocks_kept w po hb lock po' hb' lock' (Release n) p h l r = made_kept w n.0 lock lock' l r
-clocks_kept w po hb lock po' hb' lock' (Load x) p h l r = tt
-clocks_kept w po hb lock po' hb' lock' (Store x) p h l r = tt
+clocks_kept w po hb lock po' hb' lock' _ p h l r = tt
 
 pub hold_kept : (m n : ℕ) (op : Op) → m ≤ n → HasHold m op → HasHold n op
 hold_kept m n (Acquire l) le h = omega arith
 hold_kept m n (Release l) le h = omega arith
-hold_kept m n (Load x) le h = tt
-hold_kept m n (Store x) le h = tt
-hold_kept m n (Fork u) le h = tt
-hold_kept m n (Join u) le h = tt
-
--- what was ready stays so
-pub ready_kept : (old new : Tables) → new.width ≡ old.width → widths_of new.po ≡ widths_of old.po
-    → widths_of new.hb ≡ widths_of old.hb
-    → widths_of new.lock ≡ widths_of old.lock → length new.holds ≡ length old.holds
-    → (t : ThreadId) (op : Op) → IsReady old t op → IsReady new t op
-ready_kept old new w p h l n t op r = record {
-  thread = subst (λ k. HasThread k new.po new.hb t.0) (sym w)
-      (thread_kept old.width t.0 old.po old.hb new.po new.hb p h r.thread);
-  clocks = subst (λ k. HasClocks k new.po new.hb new.lock op) (sym w)
-      (clocks_kept old.width old.po old.hb old.lock new.po new.hb new.lock op p h l r.clocks);
-  hold = hold_kept (length old.holds) (length new.holds) op (omega arith) r.hold;
-}
+hold_kept m n _ le h = tt
 
 -- what the step keeps of tables and their room
 pub record IsStepped (zeros : List ℕ) (old new : Tables) : Type 0 where
   pub tables : AreTables new.width zeros new.po new.hb new.lock
   pub kept : KeepsRoom old new
 
-pub stepped : (zeros : List ℕ) (old new : Tables) (t : ThreadId) (op : Op) → new.width ≡ old.width
-    → widths_of new.po ≡ widths_of old.po → widths_of new.hb ≡ widths_of old.hb
-    → widths_of new.lock ≡ widths_of old.lock
-    → new.holds ≡ holds_after t.0 op old.holds
+pub stepped : (zeros : List ℕ) (old : Tables) (po hb lock : List (List ℕ)) (holds : List Hold) (t : ThreadId)
+    (op : Op) → widths_of po ≡ widths_of old.po → widths_of hb ≡ widths_of old.hb
+    → widths_of lock ≡ widths_of old.lock → holds ≡ holds_after t.0 op old.holds
     → AreTables old.width zeros old.po old.hb old.lock
-    → IsStepped zeros old new
-stepped zeros old new t op w p h l d a =
-    let same : length new.holds ≡ length old.holds = ap length d ∙ holds_length old.holds t.0 op in
-    record {
-      tables = subst (λ k. AreTables k zeros new.po new.hb new.lock) (sym w) (record {
-        some = a.some;
-        only_zeros = a.only_zeros;
-        po_wide = wide_kept old.width old.po new.po p a.po_wide;
-        hb_wide = wide_kept old.width old.hb new.hb h a.hb_wide;
-        lock_wide = wide_kept old.width old.lock new.lock l a.lock_wide;
-      });
-      kept = ready_kept old new w p h l same;
-    }
+    → IsStepped zeros old (record old { po = po; hb = hb; lock = lock; holds = holds })
+stepped zeros old po hb lock holds t op p h l d a = record {
+  tables = record {
+    some = a.some;
+    only_zeros = a.only_zeros;
+    po_wide = wide_kept old.width old.po po p a.po_wide;
+    hb_wide = wide_kept old.width old.hb hb h a.hb_wide;
+    lock_wide = wide_kept old.width old.lock lock l a.lock_wide;
+  };
+  kept = λ u o r. record {
+    thread = thread_kept old.width u.0 old.po old.hb po hb p h r.thread;
+    clocks = clocks_kept old.width old.po old.hb old.lock po hb lock o p h l r.clocks;
+    hold = hold_kept (length old.holds) (length holds) o same r.hold;
+  };
+}
+  where
+    same : length old.holds ≤ length holds
+    same = let e = ap length d ∙ holds_length old.holds t.0 op in omega arith

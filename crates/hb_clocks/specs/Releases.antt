@@ -16,7 +16,7 @@ abbrev pub raised : ℕ → List ℕ → List ℕ
 raised t counts = slice_set counts t (counts_of counts t + 1)
 
 -- the numbers of all releases that are kept, and for how many there is memory
-pub record Kept : Type 0 where
+pub record KeptNumbers : Type 0 where
   pub numbers : List ℕ
   pub most : ℕ
 

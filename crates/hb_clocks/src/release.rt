@@ -21,9 +21,9 @@ pub struct ReleaseClocks {
 
 impl Model for ReleaseClocks {
     ghost use Rattle.std.specs.Prelude.{vec_capacity};
-    ghost use Rattle.hb_clocks.specs.Releases.{Kept};
+    ghost use Rattle.hb_clocks.specs.Releases.{KeptNumbers};
 
-    ghost Value = { Kept };
+    ghost Value = { KeptNumbers };
 
     ghost view = { λ r. record { numbers = r.numbers.items; most = vec_capacity r.numbers } };
 }

@@ -7,7 +7,7 @@ use Rattle.event_core.specs.declared.ids.VarId.{VarId}
 use Rattle.event_core.specs.declared.events.Event.{Event}
 use Rattle.event_core.specs.declared.events.AccessKind.{AccessKind}
 use Rattle.event_core.specs.declared.events.Op.{Op}
-use Rattle.event_core.specs.declared.events.Op.TheVariants.{Load, Store, Acquire, Release, Fork, Join}
+use Rattle.event_core.specs.declared.events.Op.TheVariants.{Load, Store, Acquire}
 use Rattle.event_core.specs.Closed.{Has}
 use Rattle.event_core.specs.Rows.{join, with_row}
 use Rattle.event_core.specs.Effect.{Accesses}
@@ -21,9 +21,10 @@ use Rattle.wcp_laws.specs.Step.{effect, join_all}
 use Rattle.wcp_clocks.specs.declared.parts.Parts.{Parts}
 use Rattle.wcp_clocks.specs.HeldLists.{list_at, numbers_of, held_of}
 use Rattle.wcp_clocks.specs.StrictRows.{StrictTables, strict_of, SameRoom}
-use Rattle.wcp_clocks.specs.Parts.{hb_of, state_of, Fits, HasNamed, KeepsReady}
+use Rattle.wcp_clocks.specs.Parts.{hb_of, state_of, Fits, HasPlaces, KeepsReady}
 use Rattle.wcp_clocks.specs.Stepping.{IsStepBy, strict_clock}
 use Rattle.wcp_clocks.specs.Met.{met_clocks, met_under, joins_under, AreNumbers}
+use Rattle.wcp_clocks.proofs.Growth.{rows_ready}
 use Rattle.wcp_clocks.proofs.EffectWords.{same_sources, same_noted, same_clocks, same_numbers}
 
 module _ (e : Event) (x : VarId) (k : AccessKind) (old : Parts)
@@ -80,7 +81,7 @@ module _ (e : Event) (x : VarId) (k : AccessKind) (old : Parts)
         noted = same_noted old.sums sums (hb_of old).depth e.thread locks x k
             (λ l. subst (λ ls. Has l.0 (numbers_of ls) ↔ (0 < (hb_of old).depth t l.0))
             (sym of) (fits.held l)) noted;
-        others = same_clocks old.sums sums (closed_of old.queues) others;
+        met = same_clocks old.sums sums (closed_of old.queues) others;
         numbers = same_numbers old.sums sums (closed_of old.queues) others numbers;
         closed = refl;
         found = refl;
@@ -114,22 +115,14 @@ pub access_keeps : (old : Parts) (rows : StrictTables) (tables : hb_tables.Table
     })
 access_keeps old rows tables sums work hb kept rooms t op ready = record {
   hb = hb t op ready.hb;
-  thread = kept.thread t.0 ready.thread;
-  named = named op ready.named;
+  rows = rows_ready old.rows rows t op (record { width = kept.width; thread = kept.thread; lock = kept.lock })
+      ready.rows;
+  places = places op ready.places;
 }
   where
-    named : (op : Op) → HasNamed old t op
-        → HasNamed (record {
-          hb = tables;
-          rows = rows;
-          sums = sums;
-          queues = old.queues;
-          held = old.held;
-          work = work;
-        }) t op
-    named (Load x) room = λ l h. rooms l x.0 (room l h)
-    named (Store x) room = λ l h. rooms l x.0 (room l h)
-    named (Acquire l) room = (kept.lock l.0 room.0, room.1, room.2)
-    named (Release l) room = kept.lock l.0 room
-    named (Fork u) room = kept.thread u.0 room
-    named (Join u) room = kept.thread u.0 room
+    places : (op : Op) → HasPlaces old.sums old.queues old.held t op
+        → HasPlaces sums old.queues old.held t op
+    places (Load x) room = λ l h. rooms l x.0 (room l h)
+    places (Store x) room = λ l h. rooms l x.0 (room l h)
+    places (Acquire l) room = room
+    places _ room = tt

@@ -24,7 +24,7 @@ use Rattle.wcp_clocks.proofs.Rows.{own_row}
 
 -- the sources under a lock are those of the rule
 pub same_sources : (s : State) (x : VarId) (k : AccessKind) (t : ThreadId)
-    → met_under s.others x.0 k t.0 ≡ sources s x k t
+    → met_under s.met_clock x.0 k t.0 ≡ sources s x k t
 same_sources s x Read t = refl
 same_sources s x Write t = refl
 

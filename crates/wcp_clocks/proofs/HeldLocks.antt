@@ -16,13 +16,13 @@ use Rattle.event_core.specs.Closed.{Has, first, later}
 use Rattle.event_core.specs.Log.{depth}
 use Rattle.event_core.specs.Refusal.{WellFormed}
 use Rattle.event_core.specs.Rows.{with_row}
-use Rattle.event_core.specs.Effect.{Effect, Accesses, Opens, Closes, Forks, Joins, Inner}
+use Rattle.event_core.specs.Effect.{Effect, Opens, Closes}
 use Rattle.event_core.proofs.Counting.{nat_eq_other}
 use Rattle.event_core.proofs.Depth.{opener}
 use Rattle.event_core.proofs.Growing.{row_same, row_other}
 use Rattle.event_core.proofs.Legality.{reasons_at, when_none}
 use Rattle.event_core.proofs.Members.{any_has}
-use Rattle.event_core.proofs.Effects.{Fits, accesses, opens, closes, forks, joins, again, inner}
+use Rattle.event_core.proofs.Effects.{Fits, opens}
 use Rattle.wcp_laws.specs.State.{State}
 use Rattle.wcp_laws.specs.Standing.{Stands}
 use Rattle.wcp_laws.specs.Step.{effect, after, held_after, without}
@@ -84,22 +84,14 @@ distinct_after t (Opens l) h new was =
     distinct_row t.0 (h t.0 ++ l.0 ∷ []) h was (distinct_more (h t.0) l.0 (was t) (new l refl))
 distinct_after t (Closes l) h new was =
     distinct_row t.0 (without l.0 (h t.0)) h was (distinct_without l.0 (h t.0) (was t))
-distinct_after t (Accesses x k) h new was = was
-distinct_after t (Forks u) h new was = was
-distinct_after t (Joins u) h new was = was
-distinct_after t Inner h new was = was
+distinct_after t _ h new was = was
 
 -- a lock that is opened was not held
 opened_anew : (log : List Event) (e : Event) (k : Effect) → Fits log e k → (l : LockId) → k ≡ Opens l
     → depth log e.thread l ≡ 0
 opened_anew log e _ (opens m o zero) l is =
     let same : m ≡ l = cc in subst (λ (n : LockId). depth log e.thread n ≡ 0) same zero
-opened_anew log e _ (accesses x j o) l is = cc
-opened_anew log e _ (closes m o d) l is = cc
-opened_anew log e _ (forks u o) l is = cc
-opened_anew log e _ (joins u o) l is = cc
-opened_anew log e _ (again m o d) l is = cc
-opened_anew log e _ (inner m o d) l is = cc
+opened_anew log e _ _ l is = cc
 
 pub distinct_step : (log : List Event) (e : Event) (s : State) → Stands log s → AreDistinct s.held
     → AreDistinct (after e s).held

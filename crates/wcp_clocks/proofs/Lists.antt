@@ -1,12 +1,12 @@
 -- Lists of held locks that are written.
-use Rattle.std.proofs.Common.{◌≡◌, ℕ, ◌<◌, ◌≤◌, List, [], ◌∷◌, ◌++◌, length, set, refl, sym, ap, subst, ◌∙◌}
+use Rattle.std.proofs.Common.{◌≡◌, ℕ, ◌<◌, ◌≤◌, List, [], ◌∷◌, ◌++◌, length, set, refl, sym, ap, subst}
 use Rattle.std.proofs.Common.{cond, nat_eq, not}
 use Rattle.std.proofs.Common.{inl, inr, ◌⊎◌, arith, Bool, true, false}
-use Rattle.std.proofs.lemmas.Bool.{cases_lt, cases_eq, cases_Bool}
-use Rattle.std.proofs.lemmas.List.{get_or-set_same, get_or-set_other, get_or_past, map-append}
+use Rattle.std.proofs.lemmas.Bool.{cases_lt, cases_Bool}
+use Rattle.std.proofs.lemmas.List.{get_or_past, map-append}
 use Rattle.event_core.specs.declared.ids.LockId.{LockId}
 use Rattle.event_core.specs.Rows.{with_row}
-use Rattle.event_core.proofs.Growing.{row_same, row_other}
+use Rattle.hb_clocks.proofs.RowLaws.{set_read}
 use Rattle.wcp_laws.specs.Step.{without}
 use Rattle.wcp_clocks.specs.HeldLists.{HeldList, nothing_held, numbers_of, without_lock, held_of, room_at}
 
@@ -21,16 +21,7 @@ room_within lists t room = go (cases_lt t (length lists))
 
 pub held_set : (lists : List HeldList) (at : ℕ) (h : HeldList) → at < length lists
     → held_of (set lists at h) ≡ with_row at (numbers_of h.locks) (held_of lists)
-held_set lists at h lt i t = go (cases_eq t at) i
-  where
-    go : (t ≡ at) ⊎ (t ≡ at → ⊥) → held_of (set lists at h) t
-        ≡ with_row at (numbers_of h.locks) (held_of lists) t
-    go (inl q) = subst (λ b. held_of (set lists at h) b ≡ with_row at (numbers_of h.locks) (held_of lists) b)
-        (sym q)
-        (ap (λ (g : HeldList). numbers_of g.locks) (get_or-set_same lists at h nothing_held lt)
-        ∙ sym (row_same at (numbers_of h.locks) (held_of lists)))
-    go (inr n) = ap (λ (g : HeldList). numbers_of g.locks) (get_or-set_other lists at t h nothing_held n)
-        ∙ sym (row_other at (numbers_of h.locks) (held_of lists) t n)
+held_set lists at h lt i t = set_read (λ (g : HeldList). numbers_of g.locks) nothing_held lists at h t lt i
 
 pub numbers_added : (locks : List LockId) (l : LockId) → numbers_of (locks ++ l ∷ [])
     ≡ numbers_of locks ++ l.0 ∷ []

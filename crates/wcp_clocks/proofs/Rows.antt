@@ -7,7 +7,7 @@ use Rattle.hb_clocks.specs.Rows.{row_at, rows_of, IsMade}
 use Rattle.std.proofs.Common.{inl, inr, ◌⊎◌}
 use Rattle.std.proofs.lemmas.Bool.{cases_eq}
 use Rattle.event_core.specs.Rows.{no_clock, join, with_row, to_child}
-use Rattle.event_core.specs.Effect.{Effect, Accesses, Opens, Closes, Forks, Joins, Inner}
+use Rattle.event_core.specs.Effect.{Effect, Accesses, Forks}
 use Rattle.event_core.proofs.Growing.{row_same, row_other}
 
 -- a row that is written with what it has
@@ -18,15 +18,6 @@ row_kept t f i a = go (cases_eq a t) i
     go (inl q) = subst (λ b. f b ≡ with_row t (f t) f b) (sym q) (sym (row_same t (f t) f))
     go (inr n) = sym (row_other t (f t) f a n)
 
--- a row that is written twice
-pub row_again : {A : Type 0} (t : ℕ) (g h : A) (f : ℕ → A) → with_row t g (with_row t h f) ≡ with_row t g f
-row_again t g h f i a = go (cases_eq a t) i
-  where
-    go : (a ≡ t) ⊎ (a ≡ t → ⊥) → with_row t g (with_row t h f) a ≡ with_row t g f a
-    go (inl q) = subst (λ b. with_row t g (with_row t h f) b ≡ with_row t g f b) (sym q)
-        (row_same t g (with_row t h f) ∙ sym (row_same t g f))
-    go (inr n) = row_other t g (with_row t h f) a n ∙ row_other t h f a n ∙ sym (row_other t g f a n)
-
 -- the row of the event's own thread
 pub own_row : (k : Effect) (t : ℕ) (g : ℕ → ℕ) (f : ℕ → ℕ → ℕ) → to_child k g (with_row t g f) t ≡ g
 own_row (Forks u) t g f = go (cases_eq t u.0)
@@ -35,10 +26,7 @@ own_row (Forks u) t g f = go (cases_eq t u.0)
     go (inl q) = subst (λ b. with_row u.0 g (with_row t g f) b ≡ g) (sym q) (row_same u.0 g (with_row t g f))
     go (inr n) = row_other u.0 g (with_row t g f) t n ∙ row_same t g f
 own_row (Accesses x k) t g f = row_same t g f
-own_row (Opens l) t g f = row_same t g f
-own_row (Closes l) t g f = row_same t g f
-own_row (Joins u) t g f = row_same t g f
-own_row Inner t g f = row_same t g f
+own_row _ t g f = row_same t g f
 
 pub join_nothing : (f : ℕ → ℕ) → join f no_clock ≡ f
 join_nothing f i u = go u i

@@ -5,18 +5,18 @@ use Rattle.std.proofs.lemmas.Bool.{cases_eq, eq-eqb, ne_eqb}
 use Rattle.event_core.specs.declared.ids.LockId.{LockId}
 use Rattle.event_core.specs.declared.events.Event.{Event}
 use Rattle.event_core.specs.declared.events.Op.{Op}
-use Rattle.event_core.specs.declared.events.Op.TheVariants.{Load, Store, Acquire, Release, Fork, Join}
+use Rattle.event_core.specs.declared.events.Op.TheVariants.{Load, Acquire, Release}
 use Rattle.event_core.specs.Rows.{with_row, to_child, to_lock, depth_after}
 use Rattle.event_core.specs.Effect.{Effect, Opens, Closes, Inner, effect_of}
-use Rattle.event_core.proofs.Growing.{row_same, row_other}
+use Rattle.event_core.proofs.Growing.{cell_same, cell_other}
 use Rattle.hb_clocks.specs.State as hb
-use Rattle.wcp_laws.specs.Step.{effect, after, hb_row, opened_after, held_after, noted_after, others_after}
+use Rattle.wcp_laws.specs.Step.{effect, after, hb_row, opened_after, held_after, noted_after, met_clock_after}
 use Rattle.wcp_laws.specs.Step.{closed_after}
 use Rattle.wcp_laws.specs.Conditions.{found_at}
 use Rattle.wcp_clocks.specs.declared.parts.Parts.{Parts}
 use Rattle.wcp_clocks.specs.HeldLists.{held_of}
-use Rattle.wcp_clocks.specs.StrictRows.{strict_of, HasThread, HasLock}
-use Rattle.wcp_clocks.specs.Parts.{hb_of, state_of, found_in, AreParts, IsReady, HasNamed, most_joins}
+use Rattle.wcp_clocks.specs.StrictRows.{strict_of, HasThread, HasLock, HasNamed}
+use Rattle.wcp_clocks.specs.Parts.{hb_of, state_of, found_in, AreParts, IsReady, most_joins}
 use Rattle.wcp_clocks.specs.Parts.{joins_at, FewComparisons, NoFewer, Fits, IsAccess, KeepsReady}
 use Rattle.wcp_clocks.specs.Whole.{AreWhole}
 use Rattle.wcp_clocks.proofs.Ordered.{ordered_more, ordered_same}
@@ -31,39 +31,28 @@ held_before : (t : ℕ) (op : Op) (d : ℕ → ℕ → ℕ) (u l : ℕ) → 0 < 
     → (0 < d u l) ⊎ IsTaken t op u l
 held_before t (Acquire m) d u l h = go (cases_eq u t) (cases_eq l m.0)
   where
-    row : ℕ → ℕ
-    row = with_row m.0 (d t m.0 + 1) (d t)
+    other : (u ≡ t → l ≡ m.0 → ⊥) → 0 < d u l
+    other n = subst (λ x. 0 < x) (cell_other t m.0 (d t m.0 + 1) d u l n) h
 
     go : (u ≡ t) ⊎ (u ≡ t → ⊥) → (l ≡ m.0) ⊎ (l ≡ m.0 → ⊥) → (0 < d u l) ⊎ IsTaken t (Acquire m) u l
     go (inl q) (inl p) = inr (q, m, refl, p)
-    go (inl q) (inr n) =
-        let e : with_row t row d u l ≡ d t l =
-        ap (λ x. with_row t row d x l) q ∙ ap (λ (f : ℕ → ℕ). f l) (row_same t row d)
-        ∙ row_other m.0 (d t m.0 + 1) (d t) l n in
-        inl (subst (λ x. 0 < d x l) (sym q) (subst (λ x. 0 < x) e h))
-    go (inr n) _ = inl (subst (λ x. 0 < x) (ap (λ (f : ℕ → ℕ). f l) (row_other t row d u n)) h)
-held_before t (Release m) d u l h = go (cases_eq u t) (cases_eq l m.0)
+    go (inl q) (inr n) = inl (other (λ _ p. n p))
+    go (inr n) _ = inl (other (λ q _. n q))
+held_before t (Release m) d u l h = inl (go (cases_eq u t) (cases_eq l m.0))
   where
-    row : ℕ → ℕ
-    row = with_row m.0 (d t m.0 - 1) (d t)
+    other : (u ≡ t → l ≡ m.0 → ⊥) → 0 < d u l
+    other n = subst (λ x. 0 < x) (cell_other t m.0 (d t m.0 - 1) d u l n) h
 
-    go : (u ≡ t) ⊎ (u ≡ t → ⊥) → (l ≡ m.0) ⊎ (l ≡ m.0 → ⊥) → (0 < d u l) ⊎ IsTaken t (Release m) u l
+    go : (u ≡ t) ⊎ (u ≡ t → ⊥) → (l ≡ m.0) ⊎ (l ≡ m.0 → ⊥) → 0 < d u l
     go (inl q) (inl p) =
-        let e : with_row t row d u l ≡ d t m.0 - 1 =
-        ap₂ (λ x y. with_row t row d x y) q p ∙ ap (λ (f : ℕ → ℕ). f m.0) (row_same t row d)
-        ∙ row_same m.0 (d t m.0 - 1) (d t) in
+        let e : depth_after t (Release m) d u l ≡ d t m.0 - 1
+        = ap₂ (depth_after t (Release m) d) q p ∙ cell_same t m.0 (d t m.0 - 1) d in
         let was : d u l ≡ d t m.0 = ap₂ d q p in
-        inl (omega arith)
-    go (inl q) (inr n) =
-        let e : with_row t row d u l ≡ d t l =
-        ap (λ x. with_row t row d x l) q ∙ ap (λ (f : ℕ → ℕ). f l) (row_same t row d)
-        ∙ row_other m.0 (d t m.0 - 1) (d t) l n in
-        inl (subst (λ x. 0 < d x l) (sym q) (subst (λ x. 0 < x) e h))
-    go (inr n) _ = inl (subst (λ x. 0 < x) (ap (λ (f : ℕ → ℕ). f l) (row_other t row d u n)) h)
+        omega arith
+    go (inl q) (inr n) = other (λ _ p. n p)
+    go (inr n) _ = other (λ q _. n q)
 held_before t (Load x) d u l h = inl h
-held_before t (Store x) d u l h = inl h
-held_before t (Fork v) d u l h = inl h
-held_before t (Join v) d u l h = inl h
+held_before t _ d u l h = inl h
 
 module _ (e : Event) (k : Effect) (old new : Parts) (told : effect e (state_of old)
     ≡ k) (by : IsStepBy e k old new) where
@@ -82,7 +71,7 @@ module _ (e : Event) (k : Effect) (old new : Parts) (told : effect e (state_of o
     held = (by.held ∙ ap (λ k. held_after e.thread.0 k (state_of old).held) (sym told)) i;
     noted = (by.noted ∙ ap (λ k. noted_after e.thread.0 k (state_of old).depth (state_of old).noted)
         (sym told)) i;
-    others = (by.others ∙ ap (λ k. others_after e.thread.0 k (hb_row e (state_of old)) (state_of old))
+    met_clock = (by.met ∙ ap (λ k. met_clock_after e.thread.0 k (hb_row e (state_of old)) (state_of old))
         (sym told)) i;
     closed = (by.closed ∙ ap (λ k. closed_after e.thread.0 k (hb_row e (state_of old)) (state_of old))
         (sym told)) i;
@@ -108,12 +97,12 @@ module _ (e : Event) (k : Effect) (old new : Parts) (told : effect e (state_of o
 
       thread : (l t : ℕ) → (0 < (hb_of old).depth t l) ⊎ IsTaken e.thread.0 e.op t l → HasThread new.rows t
       thread l t (inl h) = by.room.thread t (parts.held_thread t l h)
-      thread l t (inr p) = by.room.thread t (subst (λ u. HasThread old.rows u) (sym p.0) ready.thread)
+      thread l t (inr p) = by.room.thread t (subst (λ u. HasThread old.rows u) (sym p.0) ready.rows.thread)
 
       lock : (l t : ℕ) → (0 < (hb_of old).depth t l) ⊎ IsTaken e.thread.0 e.op t l → HasLock new.rows l
       lock l t (inl h) = by.room.lock l (parts.held_lock t l h)
       lock l t (inr p) = by.room.lock l (subst (λ m. HasLock old.rows m) (sym p.3)
-          (subst (λ (op : Op). HasNamed old e.thread op) p.2 ready.named).0)
+          (subst (λ (op : Op). HasNamed old.rows op) p.2 ready.rows.named))
 
   pub stepped : AreParts old → IsReady old e.thread e.op → Fits e old → (IsAccess e.op → KeepsReady old new)
       → IsStep e old new

@@ -1,6 +1,6 @@
 -- A thread's strict clock takes one clock after another.
 use Rattle.std.proofs.Common.{◌≡◌, ℕ, zero, suc, ◌+◌, ◌-◌, ◌*◌, ◌<◌, ◌≤◌, List, [], ◌∷◌, ◌++◌, length}
-use Rattle.std.proofs.Common.{cond, All, max, true, false}
+use Rattle.std.proofs.Common.{cond, All, max, true, false, nat_le}
 use Rattle.std.proofs.Common.{refl, sym, ap, ap₂, subst, ◌∙◌, arith}
 use Rattle.std.proofs.lemmas.List.{length_push, append-nil}
 use Rattle.std.proofs.lemmas.List.Elements.{All-head, All-tail, All-nil, All-cons, All-append}
@@ -21,7 +21,8 @@ use Rattle.wcp_clocks.specs.Met.{AreNumbers, AreWholeIn}
 use Rattle.wcp_clocks.specs.Whole.{IsWhole}
 use Rattle.wcp_clocks.proofs.Wholeness.{whole_join}
 use Rattle.wcp_laws.specs.Step.{join_all}
-use Rattle.wcp_clocks.proofs.Rows.{row_kept, row_again, join_nothing}
+use Rattle.hb_clocks.proofs.TableSteps.{row_again}
+use Rattle.wcp_clocks.proofs.Rows.{row_kept, join_nothing}
 use Rattle.wcp_clocks.specs.StrictRows.{StrictTables, SameRoom}
 
 -- the number is that of a section that an access of the thread to the variable meets
@@ -51,17 +52,16 @@ room_then a b c p q = record {
 -- the section with a number that is not 0
 pub release_is : (qs : List Closed) (n : ℕ) → 0 < n → (closed_at qs (n - 1)).release ≡ release_at qs n
 release_is qs zero some = absurd (omega (arith, some))
-release_is qs (suc n) some = ap (λ k. (closed_at qs k).release) less
-  where
-    less : suc n - 1 ≡ n
-    less = omega arith
+release_is qs (suc n) some = let less : suc n - 1 ≡ n = omega arith in ap (λ k. (closed_at qs k).release) less
 
-pub thread_is : (qs : List Closed) (n : ℕ) → 0 < n → (closed_at qs (n - 1)).thread ≡ thread_at qs n
-thread_is qs zero some = absurd (omega (arith, some))
-thread_is qs (suc n) some = ap (λ k. (closed_at qs k).thread) less
-  where
-    less : suc n - 1 ≡ n
-    less = omega arith
+-- and whether its release, with the clock g and by this thread, is counted
+pub counts_is : (qs : List Closed) (f g : ℕ → ℕ) (by n : ℕ) → 0 < n → g ≡ release_at qs n
+    → by ≡ (closed_at qs (n - 1)).thread → counts_release qs f n ≡ nat_le (g by) (f by)
+counts_is qs f g by zero some release thread = absurd (omega (arith, some))
+counts_is qs f g by (suc n) some release thread =
+    let less : suc n - 1 ≡ n = omega arith in
+    ap₂ (λ (a : ℕ → ℕ) (u : ℕ). nat_le (a u) (f u)) (sym release)
+    (sym (thread ∙ ap (λ k. (closed_at qs k).thread) less))
 
 has_closed : (qs : List Closed) (n : ℕ) → n < length qs → Has (closed_at qs n) qs
 has_closed [] n lt = absurd (omega arith)
@@ -95,18 +95,18 @@ counted s closed l x t n f are whole m le i u = at i
         omega arith
 
 -- what has been taken of the source, where the rest is still to be taken
-pub record IsTaking (s : Sums) (closed : ℕ → List Closed) (l x t : ℕ) (source : ℕ → ℕ) (all : List ℕ)
+pub record IsTaking (s : Sums) (closed : ℕ → List Closed) (l x t : ℕ) (k : AccessKind)
     (old now : StrictTables) (before after : Done) (rest : List ℕ) : Type 0 where
   pub shape : rows_of now.thread ≡ with_row t (rows_of now.thread t) (rows_of old.thread)
   pub joined : (u : ℕ) → joined_all (closed l) (rows_of now.thread t) rest u
-      ≡ join (rows_of old.thread t) source u
+      ≡ join (rows_of old.thread t) (met_under (met_clocks s closed) x k t l) u
   pub lock : rows_of now.lock ≡ rows_of old.lock
   pub kept : SameRoom old now
   pub met : All (IsMet s l x t) rest
   pub whole : IsWhole closed (rows_of now.thread t)
   pub joins : after.joins + length rest ≤ before.joins + 2
   pub made : after.joins + joins_for (closed l) (rows_of now.thread t) rest
-      ≡ before.joins + joins_for (closed l) (rows_of old.thread t) all
+      ≡ before.joins + joins_for (closed l) (rows_of old.thread t) (sources_of s l x k t)
   pub comparisons : after.comparisons ≡ before.comparisons
 
 -- the sections that an access meets, joined
@@ -157,88 +157,82 @@ sources_met s l x t Write =
     (section_met s l x t Write (others_of s l x Write t) refl)
     (section_met s l x t Read (others_of s l x Read t) refl)
 
-pub taking_begins : (s : Sums) (closed : ℕ → List Closed) (l x t : ℕ) (k : AccessKind) (old : StrictTables)
-    (before : Done) (rest : List ℕ) → rest ≡ sources_of s l x k t → length rest ≤ 2
-    → IsWhole closed (rows_of old.thread t)
-    → IsTaking s closed l x t (met_under (met_clocks s closed) x k t l) (sources_of s l x k t) old old before
-    before rest
-taking_begins s closed l x t k old before rest is few whole = record {
-  shape = row_kept t (rows_of old.thread);
-  joined = λ u. ap (λ ns. joined_all (closed l) (rows_of old.thread t) ns u) is
-      ∙ sources_joined s closed l x t k (rows_of old.thread t) u;
-  lock = refl;
-  kept = room_same old;
-  met = subst (All (IsMet s l x t)) (sym is) (sources_met s l x t k);
-  whole = whole;
-  joins = omega arith;
-  made = ap (λ ns. before.joins + joins_for (closed l) (rows_of old.thread t) ns) is;
-  comparisons = refl;
-}
+module _ {s : Sums} {closed : ℕ → List Closed} {l x t : ℕ} {k : AccessKind} {old : StrictTables}
+    {before : Done} where
+  pub taking_begins : (rest : List ℕ) → rest ≡ sources_of s l x k t → length rest ≤ 2
+      → IsWhole closed (rows_of old.thread t) → IsTaking s closed l x t k old old before before rest
+  taking_begins rest is few whole = record {
+    shape = row_kept t (rows_of old.thread);
+    joined = λ u. ap (λ ns. joined_all (closed l) (rows_of old.thread t) ns u) is
+        ∙ sources_joined s closed l x t k (rows_of old.thread t) u;
+    lock = refl;
+    kept = room_same old;
+    met = subst (All (IsMet s l x t)) (sym is) (sources_met s l x t k);
+    whole = whole;
+    joins = omega arith;
+    made = ap (λ ns. before.joins + joins_for (closed l) (rows_of old.thread t) ns) is;
+    comparisons = refl;
+  }
 
--- a release that is counted brings nothing
-pub taking_past : (s : Sums) (closed : ℕ → List Closed) (l x t : ℕ) (source : ℕ → ℕ) (all : List ℕ)
-    (old now : StrictTables) (before after : Done) (n : ℕ) (rest : List ℕ) → AreNumbers s closed
-    → IsTaking s closed l x t source all old now before after (n ∷ rest)
-    → counts_release (closed l) (rows_of now.thread t) n ≡ true
-    → IsTaking s closed l x t source all old now before after rest
-taking_past s closed l x t source all old now before after n rest are is counts = record {
-  shape = is.shape;
-  joined = λ u. ap (λ (g : ℕ → ℕ). joined_all (closed l) g rest u)
-      (counted s closed l x t n (rows_of now.thread t) are is.whole (All-head
-      (IsMet s l x t) n rest is.met) (leb-true _ _ counts))
-      ∙ is.joined u;
-  lock = is.lock;
-  kept = is.kept;
-  met = All-tail (IsMet s l x t) n rest is.met;
-  whole = is.whole;
-  joins = (let j = is.joins in omega arith);
-  made = ap (λ b. after.joins + cond b (joins_for (closed l) (rows_of now.thread t) rest)
-      (suc (joins_for (closed l) (join (rows_of now.thread t) (release_at (closed l) n)) rest))) (sym counts)
-      ∙ is.made;
-  comparisons = is.comparisons;
-}
+  module _ {now : StrictTables} {after : Done} {n : ℕ} {rest : List ℕ}
+      (is : IsTaking s closed l x t k old now before after (n ∷ rest)) where
+    -- the next section is met
+    pub next_met : IsMet s l x t n
+    next_met = All-head (IsMet s l x t) n rest is.met
 
-pub taking_on : (s : Sums) (closed : ℕ → List Closed) (l x t : ℕ) (source : ℕ → ℕ) (all : List ℕ)
-    (old now new : StrictTables) (before after done : Done) (n : ℕ) (rest : List ℕ)
-    → AreWholeIn s closed
-    → IsTaking s closed l x t source all old now before after (n ∷ rest)
-    → counts_release (closed l) (rows_of now.thread t) n ≡ false
-    → rows_of new.thread ≡ with_row t (join (rows_of now.thread t) (release_at (closed l) n))
-    (rows_of now.thread)
-    → rows_of new.lock ≡ rows_of now.lock → SameRoom now new
-    → done ≡ record after { joins = after.joins + 1 }
-    → IsTaking s closed l x t source all old new before done rest
-taking_on s closed l x t source all old now new before after done n rest each is not_yet threads lock kept
-    work =
-    record {
-      shape = threads ∙ ap (with_row t (join (rows_of now.thread t) (release_at (closed l) n))) is.shape
-          ∙ row_again t (join (rows_of now.thread t) (release_at (closed l) n)) (rows_of now.thread t)
-          (rows_of old.thread)
+    abbrev row : ℕ → ℕ
+    row = rows_of now.thread t
+
+    abbrev release : ℕ → ℕ
+    release = release_at (closed l) n
+
+    -- a release that is counted brings nothing
+    pub taking_past : AreNumbers s closed → counts_release (closed l) (rows_of now.thread t) n ≡ true
+        → IsTaking s closed l x t k old now before after rest
+    taking_past are counts = record {
+      shape = is.shape;
+      joined = λ u. ap (λ (g : ℕ → ℕ). joined_all (closed l) g rest u)
+          (counted s closed l x t n row are is.whole next_met (leb-true _ _ counts)) ∙ is.joined u;
+      lock = is.lock;
+      kept = is.kept;
+      met = All-tail (IsMet s l x t) n rest is.met;
+      whole = is.whole;
+      joins = (let j = is.joins in omega arith);
+      made = ap (λ b. after.joins + cond b (joins_for (closed l) row rest)
+          (suc (joins_for (closed l) (join row release) rest))) (sym counts) ∙ is.made;
+      comparisons = is.comparisons;
+    }
+
+    pub taking_on : {new : StrictTables} {done : Done} → AreWholeIn s closed
+        → counts_release (closed l) (rows_of now.thread t) n ≡ false
+        → rows_of new.thread ≡ with_row t (join (rows_of now.thread t) (release_at (closed l) n))
+        (rows_of now.thread)
+        → rows_of new.lock ≡ rows_of now.lock → SameRoom now new
+        → done ≡ record after { joins = after.joins + 1 }
+        → IsTaking s closed l x t k old new before done rest
+    taking_on {new} {done} each not_yet threads lock kept work = record {
+      shape = threads ∙ ap (with_row t (join row release)) is.shape
+          ∙ row_again t (join row release) row (rows_of old.thread)
           ∙ ap (λ g. with_row t g (rows_of old.thread)) (sym own);
       joined = λ u. ap (λ (g : ℕ → ℕ). joined_all (closed l) g rest u) own ∙ is.joined u;
       lock = lock ∙ is.lock;
       kept = room_then old now new is.kept kept;
       met = All-tail (IsMet s l x t) n rest is.met;
       whole = subst (IsWhole closed) (sym own)
-          (whole_join closed (rows_of now.thread t)
-          (release_at (closed l) n) is.whole
-          (met_whole s closed l x t n each (All-head (IsMet s l x t) n rest is.met)));
+          (whole_join closed row release is.whole (met_whole s closed l x t n each next_met));
       joins = (let w = ap (λ (d : Done). d.joins) work in let j = is.joins in omega arith);
       made = (let w = ap (λ (d : Done). d.joins) work in
           let taken = ap (λ (g : ℕ → ℕ). joins_for (closed l) g rest) own in
-          let one : after.joins + suc (joins_for (closed l)
-          (join (rows_of now.thread t) (release_at (closed l) n)) rest)
-          ≡ before.joins + joins_for (closed l) (rows_of old.thread t) all
-          = ap (λ b. after.joins + cond b (joins_for (closed l) (rows_of now.thread t) rest)
-          (suc (joins_for (closed l) (join (rows_of now.thread t) (release_at (closed l) n)) rest)))
-          (sym not_yet) ∙ is.made in
+          let one : after.joins + suc (joins_for (closed l) (join row release) rest)
+          ≡ before.joins + joins_for (closed l) (rows_of old.thread t) (sources_of s l x k t)
+          = ap (λ b. after.joins + cond b (joins_for (closed l) row rest)
+          (suc (joins_for (closed l) (join row release) rest))) (sym not_yet) ∙ is.made in
           omega arith);
       comparisons = ap (λ (d : Done). d.comparisons) work ∙ is.comparisons;
     }
-  where
-    own : rows_of new.thread t ≡ join (rows_of now.thread t) (release_at (closed l) n)
-    own = ap (λ (f : ℕ → ℕ → ℕ). f t) threads
-        ∙ row_same t (join (rows_of now.thread t) (release_at (closed l) n)) (rows_of now.thread)
+      where
+        own : rows_of new.thread t ≡ join row release
+        own = ap (λ (f : ℕ → ℕ → ℕ). f t) threads ∙ row_same t (join row release) (rows_of now.thread)
 
 -- what has been taken under the first of the locks
 pub record HasTaken (s : Sums) (closed : ℕ → List Closed) (x : ℕ) (k : AccessKind) (t : ℕ)
@@ -286,20 +280,6 @@ joins_more s closed x k t f (m ∷ ms) l =
     (join_again f (source m) (join_all source ms)) in
     omega arith
 
-pub taken_begins : (s : Sums) (closed : ℕ → List Closed) (x : ℕ) (k : AccessKind) (t : ℕ)
-    (old : StrictTables) (before : Done) → IsWhole closed (rows_of old.thread t)
-    → HasTaken s closed x k t old old before before []
-taken_begins s closed x k t old before whole = record {
-  threads = row_kept t (rows_of old.thread) ∙ ap (λ g. with_row t g (rows_of old.thread)) (sym (join_nothing
-      (rows_of old.thread t)));
-  lock = refl;
-  kept = room_same old;
-  whole = whole;
-  joins = omega arith;
-  made = omega arith;
-  comparisons = refl;
-}
-
 -- the sources under a lock are whole
 sources_whole : (s : Sums) (closed : ℕ → List Closed) (l x t : ℕ) (k : AccessKind) → AreWholeIn s closed
     → IsWhole closed (met_under (met_clocks s closed) x k t l)
@@ -308,45 +288,56 @@ sources_whole s closed l x t Write each =
     whole_join closed (met_clocks s closed l x Read t)
     (met_clocks s closed l x Write t) (each l x Read t) (each l x Write t)
 
-pub taken_on : (s : Sums) (closed : ℕ → List Closed) (x : ℕ) (k : AccessKind) (t : ℕ)
-    (old now new : StrictTables) (before after done : Done) (locks : List ℕ) (l : ℕ) → AreWholeIn s closed
-    → HasTaken s closed x k t old now before after locks
-    → rows_of new.thread
-    ≡ with_row t (join (rows_of now.thread t) (met_under (met_clocks s closed) x k t l)) (rows_of now.thread)
-    → rows_of new.lock ≡ rows_of now.lock → SameRoom now new
-    → done.joins ≤ after.joins + 2
-    → done.joins ≡ after.joins + joins_for (closed l) (rows_of now.thread t) (sources_of s l x k t)
-    → done.comparisons ≡ after.comparisons
-    → HasTaken s closed x k t old new before done (locks ++ l ∷ [])
-taken_on s closed x k t old now new before after done locks l each is threads lock kept joins exact
-    comparisons =
-    record {
-      threads = threads ∙ ap₂ (λ g f. with_row t g f) own is.threads
-          ∙ row_again t _ _ (rows_of old.thread)
-          ∙ ap (λ g. with_row t g (rows_of old.thread)) (sym (join_all_more source
-          (rows_of old.thread t) locks l));
-      lock = lock ∙ is.lock;
-      kept = room_then old now new is.kept kept;
-      whole = subst (IsWhole closed)
-          (sym (ap (λ (f : ℕ → ℕ → ℕ). f t) threads
-          ∙ row_same t (join (rows_of now.thread t) (source l)) (rows_of now.thread)))
-          (whole_join closed (rows_of now.thread t)
-          (source l) is.whole (sources_whole s closed l x t k each));
-      joins = (let n = length_push locks l in let j = is.joins in omega arith);
-      made = (let j = is.made in
-          let more = joins_more s closed x k t (rows_of old.thread t) locks l in
-          let here = ap (λ (g : ℕ → ℕ). joins_for (closed l) g (sources_of s l x k t)) taken in
-          omega arith);
-      comparisons = comparisons ∙ is.comparisons;
-    }
-  where
-    source : ℕ → ℕ → ℕ
-    source = met_under (met_clocks s closed) x k t
+module _ {s : Sums} {closed : ℕ → List Closed} {x : ℕ} {k : AccessKind} {t : ℕ} {old : StrictTables}
+    {before : Done} where
+  pub taken_begins : IsWhole closed (rows_of old.thread t) → HasTaken s closed x k t old old before before []
+  taken_begins whole = record {
+    threads = row_kept t (rows_of old.thread)
+        ∙ ap (λ g. with_row t g (rows_of old.thread)) (sym (join_nothing (rows_of old.thread t)));
+    lock = refl;
+    kept = room_same old;
+    whole = whole;
+    joins = omega arith;
+    made = omega arith;
+    comparisons = refl;
+  }
 
-    taken : rows_of now.thread t ≡ join (rows_of old.thread t) (join_all source locks)
-    taken = ap (λ (f : ℕ → ℕ → ℕ). f t) is.threads
-        ∙ row_same t (join (rows_of old.thread t) (join_all source locks)) (rows_of old.thread)
+  pub taken_on : {now new : StrictTables} {after done : Done} (locks : List ℕ) (l : ℕ) → AreWholeIn s closed
+      → HasTaken s closed x k t old now before after locks
+      → rows_of new.thread
+      ≡ with_row t (join (rows_of now.thread t) (met_under (met_clocks s closed) x k t l))
+      (rows_of now.thread)
+      → rows_of new.lock ≡ rows_of now.lock → SameRoom now new
+      → done.joins ≤ after.joins + 2
+      → done.joins ≡ after.joins + joins_for (closed l) (rows_of now.thread t) (sources_of s l x k t)
+      → done.comparisons ≡ after.comparisons
+      → HasTaken s closed x k t old new before done (locks ++ l ∷ [])
+  taken_on {now} {new} {after} {done} locks l each is threads lock kept joins exact comparisons = record {
+    threads = threads ∙ ap₂ (λ g f. with_row t g f) own is.threads
+        ∙ row_again t _ _ (rows_of old.thread)
+        ∙ ap (λ g. with_row t g (rows_of old.thread))
+        (sym (join_all_more source (rows_of old.thread t) locks l));
+    lock = lock ∙ is.lock;
+    kept = room_then old now new is.kept kept;
+    whole = subst (IsWhole closed)
+        (sym (ap (λ (f : ℕ → ℕ → ℕ). f t) threads
+        ∙ row_same t (join (rows_of now.thread t) (source l)) (rows_of now.thread)))
+        (whole_join closed (rows_of now.thread t) (source l) is.whole (sources_whole s closed l x t k each));
+    joins = (let n = length_push locks l in let j = is.joins in omega arith);
+    made = (let j = is.made in
+        let more = joins_more s closed x k t (rows_of old.thread t) locks l in
+        let here = ap (λ (g : ℕ → ℕ). joins_for (closed l) g (sources_of s l x k t)) taken in
+        omega arith);
+    comparisons = comparisons ∙ is.comparisons;
+  }
+    where
+      source : ℕ → ℕ → ℕ
+      source = met_under (met_clocks s closed) x k t
 
-    own : join (rows_of now.thread t) (source l)
-        ≡ join (join (rows_of old.thread t) (join_all source locks)) (source l)
-    own = ap (λ (g : ℕ → ℕ). join g (source l)) taken
+      taken : rows_of now.thread t ≡ join (rows_of old.thread t) (join_all source locks)
+      taken = ap (λ (f : ℕ → ℕ → ℕ). f t) is.threads
+          ∙ row_same t (join (rows_of old.thread t) (join_all source locks)) (rows_of old.thread)
+
+      own : join (rows_of now.thread t) (source l)
+          ≡ join (join (rows_of old.thread t) (join_all source locks)) (source l)
+      own = ap (λ (g : ℕ → ℕ). join g (source l)) taken

@@ -9,11 +9,11 @@ use Rattle.event_core.specs.declared.events.AccessKind.TheVariants.{Read, Write}
 use Rattle.event_core.specs.declared.events.Event.{Event}
 use Rattle.event_core.specs.Closed.{Closed, Has, first, later, is_counted, below_closed}
 use Rattle.event_core.specs.Rows.{Rows, no_clock, join, with_row, to_child, to_lock, brought}
-use Rattle.event_core.specs.Effect.{Effect, Accesses, Opens, Closes, Forks, Joins, Inner}
+use Rattle.event_core.specs.Effect.{Effect, Accesses, Opens, Closes, Forks, Joins}
 use Rattle.event_core.proofs.Members.{has_split}
 use Rattle.event_core.specs.Rows.{clock_after}
 use Rattle.wcp_laws.specs.State.{State}
-use Rattle.wcp_laws.specs.Step.{effect, after, hb_row, sources, join_all, extra, others_after, closed_after}
+use Rattle.wcp_laws.specs.Step.{effect, after, sources, join_all, extra, met_clock_after, closed_after}
 use Rattle.wcp_clocks.specs.Whole.{IsWhole, IsWholeWithin, AreWhole, own_of}
 use Rattle.wcp_clocks.proofs.Rows.{own_row}
 
@@ -34,17 +34,17 @@ within_join own closed f g a b = record {
 }
 
 -- where there are no releases
-pub none_whole : (s : State) → ((l x : ℕ) (k : AccessKind) (t u : ℕ) → s.others l x k t u ≡ 0)
+pub none_whole : (s : State) → ((l x : ℕ) (k : AccessKind) (t u : ℕ) → s.met_clock l x k t u ≡ 0)
     → ((t u : ℕ) → s.strict.thread t u ≡ 0) → ((l u : ℕ) → s.strict.lock l u ≡ 0)
     → ((t u : ℕ) → s.hb.thread t u ≡ 0) → ((l u : ℕ) → s.hb.lock l u ≡ 0)
     → ((l : ℕ) → s.closed l ≡ []) → AreWhole s
-none_whole s others strict strict_lock hb hb_lock closed = record {
+none_whole s met strict strict_lock hb hb_lock closed = record {
   none = it no_clock (λ u. refl);
   strict = λ t. it (s.strict.thread t) (strict t);
   strict_lock = λ l. it (s.strict.lock l) (strict_lock l);
   hb = λ t. it (s.hb.thread t) (hb t);
   hb_lock = λ l. it (s.hb.lock l) (hb_lock l);
-  others = λ l x k t. it (s.others l x k t) (others l x k t);
+  met = λ l x k t. it (s.met_clock l x k t) (met l x k t);
   closed = λ l q h. absurd (empty l q h);
 }
   where
@@ -57,13 +57,18 @@ none_whole s others strict strict_lock hb hb_lock closed = record {
       whole = λ l q has h u. absurd (empty l q has);
     }
 
--- an event of the thread, where it is effect k
-module _ (s : State) (t : ThreadId) (k : Effect) (w : AreWhole s)
-    (grows : (u : ℕ) → s.hb.thread u u
-    ≤ to_child k (clock_after t k s.hb) (with_row t.0 (clock_after t k s.hb) s.hb.thread) u u) where
+-- an event at which no thread's own number falls
+module _ (e : Event) (s : State) (w : AreWhole s)
+    (grows : (u : ℕ) → own_of s u ≤ own_of (after e s) u) where
+  abbrev t : ThreadId
+  t = e.thread
+
+  abbrev k : Effect
+  k = effect e s
+
   -- what is at or below the event, but for itself
-  abbrev met : ℕ → ℕ
-  met = join (s.hb.thread t.0) (brought k s.hb)
+  abbrev past : ℕ → ℕ
+  past = join (s.hb.thread t.0) (brought k s.hb)
 
   abbrev g : ℕ → ℕ
   g = clock_after t k s.hb
@@ -72,7 +77,7 @@ module _ (s : State) (t : ThreadId) (k : Effect) (w : AreWhole s)
   c = join (s.strict.thread t.0) (extra t k s)
 
   abbrev own : ℕ → ℕ
-  own u = to_child k g (with_row t.0 g s.hb.thread) u u
+  own = own_of (after e s)
 
   abbrev It : (ℕ → ℕ) → Type 0
   It f = IsWholeWithin (own_of s) s.closed f
@@ -87,17 +92,17 @@ module _ (s : State) (t : ThreadId) (k : Effect) (w : AreWhole s)
   next_both f h a b = within_join own (closed_after t.0 k g s) f h a b
 
   -- the event is its thread's next
-  one_more : g t.0 ≡ met t.0 + 1
-  one_more = ap (λ b. cond b (met t.0 + 1) (met t.0)) (eq-eqb t.0 t.0 refl)
+  one_more : g t.0 ≡ past t.0 + 1
+  one_more = ap (λ b. cond b (past t.0 + 1) (past t.0)) (eq-eqb t.0 t.0 refl)
 
-  unlike : (u : ℕ) → (u ≡ t.0 → ⊥) → g u ≡ met u
-  unlike u n = ap (λ b. cond b (met u + 1) (met u)) (ne_eqb u t.0 n)
+  unlike : (u : ℕ) → (u ≡ t.0 → ⊥) → g u ≡ past u
+  unlike u n = ap (λ b. cond b (past u + 1) (past u)) (ne_eqb u t.0 n)
 
-  met_below : (u : ℕ) → met u ≤ g u
-  met_below u = go (cases_eq u t.0)
+  past_below : (u : ℕ) → past u ≤ g u
+  past_below u = go (cases_eq u t.0)
     where
-      go : (u ≡ t.0) ⊎ (u ≡ t.0 → ⊥) → met u ≤ g u
-      go (inl e) = subst (λ v. met v ≤ g v) (sym e) (let m = one_more in omega arith)
+      go : (u ≡ t.0) ⊎ (u ≡ t.0 → ⊥) → past u ≤ g u
+      go (inl e) = subst (λ v. past v ≤ g v) (sym e) (let m = one_more in omega arith)
       go (inr n) = let m = unlike u n in omega arith
 
   -- no clock counts the event yet
@@ -125,10 +130,7 @@ module _ (s : State) (t : ThreadId) (k : Effect) (w : AreWhole s)
           either true h = split (has_split q (s.closed m.0) new h)
           either false h = inl (l, h)
       go (Forks u) h = inl (l, h)
-      go (Accesses y i) h = inl (l, h)
-      go (Opens m) h = inl (l, h)
-      go (Joins y) h = inl (l, h)
-      go Inner h = inl (l, h)
+      go _ h = inl (l, h)
 
   -- so each is whole after it too
   kept : (f : ℕ → ℕ) → It f → Next f
@@ -152,23 +154,20 @@ module _ (s : State) (t : ThreadId) (k : Effect) (w : AreWhole s)
       go : (k : Effect) → It (brought k r)
       go (Joins u) = threads u.0
       go (Opens l) = locks l.0
-      go (Accesses y i) = w.none
-      go (Closes m) = w.none
-      go (Forks y) = w.none
-      go Inner = w.none
+      go _ = w.none
 
-  met_whole : It met
-  met_whole = both (s.hb.thread t.0) (brought k s.hb) (w.hb t.0) (brought_whole s.hb w.hb w.hb_lock)
+  past_whole : It past
+  past_whole = both (s.hb.thread t.0) (brought k s.hb) (w.hb t.0) (brought_whole s.hb w.hb w.hb_lock)
 
   -- the event's own clock counts the releases before it
   old_whole : IsWhole s.closed g
   old_whole l q has h u = go (cases_eq q.thread t.0)
     where
-      from : q.release q.thread ≤ met q.thread → q.release u ≤ g u
-      from le = let p = met_whole.whole l q has le u in let b = met_below u in omega arith
+      from : q.release q.thread ≤ past q.thread → q.release u ≤ g u
+      from le = let p = past_whole.whole l q has le u in let b = past_below u in omega arith
 
       go : (q.thread ≡ t.0) ⊎ (q.thread ≡ t.0 → ⊥) → q.release u ≤ g u
-      go (inl e) = from (subst (λ n. q.release n ≤ met n) (sym e)
+      go (inl e) = from (subst (λ n. q.release n ≤ past n) (sym e)
           (let p = (w.closed l q has).within t.0 in omega arith))
       go (inr n) = from (let m = unlike q.thread n in omega arith)
 
@@ -182,7 +181,7 @@ module _ (s : State) (t : ThreadId) (k : Effect) (w : AreWhole s)
       within u (inl e) = subst (λ v. g v ≤ own v) (sym e)
           (let p = ap (λ (f : ℕ → ℕ). f t.0) (own_row k t.0 g s.hb.thread) in omega arith)
       within u (inr n) =
-          let m = unlike u n in let p = met_whole.within u in let q = grows u in omega arith
+          let m = unlike u n in let p = past_whole.within u in let q = grows u in omega arith
 
       go : (q : Closed) → Either q → q.release q.thread ≤ g q.thread → (u : ℕ) → q.release u ≤ g u
       go q (inl old) h u = old_whole old.0 q old.1 h u
@@ -190,10 +189,10 @@ module _ (s : State) (t : ThreadId) (k : Effect) (w : AreWhole s)
 
   -- what the event adds to its thread's strict clock
   sources_whole : (x : VarId) (j : AccessKind) (l : ℕ) → It (sources s x j t l)
-  sources_whole x Read l = w.others l x.0 Write t.0
+  sources_whole x Read l = w.met l x.0 Write t.0
   sources_whole x Write l =
-      both (s.others l x.0 Read t.0) (s.others l x.0 Write t.0) (w.others l x.0 Read t.0)
-      (w.others l x.0 Write t.0)
+      both (s.met_clock l x.0 Read t.0) (s.met_clock l x.0 Write t.0) (w.met l x.0 Read t.0)
+      (w.met l x.0 Write t.0)
 
   all_whole : (x : VarId) (j : AccessKind) (ls : List ℕ) → It (join_all (sources s x j t) ls)
   all_whole x j [] = w.none
@@ -219,8 +218,7 @@ module _ (s : State) (t : ThreadId) (k : Effect) (w : AreWhole s)
       go (Closes l) = closed_whole (s.strict.thread t.0) (s.closed l.0) (w.closed l.0)
       go (Opens l) = w.strict_lock l.0
       go (Joins u) = w.strict u.0
-      go (Forks u) = w.none
-      go Inner = w.none
+      go _ = w.none
 
   -- rows of which one is written
   written : (f : ℕ → ℕ → ℕ) (h : ℕ → ℕ) (u : ℕ) → ((v : ℕ) → Next (f v)) → Next h → (v : ℕ)
@@ -240,11 +238,7 @@ module _ (s : State) (t : ThreadId) (k : Effect) (w : AreWhole s)
 
       go : (r : Effect) → Next (to_child r h (with_row t.0 h f) v)
       go (Forks u) = written (with_row t.0 h f) h u.0 own_written it v
-      go (Accesses y i) = own_written v
-      go (Opens m) = own_written v
-      go (Closes m) = own_written v
-      go (Joins y) = own_written v
-      go Inner = own_written v
+      go _ = own_written v
 
   to_locks : (f : ℕ → ℕ → ℕ) (h : ℕ → ℕ) → ((l : ℕ) → Next (f l)) → Next h → (l : ℕ)
       → Next (to_lock k h f l)
@@ -252,29 +246,21 @@ module _ (s : State) (t : ThreadId) (k : Effect) (w : AreWhole s)
     where
       go : (r : Effect) → Next (to_lock r h f l)
       go (Closes m) = written f h m.0 each it l
-      go (Forks u) = each l
-      go (Accesses y i) = each l
-      go (Opens m) = each l
-      go (Joins y) = each l
-      go Inner = each l
+      go _ = each l
 
-  next_others : (l x : ℕ) (j : AccessKind) (v : ℕ) → Next (others_after t.0 k g s l x j v)
-  next_others l x j v = go k
+  next_met : (l x : ℕ) (j : AccessKind) (v : ℕ) → Next (met_clock_after t.0 k g s l x j v)
+  next_met l x j v = go k
     where
-      old : Next (s.others l x j v)
-      old = kept (s.others l x j v) (w.others l x j v)
+      old : Next (s.met_clock l x j v)
+      old = kept (s.met_clock l x j v) (w.met l x j v)
 
-      either : (b : Bool) → Next (cond b (join (s.others l x j v) g) (s.others l x j v))
-      either true = next_both (s.others l x j v) g old new_whole
+      either : (b : Bool) → Next (cond b (join (s.met_clock l x j v) g) (s.met_clock l x j v))
+      either true = next_both (s.met_clock l x j v) g old new_whole
       either false = old
 
-      go : (r : Effect) → Next (others_after t.0 r g s l x j v)
+      go : (r : Effect) → Next (met_clock_after t.0 r g s l x j v)
       go (Closes m) = either (nat_eq l m.0 && (not (nat_eq v t.0) && s.noted t.0 l x j))
-      go (Forks u) = old
-      go (Accesses y i) = old
-      go (Opens m) = old
-      go (Joins y) = old
-      go Inner = old
+      go _ = old
 
   next_closed : (l : ℕ) (q : Closed) → Has q (closed_after t.0 k g s l) → Next q.release
   next_closed l q has = go (member l q has)
@@ -283,27 +269,15 @@ module _ (s : State) (t : ThreadId) (k : Effect) (w : AreWhole s)
       go (inl old) = kept q.release (w.closed old.0 q old.1)
       go (inr new) = subst Next (sym new.1) new_whole
 
--- after the event all clocks are whole
-pub whole_after : (e : Event) (s : State) → AreWhole s → ((u : ℕ) → own_of s u ≤ own_of (after e s) u)
-    → AreWhole (after e s)
-whole_after e s w grows = record {
-  none = kept s t k w grows no_clock w.none;
-  strict = to_threads s t k w grows s.strict.thread (c s t k w grows)
-      (λ u. kept s t k w grows (s.strict.thread u) (w.strict u))
-      (kept s t k w grows (c s t k w grows) (strict_whole s t k w grows));
-  strict_lock = to_locks s t k w grows s.strict.lock (c s t k w grows)
-      (λ l. kept s t k w grows (s.strict.lock l) (w.strict_lock l))
-      (kept s t k w grows (c s t k w grows) (strict_whole s t k w grows));
-  hb = to_threads s t k w grows s.hb.thread (hb_row e s)
-      (λ u. kept s t k w grows (s.hb.thread u) (w.hb u)) (new_whole s t k w grows);
-  hb_lock = to_locks s t k w grows s.hb.lock (hb_row e s)
-      (λ l. kept s t k w grows (s.hb.lock l) (w.hb_lock l)) (new_whole s t k w grows);
-  others = next_others s t k w grows;
-  closed = next_closed s t k w grows;
-}
-  where
-    t : ThreadId
-    t = e.thread
-
-    k : Effect
-    k = effect e s
+  -- after the event all clocks are whole
+  pub whole_after : AreWhole (after e s)
+  whole_after = record {
+    none = kept no_clock w.none;
+    strict = to_threads s.strict.thread c (λ u. kept (s.strict.thread u) (w.strict u)) (kept c strict_whole);
+    strict_lock = to_locks s.strict.lock c (λ l. kept (s.strict.lock l) (w.strict_lock l))
+        (kept c strict_whole);
+    hb = to_threads s.hb.thread g (λ u. kept (s.hb.thread u) (w.hb u)) new_whole;
+    hb_lock = to_locks s.hb.lock g (λ l. kept (s.hb.lock l) (w.hb_lock l)) new_whole;
+    met = next_met;
+    closed = next_closed;
+  }

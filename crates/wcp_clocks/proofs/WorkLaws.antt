@@ -8,7 +8,7 @@ use Rattle.event_core.specs.declared.ids.ThreadId.{ThreadId}
 use Rattle.event_core.specs.Closed.{number_counted}
 use Rattle.event_core.specs.Refusal.{WellFormed}
 use Rattle.event_core.specs.Rows.{with_row}
-use Rattle.event_core.specs.Effect.{Effect, Accesses, Opens, Closes, Forks, Joins, Inner}
+use Rattle.event_core.specs.Effect.{Effect, Accesses, Closes}
 use Rattle.event_core.proofs.Counting.{grown_length}
 use Rattle.event_core.proofs.Growing.{row_same}
 use Rattle.event_core.proofs.Growth.{well_formed_front}
@@ -23,16 +23,12 @@ use Rattle.wcp_clocks.specs.WorkWithin.{NoWork, SameWork, WorkStep, LittleWork}
 use Rattle.wcp_clocks.specs.WorkWithin.{FewComparisonsInAll}
 use Rattle.wcp_clocks.proofs.Conditions.{log_within, closed_few}
 use Rattle.wcp_clocks.proofs.HeldLocks.{held_within}
-use Rattle.wcp_clocks.proofs.Named.{thread_within, closed_within}
+use Rattle.wcp_clocks.proofs.WithinLimits.{thread_within, closed_within}
 
 -- the joins of one event
 joins_within : (k : Effect) (held locks : ℕ) → held ≤ locks → most_joins k held ≤ 2 * locks + 3
 joins_within (Accesses x k) held locks few = omega arith
-joins_within (Opens l) held locks few = omega arith
-joins_within (Closes l) held locks few = omega arith
-joins_within (Forks u) held locks few = omega arith
-joins_within (Joins u) held locks few = omega arith
-joins_within Inner held locks few = omega arith
+joins_within _ held locks few = omega arith
 
 -- where nothing is compared, nothing more is found
 none_compared : (m : Limits) (old new : Parts) (n : ℕ) → new.work.comparisons ≡ old.work.comparisons
@@ -67,12 +63,9 @@ comparisons_within m t (Closes l) old new n thread lock few found was =
   where
     count : ℕ
     count = number_counted ((state_of old).strict.thread t.0) ((state_of old).closed l.0)
-comparisons_within m t (Opens l) old new n thread lock few found was = none_compared m old new n few found was
 comparisons_within m t (Accesses x k) old new n thread lock few found was =
     none_compared m old new n few found was
-comparisons_within m t (Forks u) old new n thread lock few found was = none_compared m old new n few found was
-comparisons_within m t (Joins u) old new n thread lock few found was = none_compared m old new n few found was
-comparisons_within m t Inner old new n thread lock few found was = none_compared m old new n few found was
+comparisons_within m t _ old new n thread lock few found was = none_compared m old new n few found was
 
 pub no_work : NoWork
 no_work limits p none = record {

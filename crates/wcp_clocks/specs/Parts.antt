@@ -1,5 +1,5 @@
 -- What the parts of the clocks mean together.
-use Rattle.std.specs.Prelude.{◌≡◌, ℕ, ◌+◌, ◌*◌, ◌<◌, ◌≤◌, ◌↔◌, length, IsTrue}
+use Rattle.std.specs.Prelude.{◌≡◌, ℕ, ◌+◌, ◌*◌, ◌<◌, ◌≤◌, ◌↔◌, List, length, IsTrue}
 use Rattle.event_core.specs.declared.ids.ThreadId.{ThreadId}
 use Rattle.event_core.specs.declared.ids.LockId.{LockId}
 use Rattle.event_core.specs.declared.events.Op.{Op}
@@ -12,15 +12,16 @@ use Rattle.hb_clocks.specs.State.{HbState}
 use Rattle.hb_clocks.specs.Stands.{Admits, IsFew}
 use Rattle.hb_clocks.specs.Tables as hb
 use Rattle.hb_clocks.specs.Work.{Done}
-use Rattle.section_sum.specs.Sums.{noted_of, HasRoom, IsAlone}
+use Rattle.section_sum.specs.Sums.{Sums, noted_of, HasRoom, IsAlone}
 use Rattle.lock_queues.specs.Sections.{latest_counted}
-use Rattle.lock_queues.specs.Queues.{closed_of, opened_of, found_of, has_room}
+use Rattle.lock_queues.specs.Queues.{Tables as Queues, closed_of, opened_of, found_of, has_room}
 use Rattle.wcp_laws.specs.State.{State}
 use Rattle.wcp_laws.specs.Step.{effect, after}
 use Rattle.wcp_laws.specs.Conditions.{IsSound, CursorsStand}
 use Rattle.wcp_clocks.specs.declared.parts.Parts.{Parts}
-use Rattle.wcp_clocks.specs.HeldLists.{list_at, held_of, room_at}
+use Rattle.wcp_clocks.specs.HeldLists.{HeldList, list_at, held_of, room_at}
 use Rattle.wcp_clocks.specs.StrictRows.{StrictTables, strict_of, HasThread, HasLock}
+use Rattle.wcp_clocks.specs.StrictRows.{IsReady as RowsAreReady}
 use Rattle.wcp_clocks.specs.Met.{met_clocks, AreNumbers, joins_under, joins_latest}
 use Rattle.wcp_clocks.specs.Whole.{AreWhole, own_of}
 
@@ -37,7 +38,7 @@ state_of p = record {
   opened = opened_of p.queues;
   held = held_of p.held;
   noted = noted_of p.sums;
-  others = met_clocks p.sums (closed_of p.queues);
+  met_clock = met_clocks p.sums (closed_of p.queues);
   closed = closed_of p.queues;
 }
 
@@ -63,40 +64,18 @@ pub record AreOrdered (rows : StrictTables) (order : hb.Tables) : Type 0 where
   pub thread : (t : ThreadId) → HasThread rows t.0 → hb.HasThread order.width order.po order.hb t.0
   pub lock : (l : LockId) → HasLock rows l.0 → (t : ThreadId) × hb.IsReady order t (Release l)
 
--- the room that the operation needs beside that of happens-before and of its thread's clocks
-abbrev pub HasNamed : Parts → ThreadId → Op → Type 0
-HasNamed p t (Load x) = HasRoom p.sums (list_at p.held t.0).locks x.0
-HasNamed p t (Store x) = HasRoom p.sums (list_at p.held t.0).locks x.0
-HasNamed p t (Acquire l) = HasLock p.rows l.0 × IsTrue (has_room p.queues t.0 l.0) × (0 < room_at p.held t.0)
-HasNamed p t (Release l) = HasLock p.rows l.0
-HasNamed p t (Fork u) = HasThread p.rows u.0
-HasNamed p t (Join u) = HasThread p.rows u.0
-
--- the lock or the thread that the operation names has its strict clocks
-abbrev pub HasNamedClock : StrictTables → Op → Type 0
-HasNamedClock rows (Acquire l) = HasLock rows l.0
-HasNamedClock rows (Release l) = HasLock rows l.0
-HasNamedClock rows (Fork u) = HasThread rows u.0
-HasNamedClock rows (Join u) = HasThread rows u.0
-HasNamedClock rows _ = Unit {0}
-
--- and so has the operation's thread
-pub record HasClocks (rows : StrictTables) (t : ThreadId) (op : Op) : Type 0 where
-  pub thread : HasThread rows t.0
-  pub named : HasNamedClock rows op
-
 -- what the operation needs beside clocks
-abbrev pub HasPlaces : Parts → ThreadId → Op → Type 0
-HasPlaces p t (Load x) = HasRoom p.sums (list_at p.held t.0).locks x.0
-HasPlaces p t (Store x) = HasRoom p.sums (list_at p.held t.0).locks x.0
-HasPlaces p t (Acquire l) = IsTrue (has_room p.queues t.0 l.0) × (0 < room_at p.held t.0)
-HasPlaces p t _ = Unit {0}
+abbrev pub HasPlaces : Sums → Queues → List HeldList → ThreadId → Op → Type 0
+HasPlaces sums queues held t (Load x) = HasRoom sums (list_at held t.0).locks x.0
+HasPlaces sums queues held t (Store x) = HasRoom sums (list_at held t.0).locks x.0
+HasPlaces sums queues held t (Acquire l) = IsTrue (has_room queues t.0 l.0) × (0 < room_at held t.0)
+HasPlaces sums queues held t _ = Unit {0}
 
 -- there is room for the thread's operation
 pub record IsReady (p : Parts) (t : ThreadId) (op : Op) : Type 0 where
   pub hb : hb.IsReady p.hb t op
-  pub thread : HasThread p.rows t.0
-  pub named : HasNamed p t op
+  pub rows : RowsAreReady p.rows t op
+  pub places : HasPlaces p.sums p.queues p.held t op
 
 -- what is asked of the numbers at the event, with no log
 pub record Fits (e : Event) (p : Parts) : Type 0 where

@@ -8,7 +8,7 @@ use Rattle.hb_clocks.specs.Tables.{KeepsRoom as KeepsOrder}
 use Rattle.section_sum.specs.Sums.{noted_of}
 use Rattle.lock_queues.specs.Queues.{closed_of, opened_of}
 use Rattle.wcp_laws.specs.Step.{effect, after, hb_row, extra, opened_after, held_after, noted_after}
-use Rattle.wcp_laws.specs.Step.{others_after, closed_after}
+use Rattle.wcp_laws.specs.Step.{met_clock_after, closed_after}
 use Rattle.wcp_laws.specs.Conditions.{found_at}
 use Rattle.wcp_clocks.specs.declared.parts.Parts.{Parts}
 use Rattle.wcp_clocks.specs.HeldLists.{held_of}
@@ -46,8 +46,8 @@ pub record IsStepBy (e : Event) (k : Effect) (old new : Parts) : Type 0 where
       ≡ opened_after e.thread.0 k (hb_row e (state_of old) e.thread.0) (opened_of old.queues)
   pub held : held_of new.held ≡ held_after e.thread.0 k (held_of old.held)
   pub noted : noted_of new.sums ≡ noted_after e.thread.0 k (hb_of old).depth (noted_of old.sums)
-  pub others : met_clocks new.sums (closed_of new.queues)
-      ≡ others_after e.thread.0 k (hb_row e (state_of old)) (state_of old)
+  pub met : met_clocks new.sums (closed_of new.queues)
+      ≡ met_clock_after e.thread.0 k (hb_row e (state_of old)) (state_of old)
   pub numbers : AreNumbers new.sums (closed_of new.queues)
   pub closed : closed_of new.queues ≡ closed_after e.thread.0 k (hb_row e (state_of old)) (state_of old)
   pub found : found_in new ≡ found_at e.thread k (state_of old) (found_in old)

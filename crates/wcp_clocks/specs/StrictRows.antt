@@ -1,7 +1,11 @@
 -- The tables of strict clocks: what they mean, and the room in them.
-use Rattle.std.specs.Prelude.{◌≡◌, ℕ, ◌<◌, List, replicate}
+use Rattle.std.specs.Prelude.{◌≡◌, ℕ, ◌*◌, ◌<◌, ◌≤◌, List, max, replicate}
+use Rattle.event_core.specs.declared.ids.ThreadId.{ThreadId}
+use Rattle.event_core.specs.declared.events.Op.{Op}
+use Rattle.event_core.specs.declared.events.Op.TheVariants.{Acquire, Release, Fork, Join}
 use Rattle.event_core.specs.Rows.{Rows}
 use Rattle.hb_clocks.specs.Rows.{rows_of, IsMade, AreWide}
+use Rattle.hb_clocks.specs.Tables.{IsThreadFor, IsLockOf, threads_for, locks_for}
 
 -- a clock for each thread and one for each lock; none of numbers where none was made
 pub record StrictTables : Type 0 where
@@ -23,6 +27,27 @@ pub record HasThread (c : StrictTables) (t : ℕ) : Type 0 where
 -- the clock of the lock was made
 pub record HasLock (c : StrictTables) (l : ℕ) : Type 0 where
   pub made : IsMade c.width c.lock l
+
+-- the lock or the thread that the operation names has its clock
+abbrev pub HasNamed : StrictTables → Op → Type 0
+HasNamed c (Acquire l) = HasLock c l.0
+HasNamed c (Release l) = HasLock c l.0
+HasNamed c (Fork u) = HasThread c u.0
+HasNamed c (Join u) = HasThread c u.0
+HasNamed c _ = Unit {0}
+
+-- and so has the operation's thread
+pub record IsReady (c : StrictTables) (t : ThreadId) (op : Op) : Type 0 where
+  pub thread : HasThread c t.0
+  pub named : HasNamed c op
+
+-- no clock was made but of the threads and the lock that the operation names, and no table has memory for
+-- more than twice as many rows as it needs, or had it before
+pub record GrownFor (old new : StrictTables) (t : ThreadId) (op : Op) : Type 0 where
+  pub thread : (u : ℕ) → (IsThreadFor t op u → ⊥) → HasThread new u → HasThread old u
+  pub lock : (l : ℕ) → (IsLockOf op l → ⊥) → HasLock new l → HasLock old l
+  pub thread_room : new.thread_room ≤ max old.thread_room (2 * threads_for t op)
+  pub lock_room : new.lock_room ≤ max old.lock_room (2 * locks_for op)
 
 -- what had room has room, in clocks of the same width
 pub record KeepsRoom (old new : StrictTables) : Type 0 where

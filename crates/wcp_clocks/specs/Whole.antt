@@ -26,5 +26,5 @@ pub record AreWhole (s : State) : Type 0 where
   pub strict_lock : (l : ℕ) → IsWholeWithin (own_of s) s.closed (s.strict.lock l)
   pub hb : (t : ℕ) → IsWholeWithin (own_of s) s.closed (s.hb.thread t)
   pub hb_lock : (l : ℕ) → IsWholeWithin (own_of s) s.closed (s.hb.lock l)
-  pub others : (l x : ℕ) (k : AccessKind) (t : ℕ) → IsWholeWithin (own_of s) s.closed (s.others l x k t)
+  pub met : (l x : ℕ) (k : AccessKind) (t : ℕ) → IsWholeWithin (own_of s) s.closed (s.met_clock l x k t)
   pub closed : (l : ℕ) (q : Closed) → Has q (s.closed l) → IsWholeWithin (own_of s) s.closed q.release

@@ -17,7 +17,7 @@ ghost use Rattle.event_core.specs.Rows.{Counted, join};
 ghost use Rattle.event_core.specs.Wcp.{Strict, Below};
 ghost use Rattle.hb_clocks.specs.Counts.{counts_of};
 ghost use Rattle.hb_clocks.specs.Marks.{IsLatest};
-ghost use Rattle.hb_clocks.specs.State.{empty as hb_empty, after as hb_after};
+ghost use Rattle.hb_clocks.specs.State.{after as hb_after};
 ghost use Rattle.hb_clocks.specs.Stands.{IsHeldRelease};
 ghost use Rattle.wcp_laws.specs.State.{empty};
 ghost use Rattle.wcp_laws.specs.Step.{after, effect};
@@ -29,10 +29,14 @@ ghost use Rattle.wcp_clocks.specs.Growth.{GrownFor, MadeFor, SameMade};
 ghost use Rattle.wcp_clocks.specs.StandsFor.{StandsFor};
 
 use crate::effects::step;
+use crate::holdings::Holdings;
 use crate::parts::Parts;
-use crate::room::{are_ready, make_ready, new_parts, prepare_parts};
+use crate::room::{has_places, make_clocks, make_places, make_places_ready};
+use crate::strict::StrictRows;
 use event_core::{Event, Limits, Op, OutOfMemory, ThreadId};
-use hb_clocks::JoinedClocks;
+use hb_clocks::{HbClocks, JoinedClocks};
+use lock_queues::Queues;
+use section_sum::Summaries;
 use std::alloc::Global;
 use std::marker::Model;
 
@@ -64,8 +68,18 @@ impl WcpClocks {
         ensures stands { IfOk result (λ made. StandsFor [] made) }
         ensures no_work { IfOk result (λ made. work_of made ≡ record { comparisons = 0; joins = 0 }) }
     {
+        let rows = StrictRows::new(alloc, limits.threads() as usize)?;
+        let (hb, work, releases) = HbClocks::new(alloc, limits)?;
+        let queues = Queues::new(alloc, limits, releases)?;
         Ok(WcpClocks {
-            parts: new_parts(alloc, limits)?,
+            parts: Parts {
+                hb,
+                rows,
+                sums: Summaries::new(alloc),
+                queues,
+                held: Holdings::new(alloc),
+                work,
+            },
         })
     }
 
@@ -82,7 +96,17 @@ impl WcpClocks {
         ensures made { MadeFor self.old self.new thread op }
         ensures limits { SameLimits self.old self.new }
     {
-        prepare_parts(&mut self.parts, thread, op)
+        if self.ready(thread, op) {
+            return Ok(());
+        }
+        make_clocks(&mut self.parts.hb, &mut self.parts.rows, thread, op)?;
+        make_places(
+            &mut self.parts.sums,
+            &mut self.parts.queues,
+            &mut self.parts.held,
+            thread,
+            op,
+        )
     }
 
     /// Whether there is room for the operation. There is for each release by a holder.
@@ -91,7 +115,14 @@ impl WcpClocks {
         ensures ready { IsTrue result ↔ IsReady self.now thread op }
         ensures releases { IsHeldRelease (hb_of self.now) thread op → IsTrue result }
     {
-        are_ready(&self.parts, thread, op)
+        self.parts.rows.ready(thread, op)
+            && has_places(
+                &self.parts.sums,
+                &self.parts.queues,
+                &self.parts.held,
+                thread,
+                op,
+            )
     }
 
     /// Whether there is room for the operation, as `ready` tells, once room for an access is made, and room
@@ -108,7 +139,14 @@ impl WcpClocks {
         ensures made { SameMade self.old self.new }
         ensures limits { SameLimits self.old self.new }
     {
-        make_ready(&mut self.parts, thread, op)
+        self.parts.rows.ready(thread, op)
+            && make_places_ready(
+                &mut self.parts.sums,
+                &mut self.parts.queues,
+                &self.parts.held,
+                thread,
+                op,
+            )
     }
 
     /// The event joins the log that the clocks stand for.

@@ -52,7 +52,7 @@ impl Holding {
     }
 
     // Makes room for one lock more.
-    fn make_room(&mut self) -> Result<(), OutOfMemory>
+    fn prepare(&mut self) -> Result<(), OutOfMemory>
         ensures same { self.new.locks ≡ self.old.locks }
         ensures more { self.old.room ≤ self.new.room }
         ensures room { OnOk result (0 < self.new.room) }
@@ -126,7 +126,7 @@ impl Holdings {
     }
 
     // Makes room for one lock more of the thread.
-    pub(crate) fn make_room(&mut self, thread: ThreadId) -> Result<(), OutOfMemory>
+    pub(crate) fn prepare(&mut self, thread: ThreadId) -> Result<(), OutOfMemory>
         ensures same { held_of self.new ≡ held_of self.old }
         ensures kept { KeepsPlaces self.old self.new }
         ensures room { OnOk result (0 < room_at self.new thread.0) }
@@ -135,7 +135,7 @@ impl Holdings {
         let at = thread.0 as usize;
         let alloc = self.alloc;
         grow_to(&mut self.lists, at + 1, || Holding::new(alloc))?;
-        make_room_at(&mut self.lists, at)
+        prepare_at(&mut self.lists, at)
     }
 
     // Whether there is room for one lock more of the thread.
@@ -165,7 +165,7 @@ impl Holdings {
     }
 }
 
-fn make_room_at(lists: &mut [Holding], at: usize) -> Result<(), OutOfMemory>
+fn prepare_at(lists: &mut [Holding], at: usize) -> Result<(), OutOfMemory>
     requires { at < length lists.old }
     ensures same { held_of lists.new ≡ held_of lists.old }
     ensures kept { KeepsPlaces lists.old lists.new }
@@ -176,7 +176,7 @@ fn make_room_at(lists: &mut [Holding], at: usize) -> Result<(), OutOfMemory>
     ensures others { (u : ℕ) → u ≢ at → list_at lists.new u ≡ list_at lists.old u }
 {
     let list = &mut lists[at];
-    list.make_room()
+    list.prepare()
 }
 
 fn add_at(lists: &mut [Holding], at: usize, lock: LockId)

@@ -6,9 +6,9 @@ ghost use Rattle.hb_clocks.specs.Counts.{counts_of};
 ghost use Rattle.hb_clocks.specs.Released.{thread_of, before_of, clock_of};
 ghost use Rattle.hb_clocks.specs.Rows.{row_at};
 ghost use Rattle.wcp_clocks.specs.StrictRows.{strict_of, HasThread, HasLock, KeepsRoom, SameRoom};
-ghost use Rattle.wcp_clocks.specs.StrictRows.{SameClocks};
+ghost use Rattle.wcp_clocks.specs.StrictRows.{SameClocks, IsReady, GrownFor};
 
-use event_core::{LockId, OutOfMemory, ThreadId};
+use event_core::{LockId, Op, OutOfMemory, ThreadId};
 use hb_clocks::rows::{
     copy_row, copy_rows, is_made, join_row, join_row_release, join_rows, make_row, row_or,
 };
@@ -65,8 +65,36 @@ impl StrictRows {
         })
     }
 
+    // Makes the clocks of the thread and of what the operation names, where they were not made.
+    pub(crate) fn prepare(&mut self, thread: ThreadId, op: Op) -> Result<(), OutOfMemory>
+        ensures same { SameClocks self.old self.new }
+        ensures kept { KeepsRoom self.old self.new }
+        ensures ready { OnOk result (IsReady self.new thread op) }
+        ensures grown { GrownFor self.old self.new thread op }
+    {
+        self.make_thread(thread)?;
+        match op {
+            Op::Acquire(lock) | Op::Release(lock) => self.make_lock(lock),
+            Op::Fork(child) | Op::Join(child) => self.make_thread(child),
+            Op::Load(_) | Op::Store(_) => Ok(()),
+        }
+    }
+
+    // Whether the clocks of the thread and of what the operation names were made.
+    #[inline(always)]
+    pub(crate) fn ready(&self, thread: ThreadId, op: Op) -> bool
+        ensures { IsTrue result ↔ IsReady self.now thread op }
+    {
+        self.has_thread(thread)
+            && match op {
+                Op::Acquire(lock) | Op::Release(lock) => self.has_lock(lock),
+                Op::Fork(child) | Op::Join(child) => self.has_thread(child),
+                Op::Load(_) | Op::Store(_) => true,
+            }
+    }
+
     // Makes the clock of the thread.
-    pub(crate) fn make_thread(&mut self, thread: ThreadId) -> Result<(), OutOfMemory>
+    fn make_thread(&mut self, thread: ThreadId) -> Result<(), OutOfMemory>
         ensures same { SameClocks self.old self.new }
         ensures kept { KeepsRoom self.old self.new }
         ensures made { OnOk result (HasThread self.new thread.0) }
@@ -79,7 +107,7 @@ impl StrictRows {
     }
 
     // Makes the clock of the lock.
-    pub(crate) fn make_lock(&mut self, lock: LockId) -> Result<(), OutOfMemory>
+    fn make_lock(&mut self, lock: LockId) -> Result<(), OutOfMemory>
         ensures same { SameClocks self.old self.new }
         ensures kept { KeepsRoom self.old self.new }
         ensures made { OnOk result (HasLock self.new lock.0) }
@@ -92,14 +120,16 @@ impl StrictRows {
     }
 
     // Whether the clock of the thread was made.
-    pub(crate) fn has_thread(&self, thread: ThreadId) -> bool
+    #[inline(always)]
+    fn has_thread(&self, thread: ThreadId) -> bool
         ensures { IsTrue result ↔ HasThread self.now thread.0 }
     {
         is_made(&self.threads, self.width, thread.0 as usize)
     }
 
     // Whether the clock of the lock was made.
-    pub(crate) fn has_lock(&self, lock: LockId) -> bool
+    #[inline(always)]
+    fn has_lock(&self, lock: LockId) -> bool
         ensures { IsTrue result ↔ HasLock self.now lock.0 }
     {
         is_made(&self.locks, self.width, lock.0 as usize)

@@ -1,5 +1,5 @@
 -- At each legal event the numbers are as the step asks, with no log.
-use Rattle.std.proofs.Common.{◌≡◌, ◌<◌, ◌≤◌, ◌+◌, List, [], ◌∷◌, ◌++◌, arith, take}
+use Rattle.std.proofs.Common.{◌≡◌, ◌<◌, ◌+◌, List, [], ◌∷◌, ◌++◌, arith, take}
 use Rattle.event_core.specs.declared.bounds.Limits.{Limits}
 use Rattle.event_core.specs.declared.events.Event.{Event}
 use Rattle.event_core.specs.declared.ids.LockId.{LockId}
@@ -30,23 +30,13 @@ opened_before limits log e s w st l is =
     = st.opened e.thread l section.0 section.1 in
     omega arith
 
--- a thread's strict clock counts no more of its events than there are
-own_within : (log : List Event) (e : Event) (s : State) → Stands log s
-    → s.strict.thread e.thread.0 e.thread.0 ≤ s.hb.thread e.thread.0 e.thread.0
-own_within log e s st =
-    let own : s.hb.thread e.thread.0 e.thread.0 ≡ events_of log e.thread = st.own e.thread in
-    let within : s.strict.thread e.thread.0 e.thread.0 ≤ events_of log e.thread
-    = (st.strict.thread e.thread e.thread).within in
-    omega arith
-
 -- at each legal event the numbers are so
 pub sound_where_legal : (limits : Limits) (log : List Event) (e : Event) (s : State)
     → WellFormed limits (log ++ e ∷ []) → Stands log s → IsSound e s
 sound_where_legal limits log e s w st = record {
   above_closed = λ l q u is h. (releases_above limits log e s l w st is).0 q u h;
-  above_others = λ l x k t u is. (releases_above limits log e s l w st is).1 x k t u;
+  above_met = λ l x k t u is. (releases_above limits log e s l w st is).1 x k t u;
   earlier =
       λ l p q. counted_earlier limits log s l e.thread p q (well_formed_front limits log (e ∷ []) w) st;
-  own_strict = own_within log e s st;
   opened = opened_before limits log e s w st;
 }

@@ -9,7 +9,7 @@ use Rattle.event_core.specs.declared.ids.ThreadId.{ThreadId}
 use Rattle.event_core.specs.Closed.{Closed, is_counted, number_counted}
 use Rattle.event_core.specs.Refusal.{WellFormed}
 use Rattle.event_core.specs.Rows.{with_row}
-use Rattle.event_core.specs.Effect.{Effect, Accesses, Opens, Closes, Forks, Joins, Inner}
+use Rattle.event_core.specs.Effect.{Effect, Closes}
 use Rattle.event_core.proofs.Depth.{lock_cases, same_lock_id, same_thread_id}
 use Rattle.event_core.proofs.Growing.{row_same, row_other, cell_same, cell_other}
 use Rattle.wcp_laws.specs.Conditions.{CursorsStand, found_at}
@@ -55,11 +55,6 @@ number_longer c (q ∷ qs) rs =
 -- an event takes no closed section away
 number_after : (c : ℕ → ℕ) (t : ℕ) (k : Effect) (g : ℕ → ℕ) (s : State) (l : LockId)
     → number_counted c (s.closed l.0) ≤ number_counted c (closed_after t k g s l.0)
-number_after c t (Accesses x j) g s l = omega arith
-number_after c t (Opens n) g s l = omega arith
-number_after c t (Forks u) g s l = omega arith
-number_after c t (Joins u) g s l = omega arith
-number_after c t Inner g s l = omega arith
 number_after c t (Closes n) g s l = go (lock_cases n l)
   where
     entry : Closed
@@ -78,15 +73,11 @@ number_after c t (Closes n) g s l = go (lock_cases n l)
     go (inr other) =
         subst (λ qs. number_counted c (s.closed l.0) ≤ number_counted c qs)
         (sym (row_other n.0 longer s.closed l.0 (λ q. other (same_lock_id (sym q))))) (omega arith)
+number_after c t _ g s l = omega arith
 
 -- what an event finds counted is so before it
 found_stands : (t : ThreadId) (k : Effect) (s : State) (f : ℕ → ℕ → ℕ) → CursorsStand s f
     → CursorsStand s (found_at t k s f)
-found_stands t (Accesses x j) s f stand l u = stand l u
-found_stands t (Opens n) s f stand l u = stand l u
-found_stands t (Forks v) s f stand l u = stand l u
-found_stands t (Joins v) s f stand l u = stand l u
-found_stands t Inner s f stand l u = stand l u
 found_stands t (Closes n) s f stand l u = go (cell_cases t u n l)
   where
     new : ℕ → ℕ → ℕ
@@ -106,6 +97,7 @@ found_stands t (Closes n) s f stand l u = go (cell_cases t u n l)
         (λ p q. other (same_thread_id (sym q)) (same_lock_id (sym p))) in
         let old : f l.0 u.0 ≤ number l.0 u.0 = stand l u in
         omega arith
+found_stands t _ s f stand l u = stand l u
 
 -- what was found counted stays so
 pub cursors_step : (limits : Limits) (log : List Event) (e : Event) (s : State) (f : ℕ → ℕ → ℕ)

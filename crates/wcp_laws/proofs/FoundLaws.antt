@@ -11,9 +11,9 @@ use Rattle.event_core.specs.Closed.{Closed, number_counted}
 use Rattle.event_core.specs.Count.{events_of}
 use Rattle.event_core.specs.Rows.{with_row}
 use Rattle.event_core.specs.declared.events.Op.{Op}
-use Rattle.event_core.specs.declared.events.Op.TheVariants.{Load, Store, Acquire, Release, Fork, Join}
+use Rattle.event_core.specs.declared.events.Op.TheVariants.{Acquire, Release}
 use Rattle.event_core.specs.Log.{depth}
-use Rattle.event_core.specs.Effect.{Effect, Accesses, Opens, Closes, Forks, Joins, Inner, effect_of}
+use Rattle.event_core.specs.Effect.{Effect, Opens, Closes, Inner, effect_of}
 use Rattle.event_core.specs.declared.bounds.Limits.{Limits}
 use Rattle.event_core.specs.Refusal.{WellFormed}
 use Rattle.event_core.proofs.Counting.{events_own, events_other, grown_length}
@@ -60,20 +60,11 @@ found_own log e s f own k l t none = go (thread_cases e.thread t)
         kept (Closes n) =
             cell_other n.0 e.thread.0 (number_counted (s.strict.thread e.thread.0) (s.closed n.0)) f l.0 t.0
             (λ p q. other (same_thread_id (sym q)))
-        kept (Accesses x j) = refl
-        kept (Opens n) = refl
-        kept (Forks u) = refl
-        kept (Joins u) = refl
-        kept Inner = refl
+        kept _ = refl
 
 -- an event closes one section at most
 closes_one : (locks t : ℕ) (k : Effect) (g : ℕ → ℕ) (s : State)
     → total_closed locks (closed_after t k g s) ≤ total_closed locks s.closed + 1
-closes_one locks t (Accesses x k) g s = omega arith
-closes_one locks t (Opens l) g s = omega arith
-closes_one locks t (Forks u) g s = omega arith
-closes_one locks t (Joins u) g s = omega arith
-closes_one locks t Inner g s = omega arith
 closes_one locks t (Closes l) g s = go (cases_lt l.0 locks)
   where
     entry : Closed
@@ -103,16 +94,13 @@ closes_one locks t (Closes l) g s = go (cases_lt l.0 locks)
         let same : sum_below new locks ≡ total_closed locks s.closed
         = sum_same locks (λ a. length (s.closed a)) new (λ a lt. other a (λ q. omega arith)) in
         omega arith
+closes_one locks t _ g s = omega arith
 
 -- an event that is no closing release closes none
 closes_none : (locks t : ℕ) (k : Effect) (g : ℕ → ℕ) (s : State) → ((l : LockId) → k ≡ Closes l → ⊥)
     → total_closed locks (closed_after t k g s) ≡ total_closed locks s.closed
-closes_none locks t (Accesses x k) g s n = refl
-closes_none locks t (Opens l) g s n = refl
-closes_none locks t (Forks u) g s n = refl
-closes_none locks t (Joins u) g s n = refl
-closes_none locks t Inner g s n = refl
 closes_none locks t (Closes l) g s n = absurd (n l refl)
+closes_none locks t _ g s n = refl
 
 -- nothing is held at first, so the first event is none
 first_closes_none : (e : Event) (s : State) → Stands [] s → (l : LockId) → effect e s ≡ Closes l → ⊥
@@ -123,12 +111,9 @@ first_closes_none e s st l = go e.op
     none m = st.depths e.thread m
 
     go : (op : Op) → effect_of (s.depth e.thread.0) op ≡ Closes l → ⊥
-    go (Load x) q = absurd (cc q)
-    go (Store x) q = absurd (cc q)
     go (Acquire m) q = absurd (cc (sym (ap (λ d. cond (nat_eq d 0) (Opens m) Inner) (none m)) ∙ q))
     go (Release m) q = absurd (cc (sym (ap (λ d. cond (nat_eq d 1) (Closes m) Inner) (none m)) ∙ q))
-    go (Fork u) q = absurd (cc q)
-    go (Join u) q = absurd (cc q)
+    go _ q = absurd (cc q)
 
 -- a closing release has an event before it
 pub closes_after_first : (log : List Event) (e : Event) (s : State) → Stands log s → (l : LockId)

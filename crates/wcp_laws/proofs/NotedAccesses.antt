@@ -20,16 +20,14 @@ use Rattle.wcp_laws.specs.Step.{kind_eq, noted_after}
 
 -- the test of kinds
 kind_eq_is : (a b : AccessKind) → kind_eq a b ≡ true → a ≡ b
-kind_eq_is Read Read h = refl
-kind_eq_is Write Write h = refl
 kind_eq_is Read Write h = absurd cc
 kind_eq_is Write Read h = absurd cc
+kind_eq_is _ _ h = refl
 
 kind_eq_same : (a b : AccessKind) → a ≡ b → kind_eq a b ≡ true
-kind_eq_same Read Read h = refl
-kind_eq_same Write Write h = refl
 kind_eq_same Read Write h = absurd cc
 kind_eq_same Write Read h = absurd cc
+kind_eq_same _ _ h = refl
 
 -- the table has what is noted
 pub noted_stand : (log : List Event) (e : Event) → Orderly (log ++ e ∷ []) → (k : Effect) → Fits log e k

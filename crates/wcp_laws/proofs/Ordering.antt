@@ -33,7 +33,7 @@ releases_above limits log e s l w st is = (
       (hb_row e s u.0) (λ i b. below i c.0 c.1 c.2 c.3.section b) (λ i b. before_within c.3.section b)
       (c.3.release u) (hb_counted log e s st u)),
   λ x k t u. counts_grow log e u (Others log l x k t) (λ i. Hb (log ++ e ∷ []) i (length log))
-      (s.others l.0 x.0 k t.0 u.0) (hb_row e s u.0)
+      (s.met_clock l.0 x.0 k t.0 u.0) (hb_row e s u.0)
       (λ i o. below i o.thread o.acquire o.release o.section o.below)
       (λ i o. before_within o.section o.below) (st.others l x k t u) (hb_counted log e s st u),
 )

@@ -24,7 +24,7 @@ use Rattle.event_core.proofs.SectionSteps.{section_within, before_within}
 use Rattle.event_core.proofs.Tests.{not_both}
 use Rattle.wcp_laws.specs.Standing.{Stands}
 use Rattle.wcp_laws.specs.State.{State}
-use Rattle.wcp_laws.specs.Step.{others_after}
+use Rattle.wcp_laws.specs.Step.{met_clock_after}
 
 module _ (log : List Event) (e : Event) (ord : Orderly (log ++ e ∷ [])) where
   -- what was kept is kept
@@ -50,11 +50,11 @@ module _ (log : List Event) (e : Event) (ord : Orderly (log ++ e ∷ [])) where
       → Counted (log ++ e ∷ []) (λ i. Hb (log ++ e ∷ []) i (length log)) g → (s : State) → Stands log s
       → (l : LockId) (x : VarId) (j : AccessKind) (t : ThreadId)
       → Counted (log ++ e ∷ []) (Others (log ++ e ∷ []) l x j t)
-      (others_after e.thread.0 k g s l.0 x.0 j t.0)
+      (met_clock_after e.thread.0 k g s l.0 x.0 j t.0)
   others_stand k fit g is s st l x j t = go k fit
     where
       was : ℕ → ℕ
-      was = s.others l.0 x.0 j t.0
+      was = s.met_clock l.0 x.0 j t.0
 
       Goal : (ℕ → ℕ) → Type 0
       Goal = Counted (log ++ e ∷ []) (Others (log ++ e ∷ []) l x j t)
@@ -87,7 +87,7 @@ module _ (log : List Event) (e : Event) (ord : Orderly (log ++ e ∷ [])) where
       no_close : (k : Effect) → Fits log e k → ((l : LockId) → k ≡ Closes l → ⊥) → Goal was
       no_close k f none = kept (λ q. none l (is_closes log e ord k f l q.closes))
 
-      go : (k : Effect) → Fits log e k → Goal (others_after e.thread.0 k g s l.0 x.0 j t.0)
+      go : (k : Effect) → Fits log e k → Goal (met_clock_after e.thread.0 k g s l.0 x.0 j t.0)
       go _ (accesses y i o) = no_close (Accesses y i) (accesses y i o) (λ l q. cc)
       go _ (opens n o d) = no_close (Opens n) (opens n o d) (λ l q. cc)
       go _ (forks u o) = no_close (Forks u) (forks u o) (λ l q. cc)

@@ -15,7 +15,7 @@ use Rattle.event_core.specs.Count.{Past, LockPast}
 use Rattle.event_core.specs.Log.{Does, depth, Section, OpsConflict}
 use Rattle.event_core.specs.Order.{Hb}
 use Rattle.event_core.specs.Orderly.{Orderly}
-use Rattle.event_core.specs.Effect.{Effect, Accesses, Opens, Closes, Forks, Joins, Inner, access_of}
+use Rattle.event_core.specs.Effect.{Effect, Accesses, Closes, access_of}
 use Rattle.event_core.specs.Wcp.{Meets, Strict}
 use Rattle.event_core.proofs.Counting.{last_of, last_does}
 use Rattle.event_core.proofs.LogFacts.{of_one, does_op}
@@ -47,12 +47,9 @@ Adds log t k i = Brings log (Strict log) (LockPast log (Strict log)) k i
 brought_adds : (log : List Event) (t : ThreadId) (k : Effect) (i : ℕ)
     → Brings log (Strict log) (LockPast log (Strict log)) k i
     → Adds log t k i
-brought_adds log t (Joins u) i p = p
-brought_adds log t (Opens l) i p = p
 brought_adds log t (Accesses x k) i p = absurd p
 brought_adds log t (Closes l) i p = absurd p
-brought_adds log t (Forks u) i p = p
-brought_adds log t Inner i p = p
+brought_adds log t _ i p = p
 
 module _ (log : List Event) (e : Event) (ord : Orderly (log ++ e ∷ [])) where
   -- what is below a release that an access meets is met under the lock of the two sections
@@ -166,6 +163,4 @@ module _ (log : List Event) (e : Event) (ord : Orderly (log ++ e ∷ [])) where
   strict_from _ (closes l o d) i (inr b) =
       new_strict log e i ord
       (from_release b.thread l b.acquire b.release o d b.section b.counted b.below)
-  strict_from _ (forks u o) i (inr p) = absurd p
-  strict_from _ (again l o d) i (inr p) = absurd p
-  strict_from _ (inner l o d) i (inr p) = absurd p
+  strict_from _ _ i (inr p) = absurd p

@@ -23,7 +23,7 @@ abbrev pub ReleasesAbove : Type 0
 ReleasesAbove = (limits : Limits) (log : List Event) (e : Event) (s : State) (l : LockId)
     → WellFormed limits (log ++ e ∷ []) → Stands log s → effect e s ≡ Closes l
     → ((q : Closed) (u : ThreadId) → Has q (s.closed l.0) → q.release u.0 ≤ hb_row e s u.0)
-    × ((x : VarId) (k : AccessKind) (t u : ThreadId) → s.others l.0 x.0 k t.0 u.0 ≤ hb_row e s u.0)
+    × ((x : VarId) (k : AccessKind) (t u : ThreadId) → s.met_clock l.0 x.0 k t.0 u.0 ≤ hb_row e s u.0)
 
 -- of two closed sections of a lock the one whose release clock is lower is the earlier one, and a strict
 -- clock that counts the later acquire counts the earlier
@@ -50,15 +50,13 @@ pub record IsSound (e : Event) (s : State) : Type 0 where
   -- a closing release's clock is at or above the clocks that are kept of its lock
   pub above_closed : (l : LockId) (q : Closed) (u : ThreadId) → effect e s ≡ Closes l
       → Has q (s.closed l.0) → q.release u.0 ≤ hb_row e s u.0
-  pub above_others : (l : LockId) (x : VarId) (k : AccessKind) (t u : ThreadId) → effect e s ≡ Closes l
-      → s.others l.0 x.0 k t.0 u.0 ≤ hb_row e s u.0
+  pub above_met : (l : LockId) (x : VarId) (k : AccessKind) (t u : ThreadId) → effect e s ≡ Closes l
+      → s.met_clock l.0 x.0 k t.0 u.0 ≤ hb_row e s u.0
   -- the thread's strict clock counts, with a closed section, the earlier ones of its lock
   pub earlier : (l : LockId) (p q : Closed) → Has p (s.closed l.0) → Has q (s.closed l.0)
       → ((u : ThreadId) → p.release u.0 ≤ q.release u.0)
       → IsTrue (is_counted (s.strict.thread e.thread.0) q)
       → IsTrue (is_counted (s.strict.thread e.thread.0) p)
-  -- the thread's strict clock counts at most the thread's own events
-  pub own_strict : s.strict.thread e.thread.0 e.thread.0 ≤ s.hb.thread e.thread.0 e.thread.0
   -- the section that a release closes was opened: positions begin at 1
   pub opened : (l : LockId) → effect e s ≡ Closes l → 0 < s.opened e.thread.0 l.0
 

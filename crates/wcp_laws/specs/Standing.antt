@@ -29,7 +29,7 @@ pub record Stands (log : List Event) (s : State) : Type 0 where
   pub noted : (t : ThreadId) (l : LockId) (x : VarId) (k : AccessKind)
       → IsTrue (s.noted t.0 l.0 x.0 k) ↔ Noted log t l x k
   pub others : (l : LockId) (x : VarId) (k : AccessKind) (t : ThreadId)
-      → Counted log (Others log l x k t) (s.others l.0 x.0 k t.0)
+      → Counted log (Others log l x k t) (s.met_clock l.0 x.0 k t.0)
   pub closed : (l : LockId) → ClosedStand log l (s.closed l.0)
 
 -- an event that is legal after the log makes numbers that stand for the longer log

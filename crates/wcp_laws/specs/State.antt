@@ -18,7 +18,7 @@ pub record State : Type 0 where
   pub noted : ℕ → ℕ → ℕ → AccessKind → Bool
   -- of a lock, a variable, a kind and a thread: the clock of the closed sections of other threads that have
   -- such an access
-  pub others : ℕ → ℕ → AccessKind → ℕ → ℕ → ℕ
+  pub met_clock : ℕ → ℕ → AccessKind → ℕ → ℕ → ℕ
   -- of a lock: its closed sections, in the order of their releases
   pub closed : ℕ → List Closed
 
@@ -31,6 +31,6 @@ empty = record {
   opened = λ _ _. 0;
   held = λ _. [];
   noted = λ _ _ _ _. false;
-  others = λ _ _ _ _ _. 0;
+  met_clock = λ _ _ _ _ _. 0;
   closed = λ _. [];
 }

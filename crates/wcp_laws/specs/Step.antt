@@ -23,8 +23,8 @@ hb_row e s = clock_after e.thread (effect e s) s.hb
 -- rule (a) under one lock: the clock of other threads' closed sections that have an access in conflict with
 -- thread t's access of that kind
 abbrev pub sources : State → VarId → AccessKind → ThreadId → ℕ → ℕ → ℕ
-sources s x Read t l = s.others l x.0 Write t.0
-sources s x Write t l = join (s.others l x.0 Read t.0) (s.others l x.0 Write t.0)
+sources s x Read t l = s.met_clock l x.0 Write t.0
+sources s x Write t l = join (s.met_clock l x.0 Read t.0) (s.met_clock l x.0 Write t.0)
 
 -- the join of the clocks of the locks
 abbrev pub join_all : (ℕ → ℕ → ℕ) → List ℕ → ℕ → ℕ
@@ -74,11 +74,11 @@ noted_after t (Closes m) d f v l y j = f v l y j && not (nat_eq v t && nat_eq l 
 noted_after t _ d f v l y j = f v l y j
 
 -- a closing release with the clock g joins it, for each other thread, to what has been noted for its lock
-abbrev pub others_after : ℕ → Effect → (ℕ → ℕ) → State → ℕ → ℕ → AccessKind → ℕ → ℕ → ℕ
-others_after t (Closes m) g s l x k v =
+abbrev pub met_clock_after : ℕ → Effect → (ℕ → ℕ) → State → ℕ → ℕ → AccessKind → ℕ → ℕ → ℕ
+met_clock_after t (Closes m) g s l x k v =
     cond (nat_eq l m.0 && (not (nat_eq v t) && s.noted t l x k))
-    (join (s.others l x k v) g) (s.others l x k v)
-others_after t _ g s l x k v = s.others l x k v
+    (join (s.met_clock l x k v) g) (s.met_clock l x k v)
+met_clock_after t _ g s l x k v = s.met_clock l x k v
 
 -- a closing release adds its section
 abbrev pub closed_after : ℕ → Effect → (ℕ → ℕ) → State → ℕ → List Closed
@@ -98,6 +98,6 @@ after e s =
       opened = opened_after e.thread.0 k (g e.thread.0) s.opened;
       held = held_after e.thread.0 k s.held;
       noted = noted_after e.thread.0 k s.depth s.noted;
-      others = others_after e.thread.0 k g s;
+      met_clock = met_clock_after e.thread.0 k g s;
       closed = closed_after e.thread.0 k g s;
     }

@@ -6,7 +6,7 @@ meet_sections-requires-clause-whole c =
     (c.requires.parts.whole.strict c.args.event.now.thread.0).whole
 
 pub meet_sections-requires-clause-releases : goal.meet_sections-requires-clause-releases
-meet_sections-requires-clause-releases c = λ l x k t. (c.requires.parts.whole.others l x k t).whole
+meet_sections-requires-clause-releases c = λ l x k t. (c.requires.parts.whole.met l x k t).whole
 
 pub returns-clause-step : goal.returns-clause-step
 returns-clause-step c =

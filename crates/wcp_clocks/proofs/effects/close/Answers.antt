@@ -91,7 +91,7 @@ returns c =
     omega arith) in
     let above : (x : ℕ) (k : AccessKind) (v u : ℕ)
     → met_clocks old.sums (closed_of old.queues) l x k v u ≤ hb_row e (state_of old) u
-    = λ x k v u. c.requires.fits.sound.above_others c.args.lock (record { 0 = x }) k (record { 0 = v })
+    = λ x k v u. c.requires.fits.sound.above_met c.args.lock (record { 0 = x }) k (record { 0 = v })
     (record { 0 = u }) c.requires.effect in
     let j = joins_told e k old taken.new.work c.advance.new.work c.requires.effect c.advance.ensures.work in
     let d = ap (λ (d : Done). d.comparisons) c.advance.ensures.work in
@@ -109,7 +109,7 @@ returns c =
       held = c.remove.ensures.held;
       noted = closed_noted old.sums c.close.new.self (hb_of old).depth e.thread c.args.lock
           c.close.ensures.noted;
-      others = closing_clocks old.sums c.close.new.self t l c.count.result q (closed_of old.queues)
+      met = closing_clocks old.sums c.close.new.self t l c.count.result q (closed_of old.queues)
           (closed_of c.leave.new.self) c.requires.parts.numbers next longer c.close.ensures.others
           (hb_row e (state_of old)) g above;
       numbers = closing_numbers old.sums c.close.new.self t l c.count.result q (closed_of old.queues)

@@ -55,7 +55,7 @@ returns c =
           position;
       held = c.add.ensures;
       noted = refl;
-      others = ap (met_clocks old.sums) c.enter.ensures.closed;
+      met = ap (met_clocks old.sums) c.enter.ensures.closed;
       numbers = subst (AreNumbers old.sums) (sym c.enter.ensures.closed) c.requires.parts.numbers;
       closed = c.enter.ensures.closed;
       found = c.enter.ensures.found;

@@ -1,14 +1,12 @@
-use Rattle.std.proofs.Common.{◌≡◌, ℕ, List, length, take, get_or, sym, subst, ◌∙◌, arith}
+use Rattle.std.proofs.Common.{◌≡◌, ℕ, length, take, get_or, sym, subst, ◌∙◌, arith}
 use Rattle.std.proofs.lemmas.List.{map_more, length-map, length-take-le}
 use Rattle.event_core.specs.declared.ids.LockId.{LockId}
-use Rattle.event_core.specs.Closed.{Closed}
-use Rattle.lock_queues.specs.Queues.{closed_of}
 use Rattle.wcp_clocks.specs.HeldLists.{numbers_of}
 use Rattle.wcp_clocks.proofs.Taking.{HasTaken, taken_begins, taken_on}
 use Rattle.wcp_clocks.proofs.sources.take_sources.Goals as goal
 
 pub loop-lock-init : goal.loop-lock-init
-loop-lock-init c = taken_begins _ _ _ _ _ _ _ c.requires.whole
+loop-lock-init c = taken_begins c.requires.whole
 
 pub take_under-requires-clause-room : goal.take_under-requires-clause-room
 take_under-requires-clause-room c = c.loop-lock.invariant.kept.thread c.args.thread.0 c.requires.room
@@ -29,14 +27,9 @@ take_under-requires-clause-few c =
 pub loop-lock-preserved : goal.loop-lock-preserved
 loop-lock-preserved c =
     let l : LockId = get_or c.args.held.now c.loop-lock.lock-index (record { 0 = 0 }) in
-    let t : ℕ = c.args.thread.0 in
-    let closed : ℕ → List Closed = closed_of c.args.queues.now in
     let e = c.take_under.ensures in
-    subst (λ ns. HasTaken c.args.sums.now closed c.args.var.0 c.args.kind t c.args.rows.now
-    c.take_under.new.rows c.args.work.now c.take_under.new.work ns)
+    subst (HasTaken _ _ _ _ _ _ _ _ _)
     (sym (map_more (λ (m : LockId). m.0) c.args.held.now c.loop-lock.lock-index
     (record { 0 = 0 }) c.loop-lock-test.true))
-    (taken_on c.args.sums.now closed c.args.var.0 c.args.kind t c.args.rows.now c.loop-lock.rows
-    c.take_under.new.rows c.args.work.now c.loop-lock.work c.take_under.new.work
-    (numbers_of (take c.loop-lock.lock-index c.args.held.now)) l.0 c.requires.releases
+    (taken_on (numbers_of (take c.loop-lock.lock-index c.args.held.now)) l.0 c.requires.releases
     c.loop-lock.invariant e.threads e.locks e.kept e.joins e.joins_exact e.comparisons)

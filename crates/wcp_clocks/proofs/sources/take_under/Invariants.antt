@@ -1,12 +1,8 @@
 use Rattle.lock_queues.specs.Queues.{closed_of}
 use Rattle.section_sum.specs.Sources.{left}
-use Rattle.section_sum.specs.Sums.{sources_of}
-use Rattle.wcp_clocks.specs.Met.{met_clocks, met_under}
 use Rattle.wcp_clocks.proofs.Taking.{IsTaking}
 use Rattle.wcp_clocks.proofs.sources.take_under.Given as goal
 
 abbrev pub invariant-loop-number : goal.invariant-loop-number
-invariant-loop-number l = IsTaking l.sums (closed_of l.queues) l.lock.0 l.fn.var.0 l.thread.0
-    (met_under (met_clocks l.sums (closed_of l.queues)) l.fn.var.0 l.fn.kind l.thread.0 l.lock.0)
-    (sources_of l.sums l.lock.0 l.fn.var.0 l.fn.kind l.thread.0) l.fn.rows l.rows l.fn.work l.work
-    (left l.number-iterator)
+invariant-loop-number l = IsTaking l.sums (closed_of l.queues) l.lock.0 l.fn.var.0 l.thread.0 l.fn.kind
+    l.fn.rows l.rows l.fn.work l.work (left l.number-iterator)

@@ -1,4 +1,4 @@
-use Rattle.std.proofs.Common.{List, [], ◌∷◌, ◌++◌, refl, sym, ap, subst, ◌∙◌, arith, max, vec_capacity}
+use Rattle.std.proofs.Common.{List, [], ◌∷◌, ◌++◌, sym, ap, subst, ◌∙◌, arith, max, vec_capacity}
 use Rattle.std.proofs.lemmas.Grind.{common_steps}
 use Rattle.std.proofs.lemmas.List.{with_items_is}
 use Rattle.std.specs.Vec.{with_items}
@@ -32,14 +32,11 @@ found c = record {
 }
 
 abbrev left : goal.After-self-4-1 → Tables
-left c = record {
-  width = c.self.inside.width;
+left c = let f : Tables = found c in record f {
   po = (with_items c.self.inside.po c.advance_tables.new.po).items;
   hb = (with_items c.self.inside.hb c.advance_tables.new.hb).items;
   lock = (with_items c.self.inside.locks c.advance_tables.new.locks).items;
   holds = (with_items c.self.inside.holds c.advance_tables.new.holds).items;
-  thread_room = max (vec_capacity c.self.inside.po) (vec_capacity c.self.inside.hb);
-  lock_room = max (vec_capacity c.self.inside.locks) (vec_capacity c.self.inside.holds);
 }
 
 step : (c : goal.After-self-4-1) → IsStepped c.self.inside.zeros (found c) (left c)
@@ -48,7 +45,7 @@ step c =
     let a = c.advance_tables in
     let t = c.args.event.now.thread in
     let op = c.args.event.now.op in
-    stepped s.zeros (found c) (left c) t op refl
+    stepped s.zeros (found c) (left c).po (left c).hb (left c).lock (left c).holds t op
     (written_widths s.po _ a.new.po c.deref_mut.ensures.len c.deref_mut.ensures.value a.auto.po
     a.ensures.po_widths)
     (written_widths s.hb _ a.new.hb c.deref_mut-2.ensures.len c.deref_mut-2.ensures.value a.auto.hb

@@ -1,6 +1,6 @@
 use Rattle.std.proofs.Common.{◌≡◌, ℕ, ◌<◌, ◌-◌, ◌++◌, ap, sym, subst, ◌∙◌, arith, length, length-set}
 use Rattle.hb_clocks.specs.Counts.{counts_of}
-use Rattle.hb_clocks.specs.Releases.{Kept, before, lowered}
+use Rattle.hb_clocks.specs.Releases.{KeptNumbers, before, lowered}
 use Rattle.hb_clocks.proofs.Lowering.{counted_within, raised_lowered, lowered_at}
 use Rattle.hb_clocks.proofs.release.ReleaseClocks.push.Goals as goal
 
@@ -43,10 +43,11 @@ returns-clause-added c =
     let used = c.counts-counts.ensures.within in
     let numbers = c.self.inside.numbers.ok.0 in
     let len = c.len-start.ensures in
-    let first = ap (λ (k : Kept). length k.numbers) c.self.view_is in
+    let first = ap (λ (k : KeptNumbers). length k.numbers) c.self.view_is in
     record {
       added = lowered t counts;
-      numbers = c.push_before.ensures.items ∙ ap (λ (k : Kept). k.numbers ++ lowered t counts) c.self.view_is;
+      numbers = c.push_before.ensures.items
+          ∙ ap (λ (k : KeptNumbers). k.numbers ++ lowered t counts) c.self.view_is;
       start = omega arith;
       count = sym same;
       marked = omega arith;

@@ -1,11 +1,21 @@
-use Rattle.wcp_clocks.proofs.Growth.{grown_parts, seen_ready, seen_numbers}
+use Rattle.std.proofs.Common.{refl}
+use Rattle.wcp_clocks.proofs.Growth.{grown_parts, seen_numbers, clocks_same, held_same}
 use Rattle.wcp_clocks.proofs.clocks.WcpClocks.make_ready.Goals as goal
 
 pub invariant_of-self : goal.invariant_of-self
-invariant_of-self c = grown_parts _ _ c.make_ready.ensures.grown c.self.invariant
+invariant_of-self c = grown_parts c.self.inside.parts _ (record {
+  clocks = clocks_same _ _;
+  sums = c.make_places_ready.ensures.sums;
+  queues = c.make_places_ready.ensures.queues;
+  held = held_same _;
+  work = refl;
+}) c.self.invariant
 
-pub returns-clause-kept : goal.returns-clause-kept
-returns-clause-kept c = seen_ready c.self.view_is c.make_ready.ensures.grown
-
-pub returns-clause-same : goal.returns-clause-same
-returns-clause-same c = seen_numbers c.self.view_is c.make_ready.ensures.grown
+pub returns-then-ready-clause-same : goal.returns-then-ready-clause-same
+returns-then-ready-clause-same c = seen_numbers c.self.view_is (record {
+  clocks = clocks_same _ _;
+  sums = c.make_places_ready.ensures.sums;
+  queues = c.make_places_ready.ensures.queues;
+  held = held_same _;
+  work = refl;
+})

@@ -1,7 +1,36 @@
+use Rattle.std.proofs.Common.{ℕ, List, ◌∙◌, ap}
+use Rattle.event_core.specs.Bounds.{Bounds}
+use Rattle.event_core.specs.Closed.{Closed}
+use Rattle.wcp_clocks.specs.declared.parts.Parts.{Parts}
+use Rattle.wcp_clocks.specs.HeldLists.{held_of}
+use Rattle.wcp_clocks.proofs.Growth.{are_parts, empty_numbers}
 use Rattle.wcp_clocks.proofs.Standing.{empty_stands}
 use Rattle.wcp_clocks.proofs.clocks.WcpClocks.new.Goals as goal
 
+abbrev parts : goal.After-new-5 → Parts
+parts c = record {
+  hb = c.in_ok-hb.hb;
+  rows = c.in_ok-rows.rows;
+  sums = c.new-4.result;
+  queues = c.in_ok-queues.queues;
+  held = c.new-5.result;
+  work = c.in_ok-hb.work;
+}
+
+pub invariant_of-result : goal.invariant_of-result
+invariant_of-result c =
+    are_parts (parts c) c.args.limits.threads c.in_ok-hb.ensures.width c.in_ok-hb.ensures.empty
+    (c.in_ok-rows.ensures.width ∙ c.threads.ensures.is) c.in_ok-rows.ensures.strict
+    (ap (λ (b : Bounds). b.threads) c.in_ok-queues.ensures.limits)
+    c.new-4.ensures.no_others (λ l. ap (λ (f : ℕ → List Closed). f l) c.in_ok-queues.ensures.closed)
+    c.in_ok-rows.ensures.no_thread c.in_ok-rows.ensures.no_lock
+
+pub returns-clause-empty : goal.returns-clause-empty
+returns-clause-empty c =
+    empty_numbers (parts c) c.in_ok-hb.ensures.empty c.in_ok-rows.ensures.strict c.in_ok-queues.ensures.opened
+    (ap held_of c.new-5.ensures)
+    c.new-4.ensures.nothing_noted c.new-4.ensures.no_others c.in_ok-queues.ensures.closed
+
 pub returns-clause-stands : goal.returns-clause-stands
 returns-clause-stands c =
-    let made = c.in_ok-new_parts in
-    empty_stands made.field-0 made.ensures.state made.ensures.hb made.ensures.found
+    empty_stands (parts c) (returns-clause-empty c) c.in_ok-hb.ensures.empty c.in_ok-queues.ensures.found

@@ -1,11 +1,54 @@
-use Rattle.wcp_clocks.proofs.Growth.{grown_parts, seen_ready, seen_numbers}
+use Rattle.std.proofs.Common.{sym, subst, refl}
+use Rattle.wcp_clocks.specs.declared.parts.Parts.{Parts}
+use Rattle.wcp_clocks.specs.Parts.{IsWithin}
+use Rattle.wcp_clocks.proofs.Growth.{grown_parts, seen_ready, seen_numbers, sums_same, queues_same, held_same}
+use Rattle.wcp_clocks.proofs.Ordered.{order_within, lock_within}
 use Rattle.wcp_clocks.proofs.clocks.WcpClocks.prepare.Goals as goal
 
-pub invariant_of-self : goal.invariant_of-self
-invariant_of-self c = grown_parts _ _ c.prepare_parts.ensures.grown c.self.invariant
+pub make_clocks-requires : goal.make_clocks-requires
+make_clocks-requires c =
+    let t = c.args.thread in
+    let op = c.args.op in
+    order_within c.self.inside.parts t op
+    (subst (λ (p : Parts). IsWithin p t op) (sym c.self.view_is) c.requires)
 
-pub returns-clause-kept : goal.returns-clause-kept
-returns-clause-kept c = seen_ready c.self.view_is c.prepare_parts.ensures.grown
+pub make_places-requires-clause-lock : goal.make_places-requires-clause-lock
+make_places-requires-clause-lock c l is =
+    lock_within c.self.inside.parts c.args.op l
+    (subst (λ (p : Parts). IsWithin p c.args.thread c.args.op) (sym c.self.view_is) c.requires).1 is
+
+pub invariant_of-self : goal.invariant_of-self
+invariant_of-self c = grown_parts c.self.inside.parts _ (record {
+  clocks = c.make_clocks.ensures.grown;
+  sums = sums_same _;
+  queues = queues_same _;
+  held = held_same _;
+  work = refl;
+}) c.self.invariant
+
+pub invariant_of-self-2 : goal.invariant_of-self-2
+invariant_of-self-2 c = grown_parts c.self.inside.parts _ (record {
+  clocks = c.make_clocks.ensures.grown;
+  sums = c.make_places.ensures.sums;
+  queues = c.make_places.ensures.queues;
+  held = c.make_places.ensures.held;
+  work = refl;
+}) c.self.invariant
 
 pub returns-clause-same : goal.returns-clause-same
-returns-clause-same c = seen_numbers c.self.view_is c.prepare_parts.ensures.grown
+returns-clause-same c = seen_numbers c.self.view_is (record {
+  clocks = c.make_clocks.ensures.grown;
+  sums = c.make_places.ensures.sums;
+  queues = c.make_places.ensures.queues;
+  held = c.make_places.ensures.held;
+  work = refl;
+})
+
+pub returns-clause-kept : goal.returns-clause-kept
+returns-clause-kept c = seen_ready c.self.view_is (record {
+  clocks = c.make_clocks.ensures.grown;
+  sums = c.make_places.ensures.sums;
+  queues = c.make_places.ensures.queues;
+  held = c.make_places.ensures.held;
+  work = refl;
+})

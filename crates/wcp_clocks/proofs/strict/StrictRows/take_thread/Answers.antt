@@ -2,7 +2,7 @@ use Rattle.std.proofs.Common.{◌≡◌}
 use Rattle.std.specs.Vec.{with_items}
 use Rattle.hb_clocks.specs.Rows.{widths_of}
 use Rattle.hb_clocks.proofs.MadeRows.{written_widths}
-use Rattle.wcp_clocks.proofs.Kept.{threads_kept, threads_room, thread_within}
+use Rattle.wcp_clocks.proofs.RowsKept.{threads_kept, threads_room, thread_within}
 use Rattle.wcp_clocks.proofs.strict.StrictRows.take_thread.Goals as goal
 
 same : (c : goal.After-self-1)

@@ -5,7 +5,7 @@ use Rattle.std.proofs.lemmas.Bool.{cases_lt, le-ltb, le-leb}
 use Rattle.event_core.specs.declared.bounds.Limits.{Limits}
 use Rattle.event_core.specs.declared.events.Event.{Event}
 use Rattle.event_core.specs.declared.events.Op.{Op}
-use Rattle.event_core.specs.declared.events.Op.TheVariants.{Load, Store, Acquire, Release, Fork, Join}
+use Rattle.event_core.specs.declared.events.Op.TheVariants.{Acquire, Release, Fork, Join}
 use Rattle.event_core.specs.declared.ids.LockId.{LockId}
 use Rattle.event_core.specs.declared.ids.ThreadId.{ThreadId}
 use Rattle.event_core.specs.declared.replies.Refusal.TheVariants.{ThreadRange, TargetRange}
@@ -14,7 +14,7 @@ use Rattle.event_core.specs.Refusal.{Legal, WellFormed, refusal, reasons, in_ran
 use Rattle.event_core.specs.Effect.{Effect, Closes}
 use Rattle.event_core.proofs.Growth.{well_formed_last}
 use Rattle.event_core.proofs.Legality.{AllNone, all_none, legal_reasons, when_none}
-use Rattle.event_core.proofs.Effects.{Fits, accesses, opens, closes, forks, joins, again, inner}
+use Rattle.event_core.proofs.Effects.{Fits, closes}
 use Rattle.wcp_laws.specs.State.{State}
 use Rattle.wcp_laws.specs.Standing.{Stands}
 use Rattle.wcp_laws.specs.Step.{effect}
@@ -66,12 +66,11 @@ within_where_legal limits log e p w width same = (
     locks = ap (λ (b : Bounds). b.locks) same
 
     named : (o : Op) → not (in_range limits o) ≡ false → NamesWithin p o
-    named (Load x) out = tt
-    named (Store x) out = tt
     named (Acquire l) out = subst (λ n. l.0 < n) (sym locks) (in_range_is l.0 limits.locks out)
     named (Release l) out = subst (λ n. l.0 < n) (sym locks) (in_range_is l.0 limits.locks out)
     named (Fork u) out = subst (λ n. u.0 < n) (sym width) (in_range_is u.0 limits.threads out)
     named (Join u) out = subst (λ n. u.0 < n) (sym width) (in_range_is u.0 limits.threads out)
+    named _ out = tt
 
 -- the lock that is closed
 pub closed_within : (limits : Limits) (log : List Event) (e : Event) (s : State)
@@ -84,9 +83,4 @@ closed_within limits log e s w st l is =
   where
     releases : (k : Effect) → Fits log e k → k ≡ Closes l → e.op ≡ Release l
     releases _ (closes m o d) q = let same : m ≡ l = cc in subst (λ (n : LockId). e.op ≡ Release n) same o
-    releases _ (accesses x j o) q = cc
-    releases _ (opens m o d) q = cc
-    releases _ (forks u o) q = cc
-    releases _ (joins u o) q = cc
-    releases _ (again m o d) q = cc
-    releases _ (inner m o d) q = cc
+    releases _ _ q = cc

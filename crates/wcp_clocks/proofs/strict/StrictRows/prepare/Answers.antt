@@ -1,0 +1,50 @@
+use Rattle.std.proofs.Common.{inl, refl}
+use Rattle.std.proofs.lemmas.Result.{on_ok_weaker}
+use Rattle.wcp_clocks.proofs.RowsGrown.{thread_grown, then_lock, then_thread, keeps_then, lock_ready}
+use Rattle.wcp_clocks.proofs.RowsGrown.{thread_ready}
+use Rattle.wcp_clocks.proofs.strict.StrictRows.prepare.Goals as goal
+
+pub returns-in-Acquire-clause-kept : goal.returns-in-Acquire-clause-kept
+returns-in-Acquire-clause-kept c = keeps_then c.in_ok-make_thread.ensures.kept c.make_lock.ensures.kept
+
+pub returns-in-Fork-clause-kept : goal.returns-in-Fork-clause-kept
+returns-in-Fork-clause-kept c =
+    keeps_then c.in_ok-make_thread.ensures.kept c.make_thread-in-Fork.ensures.kept
+
+pub returns-in-Acquire-clause-ready : goal.returns-in-Acquire-clause-ready
+returns-in-Acquire-clause-ready c =
+    on_ok_weaker c.make_lock.result (λ has. lock_ready c.args.thread c.args.op c.in-Acquire.lock
+    c.in-Acquire.is (c.make_lock.ensures.kept.thread _ c.in_ok-make_thread.ensures.made) has)
+    c.make_lock.ensures.made
+
+pub returns-in-Fork-clause-ready : goal.returns-in-Fork-clause-ready
+returns-in-Fork-clause-ready c =
+    let more = c.make_thread-in-Fork in
+    on_ok_weaker more.result (λ has. thread_ready c.args.thread c.args.op c.in-Fork.child c.in-Fork.is
+    (more.ensures.kept.thread _ c.in_ok-make_thread.ensures.made) has) more.ensures.made
+
+pub returns-in_err-make_thread-clause-grown : goal.returns-in_err-make_thread-clause-grown
+returns-in_err-make_thread-clause-grown c =
+    let own = c.make_thread.ensures in
+    thread_grown c.args.thread c.args.op _ (inl refl) own.others own.locks own.room own.lock_room
+
+pub returns-in-Load-clause-grown : goal.returns-in-Load-clause-grown
+returns-in-Load-clause-grown c =
+    let own = c.make_thread.ensures in
+    thread_grown c.args.thread c.args.op _ (inl refl) own.others own.locks own.room own.lock_room
+
+pub returns-in-Acquire-clause-grown : goal.returns-in-Acquire-clause-grown
+returns-in-Acquire-clause-grown c =
+    let own = c.make_thread.ensures in
+    let more = c.make_lock.ensures in
+    then_lock c.args.thread c.args.op c.in-Acquire.lock c.in-Acquire.is
+    (thread_grown c.args.thread c.args.op _ (inl refl) own.others own.locks own.room own.lock_room)
+    more.others more.threads more.room more.thread_room
+
+pub returns-in-Fork-clause-grown : goal.returns-in-Fork-clause-grown
+returns-in-Fork-clause-grown c =
+    let own = c.make_thread.ensures in
+    let more = c.make_thread-in-Fork.ensures in
+    then_thread c.args.thread c.args.op c.in-Fork.child c.in-Fork.is
+    (thread_grown c.args.thread c.args.op _ (inl refl) own.others own.locks own.room own.lock_room)
+    more.others more.locks more.room more.lock_room
