@@ -1,14 +1,10 @@
 //! The step of an event, by what the event is to the clocks.
-ghost use Rattle.std.specs.Prelude.{◌≡◌, ℕ, ◌+◌, ◌*◌, ◌<◌, ◌≤◌, ◌^◌, ◌||◌, length};
+ghost use Rattle.std.specs.Prelude.{◌≡◌, ◌+◌, ◌<◌, ◌≤◌, ◌^◌, length};
 ghost use Rattle.event_core.specs.declared.events.Op.TheVariants.{Acquire, Release};
 ghost use Rattle.event_core.specs.Effect.{Accesses, Opens, Closes, Forks, Joins, Inner};
-ghost use Rattle.section_sum.specs.Sums.{HasRoom, IsAlone, KeepsRoom, SameOthers, noted_of, is_access};
-ghost use Rattle.wcp_laws.specs.Step.{effect, join_all};
-ghost use Rattle.wcp_clocks.specs.HeldLists.{numbers_of};
-ghost use Rattle.wcp_clocks.specs.Met.{met_clocks, met_under, joins_under, joins_latest};
-ghost use Rattle.wcp_clocks.specs.Met.{AreNumbers, AreWholeIn};
+ghost use Rattle.wcp_laws.specs.Step.{effect};
+ghost use Rattle.wcp_clocks.specs.Met.{joins_latest};
 ghost use Rattle.wcp_clocks.specs.Whole.{IsWhole};
-ghost use Rattle.event_core.specs.declared.events.AccessKind.{AccessKind as Kind};
 ghost use Rattle.wcp_clocks.specs.Parts.{state_of, AreParts, IsReady, Fits, KeepsReady};
 ghost use Rattle.wcp_clocks.specs.Stepping.{IsStepBy, IsStep};
 ghost use Rattle.event_core.specs.Rows.{join, with_row};
@@ -24,7 +20,6 @@ use crate::strict::StrictRows;
 use event_core::{AccessKind, Event, LockId, Op, ThreadId, VarId};
 use hb_clocks::Work;
 use lock_queues::Queues;
-use section_sum::Summaries;
 
 /// The step of the event.
 #[inline(always)]
@@ -84,7 +79,8 @@ fn release(parts: &mut Parts, event: &Event, lock: LockId)
     }
 }
 
-// An access: it meets the sections that its thread has open, and its thread counts it.
+// An access: by rule (a) its strict clock takes the sources under each lock that its thread holds, it is
+// noted in the open section on each, and its thread counts it.
 #[inline(always)]
 pub(crate) fn access(parts: &mut Parts, event: &Event, var: VarId, kind: AccessKind)
     requires effect { effect event.now (state_of parts.old) ≡ Accesses var kind }
@@ -96,9 +92,9 @@ pub(crate) fn access(parts: &mut Parts, event: &Event, var: VarId, kind: AccessK
 {
     let thread = event.thread;
     let held = parts.held.of(thread);
-    meet_sections(
+    take_sources(
         &mut parts.rows,
-        &mut parts.sums,
+        &parts.sums,
         &parts.queues,
         thread,
         held,
@@ -106,49 +102,8 @@ pub(crate) fn access(parts: &mut Parts, event: &Event, var: VarId, kind: AccessK
         kind,
         &mut parts.work,
     );
+    parts.sums.note(thread, held, var, kind);
     parts.hb.advance(event, &mut parts.work);
-}
-
-// The access in the sections that are open at it: by rule (a) its strict clock takes the sources under
-// each lock, and it is noted in each.
-#[inline(always)]
-fn meet_sections(
-    rows: &mut StrictRows,
-    sums: &mut Summaries,
-    queues: &Queues,
-    thread: ThreadId,
-    held: &[LockId],
-    var: VarId,
-    kind: AccessKind,
-    work: &mut Work,
-)
-    requires room { HasThread rows.old thread.0 }
-    requires places { HasRoom sums.old held.now var.0 }
-    requires alone { IsAlone sums.old thread.0 held.now }
-    requires wide { queues.now.limits.threads ≡ rows.old.width }
-    requires few { work.old.joins + 2 * length held.now < 2 ^ 63 }
-    requires numbers { AreNumbers sums.old (closed_of queues.now) }
-    requires whole { IsWhole (closed_of queues.now) ((strict_of rows.old).thread thread.0) }
-    requires releases { AreWholeIn sums.old (closed_of queues.now) }
-    ensures threads { (strict_of rows.new).thread ≡ with_row thread.0
-        (join ((strict_of rows.old).thread thread.0)
-        (join_all (met_under (met_clocks sums.old (closed_of queues.now)) var.0 kind thread.0)
-        (numbers_of held.now)))
-        (strict_of rows.old).thread }
-    ensures locks { (strict_of rows.new).lock ≡ (strict_of rows.old).lock }
-    ensures kept { SameRoom rows.old rows.new }
-    ensures noted { (t l v : ℕ) (k : Kind) → noted_of sums.new t l v k
-        ≡ (noted_of sums.old t l v k || is_access thread.0 held.now var.0 kind t l v k) }
-    ensures others { SameOthers sums.old sums.new }
-    ensures places { KeepsRoom sums.old sums.new }
-    ensures joins { work.new.joins ≤ work.old.joins + 2 * length held.now }
-    ensures joins_exact { work.new.joins ≡ work.old.joins
-        + joins_under sums.old (closed_of queues.now) var.0 kind thread.0
-        ((strict_of rows.old).thread thread.0) (numbers_of held.now) }
-    ensures comparisons { work.new.comparisons ≡ work.old.comparisons }
-{
-    take_sources(rows, sums, queues, thread, held, var, kind, work);
-    sums.note(thread, held, var, kind);
 }
 
 // An outer acquire: its clocks take those of the lock, and a section is opened.

@@ -23,5 +23,8 @@ returns-in_ok-make_room-in-Acquire-clause-ready c =
     let old = c.args.queues.now in
     let new = c.make_room.new.self in
     on_ok_weaker c.prepare.result (λ place. subst (HasPlaces c.args.sums.now new c.prepare.new.self t)
-    (sym c.in-Acquire.is) (queue_made (has_room old) (has_room new) t.0 c.in-Acquire.lock.0
-    c.in_ok-make_room-in-Acquire.ensures.ok, place)) c.prepare.ensures.room
+    (sym c.in-Acquire.is) (
+      queue_made (has_room old) (has_room new) t.0 c.in-Acquire.lock.0
+          c.in_ok-make_room-in-Acquire.ensures.ok,
+      place,
+    )) c.prepare.ensures.room
