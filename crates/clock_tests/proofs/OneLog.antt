@@ -6,7 +6,7 @@ use Rattle.event_core.specs.declared.events.Call.{Call}
 use Rattle.event_core.specs.Refusal.{WellFormed, event_of, value_of}
 use Rattle.traced_mem.specs.Tables.{Tables}
 use Rattle.traced_mem.specs.OfLog.{StandsFor as MemoryStandsFor}
-use Rattle.wcp_clocks.specs.declared.parts.Parts.{Parts}
+use Rattle.wcp_clocks.specs.Parts.{Parts}
 use Rattle.wcp_clocks.specs.Parts.{Fits, IsWithin, SameLimits, SameNumbers, width_of, limits_of, work_of}
 use Rattle.wcp_clocks.specs.StandsFor.{StandsFor, IsBounded}
 use Rattle.wcp_clocks.specs.WorkWithin.{IsWorkOf}

@@ -5,7 +5,7 @@ use Rattle.event_core.specs.declared.bounds.Roots.TheVariants.{OnlyMain}
 use Rattle.event_core.specs.declared.events.Event.{Event}
 use Rattle.traced_mem.specs.Tables.{Tables}
 use Rattle.traced_mem.specs.OfLog.{StandsFor as MemoryStandsFor}
-use Rattle.wcp_clocks.specs.declared.parts.Parts.{Parts}
+use Rattle.wcp_clocks.specs.Parts.{Parts}
 use Rattle.wcp_clocks.specs.Parts.{width_of, limits_of}
 use Rattle.wcp_clocks.specs.StandsFor.{StandsFor}
 use Rattle.wcp_clocks.specs.WorkWithin.{WorkWithin}

@@ -23,7 +23,7 @@ use Rattle.event_core.proofs.Depth.{opener}
 use Rattle.event_core.proofs.Legality.{reasons_at, when_none}
 use Rattle.event_core.proofs.Members.{any_has}
 use Rattle.wcp_laws.specs.Step.{effect}
-use Rattle.wcp_clocks.specs.declared.parts.Parts.{Parts}
+use Rattle.wcp_clocks.specs.Parts.{Parts}
 use Rattle.wcp_clocks.specs.Parts.{state_of, work_of, most_joins}
 use Rattle.wcp_clocks.specs.StandsFor.{StandsFor}
 use Rattle.wcp_clocks.specs.WorkWithin.{IsWorkOf}

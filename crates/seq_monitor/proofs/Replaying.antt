@@ -45,7 +45,7 @@ use Rattle.traced_mem.proofs.SameRefusals.{same_refusal}
 use Rattle.traced_mem.specs.Tables.{Allows}
 use Rattle.traced_mem.specs.Tables.{Tables as MemoryTables}
 use Rattle.wcp_clocks.proofs.Conditions.{log_within}
-use Rattle.wcp_clocks.specs.declared.parts.Parts.{Parts as Clocks}
+use Rattle.wcp_clocks.specs.Parts.{Parts as Clocks}
 use Rattle.wcp_clocks.specs.Parts.{hb_of, width_of, limits_of, Fits, NamesWithin, SameLimits}
 use Rattle.wcp_clocks.specs.Parts.{IsWithin as ClocksAreWithin}
 use Rattle.wcp_clocks.specs.StandsFor.{FitsWhereLegal}

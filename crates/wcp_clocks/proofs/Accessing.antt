@@ -18,7 +18,7 @@ use Rattle.lock_queues.specs.Queues.{closed_of}
 use Rattle.section_sum.specs.Sums.{Sums, noted_of, is_access, SameOthers}
 use Rattle.section_sum.specs.Sums.{KeepsRoom as sum_rooms}
 use Rattle.wcp_laws.specs.Step.{effect, join_all}
-use Rattle.wcp_clocks.specs.declared.parts.Parts.{Parts}
+use Rattle.wcp_clocks.specs.Parts.{Parts}
 use Rattle.wcp_clocks.specs.HeldLists.{list_at, numbers_of, held_of}
 use Rattle.wcp_clocks.specs.StrictRows.{StrictTables, strict_of, SameRoom}
 use Rattle.wcp_clocks.specs.Parts.{hb_of, state_of, Fits, HasPlaces, KeepsReady}

@@ -31,7 +31,7 @@ use Rattle.wcp_laws.specs.Step as wcp
 use Rattle.wcp_laws.proofs.LegalSteps as wcp_steps
 use Rattle.wcp_clocks.specs.Whole.{own_of}
 use Rattle.wcp_laws.proofs.Conditions.{sound_where_legal}
-use Rattle.wcp_clocks.specs.declared.parts.Parts.{Parts}
+use Rattle.wcp_clocks.specs.Parts.{Parts}
 use Rattle.wcp_clocks.specs.HeldLists.{list_at, held_of}
 use Rattle.wcp_clocks.specs.Parts.{hb_of, state_of}
 use Rattle.wcp_clocks.specs.StandsFor.{StandsFor, FitsWhereLegal}

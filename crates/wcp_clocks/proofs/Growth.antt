@@ -19,7 +19,7 @@ use Rattle.hb_clocks.specs.Tables as hb
 use Rattle.section_sum.specs.Sums.{Sums, HasRoom, is_held, noted_of, others_of}
 use Rattle.lock_queues.specs.Queues.{Tables as Queues, SameMeaning, closed_of, opened_of, has_room}
 use Rattle.wcp_laws.specs.State.{empty}
-use Rattle.wcp_clocks.specs.declared.parts.Parts.{Parts}
+use Rattle.wcp_clocks.specs.Parts.{Parts}
 use Rattle.wcp_clocks.specs.HeldLists.{HeldList, list_at, numbers_of, held_of}
 use Rattle.wcp_clocks.specs.StrictRows.{StrictTables, strict_of, HasThread, HasLock, SameClocks, KeepsRoom}
 use Rattle.wcp_clocks.specs.StrictRows.{HasNamed, IsReady, GrownFor}

@@ -29,7 +29,7 @@ use Rattle.wcp_laws.specs.Step.{effect, after, held_after, without}
 use Rattle.wcp_laws.proofs.Clocks.{effect_fits}
 use Rattle.wcp_clocks.specs.Parts.{state_of}
 use Rattle.wcp_clocks.specs.StandsFor.{AreDistinct, StandsFor}
-use Rattle.wcp_clocks.specs.declared.parts.Parts.{Parts}
+use Rattle.wcp_clocks.specs.Parts.{Parts}
 
 -- a property of all but one number of a list
 all_without : (P : ℕ → Type 0) (n : ℕ) (xs : List ℕ) → AllByRecursion P xs → AllByRecursion P (without n xs)

@@ -17,5 +17,6 @@ pub mod Standing
 pub mod Stepped
 mod Taking
 mod Wholeness
+mod Within
 pub mod WithinLimits
 pub mod WorkLaws

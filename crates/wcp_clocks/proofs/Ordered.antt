@@ -8,7 +8,7 @@ use Rattle.event_core.specs.declared.events.Op.TheVariants.{Load, Store, Acquire
 use Rattle.hb_clocks.specs.Rows.{IsMade}
 use Rattle.hb_clocks.specs.Tables as hb
 use Rattle.hb_clocks.proofs.Room.{thread_stays}
-use Rattle.wcp_clocks.specs.declared.parts.Parts.{Parts}
+use Rattle.wcp_clocks.specs.Parts.{Parts}
 use Rattle.wcp_clocks.specs.StrictRows.{StrictTables, HasThread, HasLock, HasNamed, GrownFor}
 use Rattle.wcp_clocks.specs.StrictRows.{IsReady as RowsAreReady}
 use Rattle.wcp_clocks.specs.Parts.{AreOrdered, HasPlaces, IsReady, IsWithin, NamesWithin, limits_of}

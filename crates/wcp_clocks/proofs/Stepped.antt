@@ -13,7 +13,7 @@ use Rattle.hb_clocks.specs.State as hb
 use Rattle.wcp_laws.specs.Step.{effect, after, hb_row, opened_after, held_after, noted_after, met_clock_after}
 use Rattle.wcp_laws.specs.Step.{closed_after}
 use Rattle.wcp_laws.specs.Conditions.{found_at}
-use Rattle.wcp_clocks.specs.declared.parts.Parts.{Parts}
+use Rattle.wcp_clocks.specs.Parts.{Parts}
 use Rattle.wcp_clocks.specs.HeldLists.{held_of}
 use Rattle.wcp_clocks.specs.StrictRows.{strict_of, HasThread, HasLock, HasNamed}
 use Rattle.wcp_clocks.specs.Parts.{hb_of, state_of, found_in, AreParts, IsReady, most_joins}
@@ -21,7 +21,7 @@ use Rattle.wcp_clocks.specs.Parts.{joins_at, FewComparisons, NoFewer, Fits, IsAc
 use Rattle.wcp_clocks.specs.Whole.{AreWhole}
 use Rattle.wcp_clocks.proofs.Ordered.{ordered_more, ordered_same}
 use Rattle.wcp_clocks.proofs.Wholeness.{whole_after}
-use Rattle.wcp_clocks.specs.Stepping.{IsStep, IsStepBy, strict_clock}
+use Rattle.wcp_clocks.specs.Stepping.{IsDue, IsStep, IsStepBy, strict_clock}
 
 -- a lock that is held after the operation was held before it, or is the one that it acquires
 abbrev IsTaken : ℕ → Op → ℕ → ℕ → Type 0
@@ -80,7 +80,7 @@ module _ (e : Event) (k : Effect) (old new : Parts) (told : effect e (state_of o
   whole : AreParts old → Fits e old → AreWhole (state_of new)
   whole parts fits = subst AreWhole (sym exact) (whole_after e (state_of old) parts.whole fits.own_grows)
 
-  kept_parts : AreParts old → IsReady old e.thread e.op → Fits e old → AreParts new
+  pub kept_parts : AreParts old → IsReady old e.thread e.op → Fits e old → AreParts new
   kept_parts parts ready fits = record {
     rows = by.room.width ∙ parts.rows ∙ sym by.limits.width;
     queues = ap (λ b. b.threads) by.limits.limits ∙ parts.queues ∙ sym by.limits.width;
@@ -104,9 +104,8 @@ module _ (e : Event) (k : Effect) (old new : Parts) (told : effect e (state_of o
       lock l t (inr p) = by.room.lock l (subst (λ m. HasLock old.rows m) (sym p.3)
           (subst (λ (op : Op). HasNamed old.rows op) p.2 ready.rows.named))
 
-  pub stepped : AreParts old → IsReady old e.thread e.op → Fits e old → (IsAccess e.op → KeepsReady old new)
-      → IsStep e old new
-  stepped parts ready fits kept = record {
+  pub stepped : (IsAccess e.op → KeepsReady old new) → IsStep e old new
+  stepped kept = record {
     exact = exact;
     hb = by.hb;
     found = by.found ∙ ap (λ k. found_at e.thread k (state_of old) (found_in old)) (sym told);
@@ -117,9 +116,21 @@ module _ (e : Event) (k : Effect) (old new : Parts) (told : effect e (state_of o
     comparisons = subst (λ k. FewComparisons e.thread k old new) (sym told) by.comparisons;
     no_fewer = subst (λ k. NoFewer e.thread k old new) (sym told) by.no_fewer;
     limits = by.limits;
-    parts = kept_parts parts ready fits;
     kept = kept;
   }
+
+-- so the parts stay as they ought to be
+pub kept_within : {e : Event} {k : Effect} {old new : Parts} → IsDue e k old → IsStepBy e k old new
+    → AreParts old → AreParts new
+kept_within {e} {k} {old} {new} due by parts = kept_parts e k old new due.effect by parts due.ready due.fits
+
+-- the parts within are those that are seen
+module _ {e : Event} {k : Effect} {within now : Parts} (is : within ≡ now) where
+  pub due_within : IsDue e k now → IsDue e k within
+  due_within = subst (IsDue e k) (sym is)
+
+  pub seen_step : {new : Parts} → IsStepBy e k within new → IsStepBy e k now new
+  seen_step {new} = subst (λ (p : Parts). IsStepBy e k p new) is
 
 -- the effect of an acquire and of a release, by the depth that the thread holds the lock to
 module _ (e : Event) (parts : Parts) (l : LockId) where
@@ -139,16 +150,25 @@ module _ (e : Event) (parts : Parts) (l : LockId) where
   pub inner_release : (depths l.0 ≡ 1 → ⊥) → effect_of depths (Release l) ≡ Inner
   inner_release isnt = ap (λ b. cond b (Closes l) Inner) (ne_eqb (depths l.0) 1 isnt)
 
+-- the depth that is read within is that of the parts that are seen
+pub depth_seen : {inside now : Parts} {n : ℕ} → inside ≡ now → (t l : ℕ) → n ≡ (hb_of inside).depth t l
+    → (hb_of now).depth t l ≡ n
+depth_seen is t l told = ap (λ (p : Parts). (hb_of p).depth t l) (sym is) ∙ sym told
+
 -- the step of an acquire or a release, which is rebuilt with its own operation
 pub rebuilt : (e : Event) (o : Op) (k : Effect) (old new : Parts) → e.op ≡ o
     → effect_of ((hb_of old).depth e.thread.0) o ≡ k → (IsAccess o → ⊥)
-    → IsStepBy (record e { op = o }) k old new → AreParts old → IsReady old e.thread e.op → Fits e old
-    → IsStep e old new
-rebuilt e o k old new op effect none by parts ready fits =
+    → IsStepBy (record e { op = o }) k old new → IsStep e old new
+rebuilt e o k old new op effect none by =
     stepped e k old new (ap (effect_of ((hb_of old).depth e.thread.0)) op ∙ effect)
     (subst (λ (x : Event). IsStepBy x k old new) (ap (λ (p : Op). record e { op = p }) (sym op)) by)
-    parts ready fits (λ a. absurd (none (subst IsAccess op a)))
+    (λ a. absurd (none (subst IsAccess op a)))
 
-pub fits_rebuilt : (e : Event) (o : Op) (parts : Parts) → e.op ≡ o → Fits e parts
-    → Fits (record e { op = o }) parts
-fits_rebuilt e o parts op fits = subst (λ (p : Op). Fits (record e { op = p }) parts) op fits
+pub due_rebuilt : (e : Event) (o : Op) (k : Effect) (p : Parts) → e.op ≡ o
+    → effect_of ((hb_of p).depth e.thread.0) o ≡ k → IsReady p e.thread e.op → Fits e p
+    → IsDue (record e { op = o }) k p
+due_rebuilt e o k p op effect ready fits = record {
+  effect = effect;
+  ready = subst (IsReady p e.thread) op ready;
+  fits = subst (λ (o : Op). Fits (record e { op = o }) p) op fits;
+}

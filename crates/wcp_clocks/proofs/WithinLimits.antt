@@ -19,7 +19,7 @@ use Rattle.wcp_laws.specs.State.{State}
 use Rattle.wcp_laws.specs.Standing.{Stands}
 use Rattle.wcp_laws.specs.Step.{effect}
 use Rattle.wcp_clocks.specs.Parts.{NamesWithin, width_of, limits_of, IsWithin}
-use Rattle.wcp_clocks.specs.declared.parts.Parts.{Parts}
+use Rattle.wcp_clocks.specs.Parts.{Parts}
 use Rattle.wcp_laws.proofs.Clocks.{effect_fits}
 
 pub thread_within : (limits : Limits) (log : List Event) (e : Event) → WellFormed limits (log ++ e ∷ [])

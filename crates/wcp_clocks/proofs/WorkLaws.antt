@@ -17,7 +17,7 @@ use Rattle.wcp_laws.specs.Conditions.{found_at}
 use Rattle.wcp_laws.specs.Found.{total_found, threads_in}
 use Rattle.wcp_laws.specs.Step.{effect}
 use Rattle.wcp_laws.proofs.FoundLaws.{found_at_close, found_at_most, threads_within}
-use Rattle.wcp_clocks.specs.declared.parts.Parts.{Parts}
+use Rattle.wcp_clocks.specs.Parts.{Parts}
 use Rattle.wcp_clocks.specs.Parts.{state_of, found_in, most_joins, FewComparisons}
 use Rattle.wcp_clocks.specs.WorkWithin.{NoWork, SameWork, WorkStep, LittleWork}
 use Rattle.wcp_clocks.specs.WorkWithin.{FewComparisonsInAll}

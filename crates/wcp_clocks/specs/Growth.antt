@@ -8,7 +8,7 @@ use Rattle.hb_clocks.specs.Tables.{Tables as Order, state_of as order_of, KeepsR
 use Rattle.hb_clocks.specs.Tables.{GrownFor as OrderGrownFor}
 use Rattle.section_sum.specs.Sums.{Sums, SameNoted, SameOthers, KeepsRoom as KeepsSums, is_held, room_of}
 use Rattle.lock_queues.specs.Queues.{Tables as Queues, GrownFor as QueuesGrownFor, SameMeaning, has_room}
-use Rattle.wcp_clocks.specs.declared.parts.Parts.{Parts}
+use Rattle.wcp_clocks.specs.Parts.{Parts}
 use Rattle.wcp_clocks.specs.HeldLists.{HeldList, HaveGrownFor, list_at, held_of, KeepsPlaces}
 use Rattle.wcp_clocks.specs.StrictRows.{StrictTables, SameClocks, KeepsRoom, GrownFor as RowsGrownFor}
 use Rattle.wcp_clocks.specs.Parts.{AreOrdered}

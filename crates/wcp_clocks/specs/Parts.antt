@@ -11,6 +11,7 @@ use Rattle.event_core.specs.Effect.{Effect, Accesses, Opens, Closes, Joins}
 use Rattle.hb_clocks.specs.State.{HbState}
 use Rattle.hb_clocks.specs.Stands.{Admits, IsFew}
 use Rattle.hb_clocks.specs.Tables as hb
+use Rattle.hb_clocks.specs.Tables.{Tables as Order}
 use Rattle.hb_clocks.specs.Work.{Done}
 use Rattle.section_sum.specs.Sums.{Sums, noted_of, HasRoom, IsAlone}
 use Rattle.lock_queues.specs.Sections.{latest_counted}
@@ -18,12 +19,31 @@ use Rattle.lock_queues.specs.Queues.{Tables as Queues, closed_of, opened_of, fou
 use Rattle.wcp_laws.specs.State.{State}
 use Rattle.wcp_laws.specs.Step.{effect, after}
 use Rattle.wcp_laws.specs.Conditions.{IsSound, CursorsStand}
-use Rattle.wcp_clocks.specs.declared.parts.Parts.{Parts}
 use Rattle.wcp_clocks.specs.HeldLists.{HeldList, list_at, held_of, room_at}
 use Rattle.wcp_clocks.specs.StrictRows.{StrictTables, strict_of, HasThread, HasLock}
 use Rattle.wcp_clocks.specs.StrictRows.{IsReady as RowsAreReady}
 use Rattle.wcp_clocks.specs.Met.{met_clocks, AreNumbers, joins_under, joins_latest}
 use Rattle.wcp_clocks.specs.Whole.{AreWhole, own_of}
+
+-- the clocks of program order and happens-before, those of the strict relation, what closed sections saw,
+-- who holds what, and the work that was done
+pub record Parts : Type 0 where
+  pub hb : Order
+  pub rows : StrictTables
+  pub sums : Sums
+  pub queues : Queues
+  pub held : List HeldList
+  pub work : Done
+
+abbrev pub parts_of : Order → StrictTables → Sums → Queues → List HeldList → Done → Parts
+parts_of order rows sums queues held work = record {
+  hb = order;
+  rows = rows;
+  sums = sums;
+  queues = queues;
+  held = held;
+  work = work;
+}
 
 -- program order, happens-before and the depths of locks
 abbrev pub hb_of : Parts → HbState

@@ -10,7 +10,7 @@ use Rattle.event_core.specs.Closed.{Others}
 use Rattle.event_core.specs.Rows.{Counted, no_clock}
 use Rattle.lock_queues.specs.Queues.{closed_of}
 use Rattle.section_sum.specs.Sums.{sources_of}
-use Rattle.wcp_clocks.specs.declared.parts.Parts.{Parts}
+use Rattle.wcp_clocks.specs.Parts.{Parts}
 use Rattle.wcp_clocks.specs.Met.{joined_all}
 use Rattle.wcp_clocks.specs.StandsFor.{StandsFor}
 

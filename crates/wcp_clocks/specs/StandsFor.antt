@@ -10,7 +10,7 @@ use Rattle.event_core.specs.Refusal.{WellFormed}
 use Rattle.hb_clocks.specs.Stands as hb_stands
 use Rattle.wcp_laws.specs.Standing.{Stands}
 use Rattle.wcp_laws.specs.Found.{FoundFits}
-use Rattle.wcp_clocks.specs.declared.parts.Parts.{Parts}
+use Rattle.wcp_clocks.specs.Parts.{Parts}
 use Rattle.wcp_clocks.specs.Parts.{hb_of, state_of, work_of, found_in, Fits}
 use Rattle.wcp_clocks.specs.Parts.{SameNumbers}
 

@@ -2,7 +2,7 @@
 use Rattle.std.specs.Prelude.{◌≡◌, ℕ, ◌+◌, ◌≤◌, length}
 use Rattle.event_core.specs.declared.events.Event.{Event}
 use Rattle.event_core.specs.Rows.{join, with_row, to_child, to_lock}
-use Rattle.event_core.specs.Effect.{Effect}
+use Rattle.event_core.specs.Effect.{Effect, effect_of}
 use Rattle.hb_clocks.specs.State as hb
 use Rattle.hb_clocks.specs.Tables.{KeepsRoom as KeepsOrder}
 use Rattle.section_sum.specs.Sums.{noted_of}
@@ -10,12 +10,18 @@ use Rattle.lock_queues.specs.Queues.{closed_of, opened_of}
 use Rattle.wcp_laws.specs.Step.{effect, after, hb_row, extra, opened_after, held_after, noted_after}
 use Rattle.wcp_laws.specs.Step.{met_clock_after, closed_after}
 use Rattle.wcp_laws.specs.Conditions.{found_at}
-use Rattle.wcp_clocks.specs.declared.parts.Parts.{Parts}
+use Rattle.wcp_clocks.specs.Parts.{Parts}
 use Rattle.wcp_clocks.specs.HeldLists.{held_of}
 use Rattle.wcp_clocks.specs.StrictRows.{strict_of, SameRoom}
-use Rattle.wcp_clocks.specs.Parts.{hb_of, state_of, found_in, AreParts, SameLimits, most_joins}
-use Rattle.wcp_clocks.specs.Parts.{joins_at, FewComparisons, NoFewer, IsAccess, KeepsReady}
+use Rattle.wcp_clocks.specs.Parts.{hb_of, state_of, found_in, SameLimits, most_joins}
+use Rattle.wcp_clocks.specs.Parts.{joins_at, FewComparisons, NoFewer, IsAccess, KeepsReady, IsReady, Fits}
 use Rattle.wcp_clocks.specs.Met.{met_clocks, AreNumbers}
+
+-- the event has the effect k, there is room for it, and the numbers are as it asks
+pub record IsDue (e : Event) (k : Effect) (p : Parts) : Type 0 where
+  pub effect : effect_of ((hb_of p).depth e.thread.0) e.op ≡ k
+  pub ready : IsReady p e.thread e.op
+  pub fits : Fits e p
 
 -- the step of the event
 pub record IsStep (e : Event) (old new : Parts) : Type 0 where
@@ -28,7 +34,6 @@ pub record IsStep (e : Event) (old new : Parts) : Type 0 where
   pub comparisons : FewComparisons e.thread (effect e (state_of old)) old new
   pub no_fewer : NoFewer e.thread (effect e (state_of old)) old new
   pub limits : SameLimits old new
-  pub parts : AreParts new
   pub kept : IsAccess e.op → KeepsReady old new
 
 -- the event's strict clock, where the effect is k

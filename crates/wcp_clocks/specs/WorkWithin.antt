@@ -6,7 +6,7 @@ use Rattle.event_core.specs.Refusal.{WellFormed}
 use Rattle.wcp_laws.specs.Step.{effect}
 use Rattle.wcp_laws.specs.Conditions.{found_at}
 use Rattle.wcp_laws.specs.Found.{total_found, threads_in}
-use Rattle.wcp_clocks.specs.declared.parts.Parts.{Parts}
+use Rattle.wcp_clocks.specs.Parts.{Parts}
 use Rattle.wcp_clocks.specs.Parts.{state_of, work_of, found_in, most_joins, FewComparisons, SameNumbers}
 use Rattle.wcp_clocks.specs.StandsFor.{StandsFor, HasLittleWork, IsBounded}
 

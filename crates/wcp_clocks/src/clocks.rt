@@ -28,13 +28,13 @@ ghost use Rattle.wcp_clocks.specs.Parts.{joins_at, FewComparisons, NoFewer, IsWi
 ghost use Rattle.wcp_clocks.specs.Growth.{GrownFor, MadeFor, SameMade};
 ghost use Rattle.wcp_clocks.specs.StandsFor.{StandsFor};
 
-use crate::effects::step;
+mod effects;
+
 use crate::holdings::Holdings;
-use crate::parts::Parts;
 use crate::room::{has_places, make_clocks, make_places, make_places_ready};
 use crate::strict::StrictRows;
 use event_core::{Event, Limits, Op, OutOfMemory, ThreadId};
-use hb_clocks::{HbClocks, JoinedClocks};
+use hb_clocks::{HbClocks, JoinedClocks, Work};
 use lock_queues::Queues;
 use section_sum::Summaries;
 use std::alloc::Global;
@@ -45,18 +45,25 @@ use std::marker::Model;
 /// Each call but `new`, `prepare` and `make_ready` takes no memory.
 #[derive(Drop)]
 pub struct WcpClocks {
-    parts: Parts,
+    // Those of program order and of happens-before.
+    hb: HbClocks,
+    // Those of the strict relation.
+    rows: StrictRows,
+    // What the accesses in closed sections were.
+    sums: Summaries,
+    queues: Queues,
+    held: Holdings,
+    work: Work,
 }
 
 impl Model for WcpClocks {
-    ghost use Rattle.wcp_clocks.specs.declared.parts.Parts.{Parts};
-    ghost use Rattle.wcp_clocks.specs.Parts.{AreParts};
+    ghost use Rattle.wcp_clocks.specs.Parts.{Parts, parts_of, AreParts};
 
     ghost Value = { Parts };
 
-    ghost view = { λ c. c.parts };
+    ghost view = { λ c. parts_of c.hb c.rows c.sums c.queues c.held c.work };
 
-    ghost invariant = { λ c. AreParts c.parts };
+    ghost invariant = { λ c. AreParts (parts_of c.hb c.rows c.sums c.queues c.held c.work) };
 }
 
 impl WcpClocks {
@@ -72,14 +79,12 @@ impl WcpClocks {
         let (hb, work, releases) = HbClocks::new(alloc, limits)?;
         let queues = Queues::new(alloc, limits, releases)?;
         Ok(WcpClocks {
-            parts: Parts {
-                hb,
-                rows,
-                sums: Summaries::new(alloc),
-                queues,
-                held: Holdings::new(alloc),
-                work,
-            },
+            hb,
+            rows,
+            sums: Summaries::new(alloc),
+            queues,
+            held: Holdings::new(alloc),
+            work,
         })
     }
 
@@ -99,14 +104,8 @@ impl WcpClocks {
         if self.ready(thread, op) {
             return Ok(());
         }
-        make_clocks(&mut self.parts.hb, &mut self.parts.rows, thread, op)?;
-        make_places(
-            &mut self.parts.sums,
-            &mut self.parts.queues,
-            &mut self.parts.held,
-            thread,
-            op,
-        )
+        make_clocks(&mut self.hb, &mut self.rows, thread, op)?;
+        make_places(&mut self.sums, &mut self.queues, &mut self.held, thread, op)
     }
 
     /// Whether there is room for the operation. There is for each release by a holder.
@@ -115,14 +114,7 @@ impl WcpClocks {
         ensures ready { IsTrue result ↔ IsReady self.now thread op }
         ensures releases { IsHeldRelease (hb_of self.now) thread op → IsTrue result }
     {
-        self.parts.rows.ready(thread, op)
-            && has_places(
-                &self.parts.sums,
-                &self.parts.queues,
-                &self.parts.held,
-                thread,
-                op,
-            )
+        self.rows.ready(thread, op) && has_places(&self.sums, &self.queues, &self.held, thread, op)
     }
 
     /// Whether there is room for the operation, as `ready` tells, once room for an access is made, and room
@@ -139,14 +131,8 @@ impl WcpClocks {
         ensures made { SameMade self.old self.new }
         ensures limits { SameLimits self.old self.new }
     {
-        self.parts.rows.ready(thread, op)
-            && make_places_ready(
-                &mut self.parts.sums,
-                &mut self.parts.queues,
-                &self.parts.held,
-                thread,
-                op,
-            )
+        self.rows.ready(thread, op)
+            && make_places_ready(&mut self.sums, &mut self.queues, &self.held, thread, op)
     }
 
     /// The event joins the log that the clocks stand for.
@@ -177,7 +163,7 @@ impl WcpClocks {
         ensures kept { IsAccess event.now.op → KeepsReady self.old self.new }
         ensures limits { SameLimits self.old self.new }
     {
-        step(&mut self.parts, event);
+        self.step(event);
     }
 
     /// How many events of `other` strictly precede the thread's latest event.
@@ -188,7 +174,7 @@ impl WcpClocks {
             → StandsFor log self.now → IsLatest log thread j
             → Counts log other (λ i. Strict log i j) result }
     {
-        self.parts.rows.strict(thread).at(other)
+        self.rows.strict(thread).at(other)
     }
 
     /// How many events of `other` are below the thread's latest event: strictly, or by program order.
@@ -201,8 +187,7 @@ impl WcpClocks {
             → StandsFor log self.now → IsLatest log thread j
             → Counts log other (λ i. Below log i j) result }
     {
-        self.strict(thread, other)
-            .max(self.parts.hb.po(thread).at(other))
+        self.strict(thread, other).max(self.hb.po(thread).at(other))
     }
 
     /// The thread's clock, which counts the events that are below its latest one. It is lent as the join of
@@ -216,6 +201,6 @@ impl WcpClocks {
             → StandsFor log self.now → IsLatest log thread j
             → Counted log (λ i. Below log i j) (counts_of result) }
     {
-        JoinedClocks::new(self.parts.rows.strict(thread), self.parts.hb.po(thread))
+        JoinedClocks::new(self.rows.strict(thread), self.hb.po(thread))
     }
 }

@@ -2,10 +2,8 @@
 #![tactic(auto)]
 
 mod clocks;
-mod effects;
 mod holdings;
 pub mod laws;
-mod parts;
 mod room;
 mod sources;
 mod strict;

@@ -1,7 +1,7 @@
 use Rattle.std.proofs.Common.{ℕ, List, ◌∙◌, ap}
 use Rattle.event_core.specs.Bounds.{Bounds}
 use Rattle.event_core.specs.Closed.{Closed}
-use Rattle.wcp_clocks.specs.declared.parts.Parts.{Parts}
+use Rattle.wcp_clocks.specs.Parts.{Parts}
 use Rattle.wcp_clocks.specs.HeldLists.{held_of}
 use Rattle.wcp_clocks.proofs.Growth.{are_parts, empty_numbers}
 use Rattle.wcp_clocks.proofs.Standing.{empty_stands}

@@ -1,24 +1,25 @@
 use Rattle.std.proofs.Common.{sym, subst, refl}
-use Rattle.wcp_clocks.specs.declared.parts.Parts.{Parts}
+use Rattle.wcp_clocks.specs.Parts.{Parts}
 use Rattle.wcp_clocks.specs.Parts.{IsWithin}
 use Rattle.wcp_clocks.proofs.Growth.{grown_parts, seen_ready, seen_numbers, sums_same, queues_same, held_same}
 use Rattle.wcp_clocks.proofs.Ordered.{order_within, lock_within}
+use Rattle.wcp_clocks.proofs.Within.{within}
 use Rattle.wcp_clocks.proofs.clocks.WcpClocks.prepare.Goals as goal
 
 pub make_clocks-requires : goal.make_clocks-requires
 make_clocks-requires c =
     let t = c.args.thread in
     let op = c.args.op in
-    order_within c.self.inside.parts t op
+    order_within (within c.self.inside) t op
     (subst (λ (p : Parts). IsWithin p t op) (sym c.self.view_is) c.requires)
 
 pub make_places-requires-clause-lock : goal.make_places-requires-clause-lock
 make_places-requires-clause-lock c l is =
-    lock_within c.self.inside.parts c.args.op l
+    lock_within (within c.self.inside) c.args.op l
     (subst (λ (p : Parts). IsWithin p c.args.thread c.args.op) (sym c.self.view_is) c.requires).1 is
 
 pub invariant_of-self : goal.invariant_of-self
-invariant_of-self c = grown_parts c.self.inside.parts _ (record {
+invariant_of-self c = grown_parts (within c.self.inside) _ (record {
   clocks = c.make_clocks.ensures.grown;
   sums = sums_same _;
   queues = queues_same _;
@@ -27,7 +28,7 @@ invariant_of-self c = grown_parts c.self.inside.parts _ (record {
 }) c.self.invariant
 
 pub invariant_of-self-2 : goal.invariant_of-self-2
-invariant_of-self-2 c = grown_parts c.self.inside.parts _ (record {
+invariant_of-self-2 c = grown_parts (within c.self.inside) _ (record {
   clocks = c.make_clocks.ensures.grown;
   sums = c.make_places.ensures.sums;
   queues = c.make_places.ensures.queues;
@@ -50,5 +51,14 @@ returns-clause-kept c = seen_ready c.self.view_is (record {
   sums = c.make_places.ensures.sums;
   queues = c.make_places.ensures.queues;
   held = c.make_places.ensures.held;
+  work = refl;
+})
+
+pub returns-in_err-make_clocks-clause-kept : goal.returns-in_err-make_clocks-clause-kept
+returns-in_err-make_clocks-clause-kept c = seen_ready c.self.view_is (record {
+  clocks = c.make_clocks.ensures.grown;
+  sums = sums_same _;
+  queues = queues_same _;
+  held = held_same _;
   work = refl;
 })

@@ -9,33 +9,42 @@ use Rattle.wcp_clocks.specs.Parts.{hb_of, state_of}
 use Rattle.wcp_clocks.proofs.Closing.{counts_itself}
 use Rattle.wcp_clocks.proofs.EffectWords.{own_happens_before, own_opened}
 use Rattle.wcp_clocks.proofs.Passing.{joins_told}
-use Rattle.wcp_clocks.proofs.effects.open.Goals as goal
+use Rattle.wcp_clocks.proofs.Stepped.{kept_within, due_within, seen_step}
+use Rattle.wcp_clocks.proofs.Within.{within}
+use Rattle.wcp_clocks.specs.Parts.{parts_of}
+use Rattle.wcp_clocks.specs.Stepping.{IsStepBy}
+use Rattle.wcp_clocks.proofs.clocks.WcpClocks.open.Goals as goal
 
 pub advance-requires-clause-work : goal.advance-requires-clause-work
 advance-requires-clause-work c =
     let w = ap (λ (d : Done). d.joins) c.take_lock.ensures.work in
-    let few = c.requires.fits.joins in omega arith
+    let few = (due_within c.self.view_is c.requires).fits.joins in omega arith
 
 pub mark-requires-clause-some : goal.mark-requires-clause-some
 mark-requires-clause-some c =
     let e = c.args.event.now in
-    let old = hb_of c.args.parts.now in
+    let old = hb_of (within c.self.inside) in
     subst (λ (f : ℕ → ℕ). 0 < f e.thread.0) (sym (own_happens_before e old _ c.advance.ensures.exact))
     (counts_itself e old)
 
 pub mark-requires-clause-few : goal.mark-requires-clause-few
 mark-requires-clause-few c =
+    let due = due_within c.self.view_is c.requires in
     let e = c.args.event.now in
-    let old = hb_of c.args.parts.now in
-    let next = own_opened e c.args.lock old _ c.requires.effect c.advance.ensures.exact in
-    let few = c.requires.fits.few_counts e.thread.0 in
-    let within = (c.requires.parts.whole.hb_lock c.args.lock.0).within e.thread.0 in
+    let old = hb_of (within c.self.inside) in
+    let next = own_opened e c.args.lock old _ due.effect c.advance.ensures.exact in
+    let few = due.fits.few_counts e.thread.0 in
+    let within = (c.self.invariant.whole.hb_lock c.args.lock.0).within e.thread.0 in
     omega arith
 
-pub returns : goal.returns
-returns c =
+-- the parts as the step leaves them
+step : (c : goal.After-add) → IsStepBy c.args.event.now (Opens c.args.lock) (within c.self.inside)
+    (parts_of c.advance.new.self c.take_lock.new.self c.self.inside.sums c.enter.new.self
+    c.add.new.self c.advance.new.work)
+step c =
+    let due = due_within c.self.view_is c.requires in
     let e = c.args.event.now in
-    let old = c.args.parts.now in
+    let old = within c.self.inside in
     let k : Effect = Opens c.args.lock in
     let t : ℕ = e.thread.0 in
     let taken = c.take_lock in
@@ -43,7 +52,7 @@ returns c =
     ap (λ m. m.position) c.mark.ensures.exact
     ∙ ap (λ (f : ℕ → ℕ). f t) (own_happens_before e (hb_of old) _ c.advance.ensures.exact) in
     let w = ap (λ (d : Done). d.joins) taken.ensures.work in
-    let j = joins_told e k old taken.new.work c.advance.new.work c.requires.effect c.advance.ensures.work in
+    let j = joins_told e k old taken.new.work c.advance.new.work due.effect c.advance.ensures.work in
     record {
       hb = c.advance.ensures.exact;
       order_room = c.advance.ensures.kept;
@@ -56,7 +65,7 @@ returns c =
       held = c.add.ensures;
       noted = refl;
       met = ap (met_clocks old.sums) c.enter.ensures.closed;
-      numbers = subst (AreNumbers old.sums) (sym c.enter.ensures.closed) c.requires.parts.numbers;
+      numbers = subst (AreNumbers old.sums) (sym c.enter.ensures.closed) c.self.invariant.numbers;
       closed = c.enter.ensures.closed;
       found = c.enter.ensures.found;
       joins = omega arith;
@@ -67,3 +76,9 @@ returns c =
       room = taken.ensures.kept;
       limits = record { width = c.advance.ensures.width; limits = c.enter.ensures.limits };
     }
+
+pub invariant_of-self : goal.invariant_of-self
+invariant_of-self c = kept_within (due_within c.self.view_is c.requires) (step c) c.self.invariant
+
+pub returns : goal.returns
+returns c = seen_step c.self.view_is (step c)

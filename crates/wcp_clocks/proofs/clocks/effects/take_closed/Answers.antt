@@ -9,7 +9,7 @@ use Rattle.lock_queues.specs.Queues.{closed_of}
 use Rattle.lock_queues.specs.Sections.{latest_counted}
 use Rattle.wcp_clocks.proofs.Releasing.{counted_latest}
 use Rattle.wcp_clocks.proofs.Rows.{row_kept}
-use Rattle.wcp_clocks.proofs.effects.take_closed.Goals as goal
+use Rattle.wcp_clocks.proofs.clocks.effects.take_closed.Goals as goal
 
 pub returns-else-not-counts-clause-threads : goal.returns-else-not-counts-clause-threads
 returns-else-not-counts-clause-threads c =

@@ -17,12 +17,17 @@ use Rattle.wcp_clocks.proofs.EffectWords.{own_happens_before, closed_noted}
 use Rattle.wcp_clocks.proofs.Closing.{closing_clocks, closing_numbers}
 use Rattle.wcp_clocks.proofs.Closing.{before_closing, counts_itself}
 use Rattle.wcp_clocks.proofs.Passing.{own_written, joins_told}
-use Rattle.wcp_clocks.proofs.effects.close.Goals as goal
+use Rattle.wcp_clocks.proofs.Stepped.{kept_within, due_within, seen_step}
+use Rattle.wcp_clocks.proofs.Within.{within}
+use Rattle.wcp_clocks.specs.Parts.{parts_of}
+use Rattle.wcp_clocks.specs.Stepping.{IsStepBy}
+use Rattle.wcp_clocks.proofs.clocks.WcpClocks.close.Goals as goal
 
 pub count-requires : goal.count-requires
 count-requires c =
+    let due = due_within c.self.view_is c.requires in
     let l : ℕ = c.args.lock.0 in
-    let few = c.requires.fits.few_closed c.args.lock c.requires.effect in
+    let few = due.fits.few_closed c.args.lock due.effect in
     let was = ap (λ (f : ℕ → List Closed). length (f l)) c.take_closed.ensures.found.closed in
     let at = ap (λ (f : ℕ → List Closed). length (f l)) c.leave.ensures.closed
     ∙ ap (λ (qs : List Closed). length qs) (row_same l _ (closed_of c.take_closed.new.queues))
@@ -31,43 +36,50 @@ count-requires c =
 
 pub leave-requires-clause-entered : goal.leave-requires-clause-entered
 leave-requires-clause-entered c =
+    let due = due_within c.self.view_is c.requires in
     subst (λ (f : ℕ → ℕ → ℕ). 0 < f c.args.event.now.thread.0 c.args.lock.0)
-    (sym c.take_closed.ensures.found.opened) (c.requires.fits.sound.opened c.args.lock c.requires.effect)
+    (sym c.take_closed.ensures.found.opened) (due.fits.sound.opened c.args.lock due.effect)
 
 pub leave-requires-clause-above : goal.leave-requires-clause-above
 leave-requires-clause-above c q u has =
+    let due = due_within c.self.view_is c.requires in
     subst (λ (g : ℕ → ℕ). q.release u ≤ g u)
     (sym (c.hb-clock.ensures.exact
-    ∙ own_happens_before c.args.event.now (hb_of c.args.parts.now) _ c.advance.ensures.exact))
-    (c.requires.fits.sound.above_closed c.args.lock q (record { 0 = u }) c.requires.effect
+    ∙ own_happens_before c.args.event.now (hb_of (within c.self.inside)) _ c.advance.ensures.exact))
+    (due.fits.sound.above_closed c.args.lock q (record { 0 = u }) due.effect
     (subst (λ (f : ℕ → List Closed). Has q (f c.args.lock.0))
     c.take_closed.ensures.found.closed has))
 
 pub leave-requires-clause-counted : goal.leave-requires-clause-counted
 leave-requires-clause-counted c =
     let e = c.args.event.now in
-    let old = hb_of c.args.parts.now in
+    let old = hb_of (within c.self.inside) in
     subst (λ (f : ℕ → ℕ). 0 < f e.thread.0)
     (sym (c.hb-clock.ensures.exact ∙ own_happens_before e old _ c.advance.ensures.exact))
     (counts_itself e old)
 
 pub leave-requires-clause-few : goal.leave-requires-clause-few
 leave-requires-clause-few c u =
+    let due = due_within c.self.view_is c.requires in
     let e = c.args.event.now in
-    let old = hb_of c.args.parts.now in
+    let old = hb_of (within c.self.inside) in
     subst (λ (f : ℕ → ℕ). before e.thread.0 f u < 4294967296)
     (sym (c.hb-clock.ensures.exact ∙ own_happens_before e old _ c.advance.ensures.exact))
-    (let same = before_closing e old c.args.lock c.requires.effect u in
-    let few = c.requires.fits.few_counts u in
+    (let same = before_closing e old c.args.lock due.effect u in
+    let few = due.fits.few_counts u in
     omega arith)
 
 pub take_closed-requires-clause-whole : goal.take_closed-requires-clause-whole
-take_closed-requires-clause-whole c = (c.requires.parts.whole.strict c.args.event.now.thread.0).whole
+take_closed-requires-clause-whole c = (c.self.invariant.whole.strict c.args.event.now.thread.0).whole
 
-pub returns : goal.returns
-returns c =
+-- the parts as the step leaves them
+step : (c : goal.After-remove) → IsStepBy c.args.event.now (Closes c.args.lock) (within c.self.inside)
+    (parts_of c.advance.new.self c.give_lock.new.self c.close.new.self c.leave.new.self
+    c.remove.new.self c.advance.new.work)
+step c =
+    let due = due_within c.self.view_is c.requires in
     let e = c.args.event.now in
-    let old = c.args.parts.now in
+    let old = within c.self.inside in
     let k : Effect = Closes c.args.lock in
     let t : ℕ = e.thread.0 in
     let l : ℕ = c.args.lock.0 in
@@ -91,9 +103,9 @@ returns c =
     omega arith) in
     let above : (x : ℕ) (k : AccessKind) (v u : ℕ)
     → met_clocks old.sums (closed_of old.queues) l x k v u ≤ hb_row e (state_of old) u
-    = λ x k v u. c.requires.fits.sound.above_met c.args.lock (record { 0 = x }) k (record { 0 = v })
-    (record { 0 = u }) c.requires.effect in
-    let j = joins_told e k old taken.new.work c.advance.new.work c.requires.effect c.advance.ensures.work in
+    = λ x k v u. due.fits.sound.above_met c.args.lock (record { 0 = x }) k (record { 0 = v })
+    (record { 0 = u }) due.effect in
+    let j = joins_told e k old taken.new.work c.advance.new.work due.effect c.advance.ensures.work in
     let d = ap (λ (d : Done). d.comparisons) c.advance.ensures.work in
     let n = ap (λ (f : ℕ → ℕ → ℕ). f l t) (left.found ∙ taken.ensures.found.found)
     ∙ ap (λ (f : ℕ → ℕ). f t) (row_same l _ (found_of old.queues))
@@ -110,10 +122,10 @@ returns c =
       noted = closed_noted old.sums c.close.new.self (hb_of old).depth e.thread c.args.lock
           c.close.ensures.noted;
       met = closing_clocks old.sums c.close.new.self t l c.count.result q (closed_of old.queues)
-          (closed_of c.leave.new.self) c.requires.parts.numbers next longer c.close.ensures.others
+          (closed_of c.leave.new.self) c.self.invariant.numbers next longer c.close.ensures.others
           (hb_row e (state_of old)) g above;
       numbers = closing_numbers old.sums c.close.new.self t l c.count.result q (closed_of old.queues)
-          (closed_of c.leave.new.self) c.requires.parts.numbers next longer c.close.ensures.others;
+          (closed_of c.leave.new.self) c.self.invariant.numbers next longer c.close.ensures.others;
       closed = left.closed
           ∙ ap₂ (λ (f : ℕ → List Closed) (q : Closed). with_row l
           (f l ++ q ∷ []) f) taken.ensures.found.closed
@@ -128,3 +140,9 @@ returns c =
           c.give_lock.ensures.kept;
       limits = record { width = c.advance.ensures.width; limits = left.limits ∙ taken.ensures.found.limits };
     }
+
+pub invariant_of-self : goal.invariant_of-self
+invariant_of-self c = kept_within (due_within c.self.view_is c.requires) (step c) c.self.invariant
+
+pub returns : goal.returns
+returns c = seen_step c.self.view_is (step c)

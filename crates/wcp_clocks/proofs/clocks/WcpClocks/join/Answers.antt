@@ -2,21 +2,29 @@ use Rattle.std.proofs.Common.{ap, ◌∙◌, arith, refl}
 use Rattle.event_core.specs.Effect.{Effect, Joins}
 use Rattle.hb_clocks.specs.Work.{Done}
 use Rattle.wcp_clocks.proofs.Passing.{joins_told}
-use Rattle.wcp_clocks.proofs.effects.join.Goals as goal
+use Rattle.wcp_clocks.proofs.Stepped.{kept_within, due_within, seen_step}
+use Rattle.wcp_clocks.proofs.Within.{within}
+use Rattle.wcp_clocks.specs.Parts.{parts_of}
+use Rattle.wcp_clocks.specs.Stepping.{IsStepBy}
+use Rattle.wcp_clocks.proofs.clocks.WcpClocks.join.Goals as goal
 
 pub advance-requires-clause-work : goal.advance-requires-clause-work
 advance-requires-clause-work c =
     let w = ap (λ (d : Done). d.joins) c.take_thread.ensures.work in
-    let few = c.requires.fits.joins in omega arith
+    let few = (due_within c.self.view_is c.requires).fits.joins in omega arith
 
-pub returns : goal.returns
-returns c =
+-- the parts as the step leaves them
+step : (c : goal.After-advance) → IsStepBy c.args.event.now (Joins c.args.child) (within c.self.inside)
+    (parts_of c.advance.new.self c.take_thread.new.self c.self.inside.sums c.self.inside.queues
+    c.self.inside.held c.advance.new.work)
+step c =
+    let due = due_within c.self.view_is c.requires in
     let e = c.args.event.now in
-    let old = c.args.parts.now in
+    let old = within c.self.inside in
     let k : Effect = Joins c.args.child in
     let taken = c.take_thread in
     let w = ap (λ (d : Done). d.joins) taken.ensures.work in
-    let j = joins_told e k old taken.new.work c.advance.new.work c.requires.effect c.advance.ensures.work in
+    let j = joins_told e k old taken.new.work c.advance.new.work due.effect c.advance.ensures.work in
     record {
       hb = c.advance.ensures.exact;
       order_room = c.advance.ensures.kept;
@@ -26,7 +34,7 @@ returns c =
       held = refl;
       noted = refl;
       met = refl;
-      numbers = c.requires.parts.numbers;
+      numbers = c.self.invariant.numbers;
       closed = refl;
       found = refl;
       joins = omega arith;
@@ -37,3 +45,9 @@ returns c =
       room = taken.ensures.kept;
       limits = record { width = c.advance.ensures.width; limits = refl };
     }
+
+pub invariant_of-self : goal.invariant_of-self
+invariant_of-self c = kept_within (due_within c.self.view_is c.requires) (step c) c.self.invariant
+
+pub returns : goal.returns
+returns c = seen_step c.self.view_is (step c)

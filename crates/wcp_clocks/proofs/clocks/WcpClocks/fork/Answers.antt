@@ -3,15 +3,23 @@ use Rattle.event_core.specs.Rows.{with_row}
 use Rattle.event_core.specs.Effect.{Effect, Forks}
 use Rattle.hb_clocks.specs.Work.{Done}
 use Rattle.wcp_clocks.proofs.Passing.{plain_strict, plain_threads, joins_told}
-use Rattle.wcp_clocks.proofs.effects.fork.Goals as goal
+use Rattle.wcp_clocks.proofs.Stepped.{kept_within, due_within, seen_step}
+use Rattle.wcp_clocks.proofs.Within.{within}
+use Rattle.wcp_clocks.specs.Parts.{parts_of}
+use Rattle.wcp_clocks.specs.Stepping.{IsStepBy}
+use Rattle.wcp_clocks.proofs.clocks.WcpClocks.fork.Goals as goal
 
-pub returns : goal.returns
-returns c =
+-- the parts as the step leaves them
+step : (c : goal.After-give_thread) → IsStepBy c.args.event.now (Forks c.args.child) (within c.self.inside)
+    (parts_of c.advance.new.self c.give_thread.new.self c.self.inside.sums c.self.inside.queues
+    c.self.inside.held c.advance.new.work)
+step c =
+    let due = due_within c.self.view_is c.requires in
     let e = c.args.event.now in
-    let old = c.args.parts.now in
+    let old = within c.self.inside in
     let k : Effect = Forks c.args.child in
     let give = c.give_thread.ensures in
-    let j = joins_told e k old old.work c.advance.new.work c.requires.effect c.advance.ensures.work in
+    let j = joins_told e k old old.work c.advance.new.work due.effect c.advance.ensures.work in
     record {
       hb = c.advance.ensures.exact;
       order_room = c.advance.ensures.kept;
@@ -23,7 +31,7 @@ returns c =
       held = refl;
       noted = refl;
       met = refl;
-      numbers = c.requires.parts.numbers;
+      numbers = c.self.invariant.numbers;
       closed = refl;
       found = refl;
       joins = omega arith;
@@ -33,3 +41,9 @@ returns c =
       room = give.kept;
       limits = record { width = c.advance.ensures.width; limits = refl };
     }
+
+pub invariant_of-self : goal.invariant_of-self
+invariant_of-self c = kept_within (due_within c.self.view_is c.requires) (step c) c.self.invariant
+
+pub returns : goal.returns
+returns c = seen_step c.self.view_is (step c)

@@ -1,0 +1,45 @@
+use Rattle.std.proofs.Common.{ap, arith, refl}
+use Rattle.event_core.specs.Effect.{Inner}
+use Rattle.hb_clocks.specs.Work.{Done}
+use Rattle.wcp_clocks.proofs.Passing.{plain_threads, joins_told}
+use Rattle.wcp_clocks.proofs.Taking.{room_same}
+use Rattle.wcp_clocks.proofs.Stepped.{kept_within, due_within, seen_step}
+use Rattle.wcp_clocks.proofs.Within.{within}
+use Rattle.wcp_clocks.specs.Parts.{parts_of}
+use Rattle.wcp_clocks.specs.Stepping.{IsStepBy}
+use Rattle.wcp_clocks.proofs.clocks.WcpClocks.count_inner.Goals as goal
+
+-- the parts as the step leaves them
+step : (c : goal.After-advance) → IsStepBy c.args.event.now Inner (within c.self.inside)
+    (parts_of c.advance.new.self c.self.inside.rows c.self.inside.sums c.self.inside.queues
+    c.self.inside.held c.advance.new.work)
+step c =
+    let due = due_within c.self.view_is c.requires in
+    let e = c.args.event.now in
+    let old = within c.self.inside in
+    let j = joins_told e Inner old old.work c.advance.new.work due.effect c.advance.ensures.work in
+    record {
+      hb = c.advance.ensures.exact;
+      order_room = c.advance.ensures.kept;
+      threads = plain_threads e Inner old refl;
+      locks = refl;
+      opened = refl;
+      held = refl;
+      noted = refl;
+      met = refl;
+      numbers = c.self.invariant.numbers;
+      closed = refl;
+      found = refl;
+      joins = omega arith;
+      joins_exact = j;
+      comparisons = ap (λ (d : Done). d.comparisons) c.advance.ensures.work;
+      no_fewer = tt;
+      room = room_same old.rows;
+      limits = record { width = c.advance.ensures.width; limits = refl };
+    }
+
+pub invariant_of-self : goal.invariant_of-self
+invariant_of-self c = kept_within (due_within c.self.view_is c.requires) (step c) c.self.invariant
+
+pub returns : goal.returns
+returns c = seen_step c.self.view_is (step c)

@@ -1,0 +1,12 @@
+use Rattle.wcp_clocks.proofs.Ordered.{ready_of}
+use Rattle.wcp_clocks.proofs.Within.{within}
+use Rattle.wcp_clocks.proofs.clocks.WcpClocks.ready.Goals as goal
+
+pub returns-then-ready-clause-ready : goal.returns-then-ready-clause-ready
+returns-then-ready-clause-ready c =
+    let rows = c.ready.ensures.0 c.if-ready.true in
+    rw (← c.self.view_is) (
+      λ yes. ready_of (within c.self.inside) c.args.thread c.args.op c.self.invariant.ordered rows
+          (c.has_places.ensures.0 yes),
+      λ ready. c.has_places.ensures.1 ready.places,
+    )
