@@ -1,11 +1,12 @@
 -- What was spelled is read.
 use Rattle.std.proofs.Common.{◌≡◌, ℕ, ◌≤◌, false, List, [], ◌∷◌, ◌++◌, length, Some, Ok, refl, sym, ap, ◌∙◌}
 use Rattle.std.proofs.Common.{arith}
-use Rattle.std.specs.Prelude.{◌==◌, nat_lt}
-use Rattle.std.proofs.lemmas.Bool.{le-ltb, ne_eqb, or_from}
+use Rattle.std.specs.Prelude.{◌==◌, ◌||◌, nat_lt}
+use Rattle.std.proofs.lemmas.Bool.{le-ltb, or_from}
+use Rattle.std.proofs.lemmas.Bool.Decides.{nat_tests}
 use Rattle.std.proofs.lemmas.List.{length-append}
 use Rattle.rapid_line.specs.declared.words.Word.{Word}
-use Rattle.rapid_line.specs.declared.words.Word.TheVariants.{Load, Store, Acquire, Release, Fork, Join}
+use Rattle.rapid_line.specs.declared.words.Word.TheVariants.{Load}
 use Rattle.rapid_line.specs.Cut.{has, Lacks, cut}
 use Rattle.rapid_line.specs.Grammar.{Named, IsNamed, IsWellFormed, spelling, operation, content_of}
 use Rattle.rapid_line.specs.Causes.{HasFields}
@@ -14,30 +15,18 @@ use Rattle.rapid_line.proofs.Cuts.{Lacks-append, cut_at, before_end_at}
 
 spelling_lacks : (w : Word) → Lacks 40 (spelling w)
 spelling_lacks Load = refl
-spelling_lacks Store = refl
-spelling_lacks Acquire = refl
-spelling_lacks Release = refl
-spelling_lacks Fork = refl
-spelling_lacks Join = refl
+spelling_lacks _ = refl
 
 -- none of the words has a byte of the grammar's own
 pub spelling_plain : (w : Word)
     → Lacks 124 (spelling w) × Lacks 13 (spelling w) × Lacks 10 (spelling w) × (length (spelling w) ≤ 4)
 spelling_plain Load = (refl, refl, refl, omega arith)
-spelling_plain Store = (refl, refl, refl, omega arith)
-spelling_plain Acquire = (refl, refl, refl, omega arith)
-spelling_plain Release = (refl, refl, refl, omega arith)
-spelling_plain Fork = (refl, refl, refl, omega arith)
-spelling_plain Join = (refl, refl, refl, omega arith)
+spelling_plain _ = (refl, refl, refl, omega arith)
 
 word_again : (w : Word) → word_of (spelling w) ≡ Some w
 unfolding word_of
 word_again Load = refl
-word_again Store = refl
-word_again Acquire = refl
-word_again Release = refl
-word_again Fork = refl
-word_again Join = refl
+word_again _ = refl
 
 pub operation_ahead : (field : List ℕ) (w : Word) (rest : List ℕ) → cut 40 field ≡ Some (spelling w, rest)
     → operation_of field ≡ argument_of w rest
@@ -50,8 +39,8 @@ operation_again w argument =
     (cut_at 40 (spelling w) (argument ++ 41 ∷ []) (spelling_lacks w))
     ∙ rw (before_end_at 41 argument) refl
 
-pub fields_again : (bytes t o l : List ℕ) → HasFields bytes t o l → fields_of bytes ≡ Ok (t, o, l)
-fields_again bytes t o l h =
+pub fields_again : {bytes t o l : List ℕ} → HasFields bytes t o l → fields_of bytes ≡ Ok (t, o, l)
+fields_again {t = t} {o = o} {l = l} h =
     rw h.is (rw (cut_at 124 t (o ++ 124 ∷ l) h.thread_bar)
     (rw (cut_at 124 o l h.op_bar) (rw h.location_bar refl)))
 
@@ -62,7 +51,7 @@ Lacks-operation b w argument s p q a =
     (or_from (40 == b) (has b (argument ++ 41 ∷ [])) p
     (Lacks-append b argument (41 ∷ []) a (or_from (41 == b) false q refl)))
 
-pub fields_of_event : (e : Named) → IsWellFormed e
+fields_of_event : (e : Named) → IsWellFormed e
     → HasFields (content_of e) e.thread (operation e.word e.argument) e.location
 fields_of_event e h = record {
   is = refl;
@@ -71,20 +60,14 @@ fields_of_event e h = record {
   location_bar = h.location.bar;
 }
 
-Lacks-content : (b : ℕ) (e : Named) → Lacks b (spelling e.word) → (40 == b) ≡ false → (41 == b) ≡ false
-    → (124 == b) ≡ false → Lacks b e.thread → Lacks b e.argument → Lacks b e.location
-    → Lacks b (content_of e)
-Lacks-content b e s p q r t a l =
-    Lacks-append b e.thread (124 ∷ (operation e.word e.argument ++ 124 ∷ e.location)) t
-    (or_from (124 == b) (has b (operation e.word e.argument ++ 124 ∷ e.location)) r
-    (Lacks-append b (operation e.word e.argument) (124 ∷ e.location)
-    (Lacks-operation b e.word e.argument s p q a) (or_from (124 == b) (has b e.location) r l)))
+content_no_cr : (e : Named) → IsWellFormed e → Lacks 13 (content_of e)
+content_no_cr e h =
+    Lacks-append 13 e.thread (124 ∷ (operation e.word e.argument ++ 124 ∷ e.location)) h.thread.field.cr
+    (Lacks-append 13 (operation e.word e.argument) (124 ∷ e.location)
+    (Lacks-operation 13 e.word e.argument (spelling_plain e.word).1 refl refl h.argument.field.cr)
+    h.location.cr)
 
-pub content_no_cr : (e : Named) → IsWellFormed e → Lacks 13 (content_of e)
-content_no_cr e h = Lacks-content 13 e
-    (spelling_plain e.word).1 refl refl refl h.thread.field.cr h.argument.field.cr h.location.cr
-
-pub content_short : (e : Named) → IsWellFormed e → length (content_of e) ≤ 773
+content_short : (e : Named) → IsWellFormed e → length (content_of e) ≤ 773
 content_short e h =
     let sp : length (spelling e.word) ≤ 4 = (spelling_plain e.word).3 in
     let a = length-append e.argument (41 ∷ []) in
@@ -99,20 +82,19 @@ read_again bytes e h =
     let len = content_short e h.fits in
     let short : nat_lt 1024 (length (content_of e)) ≡ false = le-ltb 1024 (length (content_of e))
     (omega arith) in
-    let t : (length e.thread == 0) ≡ false = ne_eqb (length e.thread) 0
-    (λ z. omega (arith, h.fits.thread.some)) in
-    let a : (length e.argument == 0) ≡ false = ne_eqb (length e.argument) 0
-    (λ z. omega (arith, h.fits.argument.some)) in
-    let lt : nat_lt 255 (length e.thread) ≡ false = le-ltb 255
-    (length e.thread) h.fits.thread.field.short in
-    let la : nat_lt 255 (length e.argument) ≡ false = le-ltb 255
-    (length e.argument) h.fits.argument.field.short in
-    let ll : nat_lt 255 (length e.location) ≡ false = le-ltb 255
-    (length e.location) h.fits.location.short in
+    let some : (length e.thread == 0 || length e.argument == 0) ≡ false =
+    grind (arith, nat_tests, h.fits.thread.some, h.fits.argument.some) in
+    let long : (nat_lt 255 (length e.thread) || nat_lt 255 (length e.argument) || nat_lt 255 (length e.location))
+    ≡ false = grind (
+      arith,
+      nat_tests,
+      h.fits.thread.field.short,
+      h.fits.argument.field.short,
+      h.fits.location.short,
+    ) in
     ap line_of h.is ∙
-    rw (short) (rw (content_no_cr e h.fits) (rw (fields_again (content_of e) e.thread
-    (operation e.word e.argument) e.location (fields_of_event e h.fits))
-    (rw (operation_again e.word e.argument) (rw (t, a, lt, la, ll) refl))))
+    rw (short) (rw (content_no_cr e h.fits) (rw (fields_again (fields_of_event e h.fits))
+    (rw (operation_again e.word e.argument) (rw (some, long) refl))))
 
 -- two named events never share a content
 pub one_event : (d e : Named) → IsWellFormed d → IsWellFormed e → content_of d ≡ content_of e → d ≡ e

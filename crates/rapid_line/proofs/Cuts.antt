@@ -1,20 +1,21 @@
 -- Lists of bytes, cut at a byte.
 use Rattle.std.proofs.Common.{◌≡◌, ℕ, zero, suc, ◌+◌, ◌-◌, ◌<◌, true, false, List, [], ◌∷◌, ◌++◌, length}
 use Rattle.std.proofs.Common.{get_or, take, drop, Option, Some, None, refl, sym, ap, subst, ◌∙◌, arith, inl}
-use Rattle.std.proofs.Common.{inr, add-one, zero-add, Bool}
-use Rattle.std.specs.Prelude.{◌||◌, ◌==◌, ◌&&◌, nat_lt, option_map, IfSome}
+use Rattle.std.proofs.Common.{inr, add-one, zero-add}
+use Rattle.std.specs.Prelude.{◌||◌, ◌==◌, ◌&&◌, nat_lt, option_map}
 use Rattle.std.specs.Option.{is_some}
-use Rattle.std.proofs.Math.Bool.{or-false, or-true}
-use Rattle.std.proofs.lemmas.Bool.{or_parts, and_parts, lt-ltb, ltb-true, eqb-true, eq-eqb, or_from}
+use Rattle.std.proofs.Math.Bool.{or-true}
+use Rattle.std.proofs.lemmas.Bool.{or_parts, and_parts, ltb-true, eqb-true, eq-eqb, or_from}
 use Rattle.std.proofs.lemmas.Bool.{cases_Bool, false_from_ne_true}
+use Rattle.std.proofs.lemmas.Option.{cond_some}
+use Rattle.std.proofs.lemmas.Bool.Decides.{nat_tests}
 use Rattle.std.proofs.lemmas.List.{take_more, take_all, take_rest, get_or_push, take_at, length_push}
 use Rattle.memchr.specs.Find.{Nowhere, Passes, IsFirstByte, is_byte}
 use Rattle.rapid_line.specs.Cut.{has, count, Lacks, cut, before_end, after_last}
 
 pub has-append : (b : ℕ) (xs ys : List ℕ) → has b (xs ++ ys) ≡ (has b xs || has b ys)
 has-append b [] ys = refl
-has-append b (x ∷ xs) ys = elim (x == b) as (λ t. (t || has b (xs ++ ys)) ≡
-    ((t || has b xs) || has b ys)) [ true ↦ refl | false ↦ has-append b xs ys ]
+has-append b (x ∷ xs) ys = grind (arith, nat_tests, has-append b xs ys)
 
 pub Lacks-append : (b : ℕ) (xs ys : List ℕ) → Lacks b xs → Lacks b ys → Lacks b (xs ++ ys)
 Lacks-append b xs ys p q = has-append b xs ys ∙ or_from (has b xs) (has b ys) p q
@@ -28,9 +29,8 @@ Lacks-right b xs ys p = (or_parts (has b xs) (has b ys) (sym (has-append b xs ys
 -- the byte was met
 pub has_here : (b : ℕ) (xs : List ℕ) (i : ℕ) → i < length xs → get_or xs i 0 ≡ b → has b xs ≡ true
 has_here b [] i l e = absurd (omega arith)
-has_here b (x ∷ xs) zero l e = rw (eq-eqb x b e) refl
-has_here b (x ∷ xs) (suc i) l e = elim (x == b) as
-    (λ t. (t || has b xs) ≡ true) [ true ↦ refl | false ↦ has_here b xs i (omega arith) e ]
+has_here b (x ∷ xs) zero l e = grind (arith, nat_tests)
+has_here b (x ∷ xs) (suc i) l e = grind (arith, nat_tests, has_here b xs i)
 
 cut_first : (b : ℕ) (xs : List ℕ) (i : ℕ) → i < length xs → Nowhere (Passes (is_byte b) xs) 0 i
     → (get_or xs i 0 == b) ≡ true → cut b xs ≡ Some (take i xs, drop (i + 1) xs)
@@ -63,57 +63,52 @@ pub record IsCut (b : ℕ) (xs a c : List ℕ) : Type 0 where
   pub is : xs ≡ a ++ b ∷ c
   pub lacks : Lacks b a
 
-onto : (b x : ℕ) (xs : List ℕ) (o : Option (List ℕ × List ℕ)) → (x == b) ≡ false
-    → IfSome o (λ p. IsCut b xs p.0 p.1)
-    → IfSome (option_map (λ (p : List ℕ × List ℕ). let q : List ℕ × List ℕ = (x ∷ p.0, p.1) in q) o)
-    (λ p. IsCut b (x ∷ xs) p.0 p.1)
-onto b x xs None differs h = tt
+-- no such byte stands in the list, or this is its cut
+abbrev CutSays : ℕ → List ℕ → Option (List ℕ × List ℕ) → Type 0
+CutSays b xs None = Lacks b xs
+CutSays b xs (Some p) = IsCut b xs p.0 p.1
+
+onto : (b x : ℕ) (xs : List ℕ) (o : Option (List ℕ × List ℕ)) → (x == b) ≡ false → CutSays b xs o
+    → CutSays b (x ∷ xs)
+    (option_map (λ (p : List ℕ × List ℕ). let q : List ℕ × List ℕ = (x ∷ p.0, p.1) in q) o)
+onto b x xs None differs h = or_from (x == b) (has b xs) differs h
 onto b x xs (Some p) differs h = record {
   is = ap (λ (ys : List ℕ). x ∷ ys) h.is;
-  lacks = or_from (x == b)
-      (has b p.0) differs h.lacks;
+  lacks = or_from (x == b) (has b p.0) differs h.lacks;
 }
 
-pub IsCut-from : (b : ℕ) (xs : List ℕ) → IfSome (cut b xs) (λ p. IsCut b xs p.0 p.1)
-IsCut-from b [] = tt
-IsCut-from b (x ∷ xs) =
-    elim (cases_Bool (x == b)) as (λ _. IfSome (cut b (x ∷ xs)) (λ p. IsCut b (x ∷ xs) p.0 p.1)) [
+cut_says : (b : ℕ) (xs : List ℕ) → CutSays b xs (cut b xs)
+cut_says b [] = refl
+cut_says b (x ∷ xs) =
+    elim (cases_Bool (x == b)) as (λ _. CutSays b (x ∷ xs) (cut b (x ∷ xs))) [
       | inl same ↦ rw same (record { is = ap (λ (y : ℕ). y ∷ xs) (eqb-true x b same); lacks = refl })
-      | inr differs ↦ rw differs (onto b x xs (cut b xs) differs (IsCut-from b xs))
+      | inr differs ↦ rw differs (onto b x xs (cut b xs) differs (cut_says b xs))
     ]
+
+pub IsCut-at : (b : ℕ) (xs : List ℕ) (p : List ℕ × List ℕ) → cut b xs ≡ Some p → IsCut b xs p.0 p.1
+IsCut-at b xs p e = let P : Option (List ℕ × List ℕ) → Type 0 = CutSays b xs in subst P e (cut_says b xs)
+
+pub cut_None : (b : ℕ) (xs : List ℕ) → cut b xs ≡ None → Lacks b xs
+cut_None b xs e = let P : Option (List ℕ × List ℕ) → Type 0 = CutSays b xs in subst P e (cut_says b xs)
 
 -- the byte at the end
 pub before_end_at : (b : ℕ) (a : List ℕ) → before_end b (a ++ b ∷ []) ≡ Some a
 before_end_at b a =
     let len : length (a ++ b ∷ []) ≡ length a + 1 = length_push a b in
-    let less : length (a ++ b ∷ []) - 1 ≡ length a = omega arith in
-    let more : (nat_lt 0 (length (a ++ b ∷ []))) ≡ true = lt-ltb 0 (length (a ++ b ∷ [])) (omega arith) in
-    rw (
-      more,
-      less,
-      get_or_push a b 0 (length a) refl,
-      eq-eqb b b refl,
-      take_at a (b ∷ [])
-          (length a) refl,
-    ) refl
+    grind (arith, nat_tests, len, get_or_push a b 0 (length a) refl, take_at a (b ∷ []) (length a) refl)
 
 pub before_end-Some : (b : ℕ) (xs a : List ℕ) → before_end b xs ≡ Some a → xs ≡ a ++ b ∷ []
 before_end-Some b xs a e =
-    elim (cases_Bool (nat_lt 0 (length xs) && (get_or xs (length xs - 1) 0 == b))) [
-      | inl holds ↦
-          let parts = and_parts (nat_lt 0 (length xs)) (get_or xs (length xs - 1) 0 == b) holds in
-          let some : Some (take (length xs - 1) xs) ≡ Some a = rw holds at e in
-          let front : take (length xs - 1) xs ≡ a = cc in
-          let pos : 0 < length xs = ltb-true 0 (length xs) parts.0 in
-          let len : length xs - 1 + 1 ≡ length xs = omega arith in
-          let more = take_more xs (length xs - 1) 0 (omega arith) in
-          let whole : take (length xs) xs ≡ xs = take_all (length xs) xs (omega arith) in
-          let same : get_or xs (length xs - 1) 0 ≡ b = eqb-true (get_or xs (length xs - 1) 0) b parts.1 in
-          let more' : take (length xs) xs ≡ take (length xs - 1) xs ++ get_or xs (length xs - 1) 0 ∷ [] =
-          rw len at more in
-          sym whole ∙ more' ∙ (rw (same, front) refl)
-      | inr fails ↦ let none : None ≡ Some a = rw fails at e in absurd cc
-    ]
+    let some = cond_some (nat_lt 0 (length xs) && (get_or xs (length xs - 1) 0 == b))
+    (take (length xs - 1) xs) a e in
+    let parts = and_parts (nat_lt 0 (length xs)) (get_or xs (length xs - 1) 0 == b) some.0 in
+    let pos : 0 < length xs = ltb-true 0 (length xs) parts.0 in
+    let len : length xs - 1 + 1 ≡ length xs = omega arith in
+    let more = take_more xs (length xs - 1) 0 (omega arith) in
+    let whole : take (length xs) xs ≡ take (length xs - 1) xs ++ get_or xs (length xs - 1) 0 ∷ [] =
+    rw len at more in
+    sym (take_all (length xs) xs (omega arith)) ∙ whole
+    ∙ (rw (eqb-true (get_or xs (length xs - 1) 0) b parts.1, some.1) refl)
 
 pub before_end_lacks : (b k : ℕ) (xs r : List ℕ) → Some r ≡ before_end k xs → Lacks b xs → Lacks b r
 before_end_lacks b k xs r e h =
@@ -128,21 +123,6 @@ lacks_below b (x ∷ xs) (suc n) h =
     or_from (x == b) (has b (take n xs)) (false_from_ne_true (x == b) (h 0 (omega arith) (omega arith)))
     (lacks_below b xs n (λ k _ lt. h (suc k) (omega arith) (omega arith)))
 
-map_None : (x : ℕ) (o : Option (List ℕ × List ℕ))
-    → option_map (λ (p : List ℕ × List ℕ). let q : List ℕ × List ℕ = (x ∷ p.0, p.1) in q) o ≡ None
-    → o ≡ None
-map_None x None e = refl
-map_None x (Some p) e = absurd cc
-
-pub cut_None : (b : ℕ) (xs : List ℕ) → cut b xs ≡ None → has b xs ≡ false
-cut_None b [] e = refl
-cut_None b (x ∷ xs) e =
-    elim (cases_Bool (x == b)) [
-      | inl same ↦ let c : Some ([], xs) ≡ None = rw same at e in absurd cc
-      | inr differs ↦ or_from (x == b) (has b xs) differs
-          (cut_None b xs (map_None x (cut b xs) (rw differs at e)))
-    ]
-
 -- a search tells whether the byte is there
 pub has_found : (b : ℕ) (xs : List ℕ) (r : Option ℕ) → IsFirstByte (is_byte b) xs r → is_some r ≡ has b xs
 has_found b xs None h = sym (cut_None b xs (cut_nowhere b xs h))
@@ -156,29 +136,15 @@ count-append b (x ∷ xs) ys = let e = count-append b xs ys in omega (arith, e)
 
 pub count-Lacks : (b : ℕ) (xs : List ℕ) → Lacks b xs → count b xs ≡ 0
 count-Lacks b [] h = refl
-count-Lacks b (x ∷ xs) h = let parts = or_parts (x == b) (has b xs) h in rw
-    (parts.0, count-Lacks b xs parts.1) refl
+count-Lacks b (x ∷ xs) h = grind (arith, nat_tests, count-Lacks b xs)
 
 pub after_last-Lacks : (b : ℕ) (xs : List ℕ) → Lacks b xs → after_last b xs ≡ xs
 after_last-Lacks b [] h = refl
 after_last-Lacks b (x ∷ xs) h = rw h refl
 
--- bytes that lack it stay at the end
-pub after_last-more : (b : ℕ) (xs ys : List ℕ) → Lacks b ys
-    → after_last b (xs ++ ys) ≡ after_last b xs ++ ys
-after_last-more b [] ys h = after_last-Lacks b ys h
-after_last-more b (x ∷ xs) ys h =
-    let same : has b (xs ++ ys) ≡ has b xs = has-append b xs ys ∙ ap (λ t. has b xs || t) h
-    ∙ or-false (has b xs) in
-    elim (cases_Bool (x == b || has b xs)) [
-      | inl met ↦ rw (same, met) (after_last-more b xs ys h)
-      | inr unmet ↦ rw (same, unmet) refl
-    ]
-
 has-last : (b : ℕ) (xs : List ℕ) → has b (xs ++ b ∷ []) ≡ true
 has-last b [] = rw (eq-eqb b b refl) refl
-has-last b (x ∷ xs) = elim (x == b) as
-    (λ t. (t || has b (xs ++ b ∷ [])) ≡ true) [ true ↦ refl | false ↦ has-last b xs ]
+has-last b (x ∷ xs) = grind (arith, nat_tests, has-last b xs)
 
 -- nothing follows it at the end
 pub after_last-end : (b : ℕ) (xs : List ℕ) → after_last b (xs ++ b ∷ []) ≡ []
@@ -189,17 +155,7 @@ after_last-end b (x ∷ xs) = rw (has-last b xs, or-true (x == b)) (after_last-e
 pub after_last-append : (b : ℕ) (xs ys : List ℕ)
     → after_last b (xs ++ ys) ≡ after_last b (after_last b xs ++ ys)
 after_last-append b [] ys = refl
-after_last-append b (x ∷ xs) ys =
-    elim (cases_Bool (x == b || has b xs)) [
-      | inl met ↦
-          let later : (x == b || has b (xs ++ ys)) ≡ true = has_longer (x == b) met in
-          rw (met, later) (after_last-append b xs ys)
-      | inr unmet ↦ rw unmet refl
-    ]
-  where
-    has_longer : (here : Bool) → (here || has b xs) ≡ true → (here || has b (xs ++ ys)) ≡ true
-    has_longer true h = refl
-    has_longer false h = has-append b xs ys ∙ ap (λ (t : Bool). t || has b ys) h
+after_last-append b (x ∷ xs) ys = grind (arith, nat_tests, after_last-append b xs ys, has-append b xs ys)
 
 -- a search that cuts at the byte
 pub ruleset cutting = (cut_first_byte, cut_nowhere)

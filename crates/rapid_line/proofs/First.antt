@@ -1,298 +1,222 @@
--- A fault is the first cause.
-use Rattle.std.proofs.Common.{
-  ◌≡◌,
-  ℕ,
-  ◌<◌,
-  ◌≤◌,
-  true,
-  false,
-  List,
-  length,
-  Result,
-  Ok,
-  Err,
-  sym,
-  ap,
-  subst,
-  ◌∙◌,
-  arith,
-  inl,
-  inr,
-}
-use Rattle.std.specs.Prelude.{◌||◌, ◌==◌, nat_lt, IfOk, IfErr}
-use Rattle.std.proofs.lemmas.Bool.{or_parts, or_cases, ltb-true, ltb-false, eqb-true, both_ways}
+-- What is read of a content is its named event, or the first cause why it has none.
+use Rattle.std.proofs.Common.{◌≡◌, ℕ, ◌+◌, ◌<◌, ◌≤◌, Bool, true, false, cond, List, [], ◌∷◌, ◌++◌, length, Result, Ok, Err}
+use Rattle.std.proofs.Common.{refl, sym, ap, subst, ◌∙◌, arith, inl, inr}
+use Rattle.std.specs.Prelude.{◌||◌, ◌==◌, ◌⊎◌, nat_lt, IfOk, IfErr}
+use Rattle.std.proofs.lemmas.Bool.{or_parts, ltb-true, ltb-false, both_ways, cases_lt}
+use Rattle.std.proofs.lemmas.Bool.Decides.{nat_tests}
 use Rattle.rapid_line.specs.declared.words.Word.{Word}
 use Rattle.rapid_line.specs.declared.words.LineFault.{LineFault}
-use Rattle.rapid_line.specs.declared.words.LineFault.TheVariants.{
-  LineTooLong,
-  StrayCr,
-  FewFields,
-  ManyFields,
-  BadOp,
-  EmptyName,
-  LongName,
-}
+use Rattle.rapid_line.specs.declared.words.LineFault.TheVariants.{LineTooLong, StrayCr, FewFields, ManyFields}
+use Rattle.rapid_line.specs.declared.words.LineFault.TheVariants.{BadOp, EmptyName, LongName}
 use Rattle.rapid_line.specs.declared.lines.NamedLine.{NamedLine}
-use Rattle.rapid_line.specs.Cut.{has, count, Lacks}
-use Rattle.rapid_line.specs.Grammar.{Named, IsNamed, operation}
+use Rattle.rapid_line.specs.Cut.{has, Lacks}
+use Rattle.rapid_line.specs.Grammar.{Named, IsNamed, operation, content_of, spelling}
 use Rattle.rapid_line.specs.Causes.{HasFields, HasParts, IsFirstCause, Applies, rank}
-use Rattle.rapid_line.specs.Reading.{
-  and_then,
-  fields_of,
-  operation_of,
-  names_of,
-  line_of,
-  named_of,
-  Gives,
-}
-use Rattle.rapid_line.proofs.Steps.{unless_err, and_then_err, positive}
+use Rattle.rapid_line.specs.Reading.{unless, and_then, fields_of, operation_of, names_of, line_of}
+use Rattle.rapid_line.specs.Reading.{named_of, Gives, ok_named}
+use Rattle.rapid_line.proofs.Cuts.{Lacks-left, Lacks-right}
+use Rattle.rapid_line.proofs.Steps.{unless_by, and_then_by}
 use Rattle.rapid_line.proofs.Again.{operation_again}
-use Rattle.rapid_line.proofs.Found.{fields_found, operation_found, read_found}
-use Rattle.rapid_line.proofs.Split.{fields_err, two_bars, operation_err, one_split, one_operation}
+use Rattle.rapid_line.proofs.Split.{FieldsSay, fields_say, two_bars, one_split, one_parts}
+use Rattle.rapid_line.proofs.Split.{OperationSays, operation_says}
 
-rank_most : (f : LineFault) → rank f ≤ 7
-rank_most LineTooLong = omega arith
-rank_most StrayCr = omega arith
-rank_most FewFields = omega arith
-rank_most ManyFields = omega arith
-rank_most BadOp = omega arith
-rank_most EmptyName = omega arith
-rank_most LongName = omega arith
+-- ---- the order of the causes
 
-first_by : (bytes : List ℕ) (f g : LineFault) → (1 < rank f → Applies bytes LineTooLong → ⊥)
-    → (2 < rank f → Applies bytes StrayCr → ⊥) → (3 < rank f → Applies bytes FewFields → ⊥)
-    → (4 < rank f → Applies bytes ManyFields → ⊥) → (5 < rank f → Applies bytes BadOp → ⊥)
-    → (6 < rank f → Applies bytes EmptyName → ⊥) → rank g < rank f → Applies bytes g → ⊥
-first_by bytes f LineTooLong p₁ p₂ p₃ p₄ p₅ p₆ lt = p₁ lt
-first_by bytes f StrayCr p₁ p₂ p₃ p₄ p₅ p₆ lt = p₂ lt
-first_by bytes f FewFields p₁ p₂ p₃ p₄ p₅ p₆ lt = p₃ lt
-first_by bytes f ManyFields p₁ p₂ p₃ p₄ p₅ p₆ lt = p₄ lt
-first_by bytes f BadOp p₁ p₂ p₃ p₄ p₅ p₆ lt = p₅ lt
-first_by bytes f EmptyName p₁ p₂ p₃ p₄ p₅ p₆ lt = p₆ lt
-first_by bytes f LongName p₁ p₂ p₃ p₄ p₅ p₆ lt = absurd (omega (arith, rank_most f))
+-- the cause with this rank
+fault_at : ℕ → LineFault
+fault_at n =
+    cond (n == 1) LineTooLong (cond (n == 2) StrayCr (cond (n == 3) FewFields
+    (cond (n == 4) ManyFields (cond (n == 5) BadOp (cond (n == 6) EmptyName LongName)))))
 
-pub not_long : (bytes : List ℕ) → nat_lt 1024 (length bytes) ≡ false → Applies bytes LineTooLong → ⊥
-not_long bytes e h = let le = ltb-false 1024 (length bytes) e in omega (arith, le, h)
+ranked : (f : LineFault) → (0 < rank f) × (rank f < 8) × (fault_at (rank f) ≡ f)
+unfolding fault_at
+ranked LineTooLong = (omega arith, omega arith, refl)
+ranked _ = (omega arith, omega arith, refl)
 
-pub not_cr : (bytes : List ℕ) → has 13 bytes ≡ false → Applies bytes StrayCr → ⊥
-not_cr bytes e h = both_ways (has 13 bytes) e h
+same_rank : (f g : LineFault) → rank f ≡ rank g → f ≡ g
+same_rank f g is = sym (ranked f).2 ∙ ap fault_at is ∙ (ranked g).2
 
-long_first : (bytes : List ℕ) → nat_lt 1024 (length bytes) ≡ true → IsFirstCause bytes LineTooLong
-long_first bytes h = record {
-  applies = ltb-true 1024 (length bytes) h;
-  first = λ g. first_by bytes LineTooLong g (λ l. absurd (omega arith)) (λ l. absurd (omega arith))
-      (λ l. absurd (omega arith)) (λ l. absurd (omega arith)) (λ l. absurd (omega arith))
-      (λ l. absurd (omega arith));
-}
+one_first : {bytes : List ℕ} {f g : LineFault} → IsFirstCause bytes f → IsFirstCause bytes g → f ≡ g
+one_first {f = f} {g = g} p q =
+    let below : rank f < rank g → ⊥ = λ lt. q.first f lt p.applies in
+    let above : rank g < rank f → ⊥ = λ lt. p.first g lt q.applies in
+    same_rank f g (omega arith)
 
-cr_first : (bytes : List ℕ) → nat_lt 1024 (length bytes) ≡ false → has 13 bytes ≡ true
-    → IsFirstCause bytes StrayCr
-cr_first bytes a h = record {
-  applies = h;
-  first = λ g. first_by bytes StrayCr g (λ l. not_long bytes a) (λ l. absurd (omega arith))
-      (λ l. absurd (omega arith)) (λ l. absurd (omega arith)) (λ l. absurd (omega arith))
-      (λ l. absurd (omega arith));
-}
+-- no cause of a lower rank applies
+abbrev Clear : List ℕ → ℕ → Type 0
+Clear bytes n = (g : LineFault) → rank g < n → Applies bytes g → ⊥
 
-few_first : (bytes : List ℕ) → nat_lt 1024 (length bytes) ≡ false → has 13 bytes ≡ false
-    → count 124 bytes < 2 → IsFirstCause bytes FewFields
-few_first bytes a b h = record {
-  applies = h;
-  first = λ g. first_by bytes FewFields g (λ l. not_long bytes a) (λ l. not_cr bytes b)
-      (λ l. absurd (omega arith)) (λ l. absurd (omega arith)) (λ l. absurd (omega arith))
-      (λ l. absurd (omega arith));
-}
+clear_more : (bytes : List ℕ) (f : LineFault) → Clear bytes (rank f) → (Applies bytes f → ⊥)
+    → Clear bytes (rank f + 1)
+clear_more bytes f clear none g lt h =
+    elim (cases_lt (rank g) (rank f)) [
+      | inl less ↦ clear g less h
+      | inr most ↦
+          none (subst (λ (k : LineFault). Applies bytes k) (same_rank g f (omega (arith, lt, most))) h)
+    ]
 
-many_first : (bytes : List ℕ) → nat_lt 1024 (length bytes) ≡ false → has 13 bytes ≡ false
-    → 2 < count 124 bytes → IsFirstCause bytes ManyFields
-many_first bytes a b h = record {
-  applies = h;
-  first = λ g. first_by bytes ManyFields g (λ l. not_long bytes a) (λ l. not_cr bytes b)
-      (λ l few. absurd (omega (arith, few, h))) (λ l. absurd (omega arith)) (λ l. absurd (omega arith))
-      (λ l. absurd (omega arith));
-}
+-- ---- the lengths of names
 
--- a reading that reached the three fields
-pub record Reached (bytes : List ℕ) (f : List ℕ × List ℕ × List ℕ) : Type 0 where
-  pub short : nat_lt 1024 (length bytes) ≡ false
-  pub no_cr : has 13 bytes ≡ false
-  pub fields : fields_of bytes ≡ Ok f
+none_of : (a b : ℕ) → (a == 0 || b == 0) ≡ true → (a ≡ 0) ⊎ (b ≡ 0)
+none_of a b h = grind (arith, nat_tests)
 
-pub not_few : (bytes : List ℕ) (f : List ℕ × List ℕ × List ℕ) → Reached bytes f
-    → Applies bytes FewFields → ⊥
-not_few bytes f r h = let two = two_bars bytes f.0 f.1 f.2 (fields_found bytes f r.fields) in omega
-    (arith, two, h)
+some_of : (a b : ℕ) → (a == 0 || b == 0) ≡ false → (0 < a) × (0 < b)
+some_of a b h = grind (arith, nat_tests)
 
-pub not_many : (bytes : List ℕ) (f : List ℕ × List ℕ × List ℕ) → Reached bytes f
-    → Applies bytes ManyFields → ⊥
-not_many bytes f r h = let two = two_bars bytes f.0 f.1 f.2 (fields_found bytes f r.fields) in omega
-    (arith, two, h)
+long_of : (a b c : ℕ) → (nat_lt 255 a || nat_lt 255 b || nat_lt 255 c) ≡ true
+    → (255 < a) ⊎ ((255 < b) ⊎ (255 < c))
+long_of a b c h = grind (arith, nat_tests)
 
-op_first : (bytes : List ℕ) (f : List ℕ × List ℕ × List ℕ) → Reached bytes f → operation_of f.1 ≡ Err BadOp
-    → IsFirstCause bytes BadOp
-op_first bytes f r e = record {
-  applies = record {
-    thread = f.0;
-    op = f.1;
-    location = f.2;
-    fields = fields_found bytes f r.fields;
-    bad = λ w a is.
-        let good : operation_of f.1 ≡ Ok (w, a) = ap operation_of is ∙ operation_again w a in
-        let clash : Err BadOp ≡ Ok (w, a) = sym e ∙ good in absurd cc;
-  };
-  first = λ g. first_by bytes BadOp g (λ l. not_long bytes r.short) (λ l. not_cr bytes r.no_cr)
-      (λ l. not_few bytes f r) (λ l. not_many bytes f r) (λ l. absurd (omega arith))
-      (λ l. absurd (omega arith));
-}
+short_of : (a b c : ℕ) → (nat_lt 255 a || nat_lt 255 b || nat_lt 255 c) ≡ false
+    → (a ≤ 255) × (b ≤ 255) × (c ≤ 255)
+short_of a b c h = grind (arith, nat_tests)
 
--- and the word and the argument
-pub record Parted (bytes : List ℕ) (f : List ℕ × List ℕ × List ℕ) (o : Word × List ℕ) : Type 0 where
-  pub reached : Reached bytes f
-  pub op : operation_of f.1 ≡ Ok o
+-- ---- the named event
 
-pub not_bad : (bytes : List ℕ) (f : List ℕ × List ℕ × List ℕ) (o : Word × List ℕ) → Parted bytes f o
-    → Applies bytes BadOp → ⊥
-not_bad bytes f o p h =
-    let same : f ≡ (h.thread, h.op, h.location) =
-    one_split bytes h.thread h.op h.location f p.reached.fields h.fields in
-    h.bad o.0 o.1 (sym (ap (λ (x : List ℕ × List ℕ × List ℕ). x.1) same) ∙ operation_found f.1 o p.op)
+argument_lacks : (b : ℕ) (w : Word) (argument : List ℕ) → Lacks b (operation w argument) → Lacks b argument
+argument_lacks b w argument h =
+    let r = Lacks-right b (spelling w) (40 ∷ (argument ++ 41 ∷ [])) h in
+    Lacks-left b argument (41 ∷ []) (or_parts (40 == b) (has b (argument ++ 41 ∷ [])) r).1
 
--- any other split of the content is this one
-split_is : (bytes : List ℕ) (f : List ℕ × List ℕ × List ℕ) (o : Word × List ℕ) → Parted bytes f o
-    → (t l a : List ℕ) (w : Word) → HasFields bytes t (operation w a) l → (f.0 ≡ t) × (o.1 ≡ a) × (f.2 ≡ l)
-split_is bytes f o p t l a w h =
-    let same : f ≡ (t, operation w a, l) = one_split bytes t (operation w a) l f p.reached.fields h in
-    let field : f.1 ≡ operation w a = ap (λ (x : List ℕ × List ℕ × List ℕ). x.1) same in
-    let op : o ≡ (w, a) = one_operation f.1 w a o p.op field in (
-      ap (λ (x : List ℕ × List ℕ × List ℕ). x.0) same,
-      ap (λ (x : Word × List ℕ). x.1) op,
-      ap
-          (λ (x : List ℕ × List ℕ × List ℕ). x.2) same,
+parts_lack : (b : ℕ) (d : Named) → Lacks b (content_of d)
+    → Lacks b d.thread × Lacks b d.argument × Lacks b d.location
+parts_lack b d h =
+    let r = (or_parts (124 == b) (has b (operation d.word d.argument ++ 124 ∷ d.location))
+    (Lacks-right b d.thread (124 ∷ (operation d.word d.argument ++ 124 ∷ d.location)) h)).1 in
+    let o = Lacks-left b (operation d.word d.argument) (124 ∷ d.location) r in
+    let l = (or_parts (124 == b) (has b d.location)
+    (Lacks-right b (operation d.word d.argument) (124 ∷ d.location) r)).1 in (
+      Lacks-left b d.thread (124 ∷ (operation d.word d.argument ++ 124 ∷ d.location)) h,
+      argument_lacks b d.word d.argument o,
+      l,
     )
 
-own_split : (bytes : List ℕ) (f : List ℕ × List ℕ × List ℕ) (o : Word × List ℕ) → Parted bytes f o
-    → HasFields bytes f.0 (operation o.0 o.1) f.2
-own_split bytes f o p = subst (λ (x : List ℕ). HasFields bytes f.0 x f.2) (operation_found f.1 o p.op)
-    (fields_found bytes f p.reached.fields)
+-- parts whose names have the lengths of names
+is_named : {bytes : List ℕ} {e : Named} → HasParts bytes e → Lacks 13 bytes → Lacks 10 bytes
+    → (0 < length e.thread) × (0 < length e.argument)
+    → (length e.thread ≤ 255) × (length e.argument ≤ 255) × (length e.location ≤ 255) → IsNamed bytes e
+is_named {e = e} p no_cr no_lf some short =
+    let h = p.fields in
+    let cr = parts_lack 13 e (subst (λ (t : List ℕ). Lacks 13 t) h.is no_cr) in
+    let lf = parts_lack 10 e (subst (λ (t : List ℕ). Lacks 10 t) h.is no_lf) in
+    let bar = argument_lacks 124 e.word e.argument h.op_bar in
+    record {
+      is = h.is;
+      fits = record {
+        thread = record {
+          field = record { bar = h.thread_bar; lf = lf.0; cr = cr.0; short = short.0 };
+          some = some.0;
+        };
+        argument = record {
+          field = record { bar = bar; lf = lf.1; cr = cr.1; short = short.1 };
+          some = some.1;
+        };
+        location = record { bar = h.location_bar; lf = lf.2; cr = cr.2; short = short.2 };
+      };
+    }
 
--- the named event of a split
-abbrev split_named : List ℕ × List ℕ × List ℕ → Word × List ℕ → Named
-split_named f o = record { thread = f.0; word = o.0; argument = o.1; location = f.2 }
+-- ---- the reading
 
-own_parts : (bytes : List ℕ) (f : List ℕ × List ℕ × List ℕ) (o : Word × List ℕ) → Parted bytes f o
-    → HasParts bytes (split_named f o)
-own_parts bytes f o p = record { fields = own_split bytes f o p }
+-- it has the named event and no cause applies to it, or the cause is the first
+abbrev Says : List ℕ → Result Named LineFault → Type 0
+Says bytes (Ok e) = ((g : LineFault) → Applies bytes g → ⊥) × (Lacks 10 bytes → IsNamed bytes e)
+Says bytes (Err f) = IsFirstCause bytes f
 
-empty_first : (bytes : List ℕ) (f : List ℕ × List ℕ × List ℕ) (o : Word × List ℕ) → Parted bytes f o
-    → (length f.0 == 0 || length o.1 == 0) ≡ true → IsFirstCause bytes EmptyName
-empty_first bytes f o p e = record {
-  applies = record {
-    named = split_named f o;
-    parts = own_parts bytes f o p;
-    empty = elim (or_cases (length f.0 == 0) (length o.1 == 0) e) [
-      | inl x ↦ inl (eqb-true (length f.0) 0 x)
-      | inr x ↦ inr (eqb-true (length o.1) 0 x)
-    ];
-  };
-  first = λ g. first_by bytes EmptyName g (λ l. not_long bytes p.reached.short)
-      (λ l. not_cr bytes p.reached.no_cr) (λ l. not_few bytes f p.reached) (λ l. not_many bytes f p.reached)
-      (λ l. not_bad bytes f o p) (λ l. absurd (omega arith));
-}
+-- a test of the next cause
+test : (bytes : List ℕ) (f : LineFault) (b : Bool) (next : Result Named LineFault) → Clear bytes (rank f)
+    → (b ≡ true → Applies bytes f) → (b ≡ false → Applies bytes f → ⊥)
+    → (b ≡ false → Clear bytes (rank f + 1) → Says bytes next) → Says bytes (unless f b next)
+test bytes f b next clear applies none go =
+    unless_by (Says bytes) f b next (λ yes. record { applies = applies yes; first = clear })
+    (λ fails. go fails (clear_more bytes f clear (none fails)))
 
-pub not_empty : (bytes : List ℕ) (f : List ℕ × List ℕ × List ℕ) (o : Word × List ℕ) → Parted bytes f o
-    → (length f.0 == 0 || length o.1 == 0) ≡ false → Applies bytes EmptyName → ⊥
-not_empty bytes f o p e h =
-    let m = or_parts (length f.0 == 0) (length o.1 == 0) e in
-    let x : 0 < length f.0 = positive (length f.0) m.0 in
-    let y : 0 < length o.1 = positive (length o.1) m.1 in
-    let s = split_is bytes f o p h.named.thread h.named.location h.named.argument h.named.word
-    h.parts.fields in
-    let s₀ = ap (λ (t : List ℕ). length t) s.0 in
-    let s₁ = ap (λ (t : List ℕ). length t) s.1 in
-    elim h.empty [ inl z ↦ omega arith | inr z ↦ omega arith ]
+-- what the names of the parts come to
+names_say : (bytes : List ℕ) (e : Named) → HasParts bytes e → Lacks 13 bytes → Clear bytes 6
+    → Says bytes (names_of e.thread e.location e.word e.argument)
+names_say bytes e parts no_cr clear =
+    test bytes EmptyName (length e.thread == 0 || length e.argument == 0) _ clear
+    (λ h. record { named = e; parts = parts; empty = none_of (length e.thread) (length e.argument) h })
+    (λ h other.
+    let some = some_of (length e.thread) (length e.argument) h in
+    elim (subst (λ (d : Named). (length d.thread ≡ 0) ⊎ (length d.argument ≡ 0)) (one_parts other.parts parts)
+    other.empty) [ inl z ↦ omega arith | inr z ↦ omega arith ]) (λ some none.
+    test bytes LongName
+    (nat_lt 255 (length e.thread) || nat_lt 255 (length e.argument) || nat_lt 255 (length e.location)) _ none
+    (λ h. record {
+      named = e;
+      parts = parts;
+      long = long_of (length e.thread) (length e.argument) (length e.location) h;
+    })
+    (λ h other.
+    let short = short_of (length e.thread) (length e.argument) (length e.location) h in
+    elim (subst (λ (d : Named). (255 < length d.thread)
+    ⊎ ((255 < length d.argument) ⊎ (255 < length d.location))) (one_parts other.parts parts) other.long)
+    [ inl a ↦ omega arith | inr b ↦ elim b [ inl c ↦ omega arith | inr d ↦ omega arith ] ]) (λ short all. (
+      λ g. all g (ranked g).1,
+      λ no_lf. is_named parts no_cr no_lf (some_of (length e.thread) (length e.argument) some)
+          (short_of (length e.thread) (length e.argument) (length e.location) short),
+    )))
 
-name_first : (bytes : List ℕ) (f : List ℕ × List ℕ × List ℕ) (o : Word × List ℕ) → Parted bytes f o
-    → (length f.0 == 0 || length o.1 == 0) ≡ false
-    → (nat_lt 255 (length f.0) || nat_lt 255 (length o.1) || nat_lt 255 (length f.2)) ≡ true
-    → IsFirstCause bytes LongName
-name_first bytes f o p n e = record {
-  applies = record {
-    named = split_named f o;
-    parts = own_parts bytes f o p;
-    long = elim (or_cases (nat_lt 255 (length f.0) || nat_lt 255 (length o.1))
-        (nat_lt 255 (length f.2)) e) [
-          | inl x ↦ elim (or_cases (nat_lt 255 (length f.0)) (nat_lt 255 (length o.1)) x) [
-            | inl y ↦ inl (ltb-true 255 (length f.0) y)
-            | inr y ↦ inr (inl (ltb-true 255 (length o.1) y))
-          ]
-          | inr x ↦ inr (inr (ltb-true 255 (length f.2) x))
-        ];
-  };
-  first = λ g. first_by bytes LongName g (λ l. not_long bytes p.reached.short)
-      (λ l. not_cr bytes p.reached.no_cr) (λ l. not_few bytes f p.reached) (λ l. not_many bytes f p.reached)
-      (λ l. not_bad bytes f o p) (λ l. not_empty bytes f o p n);
-}
+-- what the operation between the bars comes to
+parts_say : (bytes : List ℕ) (f : List ℕ × List ℕ × List ℕ) → HasFields bytes f.0 f.1 f.2 → Lacks 13 bytes
+    → Clear bytes 5 → Says bytes (and_then (operation_of f.1) (λ o. names_of f.0 f.2 o.0 o.1))
+parts_say bytes f split no_cr clear =
+    and_then_by (Says bytes) (OperationSays f.1) (operation_of f.1) _ (operation_says f.1)
+    (λ g e is. subst (λ (k : LineFault). IsFirstCause bytes k) (sym is) (record {
+      applies = record {
+        thread = f.0;
+        op = f.1;
+        location = f.2;
+        fields = split;
+        bad = λ w a same.
+            let clash : Err g ≡ Ok (w, a) = sym e ∙ (ap operation_of same ∙ operation_again w a) in absurd cc;
+      };
+      first = clear;
+    })) (λ o op.
+    names_say bytes (record { thread = f.0; word = o.0; argument = o.1; location = f.2 })
+    (record { fields = subst (λ (x : List ℕ). HasFields bytes f.0 x f.2) op split }) no_cr
+    (clear_more bytes BadOp clear (λ h.
+    h.bad o.0 o.1 (sym (ap (λ (x : List ℕ × List ℕ × List ℕ). x.1) (one_split split h.fields)) ∙ op))))
 
-pub not_name : (bytes : List ℕ) (f : List ℕ × List ℕ × List ℕ) (o : Word × List ℕ) → Parted bytes f o
-    → (nat_lt 255 (length f.0) || nat_lt 255 (length o.1) || nat_lt 255 (length f.2))
-    ≡ false → Applies bytes LongName → ⊥
-not_name bytes f o p e h =
-    let n = or_parts (nat_lt 255 (length f.0) || nat_lt 255 (length o.1)) (nat_lt 255 (length f.2)) e in
-    let m = or_parts (nat_lt 255 (length f.0)) (nat_lt 255 (length o.1)) n.0 in
-    let x = ltb-false 255 (length f.0) m.0 in
-    let y = ltb-false 255 (length o.1) m.1 in
-    let z = ltb-false 255 (length f.2) n.1 in
-    let s = split_is bytes f o p h.named.thread h.named.location h.named.argument h.named.word
-    h.parts.fields in
-    let s₀ = ap (λ (t : List ℕ). length t) s.0 in
-    let s₁ = ap (λ (t : List ℕ). length t) s.1 in
-    let s₂ = ap (λ (t : List ℕ). length t) s.2 in
-    elim h.long [ inl a ↦ omega arith | inr b ↦ elim b [ inl c ↦ omega arith | inr d ↦ omega arith ] ]
+says : (bytes : List ℕ) → Says bytes (line_of bytes)
+unfolding line_of
+says bytes =
+    test bytes LineTooLong (nat_lt 1024 (length bytes)) _
+    (λ g lt. absurd (let some = (ranked g).0 in omega (arith, lt, some))) (ltb-true 1024 (length bytes))
+    (λ e h. let le = ltb-false 1024 (length bytes) e in omega (arith, le, h)) (λ short none.
+    test bytes StrayCr (has 13 bytes) _ none (λ h. h) (λ e h. both_ways (has 13 bytes) e h) (λ no_cr clear.
+    and_then_by (Says bytes) (FieldsSay bytes) (fields_of bytes) _ (fields_say bytes)
+    (λ g e bars. elim bars [
+      | inl few ↦ subst (λ (k : LineFault). IsFirstCause bytes k) (sym few.0)
+          (record { applies = few.1; first = clear })
+      | inr many ↦ subst (λ (k : LineFault). IsFirstCause bytes k) (sym many.0) (record {
+        applies = many.1;
+        first = clear_more bytes FewFields clear (λ few. omega (arith, few, many.1));
+      })
+    ]) (λ f split.
+    let bars = two_bars split in
+    parts_say bytes f split no_cr (clear_more bytes ManyFields
+    (clear_more bytes FewFields clear (λ few. omega (arith, few, bars)))
+    (λ many. omega (arith, many, bars))))))
 
-names_first : (bytes : List ℕ) (f : List ℕ × List ℕ × List ℕ) (o : Word × List ℕ) (g : LineFault)
-    → Parted bytes f o → names_of f.0 f.2 o.0 o.1 ≡ Err g → IsFirstCause bytes g
-names_first bytes f o g p e =
-    elim (unless_err EmptyName (length f.0 == 0 || length o.1 == 0) _ g e) [
-      | inl h ↦ subst (λ (x : LineFault). IsFirstCause bytes x) h.1 (empty_first bytes f o p h.0)
-      | inr a ↦ elim (unless_err LongName (nat_lt 255 (length f.0) || nat_lt 255 (length o.1) || nat_lt 255
-          (length f.2)) _ g a.1) [
-            | inl h ↦ subst (λ (x : LineFault). IsFirstCause bytes x) h.1 (name_first bytes f o p a.0 h.0)
-            | inr b ↦ absurd cc
-          ]
-    ]
+-- ---- what it answers
 
-fields_first : (bytes : List ℕ) (g : LineFault) → nat_lt 1024 (length bytes) ≡ false → has 13 bytes ≡ false
-    → and_then (fields_of bytes) (λ f. and_then (operation_of f.1) (λ o. names_of f.0 f.2 o.0 o.1)) ≡ Err g
-    → IsFirstCause bytes g
-fields_first bytes g a b e =
-    elim (and_then_err (fields_of bytes) (λ f. and_then (operation_of f.1)
-    (λ o. names_of f.0 f.2 o.0 o.1)) g e) [
-      | inl bad ↦ elim (fields_err bytes g bad) [
-        | inl h ↦ subst (λ (x : LineFault). IsFirstCause bytes x) (sym h.0) (few_first bytes a b h.1)
-        | inr h ↦ subst (λ (x : LineFault). IsFirstCause bytes x) (sym h.0) (many_first bytes a b h.1)
-      ]
-      | inr f ↦
-          let reached : Reached bytes f.0 = record { short = a; no_cr = b; fields = f.1 } in
-          elim (and_then_err (operation_of f.0.1) (λ o. names_of f.0.0 f.0.2 o.0 o.1) g f.2) [
-            | inl bad ↦
-                let is = operation_err f.0.1 g bad in
-                subst (λ (x : LineFault). IsFirstCause bytes x) (sym is)
-                (op_first bytes f.0 reached (bad ∙ ap
-                (λ (x : LineFault). let r : Result (Word × List ℕ) LineFault = Err x in r) is))
-            | inr o ↦ names_first bytes f.0 o.0 g (record { reached = reached; op = o.1 }) o.2
-          ]
-    ]
+pub read_found : (bytes : List ℕ) (e : Named) → Lacks 10 bytes → line_of bytes ≡ ok_named e
+    → IsNamed bytes e
+read_found bytes e lf eq = (subst (λ (r : Result Named LineFault). Says bytes r) eq (says bytes)).1 lf
 
 pub read_first : (bytes : List ℕ) (f : LineFault) → line_of bytes ≡ Err f → IsFirstCause bytes f
-unfolding line_of
-read_first bytes f eq =
-    elim (unless_err LineTooLong (nat_lt 1024 (length bytes)) _ f eq) [
-      | inl h ↦ subst (λ (x : LineFault). IsFirstCause bytes x) h.1 (long_first bytes h.0)
-      | inr a ↦ elim (unless_err StrayCr (has 13 bytes) _ f a.1) [
-        | inl h ↦ subst (λ (x : LineFault). IsFirstCause bytes x) h.1 (cr_first bytes a.0 h.0)
-        | inr b ↦ fields_first bytes f a.0 b.0 b.1
-      ]
-    ]
+read_first bytes f eq = subst (λ (r : Result Named LineFault). Says bytes r) eq (says bytes)
+
+-- a first cause is answered
+answered_by : (bytes : List ℕ) (f : LineFault) (r : Result Named LineFault) → Says bytes r
+    → IsFirstCause bytes f → r ≡ Err f
+answered_by bytes f (Ok e) s h = absurd (s.0 f h.applies)
+answered_by bytes f (Err g) s h =
+    ap (λ (x : LineFault). let r : Result Named LineFault = Err x in r) (one_first s h)
+
+pub first_answered : (bytes : List ℕ) (f : LineFault) → IsFirstCause bytes f → line_of bytes ≡ Err f
+first_answered bytes f h = answered_by bytes f (line_of bytes) (says bytes) h
 
 pub found_of : (bytes : List ℕ) (r : Result NamedLine LineFault) → Lacks 10 bytes
     → Gives named_of r (line_of bytes) → IfOk r (λ line. IsNamed bytes (named_of line))

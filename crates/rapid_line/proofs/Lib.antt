@@ -1,10 +1,8 @@
 pub mod Cuts
 pub mod Steps
 pub mod Again
-pub mod Found
 pub mod Split
 pub mod First
-pub mod Answered
 pub mod Marked
 pub mod Barred
 pub mod LineLaws

@@ -24,25 +24,22 @@ use Rattle.std.proofs.Common.{
   length-append,
   arith,
 }
-use Rattle.std.specs.Prelude.{◌==◌, IfSome, OnErr, Result, Ok, Err}
+use Rattle.std.specs.Prelude.{◌==◌}
 use Rattle.std.proofs.lemmas.Bool.{or_parts}
+use Rattle.std.proofs.lemmas.Bool.Decides.{nat_tests}
 use Rattle.rapid_line.specs.Cut.{has, Lacks, cut}
-use Rattle.rapid_line.specs.Lines.{Lines, onto_first, lines_of, line_start, Cuts, IsTooLong}
-use Rattle.rapid_line.proofs.Cuts.{Lacks-append, IsCut, IsCut-from, cut_None}
+use Rattle.rapid_line.specs.Lines.{Lines, onto_first, lines_of, line_start, to_come, Cuts, Keeps, IsTooLong}
+use Rattle.rapid_line.proofs.Cuts.{Lacks-append, IsCut-at, cut_None}
 
 -- a line, and what follows its LF
 pub lines_of_line : (a b : List ℕ) → Lacks 10 a → lines_of (a ++ 10 ∷ b) ≡ a ∷ lines_of b
 lines_of_line [] b h = refl
-lines_of_line (x ∷ a) b h =
-    let parts = or_parts (x == 10) (has 10 a) h in
-    rw (parts.0, lines_of_line a b parts.1) refl
+lines_of_line (x ∷ a) b h = grind (arith, nat_tests, lines_of_line a b)
 
 -- a line without an ending
 pub lines_of_rest : (x : ℕ) (a : List ℕ) → Lacks 10 (x ∷ a) → lines_of (x ∷ a) ≡ (x ∷ a) ∷ []
-lines_of_rest x [] h = rw (or_parts (x == 10) false h).0 refl
-lines_of_rest x (y ∷ a) h =
-    let parts = or_parts (x == 10) (has 10 (y ∷ a)) h in
-    rw (parts.0, lines_of_rest y a parts.1) refl
+lines_of_rest x [] h = grind (arith, nat_tests)
+lines_of_rest x (y ∷ a) h = grind (arith, nat_tests, lines_of_rest y a)
 
 -- the first line of a text goes on at least as far as no LF comes
 pub record Begins (a text : List ℕ) : Type 0 where
@@ -70,28 +67,13 @@ begins x (y ∷ a) more h =
 -- what stands before the first LF
 line_start-Lacks : (xs : List ℕ) → Lacks 10 xs → line_start xs ≡ xs
 line_start-Lacks [] h = refl
-line_start-Lacks (x ∷ xs) h =
-    let parts = or_parts (x == 10) (has 10 xs) h in
-    rw (parts.0, line_start-Lacks xs parts.1) refl
+line_start-Lacks (x ∷ xs) h = grind (arith, nat_tests, line_start-Lacks xs)
 
 line_start-line : (a b : List ℕ) → Lacks 10 a → line_start (a ++ 10 ∷ b) ≡ a
 line_start-line [] b h = refl
-line_start-line (x ∷ a) b h =
-    let parts = or_parts (x == 10) (has 10 a) h in
-    rw (parts.0, line_start-line a b parts.1) refl
+line_start-line (x ∷ a) b h = grind (arith, nat_tests, line_start-line a b)
 
 -- ---- the answers of a cutter
-
--- what holds, holds where there is an error
-pub where_err : {T E P : Type 0} (r : Result T E) → P → OnErr r P
-where_err (Ok x) h = tt
-where_err (Err e) h = h
-
--- what the first LF cuts the piece into
-pub first_cut : (piece end rest : List ℕ) → Some (end, rest) ≡ cut 10 piece → IsCut 10 piece end rest
-first_cut piece end rest e =
-    let P : Option (List ℕ × List ℕ) → Type 0 = λ o. IfSome o (λ q. IsCut 10 piece q.0 q.1) in
-    subst P (sym e) (IsCut-from 10 piece)
 
 regroup : (kept end rest more : List ℕ)
     → kept ++ ((end ++ 10 ∷ rest) ++ more) ≡ (kept ++ end) ++ 10 ∷ (rest ++ more)
@@ -103,16 +85,16 @@ regroup kept end rest more =
 line_first : (kept piece end rest more : List ℕ) → Lacks 10 kept → Some (end, rest) ≡ cut 10 piece
     → lines_of (kept ++ (piece ++ more)) ≡ (kept ++ end) ∷ lines_of (rest ++ more)
 line_first kept piece end rest more lf e =
-    let c = first_cut piece end rest e in
+    let c = IsCut-at 10 piece (end, rest) (sym e) in
     ap (λ (t : List ℕ). lines_of (kept ++ (t ++ more))) c.is
     ∙ ap (λ (t : List ℕ). lines_of t) (regroup kept end rest more)
     ∙ lines_of_line (kept ++ end) (rest ++ more) (Lacks-append 10 kept end lf c.lacks)
 
-pub cuts : (old new : Lines) (piece line end rest : List ℕ) → Lacks 10 old.kept
+pub cuts : {old new : Lines} {piece line end rest : List ℕ} → Lacks 10 old.kept
     → Some (end, rest) ≡ cut 10 piece → line ≡ old.kept ++ end → new.kept ≡ []
     → new.unfinished ≡ old.unfinished + 1 → new.taken ≡ old.taken + (length end + 1)
     → Cuts old piece line rest new
-cuts old new piece line end rest lf e whole none number taken = record {
+cuts {old} {new} {piece} {line} {end} {rest} lf e whole none number taken = record {
   law = λ more. line_first old.kept piece end rest more lf e
       ∙ ap (λ (l : List ℕ). l ∷ lines_of (rest ++ more)) (sym whole)
       ∙ ap (λ (k : List ℕ). line ∷ lines_of (k ++ (rest ++ more))) (sym none);
@@ -120,17 +102,24 @@ cuts old new piece line end rest lf e whole none number taken = record {
   first = sym e;
   whole = whole;
   lf = subst (λ (t : List ℕ). Lacks 10 t) (sym whole)
-      (Lacks-append 10 old.kept end lf (first_cut piece end rest e).lacks);
+      (Lacks-append 10 old.kept end lf (IsCut-at 10 piece (end, rest) (sym e)).lacks);
   kept = none;
   unfinished = number;
   taken = taken;
 }
 
+-- whatever follows what was kept, the lines to come are the same
+pub keeps_law : {old new : Lines} {piece : List ℕ} → Keeps old piece new → (more : List ℕ)
+    → to_come old (piece ++ more) ≡ to_come new more
+keeps_law {old} {piece = piece} k more =
+    ap (λ (t : List ℕ). lines_of t) (sym (append_assoc old.kept piece more))
+    ∙ ap (λ (t : List ℕ). lines_of (t ++ more)) (sym k.kept)
+
 -- room for a line of the piece, with its LF
 pub end_within : (piece end rest : List ℕ) → Some (end, rest) ≡ cut 10 piece
     → length end + 1 + length rest ≡ length piece
 end_within piece end rest e =
-    let c = first_cut piece end rest e in
+    let c = IsCut-at 10 piece (end, rest) (sym e) in
     let parts = length-append end (10 ∷ rest) in
     let same = ap (λ (t : List ℕ). length t) c.is in
     omega arith
@@ -139,7 +128,7 @@ end_within piece end rest e =
 pub long_line : (old : Lines) (piece end rest : List ℕ) → Lacks 10 old.kept
     → Some (end, rest) ≡ cut 10 piece → 1025 < length (old.kept ++ end) → IsTooLong old piece
 long_line old piece end rest lf e long =
-    let c = first_cut piece end rest e in
+    let c = IsCut-at 10 piece (end, rest) (sym e) in
     let start : line_start piece ≡ end =
     ap (λ (t : List ℕ). line_start t) c.is ∙ line_start-line end rest c.lacks in
     record {

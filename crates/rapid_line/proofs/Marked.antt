@@ -1,18 +1,18 @@
 -- What the bits of a look at so many bytes tell.
 use Rattle.std.proofs.Common.{◌≡◌, ℕ, zero, suc, ◌+◌, ◌-◌, ◌/◌, ◌%◌, ◌^◌, ◌<◌, ◌≤◌, Bool, true, false, cond}
-use Rattle.std.proofs.Common.{true≢false, eqb, List, [], ◌∷◌, length, get_or, replicate, refl, sym, ap, ◌∙◌}
+use Rattle.std.proofs.Common.{true≢false, eqb, List, [], ◌∷◌, length, get_or, map, refl, sym, ap, ◌∙◌}
 use Rattle.std.proofs.Common.{arith, w64, inl, inr}
 use Rattle.std.specs.Prelude.{◌≢◌, ◌==◌, count_ones}
 use Rattle.std.specs.Int.{bit_at, trailing_zeros}
 use Rattle.std.specs.Int.Bits.{bit_and, and_step, and_self}
 use Rattle.std.specs.Int.Count.{count_trailing_zeros, under, ones_step}
-use Rattle.std.specs.Simd.Lanes.{chunk, zip2, mask_l}
+use Rattle.std.specs.Simd.Lanes.{chunk, mask_l}
 use Rattle.std.proofs.lemmas.Bool.{cases_lt, eqb-true, eq-eqb}
 use Rattle.std.proofs.lemmas.Nat.{ones_le_self, zero_from_ones}
 use Rattle.std.proofs.lemmas.Nat.Bits.{bit_at-suc, bit_at-zero, bit_at_lowest, bit_at_and, bit_at-lt}
 use Rattle.std.proofs.lemmas.Nat.Bits.{bit_at-trailing_zeros}
-use Rattle.std.proofs.lemmas.Simd.{length-chunk, length-replicate, length-zip2, get_or-chunk}
-use Rattle.std.proofs.lemmas.Simd.{get_or-replicate, get_or-zip2, bit_mask_l}
+use Rattle.std.proofs.lemmas.List.{get_or-map, length-map}
+use Rattle.std.proofs.lemmas.Simd.{length-chunk, get_or-chunk, bit_mask_l}
 use Rattle.rapid_line.specs.Marks.{Tell}
 
 -- ---- the lowest bit that is set
@@ -121,47 +121,43 @@ only_one b few one k other =
 
 -- ---- one look
 
+-- whether each of so many bytes is the byte
+abbrev equals : ℕ → List ℕ → ℕ → List Bool
+equals seen text byte = map (λ x. eqb x byte) (chunk 0 seen text)
+
 equal_at : (seen : ℕ) (text : List ℕ) (byte k : ℕ) → seen ≤ length text → k < seen
-    → get_or (zip2 eqb (chunk 0 seen text) (replicate seen byte)) k false ≡ (get_or text k 0 == byte)
+    → get_or (equals seen text byte) k false ≡ (get_or text k 0 == byte)
 equal_at seen text byte k long lt =
     let seen_bytes = length-chunk 0 seen text (omega (arith, long)) in
-    let splats = length-replicate seen byte in
     let place : 0 + k ≡ k = omega arith in
-    let at : get_or (chunk 0 seen text) k 0 ≡ get_or text k 0 =
-    get_or-chunk 0 seen text k 0 lt ∙ ap (λ j. get_or text j 0) place in
-    get_or-zip2 eqb (chunk 0 seen text) (replicate seen byte) k 0 0 false (omega arith) (omega arith)
-    ∙ rw (at, get_or-replicate seen k byte 0 lt) refl
+    get_or-map (λ x. eqb x byte) (chunk 0 seen text) k 0 false (omega (arith, seen_bytes, lt))
+    ∙ ap (λ x. eqb x byte) (get_or-chunk 0 seen text k 0 lt ∙ ap (λ j. get_or text j 0) place)
 
 lane_within : (xs : List Bool) (k : ℕ) → get_or xs k false ≡ true → k < length xs
 lane_within [] k e = absurd cc
 lane_within (x ∷ xs) zero e = omega arith
 lane_within (x ∷ xs) (suc k) e = let rest = lane_within xs k e in omega (arith, rest)
 
-bit_is : (x : Bool) → cond {A = ℕ} x 1 0 ≡ 1 → x ≡ true
-bit_is true e = refl
-bit_is false e = absurd (omega arith)
-
-no_bit : (x : Bool) → cond {A = ℕ} x 1 0 ≡ 0 → x ≡ false
-no_bit true e = absurd (omega arith)
-no_bit false e = refl
+bit_tells : (x : Bool) → (cond {A = ℕ} x 1 0 ≡ 1 → x ≡ true) × (cond {A = ℕ} x 1 0 ≡ 0 → x ≡ false)
+bit_tells true = (λ e. refl, λ e. absurd (omega arith))
+bit_tells false = (λ e. absurd (omega arith), λ e. refl)
 
 -- the bits of a comparison with a byte tell where it stands
 pub compared : (seen : ℕ) (text : List ℕ) (byte : ℕ) → seen ≤ length text
-    → Tell seen text byte (mask_l (zip2 eqb (chunk 0 seen text) (replicate seen byte)))
+    → Tell seen text byte (mask_l (map (λ x. eqb x byte) (chunk 0 seen text)))
 compared seen text byte long =
-    let same = zip2 eqb (chunk 0 seen text) (replicate seen byte) in
-    let lanes = length-zip2 eqb (chunk 0 seen text) (replicate seen byte)
-    (length-chunk 0 seen text (omega (arith, long)) ∙ sym (length-replicate seen byte)) in
+    let same = equals seen text byte in
+    let lanes = length-map (chunk 0 seen text) (λ x. eqb x byte) in
     let seen_bytes = length-chunk 0 seen text (omega (arith, long)) in
     record {
       set = λ k one.
           let here : get_or same k false ≡ true =
-          bit_is (get_or same k false) (sym (bit_mask_l same k) ∙ one) in
+          (bit_tells (get_or same k false)).0 (sym (bit_mask_l same k) ∙ one) in
           let lt : k < seen = omega (arith, lane_within same k here, lanes, seen_bytes) in
           (lt, eqb-true (get_or text k 0) byte (sym (equal_at seen text byte k long lt) ∙ here));
       clear = λ k lt none is.
           let there : get_or same k false ≡ false =
-          no_bit (get_or same k false) (sym (bit_mask_l same k) ∙ none) in
+          (bit_tells (get_or same k false)).1 (sym (bit_mask_l same k) ∙ none) in
           true≢false (sym (eq-eqb (get_or text k 0) byte is)
           ∙ sym (equal_at seen text byte k long lt) ∙ there);
     }

@@ -1,88 +1,123 @@
--- A content has one split into its parts, and no split says why.
-use Rattle.std.proofs.Common.{◌≡◌, ℕ, ◌+◌, ◌<◌, true, List, [], ◌∷◌, ◌++◌, Ok, Err, refl, sym, ap, ◌∙◌, arith}
-use Rattle.std.proofs.Common.{inl, inr}
-use Rattle.std.specs.Prelude.{◌==◌, ◌⊎◌}
+-- What a content is split into, and why it is not: each split is the only one.
+use Rattle.std.proofs.Common.{◌≡◌, ℕ, ◌+◌, ◌<◌, true, cond, List, [], ◌∷◌, ◌++◌, Option, Some, None, Result}
+use Rattle.std.proofs.Common.{Ok, Err, refl, sym, ap, ◌∙◌, arith, inl, inr}
+use Rattle.std.specs.Prelude.{◌⊎◌}
 use Rattle.std.proofs.lemmas.Bool.{cases_Bool}
+use Rattle.std.proofs.lemmas.Bool.Decides.{nat_tests}
+use Rattle.std.specs.Str.{bytes_eq}
+use Rattle.std.proofs.lemmas.Slice.Eq.{bytes_eq-Decides}
 use Rattle.rapid_line.specs.declared.words.Word.{Word}
+use Rattle.rapid_line.specs.declared.words.Word.TheVariants.{Load, Store, Acquire, Release, Fork, Join}
 use Rattle.rapid_line.specs.declared.words.LineFault.{LineFault}
 use Rattle.rapid_line.specs.declared.words.LineFault.TheVariants.{FewFields, ManyFields, BadOp}
 use Rattle.rapid_line.specs.Cut.{has, count, cut, before_end}
-use Rattle.rapid_line.specs.Grammar.{operation}
-use Rattle.rapid_line.specs.Causes.{HasFields}
+use Rattle.rapid_line.specs.Grammar.{Named, spelling, operation}
+use Rattle.rapid_line.specs.Causes.{HasFields, HasParts}
 use Rattle.rapid_line.specs.Reading.{word_of, fields_of, operation_of}
-use Rattle.rapid_line.proofs.Cuts.{cut_None, IsCut, count-append, count-Lacks}
-use Rattle.rapid_line.proofs.Steps.{unless_err, or_fault_err, ok_inj}
+use Rattle.rapid_line.proofs.Cuts.{cut_None, IsCut, IsCut-at, before_end-Some, count-append, count-Lacks}
+use Rattle.rapid_line.proofs.Steps.{unless_by, or_fault_by, ok_inj}
 use Rattle.rapid_line.proofs.Again.{fields_again, operation_again}
-use Rattle.rapid_line.proofs.Found.{IsCut-at}
+
+-- ---- the three fields
 
 bars-has : (xs : List ℕ) → has 124 xs ≡ true → 0 < count 124 xs
 bars-has [] h = absurd cc
-bars-has (x ∷ xs) h =
-    elim (cases_Bool (x == 124)) [
-      | inl same ↦ rw same (omega arith)
-      | inr differs ↦
-          let rest : has 124 xs ≡ true = rw differs at h in
-          let more : 0 < count 124 xs = bars-has xs rest in
-          rw differs (omega arith)
-    ]
+bars-has (x ∷ xs) h = grind (arith, nat_tests, bars-has xs)
 
--- the bars of a text with a bar at each of two cuts
-bars_cut : (xs a c : List ℕ) → IsCut 124 xs a c → count 124 xs ≡ 1 + count 124 c
-bars_cut xs a c h =
+-- the bars of a text that is cut at the first
+bars_cut : {xs a c : List ℕ} → IsCut 124 xs a c → count 124 xs ≡ 1 + count 124 c
+bars_cut {a = a} {c = c} h =
     let x : count 124 (124 ∷ c) ≡ 1 + count 124 c = refl in
     let y = count-append 124 a (124 ∷ c) in
     let z = count-Lacks 124 a h.lacks in
     let w = ap (count 124) h.is in
     omega (arith, w, y, z, x)
 
--- why there are not three fields
-pub fields_err : (bytes : List ℕ) (f : LineFault) → fields_of bytes ≡ Err f
-    → ((f ≡ FewFields) × (count 124 bytes < 2)) ⊎ ((f ≡ ManyFields) × (2 < count 124 bytes))
-fields_err bytes f e =
-    elim (or_fault_err FewFields (cut 124 bytes) _ f e) [
-      | inl few ↦
-          let z = count-Lacks 124 bytes (cut_None 124 bytes few.0) in
-          inl (sym few.1, omega (arith, z))
-      | inr p ↦
-          let n = bars_cut bytes p.0.0 p.0.1 (IsCut-at 124 bytes p.0 p.1) in
-          elim (or_fault_err FewFields (cut 124 p.0.1) _ f p.2) [
-            | inl few ↦
-                let z = count-Lacks 124 p.0.1 (cut_None 124 p.0.1 few.0) in
-                inl (sym few.1, omega (arith, n, z))
-            | inr q ↦
-                let m = bars_cut p.0.1 q.0.0 q.0.1 (IsCut-at 124 p.0.1 q.0 q.1) in
-                elim (unless_err ManyFields (has 124 q.0.1) _ f q.2) [
-                  | inl many ↦ let z = bars-has q.0.1 many.0 in inr (sym many.1, omega (arith, n, m, z))
-                  | inr fine ↦ absurd cc
-                ]
-          ]
-    ]
+-- there are three fields, or too few bars or too many
+abbrev pub FieldsSay : List ℕ → Result (List ℕ × List ℕ × List ℕ) LineFault → Type 0
+FieldsSay bytes (Ok f) = HasFields bytes f.0 f.1 f.2
+FieldsSay bytes (Err f) =
+    ((f ≡ FewFields) × (count 124 bytes < 2)) ⊎ ((f ≡ ManyFields) × (2 < count 124 bytes))
 
-pub two_bars : (bytes t o l : List ℕ) → HasFields bytes t o l → count 124 bytes ≡ 2
-two_bars bytes t o l h =
-    let n = bars_cut bytes t (o ++ 124 ∷ l) (record { is = h.is; lacks = h.thread_bar }) in
-    let m = bars_cut (o ++ 124 ∷ l) o l (record { is = refl; lacks = h.op_bar }) in
+pub fields_say : (bytes : List ℕ) → FieldsSay bytes (fields_of bytes)
+fields_say bytes =
+    or_fault_by (FieldsSay bytes) FewFields (cut 124 bytes) _
+    (λ none. let z = count-Lacks 124 bytes (cut_None 124 bytes none) in inl (refl, omega (arith, z))) (λ p at.
+    let c = IsCut-at 124 bytes p at in
+    let n = bars_cut c in
+    or_fault_by (FieldsSay bytes) FewFields (cut 124 p.1) _
+    (λ none. let z = count-Lacks 124 p.1 (cut_None 124 p.1 none) in inl (refl, omega (arith, n, z))) (λ q at'.
+    let d = IsCut-at 124 p.1 q at' in
+    let m = bars_cut d in
+    unless_by (FieldsSay bytes) ManyFields (has 124 q.1) _
+    (λ many. let z = bars-has q.1 many in inr (refl, omega (arith, n, m, z)))
+    (λ lacks. record {
+      is = c.is ∙ ap (λ (t : List ℕ). p.0 ++ 124 ∷ t) d.is;
+      thread_bar = c.lacks;
+      op_bar = d.lacks;
+      location_bar = lacks;
+    })))
+
+pub two_bars : {bytes t o l : List ℕ} → HasFields bytes t o l → count 124 bytes ≡ 2
+two_bars {bytes} {t} {o} {l} h =
+    let one : IsCut 124 bytes t (o ++ 124 ∷ l) = record { is = h.is; lacks = h.thread_bar } in
+    let two : IsCut 124 (o ++ 124 ∷ l) o l = record { is = refl; lacks = h.op_bar } in
+    let n = bars_cut one in
+    let m = bars_cut two in
     let z = count-Lacks 124 l h.location_bar in
     omega (arith, n, m, z)
 
-pub operation_err : (field : List ℕ) (f : LineFault) → operation_of field ≡ Err f → f ≡ BadOp
-operation_err field f e =
-    elim (or_fault_err BadOp (cut 40 field) _ f e) [
-      | inl h ↦ sym h.1
-      | inr p ↦ elim (or_fault_err BadOp (word_of p.0.0) _ f p.2) [
-        | inl h ↦ sym h.1
-        | inr w ↦ elim (or_fault_err BadOp (before_end 41 p.0.1) _ f w.2) [
-          | inl h ↦ sym h.1
-          | inr argument ↦ absurd cc
-        ]
-      ]
+pub one_split : {bytes a b c t o l : List ℕ} → HasFields bytes a b c → HasFields bytes t o l
+    → ◌≡◌ {A = List ℕ × List ℕ × List ℕ} (a, b, c) (t, o, l)
+one_split h k = ok_inj _ _ (sym (fields_again h) ∙ fields_again k)
+
+-- ---- the operation
+
+test_word : (bytes text : List ℕ) (v : Word) (rest o : Option Word) (w : Word) → o ≡ Some w
+    → o ≡ cond (bytes_eq bytes text) (Some v) rest → text ≡ spelling v
+    → (rest ≡ Some w → bytes ≡ spelling w) → bytes ≡ spelling w
+test_word bytes text v rest o w e is sp next =
+    elim (cases_Bool (bytes_eq bytes text)) [
+      | inl same ↦
+          let here : o ≡ Some v = rw same at is in
+          let both : Some v ≡ Some w = sym here ∙ e in
+          let vw : v ≡ w = cc in
+          (bytes_eq-Decides bytes text).0 same ∙ sp ∙ ap spelling vw
+      | inr differs ↦
+          let there : o ≡ rest = rw differs at is in
+          next (sym there ∙ e)
     ]
 
--- the decomposition is the one
-pub one_split : (bytes t o l : List ℕ) (f : List ℕ × List ℕ × List ℕ) → fields_of bytes ≡ Ok f
-    → HasFields bytes t o l → f ≡ (t, o, l)
-one_split bytes t o l f e h = ok_inj f (t, o, l) (sym e ∙ fields_again bytes t o l h)
+word_found : (bytes : List ℕ) (w : Word) → word_of bytes ≡ Some w → bytes ≡ spelling w
+unfolding word_of
+word_found bytes w e =
+    test_word bytes (spelling Load) Load _ (word_of bytes) w e refl refl (λ e₁.
+    test_word bytes (spelling Store) Store _ _ w e₁ refl refl (λ e₂.
+    test_word bytes (spelling Acquire) Acquire _ _ w e₂ refl refl (λ e₃.
+    test_word bytes (spelling Release) Release _ _ w e₃ refl refl (λ e₄.
+    test_word bytes (spelling Fork) Fork _ _ w e₄ refl refl (λ e₅.
+    test_word bytes (spelling Join) Join None _ w e₅ refl refl (λ e₆. absurd cc))))))
 
-pub one_operation : (field : List ℕ) (w : Word) (a : List ℕ) (o : Word × List ℕ) → operation_of field ≡ Ok o
-    → field ≡ operation w a → o ≡ (w, a)
-one_operation field w a o e h = ok_inj o (w, a) (sym e ∙ ap operation_of h ∙ operation_again w a)
+-- the field is an operation, or it is none
+abbrev pub OperationSays : List ℕ → Result (Word × List ℕ) LineFault → Type 0
+OperationSays field (Ok o) = field ≡ operation o.0 o.1
+OperationSays field (Err f) = f ≡ BadOp
+
+pub operation_says : (field : List ℕ) → OperationSays field (operation_of field)
+operation_says field =
+    or_fault_by (OperationSays field) BadOp (cut 40 field) _ (λ none. refl) (λ p at.
+    or_fault_by (OperationSays field) BadOp (word_of p.0) _ (λ none. refl) (λ w spelled.
+    or_fault_by (OperationSays field) BadOp (before_end 41 p.1) _ (λ none. refl) (λ argument end.
+    (IsCut-at 40 field p at).is ∙ ap (λ (t : List ℕ). p.0 ++ 40 ∷ t) (before_end-Some 41 p.1 argument end)
+    ∙ ap (λ (t : List ℕ). t ++ 40 ∷ (argument ++ 41 ∷ [])) (word_found p.0 w spelled))))
+
+-- a content has one named event's parts at most
+pub one_parts : {bytes : List ℕ} {d e : Named} → HasParts bytes d → HasParts bytes e → d ≡ e
+one_parts {d = d} {e = e} p q =
+    let f = one_split p.fields q.fields in
+    let field : operation d.word d.argument ≡ operation e.word e.argument =
+    ap (λ (x : List ℕ × List ℕ × List ℕ). x.1) f in
+    let o : (d.word, d.argument) ≡ (e.word, e.argument) =
+    ok_inj _ _ (sym (operation_again d.word d.argument) ∙ ap operation_of field
+    ∙ operation_again e.word e.argument) in
+    λ i. record { thread = (f i).0; word = (o i).0; argument = (o i).1; location = (f i).2 }

@@ -1,11 +1,11 @@
 //! A text, which comes in pieces, cut into lines.
 //!
-//! A line that lies whole in a piece stays where it is. Of a line whose end was not seen at most 1,025 bytes
-//! are kept, and with one byte more it is too long: a content of at most 1,024 bytes and a CR is shorter. So
-//! no memory is taken, however long the text is.
+//! A line that lies whole in a piece stays where it is. At most 1,025 bytes are kept of a line whose end was
+//! not seen. With one byte more the line is too long: a content has at most 1,024 bytes, and a CR may follow
+//! it. So a text takes no memory, however long it is.
 //!
-//! The way of a line that lies whole in a piece is inlined, since an answer that is handed up through memory
-//! costs more than the cut. What is rare stands in functions of its own.
+//! The path of a line that lies whole in a piece is inlined, since an answer that is returned through memory
+//! costs more than the cut. Rare cases have functions of their own.
 ghost use Rattle.std.specs.Prelude.{◌≡◌, ◌≢◌, ◌+◌, ◌<◌, ◌≤◌, ◌↔◌, ◌++◌, [], length, option_map, None, IsTrue};
 ghost use Rattle.std.specs.Prelude.{IfOk, IfSome, IfNone, OnOk, OnErr};
 ghost use Rattle.rapid_line.specs.Cut.{Lacks, cut};
@@ -37,7 +37,7 @@ pub struct CutLine<'a> {
     whole: Option<Line<'a>>,
 }
 
-/// A line of whose bars nothing is known.
+/// A line whose bars are not known.
 fn unmarked(bytes: &[u8]) -> Line<'_>
     ensures bytes { result.bytes.now ≡ bytes.now }
     ensures known { IsKnown result }
@@ -45,7 +45,7 @@ fn unmarked(bytes: &[u8]) -> Line<'_>
     Line { bytes, bars: None }
 }
 
-/// The bytes before the first LF, with their bars where one look tells them, and those after it.
+/// The bytes before the first LF, with their bars where one look finds them, and the bytes after it.
 #[inline(always)]
 fn cut_line(bytes: &[u8]) -> Option<(Line<'_>, &[u8])>
     ensures cut { option_map (λ p. (p.0.bytes.now, p.1.now)) result ≡ cut 10 bytes.now }
@@ -57,7 +57,7 @@ fn cut_line(bytes: &[u8]) -> Option<(Line<'_>, &[u8])>
     search_line(bytes)
 }
 
-/// The same, where a look at 32 bytes does not tell.
+/// The same, where a look at 32 bytes does not find them.
 #[inline(never)]
 fn search_line(bytes: &[u8]) -> Option<(Line<'_>, &[u8])>
     ensures cut { option_map (λ p. (p.0.bytes.now, p.1.now)) result ≡ cut 10 bytes.now }
@@ -84,7 +84,7 @@ fn keep(kept: &mut ArrayVec<u8, MOST_KEPT>, bytes: &[u8]) -> Result<(), LineTooL
     Ok(())
 }
 
-/// The line that ends with these bytes: they themselves where nothing was kept, and else what is joined then.
+/// The line that ends with these bytes: the bytes themselves where nothing was kept, else the joined line.
 #[inline(always)]
 fn whole_line<'a>(
     kept: &mut ArrayVec<u8, MOST_KEPT>,
@@ -163,7 +163,7 @@ impl LineCutter {
         }
     }
 
-    /// Whether no more bytes come with the piece than a cutter takes.
+    /// Whether the cutter takes the bytes of the piece, besides those that came.
     #[inline(always)]
     pub fn has_room(&self, piece: &[u8]) -> bool
         ensures { IsTrue result ↔ (self.now.taken + length piece.now ≤ most) }

@@ -103,7 +103,7 @@ fn common_word(field: &[u8]) -> Option<(Word, &[u8])>
     None
 }
 
-/// The word and its argument, of what follows the parenthesis.
+/// The word, and its argument in what follows the parenthesis.
 #[inline(always)]
 fn with_argument(word: Word, rest: &[u8]) -> Result<(Word, &[u8]), LineFault>
     ensures { Gives (λ o. (o.0, o.1.now)) result (argument_of word rest.now) }
@@ -139,7 +139,7 @@ fn operation(field: &[u8]) -> Result<(Word, &[u8]), LineFault>
     any_operation(field)
 }
 
-/// The three fields, where it is known where the bars stand.
+/// The three fields between bars whose places are known.
 #[inline(always)]
 #[tactic(auto, using(crate::proofs::Barred::fields_barred))]
 fn fields_at(bytes: &[u8], first_bar: usize, second_bar: usize) -> (&[u8], &[u8], &[u8])

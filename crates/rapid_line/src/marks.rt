@@ -29,7 +29,7 @@ fn without_lowest(bits: u64) -> u64
     bits & (bits - 1)
 }
 
-/// Bit k says whether byte k of the first line is this byte, which is no LF. Where the LFs stand is known.
+/// Bit k says whether byte k of the first line is this byte, which is no LF. The places of the LFs are known.
 #[inline(always)]
 fn places_in_line<const SEEN: usize>(text: &[u8], byte: u8, ends: u64) -> u64
     requires few { SEEN ≤ 64 }

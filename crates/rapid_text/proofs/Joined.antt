@@ -20,20 +20,19 @@ use Rattle.std.proofs.Common.{
 use Rattle.std.specs.List.{concat}
 use Rattle.event_core.specs.declared.events.Event.{Event}
 use Rattle.event_core.specs.Bounds.{Bounds}
-use Rattle.rapid_text.specs.declared.causes.Cause.{Cause}
 use Rattle.rapid_text.specs.declared.causes.TextFault.{TextFault}
 use Rattle.rapid_text.specs.Tables.{no_names}
-use Rattle.rapid_text.specs.Texts.{Judgement, judgement, with_event, ended}
+use Rattle.rapid_text.specs.Texts.{Judgement, judgement, with_event, ended, StopsAfter, StopsWith}
 use Rattle.rapid_text.specs.Cutting.{Cutting, judged, begun, Stops, Closes, Closed}
-use Rattle.rapid_text.specs.Pushing.{told, Pushed, with_events}
+use Rattle.rapid_text.specs.Pushing.{answered, Pushed, with_events}
 use Rattle.rapid_text.specs.Pushing.Pushed.{all_pushed, used_up, pushed}
 
-told_first : (line : ℕ) (event : Option Event) (events : List (ℕ × Event)) (j : Judgement)
-    → with_event line event (with_events events j) ≡ with_events (told line event ++ events) j
-told_first line None events j = refl
-told_first line (Some e) events j = refl
+answered_first : (line : ℕ) (event : Option Event) (events : List (ℕ × Event)) (j : Judgement)
+    → with_event line event (with_events events j) ≡ with_events (answered line event ++ events) j
+answered_first line None events j = refl
+answered_first line (Some e) events j = refl
 
--- of the pieces and what follows them the rest is still to be judged, after the events that were told
+-- of the pieces and what follows them the rest is still to be judged, after the events that were answered
 pub pushed_text : (s t : Cutting) (pieces : List (List ℕ)) (events : List (ℕ × Event))
     → Pushed s pieces events t → (more : List ℕ)
     → judged s (concat pieces ++ more) ≡ with_events events (judged t more)
@@ -45,13 +44,13 @@ pushed_text s t _ _ (pushed {m = m} {piece = w} {pieces = ps} {events = es} {use
     ∙ p.sound (concat ps ++ more)
     ∙ ap (λ (x : List ℕ). with_event m.line e (judged m x)) (sym (append_assoc after (concat ps) more))
     ∙ ap (λ (j : Judgement). with_event m.line e j) (pushed_text m t (after ∷ ps) es q more)
-    ∙ told_first m.line e es (judged t more)
+    ∙ answered_first m.line e es (judged t more)
 
-told_last : (events : List (ℕ × Event)) (t : Cutting) (event : Option Event)
+answered_last : (events : List (ℕ × Event)) (t : Cutting) (event : Option Event)
     → with_events events (with_event t.line event (ended t.names))
-    ≡ record { events = events ++ told t.line event; fault = None; names = t.names }
-told_last events t None = refl
-told_last events t (Some e) = refl
+    ≡ record { events = events ++ answered t.line event; fault = None; names = t.names }
+answered_last events t None = refl
+answered_last events t (Some e) = refl
 
 -- the whole text, with nothing after it
 whole : (limits : Bounds) (last : Cutting) (pieces : List (List ℕ)) (events : List (ℕ × Event))
@@ -64,15 +63,15 @@ whole limits last pieces events p =
 pub joined_ends : (limits : Bounds) (pieces : List (List ℕ)) (events : List (ℕ × Event)) (last end : Cutting)
     (event : Option Event) → Pushed (begun limits) pieces events last → Closes last end event
     → judgement (no_names limits) (concat pieces)
-    ≡ record { events = events ++ told end.line event; fault = None; names = end.names }
+    ≡ record { events = events ++ answered end.line event; fault = None; names = end.names }
 joined_ends limits pieces events last end event p z =
     whole limits last pieces events p ∙ ap (λ (j : Judgement). with_events events j) z.sound
-    ∙ told_last events end event
+    ∙ answered_last events end event
 
--- a text that goes on as one which stops at once stops after the events that were told
-stopped_after : (events : List (ℕ × Event)) (j k : Judgement) (n : ℕ) (c : Cause) → j ≡ with_events events k
-    → (k.events ≡ []) × (k.fault ≡ Some (n, c)) → (j.events ≡ events) × (j.fault ≡ Some (n, c))
-stopped_after events j k n c is h = (
+-- a text that goes on as one which stops at once stops after the events that were answered
+stopped_after : (events : List (ℕ × Event)) (f : TextFault) (j k : Judgement) → j ≡ with_events events k
+    → StopsWith f k → StopsAfter events f j
+stopped_after events f j k is h = (
   ap (λ (x : Judgement). x.events) is ∙ ap (λ (es : List (ℕ × Event)). events ++ es) h.0
       ∙ append-nil events,
   ap (λ (x : Judgement). x.fault) is ∙ h.1,
@@ -80,17 +79,14 @@ stopped_after events j k n c is h = (
 
 pub joined_stops : (limits : Bounds) (pieces : List (List ℕ)) (events : List (ℕ × Event)) (last : Cutting)
     (piece : List ℕ) (f : TextFault) → Pushed (begun limits) pieces events last → Stops last piece f
-    → (more : List ℕ) → ((judgement (no_names limits) (concat pieces ++ (piece ++ more))).events ≡ events)
-    × ((judgement (no_names limits) (concat pieces ++ (piece ++ more))).fault ≡ Some (f.line, f.cause))
+    → (more : List ℕ) → StopsAfter events f (judgement (no_names limits) (concat pieces ++ (piece ++ more)))
 joined_stops limits pieces events last piece f p h more =
-    stopped_after events (judgement (no_names limits) (concat pieces ++ (piece ++ more)))
-    (judged last (piece ++ more)) f.line f.cause
-    (pushed_text (begun limits) last pieces events p (piece ++ more)) (h more)
+    stopped_after events f (judgement (no_names limits) (concat pieces ++ (piece ++ more)))
+    (judged last (piece ++ more)) (pushed_text (begun limits) last pieces events p (piece ++ more)) (h more)
 
 pub joined_closes : (limits : Bounds) (pieces : List (List ℕ)) (events : List (ℕ × Event)) (last : Cutting)
     (f : TextFault) → Pushed (begun limits) pieces events last → Closed last f
-    → ((judgement (no_names limits) (concat pieces)).events ≡ events)
-    × ((judgement (no_names limits) (concat pieces)).fault ≡ Some (f.line, f.cause))
+    → StopsAfter events f (judgement (no_names limits) (concat pieces))
 joined_closes limits pieces events last f p h =
-    stopped_after events (judgement (no_names limits) (concat pieces)) (judged last []) f.line f.cause
+    stopped_after events f (judgement (no_names limits) (concat pieces)) (judged last [])
     (whole limits last pieces events p) h

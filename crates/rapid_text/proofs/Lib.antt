@@ -1,9 +1,10 @@
 pub mod SpaceLaws
 pub mod NameLaws
-pub mod Ends
+pub mod NameWords
 pub mod NoteLaws
 pub mod Lines
 pub mod LongLines
+pub mod Taken
 pub mod Pieces
 pub mod WindowLaws
 pub mod Outputs
@@ -17,4 +18,3 @@ pub mod NewNames
 pub mod Joined
 pub mod Begins
 pub mod FeedLaws
-pub mod Taken

@@ -1,7 +1,7 @@
 -- A line of more than 1,025 bytes has a content that is too long.
-use Rattle.std.proofs.Common.{◌≡◌, ℕ, ◌-◌, ◌<◌, List, length, get_or, take, Err, refl, arith, inl, inr, min}
-use Rattle.std.specs.Prelude.{◌&&◌, ◌==◌, nat_lt}
-use Rattle.std.proofs.lemmas.Bool.{lt-ltb, ne_eqb, cases_Bool}
+use Rattle.std.proofs.Common.{◌≡◌, ℕ, ◌-◌, ◌<◌, List, length, Err, refl, arith}
+use Rattle.std.proofs.lemmas.Bool.{lt-ltb, ne_eqb}
+use Rattle.std.proofs.lemmas.Bool.Decides.{nat_tests}
 use Rattle.std.proofs.lemmas.List.{length-take}
 use Rattle.rapid_line.specs.declared.words.LineFault.TheVariants.{LineTooLong}
 use Rattle.rapid_line.specs.Reading.{line_of}
@@ -10,12 +10,7 @@ use Rattle.rapid_text.specs.Tables.{Tables}
 use Rattle.rapid_text.specs.Events.{content, reading}
 
 pub content_long : (bytes : List ℕ) → 1025 < length bytes → 1024 < length (content bytes)
-content_long bytes h =
-    elim (cases_Bool (nat_lt 0 (length bytes) && (get_or bytes (length bytes - 1) 0 == 13))) [
-      | inl same ↦ let e : length (take (length bytes - 1) bytes) ≡ min (length bytes - 1) (length bytes) =
-          length-take (length bytes - 1) bytes in rw same (omega (arith, e))
-      | inr differs ↦ rw differs (omega arith)
-    ]
+content_long bytes h = grind (arith, nat_tests, length-take (length bytes - 1) bytes)
 
 line_long : (bytes : List ℕ) → 1024 < length bytes → line_of bytes ≡ Err LineTooLong
 unfolding line_of

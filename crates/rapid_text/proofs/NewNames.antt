@@ -2,8 +2,7 @@
 use Rattle.std.proofs.Common.{◌≡◌, ◌≢◌, ℕ, ◌+◌, ◌<◌, ◌≤◌, List, length, Option, Some, None}
 use Rattle.std.proofs.Common.{Result, Ok, Err, refl, sym, ap, subst, ◌∙◌, arith}
 use Rattle.std.proofs.Common.{◌⊎◌, inl, inr}
-use Rattle.std.specs.Prelude.{IsOk, IsSome, OnErr, nat_lt}
-use Rattle.std.proofs.lemmas.Bool.{ltb-true, ltb-false, cases_Bool}
+use Rattle.std.specs.Prelude.{IsOk, IsSome}
 use Rattle.std.proofs.lemmas.List.{length_push}
 use Rattle.event_core.specs.declared.events.Event.{Event}
 use Rattle.rapid_line.specs.declared.words.Word.{Word}
@@ -14,7 +13,7 @@ use Rattle.rapid_text.specs.declared.causes.Kind.{Kind}
 use Rattle.rapid_text.specs.declared.causes.Kind.TheVariants as kinds
 use Rattle.rapid_text.specs.declared.causes.Cause.{Cause}
 use Rattle.rapid_text.specs.declared.causes.Cause.TheVariants as causes
-use Rattle.rapid_text.specs.Numbers.{Numbered, with_name, place_of}
+use Rattle.rapid_text.specs.Numbers.{Numbered, with_name, found_number}
 use Rattle.rapid_text.specs.Tables.{Tables, space, number_in}
 use Rattle.rapid_text.specs.Events.{kind_of, event_of, number_or_fault, named_event, some_event, HasEvent}
 use Rattle.rapid_text.specs.declared.event_lines.Known.{Known}
@@ -29,13 +28,13 @@ event_read (Err f) ok = absurd cc
 -- the argument's space after the thread was numbered: the thread is one more in it, or it is the same
 record OneMore (t u : Tables) (kind : Kind) (a : List ℕ) (n : ℕ) : Type 0 where
   thread : kind ≡ kinds.Thread
-  new : place_of (space t kind) a ≡ None
+  new : found_number (space t kind) a ≡ None
   number : n ≡ length (space t kind).names
   is : space u kind ≡ with_name (space t kind) a
 
 record AsBefore (t u : Tables) (kind : Kind) (a : List ℕ) (n : ℕ) : Type 0 where
   is : space u kind ≡ space t kind
-  known : kind ≡ kinds.Thread → place_of (space t kind) a ≡ Some n
+  known : kind ≡ kinds.Thread → found_number (space t kind) a ≡ Some n
 
 after_thread : (t u : Tables) (kind : Kind) (a : List ℕ) (n : ℕ) → number_in t kinds.Thread a ≡ Some (n, u)
     → OneMore t u kind a n ⊎ AsBefore t u kind a n
@@ -44,30 +43,16 @@ after_thread t u kinds.Thread a n e =
       | inl was ↦ inr (record { is = was.1; known = λ _. was.0 })
       | inr new ↦ inl (record { thread = refl; new = new.0; number = new.1; is = new.2 })
     ]
-after_thread t u kinds.Lock a n e =
+after_thread t u kind a n e =
     inr (record {
-      is = (spaces t kinds.Thread a n u e).others kinds.Lock (λ bad. absurd cc);
-      known = λ bad. absurd cc;
-    })
-after_thread t u kinds.Variable a n e =
-    inr (record {
-      is = (spaces t kinds.Thread a n u e).others kinds.Variable (λ bad. absurd cc);
-      known = λ bad. absurd cc;
-    })
-after_thread t u kinds.Site a n e =
-    inr (record {
-      is = (spaces t kinds.Thread a n u e).others kinds.Site (λ bad. absurd cc);
+      is = (spaces t kinds.Thread a n u e).others kind (λ bad. absurd cc);
       known = λ bad. absurd cc;
     })
 
 -- an argument is no location
 no_site : (w : Word) → kinds.Site ≢ kind_of w
 no_site words.Load bad = absurd cc
-no_site words.Store bad = absurd cc
-no_site words.Acquire bad = absurd cc
-no_site words.Release bad = absurd cc
-no_site words.Fork bad = absurd cc
-no_site words.Join bad = absurd cc
+no_site _ bad = absurd cc
 
 sites_kept : (t u v : Tables) (e : Named) (n k : ℕ) → number_in t kinds.Thread e.thread ≡ Some (n, u)
     → number_in u (kind_of e.word) e.argument ≡ Some (k, v) → space v kinds.Site ≡ space t kinds.Site
@@ -122,11 +107,8 @@ within_limit : (t : Tables) (kind : Kind) (known : Option ℕ) (more : ℕ)
     → (PassesLimit t kind known more → ⊥) → known ≡ None
     → length (space t kind).names + more ≤ (space t kind).limit
 within_limit t kind known more within new =
-    elim (cases_Bool (nat_lt (space t kind).limit (length (space t kind).names + more))) [
-      | inl less ↦ absurd (within
-          (new, ltb-true (space t kind).limit (length (space t kind).names + more) less))
-      | inr most ↦ ltb-false (space t kind).limit (length (space t kind).names + more) most
-    ]
+    let least : (space t kind).limit < length (space t kind).names + more → ⊥ = λ less. within (new, less) in
+    omega arith
 
 pub thread_too_many : (t : Tables) (e : Named) (known : Known) → AreKnown t e known
     → PassesLimit t kinds.Thread known.thread 1
@@ -156,15 +138,15 @@ module _ (t : Tables) (e : Named) (known : Known) (m : ℕ) (are : AreKnown t e 
     -- nothing is added before an argument whose space stays
     alone : (n : ℕ) (u : Tables) → AsBefore t u (kind_of e.word) e.thread n → m ≡ 1
     alone n u b = one (λ adds. absurd (
-        let place : place_of own e.thread ≡ None =
-        ap (λ (k : Kind). place_of (space t k) e.thread) adds.1 ∙ sym are.thread ∙ adds.0 in
+        let place : found_number own e.thread ≡ None =
+        ap (λ (k : Kind). found_number (space t k) e.thread) adds.1 ∙ sym are.thread ∙ adds.0 in
         let bad : Some n ≡ None = sym (b.known adds.1) ∙ place in
         cc))
 
     -- a second thread is added after the first
     both : (n : ℕ) (u : Tables) → OneMore t u (kind_of e.word) e.thread n → e.argument ≢ e.thread → m ≡ 2
     both n u b apart = two (
-      are.thread ∙ ap (λ (k : Kind). place_of (space t k) e.thread) (sym b.thread) ∙ b.new,
+      are.thread ∙ ap (λ (k : Kind). found_number (space t k) e.thread) (sym b.thread) ∙ b.new,
       b.thread,
       apart,
     )
@@ -175,10 +157,10 @@ module _ (t : Tables) (e : Named) (known : Known) (m : ℕ) (are : AreKnown t e 
         fits u (kind_of e.word) e.argument (λ new.
         elim (after_thread t u (kind_of e.word) e.thread n first) [
           | inl more ↦
-              let named : place_of (with_name own e.thread) e.argument ≡ None =
-              ap (λ (s : Numbered). place_of s e.argument) (sym more.is) ∙ new in
+              let named : found_number (with_name own e.thread) e.argument ≡ None =
+              ap (λ (s : Numbered). found_number s e.argument) (sym more.is) ∙ new in
               let apart : e.argument ≢ e.thread = λ same. absurd (
-              let there = ap (λ (x : List ℕ). place_of (with_name own e.thread) x) same in
+              let there = ap (λ (x : List ℕ). found_number (with_name own e.thread) x) same in
               let found = same_place own e.thread more.new in
               let bad : Some (length own.names) ≡ None =
               sym found ∙ sym there ∙ named in cc) in
@@ -190,13 +172,13 @@ module _ (t : Tables) (e : Named) (known : Known) (m : ℕ) (are : AreKnown t e 
           | inr same ↦
               subst (λ (s : Numbered). length s.names + 1 ≤ s.limit) (sym same.is)
               (subst Room (alone n u same)
-              (left (are.target ∙ ap (λ (s : Numbered). place_of s e.argument) (sym same.is) ∙ new)))
+              (left (are.target ∙ ap (λ (s : Numbered). found_number s e.argument) (sym same.is) ∙ new)))
         ])
 
     target_lacks : (n : ℕ) (u : Tables) → number_in t kinds.Thread e.thread ≡ Some (n, u)
         → known.target ≡ None → (Room m → ⊥) → number_in u (kind_of e.word) e.argument ≡ None
     target_lacks n u first new full =
-        let place : place_of own e.argument ≡ None = sym are.target ∙ new in
+        let place : found_number own e.argument ≡ None = sym are.target ∙ new in
         elim (after_thread t u (kind_of e.word) e.thread n first) [
           | inl more ↦
               let longer = length_push own.names e.thread in
@@ -204,18 +186,19 @@ module _ (t : Tables) (e : Named) (known : Known) (m : ℕ) (are : AreKnown t e 
               let alone : m ≡ 1 = one (λ adds. absurd (adds.2 same)) in
               let room : Room 1 = subst (λ (k : Kind). length (space t k).names + 1 ≤ (space t k).limit)
               (sym more.thread)
-              (thread_left (are.thread ∙ ap (λ (k : Kind). place_of (space t k) e.thread) (sym more.thread)
+              (thread_left (are.thread
+              ∙ ap (λ (k : Kind). found_number (space t k) e.thread) (sym more.thread)
               ∙ more.new)) in
               full (subst Room (sym alone) room)) in
               let two_more : Room 2 → ⊥ = λ room. full (subst Room (sym (both n u more apart)) room) in
               lacks u (kind_of e.word) e.argument
-              (ap (λ (s : Numbered). place_of s e.argument) more.is
+              (ap (λ (s : Numbered). found_number s e.argument) more.is
               ∙ other_place own e.thread e.argument apart ∙ place)
               (subst (λ (s : Numbered). length s.names + 1 ≤ s.limit → ⊥) (sym more.is)
               (λ room. two_more (omega (arith, room, longer))))
           | inr same ↦
               lacks u (kind_of e.word) e.argument
-              (ap (λ (s : Numbered). place_of s e.argument) same.is ∙ place)
+              (ap (λ (s : Numbered). found_number s e.argument) same.is ∙ place)
               (subst (λ (s : Numbered). length s.names + 1 ≤ s.limit → ⊥) (sym same.is)
               (λ room. full (subst Room (sym (alone n u same)) room)))
         ]
@@ -239,7 +222,7 @@ module _ (t : Tables) (e : Named) (known : Known) (m : ℕ) (are : AreKnown t e 
         let over = passes.1 in
         named_by_third t first.1 second.1 e first.0 second.0 None first.2 second.2
         (lacks second.1 kinds.Site e.location
-        (ap (λ (s : Numbered). place_of s e.location) kept ∙ sym are.site ∙ passes.0)
+        (ap (λ (s : Numbered). found_number s e.location) kept ∙ sym are.site ∙ passes.0)
         (subst (λ (s : Numbered). length s.names + 1 ≤ s.limit → ⊥) (sym kept)
         (λ left. absurd (omega (arith, left, over)))))
 
@@ -254,16 +237,12 @@ module _ (t : Tables) (e : Named) (known : Known) (m : ℕ) (are : AreKnown t e 
         (fits second.1 kinds.Site e.location (λ new.
         subst (λ (s : Numbered). length s.names + 1 ≤ s.limit) (sym kept)
         (within_limit t kinds.Site known.site 1 site
-        (are.site ∙ ap (λ (s : Numbered). place_of s e.location) (sym kept) ∙ new)))) in
+        (are.site ∙ ap (λ (s : Numbered). found_number s e.location) (sym kept) ∙ new)))) in
         let event = named_by_third t first.1 second.1 e first.0 second.0 (Some (third.0, third.1)) first.2
         second.2 third.2 in
         rw event refl
 
 -- ---- a line of which some names were numbered
-
-pub on_err : {Y E : Type 0} (X : Type 0) (r : Result Y E) → X → OnErr r X
-on_err X (Ok y) x = tt
-on_err X (Err e) x = x
 
 -- the first name, and the second, have their numbers again, so the line is read as before
 pub read_after_first : (t u : Tables) (e : Named) (n : ℕ) → number_in t kinds.Thread e.thread ≡ Some (n, u)

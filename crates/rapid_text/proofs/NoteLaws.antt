@@ -9,7 +9,7 @@ use Rattle.std.proofs.lemmas.Option.{slice_get-get_or, slice_get_within, get_or_
 use mathlib.Core.Logic.{inl, inr}
 use Rattle.rapid_text.specs.declared.number_cache.Note.{Note}
 use Rattle.rapid_text.specs.NumberCache.{HoldsNone, IsOneOf, IsNoteOf, IsFound, IsRight, AreRight}
-use Rattle.rapid_text.proofs.Ends.{same_name}
+use Rattle.rapid_text.proofs.NameWords.{same_name}
 use Rattle.event_core.proofs.Places.{get_before}
 
 -- a note of the name with its number is right

@@ -1,7 +1,6 @@
 -- Bytes that are written in several puts.
 use Rattle.std.proofs.Common.{◌≡◌, ℕ, List, [], ◌++◌, take, drop, Option, refl, sym, ap, ◌∙◌, append_assoc}
-use Rattle.std.proofs.Common.{take-append-drop, Bool, true, false}
-use Rattle.std.specs.Prelude.{◌||◌}
+use Rattle.std.proofs.Common.{take-append-drop}
 use Rattle.std.specs.Io.KnownBytes.{Appends}
 use Rattle.std.proofs.KnownBytes.{Appends-nil, Appends-trans}
 
@@ -22,8 +21,3 @@ wrote_more old now new bytes rest n w h = record {
       (append_assoc w.front (take n rest) (drop n rest));
   appended = Appends-trans old now new w.front (take n rest) w.appended h;
 }
-
--- a call that did not fail
-pub or_false : (b : Bool) → (b || false) ≡ b
-or_false true = refl
-or_false false = refl

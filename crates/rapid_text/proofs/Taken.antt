@@ -1,70 +1,98 @@
 -- What the steps of a cutter take of a text, and where a text stands that was not read to its end.
-use Rattle.std.proofs.Common.{◌≡◌, ℕ, ◌≤◌, ◌⊎◌, List, [], ◌∷◌, ◌++◌, length, length-append}
+use Rattle.std.proofs.Common.{◌≡◌, ℕ, ◌+◌, ◌≤◌, ◌⊎◌, List, [], ◌∷◌, ◌++◌, length, length-append}
 use Rattle.std.proofs.Common.{Option, Bool, true, refl, sym, ap, subst, ◌∙◌, append_assoc}
 use Rattle.std.proofs.Common.{append-nil, arith, take, drop}
-use Rattle.std.proofs.lemmas.List.{length-drop, take-append-drop}
+use Rattle.std.proofs.lemmas.List.{length-take-le, take-append-drop}
 use Rattle.std.specs.Io.KnownBytes.{Consumes}
-use Rattle.rapid_line.specs.Cut.{count, after_last}
+use Rattle.rapid_line.specs.Cut.{Lacks, count, after_last}
 use Rattle.rapid_line.specs.Lines.{Lines, Cuts, Keeps}
 use Rattle.rapid_line.proofs.Cuts.{after_last-append, after_last-end, after_last-Lacks, count-append}
-use Rattle.rapid_line.proofs.Cuts.{count-Lacks}
-use Rattle.rapid_line.proofs.LineLaws.{first_cut}
+use Rattle.rapid_line.proofs.Cuts.{count-Lacks, IsCut-at}
 use Rattle.event_core.specs.declared.events.Event.{Event}
 use Rattle.rapid_text.specs.Cutting.{Cutting, Pushes}
 use Rattle.rapid_text.specs.Taking.{Place, lines_place, place_of, start, AreUnended}
 use Rattle.rapid_text.specs.Taking.{Advances, StopsShort}
 
+-- all these bytes were taken: each LF ended a line, and what follows the last one is kept
+pub record Took (old : Place) (bytes : List ℕ) (new : Place) : Type 0 where
+  pub lines : new.unfinished ≡ old.unfinished + count 10 bytes
+  pub kept : new.kept ≡ after_last 10 (old.kept ++ bytes)
+  pub taken : new.taken ≡ old.taken + length bytes
+
 -- a line that ended
-pub cuts_advance : (s t : Lines) (piece line rest : List ℕ) → Cuts s piece line rest t
-    → Advances (lines_place s) piece rest (lines_place t)
-cuts_advance s t piece line rest c =
-    let cut = first_cut piece c.end rest (sym c.first) in
-    let front = s.kept ++ c.end in
+pub cuts_took : {s t : Lines} {piece line rest : List ℕ} (c : Cuts s piece line rest t)
+    → Took (lines_place s) (c.end ++ 10 ∷ []) (lines_place t)
+cuts_took {s} {piece = piece} {rest = rest} c =
+    let cut = IsCut-at 10 piece (c.end, rest) c.first in
+    let one : count 10 (10 ∷ []) ≡ 1 = refl in
+    let parts = count-append 10 c.end (10 ∷ []) in
+    let none = count-Lacks 10 c.end cut.lacks in
+    let long = length-append c.end (10 ∷ []) in
     record {
-      lines =
-          let parts = ap (λ (b : List ℕ). count 10 b) cut.is ∙ count-append 10 c.end (10 ∷ rest) in
-          let none = count-Lacks 10 c.end cut.lacks in
-          omega (arith, c.unfinished, parts, none);
-      kept = ap (λ (b : List ℕ). after_last 10 (b ++ rest)) (c.kept ∙ sym (after_last-end 10 front))
-          ∙ sym (after_last-append 10 (front ++ 10 ∷ []) rest)
-          ∙ ap (λ (b : List ℕ). after_last 10 b)
-          (append_assoc front (10 ∷ []) rest ∙ append_assoc s.kept c.end (10 ∷ rest)
-          ∙ ap (λ (b : List ℕ). s.kept ++ b) (sym cut.is));
-      unended = λ _. subst (λ (b : List ℕ). AreUnended b) (sym c.kept) (refl, omega arith);
-      taken =
-          let all = ap (λ (b : List ℕ). length b) cut.is in
-          let parts = length-append c.end (10 ∷ rest) in
-          omega (arith, c.taken, all, parts);
+      lines = omega (arith, c.unfinished, parts, none, one);
+      kept = c.kept ∙ sym (ap (λ (b : List ℕ). after_last 10 b) (sym (append_assoc s.kept c.end (10 ∷ [])))
+          ∙ after_last-end 10 (s.kept ++ c.end));
+      taken = omega (arith, c.taken, long);
     }
 
 -- no line ended
+pub keeps_took : {s t : Lines} {piece : List ℕ} → Keeps s piece t → Lacks 10 t.kept
+    → Took (lines_place s) piece (lines_place t)
+keeps_took {t = t} {piece = piece} k lf = record {
+  lines = let none = count-Lacks 10 piece k.unended in omega (arith, k.unfinished, none);
+  kept = sym (after_last-Lacks 10 t.kept lf) ∙ ap (λ (b : List ℕ). after_last 10 b) k.kept;
+  taken = k.taken;
+}
+
+-- what follows the last LF of all that was taken before the rest
+last_kept : {p q : Place} {front : List ℕ} (rest : List ℕ) → Took p front q
+    → after_last 10 (q.kept ++ rest) ≡ after_last 10 (p.kept ++ (front ++ rest))
+last_kept {p} {front = front} rest h =
+    ap (λ (b : List ℕ). after_last 10 (b ++ rest)) h.kept
+    ∙ sym (after_last-append 10 (p.kept ++ front) rest)
+    ∙ ap (λ (b : List ℕ). after_last 10 b) (append_assoc p.kept front rest)
+
+pub took_more : {p q r : Place} {front more : List ℕ} → Took p front q → Took q more r
+    → Took p (front ++ more) r
+took_more {front = front} {more = more} h k = record {
+  lines = let both = count-append 10 front more in omega (arith, h.lines, k.lines, both);
+  kept = k.kept ∙ last_kept more h;
+  taken = let both = length-append front more in omega (arith, h.taken, k.taken, both);
+}
+
+-- bytes that were taken, and the rest
+took_advances : {p q : Place} {front : List ℕ} (rest : List ℕ) → Took p front q → AreUnended q.kept
+    → Advances p (front ++ rest) rest q
+took_advances {front = front} rest h few = record {
+  lines = let both = count-append 10 front rest in omega (arith, h.lines, both);
+  kept = last_kept rest h;
+  unended = λ _. few;
+  taken = let both = length-append front rest in omega (arith, h.taken, both);
+}
+
+pub cuts_advance : (s t : Lines) (piece line rest : List ℕ) → Cuts s piece line rest t
+    → Advances (lines_place s) piece rest (lines_place t)
+cuts_advance s t piece line rest c =
+    let whole : (c.end ++ 10 ∷ []) ++ rest ≡ piece =
+    append_assoc c.end (10 ∷ []) rest ∙ sym (IsCut-at 10 piece (c.end, rest) c.first).is in
+    subst (λ (b : List ℕ). Advances (lines_place s) b rest (lines_place t)) whole
+    (took_advances rest (cuts_took c) (subst (λ (b : List ℕ). AreUnended b) (sym c.kept) (refl, omega arith)))
+
 pub keeps_advance : (s t : Lines) (piece : List ℕ) → Keeps s piece t → AreUnended t.kept
     → Advances (lines_place s) piece [] (lines_place t)
-keeps_advance s t piece k few = record {
-  lines = let none = count-Lacks 10 piece k.unended in omega (arith, k.unfinished, none);
-  kept = ap (λ (b : List ℕ). after_last 10 b) (append-nil t.kept ∙ k.kept);
-  unended = λ _. few;
-  taken = omega (arith, k.taken);
-}
+keeps_advance s t piece k few =
+    subst (λ (b : List ℕ). Advances (lines_place s) b [] (lines_place t)) (append-nil piece)
+    (took_advances [] (keeps_took k few.0) few)
 
 -- a push
 pub push_advances : (s t : Cutting) (piece : List ℕ) (used : ℕ) (o : Option Event) → Pushes s t piece used o
     → AreUnended t.kept → Advances (place_of s) piece (drop used piece) (place_of t)
 push_advances s t piece used o p few =
-    let front = take used piece in
-    let rest = drop used piece in
-    let parts : front ++ rest ≡ piece = take-append-drop used piece in
-    record {
-      lines =
-          let both = sym (count-append 10 front rest) ∙ ap (λ (b : List ℕ). count 10 b) parts in
-          omega (arith, p.lines, both);
-      kept = ap (λ (b : List ℕ). after_last 10 (b ++ rest)) p.kept
-          ∙ sym (after_last-append 10 (s.kept ++ front) rest)
-          ∙ ap (λ (b : List ℕ). after_last 10 b)
-          (append_assoc s.kept front rest ∙ ap (λ (b : List ℕ). s.kept ++ b) parts);
-      unended = λ _. few;
-      taken = let left = length-drop used piece in omega (arith, p.taken, p.used_within, left);
-    }
+    let long = length-take-le used piece p.used_within in
+    let took : Took (place_of s) (take used piece) (place_of t) =
+    record { lines = p.lines; kept = p.kept; taken = omega (arith, p.taken, long) } in
+    subst (λ (b : List ℕ). Advances (place_of s) b (drop used piece) (place_of t))
+    (take-append-drop used piece) (took_advances (drop used piece) took few)
 
 -- a text of which these bytes came and were taken, where the reading stopped
 pub stops_short : (left rest : Option (List ℕ)) (turns : ℕ) (failed : Bool) (now : Place)

@@ -10,7 +10,7 @@ use Rattle.rapid_line.specs.Cut.{count, after_last}
 -- the most bytes that a cutter takes, 2 ^ 60
 pub use Rattle.rapid_line.specs.Lines.{most}
 use Rattle.rapid_text.specs.Tables.{Tables, no_names}
-use Rattle.rapid_text.specs.Texts.{Judgement, judge, lines_of, with_event, ended, BeginsAt, FirstAt}
+use Rattle.rapid_text.specs.Texts.{Judgement, judge, lines_of, with_event, ended, StopsWith, BeginsAt, FirstAt}
 
 -- what a cutter holds: the names, the last answer's line, the number and the bytes of the line whose end was
 -- not seen, how many bytes came, and the line of the first fault
@@ -53,8 +53,7 @@ pub record Pushes (old new : Cutting) (piece : List ℕ) (used : ℕ) (event : O
 
 -- the text stops with the fault, whatever follows the piece
 abbrev pub Stops : Cutting → List ℕ → TextFault → Type 0
-Stops s piece f = (more : List ℕ) →
-    ((judged s (piece ++ more)).events ≡ []) × ((judged s (piece ++ more)).fault ≡ Some (f.line, f.cause))
+Stops s piece f = (more : List ℕ) → StopsWith f (judged s (piece ++ more))
 
 -- whatever follows the piece, the lines before line n were judged, and have no event and no fault
 abbrev pub JudgedUpTo : Cutting → List ℕ → ℕ → Tables → Type 0
@@ -65,8 +64,7 @@ abbrev pub FailsAt : Cutting → List ℕ → TextFault → Cause → Type 0
 FailsAt s piece f causes.OutOfMemory = (more : List ℕ) → FirstAt f.line (judged s (piece ++ more))
 FailsAt s piece f causes.Read = (f.line ≡ s.unfinished) × (most < s.taken + length piece)
 FailsAt s piece f causes.Failed = s.failed ≡ Some f.line
-FailsAt s piece f (causes.Line c) = Stops s piece f
-FailsAt s piece f (causes.TooManyNames k) = Stops s piece f
+FailsAt s piece f cause = Stops s piece f
 
 -- the end of the text: what was kept is judged as the last line
 pub record Closes (old new : Cutting) (event : Option Event) : Type 0 where
@@ -80,15 +78,14 @@ pub record Closes (old new : Cutting) (event : Option Event) : Type 0 where
 
 -- the text stops with the fault, and nothing follows
 abbrev pub Closed : Cutting → TextFault → Type 0
-Closed s f = ((judged s []).events ≡ []) × ((judged s []).fault ≡ Some (f.line, f.cause))
+Closed s f = StopsWith f (judged s [])
 
 -- why the end of the text failed
 abbrev pub ClosesAt : Cutting → TextFault → Cause → Type 0
 ClosesAt s f causes.OutOfMemory = FirstAt f.line (judged s [])
 ClosesAt s f causes.Read = ⊥
 ClosesAt s f causes.Failed = s.failed ≡ Some f.line
-ClosesAt s f (causes.Line c) = Closed s f
-ClosesAt s f (causes.TooManyNames k) = Closed s f
+ClosesAt s f cause = Closed s f
 
 -- the answer after a fault
 abbrev pub failed_at : ℕ → TextFault

@@ -88,10 +88,9 @@ HasEvent (Err f) = ⊥
 -- the cause is the one that was read; memory runs out only where none was
 abbrev pub Fails : {Y : Type 0} → Cause → Result Y Cause → Type 0
 Fails causes.OutOfMemory read = IsOk read
-Fails (causes.Line f) read = read ≡ Err (causes.Line f)
-Fails (causes.TooManyNames k) read = read ≡ Err (causes.TooManyNames k)
 Fails causes.Read read = ⊥
 Fails causes.Failed read = ⊥
+Fails cause read = read ≡ Err cause
 
 -- ---- an event's names
 

@@ -3,15 +3,15 @@ use Rattle.std.specs.Prelude.{◌≡◌, ◌≢◌, None}
 use Rattle.rapid_line.specs.Grammar.{Named}
 use Rattle.rapid_text.specs.declared.causes.Kind.TheVariants as kinds
 use Rattle.rapid_text.specs.declared.event_lines.Known.{Known}
-use Rattle.rapid_text.specs.Numbers.{place_of}
+use Rattle.rapid_text.specs.Numbers.{found_number}
 use Rattle.rapid_text.specs.Tables.{Tables, space}
 use Rattle.rapid_text.specs.Events.{kind_of}
 
 -- these are the numbers of the names that have one
 pub record AreKnown (t : Tables) (e : Named) (known : Known) : Type 0 where
-  pub thread : known.thread ≡ place_of (space t kinds.Thread) e.thread
-  pub target : known.target ≡ place_of (space t (kind_of e.word)) e.argument
-  pub site : known.site ≡ place_of (space t kinds.Site) e.location
+  pub thread : known.thread ≡ found_number (space t kinds.Thread) e.thread
+  pub target : known.target ≡ found_number (space t (kind_of e.word)) e.argument
+  pub site : known.site ≡ found_number (space t kinds.Site) e.location
 
 -- it is the first of its thread, and forks or joins another one
 abbrev pub AddsTwo : Named → Known → Type 0

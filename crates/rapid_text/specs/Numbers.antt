@@ -21,12 +21,12 @@ found_or (Some i) s name = Some (i, s)
 found_or None s name = new_name s name
 
 -- where the name stands
-abbrev pub place_of : Numbered → List ℕ → Option ℕ
-place_of s name = position (λ n. bytes_eq name n) s.names
+abbrev pub found_number : Numbered → List ℕ → Option ℕ
+found_number s name = position (λ n. bytes_eq name n) s.names
 
 -- the name's number, and the names after it
 unfoldable pub number_of : Numbered → List ℕ → Option (ℕ × Numbered)
-number_of s name = found_or (place_of s name) s name
+number_of s name = found_or (found_number s name) s name
 
 -- names were added at the end
 pub record Grows (old new : Numbered) : Type 0 where

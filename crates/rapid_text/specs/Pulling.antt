@@ -23,9 +23,9 @@ use Rattle.rapid_text.specs.declared.causes.Cause.{Cause}
 use Rattle.rapid_text.specs.declared.causes.Cause.TheVariants as causes
 use Rattle.rapid_text.specs.declared.causes.TextFault.{TextFault}
 use Rattle.rapid_line.specs.Cut.{Lacks}
-use Rattle.rapid_text.specs.Tables.{Tables, no_names}
-use Rattle.rapid_text.specs.Cutting.{Cutting}
-use Rattle.rapid_text.specs.Texts.{Judgement, judge, lines_of, with_event, ended, FirstAt}
+use Rattle.rapid_text.specs.Tables.{Tables}
+use Rattle.rapid_text.specs.Cutting.{Cutting, begun}
+use Rattle.rapid_text.specs.Texts.{Judgement, judge, lines_of, with_event, ended, StopsWith, FirstAt}
 
 -- what a reader holds beside its input: the names, the last answer's line, the number of the line whose end
 -- was not seen, the bytes that came and are still to be judged, the turns left, whether the text ended, and
@@ -53,16 +53,7 @@ pulling_of c waiting turns ended = record {
 
 -- before the first pull
 abbrev pub unpulled : Bounds → ℕ → Pulling
-unpulled l turns =
-    record {
-      names = no_names l;
-      line = 0;
-      unfinished = 1;
-      came = [];
-      turns = turns;
-      ended = false;
-      failed = None;
-    }
+unpulled l turns = pulling_of (begun l) [] turns false
 
 -- after the end of the text nothing is left of it
 abbrev pub rest_of : Bool → Option (List ℕ) → Option (List ℕ)
@@ -97,7 +88,7 @@ Answers old left new rest None = Ends old left new
 
 -- the text stops here with this fault
 abbrev pub StopsAt : Pulling → Option (List ℕ) → TextFault → Type 0
-StopsAt old left f = IfSome (to_judge old left) (λ j. (j.events ≡ []) × (j.fault ≡ Some (f.line, f.cause)))
+StopsAt old left f = IfSome (to_judge old left) (StopsWith f)
 
 -- a read failed or the turns are used up, after all lines that came whole were judged and had no event; what
 -- came of the line whose end was not seen is not judged
@@ -117,8 +108,7 @@ pub record GrowthFails (old : Pulling) (left : Option (List ℕ)) (f : TextFault
 -- why there is no next answer
 abbrev pub NoAnswer : Pulling → Option (List ℕ) → Pulling → Option (List ℕ) → Bool → TextFault → Cause
     → Type 0
-NoAnswer old left new rest read_failed f (causes.Line c) = StopsAt old left f
-NoAnswer old left new rest read_failed f (causes.TooManyNames k) = StopsAt old left f
 NoAnswer old left new rest read_failed f causes.OutOfMemory = GrowthFails old left f
 NoAnswer old left new rest read_failed f causes.Read = ReadFails old left new rest read_failed f
 NoAnswer old left new rest read_failed f causes.Failed = old.failed ≡ Some f.line
+NoAnswer old left new rest read_failed f cause = StopsAt old left f

@@ -5,9 +5,9 @@ use Rattle.rapid_text.specs.Texts.{Judgement}
 use Rattle.rapid_text.specs.Cutting.{Cutting, Pushes}
 
 -- the events of an answer, each with its line
-abbrev pub told : ℕ → Option Event → List (ℕ × Event)
-told line None = []
-told line (Some e) = (line, e) ∷ []
+abbrev pub answered : ℕ → Option Event → List (ℕ × Event)
+answered line None = []
+answered line (Some e) = (line, e) ∷ []
 
 -- the pieces were pushed, and of each what a push left was pushed again; these are the events of the answers
 pub data Pushed : Cutting → List (List ℕ) → List (ℕ × Event) → Cutting → Type 0 where
@@ -19,7 +19,7 @@ pub data Pushed : Cutting → List (List ℕ) → List (ℕ × Event) → Cuttin
   -- one more push
   pushed : {s m t : Cutting} {piece : List ℕ} {pieces : List (List ℕ)} {events : List (ℕ × Event)} {used : ℕ}
       {event : Option Event} → Pushes s m piece used event → Pushed m (drop used piece ∷ pieces) events t
-      → Pushed s (piece ∷ pieces) (told m.line event ++ events) t
+      → Pushed s (piece ∷ pieces) (answered m.line event ++ events) t
 
 -- these events come before the others
 abbrev pub with_events : List (ℕ × Event) → Judgement → Judgement

@@ -51,9 +51,7 @@ number_in t kind name = put_back t kind (number_of (space t kind) name)
 -- the bytes may name a thing of this kind: a location may be empty
 abbrev pub IsNameOf : Kind → List ℕ → Type 0
 IsNameOf kinds.Site bytes = IsField bytes
-IsNameOf kinds.Thread bytes = IsName bytes
-IsNameOf kinds.Lock bytes = IsName bytes
-IsNameOf kinds.Variable bytes = IsName bytes
+IsNameOf kind bytes = IsName bytes
 
 -- the name of this kind with this number
 abbrev pub name_at : Tables → Kind → ℕ → List ℕ

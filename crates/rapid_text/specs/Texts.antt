@@ -2,6 +2,7 @@
 use Rattle.std.specs.Prelude.{◌≡◌, ℕ, ◌+◌, List, [], ◌∷◌, Option, Some, None, Result, Ok, Err}
 use Rattle.event_core.specs.declared.events.Event.{Event}
 use Rattle.rapid_text.specs.declared.causes.Cause.{Cause}
+use Rattle.rapid_text.specs.declared.causes.TextFault.{TextFault}
 -- the lines of a text, each without its LF; an empty rest after the last LF is no line
 pub use Rattle.rapid_line.specs.Lines.{lines_of}
 use Rattle.rapid_text.specs.Tables.{Tables, TablesGrow}
@@ -21,6 +22,14 @@ ended t = record { events = []; fault = None; names = t }
 -- the text stopped with a fault at line n
 abbrev pub stopped : Tables → ℕ → Cause → Judgement
 stopped t n f = record { events = []; fault = Some (n, f); names = t }
+
+-- it stops with this fault after these events
+abbrev pub StopsAfter : List (ℕ × Event) → TextFault → Judgement → Type 0
+StopsAfter events f j = (j.events ≡ events) × (j.fault ≡ Some (f.line, f.cause))
+
+-- it stops with this fault before any event
+abbrev pub StopsWith : TextFault → Judgement → Type 0
+StopsWith f j = StopsAfter [] f j
 
 -- the event of line n, if it has one, comes before the others
 abbrev pub with_event : ℕ → Option Event → Judgement → Judgement

@@ -3,8 +3,8 @@
 //! It is cut into lines, and each is judged where it lies. So memory grows with new names, and not with
 //! the text.
 //!
-//! The way of a line that lies whole in a piece is inlined from here to its event, since an answer that is
-//! handed up through memory costs more than the judgement. What is rare stands in functions of its own.
+//! The path of a line that lies whole in a piece is inlined from here to its event, since an answer that is
+//! returned through memory costs more than the judgement. Rare cases have functions of their own.
 ghost use Rattle.std.specs.Prelude.{◌≡◌, ℕ, ◌+◌, ◌<◌, ◌≤◌, length, IfOk, IfErr, OnOk, Ok, None, Some, IsOk};
 ghost use Rattle.std.specs.Prelude.{[], IfSome, unwrap_or};
 ghost use Rattle.std.specs.Result.{IsErrOf};
@@ -54,12 +54,12 @@ impl Model for Cutter {
 
 /// The fault, at whose line a cutter fails from now on.
 #[inline(never)]
-fn fail(told: &mut u64, failed: &mut Option<u64>, line: u64, cause: Cause) -> TextFault
+fn fail(answered: &mut u64, failed: &mut Option<u64>, line: u64, cause: Cause) -> TextFault
     ensures fault { result ≡ record { line = line; cause = cause } }
-    ensures told { told.new ≡ line }
+    ensures answered { answered.new ≡ line }
     ensures failed { failed.new ≡ Some line }
 {
-    *told = line;
+    *answered = line;
     *failed = Some(line);
     TextFault { line, cause }
 }
@@ -181,7 +181,7 @@ impl Cutter {
         }
     }
 
-    /// What stands for a failure of the reader, at the line whose end was not seen.
+    /// The fault of a reader that failed, at the line whose end was not seen.
     pub fn read_failed(&mut self) -> TextFault
         ensures fault { self.old.failed ≡ None →
             result ≡ record { line = self.old.unfinished; cause = Read } }

@@ -49,7 +49,7 @@ struct Known {
     site: Option<u32>,
 }
 
-/// Whether a name is new, and so many more are too many of its kind.
+/// Whether a name is new, and so many names more pass the limit of its kind.
 fn passes_limit(names: &Names, kind: Kind, known: Option<u32>, more: u32) -> bool
     ensures { IsTrue result
         ↔ (known ≡ None) × ((space names.now kind).limit < length (space names.now kind).names + more) }
@@ -71,7 +71,7 @@ fn added(line: &NamedLine<'_>, known: Known) -> u32
     1
 }
 
-/// The kind of the first name that is new and for which its limit has no number left.
+/// The kind of the first new name for which the limit leaves no number.
 fn too_many(names: &Names, line: &NamedLine<'_>, known: Known) -> Option<Kind>
     requires { AreKnown names.now (named_of line.now) known }
     ensures some { IfSome result (λ kind.
@@ -91,7 +91,7 @@ fn too_many(names: &Names, line: &NamedLine<'_>, known: Known) -> Option<Kind>
     None
 }
 
-/// The cause of a line with names that memory was refused for: a name too many comes first.
+/// The cause of a line for whose names memory was refused: too many names are the first cause.
 #[inline(never)]
 fn cause_after_refusal(
     names: &mut Names,

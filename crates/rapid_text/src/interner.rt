@@ -2,7 +2,7 @@
 ghost use Rattle.std.specs.Prelude.{◌≡◌, ◌+◌, ◌<◌, ◌≤◌, ◌^◌, [], length, slice_get, Some, None, IfOk, IfSome};
 ghost use Rattle.std.specs.Prelude.{OnErr, IsTrue, ◌↔◌};
 ghost use Rattle.rapid_text.specs.NumberCache.{AreRight};
-ghost use Rattle.rapid_text.specs.Numbers.{Numbered, number_of, place_of};
+ghost use Rattle.rapid_text.specs.Numbers.{Numbered, number_of, found_number};
 
 use crate::number_cache::NumberCache;
 use crate::stored_names::{SoughtName, StoredName};
@@ -11,7 +11,7 @@ use indexmap::IndexSet;
 use std::alloc::{AllocError, Global};
 use std::marker::Model;
 
-/// Makes room for the note of one name more. New places hold no note, so it notes all names again.
+/// Makes room for the note of one more name. New places are empty, so all names are noted again.
 fn make_room(cache: &mut NumberCache, alloc: Global, names: &[StoredName]) -> Result<(), AllocError>
     requires right { AreRight names.now cache.old }
     requires few { length names.now + 1 < 2 ^ 32 }
@@ -81,7 +81,7 @@ impl Interner {
     /// The number of the name, where the cache holds it.
     #[inline(always)]
     pub fn find(&self, name: &[u8]) -> Option<u32>
-        ensures { IfSome result (λ i. place_of self.now name.now ≡ Some i) }
+        ensures { IfSome result (λ i. found_number self.now name.now ≡ Some i) }
     {
         // No name stands twice in them.
         let _unique = self.names.as_slice();
@@ -90,7 +90,7 @@ impl Interner {
 
     /// The number of the name, if it has one. The cache holds it from now on.
     pub fn search(&mut self, name: &[u8]) -> Option<u32>
-        ensures is { result ≡ place_of self.old name.now }
+        ensures is { result ≡ found_number self.old name.now }
         ensures same { self.new ≡ self.old }
     {
         let i = self.names.get_index_of(SoughtName { bytes: name })?;
@@ -107,7 +107,7 @@ impl Interner {
 
     /// Adds a new name, which gets the next number. An `Err` changes nothing.
     pub fn add(&mut self, name: &[u8]) -> Result<u32, OutOfMemory>
-        requires new { place_of self.old name.now ≡ None }
+        requires new { found_number self.old name.now ≡ None }
         requires room { length self.old.names < self.old.limit }
         ensures ok { IfOk result (λ i. number_of self.old name.now ≡ Some (i, self.new)) }
         ensures err { OnErr result (self.new ≡ self.old) }

@@ -9,27 +9,26 @@ ghost use Rattle.event_core.specs.Bounds.{Bounds};
 ghost use Rattle.rapid_text.specs.declared.causes.TextFault.{TextFault as Fault};
 ghost use Rattle.rapid_text.specs.declared.causes.Cause.{Cause as Why};
 ghost use Rattle.rapid_text.specs.Tables.{Tables, no_names};
-ghost use Rattle.rapid_text.specs.Texts.{Judgement, judgement, BeginsAt};
+ghost use Rattle.rapid_text.specs.Texts.{Judgement, judgement, StopsAfter, BeginsAt};
 ghost use Rattle.rapid_text.specs.Cutting.{Cutting, begun, Stops, Closes, Closed};
-ghost use Rattle.rapid_text.specs.Pushing.{told, Pushed};
+ghost use Rattle.rapid_text.specs.Pushing.{answered, Pushed};
 
 /// Pieces that are pushed to a new cutter one after another are judged as the one text that they join to.
 pub fn pieces_are_one_text()
-    // At the end of the text, its events are those that were told, and it has no fault.
+    // At the end of the text, its events are those that were answered, and it has no fault.
     ensures ends { (limits : Bounds) (pieces : List (List ℕ)) (events : List (ℕ × Entry)) (last end : Cutting)
         (event : Option Entry) → Pushed (begun limits) pieces events last → Closes last end event →
         judgement (no_names limits) (concat pieces)
-        ≡ record { events = events ++ told end.line event; fault = None; names = end.names } }
-    // Where a push met a fault, the text has that fault after the events that were told, whatever follows.
+        ≡ record { events = events ++ answered end.line event; fault = None; names = end.names } }
+    // Where a push met a fault, the text has that fault after the events answered before, whatever follows.
     ensures stops { (limits : Bounds) (pieces : List (List ℕ)) (events : List (ℕ × Entry)) (last : Cutting)
         (piece : List ℕ) (f : Fault) → Pushed (begun limits) pieces events last → Stops last piece f →
-        (more : List ℕ) → ((judgement (no_names limits) (concat pieces ++ (piece ++ more))).events ≡ events)
-        × ((judgement (no_names limits) (concat pieces ++ (piece ++ more))).fault ≡ Some (f.line, f.cause)) }
+        (more : List ℕ) →
+        StopsAfter events f (judgement (no_names limits) (concat pieces ++ (piece ++ more))) }
     // And where the last line has one.
     ensures closes { (limits : Bounds) (pieces : List (List ℕ)) (events : List (ℕ × Entry)) (last : Cutting)
         (f : Fault) → Pushed (begun limits) pieces events last → Closed last f →
-        ((judgement (no_names limits) (concat pieces)).events ≡ events)
-        × ((judgement (no_names limits) (concat pieces)).fault ≡ Some (f.line, f.cause)) }
+        StopsAfter events f (judgement (no_names limits) (concat pieces)) }
 {}
 
 /// What is judged from a line on has no event and no fault before that line.

@@ -2,7 +2,7 @@
 ghost use Rattle.std.specs.Prelude.{◌≡◌, ◌↔◌, ℕ, ◌+◌, ◌<◌, ◌≤◌, length, slice_get, Some, None, IfOk, OnErr};
 ghost use Rattle.std.specs.Prelude.{IsTrue};
 ghost use Rattle.std.specs.Result.{IsErrOf};
-ghost use Rattle.rapid_text.specs.Numbers.{place_of};
+ghost use Rattle.rapid_text.specs.Numbers.{found_number};
 ghost use Rattle.rapid_text.specs.Tables.{Tables, no_names, space, number_in, IsNameOf, TablesGrow};
 ghost use Rattle.rapid_text.specs.Tables.{AreNamed};
 
@@ -79,7 +79,7 @@ impl Names {
 
     // The number of a name that no note holds, in the space of its kind.
     fn search(&mut self, kind: Kind, name: &[u8]) -> Option<u32>
-        ensures is { result ≡ place_of (space self.old kind) name.now }
+        ensures is { result ≡ found_number (space self.old kind) name.now }
         ensures same { self.new ≡ self.old }
     {
         match kind {
@@ -92,7 +92,7 @@ impl Names {
 
     /// The number of the name, if it has one.
     pub(crate) fn find(&mut self, kind: Kind, name: &[u8]) -> Option<u32>
-        ensures is { result ≡ place_of (space self.old kind) name.now }
+        ensures is { result ≡ found_number (space self.old kind) name.now }
         ensures same { self.new ≡ self.old }
     {
         if let Some(number) = self.space(kind).find(name) {
@@ -112,7 +112,7 @@ impl Names {
     #[tactic(auto, unfolding(crate::specs::Tables::number_in))]
     fn add(&mut self, kind: Kind, name: &[u8]) -> Result<u32, OutOfMemory>
         requires name { IsNameOf kind name.now }
-        requires new { place_of (space self.old kind) name.now ≡ None }
+        requires new { found_number (space self.old kind) name.now ≡ None }
         requires room { length (space self.old kind).names < (space self.old kind).limit }
         ensures ok { IfOk result (λ n. number_in self.old kind name.now ≡ Some (n, self.new)) }
         ensures err { OnErr result (self.new ≡ self.old) }
@@ -125,7 +125,7 @@ impl Names {
         }
     }
 
-    // The number of a name that no note holds, which is a new one where the name is.
+    // The number of a name that no note holds: the next one, where the name is new.
     #[inline(never)]
     fn search_or_add(&mut self, kind: Kind, name: &[u8]) -> Result<u32, NameFault>
         requires { IsNameOf kind name.now }
@@ -134,7 +134,7 @@ impl Names {
         ensures room { IsErrOf result NameFault.OutOfMemory →
             length (space self.old kind).names < (space self.old kind).limit }
         ensures err { OnErr result (self.new ≡ self.old) }
-        ensures new_only { OnErr result (place_of (space self.old kind) name.now ≡ None) }
+        ensures new_only { OnErr result (found_number (space self.old kind) name.now ≡ None) }
     {
         if let Some(number) = self.search(kind, name) {
             return Ok(number);
@@ -157,7 +157,7 @@ impl Names {
         ensures room { IsErrOf result NameFault.OutOfMemory →
             length (space self.old kind).names < (space self.old kind).limit }
         ensures err { OnErr result (self.new ≡ self.old) }
-        ensures new_only { OnErr result (place_of (space self.old kind) name.now ≡ None) }
+        ensures new_only { OnErr result (found_number (space self.old kind) name.now ≡ None) }
     {
         if let Some(number) = self.space(kind).find(name) {
             return Ok(number);
@@ -174,7 +174,7 @@ impl Names {
         // It is `TooMany` exactly where the name is new and there are as many as the limit.
         ensures too_many { IsErrOf result NameFault.TooMany ↔ (number_in self.old kind name.now ≡ None) }
         ensures err { OnErr result (self.new ≡ self.old) }
-        ensures new_only { OnErr result (place_of (space self.old kind) name.now ≡ None) }
+        ensures new_only { OnErr result (found_number (space self.old kind) name.now ≡ None) }
         // The number has this name from now on, and names were only added.
         ensures named { IfOk result (λ n. slice_get (space self.new kind).names n ≡ Some name.now) }
         ensures grows { TablesGrow self.old self.new }
@@ -188,11 +188,8 @@ impl Names {
         ensures is { slice_get (space self.entry.now kind).names number ≡ Some result.now }
         ensures named { IsNameOf kind result.now }
     {
-        match kind {
-            Kind::Thread => self.threads.name(number),
-            Kind::Lock => self.locks.name(number),
-            Kind::Variable => self.variables.name(number),
-            Kind::Site => self.sites.name(number),
-        }
+        // What each space holds are names of its kind.
+        let _spaces = &self.threads;
+        self.space(kind).name(number)
     }
 }

@@ -4,7 +4,7 @@
 //! own. The length and two words identify a name of up to sixteen bytes. So here it has a place by its
 //! words, and at each place stands a note of one name: most names are found by one read of memory. Where two
 //! names have one place, the second goes to a place beside it; where all those are taken, the note of an
-//! earlier name goes. Of a longer name there is no note.
+//! earlier name goes. A longer name has no note.
 ghost use Rattle.std.specs.Prelude.{◌≡◌, ◌↔◌, ◌<◌, ◌≤◌, ◌⊎◌, ◌++◌, ◌-◌, ◌/◌, List, [], length};
 ghost use Rattle.std.specs.Prelude.{take, drop, IfSome, IsTrue, OnOk};
 ghost use Rattle.std.specs.Int.{to_le_bytes, w32, w64};
@@ -29,7 +29,7 @@ const MOST_HELD: usize = 16;
 /// How many bytes a word has.
 const WORD: usize = 8;
 
-/// What the last four bytes of a word count in it.
+/// The weight of a word's last four bytes.
 const HALF: u64 = 4294967296;
 
 /// Whether a name has notes, where those of up to so many bytes have.
@@ -198,8 +198,8 @@ fn find_among<const LONG: bool>(notes: &[Note], mask: usize, name: &[u8]) -> Opt
     None
 }
 
-/// The same of a name of more than eight bytes. It is a function by itself, so that the way of a line stays
-/// small enough to be inlined.
+/// The same for a name of more than eight bytes. It is a function by itself, so that the path of a line
+/// stays small enough to be inlined.
 #[inline(never)]
 fn find_long(notes: &[Note], mask: usize, name: &[u8]) -> Option<u32>
     requires places { mask < length notes.now }
@@ -231,7 +231,7 @@ pub struct NumberCache {
     list: Vec<Note>,
     /// One less than the number of places.
     mask: usize,
-    /// Notes are made of names of up to so many bytes: of none, while there are no places.
+    /// Names of up to so many bytes have notes: none has one, while there are no places.
     most: usize,
 }
 

@@ -43,8 +43,7 @@ impl Page {
         Ok(())
     }
 
-    /// Adds the bytes at the end of the text. Where they find no room, all that waits is written, and they
-    /// after it.
+    /// Adds the bytes at the end of the text. Where they find no room, all that waits is written first.
     // Inlined, so that a piece of one byte is one store.
     #[inline(always)]
     pub fn put<W: Output>(&mut self, writer: &mut W, bytes: &[u8]) -> Result<(), WriteFault>

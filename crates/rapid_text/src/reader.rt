@@ -1,8 +1,8 @@
 //! The events of a text, read from an input of its own: a cutter under a loop of pulls.
 //!
 //! What waits in the window is pushed to the cutter. Where no line with an event ended, the next piece is
-//! pulled, for one turn; the end of the text finishes the cutter. So the number of pulls is bounded for an
-//! input of any behaviour, and each line that came whole is judged before a failure is reported.
+//! pulled, for one turn; the end of the text finishes the cutter. So the number of pulls is bounded,
+//! however the input behaves, and each line that came whole is judged before a failure is reported.
 ghost use Rattle.std.specs.Prelude.{◌≡◌, ◌≢◌, ℕ, ◌+◌, ◌*◌, ◌≤◌, length, IfOk, IfErr, IfSome, OnOk, Ok, None};
 ghost use Rattle.std.specs.Prelude.{Some, true, false};
 ghost use Rattle.std.specs.Result.{IsErrOf};

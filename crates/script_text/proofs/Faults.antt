@@ -1,8 +1,9 @@
 -- Why there is no script.
-use Rattle.std.proofs.Common.{◌≡◌, ◌≢◌, ℕ, ◌≤◌, ◌++◌, List, [], Option, Some, None, Ok, Err}
+use Rattle.std.proofs.Common.{◌≡◌, ◌≢◌, ℕ, ◌≤◌, ◌++◌, List, [], Option, Some, None, Ok}
 use Rattle.std.proofs.Common.{ap, ◌∙◌, sym, subst}
 use Rattle.std.proofs.Common.{Bool, true, ◌⊎◌, inl, inr, refl, arith, length}
 use Rattle.std.specs.Prelude.{IfSome, IsSomeAnd}
+use Rattle.std.proofs.lemmas.Option.{IfSome_then}
 use Rattle.std.specs.Io.KnownBytes.{Consumes, IsAtEnd}
 use Rattle.event_core.specs.Bounds.{Bounds}
 use Rattle.rapid_line.specs.Lines.{lines_of}
@@ -17,10 +18,6 @@ use Rattle.script_text.specs.Readings.{Progress, unread, judged, Takes, Stops, E
 use Rattle.script_text.specs.Readings.{HasFault, HasNoneBefore, Incomplete, IsFault, ReadFails}
 use Rattle.script_text.proofs.Steps.{judge_from}
 use Rattle.script_text.proofs.Legal.{draft_judged, draft_begun}
-
-some_map : {A : Type 0} {P Q : A → Type 0} (o : Option A) → ((x : A) → P x → Q x) → IfSome o P → IfSome o Q
-some_map None f h = tt
-some_map (Some x) f h = f x h
 
 -- what is so however the text goes on after what came, is so of the text that was left
 known : (P : List ℕ → Type 0) (left rest : Option (List ℕ)) (came : List ℕ) → Consumes left rest came
@@ -44,12 +41,7 @@ module _ (limits : Bounds) (left rest : Option (List ℕ)) (turns : ℕ) (failed
   fault_as causes.OutOfMemory f finds first read judged = first
   fault_as causes.NoFork f finds first read judged = absurd (judged refl)
   fault_as causes.Read f finds first read judged = absurd (read refl)
-  fault_as causes.LineTooLong f finds first read judged = finds refl
-  fault_as causes.BadLine f finds first read judged = finds refl
-  fault_as causes.BadNumber f finds first read judged = finds refl
-  fault_as causes.TooManyNames f finds first read judged = finds refl
-  fault_as causes.BadFork f finds first read judged = finds refl
-  fault_as causes.BadJoin f finds first read judged = finds refl
+  fault_as k f finds first read judged = finds refl
 
   -- memory ran out before the first line
   pub memory_fault : (f : ScriptFault) → f ≡ record { line = 1; cause = causes.OutOfMemory }
@@ -70,7 +62,7 @@ module _ (limits : Bounds) (left rest : Option (List ℕ)) (turns : ℕ) (failed
   incomplete_fault s f all (inl h) = memory_fault f h
   incomplete_fault s f all (inr h) =
       let here : IsFault limits left rest turns failed f causes.NoFork =
-      some_map left (λ text e. record { parsed = s; judged = e; first = h.1 }) all in
+      IfSome_then left all (λ text e. record { parsed = s; judged = e; first = h.1 }) in
       subst (λ (k : ScriptCause). IsFault limits left rest turns failed f k) (sym h.0) here
 
   -- ---- a text that was pulled

@@ -1,13 +1,14 @@
 -- Threads that are marked until none is new.
-use Rattle.std.proofs.Common.{◌≡◌, ℕ, ◌+◌, ◌<◌, ◌≤◌, ◌==◌, ◌||◌, ◌++◌, ◌&&◌, List, [], ◌∷◌, length, get_or}
+use Rattle.std.proofs.Common.{◌≡◌, ℕ, ◌+◌, ◌<◌, ◌≤◌, ◌||◌, ◌++◌, ◌&&◌, List, [], ◌∷◌, length, get_or}
 use Rattle.std.proofs.Common.{set, take, drop, append-nil, zero, suc, Option, Some, None, refl, ap, ◌∙◌, sym}
-use Rattle.std.proofs.Common.{subst, arith, inl, inr, ◌⊎◌, true, false, Bool, get_or-set_same}
-use Rattle.std.proofs.Common.{get_or-set_other}
+use Rattle.std.proofs.Common.{subst, arith, inl, inr, ◌⊎◌, true, false, Bool}
 use Rattle.std.proofs.lemmas.List.{drop_all, take_all}
-use Rattle.std.specs.Prelude.{replicate, slice_get, unwrap_or, if◌then◌else◌}
-use Rattle.std.proofs.lemmas.Bool.{eqb-true, eqb-false, eq-eqb, cases_Bool}
+use Rattle.std.specs.Prelude.{replicate, slice_get, if◌then◌else◌}
+use Rattle.std.proofs.lemmas.Bool.{eqb-true, eq-eqb, cases_eq}
+use Rattle.std.proofs.lemmas.Bool.Decides.{nat_tests}
+use Rattle.std.proofs.lemmas.Grind.{common_steps}
 use Rattle.std.proofs.lemmas.List.Sums.{sum_by-set}
-use Rattle.std.proofs.lemmas.Option.{slice_get_within}
+use Rattle.std.proofs.lemmas.Option.{slice_get_within, same_Some}
 use Rattle.event_core.specs.declared.ids.ThreadId.{ThreadId}
 use Rattle.script_text.specs.declared.lines.ScriptLine.{ScriptLine}
 use Rattle.script_text.specs.Lines.{is_of, forks, joins, is_thread, thread_of, fork_of, join_of}
@@ -21,8 +22,7 @@ names_of : (l : ScriptLine) (u : ℕ) → is_of u l ≡ true → names_thread u 
 names_of l u h = rw h refl
 
 names_fork : (a b c : Bool) → b ≡ true → (a || (b || c)) ≡ true
-names_fork true b c h = refl
-names_fork false b c h = rw h refl
+names_fork a b c h = grind (arith, nat_tests)
 
 pub own_named : (l : ScriptLine) → names_thread (thread_of l).0 l ≡ true
 own_named l = names_of l (thread_of l).0 (eq-eqb (thread_of l).0 (thread_of l).0 refl)
@@ -35,9 +35,7 @@ child_named l child is = names_fork (is_of child.0 l) (forks child.0 l) (joins c
     (fork_forks l child is)
 
 names_join : (a b c : Bool) → c ≡ true → (a || (b || c)) ≡ true
-names_join true b c h = refl
-names_join false true c h = refl
-names_join false false c h = h
+names_join a b c h = grind (arith, nat_tests)
 
 pub target_named : (l : ScriptLine) (target : ThreadId) → join_of l ≡ Some target
     → names_thread target.0 l ≡ true
@@ -47,38 +45,18 @@ target_named l target is =
 
 -- ---- one line
 
-set_of : (child : ℕ) (old new : List Bool) → new ≡ set old child true → (u : ℕ) → is_marked new u ≡ true
+set_of : (child : ℕ) (old : List Bool) (u : ℕ) → is_marked (set old child true) u ≡ true
     → (u ≡ child) ⊎ (is_marked old u ≡ true)
-set_of child old new e u m =
-    elim (cases_Bool (u == child)) [
-      | inl same ↦ inl (eqb-true u child same)
-      | inr other ↦ inr (sym (get_or-set_other old child u true false (eqb-false u child other))
-          ∙ ap (λ (marks : List Bool). is_marked marks u) (sym e) ∙ m)
-    ]
+set_of child old u m = grind (arith, common_steps)
 
-set_keeps : (child : ℕ) (old new : List Bool) → child < length old → new ≡ set old child true → Keeps old new
-set_keeps child old new within e = λ u m.
-    elim (cases_Bool (u == child)) [
-      | inl same ↦ ap (λ (marks : List Bool). is_marked marks u) e
-          ∙ ap (λ (v : ℕ). is_marked (set old child true) v) (eqb-true u child same)
-          ∙ get_or-set_same old child true false within
-      | inr other ↦ ap (λ (marks : List Bool). is_marked marks u) e
-          ∙ get_or-set_other old child u true false (eqb-false u child other) ∙ m
-    ]
-
-set_fewer : (child : ℕ) (old new : List Bool) → child < length old → is_marked old child ≡ false
-    → new ≡ set old child true → unmarked new + 1 ≡ unmarked old
-set_fewer child old new within isnt e =
-    let sum = sum_by-set cost old child true false within in
-    let was : cost (get_or old child false) ≡ 1 = ap cost isnt in
-    let now = ap unmarked e in
-    omega (arith, sum, was, now)
+set_keeps : (child : ℕ) (old : List Bool) → child < length old → Keeps old (set old child true)
+set_keeps child old within = λ u m. grind (arith, common_steps)
 
 -- a new mark
-pub sets : (l : ScriptLine) (child : ThreadId) (old new : List Bool) → fork_of l ≡ Some child
+pub sets : (l : ScriptLine) (child : ThreadId) (old : List Bool) → fork_of l ≡ Some child
     → is_marked old (thread_of l).0 ≡ true → is_marked old child.0 ≡ false → child.0 < length old
-    → new ≡ set old child.0 true → Sets l old new
-sets l child old new is own isnt within e = record {
+    → Sets l old (set old child.0 true)
+sets l child old is own isnt within = record {
   own = (thread_of l).0;
   child = child.0;
   of = eq-eqb (thread_of l).0 (thread_of l).0 refl;
@@ -86,9 +64,12 @@ sets l child old new is own isnt within e = record {
   marked = own;
   new_child = isnt;
   within = within;
-  set = λ u m. set_of child.0 old new e u m;
-  keeps = λ u m. set_keeps child.0 old new within e u m;
-  fewer = set_fewer child.0 old new within isnt e;
+  set = λ u m. set_of child.0 old u m;
+  keeps = λ u m. set_keeps child.0 old within u m;
+  fewer =
+      let sum = sum_by-set cost old child.0 true false within in
+      let was : cost (get_or old child.0 false) ≡ 1 = ap cost isnt in
+      omega (arith, sum, was);
 }
 
 -- ---- lines, one after another
@@ -98,16 +79,12 @@ pub marks_reached : (lines : List ScriptLine) (k : ℕ) (l : ScriptLine) (old ne
     → slice_get lines k ≡ Some l → MarksReached lines old → MarksLine l old new r → MarksReached lines new
 marks_reached lines k l old new r at h (inl m) = subst (λ (marks : List Bool). MarksReached lines marks)
     (sym m.1) h
-marks_reached lines k l old new r at h (inr m) = λ u marked. set_reached lines k l old new at h m.1 u
-    (m.1.set u marked)
-  where
-    set_reached : (lines : List ScriptLine) (k : ℕ) (l : ScriptLine) (old new : List Bool)
-        → slice_get lines k ≡ Some l
-        → MarksReached lines old → (m : Sets l old new) → (u : ℕ) → (u ≡ m.child) ⊎ (is_marked old u ≡ true)
-        → Reached lines u
-    set_reached lines k l old new at h m u (inl same) =
-        subst (λ (v : ℕ). Reached lines v) (sym same) (forked k l at m.of m.forks (h m.own m.marked))
-    set_reached lines k l old new at h m u (inr was) = h u was
+marks_reached lines k l old new r at h (inr m) = λ u marked.
+    elim (m.1.set u marked) [
+      | inl same ↦ subst (λ (v : ℕ). Reached lines v) (sym same)
+          (forked k l at m.1.of m.1.forks (h m.1.own m.1.marked))
+      | inr was ↦ h u was
+    ]
 
 pub keeps_line : (l : ScriptLine) (start old new : List Bool) (r : Bool) → Keeps start old
     → MarksLine l old new r
@@ -130,12 +107,10 @@ spread_more : (lines : List ScriptLine) (i : ℕ) (m : ScriptLine) (marks : List
     → ((k : ℕ) (l : ScriptLine) → k < i → slice_get lines k ≡ Some l → IsSpread l marks)
     → (k : ℕ) (l : ScriptLine) → k < i + 1 → slice_get lines k ≡ Some l → IsSpread l marks
 spread_more lines i m marks here last before k l lt at =
-    elim (cases_Bool (k == i)) [
-      | inl same ↦
-          let e : Some l ≡ Some m = sym at ∙ ap (λ (j : ℕ). slice_get lines j) (eqb-true k i same) ∙ here in
-          let line : m ≡ l = sym (ap (λ (o : Option ScriptLine). unwrap_or o m) e) in
-          subst (λ (x : ScriptLine). IsSpread x marks) line last
-      | inr other ↦ before k l (let ne = eqb-false k i other in omega (arith, lt, ne)) at
+    elim (cases_eq k i) [
+      | inl same ↦ subst (λ (x : ScriptLine). IsSpread x marks)
+          (same_Some m l (sym here ∙ ap (λ (j : ℕ). slice_get lines j) (sym same) ∙ at)) last
+      | inr other ↦ before k l (omega (arith, lt, other)) at
     ]
 
 pub pass_line : (lines : List ScriptLine) (l : ScriptLine) (start old new : List Bool) (i : ℕ)
@@ -179,15 +154,10 @@ all_marked lines marks closed first u (forked {t} k l at of forks r) =
 -- ---- what the marks say of lines
 
 pub own_or_more : (a b c : Bool) → (a || (b || c)) ≡ true → (a ≡ true) ⊎ (b ≡ true) ⊎ (c ≡ true)
-own_or_more true b c h = inl refl
-own_or_more false true c h = inr (inl refl)
-own_or_more false false c h = inr (inr h)
+own_or_more a b c h = grind (arith, nat_tests)
 
 all_parts : (a b c : Bool) → (a && (b && c)) ≡ true → (a ≡ true) × (b ≡ true) × (c ≡ true)
-all_parts true true true h = (refl, refl, refl)
-all_parts true true false h = absurd cc
-all_parts true false c h = absurd cc
-all_parts false b c h = absurd cc
+all_parts a b c h = grind (arith, nat_tests)
 
 marked_of : (marks : List Bool) (u : ℕ) (o : Option ThreadId) → none_or_marked marks o ≡ true
     → is_thread u o ≡ true
@@ -220,9 +190,7 @@ unmarked_of marks None h = absurd cc
 unmarked_of marks (Some v) h = (v.0, eq-eqb v.0 v.0 refl, h)
 
 one_false : (a b c : Bool) → (a && (b && c)) ≡ false → (a ≡ false) ⊎ (b ≡ false) ⊎ (c ≡ false)
-one_false false b c h = inl refl
-one_false true false c h = inr (inl refl)
-one_false true true c h = inr (inr h)
+one_false a b c h = grind (arith, nat_tests)
 
 unmarked_thread : (marks : List Bool) (l : ScriptLine) → names_marked marks l ≡ false
     → (u : ℕ) × (names_thread u l ≡ true) × (is_marked marks u ≡ false)
@@ -258,19 +226,20 @@ first_unreached lines marks n sound all h =
 
 -- ---- marks in memory
 
-pub written : (new slice items : List Bool) (len : ℕ) → length new ≡ length slice → slice ≡ items
+pub written : {new slice items : List Bool} {len : ℕ} → length new ≡ length slice → slice ≡ items
     → length items ≡ len → take len (new ++ drop (length new) items) ≡ new
-written new slice items len same value is =
+written {new} {slice} {items} {len} same value is =
     let lens = same ∙ ap (λ (xs : List Bool). length xs) value in
     let none : drop (length new) items ≡ [] = drop_all (length new) items (omega (arith, lens)) in
     ap (λ (rest : List Bool). take len (new ++ rest)) none
     ∙ ap (λ (xs : List Bool). take len xs) (append-nil new)
     ∙ take_all len new (omega (arith, lens, is))
 
-pub written_len : (new slice items : List Bool) (len n : ℕ) → length new ≡ length slice → slice ≡ items
-    → length items ≡ len → length items ≡ n → length (take len (new ++ drop (length new) items)) ≡ n
-written_len new slice items len n same value is all =
-    ap (λ (xs : List Bool). length xs) (written new slice items len same value is) ∙ same
+pub written_len : (new : List Bool) {slice items : List Bool} {len n : ℕ} → length new ≡ length slice
+    → slice ≡ items → length items ≡ len → length items ≡ n
+    → length (take len (new ++ drop (length new) items)) ≡ n
+written_len new same value is all =
+    ap (λ (xs : List Bool). length xs) (written same value is) ∙ same
     ∙ ap (λ (xs : List Bool). length xs) value ∙ all
 
 pub set_none : (marks : List Bool) → length marks ≡ 0 → marks ≡ set marks 0 true

@@ -1,9 +1,10 @@
 -- A line is taken, or the text stops at it.
 use Rattle.std.proofs.Common.{◌≡◌, ℕ, ◌+◌, ◌<◌, ◌≤◌, ◌++◌, true, List, [], ◌∷◌, length, Ok, Err, refl, ap}
-use Rattle.std.proofs.Common.{◌∙◌, sym, subst, arith, append_assoc, ne_eqb, lt-ltb}
+use Rattle.std.proofs.Common.{◌∙◌, sym, subst, arith, ne_eqb, lt-ltb}
 use Rattle.std.specs.Prelude.{Result}
 use Rattle.rapid_line.specs.Cut.{Lacks, content}
-use Rattle.rapid_line.specs.Lines.{Lines, lines_of, to_come, most, Cuts, Keeps, IsTooLong}
+use Rattle.rapid_line.specs.Lines.{Lines, to_come, most, Cuts, Keeps, IsTooLong}
+use Rattle.rapid_line.proofs.LineLaws.{keeps_law}
 use Rattle.rapid_text.proofs.LongLines.{content_long}
 use Rattle.rapid_text.proofs.Taken.{cuts_advance, keeps_advance}
 use Rattle.script_text.specs.declared.causes.ScriptCause.{ScriptCause}
@@ -22,33 +23,30 @@ first_judged : (s : Parsed) (n : ℕ) (line : List ℕ) (others : List (List ℕ
 first_judged s n line others r is =
     ap (λ (x : Result Parsed ScriptCause). next_line n x (λ t. judge t (n + 1) others)) is
 
-module _ (p : Progress) (piece : List ℕ) where
-  -- a line that ended
-  pub takes_line : (t : Parsed) (line rest : List ℕ) (new : Lines) → Cuts p.cutter piece line rest new
-      → after_content p.parsed p.cutter.unfinished (content line) ≡ Ok t
-      → Takes p piece rest (record { parsed = t; cutter = new })
-  takes_line t line rest new c is =
-      let n = p.cutter.unfinished in
-      record {
-        law = λ more.
-            let others = to_come new (rest ++ more) in
-            ap (λ (ls : List (List ℕ)). judge p.parsed n ls) (c.law more)
-            ∙ first_judged p.parsed n line others (Ok t) is
-            ∙ ap (λ (m : ℕ). judge t m others) (sym c.unfinished);
-        advances = cuts_advance p.cutter new piece line rest c;
-      }
+-- a line that ended
+pub takes_line : {p : Progress} {t : Parsed} {piece line rest : List ℕ} {new : Lines}
+    → Cuts p.cutter piece line rest new → after_content p.parsed p.cutter.unfinished (content line) ≡ Ok t
+    → Takes p piece rest (record { parsed = t; cutter = new })
+takes_line {p} {t} {piece} {line} {rest} {new} c is =
+    let n = p.cutter.unfinished in
+    record {
+      law = λ more.
+          let others = to_come new (rest ++ more) in
+          ap (λ (ls : List (List ℕ)). judge p.parsed n ls) (c.law more)
+          ∙ first_judged p.parsed n line others (Ok t) is
+          ∙ ap (λ (m : ℕ). judge t m others) (sym c.unfinished);
+      advances = cuts_advance p.cutter new piece line rest c;
+    }
 
-  -- no line ended
-  pub takes_rest : (new : Lines) → Keeps p.cutter piece new → Lacks 10 new.kept → length new.kept ≤ 1025
-      → Takes p piece [] (record { parsed = p.parsed; cutter = new })
-  takes_rest new k lf few = record {
-    law = λ more.
-        ap (λ (n : ℕ). judge p.parsed n (to_come p.cutter (piece ++ more))) (sym k.unfinished)
-        ∙ ap (λ (b : List ℕ). judge p.parsed new.unfinished (lines_of b))
-        (sym (append_assoc p.cutter.kept piece more))
-        ∙ ap (λ (b : List ℕ). judge p.parsed new.unfinished (lines_of (b ++ more))) (sym k.kept);
-    advances = keeps_advance p.cutter new piece k (lf, few);
-  }
+-- no line ended
+pub takes_rest : {p : Progress} {piece : List ℕ} {new : Lines} → Keeps p.cutter piece new → Lacks 10 new.kept
+    → length new.kept ≤ 1025 → Takes p piece [] (record { parsed = p.parsed; cutter = new })
+takes_rest {p} {piece} {new} k lf few = record {
+  law = λ more.
+      ap (λ (n : ℕ). judge p.parsed n (to_come p.cutter (piece ++ more))) (sym k.unfinished)
+      ∙ ap (λ (ls : List (List ℕ)). judge p.parsed new.unfinished ls) (keeps_law k more);
+  advances = keeps_advance p.cutter new piece k (lf, few);
+}
 
 -- ---- faults
 
@@ -79,27 +77,24 @@ line_has : (k : ScriptCause) (r : Result Parsed ScriptCause) → Fails k r → i
 line_has causes.OutOfMemory r h line = absurd cc
 line_has causes.NoFork r h line = absurd cc
 line_has causes.Read r h line = absurd cc
-line_has causes.LineTooLong r h line = h
-line_has causes.BadLine r h line = h
-line_has causes.BadNumber r h line = h
-line_has causes.TooManyNames r h line = h
-line_has causes.BadFork r h line = h
-line_has causes.BadJoin r h line = h
+line_has k r h line = h
 
--- texts that begin with this line stop at it, where it has the cause, or memory ran out while it was judged
-line_stops : (s : Parsed) (n : ℕ) (f : ScriptFault) (line : List ℕ)
-    (texts : List ℕ → Result Parsed ScriptFault) (others : List ℕ → List (List ℕ))
-    → ((more : List ℕ) → texts more ≡ judge s n (line ∷ others more))
-    → f.line ≡ n → Fails f.cause (after_content s n (content line)) → StopsAt f texts
-line_stops s n f line texts others is at why = record {
-  finds = λ own more. is more
-      ∙ first_judged s n line (others more) (Err f.cause)
-      (line_has f.cause (after_content s n (content line)) why own)
+-- texts whose first line has the cause stop at it, and those where memory ran out while it was judged
+line_stops : (s : Parsed) (n : ℕ) (f : ScriptFault) (texts : List ℕ → Result Parsed ScriptFault)
+    → ((more : List ℕ) → (line : List ℕ) × (others : List (List ℕ)) × (texts more ≡ judge s n (line ∷ others))
+    × Fails f.cause (after_content s n (content line)))
+    → f.line ≡ n → StopsAt f texts
+line_stops s n f texts begin at = record {
+  finds = λ own more.
+      let first = begin more in
+      first.2 ∙ first_judged s n first.0 first.1 (Err f.cause)
+      (line_has f.cause (after_content s n (content first.0)) first.3 own)
       ∙ ap (λ (m : ℕ). Err (record { line = m; cause = f.cause })) (sym at);
   first = λ more g e.
-      let from = judge_from s n (line ∷ others more) g (sym (is more) ∙ e) in
+      let first = begin more in
+      let from = judge_from s n (first.0 ∷ first.1) g (sym first.2 ∙ e) in
       omega (arith, from, at);
-  judged = fails_as _ f.cause causes.NoFork why;
+  judged = fails_as _ f.cause causes.NoFork (begin []).3;
 }
 
 line_long : (bytes : List ℕ) → 1024 < length bytes → line_of bytes ≡ Err causes.LineTooLong
@@ -111,38 +106,36 @@ long_content : (s : Parsed) (n : ℕ) (bytes : List ℕ) → 1024 < length bytes
 unfolding after_content
 long_content s n bytes h = rw (ne_eqb (length bytes) 0 (λ z. omega arith), line_long bytes h) refl
 
-module _ (p : Progress) (piece : List ℕ) (f : ScriptFault) (at : f.line ≡ p.cutter.unfinished) where
-  first_here : (more : List ℕ) (g : ScriptFault) → judged p (piece ++ more) ≡ Err g → f.line ≤ g.line
-  first_here more g e =
-      let from = judge_from p.parsed p.cutter.unfinished (to_come p.cutter (piece ++ more)) g e in
-      omega (arith, from, at)
+-- a line that ended has a cause
+pub ended_stops : {p : Progress} {piece line rest : List ℕ} {f : ScriptFault} {new : Lines}
+    → f.line ≡ p.cutter.unfinished → Cuts p.cutter piece line rest new
+    → Fails f.cause (after_content p.parsed p.cutter.unfinished (content line)) → Stops p piece f
+ended_stops {p} {piece} {line} {rest} {f} {new} at c why = record {
+  at = line_stops p.parsed p.cutter.unfinished f (λ more. judged p (piece ++ more)) (λ more. (
+    line,
+    to_come new (rest ++ more),
+    ap (λ (ls : List (List ℕ)). judge p.parsed p.cutter.unfinished ls) (c.law more),
+    why,
+  )) at;
+  read = λ e. absurd (fails_as _ f.cause causes.Read why e);
+}
 
-  -- a line that ended has a cause
-  pub ended_stops : (line rest : List ℕ) (new : Lines) → Cuts p.cutter piece line rest new
-      → Fails f.cause (after_content p.parsed p.cutter.unfinished (content line)) → Stops p piece f
-  ended_stops line rest new c why = record {
-    at = line_stops p.parsed p.cutter.unfinished f line (λ more. judged p (piece ++ more))
-        (λ more. to_come new (rest ++ more))
-        (λ more. ap (λ (ls : List (List ℕ)). judge p.parsed p.cutter.unfinished ls) (c.law more)) at why;
-    read = λ e. absurd (fails_as _ f.cause causes.Read why e);
-  }
-
-  -- a line is too long
-  pub long_stops : f.cause ≡ causes.LineTooLong → IsTooLong p.cutter piece → Stops p piece f
-  long_stops is long = record {
-    at = record {
-      finds = λ own more.
-          let next = long.law more in
-          ap (λ (ls : List (List ℕ)). judge p.parsed p.cutter.unfinished ls) next.2
-          ∙ first_judged p.parsed p.cutter.unfinished next.0 next.1 (Err causes.LineTooLong)
-          (long_content p.parsed p.cutter.unfinished (content next.0) (content_long next.0 next.3))
-          ∙ ap (λ (m : ℕ). Err (record { line = m; cause = causes.LineTooLong })) (sym at)
-          ∙ ap (λ (k : ScriptCause). Err (record { line = f.line; cause = k })) (sym is);
-      first = first_here;
-      judged = λ e. absurd (let bad : causes.LineTooLong ≡ causes.NoFork = sym is ∙ e in cc);
-    };
-    read = λ e. absurd (let bad : causes.LineTooLong ≡ causes.Read = sym is ∙ e in cc);
-  }
+-- a line is too long
+pub long_stops : {p : Progress} {piece : List ℕ} {f : ScriptFault} → f.line ≡ p.cutter.unfinished
+    → f.cause ≡ causes.LineTooLong → IsTooLong p.cutter piece → Stops p piece f
+long_stops {p} {piece} {f} at is long =
+    let n = p.cutter.unfinished in
+    record {
+      at = line_stops p.parsed n f (λ more. judged p (piece ++ more)) (λ more.
+          let next = long.law more in (
+            next.0,
+            next.1,
+            ap (λ (ls : List (List ℕ)). judge p.parsed n ls) next.2,
+            fails_as (after_content p.parsed n (content next.0)) causes.LineTooLong f.cause
+                (long_content p.parsed n (content next.0) (content_long next.0 next.3)) (sym is),
+          )) at;
+      read = λ e. absurd (let bad : causes.LineTooLong ≡ causes.Read = sym is ∙ e in cc);
+    }
 
 -- more bytes came than a cutter takes
 pub no_room : (p : Progress) (piece : List ℕ) (f : ScriptFault)

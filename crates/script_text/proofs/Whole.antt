@@ -1,63 +1,45 @@
 -- Lines that were all judged make a script where forks lead to each thread.
-use Rattle.std.proofs.Common.{◌≡◌, ℕ, ◌<◌, List, length, Option, Some, None, refl, ap, subst, arith, inl, inr}
+use Rattle.std.proofs.Common.{◌≡◌, ℕ, ◌<◌, List, length, subst, arith, inl, inr}
 use Rattle.std.proofs.Common.{◌⊎◌, true, Bool}
-use Rattle.std.specs.Prelude.{unwrap_or}
 use Rattle.std.proofs.lemmas.Bool.{eqb-true}
-use Rattle.event_core.specs.declared.ids.ThreadId.{ThreadId}
 use Rattle.event_core.specs.declared.events.Op.{Op}
 use Rattle.event_core.specs.declared.events.Op.TheVariants as ops
 use Rattle.event_core.specs.declared.events.Act.{Act}
 use Rattle.event_core.specs.declared.events.Act.TheVariants as acts
 use Rattle.rapid_text.specs.Tables.{Tables, space}
 use Rattle.rapid_text.specs.Events.{HasNames, target_of, word_of_op, kind_of}
-use Rattle.script_text.specs.Lines.{is_of, forks, joins, is_thread, thread_of, fork_of, join_of, act_thread}
+use Rattle.script_text.specs.Lines.{is_of, forks, joins, is_thread, thread_of, act_thread}
 use Rattle.script_text.specs.Lines.{act_fork, act_join, op_fork, op_join}
 use Rattle.script_text.specs.Scripts.{Parsed, IsDraft, IsScript, AllNamed}
 use Rattle.script_text.specs.Scripts.{act_event}
 use Rattle.script_text.specs.Marks.{AreBelow, MarksReached, AllMarked, IsFirstUnmarked}
 use Rattle.script_text.proofs.Marking.{names_reached, own_named, own_or_more}
 
-same_thread : (u v : ThreadId) → Some u ≡ Some v → u ≡ v
-same_thread u v e = ap (λ (o : Option ThreadId). unwrap_or o u) e
-
 own_below : (t : Tables) (a : Act) → HasNames t (act_event a) → (act_thread a).0 < length t.threads.names
 own_below t (acts.One c) h = h.thread
 own_below t (acts.Swap u x site arg) h = h.thread
 
-op_fork_below : (t : Tables) (op : Op) (v : ThreadId) → op_fork op ≡ Some v
-    → target_of op < length (space t (kind_of (word_of_op op))).names → v.0 < length t.threads.names
-op_fork_below t (ops.Fork u) v is h = subst (λ (w : ThreadId). w.0 < length t.threads.names)
-    (same_thread u v is) h
-op_fork_below t (ops.Join u) v is h = absurd cc
-op_fork_below t (ops.Load x) v is h = absurd cc
-op_fork_below t (ops.Store x) v is h = absurd cc
-op_fork_below t (ops.Acquire x) v is h = absurd cc
-op_fork_below t (ops.Release x) v is h = absurd cc
+op_fork_below : (t : Tables) (op : Op) (u : ℕ) → is_thread u (op_fork op) ≡ true
+    → target_of op < length (space t (kind_of (word_of_op op))).names → u < length t.threads.names
+op_fork_below t (ops.Fork v) u is h =
+    subst (λ (n : ℕ). n < length t.threads.names) (eqb-true v.0 u is) h
+op_fork_below t _ u is h = absurd cc
 
-op_join_below : (t : Tables) (op : Op) (v : ThreadId) → op_join op ≡ Some v
-    → target_of op < length (space t (kind_of (word_of_op op))).names → v.0 < length t.threads.names
-op_join_below t (ops.Join u) v is h = subst (λ (w : ThreadId). w.0 < length t.threads.names)
-    (same_thread u v is) h
-op_join_below t (ops.Fork u) v is h = absurd cc
-op_join_below t (ops.Load x) v is h = absurd cc
-op_join_below t (ops.Store x) v is h = absurd cc
-op_join_below t (ops.Acquire x) v is h = absurd cc
-op_join_below t (ops.Release x) v is h = absurd cc
+op_join_below : (t : Tables) (op : Op) (u : ℕ) → is_thread u (op_join op) ≡ true
+    → target_of op < length (space t (kind_of (word_of_op op))).names → u < length t.threads.names
+op_join_below t (ops.Join v) u is h =
+    subst (λ (n : ℕ). n < length t.threads.names) (eqb-true v.0 u is) h
+op_join_below t _ u is h = absurd cc
 
-fork_below : (t : Tables) (a : Act) (v : ThreadId) → act_fork a ≡ Some v → HasNames t (act_event a)
-    → v.0 < length t.threads.names
-fork_below t (acts.One c) v is h = op_fork_below t c.op v is h.target
-fork_below t (acts.Swap u x site arg) v is h = absurd cc
+fork_below : (t : Tables) (a : Act) (u : ℕ) → is_thread u (act_fork a) ≡ true → HasNames t (act_event a)
+    → u < length t.threads.names
+fork_below t (acts.One c) u is h = op_fork_below t c.op u is h.target
+fork_below t (acts.Swap v x site arg) u is h = absurd cc
 
-join_below : (t : Tables) (a : Act) (v : ThreadId) → act_join a ≡ Some v → HasNames t (act_event a)
-    → v.0 < length t.threads.names
-join_below t (acts.One c) v is h = op_join_below t c.op v is h.target
-join_below t (acts.Swap u x site arg) v is h = absurd cc
-
-thread_below : (n u : ℕ) (o p : Option ThreadId) → o ≡ p → ((v : ThreadId) → o ≡ Some v → v.0 < n)
-    → is_thread u p ≡ true → u < n
-thread_below n u o None e h is = absurd cc
-thread_below n u o (Some v) e h is = subst (λ (m : ℕ). m < n) (eqb-true v.0 u is) (h v e)
+join_below : (t : Tables) (a : Act) (u : ℕ) → is_thread u (act_join a) ≡ true → HasNames t (act_event a)
+    → u < length t.threads.names
+join_below t (acts.One c) u is h = op_join_below t c.op u is h.target
+join_below t (acts.Swap v x site arg) u is h = absurd cc
 
 -- each thread that a line names has a name
 pub below : (s : Parsed) → AllNamed s → AreBelow s.lines (length s.names.threads.names)
@@ -66,10 +48,8 @@ below s h k l u at named = by (own_or_more (is_of u l) (forks u l) (joins u l) n
     by : (is_of u l ≡ true) ⊎ (forks u l ≡ true) ⊎ (joins u l ≡ true) → u < length s.names.threads.names
     by (inl own) = subst (λ (m : ℕ). m < length s.names.threads.names) (eqb-true (thread_of l).0 u own)
         (own_below s.names l.act (h k l at))
-    by (inr (inl fork)) = thread_below (length s.names.threads.names) u (fork_of l) (fork_of l) refl
-        (λ v is. fork_below s.names l.act v is (h k l at)) fork
-    by (inr (inr join)) = thread_below (length s.names.threads.names) u (join_of l) (join_of l) refl
-        (λ v is. join_below s.names l.act v is (h k l at)) join
+    by (inr (inl fork)) = fork_below s.names l.act u fork (h k l at)
+    by (inr (inr join)) = join_below s.names l.act u join (h k l at)
 
 -- where each line names only threads with a mark, they are a script
 pub is_script : (s : Parsed) (marks : List Bool) → IsDraft s → MarksReached s.lines marks

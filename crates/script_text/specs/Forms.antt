@@ -107,9 +107,4 @@ abbrev pub Fails : {Y : Type 0} → ScriptCause → Result Y ScriptCause → Typ
 Fails causes.OutOfMemory read = Unit {0}
 Fails causes.NoFork read = ⊥
 Fails causes.Read read = ⊥
-Fails causes.LineTooLong read = read ≡ Err causes.LineTooLong
-Fails causes.BadLine read = read ≡ Err causes.BadLine
-Fails causes.BadNumber read = read ≡ Err causes.BadNumber
-Fails causes.TooManyNames read = read ≡ Err causes.TooManyNames
-Fails causes.BadFork read = read ≡ Err causes.BadFork
-Fails causes.BadJoin read = read ≡ Err causes.BadJoin
+Fails cause read = read ≡ Err cause

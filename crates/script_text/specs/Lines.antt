@@ -2,7 +2,7 @@
 use Rattle.std.specs.Prelude.{ℕ, ◌==◌, Bool, false, Option, Some, None}
 use Rattle.event_core.specs.declared.ids.ThreadId.{ThreadId}
 use Rattle.event_core.specs.declared.events.Op.{Op}
-use Rattle.event_core.specs.declared.events.Op.TheVariants.{Load, Store, Acquire, Release, Fork, Join}
+use Rattle.event_core.specs.declared.events.Op.TheVariants.{Fork, Join}
 use Rattle.event_core.specs.declared.events.Act.{Act}
 use Rattle.event_core.specs.declared.events.Act.TheVariants.{One, Swap}
 use Rattle.script_text.specs.declared.lines.ScriptLine.{ScriptLine}
@@ -17,19 +17,11 @@ thread_of l = act_thread l.act
 
 abbrev pub op_fork : Op → Option ThreadId
 op_fork (Fork u) = Some u
-op_fork (Join u) = None
-op_fork (Load x) = None
-op_fork (Store x) = None
-op_fork (Acquire x) = None
-op_fork (Release x) = None
+op_fork op = None
 
 abbrev pub op_join : Op → Option ThreadId
 op_join (Join u) = Some u
-op_join (Fork u) = None
-op_join (Load x) = None
-op_join (Store x) = None
-op_join (Acquire x) = None
-op_join (Release x) = None
+op_join op = None
 
 abbrev pub act_fork : Act → Option ThreadId
 act_fork (One c) = op_fork c.op

@@ -46,7 +46,7 @@ use Rattle.script_text.specs.declared.forms.Word.{Word}
 use Rattle.script_text.specs.declared.forms.Word.TheVariants.{One, Swap}
 use Rattle.script_text.specs.declared.lines.ScriptLine.{ScriptLine}
 use Rattle.script_text.specs.Forms.{Named, line_of}
-use Rattle.script_text.specs.Lines.{thread_of, fork_of, join_of, forks, joins, is_of}
+use Rattle.script_text.specs.Lines.{thread_of, fork_of, join_of, forks, joins, is_of, is_thread}
 
 -- what was read of a script: its names, and its lines in their order
 pub record Parsed : Type 0 where
@@ -166,19 +166,22 @@ abbrev pub act_event : Act → Event
 act_event (acts.One c) = record { thread = c.thread; op = c.op; site = c.site; value = c.arg }
 act_event (acts.Swap u x site arg) = record { thread = u; op = ops.Store x; site = site; value = arg }
 
+-- each thread is named so by one line at most
+abbrev pub Once : (ScriptLine → Option ThreadId) → List ScriptLine → Type 0
+Once of lines = (j k u : ℕ) (l m : ScriptLine) → slice_get lines j ≡ Some l → slice_get lines k ≡ Some m
+    → is_thread u (of l) ≡ true → is_thread u (of m) ≡ true → j ≡ k
+
 -- the lines keep the rules of forks and joins
 pub record AreLegal (lines : List ScriptLine) : Type 0 where
   -- the first line is one of thread 0
   pub main : (l : ScriptLine) → slice_get lines 0 ≡ Some l → (thread_of l).0 ≡ 0
   -- thread 0 is not forked, and no other is forked twice
   pub fork_main : (k : ℕ) (l : ScriptLine) → slice_get lines k ≡ Some l → forks 0 l ≡ false
-  pub fork_once : (j k u : ℕ) (l m : ScriptLine) → slice_get lines j ≡ Some l → slice_get lines k ≡ Some m
-      → forks u l ≡ true → forks u m ≡ true → j ≡ k
+  pub fork_once : Once fork_of lines
   -- thread 0 is not joined, none joins itself, and none is joined twice
   pub join_main : (k : ℕ) (l : ScriptLine) → slice_get lines k ≡ Some l → joins 0 l ≡ false
   pub join_self : (k : ℕ) (l : ScriptLine) → slice_get lines k ≡ Some l → joins (thread_of l).0 l ≡ false
-  pub join_once : (j k u : ℕ) (l m : ScriptLine) → slice_get lines j ≡ Some l → slice_get lines k ≡ Some m
-      → joins u l ≡ true → joins u m ≡ true → j ≡ k
+  pub join_once : Once join_of lines
 
 -- the numbers of each line have names
 abbrev pub AllNamed : Parsed → Type 0

@@ -1,8 +1,8 @@
 //! Scripts: what threads are to do, a line for each step, as text.
 //!
 //! A line is `thread word argument` or `thread word argument number`, with one blank between. A script is
-//! read whole before any of it is done: each line is judged as it comes, and at the end that each thread is
-//! forked.
+//! read whole before any of it is done. Each line is judged as it comes, and the forks of the threads at the
+//! end.
 #![tactic(auto)]
 
 mod causes;

@@ -120,13 +120,9 @@ impl Sink for Reading {
 
     ghost takes_nothing = { λ s. takes_none (progress s.names s.lines.items s.cutter) [] };
 
-    ghost takes_both = { λ r s t front rest first then. takes_both (progress r.names r.lines.items r.cutter)
-        (progress s.names s.lines.items s.cutter) (progress t.names t.lines.items t.cutter) front rest first
-        then };
+    ghost takes_both = { λ r s t front rest first then. takes_both first then };
 
-    ghost stops_after = { λ r s t front rest first then. some_stops_after
-        (progress r.names r.lines.items r.cutter) (progress s.names s.lines.items s.cutter) front rest t.fault
-        first then };
+    ghost stops_after = { λ r s t front rest first then. some_stops_after rest t.fault first then };
 }
 
 impl Reading {
@@ -143,38 +139,7 @@ impl Reading {
     }
 }
 
-/// Takes the text that the reader has left, to its end.
-fn read_script<I: Input>(
-    reading: &mut Reading,
-    reader: &mut I,
-    limits: Limits,
-    turns: u64,
-) -> Result<(), ScriptFault>
-    requires unread { progress reading.old.names reading.old.lines.items reading.old.cutter ≡ unread limits }
-    requires turns { turns ≤ 17592186044416 }
-    requires works { I.failed reader.old ≡ false }
-    ensures ok { OnOk result (IfSome (I.left reader.old) (λ text. script_of limits text
-        ≡ Ok (record { names = reading.new.names; lines = reading.new.lines.items }))) }
-    ensures draft { OnOk result
-        (IsDraft (record { names = reading.new.names; lines = reading.new.lines.items })) }
-    ensures fault { IfErr result (λ f.
-        IsFault limits (I.left reader.old) (I.left reader.new) turns (I.failed reader.new) f f.cause) }
-    ensures few { WithinTurns turns (I.left reader.old) (I.left reader.new) }
-    ensures healthy { OnOk result (I.failed reader.new ≡ false) }
-    ensures told { IfErr result (λ f. f.cause ≢ ScriptCause.Read → I.failed reader.new ≡ false) }
-{
-    match feed_all(reader, reading, turns) {
-        Fed::Whole => {}
-        Fed::Stopped => return Err(reading.fault.unwrap()),
-        Fed::Cut => return Err(read_fault(&reading.cutter)),
-    }
-    if let Err(fault) = finish(&mut reading.names, &mut reading.lines, &mut reading.cutter) {
-        return Err(fault);
-    }
-    Ok(())
-}
-
-/// The names and the lines of the text that the reader has left.
+/// The names and the lines of the text that the reader has left, which is taken to its end.
 pub fn read_lines<I: Input>(
     alloc: Global,
     reader: &mut I,
@@ -193,11 +158,13 @@ pub fn read_lines<I: Input>(
     ensures told { IfErr result (λ f. f.cause ≢ ScriptCause.Read → I.failed reader.new ≡ false) }
 {
     let mut reading = Reading::new(alloc, limits);
-    match read_script(&mut reading, reader, limits, turns) {
-        Ok(()) => Ok((reading.names, reading.lines)),
-        Err(fault) => {
-            drop(reading);
-            Err(fault)
-        }
+    match feed_all(reader, &mut reading, turns) {
+        Fed::Whole => {}
+        Fed::Stopped => return Err(reading.fault.unwrap()),
+        Fed::Cut => return Err(read_fault(&reading.cutter)),
     }
+    if let Err(fault) = finish(&mut reading.names, &mut reading.lines, &mut reading.cutter) {
+        return Err(fault);
+    }
+    Ok((reading.names, reading.lines))
 }

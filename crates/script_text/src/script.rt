@@ -40,23 +40,6 @@ fn check_forks(alloc: Global, names: &Names, lines: &[StoredLine]) -> Result<(),
     Ok(())
 }
 
-/// The script of lines that were judged one after another.
-fn whole_script(alloc: Global, names: Names, lines: Vec<StoredLine>) -> Result<Script, ScriptFault>
-    requires { IsDraft (record { names = names; lines = lines.items }) }
-    ensures ok { IfOk result (λ s. s ≡ record { names = names; lines = lines.items }) }
-    ensures script { IfOk result (λ s. IsScript s) }
-    ensures fault { IfErr result (λ f. Incomplete lines.items f) }
-{
-    match check_forks(alloc, &names, lines.as_slice()) {
-        Ok(()) => Ok(Script { names, lines }),
-        Err(fault) => {
-            drop(names);
-            drop(lines);
-            Err(fault)
-        }
-    }
-}
-
 /// A script without fault: its names, and its lines in order.
 ///
 /// The first line is one of thread 0, forks lead from it to each thread that a line names, and no thread is
@@ -110,7 +93,10 @@ impl Script {
         ensures told { IfErr result (λ f. f.cause ≢ ScriptCause.Read → I.failed reader.new ≡ false) }
     {
         let (names, lines) = read_lines(alloc, reader, limits, turns)?;
-        whole_script(alloc, names, lines)
+        if let Err(fault) = check_forks(alloc, &names, lines.as_slice()) {
+            return Err(fault);
+        }
+        Ok(Script { names, lines })
     }
 
     /// The names of its threads, locks, variables and locations. A line's location is its number in decimal

@@ -1,7 +1,7 @@
-use Rattle.std.proofs.Common.{ℕ, [], ◌+◌, arith, length-append, refl, rules, take}
+use Rattle.std.proofs.Common.{ℕ, [], arith, length-append, refl, rules, take}
 use Rattle.std.proofs.KnownBytes.{Consumes-nil}
 use Rattle.std.proofs.lemmas.List.{length-replicate, length-take-le}
-use Rattle.rapid_text.proofs.FeedLaws.{cut_not_whole, stopped_not_cut, pulled_more, given}
+use Rattle.rapid_text.proofs.FeedLaws.{pulled_more}
 use Rattle.rapid_text.proofs.feeding.feed_all.Goals as goal
 
 pub pulls-init : goal.pulls-init
@@ -18,18 +18,15 @@ pulls-init g c =
     }
 
 pub returns-clause-whole : goal.returns-clause-whole
-returns-clause-whole g c is = absurd (cut_not_whole is)
+returns-clause-whole g c is = absurd cc
 
 pub returns-then-not-feed-clause-cut : goal.returns-then-not-feed-clause-cut
-returns-then-not-feed-clause-cut g c is = absurd (stopped_not_cut is)
+returns-then-not-feed-clause-cut g c is = absurd cc
 
 pub returns-then-not-feed-clause-stopped : goal.returns-then-not-feed-clause-stopped
 returns-then-not-feed-clause-stopped g c is =
-    let left = g.I.Input.left in
     let short = length-take-le c.in-Ok.count c.pull.new.buf c.in-Ok.ensures.within in
-    pulled_more (left c.args.input.now) (left c.pulls.input) (left c.pull.new.self) c.pulls.counter
-    c.args.turns
-    (take c.in-Ok.count c.pull.new.buf) _ _ c.pulls.invariant.pulled c.in-Ok.ensures.bytes.0
+    pulled_more (take c.in-Ok.count c.pull.new.buf) c.pulls.invariant.pulled c.in-Ok.ensures.bytes.0
     (omega (arith, short, c.in-Ok.ensures.within, c.pull.auto.buf, c.pulls.invariant.room))
     (omega arith)
     (λ bytes took. g.met.S.Sink.stops_after c.args.sink.now c.pulls.sink c.feed.new.self bytes _ took.0
@@ -37,12 +34,9 @@ returns-then-not-feed-clause-stopped g c is =
 
 pub pulls-preserved : goal.pulls-preserved
 pulls-preserved g c =
-    let left = g.I.Input.left in
     let short = length-take-le c.in-Ok.count c.pull.new.buf c.in-Ok.ensures.within in
-    let some = given c.in-Ok.count c.pull.new.buf c.in-Ok.ensures.within c.if-count-eq0.false in
     record {
-      pulled = pulled_more (left c.args.input.now) (left c.pulls.input) (left c.pull.new.self) c.pulls.counter
-          (c.pulls.counter + 1) (take c.in-Ok.count c.pull.new.buf) _ _ c.pulls.invariant.pulled
+      pulled = pulled_more (take c.in-Ok.count c.pull.new.buf) c.pulls.invariant.pulled
           c.in-Ok.ensures.bytes.0 (omega (
             arith,
             short,
@@ -54,7 +48,7 @@ pulls-preserved g c =
           let parts = length-append bytes (take c.in-Ok.count c.pull.new.buf) in (
             g.met.S.Sink.takes_both c.args.sink.now c.pulls.sink c.feed.new.self bytes _ took.0
                 (c.feed.ensures.takes c.if-not-feed.false),
-            omega (arith, some, parts, took.1),
+            omega (arith, short, c.if-count-eq0.false, parts, took.1),
           ));
       room = omega (arith, c.pull.auto.buf, c.pulls.invariant.room);
       healthy = search rules;

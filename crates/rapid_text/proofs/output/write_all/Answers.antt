@@ -1,6 +1,7 @@
 use Rattle.std.proofs.Common.{◌∙◌, ℕ, List, sym, subst, refl}
 use Rattle.std.proofs.lemmas.List.{take_rest}
-use Rattle.rapid_text.proofs.Outputs.{Written, nothing_yet, wrote_more, or_false}
+use Rattle.std.proofs.Math.Bool.{or-false}
+use Rattle.rapid_text.proofs.Outputs.{Written, nothing_yet, wrote_more}
 use Rattle.rapid_text.proofs.output.write_all.Goals as goal
 
 pub puts-init : goal.puts-init
@@ -18,5 +19,5 @@ puts-preserved g c =
           (sym (take_rest c.puts.rest.now c.in-Ok.taken))
           (wrote_more start now new c.args.bytes.now c.puts.rest.now c.in-Ok.taken c.puts.invariant.written
           c.in-Ok.ensures.bytes);
-      healthy = c.in-Ok.ensures.fails ∙ or_false (g.W.Output.failed c.puts.w) ∙ c.puts.invariant.healthy;
+      healthy = c.in-Ok.ensures.fails ∙ or-false (g.W.Output.failed c.puts.w) ∙ c.puts.invariant.healthy;
     }

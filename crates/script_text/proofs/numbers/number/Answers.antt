@@ -2,15 +2,17 @@ use Rattle.std.proofs.Common.{arith, ◌∙◌, sym, ap, ◌+◌, ◌*◌, ◌�
 use Rattle.std.proofs.Common.{Some, subst, true}
 use Rattle.std.specs.Char.{is_ascii_digit}
 use Rattle.std.specs.List.{list_all}
+use Rattle.std.proofs.lemmas.Bool.{eqb-true}
 use Rattle.std.proofs.lemmas.List.{take_all}
 use Rattle.std.proofs.lemmas.List.Folds.{list_all_more}
+use Rattle.rapid_line.proofs.Steps.{positive}
 use Rattle.script_text.specs.Numbers.{decimal_value}
 use Rattle.script_text.proofs.Digits.{too_large, one_more, no_digit, all_digits, no_length, too_many}
-use Rattle.script_text.proofs.Digits.{no_is_zero, some_length, not_below}
+use Rattle.script_text.proofs.Digits.{not_below}
 use Rattle.script_text.proofs.numbers.number.Goals as goal
 
 pub returns-then-is_empty : goal.returns-then-is_empty
-returns-then-is_empty c = sym (no_length c.args.digits.now (no_is_zero (length c.args.digits.now)
+returns-then-is_empty c = sym (no_length c.args.digits.now (eqb-true (length c.args.digits.now) 0
     (sym c.is_empty.ensures ∙ c.if-is_empty.true)))
 
 pub returns-then-digits-gt20 : goal.returns-then-digits-gt20
@@ -43,7 +45,7 @@ returns c =
     subst (λ ds. list_all is_ascii_digit ds ≡ true) whole c.digits.invariant.digits in
     let value : c.digits.value ≡ decimal_value c.args.digits.now =
     c.digits.invariant.value ∙ ap decimal_value whole in
-    let some = some_length (length c.args.digits.now) (sym c.is_empty.ensures ∙ c.if-is_empty.false) in
+    let some = positive (length c.args.digits.now) (sym c.is_empty.ensures ∙ c.if-is_empty.false) in
     ap Some value ∙ sym (all_digits c.args.digits.now some (omega (arith, c.if-digits-gt20.false)) digits
     (omega (arith, value, c.digits.invariant.fits)))
 

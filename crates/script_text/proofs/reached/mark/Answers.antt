@@ -22,6 +22,6 @@ returns c =
     c.if-not-marks-thread.false in
     inr (
       refl,
-      sets c.args.line.now c.in-Some.child c.args.marks.now _ is own c.if-marks-child.false
-          (c.requires c.in-Some.child.0 (child_named c.args.line.now c.in-Some.child is)) refl,
+      sets c.args.line.now c.in-Some.child c.args.marks.now is own c.if-marks-child.false
+          (c.requires c.in-Some.child.0 (child_named c.args.line.now c.in-Some.child is)),
     )

@@ -1,4 +1,4 @@
-use Rattle.std.proofs.Common.{[], ap, ◌∙◌, refl, sym}
+use Rattle.std.proofs.Common.{ap, ◌∙◌, refl, sym}
 use Rattle.std.proofs.lemmas.Bool.{false≢true}
 use Rattle.rapid_line.specs.Lines.{Lines}
 use Rattle.rapid_text.proofs.Pieces.{goes_down}
@@ -19,39 +19,29 @@ lines-init c =
 
 pub returns-in-Ok-None-clause-ok : goal.returns-in-Ok-None-clause-ok
 returns-in-Ok-None-clause-ok c =
-    let now = progress c.lines.names c.lines.lines.items c.lines.cutter in
-    takes_more _ now _ c.args.piece.now c.lines.rest.now [] c.lines.invariant
-    (takes_rest now c.lines.rest.now c.next_line.new.self
-    (rw c.in-Ok-None.field-0-is at c.in-Ok-None.ensures.none) c.in-Ok-None.ensures.unended
-    c.in-Ok-None.ensures.kept)
+    takes_more c.lines.invariant (takes_rest (rw c.in-Ok-None.field-0-is at c.in-Ok-None.ensures.none)
+    c.in-Ok-None.ensures.unended c.in-Ok-None.ensures.kept)
 
 pub returns-in-Err-clause-fault : goal.returns-in-Err-clause-fault
 returns-in-Err-clause-fault c =
-    let now = progress c.lines.names c.lines.lines.items c.lines.cutter in
-    stops_later _ now c.args.piece.now c.lines.rest.now _ c.lines.invariant
-    (long_stops now c.lines.rest.now _
-    (c.unfinished.ensures ∙ ap (λ (s : Lines). s.unfinished) c.in-Err.ensures.err) refl
+    stops_later c.lines.invariant
+    (long_stops (c.unfinished.ensures ∙ ap (λ (s : Lines). s.unfinished) c.in-Err.ensures.err) refl
     c.in-Err.ensures.too_long)
 
 pub returns-in-Err-judge_line-clause-fault : goal.returns-in-Err-judge_line-clause-fault
 returns-in-Err-judge_line-clause-fault c =
-    let now = progress c.lines.names c.lines.lines.items c.lines.cutter in
     let cut = rw c.in-Ok-Some.field-0-is at c.in-Ok-Some.ensures.line in
     let number = rw c.in-Ok-Some.field-0-is at c.in-Ok-Some.ensures.number in
-    stops_later _ now c.args.piece.now c.lines.rest.now _ c.lines.invariant
-    (ended_stops now c.lines.rest.now _ (c.in-Err-judge_line.ensures.at ∙ number) _ _ c.next_line.new.self cut
+    stops_later c.lines.invariant
+    (ended_stops (c.in-Err-judge_line.ensures.at ∙ number) cut
     (rw (c.line.ensures.bytes, number) at c.in-Err-judge_line.ensures.fault))
 
 pub lines-preserved : goal.lines-preserved
 lines-preserved c =
-    let now = progress c.lines.names c.lines.lines.items c.lines.cutter in
     let cut = rw c.in-Ok-Some.field-0-is at c.in-Ok-Some.ensures.line in
     let number = rw c.in-Ok-Some.field-0-is at c.in-Ok-Some.ensures.number in
-    takes_more _ now _ c.args.piece.now c.lines.rest.now _ c.lines.invariant
-    (takes_line now c.lines.rest.now _ _ _ c.next_line.new.self cut
-    (rw (c.line.ensures.bytes, number) at c.in_default.ensures.ok))
+    takes_more c.lines.invariant
+    (takes_line cut (rw (c.line.ensures.bytes, number) at c.in_default.ensures.ok))
 
 pub lines-smaller : goal.lines-smaller
-lines-smaller c =
-    goes_down c.lines.cutter c.next_line.new.self c.lines.rest.now _ c.in-Ok-Some.cut.1.now
-    (rw c.in-Ok-Some.field-0-is at c.in-Ok-Some.ensures.line)
+lines-smaller c = goes_down (rw c.in-Ok-Some.field-0-is at c.in-Ok-Some.ensures.line)

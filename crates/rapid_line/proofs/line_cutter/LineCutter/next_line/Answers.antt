@@ -1,12 +1,13 @@
 use Rattle.std.proofs.Common.{refl}
-use Rattle.rapid_line.proofs.LineLaws.{cuts, where_err, long_line}
+use Rattle.rapid_line.proofs.Steps.{where_err}
+use Rattle.rapid_line.proofs.LineLaws.{cuts, long_line}
 use Rattle.rapid_line.proofs.line_cutter.LineCutter.next_line.Goals as goal
 
 pub returns-clause-line : goal.returns-clause-line
 returns-clause-line c =
     rw (← c.self.view_is)
-    (cuts _ _ c.args.piece.now _ c.in-Some.line.bytes.now c.in-Some.rest.now c.self.invariant.0
-    c.in-Some.ensures.cut c.in_ok-whole.ensures.line c.in_ok-whole.ensures.empty refl refl)
+    (cuts c.self.invariant.0 c.in-Some.ensures.cut c.in_ok-whole.ensures.line c.in_ok-whole.ensures.empty refl
+    refl)
 
 pub returns-in_err-whole-clause-too_long : goal.returns-in_err-whole-clause-too_long
 returns-in_err-whole-clause-too_long c =

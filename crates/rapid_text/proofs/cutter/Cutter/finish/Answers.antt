@@ -13,6 +13,6 @@ returns-in-Err-clause-fault c =
     let cause = c.in-Err.cause in
     subst (λ (f : TextFault). ClosesAt c.args.self.now f f.cause) (sym c.fail.ensures.fault)
     (subst (λ (s : Cutting). ClosesAt s (record { line = line; cause = cause }) cause) start
-    (closes_at inside.names inside.lines c.last_line.new.self inside.line _ line cause
-    c.in-Some-last_line.ensures.number c.in-Some-last_line.ensures.line
+    (closes_at inside.names inside.line line cause c.in-Some-last_line.ensures.number
+    c.in-Some-last_line.ensures.line
     (rw c.line.ensures.bytes at c.in-Err.ensures.fault) (rw c.line.ensures.bytes at c.in-Err.ensures.memory)))

@@ -1,4 +1,4 @@
-use Rattle.std.proofs.Common.{◌≡◌, ◌∙◌, ap, sym, subst, arith, length, length-append, List, ℕ}
+use Rattle.std.proofs.Common.{◌∙◌, ap, sym, subst, arith, length, length-append, List, ℕ}
 use Rattle.rapid_line.specs.Lines.{Lines}
 use Rattle.rapid_text.specs.declared.causes.TextFault.{TextFault}
 use Rattle.rapid_text.specs.Cutting.{Cutting, FailsAt}
@@ -29,43 +29,34 @@ returns-in-Ok-None-clause-ok c =
       live now.names c.next_line.new.self now.line now.failed c.lines.invariant.live,
       c.lines.invariant.line,
     )
-    (keeps c.args.self.now c.args.piece.now now.names now.lines c.next_line.new.self c.lines.rest.now
-    c.lines.invariant.going (rw c.in-Ok-None.field-0-is at c.in-Ok-None.ensures.none) live_start)
+    (keeps c.lines.invariant.going (rw c.in-Ok-None.field-0-is at c.in-Ok-None.ensures.none)
+    c.in-Ok-None.ensures.unended live_start)
 
 pub returns-in-Err-clause-fault : goal.returns-in-Err-clause-fault
 returns-in-Err-clause-fault c =
-    let lines = c.lines.self-inside.lines in
-    let at : c.unfinished-line-in-Err.result ≡ lines.unfinished =
-    c.unfinished-line-in-Err.ensures ∙ ap (λ (s : Lines). s.unfinished) c.in-Err.ensures.err in
     subst (λ (f : TextFault). FailsAt c.args.self.now c.args.piece.now f f.cause)
     (sym c.fail-in-Err.ensures.fault)
-    (long_at c.args.self.now c.args.piece.now c.lines.self-inside.names lines c.lines.rest.now
-    c.unfinished-line-in-Err.result at c.lines.invariant.going c.in-Err.ensures.too_long)
+    (long_at (c.unfinished-line-in-Err.ensures ∙ ap (λ (s : Lines). s.unfinished) c.in-Err.ensures.err)
+    c.lines.invariant.going c.in-Err.ensures.too_long)
 
 pub returns-in-Err-line_event-clause-fault : goal.returns-in-Err-line_event-clause-fault
 returns-in-Err-line_event-clause-fault c =
-    let now = c.lines.self-inside in
     let cut = rw c.in-Ok-Some.field-0-is at c.in-Ok-Some.ensures.line in
     subst (λ (f : TextFault). FailsAt c.args.self.now c.args.piece.now f f.cause)
     (sym c.fail-in-Err-line_event.ensures.fault)
-    (fails_at c.args.self.now c.args.piece.now now.names now.lines c.next_line.new.self c.lines.rest.now _
-    c.in-Ok-Some.cut.1.now c.in-Ok-Some.cut.0.number c.in-Err-line_event.cause
+    (fails_at c.in-Ok-Some.cut.0.number c.in-Err-line_event.cause
     (rw c.in-Ok-Some.field-0-is at c.in-Ok-Some.ensures.number) c.lines.invariant.going cut
     (rw c.line.ensures.bytes at c.in-Err-line_event.ensures.fault)
     (rw c.line.ensures.bytes at c.in-Err-line_event.ensures.memory))
 
 pub lines-smaller : goal.lines-smaller
-lines-smaller c =
-    goes_down c.lines.self-inside.lines c.next_line.new.self c.lines.rest.now _ c.in-Ok-Some.cut.1.now
-    (rw c.in-Ok-Some.field-0-is at c.in-Ok-Some.ensures.line)
+lines-smaller c = goes_down (rw c.in-Ok-Some.field-0-is at c.in-Ok-Some.ensures.line)
 
 pub lines-preserved : goal.lines-preserved
 lines-preserved c =
-    let now = c.lines.self-inside in
     let cut = rw c.in-Ok-Some.field-0-is at c.in-Ok-Some.ensures.line in
     record {
-      going = goes_on c.args.self.now c.args.piece.now now.names c.line_event.new.names now.lines
-          c.next_line.new.self c.lines.rest.now _ c.in-Ok-Some.cut.1.now c.lines.invariant.going cut
+      going = goes_on c.lines.invariant.going cut
           (rw (c.line.ensures.bytes, c.in-Ok-None-line_event.field-0-is) at
           c.in-Ok-None-line_event.ensures.ok)
           c.line_event.ensures.grows;
@@ -75,9 +66,7 @@ lines-preserved c =
 
 pub overflow_sub-result : goal.overflow_sub-result
 overflow_sub-result c =
-    let less = goes_down c.lines.self-inside.lines c.next_line.new.self c.lines.rest.now _
-    c.in-Ok-Some.cut.1.now
-    (rw c.in-Ok-Some.field-0-is at c.in-Ok-Some.ensures.line) in
+    let less = goes_down (rw c.in-Ok-Some.field-0-is at c.in-Ok-Some.ensures.line) in
     let all = ap (λ (t : List ℕ). length t) c.lines.invariant.going.is in
     let parts = length-append c.lines.invariant.going.front c.lines.rest.now in
     omega arith
@@ -90,17 +79,14 @@ returns-in-Ok-Some-line_event-clause-ok c =
     let number = rw c.in-Ok-Some.field-0-is at c.in-Ok-Some.ensures.number in
     let line = c.in-Ok-Some.cut.0.number in
     rw (live c.line_event.new.names c.next_line.new.self line now.failed c.lines.invariant.live, number)
-    (gives c.args.self.now c.args.piece.now now.names c.line_event.new.names now.lines c.next_line.new.self
-    c.lines.rest.now _ c.in-Ok-Some.cut.1.now c.in-Ok-Some-line_event.event c.lines.invariant.going cut
+    (gives c.lines.invariant.going cut
     (rw (c.line.ensures.bytes, c.in-Ok-Some-line_event.field-0-is) at c.in-Ok-Some-line_event.ensures.ok)
-    live_start)
+    c.line_event.ensures.grows live_start)
 
 pub returns-in-Ok-Some-line_event-clause-grows : goal.returns-in-Ok-Some-line_event-clause-grows
 returns-in-Ok-Some-line_event-clause-grows c =
-    TablesGrow-trans c.args.self.now.names c.lines.self-inside.names c.line_event.new.names
-    c.lines.invariant.going.grows c.line_event.ensures.grows
+    TablesGrow-trans _ _ _ c.lines.invariant.going.grows c.line_event.ensures.grows
 
 pub returns-in-Err-line_event-clause-grows : goal.returns-in-Err-line_event-clause-grows
 returns-in-Err-line_event-clause-grows c =
-    TablesGrow-trans c.args.self.now.names c.lines.self-inside.names c.line_event.new.names
-    c.lines.invariant.going.grows c.line_event.ensures.grows
+    TablesGrow-trans _ _ _ c.lines.invariant.going.grows c.line_event.ensures.grows

@@ -2,7 +2,7 @@ use Rattle.std.proofs.Common.{◌≡◌, ◌+◌, ◌++◌, ◌∷◌, [], Some,
 use Rattle.std.proofs.Common.{ap}
 use Rattle.std.specs.Prelude.{slice_get}
 use Rattle.std.proofs.lemmas.List.{length_push}
-use Rattle.rapid_text.specs.Numbers.{Numbered, place_of}
+use Rattle.rapid_text.specs.Numbers.{Numbered, found_number}
 use Rattle.rapid_text.specs.NumberCache.{AreRight}
 use Rattle.rapid_text.proofs.SpaceLaws.{numbered_new, added}
 use Rattle.rapid_text.proofs.NoteLaws.{right_noted, right_more}
@@ -25,7 +25,7 @@ pub invariant_of-self-2 : goal.invariant_of-self-2
 invariant_of-self-2 c =
     let names = c.self.inside.names.keys in
     let name = c.args.name.now in
-    let new = ap (λ (s : Numbered). place_of s name) c.self.view_is ∙ c.requires.new in
+    let new = ap (λ (s : Numbered). found_number s name) c.self.view_is ∙ c.requires.new in
     let room = ap (λ (s : Numbered). length s.names) c.self.view_is in
     let limit = ap (λ (s : Numbered). s.limit) c.self.view_is in
     let less = c.requires.room in
@@ -46,7 +46,7 @@ pub returns-clause-ok : goal.returns-clause-ok
 returns-clause-ok c =
     let names = c.self.inside.names.keys in
     let name = c.args.name.now in
-    let new = ap (λ (s : Numbered). place_of s name) c.self.view_is ∙ c.requires.new in
+    let new = ap (λ (s : Numbered). found_number s name) c.self.view_is ∙ c.requires.new in
     let room = ap (λ (s : Numbered). length s.names) c.self.view_is in
     let limit = ap (λ (s : Numbered). s.limit) c.self.view_is in
     let less = c.requires.room in

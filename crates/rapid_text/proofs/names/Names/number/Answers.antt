@@ -1,4 +1,5 @@
-use Rattle.rapid_text.proofs.NameGrowth.{number_grows, number_named, too_many_exactly}
+use Rattle.rapid_text.proofs.NameGrowth.{number_grows, number_named}
+use Rattle.rapid_text.proofs.NamePlaces.{too_many_exactly}
 use Rattle.rapid_text.proofs.names.Names.number.Goals as goal
 
 pub returns-clause-named : goal.returns-clause-named

@@ -1,20 +1,20 @@
-use Rattle.std.proofs.Common.{◌≡◌, Ok, sym, subst}
-use Rattle.std.specs.Prelude.{IfSome}
-use Rattle.std.proofs.lemmas.Result.{IfOk-weaker, IfErr-weaker}
-use Rattle.script_text.specs.Scripts.{Parsed, script_of}
+use Rattle.std.proofs.Common.{List, subst}
+use Rattle.script_text.specs.declared.lines.ScriptLine.{ScriptLine}
+use Rattle.script_text.specs.Scripts.{IsScript}
+use Rattle.script_text.specs.Readings.{Incomplete}
 use Rattle.script_text.proofs.Faults.{incomplete_fault}
 use Rattle.script_text.proofs.script.Script.read.Goals as goal
 
-pub returns-clause-ok : goal.returns-clause-ok
-returns-clause-ok g c =
-    let left = g.I.Input.left c.args.reader.now in
-    IfOk-weaker c.whole_script.result _ _ (λ s is. subst (λ (p : Parsed). IfSome left (λ text.
-    script_of c.args.limits text ≡ Ok p)) (sym is) c.in_ok-names.ensures.ok) c.whole_script.ensures.ok
+pub invariant_of-result : goal.invariant_of-result
+invariant_of-result g c =
+    subst (λ (ls : List ScriptLine). IsScript (record { names = c.in_ok-names.names; lines = ls }))
+    c.as_slice.ensures.value c.in_default.ensures.ok
 
-pub returns-clause-fault : goal.returns-clause-fault
-returns-clause-fault g c =
+pub returns-in-Err-clause-fault : goal.returns-in-Err-clause-fault
+returns-in-Err-clause-fault g c =
     let reader = c.read_lines.new.reader in
-    IfErr-weaker c.whole_script.result _ _ (λ f. incomplete_fault c.args.limits
-    (g.I.Input.left c.args.reader.now) (g.I.Input.left reader) c.args.turns (g.I.Input.failed reader)
-    (record { names = c.in_ok-names.names; lines = c.in_ok-names.lines.items }) f c.in_ok-names.ensures.ok)
-    c.whole_script.ensures.fault
+    incomplete_fault c.args.limits (g.I.Input.left c.args.reader.now) (g.I.Input.left reader) c.args.turns
+    (g.I.Input.failed reader) (record { names = c.in_ok-names.names; lines = c.in_ok-names.lines.items })
+    c.in-Err.fault c.in_ok-names.ensures.ok
+    (subst (λ (ls : List ScriptLine). Incomplete ls c.in-Err.fault) c.as_slice.ensures.value
+    c.in-Err.ensures.fault)

@@ -2,14 +2,14 @@ use Rattle.std.proofs.Common.{refl, sym, subst}
 use Rattle.script_text.specs.declared.causes.ScriptFault.{ScriptFault}
 use Rattle.script_text.specs.Readings.{IsFault, progress}
 use Rattle.script_text.proofs.Faults.{stopped_fault, read_fault, end_fault, all_draft}
-use Rattle.script_text.proofs.readings.read_script.Goals as goal
+use Rattle.script_text.proofs.readings.read_lines.Goals as goal
 
 pub returns-in-Stopped-clause-fault : goal.returns-in-Stopped-clause-fault
 returns-in-Stopped-clause-fault g c =
     let left = g.I.Input.left in
     let input = c.feed_all.new.input in
     stopped_fault c.args.limits (left c.args.reader.now) (left input) c.args.turns (g.I.Input.failed input) _
-    c.requires.unread c.feed_all.new.sink.fault c.unwrap.result c.requires.turns
+    c.new-reading.ensures c.feed_all.new.sink.fault c.unwrap.result c.requires.turns
     (c.in-Stopped.ensures.stopped refl) c.unwrap.ensures
 
 pub returns-in-Cut-clause-fault : goal.returns-in-Cut-clause-fault
@@ -21,7 +21,7 @@ returns-in-Cut-clause-fault g c =
     let now = progress read.names read.lines.items read.cutter in
     subst (λ (f : ScriptFault). IsFault c.args.limits left rest c.args.turns failed f f.cause)
     (sym c.read_fault.ensures)
-    (read_fault c.args.limits left rest c.args.turns failed _ c.requires.unread now now.cutter.unfinished
+    (read_fault c.args.limits left rest c.args.turns failed _ c.new-reading.ensures now now.cutter.unfinished
     (c.in-Cut.ensures.cut refl) refl)
 
 pub returns-in-Err-clause-fault : goal.returns-in-Err-clause-fault
@@ -29,11 +29,11 @@ returns-in-Err-clause-fault g c =
     let left = g.I.Input.left in
     let input = c.feed_all.new.input in
     end_fault c.args.limits (left c.args.reader.now) (left input) c.args.turns (g.I.Input.failed input) _
-    c.requires.unread _ c.in-Err.fault (c.in-Whole.ensures.whole refl) c.in-Err.ensures.fault
+    c.new-reading.ensures _ c.in-Err.fault (c.in-Whole.ensures.whole refl) c.in-Err.ensures.fault
 
 pub returns-clause-draft : goal.returns-clause-draft
 returns-clause-draft g c =
     let left = g.I.Input.left in
     let input = c.feed_all.new.input in
     all_draft c.args.limits (left c.args.reader.now) (left input) c.args.turns (g.I.Input.failed input) _
-    c.requires.unread _ _ (c.in-Whole.ensures.whole refl) c.in_default.ensures.ok
+    c.new-reading.ensures _ _ (c.in-Whole.ensures.whole refl) c.in_default.ensures.ok
