@@ -31,34 +31,26 @@ from_next : (n : ℕ) (found : Result Trace TraceFault) → IsFrom (n + 1) found
 from_next n (Ok t) later = tt
 from_next n (Err f) later = omega (arith, later)
 
--- where the lines after line n have no fault before it, it has none before it
-at_line : (m : Limits) (log : List Event) (ls : List (List ℕ)) (t : Tables) (n : ℕ)
-    → ((longer : List Event) (u : Tables) → IsFrom n (finding_after m longer (judge ls u (n + 1))))
-    → (r : Result (Option Event × Tables) Cause)
-    → IsFrom n (finding_after m log (after_line t n r (λ v. judge ls v (n + 1))))
-at_line m log ls t n later = go
-  where
-    refused_here : (e : Event) (u : Tables) (o : Option Refusal)
-        → IsFrom n (refused_or n o (finding_after m (with_line log e) (judge ls u (n + 1))))
-    refused_here e u None = later (with_line log e) u
-    refused_here e u (Some r) = omega arith
-
-    told : (o : Option Event) (u : Tables)
-        → IsFrom n (finding_after m log (after_line t n (Ok (o, u)) (λ v. judge ls v (n + 1))))
-    told None u = later log u
-    told (Some e) u = refused_here e u (refusal m log (call_of e))
-
-    go : (r : Result (Option Event × Tables) Cause)
-        → IsFrom n (finding_after m log (after_line t n r (λ v. judge ls v (n + 1))))
-    go (Err cause) = omega arith
-    go (Ok p) = told p.0 p.1
-
 -- lines from number n on have no fault before line n
 from_line : (m : Limits) (log : List Event) (lines : List (List ℕ)) (t : Tables) (n : ℕ)
     → IsFrom n (finding_after m log (judge lines t n))
 from_line m log [] t n = tt
 from_line m log (l ∷ ls) t n =
-    at_line m log ls t n (λ longer u. from_next n _ (from_line m longer ls u (n + 1))) (reading t (content l))
+    go (reading t (content l)) (λ longer u. from_next n _ (from_line m longer ls u (n + 1)))
+  where
+    Later : Type 0
+    Later = (longer : List Event) (u : Tables) → IsFrom n (finding_after m longer (judge ls u (n + 1)))
+
+    refused : (e : Event) (u : Tables) (o : Option Refusal) → Later
+        → IsFrom n (refused_or n o (finding_after m (with_line log e) (judge ls u (n + 1))))
+    refused e u None later = later (with_line log e) u
+    refused e u (Some r) later = omega arith
+
+    go : (r : Result (Option Event × Tables) Cause) → Later
+        → IsFrom n (finding_after m log (after_line t n r (λ u. judge ls u (n + 1))))
+    go (Err cause) later = omega arith
+    go (Ok (None, u)) later = later log u
+    go (Ok (Some e, u)) later = refused e u (refusal m log (call_of e)) later
 
 -- a text of which some bytes came and were taken, where the reading stopped
 pub cut_text : {m : Limits} {A B : Limits → List Event → Type 0} {left rest : Option (List ℕ)} {turns : ℕ}

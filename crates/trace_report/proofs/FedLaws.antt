@@ -10,7 +10,7 @@ use Rattle.trace_report.specs.declared.faults.TraceFault.{TraceFault}
 use Rattle.trace_report.specs.Findings.{finding_after, IsReached}
 use Rattle.trace_report.specs.Replayed.{fault_gives_up}
 use Rattle.trace_report.specs.Replaying.{fault_or}
-use Rattle.trace_report.specs.Judging.{RanOut, Takes, Stops}
+use Rattle.trace_report.specs.Judging.{RanOut, Takes, MeetsFault}
 
 -- these are its limits and its log
 abbrev pub IsOf : Limits → List Event → Limits → List Event → Type 0
@@ -27,7 +27,7 @@ was_taken P false None now again stops none =
     absurd (subst (λ (o : Option TraceFault). IsSomeAnd o P) none (stops refl refl))
 
 module _ (m n : Limits) (log longer : List Event) (s t : Cutting) (piece more : List ℕ) where
-  stopped : (o : Option TraceFault) → IsSomeAnd o (Stops (IsOf m log) s piece) → fault_gives_up o ≡ false
+  stopped : (o : Option TraceFault) → IsSomeAnd o (MeetsFault (IsOf m log) s piece) → fault_gives_up o ≡ false
       → fault_or o (finding_after n longer (judged t more)) ≡ finding_after m log (judged s (piece ++ more))
   stopped None bad gives = absurd bad
   stopped (Some f) stop gives = sym ((stop.says m log (refl, refl) more).finds gives)
@@ -35,7 +35,7 @@ module _ (m n : Limits) (log longer : List Event) (s t : Cutting) (piece more : 
   pub fed_law : (took : Bool) (before now : Option TraceFault)
       → (before ≢ None → (took ≡ false) × (now ≡ before))
       → (took ≡ true → (now ≡ None) × Takes (IsOf m log) (IsOf n longer) s piece [] t)
-      → (before ≡ None → took ≡ false → IsSomeAnd now (Stops (IsOf m log) s piece))
+      → (before ≡ None → took ≡ false → IsSomeAnd now (MeetsFault (IsOf m log) s piece))
       → fault_gives_up now ≡ false
       → fault_or now (finding_after n longer (judged t more))
       ≡ fault_or before (finding_after m log (judged s (piece ++ more)))
@@ -53,7 +53,7 @@ module _ (m n : Limits) (log longer : List Event) (s t : Cutting) (piece more : 
 
 pub fed_reached : (m : Limits) (log : List Event) (s : Cutting) (piece : List ℕ) (took : Bool)
     (now : Option TraceFault) → (took ≡ true → now ≡ None)
-    → (took ≡ false → IsSomeAnd now (Stops (IsOf m log) s piece))
+    → (took ≡ false → IsSomeAnd now (MeetsFault (IsOf m log) s piece))
     → IfSome now (λ f. RanOut f → (more : List ℕ) → IsReached m log (judged s (piece ++ more)) f)
 fed_reached m log s piece took None takes stops = tt
 fed_reached m log s piece true (Some f) takes stops =

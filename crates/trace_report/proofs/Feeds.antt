@@ -17,7 +17,7 @@ use Rattle.rapid_text.specs.Cutting.{Cutting, judged, Pushes, FailsAt}
 use Rattle.rapid_text.specs.Texts.{Judgement}
 use Rattle.trace_report.specs.declared.faults.TraceFault.TheVariants.{Text, Refused}
 use Rattle.trace_report.specs.Findings.{call_of, finding_after, IsReached}
-use Rattle.trace_report.specs.Judging.{Declines, Takes, Stops}
+use Rattle.trace_report.specs.Judging.{Declines, Takes, MeetsFault}
 use Rattle.rapid_text.proofs.Taken.{push_advances}
 use Rattle.trace_report.proofs.Naming.{named_kept, named_line}
 use Rattle.trace_report.proofs.Playing.{with_line, goes_on, event_pushed, nothing_pushed, declined}
@@ -38,10 +38,10 @@ takes_event A B {s = s} {t = t} {piece = piece} {used = used} {o = o} {e = e} p 
         after = after m log a;
         named = λ h. named_line s.names t.names log e grows h
             (subst (λ (x : Option Event). IfSome x (IsOfNames t.names)) is named);
-        same = λ more. ap (finding_after m log) (event_pushed s t piece used o e p is more)
+        same = λ more. ap (finding_after m log) (event_pushed p is more)
             ∙ goes_on m log t.line e (judged t (drop used piece ++ more)) (allowed m log a);
         reached = λ more f h. subst (λ (j : Judgement). IsReached m log j f)
-            (sym (event_pushed s t piece used o e p is more)) (inr (allowed m log a, h));
+            (sym (event_pushed p is more)) (inr (allowed m log a, h));
       };
     }
 
@@ -57,9 +57,9 @@ takes_rest A {s = s} {t = t} {piece = piece} {used = used} {o = o} p few is grow
     longer = log;
     after = a;
     named = named_kept s.names t.names log grows;
-    same = λ more. ap (finding_after m log) (nothing_pushed s t piece used o p is more);
+    same = λ more. ap (finding_after m log) (nothing_pushed p is more);
     reached = λ more f h. subst (λ (j : Judgement). IsReached m log j f)
-        (sym (nothing_pushed s t piece used o p is more)) h;
+        (sym (nothing_pushed p is more)) h;
   };
 }
 
@@ -73,7 +73,7 @@ fewer {piece = piece} {used = used} p is =
     omega arith
 
 pub text_stops : (A : Limits → List Event → Type 0) (s : Cutting) (piece : List ℕ) (f : TextFault)
-    → s.failed ≡ None → FailsAt s piece f f.cause → Stops A s piece (Text f)
+    → s.failed ≡ None → FailsAt s piece f f.cause → MeetsFault A s piece (Text f)
 text_stops A s piece f live fails = record {
   says = λ m log a more. record {
     finds = λ g. push_stops m log s piece f f.cause live fails g more;
@@ -86,10 +86,10 @@ text_stops A s piece f live fails = record {
 pub event_stops : (A : Limits → List Event → Type 0) {s t : Cutting} {piece : List ℕ} {used line : ℕ}
     {o : Option Event} {e : Event} (r : Refusal) → Pushes s t piece used o → o ≡ Some e
     → ((m : Limits) (log : List Event) → A m log → Declines m log e r) → line ≡ t.line
-    → Stops A s piece (Refused line r)
+    → MeetsFault A s piece (Refused line r)
 event_stops A {s = s} {t = t} {piece = piece} {used = used} {line = line} {o = o} {e = e} r p is declines
     at = record {
       says = λ m log a more. declined m log line t.line e r (judged t (drop used piece ++ more)) _
-          (event_pushed s t piece used o e p is more) (declines m log a) at;
+          (event_pushed p is more) (declines m log a) at;
       read = λ short. absurd (cc);
     }

@@ -3,7 +3,7 @@ pub mod Texts
 pub mod Naming
 pub mod Playing
 pub mod Values
-pub mod Refused
+pub mod FirstRefused
 pub mod Found
 pub mod TellingLaws
 pub mod Feeds

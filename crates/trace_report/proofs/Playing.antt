@@ -71,16 +71,16 @@ declined m log line n e r rest j is declines at =
 
 -- ---- a push
 
-pub event_pushed : (s t : Cutting) (piece : List ℕ) (used : ℕ) (o : Option Event) (e : Event)
+pub event_pushed : {s t : Cutting} {piece : List ℕ} {used : ℕ} {o : Option Event} {e : Event}
     → Pushes s t piece used o → o ≡ Some e → (more : List ℕ)
     → judged s (piece ++ more) ≡ with_event t.line (Some e) (judged t (drop used piece ++ more))
-event_pushed s t piece used o e p is more =
+event_pushed {t = t} {piece = piece} {used = used} p is more =
     let rest : Judgement = judged t (drop used piece ++ more) in
     p.sound more ∙ ap (λ (x : Option Event). with_event t.line x rest) is
 
-pub nothing_pushed : (s t : Cutting) (piece : List ℕ) (used : ℕ) (o : Option Event)
+pub nothing_pushed : {s t : Cutting} {piece : List ℕ} {used : ℕ} {o : Option Event}
     → Pushes s t piece used o → o ≡ None → (more : List ℕ) → judged s (piece ++ more) ≡ judged t more
-nothing_pushed s t piece used o p is more =
+nothing_pushed {t = t} {piece = piece} {used = used} p is more =
     let none : drop used piece ≡ [] = ap (λ (n : ℕ). drop n piece) (p.all_used is) ∙ drop-length piece in
     p.sound more
     ∙ ap₂ (λ (x : Option Event) (rest : List ℕ). with_event t.line x (judged t (rest ++ more))) is none
@@ -107,14 +107,14 @@ push_read s piece f causes.Failed h e = absurd (cc)
 
 -- ---- the end of the text
 
-pub event_closed : (s t : Cutting) (o : Option Event) (e : Event) → Closes s t o → o ≡ Some e
+pub event_closed : {s t : Cutting} {o : Option Event} {e : Event} → Closes s t o → o ≡ Some e
     → judged s [] ≡ with_event t.line (Some e) (ended t.names)
-event_closed s t o e p is = p.sound ∙ ap (λ (x : Option Event). with_event t.line x (ended t.names)) is
+event_closed {t = t} p is = p.sound ∙ ap (λ (x : Option Event). with_event t.line x (ended t.names)) is
 
-pub closed_nothing : (m : Limits) (log : List Event) (s t : Cutting) (o : Option Event) → Closes s t o
+pub closed_nothing : (m : Limits) (log : List Event) {s t : Cutting} {o : Option Event} → Closes s t o
     → o ≡ None
     → finding_after m log (judged s []) ≡ Ok (record { names = t.names; log = log })
-closed_nothing m log s t o p is =
+closed_nothing m log {t = t} p is =
     ap (finding_after m log) (p.sound ∙ ap (λ (x : Option Event). with_event t.line x (ended t.names)) is)
 
 pub close_stops : (m : Limits) (log : List Event) (s : Cutting) (f : TextFault) (c : Cause) → s.failed ≡ None

@@ -1,6 +1,6 @@
 -- What an answer tells of a finding.
-use Rattle.std.proofs.Common.{◌≡◌, ◌⊎◌, inl, inr, ℕ, List, Option, Some, None, Result, Ok, Err, true, false}
-use Rattle.std.proofs.Common.{length, refl, sym, ap, ap₂, subst, ◌∙◌, arith}
+use Rattle.std.proofs.Common.{◌≡◌, ℕ, List, Option, Some, None, Result, Ok, Err, false, length, refl, sym, ap}
+use Rattle.std.proofs.Common.{ap₂, subst, ◌∙◌, arith}
 use Rattle.std.specs.Prelude.{IfSome}
 use Rattle.std.specs.Io.KnownBytes.{Appends}
 use Rattle.std.proofs.lemmas.Option.{slice_get_within}
@@ -11,16 +11,16 @@ use Rattle.event_core.specs.declared.replies.Verdict.TheVariants.{Racy}
 use Rattle.rapid_text.specs.Tables.{Tables}
 use Rattle.seq_monitor.specs.Monitored.{AreVerdicts}
 use Rattle.trace_report.specs.declared.faults.ReplayFault.{ReplayFault}
-use Rattle.trace_report.specs.declared.faults.ReplayFault.TheVariants.{Found, Write}
+use Rattle.trace_report.specs.declared.faults.ReplayFault.TheVariants.{Found}
 use Rattle.trace_report.specs.declared.faults.TraceFault.{TraceFault}
 use Rattle.trace_report.specs.declared.counts.Counts.{Counts}
 use Rattle.trace_report.specs.declared.summary.Summary.{Summary}
 use Rattle.trace_report.specs.Reports.{AreWithin}
 use Rattle.trace_report.specs.Findings.{Trace, finding}
-use Rattle.trace_report.specs.Replayed.{answer_gives_up, gives_up, fault_text, IfFound, Told, TellsText}
+use Rattle.trace_report.specs.Replayed.{gives_up, fault_text, Told, TellsText}
 use Rattle.trace_report.specs.Replaying.{fault_or}
 use Rattle.trace_report.specs.Judging.{FindsTrace, FindsFault, RanOut, ReachesLine}
-use Rattle.trace_report.specs.Checked.{ChecksText, counted, counts_line, counts_of, told}
+use Rattle.trace_report.specs.Checked.{ChecksText, counted, counts_line, counts_of}
 
 -- the verdicts on a log name earlier events of it
 pub verdicts_within : (log : List Event) (verdicts : List Verdict) → AreVerdicts log verdicts
@@ -34,26 +34,6 @@ verdicts_within log verdicts are = record {
       omega arith;
 }
 
--- ---- what is answered for a fault
-
--- the answer that is this fault
-abbrev pub answered : (A : Type 0) → ReplayFault → Result A ReplayFault
-answered A r = Err r
-
--- what is so of a fault is so of the answer for it, which may be that its line could not be written
-pub if_found : (A : Type 0) (P : TraceFault → Type 0) (r : ReplayFault) (f : TraceFault)
-    → (r ≡ Found f) ⊎ (r ≡ Write) → P f → IfFound (answered A r) P
-if_found A P r f (inl same) so = subst (λ (x : ReplayFault). IfFound (answered A x) P) (sym same) so
-if_found A P r f (inr write) so = subst (λ (x : ReplayFault). IfFound (answered A x) P) (sym write) tt
-
--- an answer that says something of the text is its fault
-pub gives : (A : Type 0) (r : ReplayFault) (f : TraceFault) → (r ≡ Found f) ⊎ (r ≡ Write)
-    → answer_gives_up (answered A r) ≡ false → (r ≡ Found f) × (gives_up f ≡ false)
-gives A r f (inl same) g = (same, sym (ap (λ (x : ReplayFault). answer_gives_up (answered A x)) same) ∙ g)
-gives A r f (inr write) g =
-    let bad : true ≡ false = sym (ap (λ (x : ReplayFault). answer_gives_up (answered A x)) write) ∙ g in
-    absurd (cc)
-
 -- the fault that stands is what the text comes to, and else that of its end
 pub ended_fault : (o : Option TraceFault) (later : Result Trace TraceFault) (f : TraceFault)
     → (o ≡ None → later ≡ Err f) → IfSome o (λ g. f ≡ g) → fault_or o later ≡ Err f
@@ -65,21 +45,13 @@ pub ended_trace : (o : Option TraceFault) (later : Result Trace TraceFault) → 
 ended_trace None later none = refl
 ended_trace (Some f) later none = absurd (cc)
 
-pub answered_or : (A : Type 0) (o : Option TraceFault) (r : ReplayFault) (f : TraceFault)
-    → (r ≡ Found f) ⊎ (r ≡ Write) → IfSome o (λ g. f ≡ g)
-    → IfSome o (λ g. (answered A r ≡ answered A (Found g)) ⊎ (answered A r ≡ answered A Write))
-answered_or A None r f is same = tt
-answered_or A (Some g) r f (inl is) same =
-    inl (ap (answered A) (is ∙ ap (λ (x : TraceFault). let y : ReplayFault = Found x in y) same))
-answered_or A (Some g) r f (inr is) same = inr (ap (answered A) is)
-
 -- ---- a replay
 
-pub fault_told : (found : Result Trace TraceFault) (old new : Option (List ℕ)) (r : ReplayFault)
-    (f : TraceFault) → found ≡ Err f → r ≡ Found f → Appends old new (fault_text f)
-    → Told old new found (Err r)
-fault_told found old new r f e is a = subst (λ (x : Result Trace TraceFault). Told old new x (Err r)) (sym e)
-    (record { text = fault_text f; tells = (is, refl); written = a })
+pub fault_told : {found : Result Trace TraceFault} {old new : Option (List ℕ)} {f : TraceFault}
+    → found ≡ Err f → Appends old new (fault_text f) → Told old new found (Err (Found f))
+fault_told {old = old} {new = new} {f = f} e a =
+    subst (λ (x : Result Trace TraceFault). Told old new x (Err (Found f))) (sym e)
+    (record { text = fault_text f; tells = (refl, refl); written = a })
 
 pub trace_tells : {m : Limits} {left old new : Option (List ℕ)} {After : List Event → Type 0}
     {names told_names : Tables} {log : List Event} {answer : Result Summary ReplayFault}
@@ -94,13 +66,13 @@ trace_tells {old = old} {new = new} {answer = answer} f is named tells = record 
       tells;
 }
 
-pub fault_tells : {m : Limits} {left : Option (List ℕ)} (old new : Option (List ℕ)) {r : ReplayFault}
-    {f : TraceFault} → FindsFault m left f → (r ≡ Found f) × (gives_up f ≡ false)
-    → Appends old new (fault_text f) → TellsText m left old new (Err r)
-fault_tells old new {r = r} {f = f} found is written = record {
+pub fault_tells : {m : Limits} {left : Option (List ℕ)} (old new : Option (List ℕ)) {f : TraceFault}
+    → FindsFault m left f
+    → gives_up f ≡ false → Appends old new (fault_text f) → TellsText m left old new (Err (Found f))
+fault_tells old new found says written = record {
   text = found.text;
   is_left = found.is_left;
-  holds = fault_told _ old new r f (found.finds is.1) is.0 written;
+  holds = fault_told (found.finds says) written;
 }
 
 -- ---- a check
@@ -119,15 +91,13 @@ trace_checks old new {names = names} f count is written = record {
   );
 }
 
-pub fault_checks : {m : Limits} {left : Option (List ℕ)} (old new : Option (List ℕ)) {r : ReplayFault}
-    {f : TraceFault} → FindsFault m left f → (r ≡ Found f) × (gives_up f ≡ false)
-    → Appends old new (fault_text f) → ChecksText m left old new (Err r)
-fault_checks {m} old new found is written = record {
+pub fault_checks : {m : Limits} {left : Option (List ℕ)} (old new : Option (List ℕ)) {f : TraceFault}
+    → FindsFault m left f
+    → gives_up f ≡ false → Appends old new (fault_text f) → ChecksText m left old new (Err (Found f))
+fault_checks old new found says written = record {
   text = found.text;
   is_left = found.is_left;
-  holds = subst (λ (x : ReplayFault). (answered Counts x ≡ counted (finding m found.text))
-      × Appends old new (told (answered Counts x))) (sym is.0)
-      (sym (ap counted (found.finds is.1)), written);
+  holds = (sym (ap counted (found.finds says)), written);
 }
 
 pub found_reached : {m : Limits} {left : Option (List ℕ)} {f : TraceFault} → FindsFault m left f → RanOut f

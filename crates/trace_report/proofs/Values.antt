@@ -1,79 +1,88 @@
--- The events of a text store nothing but 0.
-use Rattle.std.proofs.Common.{◌≡◌, ℕ, ◌+◌, ◌==◌, List, [], ◌∷◌, Option, Some, None, Result, Ok, Err, length}
-use Rattle.std.proofs.Common.{refl, sym, ap, Bool, true, false, if◌then◌else◌}
+-- The events of a text store nothing but 0, so each is the event that its line's call makes.
+use Rattle.std.proofs.Common.{◌≡◌, ℕ, ◌+◌, ◌==◌, List, [], ◌∷◌, ◌++◌, Option, Some, None, Result, Ok, Err}
+use Rattle.std.proofs.Common.{length, refl, sym, ◌∙◌, Bool, true, false, cond, if◌then◌else◌}
+use Rattle.std.specs.Prelude.{IfOk, IfSome}
+use Rattle.std.specs.List.{AllByRecursion}
 use Rattle.event_core.specs.declared.events.Event.{Event}
+use Rattle.event_core.specs.declared.events.Op.{Op}
+use Rattle.event_core.specs.declared.events.Op.TheVariants.{Load, Store, Acquire, Release, Fork, Join}
+use Rattle.event_core.specs.declared.ids.VarId.{VarId}
+use Rattle.event_core.specs.Refusal.{event_of, value_of, last_value, last_value_from, op_stores}
 use Rattle.rapid_line.specs.declared.words.LineFault.{LineFault}
 use Rattle.rapid_line.specs.Grammar.{Named}
 use Rattle.rapid_line.specs.Reading.{line_of}
-use Rattle.rapid_line.proofs.Steps.{and_then_ok}
 use Rattle.rapid_text.specs.declared.causes.Cause.{Cause}
-use Rattle.rapid_text.specs.declared.causes.Kind.TheVariants as kinds
-use Rattle.rapid_text.specs.Tables.{Tables, number_in}
-use Rattle.rapid_text.specs.Events.{named_event, reading, event_or, some_event}
-use Rattle.rapid_text.specs.Events.{number_or_fault, kind_of, content}
-use Rattle.rapid_text.specs.Texts.{Judgement, judge, after_line, with_event}
-use Rattle.trace_report.specs.Findings.{log_of}
+use Rattle.rapid_text.specs.Tables.{Tables}
+use Rattle.rapid_text.specs.Events.{content, named_event, reading, event_or, some_event}
+use Rattle.rapid_text.specs.Texts.{judge, after_line}
+use Rattle.rapid_text.proofs.NameGrowth.{named_event_is}
+use Rattle.trace_report.specs.Findings.{call_of, log_of}
 
 -- events that store nothing but 0
 abbrev pub StoreNothing : List Event → Type 0
-StoreNothing [] = Unit {0}
-StoreNothing (e ∷ es) = (e.value ≡ 0) × StoreNothing es
+StoreNothing log = AllByRecursion (λ (e : Event). e.value ≡ 0) log
 
--- the value of the event that was read
-abbrev value_in : Result (Event × Tables) Cause → ℕ
-value_in (Ok p) = p.0.value
-value_in (Err f) = 0
+pub nothing_more : (log : List Event) (e : Event) → StoreNothing log → e.value ≡ 0
+    → StoreNothing (log ++ e ∷ [])
+nothing_more [] e s z = (z, tt)
+nothing_more (x ∷ xs) e s z = (s.0, nothing_more xs e s.1 z)
 
-named_stores_nothing : (t : Tables) (n : Named) (p : Event × Tables) → named_event t n ≡ Ok p → p.0.value ≡ 0
-unfolding named_event
-named_stores_nothing t n p e =
-    let a = and_then_ok (number_or_fault kinds.Thread (number_in t kinds.Thread n.thread)) _ p e in
-    let argument = number_in a.0.1 (kind_of n.word) n.argument in
-    let b = and_then_ok (number_or_fault (kind_of n.word) argument) _ p a.2 in
-    let c = and_then_ok (number_or_fault kinds.Site (number_in b.0.1 kinds.Site n.location)) _ p b.2 in
-    sym (ap value_in c.2)
+-- ---- the events of a text
 
 -- no event, or one of value 0
-abbrev IsNothing : Option Event → Type 0
-IsNothing None = Unit {0}
-IsNothing (Some e) = e.value ≡ 0
-
 abbrev HasNothing : Result (Option Event × Tables) Cause → Type 0
-HasNothing (Ok p) = IsNothing p.0
-HasNothing (Err f) = Unit {0}
-
-some_nothing : (r : Result (Event × Tables) Cause) → ((p : Event × Tables) → r ≡ Ok p → p.0.value ≡ 0)
-    → HasNothing (some_event r)
-some_nothing (Ok p) h = h p refl
-some_nothing (Err f) h = tt
-
-or_nothing : (t : Tables) (r : Result Named LineFault) → HasNothing (event_or t r)
-or_nothing t (Ok n) = some_nothing (named_event t n) (λ p e. named_stores_nothing t n p e)
-or_nothing t (Err f) = tt
-
-if_nothing : (b : Bool) (x y : Result (Option Event × Tables) Cause) → HasNothing x → HasNothing y
-    → HasNothing (if b then x else y)
-if_nothing true x y p q = p
-if_nothing false x y p q = q
+HasNothing r = IfOk r (λ p. IfSome p.0 (λ e. e.value ≡ 0))
 
 reads_nothing : (t : Tables) (bytes : List ℕ) → HasNothing (reading t bytes)
 unfolding reading
-reads_nothing t bytes = if_nothing (length bytes == 0) _ _ tt (or_nothing t (line_of bytes))
+reads_nothing t bytes = if_empty (length bytes == 0)
+  where
+    of_named : (n : Named) (r : Result (Event × Tables) Cause) → named_event t n ≡ r
+        → HasNothing (some_event r)
+    of_named n (Ok p) is = (named_event_is t n p.0 p.1 is).value
+    of_named n (Err f) is = tt
 
-with_nothing : (n : ℕ) (o : Option Event) (j : Judgement) → IsNothing o → StoreNothing (log_of j.events)
-    → StoreNothing (log_of (with_event n o j).events)
-with_nothing n None j p q = q
-with_nothing n (Some e) j p q = (p, q)
+    of_line : (r : Result Named LineFault) → HasNothing (event_or t r)
+    of_line (Ok n) = of_named n (named_event t n) refl
+    of_line (Err f) = tt
 
-after_nothing : (t : Tables) (n : ℕ) (r : Result (Option Event × Tables) Cause) (go : Tables → Judgement)
-    → HasNothing r → ((u : Tables) → StoreNothing (log_of (go u).events))
-    → StoreNothing (log_of (after_line t n r go).events)
-after_nothing t n (Ok p) go h q = with_nothing n p.0 (go p.1) h (q p.1)
-after_nothing t n (Err f) go h q = tt
+    if_empty : (b : Bool) → HasNothing (if b then Ok (None, t) else event_or t (line_of bytes))
+    if_empty true = tt
+    if_empty false = of_line (line_of bytes)
 
--- the events of lines store nothing
 pub judged_nothing : (ls : List (List ℕ)) (t : Tables) (n : ℕ) → StoreNothing (log_of (judge ls t n).events)
 judged_nothing [] t n = tt
 judged_nothing (l ∷ ls) t n =
-    after_nothing t n (reading t (content l)) (λ u. judge ls u (n + 1)) (reads_nothing t (content l))
-    (λ u. judged_nothing ls u (n + 1))
+    go (reading t (content l)) (reads_nothing t (content l)) (λ u. judged_nothing ls u (n + 1))
+  where
+    go : (r : Result (Option Event × Tables) Cause) → HasNothing r
+        → ((u : Tables) → StoreNothing (log_of (judge ls u (n + 1)).events))
+        → StoreNothing (log_of (after_line t n r (λ u. judge ls u (n + 1))).events)
+    go (Ok (None, u)) has later = later u
+    go (Ok (Some e, u)) has later = (has, later u)
+    go (Err f) has later = tt
+
+-- ---- after a log that stores nothing
+
+last_is_zero : (log : List Event) (n : ℕ) (x : VarId) → n ≡ 0 → StoreNothing log → last_value_from n log x ≡ 0
+last_is_zero [] n x z s = z
+last_is_zero (e ∷ es) n x z s = last_is_zero es _ x (either (op_stores x e.op)) s.1
+  where
+    either : (b : Bool) → cond b e.value n ≡ 0
+    either true = s.0
+    either false = z
+
+value_is_zero : (log : List Event) (o : Op) → StoreNothing log → value_of log o 0 ≡ 0
+unfolding last_value
+value_is_zero log (Load x) s = last_is_zero log 0 x refl s
+value_is_zero log (Store x) s = refl
+value_is_zero log (Acquire l) s = refl
+value_is_zero log (Release l) s = refl
+value_is_zero log (Fork u) s = refl
+value_is_zero log (Join u) s = refl
+
+-- the event of a line is the one that its call makes
+pub event_is : (log : List Event) (e : Event) → StoreNothing log → e.value ≡ 0 → event_of log (call_of e) ≡ e
+event_is log e s z =
+    let v : value_of log e.op 0 ≡ e.value = value_is_zero log e.op s ∙ sym z in
+    λ i. record { thread = e.thread; op = e.op; site = e.site; value = v i }

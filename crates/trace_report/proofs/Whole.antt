@@ -10,7 +10,7 @@ use Rattle.rapid_text.specs.Feeding.{Pulled, Whole}
 use Rattle.rapid_text.specs.Tables.{Tables}
 use Rattle.trace_report.specs.declared.faults.TraceFault.{TraceFault}
 use Rattle.trace_report.specs.Findings.{finding, finding_after, IsReached}
-use Rattle.trace_report.specs.Judging.{Says, Takes, Stops, Ends, IsFed, FindsTrace, FindsFault}
+use Rattle.trace_report.specs.Judging.{Says, Takes, MeetsFault, EndsLegal, IsFed, FindsTrace, FindsFault}
 use Rattle.rapid_text.specs.declared.causes.Cause.TheVariants.{Read}
 use Rattle.trace_report.specs.declared.faults.TraceFault.TheVariants.{Text}
 use Rattle.trace_report.proofs.Naming.{nothing_named}
@@ -60,7 +60,7 @@ taken_whole {m = m} {left = left} {rest = rest} {s = s} is w takes first =
 -- what came up to a fault
 pub stop_found : {m : Limits} (A : Limits → List Event → Type 0) {left rest : Option (List ℕ)} {turns : ℕ}
     {So : List ℕ → Type 0} {s : Cutting} (o : Option TraceFault) → s ≡ begun m
-    → (p : Pulled left rest turns So) → IsSomeAnd o (Stops A s p.bytes) → A m []
+    → (p : Pulled left rest turns So) → IsSomeAnd o (MeetsFault A s p.bytes) → A m []
     → IfSome o (FindsFault m left)
 unfolding finding
 stop_found A None is p stops first = absurd stops
@@ -73,7 +73,7 @@ stop_found {m = m} A {left = left} {rest = rest} (Some f) is p stops first =
 -- ---- what it comes to
 
 pub trace_is_found : {m : Limits} {left : Option (List ℕ)} {B C : List Event → Type 0} {s : Cutting}
-    {names : Tables} → IsFed m left B s → ((log : List Event) → B log → Ends m C s log names)
+    {names : Tables} → IsFed m left B s → ((log : List Event) → B log → EndsLegal m C s log names)
     → FindsTrace m left C names
 trace_is_found f ends =
     let e = ends f.log f.after in
@@ -85,14 +85,6 @@ trace_is_found f ends =
       named = e.named f.named;
       finds = f.same ∙ e.finds;
     }
-
--- what holds of a fault holds where it is the one that stands
-pub if_stands : (P : TraceFault → Type 0) {o : Option TraceFault} {f : TraceFault} → o ≡ Some f → P f
-    → IfSome o P
-if_stands P is h = subst (λ (o : Option TraceFault). IfSome o P) (sym is) h
-
-pub stood : (P : TraceFault → Type 0) (o : Option TraceFault) (f : TraceFault) → IfSome o P → o ≡ Some f → P f
-stood P o f h is = subst (λ (x : Option TraceFault). IfSome x P) is h
 
 -- the fault that stood, or the one at the end
 pub end_is_found : {m : Limits} {left : Option (List ℕ)} {B : List Event → Type 0} {s : Cutting}

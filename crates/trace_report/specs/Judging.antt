@@ -93,8 +93,8 @@ pub record Takes (Before After : Limits → List Event → Type 0) (old : Cuttin
   pub goes_on : (m : Limits) (log : List Event) → Before m log → GoesOn m (After m) old log bytes rest new
 
 -- the text stops with this fault, whatever follows the bytes
-pub record Stops (Before : Limits → List Event → Type 0) (old : Cutting) (bytes : List ℕ) (f : TraceFault)
-    : Type 0 where
+pub record MeetsFault (Before : Limits → List Event → Type 0) (old : Cutting) (bytes : List ℕ)
+    (f : TraceFault) : Type 0 where
   pub says : (m : Limits) (log : List Event) → Before m log → (more : List ℕ)
       → Says m log (judged old (bytes ++ more)) f
   pub read : is_read_fault f ≡ true → most < old.taken + length bytes
@@ -102,8 +102,8 @@ pub record Stops (Before : Limits → List Event → Type 0) (old : Cutting) (by
 -- ---- the end
 
 -- the text ended, and is legal: the judge is as after its log
-pub record Ends (m : Limits) (After : List Event → Type 0) (old : Cutting) (log : List Event) (names : Tables)
-    : Type 0 where
+pub record EndsLegal (m : Limits) (After : List Event → Type 0) (old : Cutting) (log : List Event)
+    (names : Tables) : Type 0 where
   pub longer : List Event
   pub after : After longer
   pub named : AreNamed old.names log → AreNamed names longer

@@ -10,7 +10,7 @@ use Rattle.rapid_text.specs.Taking.{place_of}
 use Rattle.rapid_text.specs.TakingLaws.{advances_none, advances_more, advances_before}
 use Rattle.trace_report.specs.declared.faults.TraceFault.{TraceFault}
 use Rattle.trace_report.specs.Findings.{finding_after, IsReached}
-use Rattle.trace_report.specs.Judging.{Takes, Stops}
+use Rattle.trace_report.specs.Judging.{Takes, MeetsFault}
 
 pub takes_none : (A : Limits → List Event → Type 0) (s : Cutting) (bytes : List ℕ) → s.failed ≡ None
     → Takes A A s bytes bytes s
@@ -39,9 +39,9 @@ takes_more {s = s} {t = t} {u = u} {bytes = bytes} {rest = rest} {left = left} p
 }
 
 -- what was not fed yet changes nothing
-pub fed_before : (A B : Limits → List Event → Type 0) (s t : Cutting) (front rest : List ℕ)
+pub fed_before : {A B : Limits → List Event → Type 0} {s t : Cutting} {front : List ℕ} (rest : List ℕ)
     → Takes A B s front [] t → Takes A B s (front ++ rest) rest t
-fed_before A B s t front rest p = record {
+fed_before {s = s} {t = t} {front = front} rest p = record {
   live = p.live;
   advances = advances_before (place_of s) (place_of t) front rest p.advances;
   goes_on = λ m log a.
@@ -58,13 +58,12 @@ fed_before A B s t front rest p = record {
       };
 }
 
-pub takes_both : (A B C : Limits → List Event → Type 0) (s t u : Cutting) (front rest : List ℕ)
+pub takes_both : {A B C : Limits → List Event → Type 0} {s t u : Cutting} {front rest : List ℕ}
     → Takes A B s front [] t → Takes B C t rest [] u → Takes A C s (front ++ rest) [] u
-takes_both A B C s t u front rest p q =
-    takes_more (fed_before A B s t front rest p) q
+takes_both {rest = rest} p q = takes_more (fed_before rest p) q
 
 pub stops_later : {A B : Limits → List Event → Type 0} {s t : Cutting} {bytes rest : List ℕ}
-    {f : TraceFault} → Takes A B s bytes rest t → Stops B t rest f → Stops A s bytes f
+    {f : TraceFault} → Takes A B s bytes rest t → MeetsFault B t rest f → MeetsFault A s bytes f
 stops_later {f = f} p q = record {
   says = λ m log a more.
       let on = p.goes_on m log a in
@@ -76,9 +75,8 @@ stops_later {f = f} p q = record {
   read = λ fault. subst (λ (n : ℕ). most < n) p.advances.taken (q.read fault);
 }
 
-pub some_stops_after : (A B : Limits → List Event → Type 0) (s t : Cutting) (front rest : List ℕ)
-    (o : Option TraceFault) → Takes A B s front [] t → IsSomeAnd o (Stops B t rest)
-    → IsSomeAnd o (Stops A s (front ++ rest))
-some_stops_after A B s t front rest None p q = absurd q
-some_stops_after A B s t front rest (Some f) p q =
-    stops_later (fed_before A B s t front rest p) q
+pub some_stops_after : {A B : Limits → List Event → Type 0} {s t : Cutting} {front : List ℕ} (rest : List ℕ)
+    (o : Option TraceFault) → Takes A B s front [] t → IsSomeAnd o (MeetsFault B t rest)
+    → IsSomeAnd o (MeetsFault A s (front ++ rest))
+some_stops_after rest None p q = absurd q
+some_stops_after rest (Some f) p q = stops_later (fed_before rest p) q

@@ -6,7 +6,7 @@ ghost use Rattle.event_core.specs.declared.bounds.Limits.{Limits as Bounds};
 ghost use Rattle.event_core.specs.declared.events.Event.{Event as Entry};
 ghost use Rattle.rapid_text.specs.Cutting.{begun, judged};
 ghost use Rattle.rapid_text.specs.declared.causes.Cause.TheVariants.{Read};
-ghost use Rattle.trace_report.specs.Judging.{Says, Takes, Stops, Ends, is_read_fault};
+ghost use Rattle.trace_report.specs.Judging.{Says, Takes, MeetsFault, EndsLegal, is_read_fault};
 
 use crate::faults::TraceFault;
 use crate::judge::Judge;
@@ -28,7 +28,7 @@ fn feed_lines<J: Judge>(cutter: &mut Cutter, judge: &mut J, piece: &[u8]) -> Res
     requires live { cutter.old.failed ≡ None }
     ensures ok { OnOk result
         (Takes (J.is_after judge.old) (J.is_after judge.new) cutter.old piece.now [] cutter.new) }
-    ensures fault { IfErr result (Stops (J.is_after judge.old) cutter.old piece.now) }
+    ensures fault { IfErr result (MeetsFault (J.is_after judge.old) cutter.old piece.now) }
 {
     let mut rest = piece;
     'lines: loop {
@@ -54,7 +54,7 @@ fn finish_lines<J: Judge>(cutter: &mut Cutter, judge: &mut J) -> Result<(), Trac
     requires live { cutter.old.failed ≡ None }
     ensures live { OnOk result (cutter.new.failed ≡ None) }
     ensures ok { OnOk result ((m : Bounds) (log : List Entry) → J.is_after judge.old m log
-        → Ends m (J.is_after judge.new m) cutter.old log cutter.new.names) }
+        → EndsLegal m (J.is_after judge.new m) cutter.old log cutter.new.names) }
     ensures fault { IfErr result (λ f. (m : Bounds) (log : List Entry) → J.is_after judge.old m log
         → Says m log (judged cutter.old []) f) }
     ensures whole { IfErr result (λ f. is_read_fault f ≡ false) }
@@ -105,7 +105,7 @@ impl<J: Judge> JudgedText<J> {
             × Takes (J.is_after self.old.judge) (J.is_after self.new.judge) self.old.cutter piece.now []
             self.new.cutter }
         ensures stops { self.old.fault ≡ None → result ≡ false
-            → IsSomeAnd self.new.fault (Stops (J.is_after self.old.judge) self.old.cutter piece.now) }
+            → IsSomeAnd self.new.fault (MeetsFault (J.is_after self.old.judge) self.old.cutter piece.now) }
     {
         if self.fault.is_some() {
             return false;
@@ -133,7 +133,7 @@ impl<J: Judge> JudgedText<J> {
     /// Ends the text: the line whose end was not seen is the last one. With a fault it takes nothing.
     pub fn end(&mut self) -> Result<(), TraceFault>
         ensures ok { OnOk result ((m : Bounds) (log : List Entry) → J.is_after self.old.judge m log
-            → Ends m (J.is_after self.new.judge m) self.old.cutter log self.new.cutter.names) }
+            → EndsLegal m (J.is_after self.new.judge m) self.old.cutter log self.new.cutter.names) }
         ensures fault { self.old.fault ≡ None → IfErr result (λ f. (m : Bounds) (log : List Entry)
             → J.is_after self.old.judge m log → Says m log (judged self.old.cutter []) f) }
         ensures whole { IfErr result (λ f. is_read_fault f ≡ true → self.old.fault ≡ Some f) }
@@ -153,14 +153,14 @@ impl<J: Judge> JudgedText<J> {
 
 impl<J: Judge> Sink for JudgedText<J> {
     ghost use Rattle.std.specs.Prelude.{◌≡◌, None, [], IsSomeAnd};
-    ghost use Rattle.trace_report.specs.Judging.{Takes, Stops};
+    ghost use Rattle.trace_report.specs.Judging.{Takes, MeetsFault};
     ghost use Rattle.trace_report.specs.JudgingLaws.{takes_none, takes_both, some_stops_after};
 
     ghost takes = { λ s bytes t. s.fault ≡ None → (t.fault ≡ None)
         × Takes (J.is_after s.judge) (J.is_after t.judge) s.cutter bytes [] t.cutter };
 
     ghost stops = { λ s bytes t. s.fault ≡ None
-        → IsSomeAnd t.fault (Stops (J.is_after s.judge) s.cutter bytes) };
+        → IsSomeAnd t.fault (MeetsFault (J.is_after s.judge) s.cutter bytes) };
 
     fn feed(&mut self, piece: &[u8]) -> bool {
         self.feed_piece(piece)
@@ -170,11 +170,9 @@ impl<J: Judge> Sink for JudgedText<J> {
 
     ghost takes_both = { λ r s t front rest first then fault. (
       (then (first fault).0).0,
-      takes_both (J.is_after r.judge) (J.is_after s.judge) (J.is_after t.judge) r.cutter s.cutter t.cutter
-          front rest (first fault).1 (then (first fault).0).1,
+      takes_both (first fault).1 (then (first fault).0).1,
     ) };
 
     ghost stops_after = { λ r s t front rest first then fault.
-        some_stops_after (J.is_after r.judge) (J.is_after s.judge) r.cutter s.cutter front rest t.fault
-        (first fault).1 (then (first fault).0) };
+        some_stops_after rest t.fault (first fault).1 (then (first fault).0) };
 }

@@ -106,7 +106,10 @@ impl Replayer {
         let mut text = self.text;
         if let Err(fault) = text.end() {
             drop(text);
-            return Err(tell_failure(writer, fault));
+            let Ok(()) = tell_failure(writer, fault) else {
+                return Err(ReplayFault::Write);
+            };
+            return Err(ReplayFault::Found(fault));
         }
         let answer = tell_trace(writer, &text.judge, text.cutter.names());
         drop(text);

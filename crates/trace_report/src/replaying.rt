@@ -54,7 +54,12 @@ pub fn replay<I: Input, O: Output>(
     };
     let text = match judge_text(alloc, reader, monitor, limits, turns) {
         Ok(text) => text,
-        Err(fault) => return Err(tell_failure(writer, fault)),
+        Err(fault) => {
+            let Ok(()) = tell_failure(writer, fault) else {
+                return Err(ReplayFault::Write);
+            };
+            return Err(ReplayFault::Found(fault));
+        }
     };
     let answer = tell_trace(writer, &text.judge, text.cutter.names());
     drop(text);

@@ -1,5 +1,5 @@
 //! What is written of a text once it has ended: the report of its log, or the line of its fault.
-ghost use Rattle.std.specs.Prelude.{◌≡◌, ◌≢◌, ◌⊎◌, Ok, Err, true, false, IfErr};
+ghost use Rattle.std.specs.Prelude.{◌≡◌, ◌≢◌, Ok, Err, true, false, IfErr, OnErr, OnOk};
 ghost use Rattle.std.specs.Io.KnownBytes.{Appends};
 ghost use Rattle.trace_report.specs.Reports.{AreNamed};
 ghost use Rattle.trace_report.specs.Replayed.{answer_gives_up, fault_text, gives_up, Told};
@@ -29,21 +29,16 @@ pub fn tell_trace<W: Output>(
     }
 }
 
-/// Writes the one line that tells the fault; nothing, where the fault says nothing of the text. The answer is
-/// the fault, or that the line could not be written.
-pub fn tell_failure<W: Output>(writer: &mut W, fault: TraceFault) -> ReplayFault
-    ensures is { (result ≡ ReplayFault.Found fault) ⊎ (result ≡ ReplayFault.Write) }
-    ensures tells { result ≡ ReplayFault.Found fault → gives_up fault ≡ false
-        → Appends (W.written writer.old) (W.written writer.new) (fault_text fault) }
+/// Writes the one line that tells the fault; nothing, where the fault says nothing of the text.
+pub fn tell_failure<W: Output>(writer: &mut W, fault: TraceFault) -> Result<(), WriteFault>
+    ensures tells { OnOk result (gives_up fault ≡ false
+        → Appends (W.written writer.old) (W.written writer.new) (fault_text fault)) }
     ensures quiet { gives_up fault ≡ true → writer.new ≡ writer.old }
-    ensures healthy { result ≢ ReplayFault.Write → W.failed writer.new ≡ W.failed writer.old }
-    ensures failed { result ≡ ReplayFault.Write → W.failed writer.new ≡ true }
+    ensures healthy { OnOk result (W.failed writer.new ≡ W.failed writer.old) }
+    ensures failed { OnErr result (W.failed writer.new ≡ true) }
 {
     let Some((line, word)) = fault.line_and_word() else {
-        return ReplayFault::Found(fault);
+        return Ok(());
     };
-    match write_fault(writer, line, word) {
-        Ok(()) => ReplayFault::Found(fault),
-        Err(WriteFault) => ReplayFault::Write,
-    }
+    write_fault(writer, line, word)
 }

@@ -1,8 +1,7 @@
 use Rattle.std.proofs.Common.{ap, ◌∙◌}
 use Rattle.rapid_text.specs.Tables.{Tables}
-use Rattle.trace_report.specs.declared.counts.Counts.{Counts}
 use Rattle.trace_report.specs.Checked.{counts_of}
-use Rattle.trace_report.proofs.TellingLaws.{fault_checks, found_reached, gives, if_found, trace_checks}
+use Rattle.trace_report.proofs.TellingLaws.{fault_checks, found_reached, trace_checks}
 use Rattle.trace_report.proofs.checking.check.Goals as goal
 
 pub returns-in-Ok-write-clause-checks : goal.returns-in-Ok-write-clause-checks
@@ -14,20 +13,8 @@ returns-in-Ok-write-clause-checks g c _ =
 
 pub returns-in-Err-clause-checks : goal.returns-in-Err-clause-checks
 returns-in-Err-clause-checks g c says =
-    let f = c.in-Err.fault in
-    let is = gives Counts c.tell_failure.result f c.tell_failure.ensures.is says in
     fault_checks (g.O.Output.written c.args.writer.now) (g.O.Output.written c.tell_failure.new.writer)
-    c.in-Err.ensures.fault is (c.tell_failure.ensures.tells is.0 is.1)
-
-pub returns-in-Err-clause-reads : goal.returns-in-Err-clause-reads
-returns-in-Err-clause-reads g c = record {
-  few = c.judge_text.ensures.few;
-  whole = tt;
-  cut = if_found Counts _ c.tell_failure.result c.in-Err.fault c.tell_failure.ensures.is
-      c.in-Err.ensures.cut;
-}
+    c.in-Err.ensures.fault says (c.in-Ok-tell_failure.ensures.tells says)
 
 pub returns-in-Err-clause-memory : goal.returns-in-Err-clause-memory
-returns-in-Err-clause-memory g c =
-    if_found Counts _ c.tell_failure.result c.in-Err.fault c.tell_failure.ensures.is
-    (found_reached c.in-Err.ensures.fault)
+returns-in-Err-clause-memory g c = found_reached c.in-Err.ensures.fault

@@ -28,7 +28,7 @@ pub returns-in-Err-judge-clause-fault : goal.returns-in-Err-judge-clause-fault
 returns-in-Err-judge-clause-fault g c m log a =
     let t = c.finish.new.self in
     declined m log c.line.result t.line c.in-Some.event c.in-Err-judge.refusal (ended t.names) _
-    (event_closed c.args.cutter.now t c.in-Ok.event c.in-Some.event c.in-Ok.ensures.ok c.in-Some.is)
+    (event_closed c.in-Ok.ensures.ok c.in-Some.is)
     (c.in-Err-judge.ensures.refused m log a) c.line.ensures
 
 pub returns-clause-ok : goal.returns-clause-ok

@@ -1,9 +1,8 @@
 use Rattle.std.proofs.Common.{List, inl, sym, subst}
 use Rattle.event_core.specs.declared.events.Event.{Event}
 use Rattle.rapid_text.specs.Tables.{Tables}
-use Rattle.trace_report.specs.declared.summary.Summary.{Summary}
 use Rattle.trace_report.specs.Reports.{AreNamed}
-use Rattle.trace_report.proofs.TellingLaws.{fault_tells, found_reached, gives, if_found, trace_tells}
+use Rattle.trace_report.proofs.TellingLaws.{fault_tells, found_reached, trace_tells}
 use Rattle.trace_report.proofs.replaying.replay.Goals as goal
 
 pub tell_trace-answer-requires : goal.tell_trace-answer-requires
@@ -22,20 +21,8 @@ returns-clause-tells g c says =
 
 pub returns-in-Err-clause-tells : goal.returns-in-Err-clause-tells
 returns-in-Err-clause-tells g c says =
-    let f = c.in-Err.fault in
-    let is = gives Summary c.tell_failure.result f c.tell_failure.ensures.is says in
     fault_tells (g.O.Output.written c.args.writer.now) (g.O.Output.written c.tell_failure.new.writer)
-    c.in-Err.ensures.fault is (c.tell_failure.ensures.tells is.0 is.1)
-
-pub returns-in-Err-clause-reads : goal.returns-in-Err-clause-reads
-returns-in-Err-clause-reads g c = record {
-  few = c.judge_text.ensures.few;
-  whole = tt;
-  cut = if_found Summary _ c.tell_failure.result c.in-Err.fault c.tell_failure.ensures.is
-      c.in-Err.ensures.cut;
-}
+    c.in-Err.ensures.fault says (c.in-Ok-tell_failure.ensures.tells says)
 
 pub returns-in-Err-clause-memory : goal.returns-in-Err-clause-memory
-returns-in-Err-clause-memory g c =
-    if_found Summary _ c.tell_failure.result c.in-Err.fault c.tell_failure.ensures.is (λ out.
-    inl (found_reached c.in-Err.ensures.fault out))
+returns-in-Err-clause-memory g c out = inl (found_reached c.in-Err.ensures.fault out)

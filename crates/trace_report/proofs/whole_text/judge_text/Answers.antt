@@ -1,4 +1,4 @@
-use Rattle.trace_report.proofs.Whole.{trace_is_found, end_is_found, stood}
+use Rattle.trace_report.proofs.Whole.{trace_is_found, end_is_found}
 use Rattle.trace_report.proofs.whole_text.judge_text.Goals as goal
 
 pub returns-in-Err-clause-fault : goal.returns-in-Err-clause-fault
@@ -8,8 +8,7 @@ returns-in-Err-clause-fault g c =
 
 pub returns-in-Err-clause-cut : goal.returns-in-Err-clause-cut
 returns-in-Err-clause-cut g c fault =
-    stood _ c.read_text-text.result.fault c.in-Err.fault c.read_text-text.ensures.cut
-    (c.in-Err.ensures.whole fault) fault
+    (rw (c.in-Err.ensures.whole fault) at c.read_text-text.ensures.cut) fault
 
 pub returns-clause-trace : goal.returns-clause-trace
 returns-clause-trace g c =

@@ -33,11 +33,9 @@ returns-clause-law c gives more =
     ∙ ap (λ (r : Replaying). after r (c.args.piece.now ++ more)) c.self.view_is
 
 pub returns-clause-memory : goal.returns-clause-memory
-returns-clause-memory c none =
+returns-clause-memory c =
     let s = c.self.inside.text in
-    let t = c.feed_piece.new.self in
-    let stood : s.fault ≡ None = ap (λ (r : Replaying). r.fault) c.self.view_is ∙ none in
-    subst (λ (r : Replaying). IfSome t.fault (λ f. RanOut f → (more : List ℕ)
-    → ReachesIn r (c.args.piece.now ++ more) f)) c.self.view_is
-    (fed_reached s.judge.limits s.judge.log s.cutter c.args.piece.now c.feed_piece.result t.fault
-    (λ took. (c.feed_piece.ensures.takes took).0) (c.feed_piece.ensures.stops stood))
+    rw (← c.self.view_is) (λ none.
+    fed_reached s.judge.limits s.judge.log s.cutter c.args.piece.now c.feed_piece.result
+    c.feed_piece.new.self.fault (λ took. (c.feed_piece.ensures.takes took).0)
+    (c.feed_piece.ensures.stops none))
