@@ -1,18 +1,17 @@
-//! The calls that the tests make by a thread's handle.
+//! The calls that the tests make by a thread's handle. Where `asks_again` holds, a call that is out of memory
+//! is made once more. The answers are then those of ample memory where one growth is refused.
 use event_core::{Limits, LockId, Refusal, Reply, SiteId, ThreadId, VarId};
-use live_monitor::Unnamed;
+use live_monitor::{StartFault, Unnamed};
 use log_pass::Name;
 use std::alloc::Global;
 use std::process::Abort;
 use std::sync::Wait;
-use traced_thread::TracedThread;
+use traced_thread::{NotJoined, TracedThread};
 
-/// A monitor with these limits.
-pub fn begin<R: Abort>(rt: &R, alloc: Global, limits: Limits) -> Unnamed {
-    Unnamed::new(alloc, limits).expect(rt, "a monitor")
-}
+/// Where the calls stand that have no site of their own.
+pub const SITE: SiteId = SiteId(7);
 
-/// What a thread asks for, but for forks, joins and swaps.
+/// What a thread asks for, except swaps, forks and joins.
 #[derive(Clone, Copy, Debug)]
 pub enum Ask {
     Load(u32),
@@ -23,7 +22,16 @@ pub enum Ask {
 
 pub type Answer = Result<Reply, Refusal>;
 
-/// Asks at the site.
+/// A monitor with these limits.
+pub fn begin<R: Abort>(rt: &R, alloc: Global, limits: Limits, asks_again: bool) -> Unnamed {
+    let made = match Unnamed::new(alloc, limits) {
+        Err(StartFault::NoRoom) if asks_again => Unnamed::new(alloc, limits),
+        made => made,
+    };
+    made.expect(rt, "a monitor")
+}
+
+/// Asks once, at the site.
 pub fn make<N: Name, R: Wait>(
     rt: &R,
     thread: &mut TracedThread<N>,
@@ -42,12 +50,14 @@ pub fn make<N: Name, R: Wait>(
 pub fn fork<'m, N: Name, R: Wait + Abort>(
     rt: &R,
     main: &mut TracedThread<'m, N>,
-    child: u32,
-) -> TracedThread<'m, N> {
-    let (child, _) = main
-        .fork(rt, ThreadId(child), SiteId(0))
-        .expect(rt, "a fork");
-    child
+    child: ThreadId,
+    asks_again: bool,
+) -> (TracedThread<'m, N>, Reply) {
+    let forked = match main.fork(rt, child, SITE) {
+        Err(Refusal::OutOfMemory) if asks_again => main.fork(rt, child, SITE),
+        forked => forked,
+    };
+    forked.expect(rt, "a fork")
 }
 
 /// Joins the child, which is to be accepted.
@@ -55,6 +65,16 @@ pub fn join<'m, N: Name, R: Wait + Abort>(
     rt: &R,
     main: &mut TracedThread<'m, N>,
     child: TracedThread<'m, N>,
-) {
-    main.join(rt, child, SiteId(0)).expect(rt, "a join");
+    asks_again: bool,
+) -> Reply {
+    let joined = match main.join(rt, child, SITE) {
+        Err(
+            NotJoined {
+                refusal: Refusal::OutOfMemory,
+                child,
+            },
+        ) if asks_again => main.join(rt, child, SITE),
+        joined => joined,
+    };
+    joined.expect(rt, "a join")
 }

@@ -6,24 +6,26 @@
 #![tactic(auto)]
 
 #[cfg(test)]
-mod again;
-#[cfg(test)]
 mod calls;
 #[cfg(test)]
-mod closed_reports;
+mod cases;
 #[cfg(test)]
 mod example;
 #[cfg(test)]
 mod expected;
 #[cfg(test)]
-mod handles;
+mod name_lists;
 #[cfg(test)]
-mod places;
+mod plays;
 #[cfg(test)]
 mod releases;
 #[cfg(test)]
-mod rows;
+mod report_cases;
+#[cfg(test)]
+mod reports;
 #[cfg(test)]
 mod sections;
 #[cfg(test)]
 mod threads;
+#[cfg(test)]
+mod turns;

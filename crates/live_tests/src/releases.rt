@@ -1,19 +1,15 @@
 //! Calls of two threads after memory was refused.
-ghost use Rattle.std.specs.Prelude.{◌≡◌};
-
-use crate::calls::{Answer, Ask, make};
+use crate::calls::{Answer, Ask, SITE, make};
 use crate::expected::expect;
+use crate::plays::{Play, closed_after};
 use Ask::{Acquire, Load, Release, Store};
 use By::{Child, Main};
-use event_core::{Limits, Refusal, Reply, Roots, SiteId, ThreadId, Verdict};
-use live_monitor::{StartFault, Unnamed, start};
+use event_core::{Limits, Refusal, Reply, Roots, ThreadId, Verdict};
+use live_monitor::{StartFault, Unnamed};
 use log_pass::Name;
-use std::marker::Brand;
 use std::process::Abort;
 use std::sync::Wait;
 use traced_thread::TracedThread;
-
-const SITE: SiteId = SiteId(0);
 
 /// Who asks.
 #[derive(Clone, Copy)]
@@ -91,15 +87,14 @@ fn make_lines<N: Name, R: Wait + Abort>(
 }
 
 /// Where there is memory for the fork, both threads make their calls.
-fn make_calls<N: Name, R: Wait + Abort>(rt: &R, unnamed: Unnamed)
-    requires table { unnamed.table ≡ N.table }
-    requires limits { unnamed.limits ≡ N.limits }
-{
-    let (shared, pass) = start::<N>(unnamed);
-    let mut main = TracedThread::new(&shared, pass);
-    match main.fork(rt, ThreadId(1), SITE) {
-        Ok((mut child, _)) => make_lines(rt, &mut main, &mut child),
-        Err(refusal) => expect(rt, "a fork", refusal, Refusal::OutOfMemory),
+struct Calls;
+
+impl<R: Wait + Abort> Play<R> for Calls {
+    fn play<N: Name>(&self, rt: &R, main: &mut TracedThread<N>) {
+        match main.fork(rt, ThreadId(1), SITE) {
+            Ok((mut child, _)) => make_lines(rt, main, &mut child),
+            Err(refusal) => expect(rt, "a fork", refusal, Refusal::OutOfMemory),
+        }
     }
 }
 
@@ -108,7 +103,7 @@ fn make_calls<N: Name, R: Wait + Abort>(rt: &R, unnamed: Unnamed)
 fn no_release_is_refused_where_memory_is_refused(rt: HostRuntime) {
     let limits = Limits::new(2, 2, 2, 64, Roots::OnlyMain).expect(&rt, "limits");
     match Unnamed::new(rt.alloc(), limits) {
-        Ok(unnamed) => make_calls::<Brand, _>(&rt, unnamed),
+        Ok(unnamed) => drop(closed_after(&rt, unnamed, &Calls)),
         Err(fault) => expect(&rt, "a monitor", fault, StartFault::NoRoom),
     }
 }

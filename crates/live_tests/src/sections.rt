@@ -1,12 +1,9 @@
 //! Sections of a thread's handle.
-ghost use Rattle.std.specs.Prelude.{◌≡◌};
-
 use crate::calls::{begin, fork};
 use crate::expected::expect;
+use crate::plays::{Play, closed_after};
 use event_core::{Event, Limits, LockId, Op, Refusal, Roots, SiteId, ThreadId, VarId};
-use live_monitor::{Unnamed, start};
 use log_pass::Name;
-use std::marker::Brand;
 use std::process::Abort;
 use std::sync::Wait;
 use traced_thread::TracedThread;
@@ -24,53 +21,36 @@ fn leave_both<N: Name, R: Wait>(rt: &R, child: &mut TracedThread<N>) -> Result<(
     Ok(())
 }
 
-/// The event at the index is a release by thread 1.
-fn expect_release<N: Name, R: Wait + Abort>(
-    rt: &R,
-    main: &mut TracedThread<N>,
-    index: u64,
-    lock: u32,
-    site: SiteId,
-) {
-    let release = Event {
+/// The release of the lock by thread 1.
+fn release(lock: u32, site: SiteId) -> Option<Event> {
+    Some(Event {
         thread: ThreadId(1),
         op: Op::Release(LockId(lock)),
         site,
         value: 0,
-    };
-    let came = main.event_at(rt, index);
-    expect(
-        rt,
-        format_args!("event {index}, of site {site}"),
-        came,
-        Some(release),
-    );
+    })
 }
 
 /// Thread 1 leaves both sections. Then the releases stand in the log, the inner one first, each at the site
 /// of its acquire, and thread 0 has the lock at once.
-fn leave<N: Name, R: Wait + Abort>(rt: &R, unnamed: Unnamed)
-    requires table { unnamed.table ≡ N.table }
-    requires limits { unnamed.limits ≡ N.limits }
-{
-    let (shared, pass) = start::<N>(unnamed);
-    let mut main = TracedThread::new(&shared, pass);
-    let mut child = fork(rt, &mut main, 1);
-    let left = leave_both(rt, &mut child);
-    expect(rt, "a section that fails", left, Err(Refusal::TargetRange));
-    expect_release(rt, &mut main, 4, 1, INNER);
-    expect_release(rt, &mut main, 5, 0, OUTER);
-    let acquired = main.acquire(rt, LockId(0), OUTER);
-    expect(
-        rt,
-        "the acquire after it",
-        acquired.map(|reply| reply.index),
-        Ok(6),
-    );
+struct Left;
+
+impl<R: Wait + Abort> Play<R> for Left {
+    fn play<N: Name>(&self, rt: &R, main: &mut TracedThread<N>) {
+        let (mut child, _) = fork(rt, main, ThreadId(1), false);
+        let left = leave_both(rt, &mut child);
+        expect(rt, "a section that fails", left, Err(Refusal::TargetRange));
+        expect(rt, "event 4", main.event_at(rt, 4), release(1, INNER));
+        expect(rt, "event 5", main.event_at(rt, 5), release(0, OUTER));
+        let acquired = main.acquire(rt, LockId(0), OUTER);
+        let index = acquired.map(|reply| reply.index);
+        expect(rt, "the acquire after it", index, Ok(6));
+    }
 }
 
 #[test]
 fn a_section_that_an_error_leaves_releases_its_lock(rt: HostRuntime) {
     let limits = Limits::new(2, 2, 1, 16, Roots::OnlyMain).expect(&rt, "limits");
-    leave::<Brand, _>(&rt, begin(&rt, rt.alloc(), limits));
+    let unnamed = begin(&rt, rt.alloc(), limits, false);
+    drop(closed_after(&rt, unnamed, &Left));
 }

@@ -1,18 +1,19 @@
 //! Four threads that call the monitor at once.
 ghost use Rattle.std.specs.Prelude.{◌≡◌};
 
-use crate::calls::{Ask, begin, fork, join, make};
+use crate::calls::{Ask, SITE, begin, fork, join, make};
 use crate::expected::expect;
-use event_core::{Call, Limits, LockId, Log, Op, Outcome, Refusal, Roots, SiteId, ThreadId, VarId};
+use event_core::{
+    Call, Event, Limits, LockId, Log, Op, Reply, Roots, SiteId, ThreadId, VarId, Verdict,
+};
 use live_monitor::{Closed, Unnamed, start};
 use log_pass::Name;
 use seq_monitor::Monitor;
-use std::alloc::{AllocError, Global};
+use std::alloc::Global;
 use std::marker::Brand;
 use std::process::Abort;
 use std::sync::Wait;
-use std::thread;
-use std::thread::Threads;
+use std::thread::{Threads, for_each_mut};
 use traced_thread::TracedThread;
 
 /// How many rounds each thread makes.
@@ -28,7 +29,7 @@ const ROUND: [Op; 6] = [
     Op::Store(VarId(1)),
 ];
 
-/// How often a refused acquire is tried again.
+/// How often a refused acquire is tried.
 const PATIENCE: u32 = 1_000_000;
 
 /// Asks, and is to be accepted.
@@ -39,17 +40,6 @@ fn must<N: Name, R: Wait + Abort>(rt: &R, thread: &mut TracedThread<N>, ask: Ask
         site.0
     );
     expect(rt, asked, make(rt, thread, ask, site).err(), None);
-}
-
-/// Acquires the lock, and tries again while another thread holds it.
-fn acquire<N: Name, R: Wait + Abort>(rt: &R, thread: &mut TracedThread<N>, site: SiteId) {
-    for _ in 0..PATIENCE {
-        match make(rt, thread, Ask::Acquire(0), site) {
-            Err(Refusal::Held { .. }) => thread::yield_now(),
-            answer => return expect(rt, "an acquire", answer.err(), None),
-        }
-    }
-    must(rt, thread, Ask::Acquire(0), site);
 }
 
 /// The values that a thread's swaps read.
@@ -65,7 +55,8 @@ fn make_round<N: Name, R: Wait + Abort>(
     let site = SiteId(round);
     must(rt, thread, Ask::Load(0), site);
     must(rt, thread, Ask::Store(0, 7), site);
-    acquire(rt, thread, site);
+    let acquired = thread.acquire_up_to(rt, LockId(0), site, PATIENCE);
+    expect(rt, "an acquire", acquired.err(), None);
     must(rt, thread, Ask::Release(0), site);
     let swapped = thread.swap(rt, VarId(1), value, site);
     swapped.expect(rt, "a swap").value
@@ -86,51 +77,53 @@ fn make_rounds<N: Name, R: Wait + Abort>(rt: &R, thread: &mut TracedThread<N>) -
     values
 }
 
-/// Threads 1 to 4 make their rounds at once. What their swaps read, and the last value.
+/// The value is among 201, and was not read before.
+fn note<R: Abort>(rt: &R, is_read: &mut [bool; 201], value: u64) {
+    let place = value as usize;
+    let was_read = is_read.get(place).copied();
+    let asked = format_args!("whether {value} was read before");
+    expect(rt, asked, was_read, Some(false));
+    if place < 201 {
+        is_read[place] = true;
+    }
+}
+
+/// Threads 1 to 4 make their rounds at once. Of 201 values none is read twice, so each is read once.
 fn make_all<N: Name + Send + Sync, R: Threads + Wait + Abort + Sync>(
     rt: &R,
     main: &mut TracedThread<N>,
-) -> ([Values; 4], u64) {
-    let mut first = fork(rt, main, 1);
-    let mut second = fork(rt, main, 2);
-    let mut third = fork(rt, main, 3);
-    let mut fourth = fork(rt, main, 4);
-    let ((one, two), (three, four)) = thread::join(
-        rt,
-        || thread::join(
-            rt,
-            || make_rounds(rt, &mut first),
-            || make_rounds(rt, &mut second),
-        ),
-        || thread::join(
-            rt,
-            || make_rounds(rt, &mut third),
-            || make_rounds(rt, &mut fourth),
-        ),
-    );
-    join(rt, main, first);
-    join(rt, main, second);
-    join(rt, main, third);
-    join(rt, main, fourth);
-    let last = make(rt, main, Ask::Load(1), SiteId(0))
-        .expect(rt, "a load")
-        .value;
-    ([one, two, three, four], last)
+) {
+    let mut crew = [
+        (fork(rt, main, ThreadId(1), false).0, [0; 50]),
+        (fork(rt, main, ThreadId(2), false).0, [0; 50]),
+        (fork(rt, main, ThreadId(3), false).0, [0; 50]),
+        (fork(rt, main, ThreadId(4), false).0, [0; 50]),
+    ];
+    for_each_mut(rt, &mut crew, 4, &|_, it| it.1 = make_rounds(rt, &mut it.0));
+    let mut is_read = [false; 201];
+    for (thread, values) in crew {
+        for value in values {
+            note(rt, &mut is_read, value);
+        }
+        join(rt, main, thread, false);
+    }
+    let last = make(rt, main, Ask::Load(1), SITE).expect(rt, "a load");
+    note(rt, &mut is_read, last.value);
 }
 
-/// The closed log of threads 1 to 4, the values that their swaps read, and the last value.
+/// The closed log of threads 1 to 4.
 fn four_threads<N: Name + Send + Sync, R: Threads + Wait + Abort + Sync>(
     rt: &R,
     unnamed: Unnamed,
-) -> (Closed, [Values; 4], u64)
+) -> Closed
     requires table { unnamed.table ≡ N.table }
     requires limits { unnamed.limits ≡ N.limits }
 {
     let (shared, pass) = start::<N>(unnamed);
     let mut main = TracedThread::new(&shared, pass);
-    let (values, last) = make_all(rt, &mut main);
+    make_all(rt, &mut main);
     let pass = main.into_pass();
-    (shared.close(pass), values, last)
+    shared.close(pass)
 }
 
 /// Five threads, one lock and two variables.
@@ -138,124 +131,79 @@ fn limits<R: Abort>(rt: &R) -> Limits {
     Limits::new(5, 1, 2, 2048, Roots::OnlyMain).expect(rt, "limits")
 }
 
-fn run<R: Threads + Wait + Abort + Sync>(rt: &R, alloc: Global) -> (Closed, [Values; 4], u64) {
-    four_threads::<Brand, _>(rt, begin(rt, alloc, limits(rt)))
+fn run<R: Threads + Wait + Abort + Sync>(rt: &R, alloc: Global) -> Closed {
+    four_threads::<Brand, _>(rt, begin(rt, alloc, limits(rt), false))
 }
 
-/// The calls whose events the log has, in order.
-fn calls_of(alloc: Global, log: &Log) -> Result<Vec<Call>, AllocError> {
-    let mut calls = Vec::new(alloc);
-    for index in 0..log.len() {
-        if let Some(event) = log.get(index) {
-            calls.push(Call {
-                thread: event.thread,
-                op: event.op,
-                site: event.site,
-                arg: event.value,
-            })?;
-        }
-    }
-    Ok(calls)
-}
-
-/// The call is the one of the rounds that has so many before it, with the value that it stores.
-fn expect_call<R: Abort>(rt: &R, call: &Call, before: usize) {
+/// The event is the one of its thread's rounds that has so many before it, with the value that it stores.
+fn expect_event<R: Abort>(rt: &R, event: &Event, before: usize) {
     let round = before / 6;
-    let stored = match before % 6 {
+    let value = match before % 6 {
         1 => 7,
-        5 => first_value(call.thread).saturating_add(round as u64),
-        _ => call.arg,
+        5 => first_value(event.thread).saturating_add(round as u64),
+        _ => event.value,
     };
-    let asked = format_args!("call {before} of thread {}", call.thread.0);
-    let came = (call.op, call.site.0 as usize, call.arg);
-    expect(rt, asked, came, (ROUND[before % 6], round, stored));
+    let asked = format_args!("event {before} of thread {}", event.thread.0);
+    let came = (event.op, event.site.0 as usize, event.value);
+    expect(rt, asked, came, (ROUND[before % 6], round, value));
 }
 
-/// The calls of the thread are its rounds, each once and in order.
-fn expect_rounds<R: Abort>(rt: &R, calls: &[Call], thread: ThreadId) {
+/// The events of the thread are its rounds, each once and in order.
+fn expect_rounds<R: Abort>(rt: &R, log: &Log, thread: ThreadId) {
     let mut count: usize = 0;
-    for call in calls {
-        if call.thread == thread {
-            expect_call(rt, call, count);
+    for index in 0..log.len() {
+        if let Some(event) = log.get(index)
+            && event.thread == thread
+        {
+            expect_event(rt, &event, count);
             count = count.saturating_add(1);
         }
     }
-    expect(
-        rt,
-        format_args!("calls of thread {}", thread.0),
-        count,
-        6 * ROUNDS as usize,
-    );
+    let asked = format_args!("events of thread {}", thread.0);
+    expect(rt, asked, count, 6 * ROUNDS as usize);
 }
 
-/// The value is among 201, and was not read before.
-fn note<R: Abort>(rt: &R, is_read: &mut [bool; 201], value: u64) {
-    let place = value as usize;
-    let was_read = is_read.get(place).copied();
-    expect(
-        rt,
-        format_args!("whether {value} was read before"),
-        was_read,
-        Some(false),
-    );
-    if place < 201 {
-        is_read[place] = true;
-    }
+/// The monitor accepts the call of the event as the next one, with the verdict.
+fn expect_step<R: Abort>(rt: &R, monitor: &mut Monitor, event: Event, verdict: Verdict) {
+    let index = monitor.log().len();
+    let answer = monitor.step(Call {
+        thread: event.thread,
+        op: event.op,
+        site: event.site,
+        arg: event.value,
+    });
+    let reply = Reply {
+        index,
+        value: event.value,
+        verdict,
+    };
+    let asked = format_args!("event {index}, replayed");
+    expect(rt, asked, answer, Ok(reply));
 }
 
-/// Of 201 values none was read twice, so each was read once.
-fn expect_each_once<R: Abort>(rt: &R, values: &[Values; 4], last: u64) {
-    let mut is_read = [false; 201];
-    for own in values.iter() {
-        for value in own.iter() {
-            note(rt, &mut is_read, *value);
+/// The same calls, taken by a sequential monitor, are accepted with the same verdicts.
+fn expect_replayed<R: Abort>(rt: &R, alloc: Global, closed: &Closed) {
+    let mut monitor = Monitor::new(alloc, limits(rt)).expect(rt, "a monitor");
+    for index in 0..closed.len() {
+        if let Some(event) = closed.log().get(index) {
+            expect_step(rt, &mut monitor, event, closed.verdict_at(index));
         }
-    }
-    note(rt, &mut is_read, last);
-}
-
-/// The monitor has the verdicts of the closed log, and accepted each call.
-fn expect_same<R: Abort>(rt: &R, monitor: &Monitor, outcomes: &[Outcome], closed: &Closed) {
-    for (index, outcome) in (0u64..).zip(outcomes) {
-        let refusal = match outcome {
-            Outcome::Accepted(_) => None,
-            Outcome::Refused(refusal) => Some(*refusal),
-        };
-        expect(rt, format_args!("event {index}, replayed"), refusal, None);
     }
     let (ours, theirs) = (monitor.verdicts(), closed.verdicts());
     expect(rt, "verdicts of the replay", ours.len(), theirs.len());
     expect(rt, "races of the replay", ours.races(), theirs.races());
-}
-
-/// The same calls, taken by a sequential monitor, are accepted with the same verdicts.
-fn expect_replayed<R: Abort>(rt: &R, alloc: Global, closed: &Closed, calls: &[Call]) {
-    let mut monitor = Monitor::new(alloc, limits(rt)).expect(rt, "a monitor");
-    let mut outcomes = Vec::new(alloc);
-    let ran = monitor.run(calls, &mut outcomes);
-    expect(rt, "a run of the calls", ran, Ok(()));
-    expect(rt, "outcomes of the run", outcomes.len(), calls.len());
-    expect_same(rt, &monitor, &outcomes, closed);
     drop(monitor);
-    drop(outcomes);
-}
-
-fn expect_log<R: Abort>(rt: &R, alloc: Global, closed: &Closed) {
-    let calls = calls_of(alloc, closed.log()).expect(rt, "the calls");
-    expect(rt, "calls of all threads", calls.len(), 4 * 300 + 9);
-    for thread in 1..5 {
-        expect_rounds(rt, &calls, ThreadId(thread));
-    }
-    expect_replayed(rt, alloc, closed, &calls);
-    drop(calls);
 }
 
 /// The closed log has each thread's calls in order, with the verdicts of a sequential monitor. And of the
 /// values that swaps store, and the first, each comes out once.
 #[test]
 fn four_threads_share_one_log(rt: HostRuntime) {
-    let (closed, values, last) = run(&rt, rt.alloc());
-    expect_log(&rt, rt.alloc(), &closed);
-    expect_each_once(&rt, &values, last);
+    let closed = run(&rt, rt.alloc());
+    expect(&rt, "events of all threads", closed.len(), 4 * 300 + 9);
+    for thread in 1..5 {
+        expect_rounds(&rt, closed.log(), ThreadId(thread));
+    }
+    expect_replayed(&rt, rt.alloc(), &closed);
     drop(closed);
 }
