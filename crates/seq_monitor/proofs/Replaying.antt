@@ -51,29 +51,16 @@ use Rattle.wcp_clocks.specs.Parts.{IsWithin as ClocksAreWithin}
 use Rattle.wcp_clocks.specs.StandsFor.{FitsWhereLegal}
 use Rattle.wcp_clocks.specs.StandsFor.{StandsFor as ClocksStandFor}
 use Rattle.wcp_clocks.specs.WorkWithin.{IsWorkOf, WorkStep, LittleWork}
-use Rattle.seq_monitor.specs.Monitored.{Parts, IsReplay, IsClocksReplay, slots_for}
+use Rattle.seq_monitor.specs.declared.parts.Parts.{Parts}
+use Rattle.seq_monitor.specs.Grown.{IsKeptRelease}
+use Rattle.seq_monitor.specs.Monitored.{slots_for, AreVerdicts, IsClocksReplay, IsReplay}
 use Rattle.seq_monitor.proofs.ClockLaws.{clocks_fit, clocks_advanced}
 use Rattle.seq_monitor.proofs.Releases.{release_open, release_held, release_counted}
 use Rattle.seq_monitor.proofs.JudgedMore.{one_verdict_more, no_verdicts}
 
 -- the log is well formed
-pub well : (m : Limits) (log : List Event) (p : Parts) (vs : List Verdict)
-    → IsReplay m log p vs → WellFormed m log
-well m log p vs r = subst (λ (k : Limits). WellFormed k log) r.memory_limits r.memory.well_formed
-
--- a call that is not refused names numbers within the limits
-pub record Within (m : Limits) (t : ThreadId) (o : Op) : Type 0 where
-  pub thread : t.0 < m.threads
-  pub target : in_range m o ≡ true
-
-pub within : (m : Limits) (mem : Meaning) (t : ThreadId) (o : Op) → refusal_at m mem t o ≡ None → Within m t o
-unfolding refusal_at AllNone
-within m mem t o h =
-    let r : AllNone (reasons_at m mem t o) = all_none (reasons_at m mem t o) h in
-    record {
-      thread = leb-false m.threads t.0 (when_none _ ThreadRange r.0);
-      target = un_not _ (when_none _ TargetRange r.1.1.1.0);
-    }
+pub well : {m : Limits} {p : Parts} → IsReplay m p → WellFormed m p.log.events
+well {p = p} r = subst (λ (k : Limits). WellFormed k p.log.events) r.memory_limits r.memory.well_formed
 
 -- a store is refused as a load is
 pub store_too : (m : Limits) (mem : Meaning) (t : ThreadId) (x : VarId) → refusal_at m mem t (Load x) ≡ None
@@ -81,17 +68,31 @@ pub store_too : (m : Limits) (mem : Meaning) (t : ThreadId) (x : VarId) → refu
 unfolding refusal_at
 store_too m mem t x none = none
 
-pub clocks_within : (m : Limits) (t : ThreadId) (o : Op) (p : Clocks) → width_of p ≡ m.threads
-    → limits_of p ≡ m → t.0 < m.threads → in_range m o ≡ true → ClocksAreWithin p t o
-clocks_within m t o p width limits lt is = (subst (λ (n : ℕ). t.0 < n) (sym width) lt, go o is)
+-- a call that is not refused names numbers within the limits
+pub clocks_within : {m : Limits} {p : Parts} (t : ThreadId) (o : Op) → IsReplay m p → Allows p.memory t o
+    → ClocksAreWithin p.clocks t o
+unfolding refusal_at AllNone
+clocks_within {m} {p} t o r allowed = (subst (λ (n : ℕ). t.0 < n) (sym r.clocks.width) thread, go o target)
   where
-    lock : (l : LockId) → nat_lt l.0 m.locks ≡ true → l.0 < (limits_of p).locks
-    lock l is = subst (λ (k : Limits). l.0 < k.locks) (sym limits) (ltb-true l.0 m.locks is)
+    all : AllNone (reasons_at p.memory.limits (meaning p.memory) t o)
+    all = all_none (reasons_at p.memory.limits (meaning p.memory) t o) allowed
 
-    other : (u : ThreadId) → nat_lt u.0 m.threads ≡ true → u.0 < width_of p
-    other u is = subst (λ (n : ℕ). u.0 < n) (sym width) (ltb-true u.0 m.threads is)
+    thread : t.0 < m.threads
+    thread = subst (λ (k : Limits). t.0 < k.threads) r.memory_limits
+        (leb-false p.memory.limits.threads t.0 (when_none _ ThreadRange all.0))
 
-    go : (o : Op) → in_range m o ≡ true → NamesWithin p o
+    target : in_range m o ≡ true
+    target = subst (λ (k : Limits). in_range k o ≡ true) r.memory_limits
+        (un_not _ (when_none _ TargetRange all.1.1.1.0))
+
+    lock : (l : LockId) → nat_lt l.0 m.locks ≡ true → l.0 < (limits_of p.clocks).locks
+    lock l is =
+        subst (λ (k : Limits). l.0 < k.locks) (sym r.clocks.limits_of) (ltb-true l.0 m.locks is)
+
+    other : (u : ThreadId) → nat_lt u.0 m.threads ≡ true → u.0 < width_of p.clocks
+    other u is = subst (λ (n : ℕ). u.0 < n) (sym r.clocks.width) (ltb-true u.0 m.threads is)
+
+    go : (o : Op) → in_range m o ≡ true → NamesWithin p.clocks o
     go (Acquire l) is = lock l is
     go (Release l) is = lock l is
     go (Fork u) is = other u is
@@ -113,21 +114,36 @@ slot_taken m log c well allowed = go c.op refl
         record { some = omega arith; kept = omega arith }
     go _ q = record { some = omega arith; kept = omega arith }
 
--- the event of the call, by its value
-pub is_event : (log : List Event) (c : Call) (e : Event) (v : ℕ)
-    → e ≡ record { thread = c.thread; op = c.op; site = c.site; value = v } → v ≡ value_of log c.op c.arg
-    → e ≡ event_of log c
-is_event log c e v is value =
-    is
-    ∙ ap (λ (n : ℕ). let x : Event = record { thread = c.thread; op = c.op; site = c.site; value = n } in x)
-    value
+-- a call that the memory allows has no refusal
+pub not_refused : {m : Limits} {p : Parts} (c : Call) → IsReplay m p → Allows p.memory c.thread c.op
+    → refusal m p.log.events c ≡ None
+not_refused {m} {p} c r allowed =
+    sym (same_refusal m p.log.events c (well r))
+    ∙ (ap (λ (x : Meaning). refusal_at m x c.thread c.op) (sym r.memory.means)
+    ∙ subst (λ (k : Limits). refusal_at k (meaning p.memory) c.thread c.op ≡ None) r.memory_limits allowed)
 
--- the log with it is well formed
-pub well_more : (m : Limits) (log : List Event) (c : Call) (e : Event) → WellFormed m log
-    → refusal m log c ≡ None → e ≡ event_of log c → WellFormed m (log ++ e ∷ [])
-well_more m log c e w allowed is =
-    subst (λ (x : Event). WellFormed m (log ++ x ∷ [])) (sym is)
-    (well_formed_grown m log (event_of log c) w (allowed_legal m log c allowed))
+-- the event is that of a call which is not refused, and comes next
+pub record IsNext (m : Limits) (p : Parts) (c : Call) (e : Event) : Type 0 where
+  pub legal : refusal m p.log.events c ≡ None
+  pub is : e ≡ event_of p.log.events c
+  pub longer : WellFormed m (p.log.events ++ e ∷ [])
+
+pub is_next : {m : Limits} {p : Parts} {e : Event} {v : ℕ} (c : Call) → IsReplay m p
+    → Allows p.memory c.thread c.op
+    → e ≡ record { thread = c.thread; op = c.op; site = c.site; value = v }
+    → v ≡ value_of p.log.events c.op c.arg → IsNext m p c e
+is_next {m} {p} {e} {v} c r allowed with value =
+    let log = p.log.events in
+    let legal = not_refused c r allowed in
+    let is : e ≡ event_of log c = with
+    ∙ ap (λ (n : ℕ). let x : Event = record { thread = c.thread; op = c.op; site = c.site; value = n } in x)
+    value in
+    record {
+      legal = legal;
+      is = is;
+      longer = subst (λ (x : Event). WellFormed m (log ++ x ∷ [])) (sym is)
+          (well_formed_grown m log (event_of log c) (well r) (allowed_legal m log c legal));
+    }
 
 -- the last event is its thread's latest
 pub last_is_latest : (log : List Event) (e : Event) → IsLatest (log ++ e ∷ []) e.thread (length log)
@@ -153,26 +169,24 @@ judged e clocks accesses count v latest verdict limits log well stands made =
     verdict log made (latest limits (log ++ e ∷ []) (length log) well stands (last_is_latest log e))
 
 -- before an event that is accepted the log has fewer events than it may have
-pub index_fits : (m : Limits) (log : List Event) (c : Call) (p : Parts) (vs : List Verdict)
-    → IsReplay m log p vs → refusal m log c ≡ None → length log < 4294967296
-index_fits m log c p vs r legal =
-    let e : Event = event_of log c in
-    let grown : length (log ++ e ∷ []) ≡ length log + 1 = grown_length log e in
-    let within : length (log ++ e ∷ []) ≤ m.events
-    = log_within m (log ++ e ∷ [])
-    (well_more m log c e (well m log p vs r) legal refl) in
+pub index_fits : {m : Limits} {p : Parts} {c : Call} {e : Event} → IsReplay m p → IsNext m p c e
+    → length p.log.events < 4294967296
+index_fits {m} {p} {e = e} r next =
+    let grown : length (p.log.events ++ e ∷ []) ≡ length p.log.events + 1 = grown_length p.log.events e in
+    let within : length (p.log.events ++ e ∷ []) ≤ m.events
+    = log_within m (p.log.events ++ e ∷ []) next.longer in
     let events : m.events ≤ 4294967296 = r.bounds.most_events in
     omega arith
 
 -- and so has each thread
-pub position_fits : (m : Limits) (log : List Event) (c : Call) (p : Parts) (vs : List Verdict)
-    (t : ThreadId) → IsReplay m log p vs → refusal m log c ≡ None
-    → count_at p.accesses.counts t.0 < 4294967296
+pub position_fits : {m : Limits} {p : Parts} {c : Call} {e : Event} (t : ThreadId) → IsReplay m p
+    → IsNext m p c e → count_at p.accesses.counts t.0 < 4294967296
 unfolding events_of
-position_fits m log c p vs t r legal =
+position_fits {p = p} t r next =
+    let log = p.log.events in
     let same : count_at p.accesses.counts t.0 ≡ events_of log t = r.accesses.counts t in
     let most : events_of log t ≤ length log = count_by-le-length (λ (e : Event). nat_eq e.thread.0 t.0) log in
-    let few : length log < 4294967296 = index_fits m log c p vs r legal in
+    let few : length log < 4294967296 = index_fits r next in
     omega arith
 
 -- how many acquires are to be released after the call
@@ -183,114 +197,116 @@ opened_after log c old new before longer means =
     sym (ap (λ (x : Meaning). x.holds) longer.means)
     ∙ (ap (λ (x : Meaning). x.holds) means ∙ ap (λ (x : Meaning). holds_after c.op x.holds) before.means)
 
--- one event more
-pub replay_more : (m : Limits) (log log2 : List Event) (c : Call) (e : Event) (old new : Parts)
-    (vs vs2 : List Verdict) (v : Verdict)
-    → IsReplay m log old vs → refusal m log c ≡ None → e ≡ event_of log c
-    → meaning new.memory ≡ after c.thread c.op c.arg (meaning old.memory)
-    → new.memory.limits ≡ old.memory.limits
-    → StandsFor new.memory (log ++ event_of log c ∷ [])
-    → IsClocksReplay m (log ++ e ∷ []) new.clocks
-    → AccessesStand (log ++ e ∷ []) new.accesses → new.accesses.limits ≡ old.accesses.limits
-    → IsVerdict (log ++ e ∷ []) (length log) v
-    → log2 ≡ log ++ e ∷ [] → vs2 ≡ vs ++ v ∷ [] → slots_for (open_acquires log) c.op ≤ new.events + 1
-    → slots_for (open_acquires log) c.op ≤ new.verdicts + 1
-    → IsReplay m log2 new vs2
-replay_more m log log2 c e old new vs vs2 v r allowed is means limits memory clocks accesses
-    access_limits verdict longer judged events verdicts =
-    let taken : SlotTaken (open_acquires log) c.op = slot_taken m log c (well m log old vs r) allowed in
-    let opened : open_acquires (log ++ e ∷ []) ≡ holds_after c.op (open_acquires log)
-    = ap (λ (x : Event). open_acquires (log ++ x ∷ [])) is
-    ∙ opened_after log c old.memory new.memory r.memory memory means in
-    let kept : holds_after c.op (open_acquires log) + 1 ≤ slots_for (open_acquires log) c.op = taken.kept in
-    let here : IsReplay m (log ++ e ∷ []) new (vs ++ v ∷ []) = record {
+-- what each part makes of the event, which has the verdict
+pub record HasTaken (m : Limits) (old new : Parts) (c : Call) (e : Event) (v : Verdict) : Type 0 where
+  pub memory : meaning new.memory ≡ after c.thread c.op c.arg (meaning old.memory)
+  pub memory_limits : new.memory.limits ≡ old.memory.limits
+  pub memory_stands : StandsFor new.memory (old.log.events ++ event_of old.log.events c ∷ [])
+  pub clocks : IsClocksReplay m (old.log.events ++ e ∷ []) new.clocks
+  pub accesses : AccessesStand (old.log.events ++ e ∷ []) new.accesses
+  pub access_limits : new.accesses.limits ≡ old.accesses.limits
+  pub verdict : IsVerdict (old.log.events ++ e ∷ []) (length old.log.events) v
+  pub events : new.log.events ≡ old.log.events ++ e ∷ []
+  pub verdicts : new.verdicts.verdicts ≡ old.verdicts.verdicts ++ v ∷ []
+  pub event_slots : slots_for (open_acquires old.log.events) c.op ≤ new.log.room + 1
+  pub verdict_slots : slots_for (open_acquires old.log.events) c.op ≤ new.verdicts.room + 1
+
+-- they stand for one event more
+pub replay_more : {m : Limits} {old new : Parts} {c : Call} {e : Event} {v : Verdict} → IsReplay m old
+    → IsNext m old c e → HasTaken m old new c e v → IsReplay m new
+replay_more {m} {old} {new} {c} {e} {v} r next taken =
+    let log = old.log.events in
+    let slot : SlotTaken (open_acquires log) c.op = slot_taken m log c (well r) next.legal in
+    let opened : open_acquires new.log.events ≡ holds_after c.op (open_acquires log)
+    = ap open_acquires (taken.events ∙ ap (λ (x : Event). log ++ x ∷ []) next.is)
+    ∙ opened_after log c old.memory new.memory r.memory taken.memory_stands taken.memory in
+    let longer = sym taken.events in
+    record {
       bounds = r.bounds;
-      memory = subst (λ (x : Event). StandsFor new.memory (log ++ x ∷ [])) (sym is) memory;
-      memory_limits = limits ∙ r.memory_limits;
-      clocks = clocks;
-      accesses = accesses;
-      access_limits = access_limits ∙ r.access_limits;
-      judged = one_verdict_more log e vs v r.judged verdict;
-      event_slots = omega arith;
-      verdict_slots = omega arith;
-    } in
-    subst (λ (xs : List Event). IsReplay m xs new vs2) (sym longer)
-    (subst (λ (ws : List Verdict). IsReplay m (log ++ e ∷ []) new ws) (sym judged) here)
+      memory = subst (StandsFor new.memory) (ap (λ (x : Event). log ++ x ∷ []) (sym next.is) ∙ longer)
+          taken.memory_stands;
+      memory_limits = taken.memory_limits ∙ r.memory_limits;
+      clocks = subst (λ (xs : List Event). IsClocksReplay m xs new.clocks) longer taken.clocks;
+      accesses = subst (λ (xs : List Event). AccessesStand xs new.accesses) longer taken.accesses;
+      access_limits = taken.access_limits ∙ r.access_limits;
+      judged = subst (λ (xs : List Event). AreVerdicts xs new.verdicts.verdicts) longer
+          (subst (AreVerdicts (log ++ e ∷ [])) (sym taken.verdicts)
+          (one_verdict_more log e old.verdicts.verdicts v r.judged taken.verdict));
+      event_slots = omega (arith, opened, slot.kept, taken.event_slots);
+      verdict_slots = omega (arith, opened, slot.kept, taken.verdict_slots);
+    }
 
 -- what the clocks ask of the event
-pub clocks_ready : FitsWhereLegal → LittleWork
-    → (m : Limits) (log : List Event) (c : Call) (e : Event) (p : Parts)
-    (vs : List Verdict) → IsReplay m log p vs → refusal m log c ≡ None → e ≡ event_of log c
-    → Fits e p.clocks
-clocks_ready fits little m log c e p vs r allowed is =
-    clocks_fit fits little m log e p.clocks r.bounds
-    (well_more m log c e (well m log p vs r) allowed is) r.clocks
+pub clocks_ready : FitsWhereLegal → LittleWork → {m : Limits} {p : Parts} {c : Call} {e : Event}
+    → IsReplay m p → IsNext m p c e → Fits e p.clocks
+clocks_ready fits little {m} {p} {e = e} r next =
+    clocks_fit fits little m p.log.events e p.clocks r.bounds next.longer r.clocks
 
 -- the parts before any event
-pub replay_empty : (m : Limits) (log : List Event) (p : Parts) (vs : List Verdict)
-    → AreBounded m.threads m.locks m.vars m.events → StandsFor p.memory [] → p.memory.limits ≡ m
-    → IsClocksReplay m [] p.clocks → AccessesStand [] p.accesses → p.accesses.limits ≡ m
-    → log ≡ [] → vs ≡ [] → IsReplay m log p vs
+pub replay_empty : (m : Limits) (p : Parts) → AreBounded m.threads m.locks m.vars m.events
+    → StandsFor p.memory [] → p.memory.limits ≡ m → IsClocksReplay m [] p.clocks
+    → AccessesStand [] p.accesses → p.accesses.limits ≡ m → p.log.events ≡ [] → p.verdicts.verdicts ≡ []
+    → IsReplay m p
 unfolding open_acquires
-replay_empty m log p vs bounds memory memory_limits clocks accesses access_limits none no_vs =
-    subst (λ (xs : List Event). IsReplay m xs p vs) (sym none)
-    (subst (λ (ws : List Verdict). IsReplay m [] p ws) (sym no_vs) (record {
+replay_empty m p bounds memory memory_limits clocks accesses access_limits none no_vs =
+    let slots : open_acquires p.log.events ≡ 0 = ap open_acquires none in
+    record {
       bounds = bounds;
-      memory = memory;
+      memory = subst (StandsFor p.memory) (sym none) memory;
       memory_limits = memory_limits;
-      clocks = clocks;
-      accesses = accesses;
+      clocks = subst (λ (xs : List Event). IsClocksReplay m xs p.clocks) (sym none) clocks;
+      accesses = subst (λ (xs : List Event). AccessesStand xs p.accesses) (sym none) accesses;
       access_limits = access_limits;
-      judged = no_verdicts;
-      event_slots = omega arith;
-      verdict_slots = omega arith;
-    }))
+      judged = subst (λ (xs : List Event). AreVerdicts xs p.verdicts.verdicts) (sym none)
+          (subst (AreVerdicts []) (sym no_vs) no_verdicts);
+      event_slots = omega (arith, slots);
+      verdict_slots = omega (arith, slots);
+    }
 
 -- the clocks after the event
-pub clocks_more : WorkStep
-    → (m : Limits) (log : List Event) (c : Call) (e : Event) (old : Parts) (new : Clocks) (vs : List Verdict)
-    → IsReplay m log old vs → refusal m log c ≡ None → e ≡ event_of log c
+pub clocks_more : WorkStep → {m : Limits} {old : Parts} {c : Call} {e : Event} (new : Clocks) → IsReplay m old
+    → IsNext m old c e
     → ((k : Limits) (xs : List Event) → WellFormed k (xs ++ e ∷ []) → ClocksStandFor xs old.clocks
     → ClocksStandFor (xs ++ e ∷ []) new)
-    → IsWorkOf e old.clocks new → SameLimits old.clocks new → IsClocksReplay m (log ++ e ∷ []) new
-clocks_more work_step m log c e old new vs r allowed is stands work limits =
-    let longer : WellFormed m (log ++ e ∷ []) = well_more m log c e (well m log old vs r) allowed is in
-    clocks_advanced work_step m log e old.clocks new longer r.clocks
-    (stands m log longer r.clocks.stands) work limits
+    → IsWorkOf e old.clocks new → SameLimits old.clocks new
+    → IsClocksReplay m (old.log.events ++ e ∷ []) new
+clocks_more work_step {m} {old} {e = e} new r next stands work limits =
+    clocks_advanced work_step m old.log.events e old.clocks new next.longer r.clocks
+    (stands m old.log.events next.longer r.clocks.stands) work limits
 
 -- the reply's parts
-pub is_outcome : (m : Limits) (log : List Event) (c : Call) (e : Event) (v : Verdict) (index value : ℕ)
-    → refusal m log c ≡ None → e ≡ event_of log c → index ≡ length log → value ≡ value_of log c.op c.arg
-    → IsVerdict (log ++ e ∷ []) (length log) v
-    → IsOutcome m log c (Accepted (record { index = index; value = value; verdict = v }))
-is_outcome m log c e v index value allowed is at has verdict =
-    (allowed, at, has, subst (λ (x : Event). IsVerdict (log ++ x ∷ []) (length log) v) is verdict)
+pub is_outcome : {m : Limits} {p : Parts} {c : Call} {e : Event} (v : Verdict) (index value : ℕ)
+    → IsNext m p c e → index ≡ length p.log.events → value ≡ value_of p.log.events c.op c.arg
+    → IsVerdict (p.log.events ++ e ∷ []) (length p.log.events) v
+    → IsOutcome m p.log.events c (Accepted (record { index = index; value = value; verdict = v }))
+is_outcome {p = p} v index value next at has verdict = (
+  next.legal,
+  at,
+  has,
+  subst (λ (x : Event). IsVerdict (p.log.events ++ x ∷ []) (length p.log.events) v) next.is verdict,
+)
 
--- a call that the memory allows has no refusal
-pub not_refused : (m : Limits) (log : List Event) (c : Call) (p : Parts) (vs : List Verdict)
-    → IsReplay m log p vs → Allows p.memory c.thread c.op → refusal m log c ≡ None
-not_refused m log c p vs r allowed =
-    sym (same_refusal m log c (well m log p vs r))
-    ∙ (ap (λ (x : Meaning). refusal_at m x c.thread c.op) (sym r.memory.means)
-    ∙ subst (λ (k : Limits). refusal_at k (meaning p.memory) c.thread c.op ≡ None) r.memory_limits allowed)
-
--- a release that is not refused is ready in the clocks
-pub release_held_by_clocks : (m : Limits) (log : List Event) (c : Call) (l : LockId) (p : Parts)
-    (vs : List Verdict) → IsReplay m log p vs → refusal m log c ≡ None → c.op ≡ Release l
-    → IsHeldRelease (hb_of p.clocks) c.thread c.op
-release_held_by_clocks m log c l p vs r allowed is =
-    let held : 0 < depth log c.thread l = release_held m log c l allowed is in
+-- a release that is not refused is made by a thread that holds the lock, and slots are kept for it
+pub release_kept : {m : Limits} {p : Parts} (c : Call) (l : LockId) (slots : ℕ) → IsReplay m p
+    → Allows p.memory c.thread c.op → c.op ≡ Release l → slots ≡ slots_for (open_acquires p.log.events) c.op
+    → IsKeptRelease p c.thread c.op slots
+release_kept {m} {p} c l slots r allowed is at =
+    let log = p.log.events in
+    let legal = not_refused c r allowed in
+    let held : 0 < depth log c.thread l = release_held m log c l legal is in
     let same : (hb_of p.clocks).depth c.thread.0 l.0 ≡ depth log c.thread l
     = r.clocks.stands.hb.depths c.thread l in
-    let here : 0 < (hb_of p.clocks).depth c.thread.0 l.0 = omega arith in
-    subst (IsHeldRelease (hb_of p.clocks) c.thread) (sym is) here
-
--- there is room for it in the accesses
-pub release_in_accesses : (m : Limits) (log : List Event) (c : Call) (l : LockId) (p : Parts)
-    (vs : List Verdict) → IsReplay m log p vs → refusal m log c ≡ None → c.op ≡ Release l
-    → AccessHasRoom p.accesses c.thread c.op
-release_in_accesses m log c l p vs r allowed is =
+    let here : 0 < (hb_of p.clocks).depth c.thread.0 l.0 = omega (arith, held, same) in
     let thread : c.thread.0 < length p.accesses.counts
-    = release_counted m log c l p.accesses allowed is r.accesses in
-    let here : AccessHasRoom p.accesses c.thread (Release l) = record { thread = thread; access = tt } in
-    subst (AccessHasRoom p.accesses c.thread) (sym is) here
+    = release_counted m log c l p.accesses legal is r.accesses in
+    let room : AccessHasRoom p.accesses c.thread (Release l) = record { thread = thread; access = tt } in
+    let kept : slots ≡ open_acquires log = at ∙ ap (slots_for (open_acquires log)) is in
+    record {
+      lock = l;
+      is = is;
+      allowed = allowed;
+      held = subst (IsHeldRelease (hb_of p.clocks) c.thread) (sym is) here;
+      accesses = subst (AccessHasRoom p.accesses c.thread) (sym is) room;
+      events = omega (arith, kept, r.event_slots);
+      verdicts = omega (arith, kept, r.verdict_slots);
+    }

@@ -11,10 +11,9 @@ use Rattle.event_core.specs.Bounds.{AreBounded}
 use Rattle.event_core.specs.declared.replies.Verdict.{Verdict}
 use Rattle.event_core.specs.Refusal.{refusal, open_acquires}
 use Rattle.event_core.specs.Verdict.{IsVerdict}
-use Rattle.traced_mem.specs.Tables.{Tables as MemoryTables}
 use Rattle.traced_mem.specs.Room.{IsReady as MemoryIsReady}
 use Rattle.traced_mem.specs.OfLog.{StandsFor}
-use Rattle.access_check.specs.Tables.{Tables as AccessTables, IsReady as AccessHasRoom}
+use Rattle.access_check.specs.Tables.{IsReady as AccessHasRoom}
 use Rattle.access_check.specs.Standing.{Stands as AccessesStand}
 use Rattle.wcp_laws.specs.Found.{threads_in}
 use Rattle.wcp_clocks.specs.Parts.{Parts as Clocks}
@@ -23,28 +22,16 @@ use Rattle.wcp_clocks.specs.Parts.{IsReady as ClocksIsReady}
 use Rattle.wcp_clocks.specs.StandsFor.{StandsFor as ClocksStandFor}
 use Rattle.wcp_clocks.specs.WorkWithin.{WorkWithin}
 use Rattle.seq_monitor.specs.Joins.{joins_of}
-
--- the parts beside the log, and for how many more events and verdicts there is room
-pub record Parts : Type 0 where
-  pub memory : MemoryTables
-  pub clocks : Clocks
-  pub accesses : AccessTables
-  pub events : ℕ
-  pub verdicts : ℕ
-
-abbrev pub parts_of : MemoryTables → Clocks → AccessTables → ℕ → ℕ → Parts
-parts_of memory clocks accesses events verdicts = record {
-  memory = memory;
-  clocks = clocks;
-  accesses = accesses;
-  events = events;
-  verdicts = verdicts;
-}
+use Rattle.seq_monitor.specs.declared.parts.Parts.{Parts}
 
 pub record Monitored : Type 0 where
   pub limits : Limits
   pub log : List Event
   pub parts : Parts
+
+-- what contracts see of a monitor with these limits and parts
+abbrev pub monitored : Limits → Parts → Monitored
+monitored limits parts = record { limits = limits; log = parts.log.events; parts = parts }
 
 -- the limits and the log are the same, and so is all that they determine; and the clocks did no work
 pub record IsSame (old new : Monitored) : Type 0 where
@@ -59,41 +46,31 @@ slots_for open' (Acquire l) = open' + 2
 slots_for open' (Release l) = open'
 slots_for open' o = open' + 1
 
+-- each part has room for the thread's operation, and the lists for so many events
+pub record HasRoomFor (p : Parts) (t : ThreadId) (o : Op) (slots : ℕ) : Type 0 where
+  pub memory : MemoryIsReady p.memory t o
+  pub clocks : ClocksIsReady p.clocks t o
+  pub accesses : AccessHasRoom p.accesses t o
+  pub events : slots ≤ p.log.room
+  pub verdicts : slots ≤ p.verdicts.room
+
 -- there is room for the thread's operation
-pub record HasRoom (m : Monitored) (t : ThreadId) (o : Op) : Type 0 where
-  pub memory : MemoryIsReady m.parts.memory t o
-  pub clocks : ClocksIsReady m.parts.clocks t o
-  pub accesses : AccessHasRoom m.parts.accesses t o
-  pub events : slots_for (open_acquires m.log) o ≤ m.parts.events
-  pub verdicts : slots_for (open_acquires m.log) o ≤ m.parts.verdicts
-
--- and for so many events more
-pub record HasRoomAnd (m : Monitored) (t : ThreadId) (o : Op) (more : ℕ) : Type 0 where
-  pub room : HasRoom m t o
-  pub events : slots_for (open_acquires m.log) o + more ≤ m.parts.events
-  pub verdicts : slots_for (open_acquires m.log) o + more ≤ m.parts.verdicts
-
--- there is room for it in each part but the clocks
-pub record HasOtherRoom (m : Monitored) (t : ThreadId) (o : Op) : Type 0 where
-  pub memory : MemoryIsReady m.parts.memory t o
-  pub accesses : AccessHasRoom m.parts.accesses t o
-  pub events : slots_for (open_acquires m.log) o ≤ m.parts.events
-  pub verdicts : slots_for (open_acquires m.log) o ≤ m.parts.verdicts
+abbrev pub HasRoom : Monitored → ThreadId → Op → Type 0
+HasRoom m t o = HasRoomFor m.parts t o (slots_for (open_acquires m.log) o)
 
 -- there is room for both events of a swap
 pub record HasRoomToSwap (m : Monitored) (t : ThreadId) (x : VarId) : Type 0 where
-  pub load : HasRoom m t (Load x)
-  pub store : HasRoom m t (Store x)
-  pub both_events : open_acquires m.log + 2 ≤ m.parts.events
-  pub both_verdicts : open_acquires m.log + 2 ≤ m.parts.verdicts
+  pub load : HasRoomFor m.parts t (Load x) (open_acquires m.log + 2)
+  pub store : HasRoomFor m.parts t (Store x) (open_acquires m.log + 2)
 
 -- the call is refused, or there is room for it
 abbrev pub IsReady : Monitored → Call → Type 0
 IsReady m c = refusal m.limits m.log c ≡ None → HasRoom m c.thread c.op
 
 -- what there was room for, there still is room for
-abbrev pub KeepsRoom : Monitored → Monitored → Type 0
-KeepsRoom old new = (t : ThreadId) (o : Op) → HasRoom old t o → HasRoom new t o
+abbrev pub KeepsRoom : Parts → Parts → Type 0
+KeepsRoom old new =
+    (t : ThreadId) (o : Op) (slots : ℕ) → HasRoomFor old t o slots → HasRoomFor new t o slots
 
 -- what was ready stays so
 abbrev pub KeepsReady : Monitored → Monitored → Type 0
@@ -112,18 +89,17 @@ pub record IsClocksReplay (limits : Limits) (log : List Event) (clocks : Clocks)
   pub work : WorkWithin limits log clocks
   pub joins : (work_of clocks).joins ≤ joins_of limits log
 
--- the parts stand for the log, which is well formed, and the slots of all releases to come are kept
-pub record IsReplay (limits : Limits) (log : List Event) (parts : Parts) (verdicts : List Verdict)
-    : Type 0 where
+-- the parts stand for their log, which is well formed, and the slots of all releases to come are kept
+pub record IsReplay (limits : Limits) (p : Parts) : Type 0 where
   pub bounds : AreBounded limits.threads limits.locks limits.vars limits.events
-  pub memory : StandsFor parts.memory log
-  pub memory_limits : parts.memory.limits ≡ limits
-  pub clocks : IsClocksReplay limits log parts.clocks
-  pub accesses : AccessesStand log parts.accesses
-  pub access_limits : parts.accesses.limits ≡ limits
-  pub judged : AreVerdicts log verdicts
-  pub event_slots : open_acquires log ≤ parts.events
-  pub verdict_slots : open_acquires log ≤ parts.verdicts
+  pub memory : StandsFor p.memory p.log.events
+  pub memory_limits : p.memory.limits ≡ limits
+  pub clocks : IsClocksReplay limits p.log.events p.clocks
+  pub accesses : AccessesStand p.log.events p.accesses
+  pub access_limits : p.accesses.limits ≡ limits
+  pub judged : AreVerdicts p.log.events p.verdicts.verdicts
+  pub event_slots : open_acquires p.log.events ≤ p.log.room
+  pub verdict_slots : open_acquires p.log.events ≤ p.verdicts.room
 
 -- the work of the clocks. The n events of the log, by k threads, took at most n * k + n comparisons of an
 -- acquire with a clock. Each of them took at most three joins of clocks, or where it is an access at most two

@@ -1,5 +1,5 @@
 //! What is made of the parts of a monitor.
-ghost use Rattle.std.specs.Prelude.{◌≡◌, ◌+◌, ◌≤◌, List, [], ◌∷◌, ◌++◌, length, OnOk};
+ghost use Rattle.std.specs.Prelude.{◌≡◌, ◌+◌, ◌≤◌, ◌↔◌, List, [], ◌∷◌, ◌++◌, length, IsOk, IsTrue, OnOk};
 ghost use Rattle.event_core.specs.declared.bounds.Limits.{Limits as Bounds};
 ghost use Rattle.event_core.specs.declared.events.Event.{Event as AnEvent};
 ghost use Rattle.event_core.specs.Refusal.{WellFormed};
@@ -9,8 +9,8 @@ ghost use Rattle.wcp_clocks.specs.Parts.{width_of, SameLimits, IsAccess, KeepsRe
 ghost use Rattle.wcp_clocks.specs.Parts.{IsWithin as ClocksAreWithin, IsReady as ClocksAreReady};
 ghost use Rattle.wcp_clocks.specs.StandsFor.{StandsFor as ClocksStandFor};
 ghost use Rattle.wcp_clocks.specs.WorkWithin.{IsWorkOf};
-ghost use Rattle.seq_monitor.specs.Monitored.{slots_for};
-ghost use Rattle.seq_monitor.specs.Grown.{HasGrown, HasRoomFor};
+ghost use Rattle.seq_monitor.specs.Monitored.{slots_for, HasRoomFor};
+ghost use Rattle.seq_monitor.specs.Grown.{HasGrown, HasOtherRoom, IsKeptRelease};
 
 use access_check::Accesses;
 use event_core::{Event, Log, Op, OutOfMemory, Reply, ThreadId, Verdict};
@@ -87,9 +87,38 @@ pub(crate) fn judge(clocks: &mut WcpClocks, accesses: &Accesses, event: &Event) 
     verdict_on_last(clocks, accesses, event)
 }
 
-/// Makes room in all parts for the thread's operation, and in the lists for so many more events. Nothing else
-/// changes.
-pub(crate) fn grow(
+/// Whether each part has room for the thread's operation, and the lists for so many events. There is for each
+/// release that was kept room for.
+#[inline(always)]
+pub(crate) fn ready(parts: &Parts, thread: ThreadId, op: Op, slots: usize) -> bool
+    ensures ready { IsTrue result ↔ HasRoomFor parts.now thread op slots }
+    ensures release { IsKeptRelease parts.now thread op slots → IsTrue result }
+{
+    parts.clocks.ready(thread, op) && others_ready(parts, thread, op, slots)
+}
+
+// The same of each part but the clocks.
+#[inline(always)]
+fn others_ready(parts: &Parts, thread: ThreadId, op: Op, slots: usize) -> bool
+    ensures ready { IsTrue result ↔ HasOtherRoom parts.now thread op slots }
+    ensures release { IsKeptRelease parts.now thread op slots → IsTrue result }
+{
+    if !parts.memory.ready(thread, op) {
+        return false;
+    }
+    if !parts.accesses.ready(thread, op) {
+        return false;
+    }
+    if !parts.log.has_room(slots) {
+        return false;
+    }
+    parts.verdicts.has_room(slots)
+}
+
+/// Makes room in all parts for the thread's operation, and in the lists for so many events. Nothing else
+/// changes. Where there is room no call is made, and the clocks keep what they find, for the event.
+#[inline(always)]
+pub(crate) fn prepare(
     parts: &mut Parts,
     thread: ThreadId,
     op: Op,
@@ -98,7 +127,23 @@ pub(crate) fn grow(
     requires clocks { ClocksAreWithin parts.old.clocks thread op }
     requires width { width_of parts.old.clocks ≡ parts.old.accesses.limits.threads }
     ensures grown { HasGrown parts.old parts.new }
-    ensures room { OnOk result (HasRoomFor parts.new thread op slots) }
+    ensures ready { OnOk result (HasRoomFor parts.new thread op slots) }
+    ensures again { HasRoomFor parts.old thread op slots → IsOk result }
+    ensures release { IsKeptRelease parts.old thread op slots → IsOk result }
+{
+    if parts.clocks.make_ready(thread, op) && others_ready(parts, thread, op, slots) {
+        return Ok(());
+    }
+    grow(parts, thread, op, slots)
+}
+
+// Makes the room, where some part has none.
+#[inline(never)]
+fn grow(parts: &mut Parts, thread: ThreadId, op: Op, slots: usize) -> Result<(), OutOfMemory>
+    requires clocks { ClocksAreWithin parts.old.clocks thread op }
+    requires width { width_of parts.old.clocks ≡ parts.old.accesses.limits.threads }
+    ensures grown { HasGrown parts.old parts.new }
+    ensures ready { OnOk result (HasRoomFor parts.new thread op slots) }
 {
     parts.memory.prepare(thread, op)?;
     parts.clocks.prepare(thread, op)?;

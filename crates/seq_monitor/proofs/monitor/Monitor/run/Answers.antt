@@ -9,9 +9,8 @@ use Rattle.seq_monitor.proofs.monitor.Monitor.run.Goals as goal
 pub loop-call-preserved : goal.loop-call-preserved
 loop-call-preserved c =
     record {
-      ran = ran_more IsRun IsOutcome log_after run_more _ _ (take c.loop-call.call-index c.args.calls.now) _
-          _ _ _ _ _ _ _ _
-          c.loop-call.invariant.ran c.loop-call.invariant.limits c.in_ok-outcome.ensures.outcome
+      ran = ran_more IsRun IsOutcome log_after run_more c.loop-call.invariant.ran c.loop-call.invariant.limits
+          c.in_ok-outcome.ensures.outcome
           (take_more c.args.calls.now c.loop-call.call-index _ c.loop-call-test.true)
           c.push_reserved.ensures.items c.in_ok-outcome.ensures.log;
       limits = c.take.ensures.limits ∙ c.loop-call.invariant.limits;
@@ -27,18 +26,17 @@ loop-call-preserved c =
 
 pub returns-then-is_err-clause-some : goal.returns-then-is_err-clause-some
 returns-then-is_err-clause-some c =
-    ran_none IsRun MayWantMemory _ _ c.args.calls.now _ _ _ refl
+    ran_none _ _ c.args.calls.now refl
     (no_room c.reserve.result _ _ _ c.args.outcomes.now.ok.1 c.reserve.ensures.full
     (sym c.is_err.ensures.value ∙ c.if-is_err.true)) c.reserve.ensures.items
 
 pub returns-in_err-outcome-clause-some : goal.returns-in_err-outcome-clause-some
 returns-in_err-outcome-clause-some c =
     where_err c.from_residual.result
-    (ran_some IsRun MayWantMemory _ _ c.args.calls.now _ _ _ _ _ c.loop-call.call-index _ _
-    c.loop-call.invariant.ran
+    (ran_some IsRun MayWantMemory _ c.loop-call.call-index c.loop-call.invariant.ran
     c.loop-call.invariant.limits
     (slice_get-get_or c.args.calls.now c.loop-call.call-index _ c.loop-call-test.true)
     c.in_err-outcome.ensures.memory c.in_err-outcome.ensures.same)
 
 pub returns-clause-all : goal.returns-clause-all
-returns-clause-all c = ran_all IsRun _ _ _ _ _ _ _ c.loop-call.invariant.ran c.loop-call-test.false
+returns-clause-all c = ran_all IsRun _ c.loop-call.invariant.ran c.loop-call-test.false

@@ -10,9 +10,8 @@ use Rattle.seq_monitor.proofs.monitor.Monitor.run_acts.Goals as goal
 pub loop-act-preserved : goal.loop-act-preserved
 loop-act-preserved c =
     record {
-      ran = ran_more IsActRun IsDone log_after_act act_run_more _ _
-          (take c.loop-act.act-index c.args.acts.now) _ _ _ _ _ _ _ _ _
-          c.loop-act.invariant.ran c.loop-act.invariant.limits c.in_ok-done.ensures.done
+      ran = ran_more IsActRun IsDone log_after_act act_run_more c.loop-act.invariant.ran
+          c.loop-act.invariant.limits c.in_ok-done.ensures.done
           (take_more c.args.acts.now c.loop-act.act-index _ c.loop-act-test.true)
           c.push_reserved.ensures.items c.in_ok-done.ensures.log;
       limits = c.take_act.ensures.limits ∙ c.loop-act.invariant.limits;
@@ -28,18 +27,17 @@ loop-act-preserved c =
 
 pub returns-then-is_err-clause-some : goal.returns-then-is_err-clause-some
 returns-then-is_err-clause-some c =
-    ran_none IsActRun ActMayWantMemory _ _ c.args.acts.now _ _ _ refl
+    ran_none _ _ c.args.acts.now refl
     (no_room c.reserve.result _ _ _ c.args.answers.now.ok.1 c.reserve.ensures.full
     (sym c.is_err.ensures.value ∙ c.if-is_err.true)) c.reserve.ensures.items
 
 pub returns-in_err-done-clause-some : goal.returns-in_err-done-clause-some
 returns-in_err-done-clause-some c =
     where_err c.from_residual.result
-    (ran_some IsActRun ActMayWantMemory _ _ c.args.acts.now _ _ _ _ _ c.loop-act.act-index _ _
-    c.loop-act.invariant.ran
+    (ran_some IsActRun ActMayWantMemory _ c.loop-act.act-index c.loop-act.invariant.ran
     c.loop-act.invariant.limits
     (slice_get-get_or c.args.acts.now c.loop-act.act-index _ c.loop-act-test.true)
     c.in_err-done.ensures.memory c.in_err-done.ensures.same)
 
 pub returns-clause-all : goal.returns-clause-all
-returns-clause-all c = ran_all IsActRun _ _ _ _ _ _ _ c.loop-act.invariant.ran c.loop-act-test.false
+returns-clause-all c = ran_all IsActRun _ c.loop-act.invariant.ran c.loop-act-test.false
