@@ -208,7 +208,7 @@ latest_in_log limits log v l c u clock q w st is thread release = record {
     same : x.thread ≡ u
     same = same_thread_id (sym x.is.thread ∙ ap (λ (z : Closed). z.thread) p.is ∙ thread)
 
--- the same of what is told of the entry
+-- the same of what is answered of the entry
 pub told_in_log : (limits : Limits) (log : List Event) (v : AllQueues) (l : LockId) (c : ℕ → ℕ) (u : ThreadId)
     (clock : ℕ → ℕ) → WellFormed limits log → Stands log v
     → IsSomeAnd (latest_counted c (closed_of v l.0)) (λ q. (q.thread ≡ u.0) × (q.release ≡ clock))

@@ -27,7 +27,7 @@ pub record IsKept (width : ℕ) (entries : List Entry) (slots : List Slot) (foun
   pub own : AreSlots (length found) slots
   pub spare : length entries + length slots ≤ most
 
--- there may be other room, and all else is as it was
+-- there may be other slots and other memory, and all else is as it was
 pub record SameMeaning (old new : OneQueue) : Type 0 where
   pub width : new.width ≡ old.width
   pub entries : new.entries ≡ old.entries
@@ -48,6 +48,6 @@ AreAlike old new =
     × ((queue_at new l).found ≡ (queue_at old l).found)
     × ((queue_at new l).reserved ≡ (queue_at old l).reserved)
 
--- how many places its lists need for one room more, that of the thread
+-- how many places its lists need for one slot more, that of the thread
 abbrev pub places_for : OneQueue → ℕ → ℕ
 places_for q thread = max (thread + 1) (length q.entries + length q.slots + 1)

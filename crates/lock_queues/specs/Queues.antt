@@ -46,7 +46,7 @@ abbrev pub count_slots : List OneQueue → ℕ
 count_slots queues = sum_by (λ q. length q.slots) queues
 
 -- what the fields keep: later releases of a lock have higher clocks, and there is memory for the numbers of
--- the releases of all sections for which room was made
+-- the releases of all sections that have a slot
 pub record AreKept (threads : ℕ) (queues : List OneQueue) (numbers : List ℕ) (made most : ℕ) : Type 0 where
   pub wide : AreWide threads queues
   pub readable : (l : ℕ) → AreReadable numbers (queue_at queues l).entries
@@ -54,14 +54,14 @@ pub record AreKept (threads : ℕ) (queues : List OneQueue) (numbers : List ℕ)
   pub slots : made ≡ count_slots queues
   pub spare : length numbers + made * threads ≤ most
 
--- there may be other room, and all else is as it was
+-- there may be other slots and other memory, and all else is as it was
 pub record SameMeaning (old new : AllQueues) : Type 0 where
   pub closed : closed_of new ≡ closed_of old
   pub opened : opened_of new ≡ opened_of old
   pub found : found_of new ≡ found_of old
   pub limits : new.limits ≡ old.limits
 
--- how many numbers the releases have of all sections for which there is room, and of one more
+-- how many numbers the releases have of all sections, of those that have a slot, and of one more
 abbrev pub numbers_for : AllQueues → ℕ
 numbers_for v = length v.numbers + (count_slots v.queues + 1) * v.limits.threads
 

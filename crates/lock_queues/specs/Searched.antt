@@ -17,7 +17,8 @@ CountsEarlier c qs =
 abbrev pub IsAboveAll : (ℕ → ℕ) → List Closed → Type 0
 IsAboveAll c qs = (q : Closed) (u : ℕ) → Has q qs → q.release u ≤ c u
 
--- what is told of a closed section: the clock of its release, with numbers of no more threads than there are
+-- what is answered of a closed section: the clock of its release, with numbers of no more threads than there
+-- are
 pub record IsSection (r : ReleaseClock) (width : ℕ) (q : Closed) : Type 0 where
   pub thread : (thread_of r).0 ≡ q.thread
   pub release : clock_of r ≡ q.release

@@ -9,7 +9,7 @@ use Rattle.lock_queues.proofs.queues.grow.Goals as goal
 abbrev blank : ℕ → OneQueue
 blank width = record no_queue { width = width }
 
--- past the end a blank says what no queue says, but for its width
+-- past the end a blank says what no queue says, except for its width
 blank_at : {A : Type 0} (f : OneQueue → A) (w : ℕ) → f (blank w) ≡ f no_queue → (qs : List OneQueue) (l : ℕ)
     → f (get_or qs l (blank w)) ≡ f (queue_at qs l)
 blank_at f w same [] l = same

@@ -32,7 +32,8 @@ search_from-more-requires-clause-within c =
 
 pub search_from-more-requires-clause-before : goal.search_from-more-requires-clause-before
 search_from-more-requires-clause-before c k small =
-    let known = found_read c.args.thread.0 _ c.self.view_is c.self.invariant c.requires.slot c.index.ensures in
+    let known = found_read c.args.thread.0 _ c.self.view_is c.self.invariant c.requires.slot
+    c.index.ensures in
     let are = c.acquires-acquires.ensures ∙ ap (λ (q : OneQueue). acquires_of q.entries) c.self.view_is in
     subst (Counts c.args.clock.now) (sym (mark_seen _ are k)) (c.requires.before k (omega arith))
 
@@ -61,13 +62,15 @@ returns-clause-found c =
 
 pub returns-clause-most : goal.returns-clause-most
 returns-clause-most c =
-    let known = found_read c.args.thread.0 _ c.self.view_is c.self.invariant c.requires.slot c.index.ensures in
+    let known = found_read c.args.thread.0 _ c.self.view_is c.self.invariant c.requires.slot
+    c.index.ensures in
     let work = c.search_from-more.ensures.most in
     omega arith
 
 pub returns-clause-least : goal.returns-clause-least
 returns-clause-least c =
-    let known = found_read c.args.thread.0 _ c.self.view_is c.self.invariant c.requires.slot c.index.ensures in
+    let known = found_read c.args.thread.0 _ c.self.view_is c.self.invariant c.requires.slot
+    c.index.ensures in
     let work = c.search_from-more.ensures.least in
     omega arith
 

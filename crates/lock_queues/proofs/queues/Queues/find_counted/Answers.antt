@@ -15,7 +15,8 @@ use Rattle.lock_queues.proofs.queues.Queues.find_counted.Goals as goal
 pub find_counted-requires-clause-slot : goal.find_counted-requires-clause-slot
 find_counted-requires-clause-slot c =
     let t = c.args.thread.0 in
-    let read = entered_read t c.args.lock.0 c.self.view_is c.requires.entered c.index_mut-queue.ensures.value in
+    let read = entered_read t c.args.lock.0 c.self.view_is c.requires.entered
+    c.index_mut-queue.ensures.value in
     ap (λ (q : OneQueue). has_slot q.slots t) read.is ∙ read.has
 
 pub find_counted-requires-clause-width : goal.find_counted-requires-clause-width
