@@ -21,11 +21,8 @@ of_name names number name note at made some =
 pub right_noted : (names : List (List ℕ)) (old new : List Note) (number : ℕ) (name : List ℕ)
     → slice_get names number ≡ Some name → AreRight names old
     → ((note : Note) → IsOneOf new note → IsOneOf old note ⊎ IsNoteOf number name note) → AreRight names new
-right_noted names old new number name at right made note one = go (made note one)
-  where
-    go : IsOneOf old note ⊎ IsNoteOf number name note → IsRight names note
-    go (inl was) = right note was
-    go (inr now) = of_name names number name note at now
+right_noted names old new number name at right made note one =
+    elim (made note one) [ inl was ↦ right note was | inr now ↦ of_name names number name note at now ]
 
 -- a note in place of another
 pub put_note : (notes : List Note) (at number : ℕ) (name : List ℕ) (put : Note) → IsNoteOf number name put

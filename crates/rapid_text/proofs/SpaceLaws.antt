@@ -30,9 +30,7 @@ absent_name names name new =
 pub added : (names new : List (List ℕ)) (stored name : List ℕ) → stored ≡ name
     → position (bytes_eq name) names ≡ None
     → new ≡ cond (list_any (bytes_eq stored) names) names (names ++ stored ∷ []) → new ≡ names ++ name ∷ []
-added names new stored name same none is =
-    let absent : list_any (bytes_eq stored) names ≡ false = rw same (absent_name names name none) in
-    is ∙ (rw absent (ap (λ (n : List ℕ). names ++ n ∷ []) same))
+added names new stored name same none is = grind (arith, nat_tests, absent_name names name none)
 
 pub numbered_new : (limit : ℕ) (names new : List (List ℕ)) (name : List ℕ)
     → position (bytes_eq name) names ≡ None → length names < limit → new ≡ names ++ name ∷ []

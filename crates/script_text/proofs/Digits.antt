@@ -52,6 +52,3 @@ no_length ds h = rw h refl
 pub too_many : (ds : List ℕ) → 20 < length ds → number_of ds ≡ None
 unfolding number_of
 too_many ds h = grind (arith, nat_tests)
-
-pub not_below : (a b : ℕ) → (a < b → ⊥) → b ≤ a
-not_below a b h = omega arith

@@ -8,7 +8,6 @@ use Rattle.std.proofs.lemmas.List.Folds.{list_all_more}
 use Rattle.rapid_line.proofs.Steps.{positive}
 use Rattle.script_text.specs.Numbers.{decimal_value}
 use Rattle.script_text.proofs.Digits.{too_large, one_more, no_digit, all_digits, no_length, too_many}
-use Rattle.script_text.proofs.Digits.{not_below}
 use Rattle.script_text.proofs.numbers.number.Goals as goal
 
 pub returns-then-is_empty : goal.returns-then-is_empty
@@ -25,17 +24,15 @@ returns-then-not-is_ascii_digit c = sym (no_digit c.args.digits.now c.digits.dig
 pub returns-in_err-tens : goal.returns-in_err-tens
 returns-in_err-tens c =
     let more = one_more c.args.digits.now c.digits.digit-index c.digits-test.true in
-    let far = not_below (c.digits.value * 10) (2 ^ 64) c.in_err-tens.ensures in
     let big : 2 ^ 64 ≤ decimal_value (take (c.digits.digit-index + 1) c.args.digits.now) =
-    omega (arith, more, far, c.digits.invariant.value) in
+    omega (arith, more, c.in_err-tens.ensures, c.digits.invariant.value) in
     c.from_residual.ensures ∙ sym (too_large c.args.digits.now (c.digits.digit-index + 1) big)
 
 pub returns-in_err-value : goal.returns-in_err-value
 returns-in_err-value c =
     let more = one_more c.args.digits.now c.digits.digit-index c.digits-test.true in
-    let far = not_below (c.in_ok-tens.tens + c.from.result) (2 ^ 64) c.in_err-value.ensures in
     let big : 2 ^ 64 ≤ decimal_value (take (c.digits.digit-index + 1) c.args.digits.now) =
-    grind (arith, more, far, c.digits.invariant.value) in
+    grind (arith, more, c.in_err-value.ensures, c.digits.invariant.value) in
     c.from_residual-in_err-value.ensures ∙ sym (too_large c.args.digits.now (c.digits.digit-index + 1) big)
 
 pub returns : goal.returns
