@@ -173,6 +173,15 @@ pub numbered_ok : (kind : Kind) (o : Option (ℕ × Tables)) (p : ℕ × Tables)
 numbered_ok kind None p e = absurd cc
 numbered_ok kind (Some q) p e = ap Some (ok_inj q p e)
 
+event_is : (t : Tables) (d : Named) (p q r : ℕ × Tables) (x : Event × Tables)
+    → number_in t kinds.Thread d.thread ≡ Some p → number_in p.1 (kind_of d.word) d.argument ≡ Some q
+    → number_in q.1 kinds.Site d.location ≡ Some r → (event_of d.word p.0 q.0 r.0 ≡ x.0) × (r.1 ≡ x.1)
+    → Named_event t d x.0 x.1
+event_is t d p q r x one two three is =
+    subst (λ (e : Event). Named_event t d e x.1) is.0 (subst (λ (u : Tables).
+    Named_event t d (event_of d.word p.0 q.0 r.0) u) is.1
+    (made t r.1 d p.0 q.0 r.0 (in_order p q r one two three)))
+
 pub named_event_is : (t : Tables) (d : Named) (e : Event) (u : Tables) → named_event t d ≡ Ok (e, u)
     → Named_event t d e u
 unfolding named_event
@@ -183,10 +192,10 @@ named_event_is t d e u eq =
     let q = and_then_ok (number_or_fault (kind_of d.word) b) _ (e, u) p.2 in
     let c = number_in q.0.1 kinds.Site d.location in
     let r = and_then_ok (number_or_fault kinds.Site c) _ (e, u) q.2 in
-    let n = in_order p.0 q.0 r.0 (numbered_ok kinds.Thread a p.0 p.1) (numbered_ok (kind_of d.word) b q.0 q.1)
-    (numbered_ok kinds.Site c r.0 r.1) in
-    let same : (event_of d.word p.0.0 q.0.0 r.0.0, r.0.1) ≡ (e, u) = ok_inj _ _ r.2 in
-    subst (λ (x : Event × Tables). Named_event t d x.0 x.1) same (made t r.0.1 d p.0.0 q.0.0 r.0.0 n)
+    let same = ok_inj _ _ r.2 in
+    event_is t d p.0 q.0 r.0 (e, u) (numbered_ok kinds.Thread a p.0 p.1)
+    (numbered_ok (kind_of d.word) b q.0 q.1) (numbered_ok kinds.Site c r.0 r.1)
+    (ap (λ (x : Event × Tables). x.0) same, ap (λ (x : Event × Tables). x.1) same)
 
 -- ---- what the code answers
 
