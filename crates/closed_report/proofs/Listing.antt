@@ -7,7 +7,7 @@ use Rattle.std.proofs.lemmas.Option.{same_Some, slice_get_within, slice_get-get_
 use Rattle.event_core.proofs.Places.{get_before}
 use Rattle.rapid_text.specs.declared.causes.Kind.{Kind}
 use Rattle.rapid_text.specs.declared.causes.Kind.TheVariants as kinds
-use Rattle.rapid_text.specs.Numbers.{Numbered, with_name, found_or, place_of, number_of}
+use Rattle.rapid_text.specs.Numbers.{Numbered, with_name, found_or, found_number, number_of}
 use Rattle.rapid_text.specs.Tables.{Tables, space, with_space, put_back, number_in, TablesGrow}
 use Rattle.rapid_text.proofs.NameLaws.{numbers}
 use Rattle.rapid_text.proofs.NameGrowth.{kept_name}
@@ -75,7 +75,7 @@ found_full None s name e = new_full (nat_lt (length s.names) s.limit) s name e
 
 number_full : (s : Numbered) (name : List ℕ) → number_of s name ≡ None → s.limit ≤ length s.names
 unfolding number_of
-number_full s name e = ltb-false (length s.names) s.limit (found_full (place_of s name) s name e)
+number_full s name e = ltb-false (length s.names) s.limit (found_full (found_number s name) s name e)
 
 back_full : (t : Tables) (kind : Kind) (o : Option (ℕ × Numbered)) → put_back t kind o ≡ None → o ≡ None
 back_full t kind None e = refl
@@ -106,7 +106,7 @@ found_kept None s name q e below = new_kept (nat_lt (length s.names) s.limit) s 
 number_kept : (s : Numbered) (name : List ℕ) (q : ℕ × Numbered) → number_of s name ≡ Some q
     → q.0 < length s.names → q.1 ≡ s
 unfolding number_of
-number_kept s name q e below = found_kept (place_of s name) s name q e below
+number_kept s name q e below = found_kept (found_number s name) s name q e below
 
 same_space : (t : Tables) (kind : Kind) → with_space t kind (space t kind) ≡ t
 same_space t kinds.Thread = refl
