@@ -162,7 +162,8 @@ module _ (log : List Event) (e : Event) (ord : Orderly (log ++ e ∷ [])) where
       → Section log u l a r → Hb log i r → Hb (log ++ e ∷ []) i (length log)
   before_end l is i u a r x b =
       let lt = section_within x in
-      let mine = section_of (log ++ e ∷ []) e.thread l (length log) ord (last_closes log e l is.op is.outer) in
+      let closes = last_closes log e l is.op is.outer in
+      let mine = section_of (log ++ e ∷ []) e.thread l (length log) ord closes in
       hb_trans (hb_too (longer log (e ∷ [])) lt b)
       (hb_trans (sections_ordered ord (section_too (longer log (e ∷ [])) lt x) mine.1 lt)
       (hb_thread e.thread (of_does mine.1.inside.opened.does) (of_does mine.1.closed.does)
