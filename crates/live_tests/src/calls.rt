@@ -11,6 +11,13 @@ use traced_thread::{NotJoined, TracedThread};
 /// Where the calls stand that have no site of their own.
 pub const SITE: SiteId = SiteId(7);
 
+/// Which of two threads asks.
+#[derive(Clone, Copy)]
+pub enum By {
+    Main,
+    Child,
+}
+
 /// What a thread asks for, except swaps, forks and joins.
 #[derive(Clone, Copy, Debug)]
 pub enum Ask {

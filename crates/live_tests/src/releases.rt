@@ -1,5 +1,5 @@
 //! Calls of two threads after memory was refused.
-use crate::calls::{Answer, Ask, SITE, make};
+use crate::calls::{Answer, Ask, By, SITE, make};
 use crate::expected::expect;
 use crate::plays::{Play, closed_after};
 use Ask::{Acquire, Load, Release, Store};
@@ -10,13 +10,6 @@ use log_pass::Name;
 use std::process::Abort;
 use std::sync::Wait;
 use traced_thread::TracedThread;
-
-/// Who asks.
-#[derive(Clone, Copy)]
-enum By {
-    Main,
-    Child,
-}
 
 /// Nested sections, after the fork of the child.
 const LINES: &[(By, Ask)] = &[

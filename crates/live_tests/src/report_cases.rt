@@ -1,4 +1,5 @@
 //! Worked reports of closed logs, by events and by places.
+use crate::calls::By;
 use Act::{Load, Store, Swap};
 use By::{Child, Main};
 use Form::{ByEvent, ByPlace};
@@ -6,13 +7,6 @@ use closed_report::{NameLists, Place, PlaceRaces, ReportFault};
 use event_core::{SiteId, VarId};
 use live_monitor::Race;
 use rapid_text::Kind;
-
-/// Who makes a line.
-#[derive(Clone, Copy)]
-pub enum By {
-    Main,
-    Child,
-}
 
 #[derive(Clone, Copy)]
 pub enum Act {

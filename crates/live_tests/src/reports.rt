@@ -1,7 +1,8 @@
 //! Reports of closed logs.
+use crate::calls::By;
 use crate::expected::expect;
 use crate::plays::{Play, closed_after};
-use crate::report_cases::{A, Act, By, CASES, Case, Form, Line, Logged};
+use crate::report_cases::{A, Act, CASES, Case, Form, Line, Logged};
 use closed_report::{
     Names, PlaceRaces, ReportFault, Summary, names_of, races_by_place, report_closed, report_places,
 };

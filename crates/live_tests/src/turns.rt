@@ -225,19 +225,16 @@ impl<R: Wait + Abort> Play<R> for Turns {
     }
 }
 
-/// The verdict on the event, if there is one.
-fn verdict_at(closed: &Closed, event: u64) -> Option<Verdict> {
-    (event < closed.len()).then(|| closed.verdict_at(event))
-}
-
 /// The log has the events and the races of the case.
 fn expect_closed<R: Abort>(rt: &R, closed: &Closed, case: &Case) {
     let lengths = (closed.len(), closed.log().len());
     expect(rt, case.name, lengths, (case.events, case.events));
     expect(rt, case.name, closed.verdicts().races(), case.races);
     for race in case.races {
-        let came = verdict_at(closed, race.event);
-        expect(rt, case.name, came, Some(Verdict::Racy(race.with)));
+        if race.event < closed.len() {
+            let verdict = closed.verdict_at(race.event);
+            expect(rt, case.name, verdict, Verdict::Racy(race.with));
+        }
     }
 }
 
