@@ -3,7 +3,7 @@
 //! On each lock at most one section is closed, and at most one release asks for it.
 ghost use Rattle.std.specs.Prelude.{◌≡◌, ℕ, ◌<◌, ◌≤◌, length};
 ghost use Rattle.hb_clocks.specs.Counts.{counts_of};
-ghost use Rattle.lock_queues.specs.Queues.{closed_of, found_of, has_room, SameMeaning};
+ghost use Rattle.lock_queues.specs.Queues.{closed_of, found_of, SameMeaning};
 
 mod cases;
 
@@ -92,14 +92,12 @@ impl Sections {
         }
     }
 
-    fn make_room(&mut self, rt: &impl Abort, thread: ThreadId, lock: LockId) {
-        assert!(rt; thread.0 < 3);
-        assert!(rt; lock.0 < 2);
-        assert!(rt; self.queues.make_room(thread, lock).is_ok(), "memory");
+    fn prepare(&mut self, rt: &impl Abort, thread: ThreadId, lock: LockId) {
+        assert!(rt; self.queues.prepare(thread, lock).is_ok(), "memory");
     }
 
     fn close(&mut self, rt: &impl Abort, thread: ThreadId, lock: LockId) {
-        self.make_room(rt, thread, lock);
+        self.prepare(rt, thread, lock);
         let mark = self.run.latest(rt, thread);
         let clock = self.run.happened(rt, thread);
         close_first(rt, &mut self.queues, thread, lock, mark, clock);
@@ -135,7 +133,7 @@ impl Sections {
         lock: LockId,
         other: ThreadId,
     ) -> Option<(ThreadId, u32)> {
-        self.make_room(rt, thread, lock);
+        self.prepare(rt, thread, lock);
         let Sections { mut queues, run } = self;
         let mark = run.latest(rt, thread);
         let clock = run.clocks.hb(other);

@@ -85,7 +85,7 @@ fn section(
     kind: AccessKind,
     number: u32,
 ) {
-    assert!(rt; sections.summaries.make_room(&locks, var).is_ok(), "memory");
+    assert!(rt; sections.summaries.prepare(&locks, var).is_ok(), "memory");
     sections.summaries.note(thread, &locks, var, kind);
     sections.summaries.close(thread, locks[0], number);
     sections.summaries.close(thread, locks[1], number);

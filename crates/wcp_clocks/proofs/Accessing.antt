@@ -16,7 +16,7 @@ use Rattle.hb_clocks.specs.Tables as hb_tables
 use Rattle.hb_clocks.specs.Work.{Done, more_joins}
 use Rattle.lock_queues.specs.Queues.{closed_of}
 use Rattle.section_sum.specs.Sums.{Sums, noted_of, is_access, SameOthers}
-use Rattle.section_sum.specs.Sums.{KeepsRoom as sum_rooms}
+use Rattle.section_sum.specs.Sums.{KeepsReady as sum_rooms}
 use Rattle.wcp_laws.specs.Step.{effect, join_all}
 use Rattle.wcp_clocks.specs.Parts.{Parts}
 use Rattle.wcp_clocks.specs.HeldLists.{list_at, numbers_of, held_of}

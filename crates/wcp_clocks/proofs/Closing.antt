@@ -15,7 +15,7 @@ use Rattle.event_core.specs.declared.ids.LockId.{LockId}
 use Rattle.hb_clocks.specs.State.{HbState, effect, hb_row}
 use Rattle.hb_clocks.proofs.Releases.{bump_same}
 use Rattle.event_core.proofs.Growing.{row_same, row_other}
-use Rattle.lock_queues.specs.Sections.{closed_as, no_section}
+use Rattle.lock_queues.specs.Sections.{no_closed}
 use Rattle.hb_clocks.specs.Releases.{before}
 use Rattle.hb_clocks.proofs.Lowering.{before_bumped}
 use Rattle.section_sum.specs.Sums.{Sums, noted_of, others_of}
@@ -43,10 +43,10 @@ earlier_release : (qs : List Closed) (q : Closed) (n : ℕ) → n ≤ length qs
     → release_at (qs ++ q ∷ []) n ≡ release_at qs n
 earlier_release qs q zero le = refl
 earlier_release qs q (suc n) le =
-    ap (λ (c : Closed). c.release) (get_or-append qs (q ∷ []) (closed_as no_section) n (omega arith))
+    ap (λ (c : Closed). c.release) (get_or-append qs (q ∷ []) no_closed n (omega arith))
 
 last_release : (qs : List Closed) (q : Closed) → release_at (qs ++ q ∷ []) (suc (length qs)) ≡ q.release
-last_release qs q = ap (λ (c : Closed). c.release) (get_or-append_seam qs q [] (closed_as no_section))
+last_release qs q = ap (λ (c : Closed). c.release) (get_or-append_seam qs q [] no_closed)
 
 -- the thread's section on the lock m is closed as q, and has the number after those before it
 module _ (old new : Sums) (t m number : ℕ) (q : Closed) (closed after : ℕ → List Closed)

@@ -3,7 +3,8 @@ use Rattle.std.proofs.Common.{◌≡◌, ℕ, ◌<◌, List, [], ◌∷◌, leng
 use Rattle.std.proofs.Common.{ap, ap₂, subst, ◌∙◌}
 use Rattle.std.proofs.Common.{IsTrue, arith}
 use Rattle.std.proofs.Common.{inl, inr, ◌⊎◌, Result, Ok, Err, OnOk, OnErr}
-use Rattle.std.proofs.lemmas.Bool.{cases_eq}
+use Rattle.std.specs.Prelude.{is_ok, IsOk}
+use Rattle.std.proofs.lemmas.Bool.{cases_eq, cases_Bool}
 use Rattle.event_core.specs.declared.replies.OutOfMemory.{OutOfMemory}
 use Rattle.event_core.proofs.Growing.{cell_same, cell_other}
 use Rattle.std.specs.List.{list_any}
@@ -16,8 +17,8 @@ use Rattle.event_core.specs.Bounds.{Bounds}
 use Rattle.event_core.specs.Rows.{Rows, with_row, no_rows}
 use Rattle.hb_clocks.specs.State.{HbState, empty as hb_empty}
 use Rattle.hb_clocks.specs.Tables as hb
-use Rattle.section_sum.specs.Sums.{Sums, HasRoom, is_held, noted_of, others_of}
-use Rattle.lock_queues.specs.Queues.{Tables as Queues, SameMeaning, closed_of, opened_of, has_room}
+use Rattle.section_sum.specs.Sums.{Sums, IsReady as SumsAreReady, is_held, noted_of, others_of}
+use Rattle.lock_queues.specs.Queues.{AllQueues as Queues, SameMeaning, closed_of, opened_of, is_ready}
 use Rattle.wcp_laws.specs.State.{empty}
 use Rattle.wcp_clocks.specs.Parts.{Parts}
 use Rattle.wcp_clocks.specs.HeldLists.{HeldList, list_at, numbers_of, held_of}
@@ -109,8 +110,8 @@ places_kept : (old new : Parts) (t : ThreadId) (op : Op) → HasGrown old new
     → HasPlaces old.sums old.queues old.held t op → HasPlaces new.sums new.queues new.held t op
 places_kept old new t op g = go op
   where
-    access : (v : ℕ) → HasRoom old.sums (list_at old.held t.0).locks v
-        → HasRoom new.sums (list_at new.held t.0).locks v
+    access : (v : ℕ) → SumsAreReady old.sums (list_at old.held t.0).locks v
+        → SumsAreReady new.sums (list_at new.held t.0).locks v
     access v room l is =
         g.sums.room l v (room l (held_numbers (list_at old.held t.0).locks l
         ∙ ap (λ (f : ℕ → List ℕ). list_any (nat_eq l) (f t.0)) (sym g.held.same)
@@ -179,20 +180,31 @@ row_true t l f u m is = go (cases_eq u t) (cases_eq m l)
 
 -- room is made in the queues of a lock, or none is
 pub queues_grown : (r : Result (Unit {0}) OutOfMemory) (t l : ℕ) (old new : Queues) → SameMeaning old new
-    → OnOk r (has_room new ≡ with_row t (with_row l true (has_room old t)) (has_room old))
-    → OnErr r (has_room new ≡ has_room old) → QueuesHaveGrown old new
+    → OnOk r (is_ready new ≡ with_row t (with_row l true (is_ready old t)) (is_ready old))
+    → OnErr r (is_ready new ≡ is_ready old) → QueuesHaveGrown old new
 queues_grown r t l old new same ok err = record { same = same; room = λ u m is. kept r ok err u m is }
   where
     kept : (r : Result (Unit {0}) OutOfMemory)
-        → OnOk r (has_room new ≡ with_row t (with_row l true (has_room old t)) (has_room old))
-        → OnErr r (has_room new ≡ has_room old)
-        → (u m : ℕ) → IsTrue (has_room old u m) → IsTrue (has_room new u m)
-    kept (Ok x) ok err u m is = ap (λ (f : ℕ → ℕ → Bool). f u m) ok ∙ row_true t l (has_room old) u m is
+        → OnOk r (is_ready new ≡ with_row t (with_row l true (is_ready old t)) (is_ready old))
+        → OnErr r (is_ready new ≡ is_ready old)
+        → (u m : ℕ) → IsTrue (is_ready old u m) → IsTrue (is_ready new u m)
+    kept (Ok x) ok err u m is = ap (λ (f : ℕ → ℕ → Bool). f u m) ok ∙ row_true t l (is_ready old) u m is
     kept (Err x) ok err u m is = ap (λ (f : ℕ → ℕ → Bool). f u m) err ∙ is
 
 pub queue_made : (old new : ℕ → ℕ → Bool) (t l : ℕ) → new ≡ with_row t (with_row l true (old t)) old
     → IsTrue (new t l)
 queue_made old new t l is = ap (λ (f : ℕ → ℕ → Bool). f t l) is ∙ cell_same t l true old
+
+-- so it tells whether there is room after it
+pub queue_told : (r : Result (Unit {0}) OutOfMemory) (t l : ℕ) (old new : ℕ → ℕ → Bool)
+    → OnOk r (new ≡ with_row t (with_row l true (old t)) old) → OnErr r (new ≡ old)
+    → (IsTrue (old t l) → IsOk r) → is_ok r ≡ new t l
+queue_told (Ok x) t l old new ok err again = sym (queue_made old new t l ok)
+queue_told (Err x) t l old new ok err again = go (cases_Bool (old t l))
+  where
+    go : (old t l ≡ true) ⊎ (old t l ≡ false) → false ≡ new t l
+    go (inl some) = absurd (let q : false ≡ true = again some in cc)
+    go (inr none) = sym (ap (λ (f : ℕ → ℕ → Bool). f t l) err ∙ none)
 
 -- parts of one width, without numbers
 pub are_parts : (p : Parts) (width : ℕ) → p.hb.width ≡ width → hb_of p ≡ hb_empty

@@ -11,7 +11,7 @@ use Rattle.hb_clocks.proofs.Room.{thread_stays}
 use Rattle.wcp_clocks.specs.Parts.{Parts}
 use Rattle.wcp_clocks.specs.StrictRows.{StrictTables, HasThread, HasLock, HasNamed, GrownFor}
 use Rattle.wcp_clocks.specs.StrictRows.{IsReady as RowsAreReady}
-use Rattle.wcp_clocks.specs.Parts.{AreOrdered, HasPlaces, IsReady, IsWithin, NamesWithin, limits_of}
+use Rattle.wcp_clocks.specs.Parts.{AreOrdered, HasPlaces, IsReady, IsWithin, NamesWithin}
 
 -- more room in the clocks of happens-before
 pub ordered_more : (rows : StrictTables) (old new : hb.Tables) → hb.KeepsRoom old new → AreOrdered rows old
@@ -126,7 +126,7 @@ ready_of p t op o rows places = record {
   places = places;
 }
 
--- what the operation names is within the width, and within the limit of locks
+-- what the operation names is within the width
 pub order_within : (p : Parts) (t : ThreadId) (op : Op) → IsWithin p t op → hb.IsWithin p.hb.width t op
 order_within p t op w = (w.0, go op w.1)
   where
@@ -134,7 +134,3 @@ order_within p t op w = (w.0, go op w.1)
     go (Fork u) n = n
     go (Join u) n = n
     go _ n = tt
-
-pub lock_within : (p : Parts) (op : Op) (l : LockId) → NamesWithin p op → op ≡ Acquire l
-    → l.0 < (limits_of p).locks
-lock_within p op l n is = subst (NamesWithin p) is n

@@ -6,8 +6,9 @@ use Rattle.event_core.specs.declared.events.Op.{Op}
 use Rattle.event_core.specs.declared.events.Op.TheVariants.{Load, Store, Acquire}
 use Rattle.hb_clocks.specs.Tables.{Tables as Order, state_of as order_of, KeepsRoom as KeepsOrder}
 use Rattle.hb_clocks.specs.Tables.{GrownFor as OrderGrownFor}
-use Rattle.section_sum.specs.Sums.{Sums, SameNoted, SameOthers, KeepsRoom as KeepsSums, is_held, room_of}
-use Rattle.lock_queues.specs.Queues.{Tables as Queues, GrownFor as QueuesGrownFor, SameMeaning, has_room}
+use Rattle.section_sum.specs.Sums.{Sums, SameNoted, SameOthers, KeepsReady as KeepsSums, is_held}
+use Rattle.section_sum.specs.Sums.{is_ready as has_cell}
+use Rattle.lock_queues.specs.Queues.{AllQueues as Queues, GrownFor as QueuesGrownFor, SameMeaning, is_ready}
 use Rattle.wcp_clocks.specs.Parts.{Parts}
 use Rattle.wcp_clocks.specs.HeldLists.{HeldList, HaveGrownFor, list_at, held_of, KeepsPlaces}
 use Rattle.wcp_clocks.specs.StrictRows.{StrictTables, SameClocks, KeepsRoom, GrownFor as RowsGrownFor}
@@ -30,7 +31,7 @@ pub record SumsHaveGrown (old new : Sums) : Type 0 where
 
 pub record QueuesHaveGrown (old new : Queues) : Type 0 where
   pub same : SameMeaning old new
-  pub room : (t l : ℕ) → IsTrue (has_room old t l) → IsTrue (has_room new t l)
+  pub room : (t l : ℕ) → IsTrue (is_ready old t l) → IsTrue (is_ready new t l)
 
 pub record HoldsHaveGrown (old new : List HeldList) : Type 0 where
   pub same : held_of new ≡ held_of old
@@ -53,7 +54,7 @@ is_access_to _ x = false
 -- room was made for the operation's access alone, under the locks
 abbrev pub AccessesGrownFor : Sums → Sums → List LockId → Op → Type 0
 AccessesGrownFor old new locks op = (l x : ℕ) → (is_held locks l && is_access_to op x) ≡ false
-    → room_of new l x ≡ room_of old l x
+    → has_cell new l x ≡ has_cell old l x
 
 -- the queues of sections have grown for the acquire alone
 abbrev pub SectionsGrownFor : Queues → Queues → ThreadId → Op → Type 0

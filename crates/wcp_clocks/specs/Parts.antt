@@ -13,9 +13,9 @@ use Rattle.hb_clocks.specs.Stands.{Admits, IsFew}
 use Rattle.hb_clocks.specs.Tables as hb
 use Rattle.hb_clocks.specs.Tables.{Tables as Order}
 use Rattle.hb_clocks.specs.Work.{Done}
-use Rattle.section_sum.specs.Sums.{Sums, noted_of, HasRoom, IsAlone}
+use Rattle.section_sum.specs.Sums.{Sums, noted_of, IsReady as SumsAreReady, IsAlone}
 use Rattle.lock_queues.specs.Sections.{latest_counted}
-use Rattle.lock_queues.specs.Queues.{Tables as Queues, closed_of, opened_of, found_of, has_room}
+use Rattle.lock_queues.specs.Queues.{AllQueues as Queues, closed_of, opened_of, found_of, is_ready}
 use Rattle.wcp_laws.specs.State.{State}
 use Rattle.wcp_laws.specs.Step.{effect, after}
 use Rattle.wcp_laws.specs.Conditions.{IsSound, CursorsStand}
@@ -86,9 +86,9 @@ pub record AreOrdered (rows : StrictTables) (order : hb.Tables) : Type 0 where
 
 -- what the operation needs beside clocks
 abbrev pub HasPlaces : Sums → Queues → List HeldList → ThreadId → Op → Type 0
-HasPlaces sums queues held t (Load x) = HasRoom sums (list_at held t.0).locks x.0
-HasPlaces sums queues held t (Store x) = HasRoom sums (list_at held t.0).locks x.0
-HasPlaces sums queues held t (Acquire l) = IsTrue (has_room queues t.0 l.0) × (0 < room_at held t.0)
+HasPlaces sums queues held t (Load x) = SumsAreReady sums (list_at held t.0).locks x.0
+HasPlaces sums queues held t (Store x) = SumsAreReady sums (list_at held t.0).locks x.0
+HasPlaces sums queues held t (Acquire l) = IsTrue (is_ready queues t.0 l.0) × (0 < room_at held t.0)
 HasPlaces sums queues held t _ = Unit {0}
 
 -- there is room for the thread's operation

@@ -117,10 +117,9 @@ impl WcpClocks {
         self.rows.ready(thread, op) && has_places(&self.sums, &self.queues, &self.held, thread, op)
     }
 
-    /// Whether there is room for the operation, as `ready` tells, once room for an access is made, and room
-    /// for a section where that takes no memory; no clause tells which is made. A growth that is refused is
-    /// answered `false`. Where there is room, an `advance` that comes next does not search again for the
-    /// places of an access.
+    /// Whether there is room for the operation, as `ready` tells, once room is made for an access, or for a
+    /// section in its lock's queue. A growth that is refused is answered `false`. Where there is room, an
+    /// `advance` that comes next does not search again for the places of an access.
     #[inline(always)]
     pub fn make_ready(&mut self, thread: ThreadId, op: Op) -> bool
         ensures ready { IsTrue result ↔ IsReady self.new thread op }

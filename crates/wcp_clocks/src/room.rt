@@ -1,7 +1,6 @@
 //! Room for an operation, part by part.
-ghost use Rattle.std.specs.Prelude.{◌≡◌, ◌<◌, ◌↔◌, OnOk, IsTrue};
-ghost use Rattle.event_core.specs.declared.events.Op.TheVariants.{Acquire};
-ghost use Rattle.event_core.specs.declared.ids.LockId.{LockId as Lock};
+ghost use Rattle.std.specs.Prelude.{◌≡◌, ◌↔◌, OnOk, IsTrue};
+ghost use Rattle.lock_queues.specs.Queues.{is_ready, GrownFor as QueuesGrownFor};
 ghost use Rattle.hb_clocks.specs.Tables as hb;
 ghost use Rattle.wcp_clocks.specs.HeldLists.{list_at};
 ghost use Rattle.wcp_clocks.specs.StrictRows.{IsReady, GrownFor as RowsGrownFor};
@@ -11,7 +10,7 @@ ghost use Rattle.wcp_clocks.specs.Growth.{AccessesGrownFor, SectionsGrownFor, Ho
 
 use crate::holdings::Holdings;
 use crate::strict::StrictRows;
-use event_core::{Op, OutOfMemory, ThreadId};
+use event_core::{LockId, Op, OutOfMemory, ThreadId};
 use hb_clocks::HbClocks;
 use lock_queues::Queues;
 use section_sum::Summaries;
@@ -41,8 +40,6 @@ pub(crate) fn make_places(
     thread: ThreadId,
     op: Op,
 ) -> Result<(), OutOfMemory>
-    requires thread { thread.0 < queues.old.limits.threads }
-    requires lock { (l : Lock) → op ≡ Acquire l → l.0 < queues.old.limits.locks }
     ensures sums { SumsHaveGrown sums.old sums.new }
     ensures queues { QueuesHaveGrown queues.old queues.new }
     ensures held { HoldsHaveGrown held.old held.new }
@@ -52,9 +49,9 @@ pub(crate) fn make_places(
     ensures ready { OnOk result (HasPlaces sums.new queues.new held.new thread op) }
 {
     match op {
-        Op::Load(var) | Op::Store(var) => sums.make_room(held.of(thread), var),
+        Op::Load(var) | Op::Store(var) => sums.prepare(held.of(thread), var),
         Op::Acquire(lock) => {
-            queues.make_room(thread, lock)?;
+            queues.prepare(thread, lock)?;
             held.prepare(thread)
         }
         Op::Release(_) | Op::Fork(_) | Op::Join(_) => Ok(()),
@@ -79,8 +76,8 @@ pub(crate) fn has_places(
     }
 }
 
-// The same, once room for an access is made, and that for a section where it takes no memory; no clause tells
-// which. The places of an access are kept for the step that comes next.
+// The same, once room for an access is made, or that for a section in its lock's queue. The places of an
+// access are kept for the step that comes next.
 #[inline(always)]
 pub(crate) fn make_places_ready(
     sums: &mut Summaries,
@@ -98,9 +95,19 @@ pub(crate) fn make_places_ready(
     match op {
         Op::Load(var) | Op::Store(var) => {
             let locks = held.of(thread);
-            locks.is_empty() || sums.make_room(locks, var).is_ok()
+            locks.is_empty() || sums.prepare(locks, var).is_ok()
         }
-        Op::Acquire(lock) => held.ready(thread) && queues.make_ready(thread, lock),
+        Op::Acquire(lock) => held.ready(thread) && prepare_section(queues, thread, lock),
         Op::Release(_) | Op::Fork(_) | Op::Join(_) => true,
     }
+}
+
+// Makes room for a section in its lock's queue. Answers whether there is room.
+#[inline(always)]
+fn prepare_section(queues: &mut Queues, thread: ThreadId, lock: LockId) -> bool
+    ensures ready { result ≡ is_ready queues.new thread.0 lock.0 }
+    ensures queues { QueuesHaveGrown queues.old queues.new }
+    ensures grown { QueuesGrownFor queues.old queues.new thread.0 lock.0 }
+{
+    queues.prepare(thread, lock).is_ok()
 }

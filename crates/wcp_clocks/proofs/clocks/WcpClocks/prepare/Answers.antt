@@ -2,7 +2,7 @@ use Rattle.std.proofs.Common.{sym, subst, refl}
 use Rattle.wcp_clocks.specs.Parts.{Parts}
 use Rattle.wcp_clocks.specs.Parts.{IsWithin}
 use Rattle.wcp_clocks.proofs.Growth.{grown_parts, seen_ready, seen_numbers, sums_same, queues_same, held_same}
-use Rattle.wcp_clocks.proofs.Ordered.{order_within, lock_within}
+use Rattle.wcp_clocks.proofs.Ordered.{order_within}
 use Rattle.wcp_clocks.proofs.Within.{within}
 use Rattle.wcp_clocks.proofs.clocks.WcpClocks.prepare.Goals as goal
 
@@ -12,11 +12,6 @@ make_clocks-requires c =
     let op = c.args.op in
     order_within (within c.self.inside) t op
     (subst (λ (p : Parts). IsWithin p t op) (sym c.self.view_is) c.requires)
-
-pub make_places-requires-clause-lock : goal.make_places-requires-clause-lock
-make_places-requires-clause-lock c l is =
-    lock_within (within c.self.inside) c.args.op l
-    (subst (λ (p : Parts). IsWithin p c.args.thread c.args.op) (sym c.self.view_is) c.requires).1 is
 
 pub invariant_of-self : goal.invariant_of-self
 invariant_of-self c = grown_parts (within c.self.inside) _ (record {
