@@ -84,8 +84,8 @@ read_again bytes e h =
     (omega arith) in
     let some : (length e.thread == 0 || length e.argument == 0) ≡ false =
     grind (arith, nat_tests, h.fits.thread.some, h.fits.argument.some) in
-    let long : (nat_lt 255 (length e.thread) || nat_lt 255 (length e.argument) || nat_lt 255 (length e.location))
-    ≡ false = grind (
+    let long : (nat_lt 255 (length e.thread) || nat_lt 255 (length e.argument)
+    || nat_lt 255 (length e.location)) ≡ false = grind (
       arith,
       nat_tests,
       h.fits.thread.field.short,

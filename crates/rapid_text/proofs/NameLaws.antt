@@ -6,7 +6,8 @@ use Rattle.std.specs.Prelude.{slice_get, nat_lt, IfOk, OnErr, ◌⊎◌}
 use Rattle.std.specs.List.{position}
 use Rattle.std.specs.Str.{bytes_eq}
 use Rattle.std.proofs.lemmas.List.Quantifiers.{position-Some}
-use Rattle.std.proofs.lemmas.Option.{slice_get-get_or, slice_get_within, cond_some, same_Some, some_pair_parts}
+use Rattle.std.proofs.lemmas.Option.{slice_get-get_or, slice_get_within, cond_some, same_Some}
+use Rattle.std.proofs.lemmas.Option.{some_pair_parts}
 use Rattle.std.proofs.lemmas.Slice.Eq.{bytes_eq-Decides}
 use Rattle.event_core.proofs.Places.{get_last, each_push}
 use Rattle.rapid_text.specs.declared.causes.Kind.{Kind}

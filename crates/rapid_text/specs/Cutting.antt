@@ -10,7 +10,8 @@ use Rattle.rapid_line.specs.Cut.{count, after_last}
 -- the most bytes that a cutter takes, 2 ^ 60
 pub use Rattle.rapid_line.specs.Lines.{most}
 use Rattle.rapid_text.specs.Tables.{Tables, no_names}
-use Rattle.rapid_text.specs.Texts.{Judgement, judge, lines_of, with_event, ended, StopsWith, BeginsAt, FirstAt}
+use Rattle.rapid_text.specs.Texts.{Judgement, judge, lines_of, with_event, ended, StopsWith, BeginsAt}
+use Rattle.rapid_text.specs.Texts.{FirstAt}
 
 -- what a cutter holds: the names, the last answer's line, the number and the bytes of the line whose end was
 -- not seen, how many bytes came, and the line of the first fault
