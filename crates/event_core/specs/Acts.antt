@@ -21,8 +21,10 @@ use Rattle.event_core.specs.declared.replies.Outcome.TheVariants.{Refused as Cal
 use Rattle.event_core.specs.declared.replies.SwapReply.{SwapReply}
 use Rattle.event_core.specs.declared.replies.Done.{Done}
 use Rattle.event_core.specs.declared.replies.Done.TheVariants.{One as Accepted, Swap as Swapped, Refused}
+use Rattle.event_core.specs.declared.steps.Step.{Step}
+use Rattle.event_core.specs.declared.steps.Step.TheVariants.{One as OneEvent, Swap as BothEvents}
 use Rattle.event_core.specs.Refusal.{held_depths, first_of, when, forked, joins, in_range, event_of}
-use Rattle.event_core.specs.Refusal.{last_value}
+use Rattle.event_core.specs.Refusal.{last_value, refusal}
 use Rattle.event_core.specs.Verdict.{IsVerdict, IsOutcome}
 
 -- the call for the load of a swap
@@ -40,6 +42,11 @@ swap_refusal m log u x = first_of (
     ∷ []
     )
 
+-- why an act is refused after the log, if it is
+abbrev pub act_refusal : Limits → List Event → Act → Option Refusal
+act_refusal m log (One c) = refusal m log c
+act_refusal m log (Swap u x site arg) = swap_refusal m log u x
+
 -- the first event of an accepted swap, which reads the last value stored
 abbrev pub swap_load : List Event → ThreadId → VarId → SiteId → Event
 swap_load log u x site = record { thread = u; op = Load x; site = site; value = last_value log x }
@@ -47,6 +54,11 @@ swap_load log u x site = record { thread = u; op = Load x; site = site; value = 
 -- the second event of an accepted swap, which stores its argument
 abbrev pub swap_store : ThreadId → VarId → SiteId → ℕ → Event
 swap_store u x site arg = record { thread = u; op = Store x; site = site; value = arg }
+
+-- the step of an accepted act: the event of a call, or the two of a swap
+abbrev pub step_of : List Event → Act → Step
+step_of log (One c) = OneEvent (event_of log c)
+step_of log (Swap u x site arg) = BothEvents (swap_load log u x site) (swap_store u x site arg)
 
 -- the log after an accepted swap
 abbrev pub log_after_swap : List Event → ThreadId → VarId → SiteId → ℕ → List Event
