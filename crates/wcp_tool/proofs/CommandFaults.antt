@@ -1,33 +1,25 @@
 -- What clap answers to the words of the program: the kinds of their faults, or the command that was met.
-use Rattle.std.proofs.Common.{◌≡◌, ◌∙◌, List, [], ◌∷◌, Option, Some, None, Bool, true, false, refl, sym, ap}
-use Rattle.std.proofs.Common.{subst, inl, inr, is_some, Result, Ok, Err}
-use Rattle.std.specs.Prelude.{IfErr, OnOk, option_map, ◌||◌}
+use Rattle.std.proofs.Common.{◌≡◌, ◌∙◌, List, [], ◌∷◌, Bool, true, false, refl, sym, ap, subst, inl, inr}
+use Rattle.std.proofs.Math.Bool.{or-true}
 use Rattle.std.specs.List.{list_any}
 use Rattle.clap.specs.Values.{kind_of}
 use Rattle.clap.specs.Kinds.{HasKind, IsAmong, Kinds}
 use Rattle.clap.specs.Walk.{Text}
-use Rattle.clap.specs.Matches.{has_subcommand}
 use Rattle.clap.specs.Simple.{App, HasMatchesOf, is_simple, subcommand_of, subcommand_rows_of}
 use Rattle.clap.specs.Faults.{fault_of, is_simple_and_free}
 use Rattle.clap.specs.declared.error.Error.{Error}
 use Rattle.clap.specs.declared.error.kind.ErrorKind.{ErrorKind}
 use Rattle.clap.specs.declared.parser.matches.ArgMatches.{ArgMatches}
-use Rattle.clap.specs.declared.parser.matches.ArgMatches.TheViews.{out-ArgMatches}
 use Rattle.wcp_tool.specs.CommandLine.{IsFaultAt, TellsKind, faults_of, is_answer, is_mistake, wcp}
 use Rattle.wcp_tool.specs.declared.requests.UsageFault.{UsageFault}
 use Rattle.wcp_tool.specs.declared.requests.UsageFault.TheVariants as faults
-use Rattle.wcp_tool.proofs.CommandSettings.{met_one}
-
-or_true : (b : Bool) → (b || true) ≡ true
-or_true true = refl
-or_true false = refl
 
 among : (p : ErrorKind → Bool) (k : ErrorKind) (ks : Kinds) → IsAmong k ks → p k ≡ true → list_any p ks ≡ true
 among p k [] a h = absurd a
 among p k (x ∷ xs) (inl is) h =
     let here : p x ≡ true = ap p (sym is) ∙ h in
     rw here refl
-among p k (x ∷ xs) (inr a) h = rw (among p k xs a h) (or_true (p x))
+among p k (x ∷ xs) (inr a) h = rw (among p k xs a h) (or-true (p x))
 
 pub fault_is : (words : List Text) (e : Error) (f : UsageFault) → HasKind (faults_of words) e
     → TellsKind (kind_of e) f → IsFaultAt words f
@@ -68,25 +60,3 @@ pub has_command : (a : App) (words : List Text) (m : ArgMatches) → a ≡ wcp �
     → subcommand_rows_of m ≡ subcommand_of wcp words
 has_command a words m is has =
     (has (ap is_simple is ∙ simple)).1 ∙ ap (λ (x : App). subcommand_of x words) is
-
-some_kept : {A B : Type 0} (s : Option A) (f : A → B) → is_some (option_map f s) ≡ true → is_some s ≡ true
-some_kept None f h = h
-some_kept (Some x) f h = refl
-
-pub was_met : (words : List Text) (m : ArgMatches) → faults_of words ≡ []
-    → subcommand_rows_of m ≡ subcommand_of wcp words → has_subcommand m ≡ true
-was_met words m taken met =
-    let some : is_some (subcommand_rows_of m) ≡ true = ap is_some met ∙ met_one words taken in
-    some_kept (out-ArgMatches m).subcommand _ some
-
--- ---- what the settings of a parse tell
-
-pub on_any : {A B P : Type 0} (answer : Result A B) → P → OnOk answer P
-on_any (Ok a) p = p
-on_any (Err f) p = tt
-
--- memory running out is a fault at any words
-pub ran_out : {A : Type 0} (words : List Text) (answer : Result A UsageFault)
-    → IfErr answer (λ f. f ≡ faults.OutOfMemory) → IfErr answer (λ f. IsFaultAt words f)
-ran_out words (Ok s) h = tt
-ran_out words (Err f) h = subst (λ (x : UsageFault). IsFaultAt words x) (sym h) tt

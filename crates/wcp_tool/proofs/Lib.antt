@@ -1,7 +1,3 @@
-pub mod Keeping
-pub mod Given
-pub mod CommandArguments
-pub mod CommandWords
 pub mod CommandSettings
 pub mod CommandFaults
 pub mod RunNames

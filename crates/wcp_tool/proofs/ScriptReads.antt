@@ -1,4 +1,4 @@
--- What is told of a script that was not read, or of a call that its run stops at, is of the text.
+-- What is reported of a script that was not read, or of a call that its run stops at, is of the text.
 use Rattle.std.proofs.Common.{◌≡◌, ℕ, List, Option, Bool, true, subst, sym, refl, inl, inr, ◌⊎◌, arith}
 use Rattle.std.specs.Prelude.{codes}
 use Rattle.std.specs.Io.KnownBytes.{Appends}
@@ -16,9 +16,10 @@ use Rattle.script_text.specs.declared.lines.ScriptLine.{ScriptLine}
 use Rattle.script_text.specs.Readings.{IsFault, ReadFails}
 use Rattle.trace_report.specs.Words.{refusal_word}
 use Rattle.wcp_tool.specs.Running.{CutsScript, PerformsRun}
-use Rattle.wcp_tool.specs.ScriptRuns.{IsOfText, NamesStop, TellsFault, TellsRefusal, TellsRefused, TellsStop}
+use Rattle.wcp_tool.specs.ScriptRuns.{IsOfText, TellsFault, TellsRefusal, TellsRefused, TellsStop}
+use Rattle.wcp_tool.specs.ScriptRuns.{TellsStopped}
 
--- a read fault of a script tells that it was not read to its end
+-- a script with a read fault was not read to its end
 pub cuts_script : (m n : Limits) (left rest : Option (List ℕ)) (failed : Bool) (f : ScriptFault) → m ≡ n
     → f.cause ≡ Read → IsFault m left rest 17592186044416 failed f f.cause → CutsScript n left rest failed
 cuts_script m n left rest failed f same read is = record {
@@ -27,7 +28,7 @@ cuts_script m n left rest failed f same read is = record {
       (subst (λ (c : ScriptCause). IsFault m left rest 17592186044416 failed f c) read is);
 }
 
--- the refusal that is told is one of the script
+-- the refusal that is reported is one of the script
 pub refusal_told : (m : Limits) (ahead : Bool) (lines : List ScriptLine) (f : DriveFault)
     (old new : Option (List ℕ)) → IsFaultOf m ahead lines f → TellsRefused f old new
     → TellsRefusal m lines old new
@@ -58,7 +59,7 @@ of_text m left rest turns failed f causes.NoFork other is = is
 of_text m left rest turns failed f causes.Read other is = other (inl refl)
 of_text m left rest turns failed f causes.OutOfMemory other is = other (inr refl)
 
--- the run of a text whose fault is told
+-- the run of a text whose fault is reported
 pub fault_told : (m : Limits) (left rest : Option (List ℕ)) (turns : ℕ) (failed : Bool) (f : ScriptFault)
     (old new : Option (List ℕ)) (status : ℕ) → TellsFault f old new status
     → ((f.cause ≡ causes.Read) ⊎ (f.cause ≡ causes.OutOfMemory) → (status ≡ 4) ⊎ (status ≡ 5))
@@ -81,10 +82,10 @@ fault_told m left rest turns failed f old new status (inr gave_up) hindered is =
   broken = λ h. absurd (omega (arith, gave_up, h));
 }
 
--- the stop that is told is one of the script, each of whose lines goes ahead at its first try
+-- the stop that is reported is one of the script, each of whose lines goes ahead at its first try
 pub stop_told : (m : Limits) (ahead : Bool) (lines : List ScriptLine) (f : DriveFault)
-    (old new : Option (List ℕ)) → ahead ≡ true → IsFaultOf m ahead lines f → TellsStop f old new
-    → ∥ NamesStop lines old new ∥₁
+    (old new : Option (List ℕ)) → ahead ≡ true → IsFaultOf m ahead lines f → TellsStopped f old new
+    → TellsStop lines old new
 stop_told m ahead lines drive.OutOfMemory old new goes fits told = absurd told
 stop_told m ahead lines (drive.Refused t n why) old new goes fits told = absurd told
 stop_told m ahead lines (drive.Stuck t n) old new goes fits told =

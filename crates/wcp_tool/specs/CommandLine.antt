@@ -1,12 +1,12 @@
 -- The command lines that the program takes, and what they ask for, in the words of clap's contracts.
 use Rattle.std.specs.Prelude.{ℕ, List, [], ◌∷◌, Option, Some, None, Bool, true, false, not, codes, pos}
-use Rattle.std.specs.Prelude.{◌≡◌, ◌≢◌, if◌then◌else◌}
+use Rattle.std.specs.Prelude.{◌≡◌, ◌≢◌, if◌then◌else◌, option_map}
 use Rattle.std.specs.List.{list_any}
 use Rattle.std.specs.Str.{bytes_eq}
 use Rattle.std.specs.Str.Parse.{digits_value, without_leading_plus}
 use Rattle.std.specs.String.{string_bytes}
 use Rattle.clap.specs.Words.{App, Kinds, Row, Rule, Shape, Text, fault_of, new_app, new_rule, one_of}
-use Rattle.clap.specs.Words.{IsSignedIn, first_of, subcommand_of, with_rule, with_subcommand, without_minus}
+use Rattle.clap.specs.Words.{first_of, subcommand_of, with_rule, with_subcommand}
 use Rattle.clap.specs.declared.builder.action.ArgAction.TheVariants.{Set}
 use Rattle.clap.specs.declared.builder.value_parser.ValueParser.TheVariants.{Signed}
 use Rattle.clap.specs.declared.error.kind.ErrorKind.{ErrorKind}
@@ -17,7 +17,7 @@ use Rattle.wcp_tool.specs.declared.requests.Settings.{Settings}
 use Rattle.wcp_tool.specs.declared.requests.UsageFault.{UsageFault}
 use Rattle.wcp_tool.specs.declared.requests.UsageFault.TheVariants as faults
 
--- ---- what clap is told of the command lines
+-- ---- the command lines, as clap's contracts see them
 
 -- an option --NAME N, where N is a number from 1 to the greatest
 abbrev pub number_option : Text → ℕ → Text → Rule
@@ -101,33 +101,28 @@ asked_by s = record { request = request_of s.command; threads = s.threads; patie
 abbrev pub number_of : Text → ℕ
 number_of text = digits_value 10 (without_leading_plus text)
 
--- the number is the one that is read for the option with this name, from 1 to the greatest
-abbrev pub Reads : Text → ℕ → List Row → ℕ → Type 0
-Reads name most rows n = (t : Text) → IsSignedIn (pos 1) (pos most) t
-    → one_of name rows ≡ Some (without_minus t)
-    → n ≡ number_of (without_minus t)
+-- the number that was found for the option with this name
+abbrev pub number_for : Text → List Row → Option ℕ
+number_for name rows = option_map number_of (one_of name rows)
 
 -- no script is run
-abbrev pub over_trace : Request → Option Text → Option Asked
+abbrev pub over_trace : Request → Option ℕ → Option Asked
 over_trace request (Some threads) =
-    Some (record { request = request; threads = number_of threads; patience = 1000000 })
+    Some (record { request = request; threads = threads; patience = 1000000 })
 over_trace request None = None
 
-abbrev pub over_script : Option Text → Option Text → Option Text → Option Asked
-over_script (Some file) (Some threads) (Some patience) = Some (record {
-  request = run file;
-  threads = number_of threads;
-  patience = number_of patience;
-})
+abbrev pub over_script : Option Text → Option ℕ → Option ℕ → Option Asked
+over_script (Some file) (Some threads) (Some patience) =
+    Some (record { request = run file; threads = threads; patience = patience })
 over_script _ _ _ = None
 
 -- what a command with this name asks for, where clap found this for its options
 abbrev pub asked_under : Text → List Row → Option Asked
 asked_under name rows =
-    if bytes_eq name (codes "check") then over_trace check (one_of (codes "threads") rows)
-    else (if bytes_eq name (codes "replay") then over_trace replay (one_of (codes "threads") rows)
+    if bytes_eq name (codes "check") then over_trace check (number_for (codes "threads") rows)
+    else (if bytes_eq name (codes "replay") then over_trace replay (number_for (codes "threads") rows)
     else (if bytes_eq name (codes "run") then over_script (first_of (codes "FILE") rows)
-    (one_of (codes "threads") rows) (one_of (codes "patience") rows)
+    (number_for (codes "threads") rows) (number_for (codes "patience") rows)
     else None))
 
 abbrev pub asked_in : Option (Text × List Row) → Option Asked
@@ -155,7 +150,7 @@ IsFaultAt words (faults.Help text) = list_any is_answer (faults_of words) ≡ tr
 IsFaultAt words (faults.Usage text) = list_any is_mistake (faults_of words) ≡ true
 IsFaultAt words faults.OutOfMemory = Unit {0}
 
--- the fault tells an error of this kind
+-- the fault is that of an error of this kind
 abbrev pub TellsKind : ErrorKind → UsageFault → Type 0
 TellsKind k (faults.Help text) = (is_answer k ≡ true) × (k ≢ kinds.OutOfMemory)
 TellsKind k (faults.Usage text) = (is_mistake k ≡ true) × (k ≢ kinds.OutOfMemory)

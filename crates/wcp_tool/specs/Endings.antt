@@ -10,6 +10,7 @@ use Rattle.trace_report.specs.declared.faults.ReplayFault.{ReplayFault}
 use Rattle.trace_report.specs.declared.faults.ReplayFault.TheVariants as faults
 use Rattle.trace_report.specs.declared.faults.TraceFault.TheVariants as found
 use Rattle.trace_report.specs.declared.summary.Summary.{Summary}
+use Rattle.trace_report.specs.Judging.{is_read_fault}
 use Rattle.wcp_tool.specs.declared.endings.Ending.TheVariants.{Done, Races, WrongUsage, Refused, ReadFault}
 use Rattle.wcp_tool.specs.declared.endings.Ending.TheVariants.{WriteFault, OutOfMemory, BrokenScript}
 
@@ -44,6 +45,11 @@ cause_ending _ = Refused
 abbrev pub refusal_ending : Refusal → Ending
 refusal_ending refusals.OutOfMemory = OutOfMemory
 refusal_ending _ = Refused
+
+-- the text was not read to its end
+abbrev pub is_unread : ReplayFault → Bool
+is_unread (faults.Found f) = is_read_fault f
+is_unread faults.Write = false
 
 -- how a check or a replay with this fault ends
 abbrev pub fault_ending : ReplayFault → Ending

@@ -34,22 +34,22 @@ limits_with threads roots = record {
   roots = roots;
 }
 
--- a text was checked: the answer is the one for it, the one line that tells the answer was written, and so
--- ends the program. Where the reader tells the text that it had left, it is that whole text.
+-- a text was checked: the answer is the one for it, the one line that prints the answer was written, and so
+-- ends the program. Where the text that the reader had left is known, it is that whole text.
 pub record Checks (m : Limits) (left old new : Option (List ℕ)) (status : ℕ) : Type 0 where
   pub answer : Result Counts ReplayFault
   pub says : answer_gives_up answer ≡ false
   pub checks : ChecksText m left old new answer
   pub ends : status ≡ status_of (check_ending answer)
 
--- a text was replayed: what was written tells what it comes to, its report or its one fault line, and so ends
--- the program. Where the reader tells the text that it had left, it is that whole text.
+-- a text was replayed: what was written is its report or its one fault line, and so ends the program. Where
+-- the text that the reader had left is known, it is that whole text.
 pub record Replays (m : Limits) (left old new : Option (List ℕ)) (status : ℕ) : Type 0 where
   pub answer : Result Summary ReplayFault
   pub tells : TellsText m left old new answer
   pub ends : status ≡ status_of (replay_ending answer)
 
--- what a run of a script's threads writes: a report, or the one line that tells which of its calls is refused
+-- what a run of a script's threads writes: a report, or the one line that says which of its calls is refused
 -- and why, or why it came to no report
 pub record PerformsRun (m : Limits) (left old new : Option (List ℕ)) (status : ℕ) : Type 0 where
   pub ran : (status ≡ 0) ⊎ (status ≡ 1) → RunsText m left old new status

@@ -84,11 +84,11 @@ pub record NamesRefusal (m : Limits) (lines : List ScriptLine) (old new : Option
 abbrev pub TellsRefusal : Limits → List ScriptLine → Option (List ℕ) → Option (List ℕ) → Type 0
 TellsRefusal m lines old new = ∥ NamesRefusal m lines old new ∥₁
 
--- the text that the reader had left is a script, and one line tells which of its calls is refused and why
+-- the text that the reader had left is a script, and one line says which of its calls is refused and why
 abbrev pub RefusesText : Limits → Option (List ℕ) → Option (List ℕ) → Option (List ℕ) → Type 0
 RefusesText m left old new = OfScript m left (λ script. TellsRefusal m script.lines old new)
 
--- the fault is a refusal, and one line was written, which tells its line and its word
+-- the fault is a refusal, and one line was written, with its line and its word
 abbrev pub TellsRefused : DriveFault → Option (List ℕ) → Option (List ℕ) → Type 0
 TellsRefused (Refused t n why) old new = Appends old new (fault_line n (refusal_word why))
 TellsRefused _ old new = ⊥
@@ -110,18 +110,18 @@ IsOfText m left f causes.OutOfMemory = ⊥
 IsOfText m left f causes.NoFork = LacksFork m left f.line
 IsOfText m left f cause = HasFault m left f
 
--- the text that the reader had left is no script, and one line tells its fault
+-- the text that the reader had left is no script, and one line names its fault
 pub record FaultsText (m : Limits) (left old new : Option (List ℕ)) : Type 0 where
   pub fault : ScriptFault
   pub is_of : IsOfText m left fault fault.cause
   pub written : Appends old new (fault_line fault.line (cause_word fault.cause))
 
--- the fault is that a line is stuck, or that no worker could be started, and one line was written, which
--- tells its line and its word
-abbrev pub TellsStop : DriveFault → Option (List ℕ) → Option (List ℕ) → Type 0
-TellsStop (Stuck t n) old new = Appends old new (fault_line n (codes "Stuck"))
-TellsStop (NoWorker n) old new = Appends old new (fault_line n (codes "NoWorker"))
-TellsStop _ old new = ⊥
+-- the fault is that a line is stuck, or that no worker could be started, and one line was written, with
+-- its line and its word
+abbrev pub TellsStopped : DriveFault → Option (List ℕ) → Option (List ℕ) → Type 0
+TellsStopped (Stuck t n) old new = Appends old new (fault_line n (codes "Stuck"))
+TellsStopped (NoWorker n) old new = Appends old new (fault_line n (codes "NoWorker"))
+TellsStopped _ old new = ⊥
 
 -- one line was written, which names a line of the script: one that acquires or joins and is stuck, or one
 -- that forks a thread for which no worker could be started
@@ -132,10 +132,10 @@ pub record NamesStop (lines : List ScriptLine) (old new : Option (List ℕ)) : T
       ⊎ (IsSome (fork_of line) × Appends old new (fault_line line.line (codes "NoWorker")))
 
 -- the same, as a fact without its witness
-abbrev pub Stops : List ScriptLine → Option (List ℕ) → Option (List ℕ) → Type 0
-Stops lines old new = ∥ NamesStop lines old new ∥₁
+abbrev pub TellsStop : List ScriptLine → Option (List ℕ) → Option (List ℕ) → Type 0
+TellsStop lines old new = ∥ NamesStop lines old new ∥₁
 
 -- why a run ends with status 6
 abbrev pub BreaksText : Limits → Option (List ℕ) → Option (List ℕ) → Option (List ℕ) → Type 0
 BreaksText m left old new =
-    FaultsText m left old new ⊎ OfScript m left (λ script. Stops script.lines old new)
+    FaultsText m left old new ⊎ OfScript m left (λ script. TellsStop script.lines old new)

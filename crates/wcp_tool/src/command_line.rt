@@ -1,12 +1,13 @@
 //! What the words of a command line ask for.
-ghost use Rattle.std.specs.Prelude.{◌≡◌, ◌≤◌, ℕ, List, [], Some, IfOk, IfErr, OnOk, true, false, map, codes};
-ghost use Rattle.clap.specs.Words.{app_of, first_of, found_of, has_subcommand, kind_of, new_app, rows_of};
-ghost use Rattle.clap.specs.Words.{Text, rule_of, shape_of, subcommand_of, subcommand_rows_of};
-ghost use Rattle.clap.specs.Words.{with_subcommand};
+ghost use Rattle.std.specs.Prelude.{◌≡◌, ◌≤◌, [], Some, IfOk, IfErr, IfSome, OnOk, false, map, codes};
+ghost use Rattle.std.specs.Prelude.{option_map};
+ghost use Rattle.clap.specs.Words.{app_of, first_of, found_of, kind_of, new_app, rows_of, rule_of};
+ghost use Rattle.clap.specs.Words.{shape_of, subcommand_rows_of, with_subcommand};
 ghost use Rattle.clap.specs.declared.builder.command.Command.TheViews.{out-Command};
 ghost use Rattle.wcp_tool.specs.CommandLine.{bare, run_command as run_shape, trace_command, wcp};
 ghost use Rattle.wcp_tool.specs.CommandLine.{file_argument as file_rule};
-ghost use Rattle.wcp_tool.specs.CommandLine.{TellsKind, faults_of, asked, asked_by, IsFaultAt};
+ghost use Rattle.wcp_tool.specs.CommandLine.{TellsKind, faults_of, asked, asked_by, asked_in};
+ghost use Rattle.wcp_tool.specs.CommandLine.{IsFaultAt, number_for, over_script};
 
 use crate::help_texts::{CHECK_TEXTS, PROGRAM_TEXTS, REPLAY_TEXTS, RUN_TEXTS};
 use crate::options::{DEFAULT_PATIENCE, patience_of, patience_option, threads_of, threads_option};
@@ -120,31 +121,18 @@ fn command_line<'a>(alloc: Global) -> Result<clap::Command<'a>, AllocError>
 }
 
 /// The name of the command that the words have, and what its options were given.
-fn command_met<'a, 'm>(matches: &'m ArgMatches<'a>) -> (&'a str, &'m ArgMatches<'a>)
-    requires { has_subcommand matches.now ≡ true }
-    ensures { subcommand_rows_of matches.now ≡ Some (result.0.now, rows_of (found_of result.1.now)) }
+fn command_met<'a, 'm>(matches: &'m ArgMatches<'a>) -> Option<(&'a str, &'m ArgMatches<'a>)>
+    ensures { IfSome result (λ met.
+        subcommand_rows_of matches.now ≡ Some (met.0.now, rows_of (found_of met.1.now))) }
 {
-    matches.subcommand().unwrap()
-}
-
-/// The command over a trace with this name.
-fn command_of(name: &str) -> Command
-    ensures check { name.now ≡ codes "check" → result ≡ Command.Check }
-    ensures replay { name.now ≡ codes "replay" → result ≡ Command.Replay }
-{
-    if name == "replay" {
-        Command::Replay
-    } else {
-        Command::Check
-    }
+    matches.subcommand()
 }
 
 /// The path of the script that was given.
-fn file_of<'a>(matches: &ArgMatches<'a>) -> &'a str
-    ensures { (t : List ℕ) → first_of (codes "FILE") (rows_of (found_of matches.now)) ≡ Some t
-        → result.now ≡ t }
+fn file_of<'a>(matches: &ArgMatches<'a>) -> Option<&'a str>
+    ensures { option_map (λ s. s.now) result ≡ first_of (codes "FILE") (rows_of (found_of matches.now)) }
 {
-    matches.get_str("FILE").unwrap_or("")
+    matches.get_str("FILE")
 }
 
 fn fault_of(alloc: Global, error: &clap::Error) -> UsageFault
@@ -163,33 +151,55 @@ fn fault_of(alloc: Global, error: &clap::Error) -> UsageFault
     }
 }
 
-/// The settings of a parse that met a command.
-fn settings_of<'a>(alloc: Global, matches: &ArgMatches<'a>) -> Result<Settings, UsageFault>
-    requires { has_subcommand matches.now ≡ true }
-    ensures threads { IfOk result (λ s. (1 ≤ s.threads) × (s.threads ≤ 1024)) }
-    ensures patience { IfOk result (λ s. (1 ≤ s.patience) × (s.patience ≤ 4294967295)) }
-    ensures asked { (words : List Text) → faults_of words ≡ []
-        → subcommand_rows_of matches.now ≡ subcommand_of wcp words
-        → IfOk result (λ s. asked words ≡ Some (asked_by s)) }
-    ensures fault { IfErr result (λ f. f ≡ UsageFault.OutOfMemory) }
+/// The settings of a command over a trace.
+fn trace_settings(command: Command, threads: u32) -> Settings
+    ensures { result ≡ record { command = command; threads = threads; patience = 1000000 } }
 {
-    let (name, given) = command_met(matches);
-    let threads = threads_of(given);
-    if name != "run" {
-        return Ok(Settings {
-            command: command_of(name),
-            threads,
-            patience: DEFAULT_PATIENCE,
-        });
+    Settings {
+        command,
+        threads,
+        patience: DEFAULT_PATIENCE,
     }
-    let Ok(file) = String::from_str(alloc, file_of(given)) else {
-        return Err(UsageFault::OutOfMemory);
+}
+
+/// The settings of a run of a script.
+fn script_settings(alloc: Global, given: &ArgMatches<'_>, threads: u32) -> Option<Settings>
+    ensures threads { IfSome result (λ s. s.threads ≡ threads) }
+    ensures patience { IfSome result (λ s. (1 ≤ s.patience) × (s.patience ≤ 4294967295)) }
+    ensures asked { IfSome result (λ s. over_script (first_of (codes "FILE") (rows_of (found_of given.now)))
+        (Some threads) (number_for (codes "patience") (rows_of (found_of given.now))) ≡ Some (asked_by s)) }
+{
+    let patience = patience_of(given)?;
+    let path = file_of(given)?;
+    let Ok(file) = String::from_str(alloc, path) else {
+        return None;
     };
-    Ok(Settings {
+    Some(Settings {
         command: Command::Run(file),
         threads,
-        patience: patience_of(given),
+        patience,
     })
+}
+
+/// The settings of a parse. There are none where memory ran out, and none where the parse has no command, or
+/// lacks what the command asks for: clap refuses such words, so this does not occur, but no clause says so.
+fn settings_of(alloc: Global, matches: &ArgMatches<'_>) -> Option<Settings>
+    ensures threads { IfSome result (λ s. (1 ≤ s.threads) × (s.threads ≤ 1024)) }
+    ensures patience { IfSome result (λ s. (1 ≤ s.patience) × (s.patience ≤ 4294967295)) }
+    ensures asked { IfSome result (λ s. asked_in (subcommand_rows_of matches.now) ≡ Some (asked_by s)) }
+{
+    let (name, given) = command_met(matches)?;
+    let threads = threads_of(given)?;
+    if name == "check" {
+        return Some(trace_settings(Command::Check, threads));
+    }
+    if name == "replay" {
+        return Some(trace_settings(Command::Replay, threads));
+    }
+    if name == "run" {
+        return script_settings(alloc, given, threads);
+    }
+    None
 }
 
 /// What the words after the program's own name ask for: a command, and how many threads may be named, 64
@@ -219,5 +229,8 @@ pub fn settings<'a, S: AsStr>(alloc: Global, words: &'a [S]) -> Result<Settings,
     };
     let settings = settings_of(alloc, &matches);
     drop(matches);
-    settings
+    match settings {
+        Some(settings) => Ok(settings),
+        None => Err(UsageFault::OutOfMemory),
+    }
 }

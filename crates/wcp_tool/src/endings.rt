@@ -1,7 +1,7 @@
 //! How the program ends: its exit status, and what standard error says of it.
-ghost use Rattle.std.specs.Prelude.{◌≡◌};
+ghost use Rattle.std.specs.Prelude.{◌≡◌, ◌≢◌, IsErrAnd, true};
 ghost use Rattle.wcp_tool.specs.Endings.{check_ending, fault_ending as for_fault, replay_ending, status_of};
-ghost use Rattle.wcp_tool.specs.Endings.{summary_ending as for_summary};
+ghost use Rattle.wcp_tool.specs.Endings.{is_unread, summary_ending as for_summary};
 
 use event_core::Refusal;
 use rapid_text::{Cause, Output, write_all};
@@ -70,7 +70,8 @@ pub(crate) fn finish<E: Output>(ending: Ending, errors: &mut E) -> u8
 
 /// How a check or a replay with this fault ends.
 fn fault_ending(fault: ReplayFault) -> Ending
-    ensures { result ≡ for_fault fault }
+    ensures ending { result ≡ for_fault fault }
+    ensures unread { result ≡ Ending.ReadFault → is_unread fault ≡ true }
 {
     match fault {
         ReplayFault::Found(TraceFault::Text(fault)) => match fault.cause {
@@ -91,7 +92,8 @@ fn fault_ending(fault: ReplayFault) -> Ending
 
 /// How a check with this answer ends.
 pub(crate) fn ending_of_check(answer: Result<Counts, ReplayFault>) -> Ending
-    ensures { result ≡ check_ending answer }
+    ensures ending { result ≡ check_ending answer }
+    ensures unread { result ≡ Ending.ReadFault → IsErrAnd answer (λ f. is_unread f ≡ true) }
 {
     match answer {
         Ok(_) => Ending::Done,
@@ -101,7 +103,8 @@ pub(crate) fn ending_of_check(answer: Result<Counts, ReplayFault>) -> Ending
 
 /// How a run with this report ends.
 pub(crate) fn summary_ending(summary: Summary) -> Ending
-    ensures { result ≡ for_summary summary }
+    ensures ending { result ≡ for_summary summary }
+    ensures read { result ≢ Ending.ReadFault }
 {
     if summary.races == 0 {
         Ending::Done
@@ -112,7 +115,8 @@ pub(crate) fn summary_ending(summary: Summary) -> Ending
 
 /// How a replay with this answer ends.
 pub(crate) fn ending_of_replay(answer: Result<Summary, ReplayFault>) -> Ending
-    ensures { result ≡ replay_ending answer }
+    ensures ending { result ≡ replay_ending answer }
+    ensures unread { result ≡ Ending.ReadFault → IsErrAnd answer (λ f. is_unread f ≡ true) }
 {
     match answer {
         Ok(summary) => summary_ending(summary),

@@ -1,7 +1,7 @@
 //! The options of the commands. The value of each is a number.
-ghost use Rattle.std.specs.Prelude.{◌≡◌, ◌≤◌, codes, false};
+ghost use Rattle.std.specs.Prelude.{◌≡◌, ◌≤◌, IfSome, Some, codes, false};
 ghost use Rattle.clap.specs.Words.{found_of, rows_of, rule_of};
-ghost use Rattle.wcp_tool.specs.CommandLine.{Reads, number_option as rule_for};
+ghost use Rattle.wcp_tool.specs.CommandLine.{number_for, number_option as rule_for};
 ghost use Rattle.wcp_tool.specs.CommandLine.{threads_option as threads_rule};
 ghost use Rattle.wcp_tool.specs.CommandLine.{patience_option as patience_rule};
 
@@ -13,7 +13,7 @@ use std::alloc::Global;
 /// The patience where none is given.
 pub(crate) const DEFAULT_PATIENCE: u32 = 1000000;
 
-/// An option whose value is a number from 1 to the greatest, as clap is told of it.
+/// clap's option whose value is a number from 1 to the greatest.
 fn number_option<'a>(
     alloc: Global,
     name: &'a str,
@@ -33,18 +33,21 @@ fn number_option<'a>(
         .help(help)
 }
 
-/// The number that an option was given, or its default, which the parse found within its range.
-fn number_of(matches: &ArgMatches<'_>, name: &str, most: u32) -> u32
-    requires { 1 ≤ most }
-    ensures least { 1 ≤ result }
-    ensures most { result ≤ most }
-    ensures given { Reads name.now most (rows_of (found_of matches.now)) result }
+/// The number that an option was given, or its default. There is none where it is not from 1 to the greatest:
+/// clap refuses such words, so this does not occur, but no clause says so.
+fn number_of(matches: &ArgMatches<'_>, name: &str, most: u32) -> Option<u32>
+    ensures least { IfSome result (λ n. 1 ≤ n) }
+    ensures most { IfSome result (λ n. n ≤ most) }
+    ensures given { IfSome result (λ n. number_for name.now (rows_of (found_of matches.now)) ≡ Some n) }
 {
-    let given: Option<u32> = matches.get_one(name);
-    given.unwrap_or(1).clamp(1, most)
+    let number = matches.get_one(name)?;
+    if number < 1 || most < number {
+        return None;
+    }
+    Some(number)
 }
 
-/// How many threads may be named, as clap is told of it.
+/// clap's option that says how many threads may be named.
 pub(crate) fn threads_option<'a>(alloc: Global) -> Arg<'a>
     ensures local { result.global ≡ false }
     ensures rule { rule_of result ≡ threads_rule }
@@ -59,15 +62,16 @@ pub(crate) fn threads_option<'a>(alloc: Global) -> Arg<'a>
 }
 
 /// How many threads may be named.
-pub(crate) fn threads_of(matches: &ArgMatches<'_>) -> u32
-    ensures least { 1 ≤ result }
-    ensures most { result ≤ 1024 }
-    ensures given { Reads (codes "threads") 1024 (rows_of (found_of matches.now)) result }
+pub(crate) fn threads_of(matches: &ArgMatches<'_>) -> Option<u32>
+    ensures least { IfSome result (λ n. 1 ≤ n) }
+    ensures most { IfSome result (λ n. n ≤ 1024) }
+    ensures given { IfSome result (λ n.
+        number_for (codes "threads") (rows_of (found_of matches.now)) ≡ Some n) }
 {
     number_of(matches, "threads", MOST_THREADS)
 }
 
-/// How often a line is tried, as clap is told of it.
+/// clap's option that says how often a line is tried.
 pub(crate) fn patience_option<'a>(alloc: Global) -> Arg<'a>
     ensures local { result.global ≡ false }
     ensures rule { rule_of result ≡ patience_rule }
@@ -82,10 +86,11 @@ pub(crate) fn patience_option<'a>(alloc: Global) -> Arg<'a>
 }
 
 /// How often a line is tried.
-pub(crate) fn patience_of(matches: &ArgMatches<'_>) -> u32
-    ensures least { 1 ≤ result }
-    ensures most { result ≤ 4294967295 }
-    ensures given { Reads (codes "patience") 4294967295 (rows_of (found_of matches.now)) result }
+pub(crate) fn patience_of(matches: &ArgMatches<'_>) -> Option<u32>
+    ensures least { IfSome result (λ n. 1 ≤ n) }
+    ensures most { IfSome result (λ n. n ≤ 4294967295) }
+    ensures given { IfSome result (λ n.
+        number_for (codes "patience") (rows_of (found_of matches.now)) ≡ Some n) }
 {
     number_of(matches, "patience", u32::MAX)
 }

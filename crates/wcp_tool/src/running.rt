@@ -25,7 +25,7 @@ use std::thread::Threads;
 use trace_report::{check, replay};
 
 /// Does what the settings ask for.
-#[tactic(auto, using(crate::proofs::TraceReads::check_cuts, crate::proofs::TraceReads::replay_cuts))]
+#[tactic(auto, using(crate::proofs::TraceReads::trace_cut))]
 fn run<R: AllocGlobal + ScriptFiles + Threads + Wait + Sync, I: Input, O: Output>(
     rt: &R,
     settings: Settings,
@@ -97,7 +97,7 @@ fn explain<O: Output, E: Output>(fault: UsageFault, writer: &mut O, errors: &mut
 /// words are wrong, 3 a line or a call is refused, 4 a read or a write failed, 5 out of memory, 6 the script
 /// is broken or stuck.
 ///
-/// What help, the version and a usage fault say is for a reader, and no contract tells it.
+/// No contract says what the texts of help, the version and a usage fault are.
 pub fn tool<
     R: AllocGlobal + ScriptFiles + Threads + Wait + Sync,
     S: AsStr,
@@ -161,8 +161,8 @@ fn words<R: Env + AllocGlobal, E: Output>(rt: &R, errors: &mut E) -> Result<Vec<
     }
 }
 
-/// The program over the words that the process was started with. No contract tells those words, so that of
-/// `tool` holds for some. Which they are stays open, and so which command they ask for. Words that ask for
+/// The program over the words that the process was started with. No contract says which these are, so the
+/// contract of `tool` holds for some words, and which command they ask for stays open. Words that ask for
 /// help allow any text with status 0, where nothing is read. Status 2 or 5 without a text is always allowed.
 pub fn program<
     R: Env + AllocGlobal + ScriptFiles + Threads + Wait + Sync,

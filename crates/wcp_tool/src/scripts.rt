@@ -7,8 +7,8 @@ ghost use Rattle.script_text.specs.Scripts.{script_of, IsScript};
 ghost use Rattle.wcp_tool.specs.Endings.{HasEnded, is_write_fault, status_of};
 ghost use Rattle.wcp_tool.specs.Running.{CutsFile, CutsScript, PerformsFile, PerformsRun, limits_with};
 ghost use Rattle.trace_report.specs.Reports.{AreNamed};
-ghost use Rattle.wcp_tool.specs.ScriptRuns.{BreaksText, Ran, RefusesText, ReportsLog, RunsText, Stops};
-ghost use Rattle.wcp_tool.specs.ScriptRuns.{TellsFault, TellsRefusal, TellsRefused, TellsStop};
+ghost use Rattle.wcp_tool.specs.ScriptRuns.{BreaksText, Ran, RefusesText, ReportsLog, RunsText};
+ghost use Rattle.wcp_tool.specs.ScriptRuns.{TellsFault, TellsRefusal, TellsRefused, TellsStop, TellsStopped};
 ghost use Rattle.event_core.specs.declared.bounds.Roots.TheVariants.{OnlyMain};
 
 use crate::bounds::{TURNS, limits_of};
@@ -40,7 +40,7 @@ fn tell<O: Output>(writer: &mut O, line: u64, word: &str, ending: Ending) -> End
     }
 }
 
-/// Tells why a script was not read.
+/// Says why a script was not read.
 fn explain_script<O: Output>(writer: &mut O, fault: &ScriptFault) -> Ending
     requires writes { O.failed writer.old ≡ false }
     ensures tells { TellsFault fault.now (O.written writer.old) (O.written writer.new) (status_of result) }
@@ -56,12 +56,12 @@ fn explain_script<O: Output>(writer: &mut O, fault: &ScriptFault) -> Ending
     }
 }
 
-/// Tells why a script was not run to its end.
+/// Says why a script was not run to its end.
 fn explain_drive<O: Output>(writer: &mut O, fault: &DriveFault) -> Ending
     requires writes { O.failed writer.old ≡ false }
     ensures refused { status_of result ≡ 3 → TellsRefused fault.now (O.written writer.old)
         (O.written writer.new) }
-    ensures broken { status_of result ≡ 6 → TellsStop fault.now (O.written writer.old)
+    ensures broken { status_of result ≡ 6 → TellsStopped fault.now (O.written writer.old)
         (O.written writer.new) }
     ensures ran { (status_of result ≢ 0) × (status_of result ≢ 1) }
     ensures whole { result ≢ Ending.ReadFault }
@@ -111,7 +111,7 @@ fn run_threads<R: AllocGlobal + Threads + Wait + Sync, O: Output>(
         (O.written writer.old) (O.written writer.new) (status_of result) }
     ensures refused { status_of result ≡ 3 → TellsRefusal limits script.now.lines
         (O.written writer.old) (O.written writer.new) }
-    ensures broken { status_of result ≡ 6 → Stops script.now.lines (O.written writer.old)
+    ensures broken { status_of result ≡ 6 → TellsStop script.now.lines (O.written writer.old)
         (O.written writer.new) }
     ensures whole { result ≢ Ending.ReadFault }
     ensures ends { HasEnded (writer.new ≡ writer.old) (O.failed writer.new) result }
@@ -161,7 +161,7 @@ fn run_lines<R: AllocGlobal + Threads + Wait + Sync, I: Input, O: Output>(
 
 /// The command `run` over a reader of the script: its threads are run, each line is tried as often as the
 /// patience of the settings says, and what the threads did is reported. The answer is the exit status. Of
-/// patience the clauses tell that a line which neither acquires nor joins is not stuck.
+/// patience the clauses say that a line which neither acquires nor joins is not stuck.
 ///
 /// What the threads did depends on the schedule, and so does the status: of the log it is said only that it
 /// is well formed, that it is one that the script's threads can have made, and which events the first thread
@@ -182,16 +182,16 @@ pub fn run_script<R: AllocGlobal + Threads + Wait + Sync, I: Input, O: Output, E
     // of its lines in order, and of the first thread, and each that is joined from it, all of them.
     ensures ran { (result ≡ 0) ⊎ (result ≡ 1) → RunsText (limits_with settings.now.threads OnlyMain)
         (I.left script.old) (O.written writer.old) (O.written writer.new) result }
-    // With status 3 it wrote the one line that tells which call of that script is refused, and why. The
+    // With status 3 it wrote the one line that says which call of that script is refused, and why. The
     // definition refuses this call so after some log that the script's threads can have made, and in which
     // its thread has made just the calls before.
     ensures refused { result ≡ 3 → RefusesText (limits_with settings.now.threads OnlyMain)
         (I.left script.old) (O.written writer.old) (O.written writer.new) }
-    // With status 6 it wrote the one line that tells why the text is no script, or which of its lines is
+    // With status 6 it wrote the one line that says why the text is no script, or which of its lines is
     // stuck or can start no worker. A stuck line is one that acquires or joins.
     ensures broken { result ≡ 6 → BreaksText (limits_with settings.now.threads OnlyMain)
         (I.left script.old) (O.written writer.old) (O.written writer.new) }
-    // The first fault of the script's lines is told, unless memory ran out or a device failed.
+    // It reports the first fault of the script's lines, unless memory ran out or a device failed.
     ensures fault { IfSome (I.left script.old) (λ text. (f : Why)
         → script_of (limits_with settings.now.threads OnlyMain) text ≡ Err f
         → TellsFault f (O.written writer.old) (O.written writer.new) result) }
@@ -200,7 +200,7 @@ pub fn run_script<R: AllocGlobal + Threads + Wait + Sync, I: Input, O: Output, E
     ensures usage { result ≢ 2 }
     // Nothing is written to standard output where memory ran out.
     ensures quiet { result ≡ 5 → writer.new ≡ writer.old }
-    // Status 4 tells that the writer failed or took no byte; or else that the script was not read to its end,
+    // Status 4 says that the writer failed or took no byte; or else that the script was not read to its end,
     // since a read failed or it has as many bytes as there are turns, and then nothing is written. No line
     // that came whole has a cause then, and at most 1,025 bytes came of the line whose end was not seen.
     ensures devices { result ≡ 4 → (O.failed writer.new ≡ true)
