@@ -1,16 +1,16 @@
 -- What numbering the names of a list does.
 use Rattle.std.proofs.Common.{◌≡◌, ℕ, suc, zero, ◌<◌, ◌≤◌, List, [], ◌∷◌, ◌++◌, length, Option, Some, None}
-use Rattle.std.proofs.Common.{Bool, true, false, cond, refl, sym, ap, subst, ◌∙◌, arith, inl, inr, take, map}
-use Rattle.std.specs.Prelude.{unwrap_or, slice_get, nat_lt, get_or}
+use Rattle.std.proofs.Common.{◌⊎◌, Bool, true, false, refl, sym, ap, subst, ◌∙◌, arith, inl, inr, take, map}
+use Rattle.std.proofs.Common.{if◌then◌else◌}
+use Rattle.std.specs.Prelude.{slice_get, nat_lt}
 use Rattle.std.proofs.lemmas.Bool.{ltb-false}
-use Rattle.std.proofs.lemmas.Option.{same_Some, slice_get_within, slice_get-get_or}
+use Rattle.std.proofs.lemmas.Option.{same_Some, slice_get_within}
 use Rattle.event_core.proofs.Places.{get_before}
 use Rattle.rapid_text.specs.declared.causes.Kind.{Kind}
 use Rattle.rapid_text.specs.declared.causes.Kind.TheVariants as kinds
 use Rattle.rapid_text.specs.Numbers.{Numbered, with_name, found_or, found_number, number_of}
-use Rattle.rapid_text.specs.Tables.{Tables, space, with_space, put_back, number_in, TablesGrow}
-use Rattle.rapid_text.proofs.NameLaws.{numbers}
-use Rattle.rapid_text.proofs.NameGrowth.{kept_name}
+use Rattle.rapid_text.specs.Tables.{Tables, space, with_space, put_back, number_in}
+use Rattle.rapid_text.proofs.NameLaws.{found_name, with_space_of}
 use Rattle.closed_report.specs.declared.name_lists.NamingFault.{NamingFault}
 use Rattle.closed_report.specs.declared.name_lists.NamingFault.TheVariants.{NoName, Twice}
 use Rattle.closed_report.specs.declared.name_lists.NamingFault.TheVariants.{TooMany, OutOfMemory}
@@ -18,117 +18,70 @@ use Rattle.closed_report.specs.NameLists.{numbered, IsFaultAt, IsFaultIn}
 
 -- ---- one name
 
-pub with_space_of : (t : Tables) (kind : Kind) (s : Numbered) → space (with_space t kind s) kind ≡ s
-with_space_of t kinds.Thread s = refl
-with_space_of t kinds.Lock s = refl
-with_space_of t kinds.Variable s = refl
-with_space_of t kinds.Site s = refl
-
-added_by : (o : Option (ℕ × Numbered)) (t u : Tables) (kind : Kind) (name : List ℕ) (n : ℕ)
-    → number_of (space t kind) name ≡ o → put_back t kind o ≡ Some (n, u)
-    → slice_get (space u kind).names n ≡ Some name → length (space t kind).names ≤ n
-    → u ≡ with_space t kind (with_name (space t kind) name)
-added_by None t u kind name n is e at past = absurd cc
-added_by (Some q) t u kind name n is e at past =
-    let tables : with_space t kind q.1 ≡ u = ap (λ (o : Option (ℕ × Tables)). (unwrap_or o (n, u)).1) e in
-    let there : slice_get q.1.names n ≡ Some name =
-    subst (λ (s : Numbered). slice_get s.names n ≡ Some name) (with_space_of t kind q.1)
-    (subst (λ (v : Tables). slice_get (space v kind).names n ≡ Some name) (sym tables) at) in
-    let law = numbers (space t kind) name q.0 q.1 is in
-    elim law.names [
-      | inl same ↦
-          let here = subst (λ (xs : List (List ℕ)). slice_get xs n ≡ Some name) same there in
-          let within = slice_get_within (space t kind).names n name here in
-          absurd (omega arith)
-      | inr new ↦
-          let grown : q.1 ≡ with_name (space t kind) name =
-          λ i. record { limit = law.limit i; names = new i } in
-          sym tables ∙ ap (with_space t kind) grown
-    ]
-
--- a name that gets no earlier number is added
-pub name_added : (t u : Tables) (kind : Kind) (name : List ℕ) (n : ℕ) → number_in t kind name ≡ Some (n, u)
-    → slice_get (space u kind).names n ≡ Some name → length (space t kind).names ≤ n
-    → u ≡ with_space t kind (with_name (space t kind) name)
-unfolding number_in
-name_added t u kind name n e at past = added_by (number_of (space t kind) name) t u kind name n refl e at past
-
--- a name with an earlier number had it
-pub given_before : (t u : Tables) (kind : Kind) (name : List ℕ) (n : ℕ) → TablesGrow t u
-    → slice_get (space u kind).names n ≡ Some name → n < length (space t kind).names
-    → slice_get (space t kind).names n ≡ Some name
-given_before t u kind name n grows at within =
-    let old = slice_get-get_or (space t kind).names n [] within in
-    let still = kept_name t u kind n (get_or (space t kind).names n []) grows old in
-    old ∙ sym still ∙ at
-
-new_full : (b : Bool) (s : Numbered) (name : List ℕ)
-    → cond b (let o : Option (ℕ × Numbered) = Some (length s.names, with_name s name) in o) None ≡ None
-    → b ≡ false
-new_full true s name e = absurd cc
-new_full false s name e = refl
-
-found_full : (o : Option ℕ) (s : Numbered) (name : List ℕ) → found_or o s name ≡ None
-    → nat_lt (length s.names) s.limit ≡ false
-found_full (Some i) s name e = absurd cc
-found_full None s name e = new_full (nat_lt (length s.names) s.limit) s name e
-
-number_full : (s : Numbered) (name : List ℕ) → number_of s name ≡ None → s.limit ≤ length s.names
-unfolding number_of
-number_full s name e = ltb-false (length s.names) s.limit (found_full (found_number s name) s name e)
-
-back_full : (t : Tables) (kind : Kind) (o : Option (ℕ × Numbered)) → put_back t kind o ≡ None → o ≡ None
-back_full t kind None e = refl
-back_full t kind (Some q) e = absurd cc
-
--- a name that gets no number finds as many as the limit
-pub no_more : (t : Tables) (kind : Kind) (name : List ℕ) → number_in t kind name ≡ None
-    → (space t kind).limit ≤ length (space t kind).names
-unfolding number_in
-no_more t kind name e =
-    number_full (space t kind) name (back_full t kind (number_of (space t kind) name) e)
-
--- ---- a name that is there
-
-new_kept : (b : Bool) (s : Numbered) (name : List ℕ) (q : ℕ × Numbered)
-    → cond b (let o : Option (ℕ × Numbered) = Some (length s.names, with_name s name) in o) None ≡ Some q
-    → q.0 < length s.names → q.1 ≡ s
-new_kept true s name q e below =
-    let number : length s.names ≡ q.0 = ap (λ (o : Option (ℕ × Numbered)). (unwrap_or o q).0) e in
-    absurd (omega arith)
-new_kept false s name q e below = absurd cc
-
-found_kept : (o : Option ℕ) (s : Numbered) (name : List ℕ) (q : ℕ × Numbered) → found_or o s name ≡ Some q
-    → q.0 < length s.names → q.1 ≡ s
-found_kept (Some i) s name q e below = sym (ap (λ (o : Option (ℕ × Numbered)). (unwrap_or o q).1) e)
-found_kept None s name q e below = new_kept (nat_lt (length s.names) s.limit) s name q e below
-
-number_kept : (s : Numbered) (name : List ℕ) (q : ℕ × Numbered) → number_of s name ≡ Some q
-    → q.0 < length s.names → q.1 ≡ s
-unfolding number_of
-number_kept s name q e below = found_kept (found_number s name) s name q e below
-
 same_space : (t : Tables) (kind : Kind) → with_space t kind (space t kind) ≡ t
 same_space t kinds.Thread = refl
 same_space t kinds.Lock = refl
 same_space t kinds.Variable = refl
 same_space t kinds.Site = refl
 
-kept_by : (o : Option (ℕ × Numbered)) (t u : Tables) (kind : Kind) (name : List ℕ) (n : ℕ)
-    → number_of (space t kind) name ≡ o → put_back t kind o ≡ Some (n, u) → n < length (space t kind).names
-    → u ≡ t
-kept_by None t u kind name n is e below = absurd cc
-kept_by (Some q) t u kind name n is e below =
-    let tables : with_space t kind q.1 ≡ u = ap (λ (o : Option (ℕ × Tables)). (unwrap_or o (n, u)).1) e in
-    let number : q.0 ≡ n = ap (λ (o : Option (ℕ × Tables)). (unwrap_or o (n, u)).0) e in
-    let kept : q.1 ≡ space t kind = number_kept (space t kind) name q is (omega arith) in
-    sym tables ∙ (ap (with_space t kind) kept ∙ same_space t kind)
+-- the name was there, or it gets the next number, or there are as many as the limit
+abbrev Numbers : Tables → Kind → List ℕ → Option (ℕ × Tables) → Type 0
+Numbers t kind name answer =
+    ((i : ℕ) × (slice_get (space t kind).names i ≡ Some name) × (answer ≡ Some (i, t)))
+    ⊎ ((answer ≡ Some (length (space t kind).names, with_space t kind (with_name (space t kind) name)))
+    ⊎ ((answer ≡ None) × ((space t kind).limit ≤ length (space t kind).names)))
 
--- a name that gets an earlier number changes nothing
-pub name_kept : (t u : Tables) (kind : Kind) (name : List ℕ) (n : ℕ) → number_in t kind name ≡ Some (n, u)
-    → n < length (space t kind).names → u ≡ t
-unfolding number_in
-name_kept t u kind name n e below = kept_by (number_of (space t kind) name) t u kind name n refl e below
+numbers : (t : Tables) (kind : Kind) (name : List ℕ) → Numbers t kind name (number_in t kind name)
+unfolding number_in number_of
+numbers t kind name = go (found_number s name) refl
+  where
+    s : Numbered
+    s = space t kind
+
+    new : (b : Bool) → nat_lt (length s.names) s.limit ≡ b
+        → Numbers t kind name (put_back t kind (if b then Some (length s.names, with_name s name) else None))
+    new true is = inr (inl refl)
+    new false is = inr (inr (refl, ltb-false (length s.names) s.limit is))
+
+    go : (o : Option ℕ) → found_number s name ≡ o → Numbers t kind name (put_back t kind (found_or o s name))
+    go (Some i) place =
+        inl (i, found_name s.names name i place, ap (λ (u : Tables). Some (i, u)) (same_space t kind))
+    go None place = new (nat_lt (length s.names) s.limit) refl
+
+-- a name with an earlier number had it, and nothing changes; with another it is added
+pub name_numbered : (t u : Tables) (kind : Kind) (name : List ℕ) (n : ℕ) → number_in t kind name ≡ Some (n, u)
+    → (n < length (space t kind).names → (slice_get (space t kind).names n ≡ Some name) × (u ≡ t))
+    × (length (space t kind).names ≤ n → u ≡ with_space t kind (with_name (space t kind) name))
+name_numbered t u kind name n e = go (numbers t kind name)
+  where
+    s : Numbered
+    s = space t kind
+
+    go : Numbers t kind name (number_in t kind name)
+        → (n < length s.names → (slice_get s.names n ≡ Some name) × (u ≡ t))
+        × (length s.names ≤ n → u ≡ with_space t kind (with_name s name))
+    go (inl (i, at, is)) =
+        let same = same_Some (i, t) (n, u) (sym is ∙ e) in
+        let place = ap (λ (p : ℕ × Tables). p.0) same in
+        let within = slice_get_within s.names i name at in (
+          λ _. (ap (slice_get s.names) (sym place) ∙ at, sym (ap (λ (p : ℕ × Tables). p.1) same)),
+          λ past. absurd (omega (arith, past, within, place)),
+        )
+    go (inr (inl is)) =
+        let same = same_Some (length s.names, with_space t kind (with_name s name)) (n, u) (sym is ∙ e) in
+        let place = ap (λ (p : ℕ × Tables). p.0) same in
+        (λ before. absurd (omega (arith, before, place)), λ _. sym (ap (λ (p : ℕ × Tables). p.1) same))
+    go (inr (inr full)) = absurd (let bad : None ≡ Some (n, u) = sym full.0 ∙ e in cc)
+
+-- a name that gets no number finds as many as the limit
+pub no_more : (t : Tables) (kind : Kind) (name : List ℕ) → number_in t kind name ≡ None
+    → (space t kind).limit ≤ length (space t kind).names
+no_more t kind name e = go (numbers t kind name)
+  where
+    go : Numbers t kind name (number_in t kind name) → (space t kind).limit ≤ length (space t kind).names
+    go (inl (i, at, is)) = absurd (let bad : Some (i, t) ≡ None = sym is ∙ e in cc)
+    go (inr (inl is)) = absurd (let bad = sym is ∙ e in cc)
+    go (inr (inr full)) = full.1
 
 -- ---- a list of names
 

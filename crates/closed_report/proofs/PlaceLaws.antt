@@ -5,8 +5,9 @@ use Rattle.std.proofs.Common.{length, take, set, get_or, nat_eq, nat_lt, count_b
 use Rattle.std.specs.Prelude.{slice_get}
 use Rattle.std.specs.List.{position_or_len}
 use Rattle.std.specs.Option.{option_or}
-use Rattle.std.proofs.Math.Seq.{take-suc}
-use Rattle.std.proofs.lemmas.Bool.{cases_lt, eqb-true, eq-eqb, ltb-false}
+use Rattle.std.specs.Cmp.Derive.{both_true}
+use Rattle.std.proofs.lemmas.Bool.{cases_eq, cases_lt, eqb-true, eq-eqb, ltb-false}
+use Rattle.std.proofs.lemmas.List.{get_or-set_same, get_or-set_other, length-set, length-take, take_more}
 use Rattle.std.proofs.lemmas.List.Elements.{All-more, All-weaker, All-head, All-tail}
 use Rattle.std.proofs.lemmas.List.Folds.{find_at, find-append}
 use Rattle.std.proofs.lemmas.List.Quantifiers.{position-Some}
@@ -32,10 +33,6 @@ both : (a b : Bool) → (a && b) ≡ true → (a ≡ true) × (b ≡ true)
 both true b e = (refl, e)
 both false b e = absurd cc
 
-each_true : (a b : Bool) → a ≡ true → b ≡ true → (a && b) ≡ true
-each_true true b x y = y
-each_true false b x y = absurd cc
-
 same : (p q : Place) → same_place p q ≡ true → p ≡ q
 same p q e =
     let parts = both (nat_eq p.site.0 q.site.0) (nat_eq p.with.0 q.with.0 && nat_eq p.var.0 q.var.0) e in
@@ -49,10 +46,8 @@ same p q e =
 
 itself : (p : Place) → same_place p p ≡ true
 itself p =
-    each_true (nat_eq p.site.0 p.site.0) (nat_eq p.with.0 p.with.0 && nat_eq p.var.0 p.var.0)
-    (eq-eqb p.site.0 p.site.0 refl)
-    (each_true (nat_eq p.with.0 p.with.0) (nat_eq p.var.0 p.var.0) (eq-eqb p.with.0 p.with.0 refl)
-    (eq-eqb p.var.0 p.var.0 refl))
+    both_true (eq-eqb p.site.0 p.site.0 refl)
+    (both_true (eq-eqb p.with.0 p.with.0 refl) (eq-eqb p.var.0 p.var.0 refl))
 
 other : (p q : Place) → same_place p q ≡ false → p ≡ q → ⊥
 other p q no' e =
@@ -108,16 +103,10 @@ get_of_take (suc n) (y ∷ ys) (suc j) x at =
 
 -- ---- one race more
 
-taken : {X : Type 0} (xs : List X) (n : ℕ) (d : X) → n < length xs
-    → take (n + 1) xs ≡ take n xs ++ get_or xs n d ∷ []
-taken xs n d lt =
-    let more : n + 1 ≡ suc n = omega arith in
-    ap (λ (m : ℕ). take m xs) more ∙ take-suc xs n d lt
-
 find_kept : (p : Race → Bool) (rs : List Race) (n : ℕ) (d f : Race) → n < length rs
     → find p (take n rs) ≡ Some f → find p (take (n + 1) rs) ≡ Some f
 find_kept p rs n d f lt e =
-    ap (find p) (taken rs n d lt) ∙ find-append p (take n rs) (get_or rs n d ∷ [])
+    ap (find p) (take_more rs n d lt) ∙ find-append p (take n rs) (get_or rs n d ∷ [])
     ∙ ap (λ (o : Option Race). option_or o (find p (get_or rs n d ∷ []))) e
 
 none_counted : (p : Race → Bool) (xs : List Race) → All (λ x. p x ≡ false) xs → count_by p xs ≡ 0
@@ -138,27 +127,20 @@ none_found p (x ∷ xs) none =
     ∙ none_found p xs (All-tail (λ (y : Race). p y ≡ false) x xs none)
 
 module _ (log : List Event) (rs : List Race) (n : ℕ) (d : Race) (lt : n < length rs) where
-  -- a place with the race
-  with_it : (q s : PlaceRaces) → IsCounted log (take n rs) q → s.place ≡ q.place → s.first ≡ q.first
-      → is_at log q.place (get_or rs n d) ≡ true → s.races ≡ q.races + 1 → IsCounted log (take (n + 1) rs) s
-  with_it q s c place first here more = record {
-    count = more ∙ ap (λ (k : ℕ). k + 1) c.count
-        ∙ sym (count_by_more_yes (is_at log q.place) rs n d lt here)
-        ∙ ap (λ (p : Place). count_by (is_at log p) (take (n + 1) rs)) (sym place);
+  -- a place that was found, with its races counted again
+  still_counted : (q s : PlaceRaces) → IsCounted log (take n rs) q → s.place ≡ q.place → s.first ≡ q.first
+      → s.races ≡ count_by (is_at log q.place) (take (n + 1) rs) → IsCounted log (take (n + 1) rs) s
+  still_counted q s c place first count = record {
+    count = count ∙ ap (λ (p : Place). count_by (is_at log p) (take (n + 1) rs)) (sym place);
     first = ap (λ (p : Place). find (is_at log p) (take (n + 1) rs)) place
         ∙ find_kept (is_at log q.place) rs n d q.first lt c.first ∙ ap Some (sym first);
   }
 
-  -- another place
-  without_it : (q s : PlaceRaces) → IsCounted log (take n rs) q → s.place ≡ q.place → s.first ≡ q.first
+  -- one that has no part of the race
+  not_there : (q s : PlaceRaces) → IsCounted log (take n rs) q → s.place ≡ q.place → s.first ≡ q.first
       → is_at log q.place (get_or rs n d) ≡ false → s.races ≡ q.races → IsCounted log (take (n + 1) rs) s
-  without_it q s c place first there as_many = record {
-    count = as_many ∙ c.count
-        ∙ sym (count_by_more_no (is_at log q.place) rs n d lt there)
-        ∙ ap (λ (p : Place). count_by (is_at log p) (take (n + 1) rs)) (sym place);
-    first = ap (λ (p : Place). find (is_at log p) (take (n + 1) rs)) place
-        ∙ find_kept (is_at log q.place) rs n d q.first lt c.first ∙ ap Some (sym first);
-  }
+  not_there q s c place first there as_many = still_counted q s c place first
+      (as_many ∙ c.count ∙ sym (count_by_more_no (is_at log q.place) rs n d lt there))
 
   -- a new place
   first_of_it : All (λ r. is_at log (place_of log (get_or rs n d)) r ≡ false) (take n rs)
@@ -170,7 +152,7 @@ module _ (log : List Event) (rs : List Race) (n : ℕ) (d : Race) (lt : n < leng
       record {
         count = sym (count_by_more_yes test rs n d lt here
             ∙ ap (λ (k : ℕ). k + 1) (none_counted test (take n rs) none));
-        first = ap (find test) (taken rs n d lt) ∙ find-append test (take n rs) (r ∷ [])
+        first = ap (find test) (take_more rs n d lt) ∙ find-append test (take n rs) (r ∷ [])
             ∙ ap (λ (o : Option Race). option_or o (find test (r ∷ []))) (none_found test (take n rs) none)
             ∙ ap (λ (b : Bool). cond b (Some r) None) here;
       }
@@ -185,17 +167,6 @@ module _ (log : List Event) (rs : List Race) (n : ℕ) (d : Race) (lt : n < leng
 
 -- ---- where the place stands already
 
-kept_place : (found : List PlaceRaces) (k : ℕ) (d : PlaceRaces) (m : ℕ) (q : PlaceRaces)
-    → slice_get found m ≡ Some q
-    → (s : PlaceRaces) × (slice_get (set found k (one_more (get_or found k d))) m ≡ Some s)
-    × (s.place ≡ q.place)
-kept_place [] k d m q at = absurd cc
-kept_place (x ∷ xs) zero d zero q at =
-    (one_more x, refl, ap (λ (s : PlaceRaces). s.place) (same_Some x q at))
-kept_place (x ∷ xs) zero d (suc m) q at = (q, at, refl)
-kept_place (x ∷ xs) (suc k) d zero q at = (q, at, refl)
-kept_place (x ∷ xs) (suc k) d (suc m) q at = kept_place xs k d m q at
-
 -- what stood there before one of them was counted
 record Was (found : List PlaceRaces) (k m : ℕ) (s : PlaceRaces) : Type 0 where
   q : PlaceRaces
@@ -204,46 +175,52 @@ record Was (found : List PlaceRaces) (k m : ℕ) (s : PlaceRaces) : Type 0 where
   first : s.first ≡ q.first
   races : ((m ≡ k) × (s.races ≡ q.races + 1)) ⊎ ((m ≡ k → ⊥) × (s.races ≡ q.races))
 
-was_next : (x : PlaceRaces) (xs : List PlaceRaces) (k m : ℕ) (s : PlaceRaces) → Was xs k m s
-    → Was (x ∷ xs) (suc k) (suc m) s
-was_next x xs k m s w = record {
-  q = w.q;
-  at = w.at;
-  place = w.place;
-  first = w.first;
-  races = elim w.races [
-    | inl here ↦ inl (ap suc here.0, here.1)
-    | inr there ↦ inr (λ e. there.0 (let here = e in omega arith), there.1)
-  ];
-}
+module _ (found : List PlaceRaces) (k : ℕ) (d : PlaceRaces) (m : ℕ) where
+  abbrev after : List PlaceRaces
+  after = set found k (one_more (get_or found k d))
 
-was : (found : List PlaceRaces) (k : ℕ) (d : PlaceRaces) (m : ℕ) (s : PlaceRaces)
-    → slice_get (set found k (one_more (get_or found k d))) m ≡ Some s → Was found k m s
-was [] k d m s at = absurd cc
-was (x ∷ xs) zero d zero s at =
-    let is = sym (same_Some (one_more x) s at) in
-    record {
-      q = x;
-      at = refl;
-      place = ap (λ (t : PlaceRaces). t.place) is;
-      first = ap (λ (t : PlaceRaces). t.first) is;
-      races = inl (refl, ap (λ (t : PlaceRaces). t.races) is);
-    }
-was (x ∷ xs) zero d (suc m) s at = record {
-  q = s;
-  at = at;
-  place = refl;
-  first = refl;
-  races = inr (λ e. let bad = e in omega arith, refl);
-}
-was (x ∷ xs) (suc k) d zero s at = record {
-  q = s;
-  at = at;
-  place = refl;
-  first = refl;
-  races = inr (λ e. let bad = e in omega arith, refl);
-}
-was (x ∷ xs) (suc k) d (suc m) s at = was_next x xs k m s (was xs k d m s at)
+  as_long : length after ≡ length found
+  as_long = length-set found k (one_more (get_or found k d))
+
+  was : (s : PlaceRaces) → slice_get after m ≡ Some s → Was found k m s
+  was s at = go (cases_eq m k)
+    where
+      within : m < length found
+      within = omega (arith, slice_get_within after m s at, as_long)
+
+      is : get_or after m d ≡ s
+      is = get_or_from_slice_get after m s d at
+
+      go : (m ≡ k) ⊎ (m ≡ k → ⊥) → Was found k m s
+      go (inl here) =
+          let counted : s ≡ one_more (get_or found m d) =
+          sym is ∙ ap (λ (i : ℕ). get_or after i d) here
+          ∙ get_or-set_same found k (one_more (get_or found k d)) d (omega (arith, within))
+          ∙ ap (λ (i : ℕ). one_more (get_or found i d)) (sym here) in
+          record {
+            q = get_or found m d;
+            at = slice_get-get_or found m d within;
+            place = ap (λ (t : PlaceRaces). t.place) counted;
+            first = ap (λ (t : PlaceRaces). t.first) counted;
+            races = inl (here, ap (λ (t : PlaceRaces). t.races) counted);
+          }
+      go (inr other) =
+          let same = sym (get_or-set_other found k m (one_more (get_or found k d)) d other) ∙ is in
+          record {
+            q = s;
+            at = slice_get-get_or found m d within ∙ ap Some same;
+            place = refl;
+            first = refl;
+            races = inr (other, refl);
+          }
+
+  kept_place : (q : PlaceRaces) → slice_get found m ≡ Some q
+      → (s : PlaceRaces) × (slice_get after m ≡ Some s) × (s.place ≡ q.place)
+  kept_place q at =
+      let within = slice_get_within found m q at in
+      let there = slice_get-get_or after m d (omega (arith, within, as_long)) in
+      let w = was (get_or after m d) there in
+      (get_or after m d, there, w.place ∙ ap (λ (t : PlaceRaces). t.place) (same_Some w.q q (sym w.at ∙ at)))
 
 module _ (log : List Event) (rs : List Race) (n : ℕ) (d : Race) (lt : n < length rs)
     (found : List PlaceRaces) (by : AreByPlace log (take n rs) found) where
@@ -274,10 +251,12 @@ module _ (log : List Event) (rs : List Race) (n : ℕ) (d : Race) (lt : n < leng
               | inl now ↦
                   let q_is : w.q ≡ g = same_Some w.q g
                   (sym w.at ∙ (ap (slice_get found) now.0 ∙ stands)) in
-                  with_it log rs n d lt w.q s (by.each m w.q w.at) w.place w.first
-                  (ap (λ (t : PlaceRaces). same_place t.place (place_of log r)) q_is ∙ here) now.1
+                  let at_place = ap (λ (t : PlaceRaces). same_place t.place (place_of log r)) q_is ∙ here in
+                  still_counted log rs n d lt w.q s (by.each m w.q w.at) w.place w.first
+                  (now.1 ∙ ap (λ (k : ℕ). k + 1) (by.each m w.q w.at).count
+                  ∙ sym (count_by_more_yes (is_at log w.q.place) rs n d lt at_place))
               | inr there ↦
-                  without_it log rs n d lt w.q s (by.each m w.q w.at) w.place w.first
+                  not_there log rs n d lt w.q s (by.each m w.q w.at) w.place w.first
                   (apart w.q.place (place_of log r)
                   (λ e. once_kept k m g w.q stands w.at there.0 (e ∙ sym is))) there.1
             ];
@@ -316,7 +295,7 @@ module _ (log : List Event) (rs : List Race) (n : ℕ) (d : Race) (lt : n < leng
       record {
         each = λ m s at. elim (front_or_last found added m s at) [
           | inl old ↦
-              without_it log rs n d lt s s (by.each m s old) refl refl (none m s old) refl
+              not_there log rs n d lt s s (by.each m s old) refl refl (none m s old) refl
           | inr last ↦
               subst (λ (t : PlaceRaces). IsCounted log (take (n + 1) rs) t) (sym last.1)
               (first_of_it log rs n d lt
@@ -398,11 +377,11 @@ counted log rs n d found lt rise by = go (position test found) refl
         let at = position-Some test found k (new_place (place_of log r) r) is in
         known log rs n d lt found by k (new_place (place_of log r) r) at.0 at.1
 
-pub added : (log events : List Event) (rs : List Race) (n : ℕ) (d : Race) (found new : List PlaceRaces)
-    (p : Place) → n < length rs → Rises rs → AreByPlace log (take n rs) found → events ≡ log
+pub added : {log events : List Event} (rs : List Race) (n : ℕ) (d : Race) {found new : List PlaceRaces}
+    {p : Place} → n < length rs → Rises rs → AreByPlace log (take n rs) found → events ≡ log
     → p ≡ place_of events (get_or rs n d) → new ≡ with_race p (get_or rs n d) found
     → AreByPlace log (take (n + 1) rs) new
-added log events rs n d found new p lt rise by same_log place is =
+added {log} rs n d {found = found} lt rise by same_log place is =
     let r = get_or rs n d in
     subst (λ (qs : List PlaceRaces). AreByPlace log (take (n + 1) rs) qs)
     (sym (is ∙ ap (λ (q : Place). with_race q r found)
@@ -419,14 +398,9 @@ none_yet log found none =
       order = λ i j p q lt at next. absurd cc;
     })
 
-taken_few : {X : Type 0} (n : ℕ) (xs : List X) → length (take n xs) ≤ n
-taken_few zero xs = omega arith
-taken_few (suc n) [] = omega arith
-taken_few (suc n) (x ∷ xs) = omega (arith, taken_few n xs)
-
 -- no place has more races than there are
 pub few : (log : List Event) (rs : List Race) (n : ℕ) (found : List PlaceRaces) (i : ℕ) (q : PlaceRaces)
     → AreByPlace log (take n rs) found → slice_get found i ≡ Some q → q.races ≤ n
 few log rs n found i q by at =
     let counts = (by.each i q at).count in
-    omega (arith, counts, count_by-le-length (is_at log q.place) (take n rs), taken_few n rs)
+    omega (arith, counts, count_by-le-length (is_at log q.place) (take n rs), length-take n rs)

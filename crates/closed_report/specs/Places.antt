@@ -1,6 +1,6 @@
 -- Where the races of a log are.
 use Rattle.std.specs.Prelude.{◌≡◌, ◌≢◌, ℕ, ◌<◌, Bool, ◌&&◌, List, [], ◌∷◌, ◌++◌, Option, Some, None, nat_eq}
-use Rattle.std.specs.Prelude.{◌+◌, slice_get, get_or, set, position, codes, count_by, find, All}
+use Rattle.std.specs.Prelude.{◌+◌, slice_get, get_or, set, position, codes, count_by, find, All, flat_map}
 use Rattle.std.specs.Io.KnownBytes.{Appends}
 use Rattle.event_core.specs.declared.ids.SiteId.{SiteId}
 use Rattle.event_core.specs.declared.ids.VarId.{VarId}
@@ -104,8 +104,7 @@ place_line names log q =
     ++ race_line names log q.first.event (Racy q.first.with)
 
 abbrev pub place_lines : Tables → List Event → List PlaceRaces → List ℕ
-place_lines names log [] = []
-place_lines names log (q ∷ qs) = place_line names log q ++ place_lines names log qs
+place_lines names log = flat_map (place_line names log)
 
 -- the line of counts and a line for each of these places were written, and this is the summary
 pub record IsPlaceReportOf (names : Tables) (log : List Event) (found : List PlaceRaces)

@@ -1,5 +1,5 @@
 -- Numbers of a log that have no name.
-use Rattle.std.specs.Prelude.{◌≡◌, ◌⊎◌, ℕ, ◌<◌, ◌≤◌, List, Result, Err, Some, length, slice_get}
+use Rattle.std.specs.Prelude.{◌≡◌, ◌⊎◌, ℕ, ◌<◌, ◌≤◌, List, Result, IsErrAnd, Some, length, slice_get}
 use Rattle.event_core.specs.declared.events.Event.{Event}
 use Rattle.rapid_text.specs.declared.causes.Kind.{Kind}
 use Rattle.rapid_text.specs.declared.causes.Kind.TheVariants as kinds
@@ -24,17 +24,16 @@ pub record IsUnnamed (names : Tables) (log : List Event) (kind : Kind) (n index 
   pub unnamed : length (space names kind).names ≤ n
   pub earlier : (j : ℕ) (e : Event) → j < index → slice_get log j ≡ Some e → HasNames names e
 
--- the fault tells the first event of which a number has no name
-abbrev pub IsFirst : Tables → List Event → ReportFault → Type 0
-IsFirst names log (Unnamed kind n index) = IsUnnamed names log kind n index
-IsFirst names log Write = ⊥
+-- the fault is that a number has no name
+abbrev pub LacksName : ReportFault → Type 0
+LacksName (Unnamed kind n index) = Unit {0}
+LacksName Write = ⊥
 
--- the answer tells that a number has no name
+-- the answer is that a number has no name
 abbrev pub TellsUnnamed : Result Summary ReportFault → Type 0
-TellsUnnamed (Err (Unnamed kind n index)) = Unit {0}
-TellsUnnamed _ = ⊥
+TellsUnnamed answer = IsErrAnd answer LacksName
 
--- where the fault is that a number has no name, it tells the first
+-- where the fault is that a number has no name, it has the first event with such a number
 abbrev pub IsReason : Tables → List Event → ReportFault → Type 0
 IsReason names log (Unnamed kind n index) = IsUnnamed names log kind n index
 IsReason names log Write = Unit {0}

@@ -3,7 +3,7 @@ ghost use Rattle.std.specs.Prelude.{◌≡◌, ◌≤◌, ◌↔◌, true, lengt
 ghost use Rattle.rapid_text.specs.Events.{HasNames};
 ghost use Rattle.rapid_text.specs.Tables.{space};
 ghost use Rattle.trace_report.specs.Reports.{AreNamed};
-ghost use Rattle.closed_report.specs.Unnamed.{HasNumber, IsFirst};
+ghost use Rattle.closed_report.specs.Unnamed.{HasNumber, IsReason, LacksName};
 
 use crate::reporting::ReportFault;
 use event_core::{Event, Log};
@@ -35,10 +35,12 @@ fn unnamed_number(names: &Names, event: &Event) -> Option<(Kind, u32)>
     None
 }
 
-/// Whether each number of each event has a name. Else the first event of which one has none is told.
+/// Whether each number of each event has a name. Else the fault has the first event with a number that has
+/// none.
 pub fn all_named(names: &Names, log: &Log) -> Result<(), ReportFault>
     ensures named { IsOk result ↔ AreNamed names.now log.now.events }
-    ensures first { IfErr result (IsFirst names.now log.now.events) }
+    ensures unnamed { IfErr result LacksName }
+    ensures first { IfErr result (IsReason names.now log.now.events) }
 {
     let mut index = 0;
     'events: while index < log.len() {

@@ -206,9 +206,7 @@ pub fn report_places<W: Output>(
     ensures failed { IsErrOf result ReportFault.Write → W.failed writer.new ≡ true }
 {
     let log = closed.log();
-    if let Err(fault) = all_named(names, log) {
-        return Err(fault);
-    }
+    all_named(names, log)?;
     let summary = Summary::of(log, closed.verdicts(), names);
     match write_places(writer, log, names, &summary, places) {
         Ok(()) => Ok(summary),

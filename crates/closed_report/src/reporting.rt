@@ -43,9 +43,7 @@ pub fn report_closed<W: Output>(
     ensures failed { IsErrOf result ReportFault.Write → W.failed writer.new ≡ true }
 {
     let log = closed.log();
-    if let Err(fault) = all_named(names, log) {
-        return Err(fault);
-    }
+    all_named(names, log)?;
     match report(writer, log, closed.verdicts(), names) {
         Ok(summary) => Ok(summary),
         Err(_) => Err(ReportFault::Write),

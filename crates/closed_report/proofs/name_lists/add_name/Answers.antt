@@ -1,7 +1,6 @@
-use Rattle.std.proofs.Common.{◌<◌, arith, length, refl, rules}
+use Rattle.std.proofs.Common.{arith, refl, rules}
 use Rattle.event_core.proofs.Tests.{not_both}
-use Rattle.rapid_text.specs.Tables.{space}
-use Rattle.closed_report.proofs.Listing.{given_before, name_added, name_kept, no_more}
+use Rattle.closed_report.proofs.Listing.{name_numbered, no_more}
 use Rattle.closed_report.proofs.name_lists.add_name.Goals as goal
 
 pub returns-then-not-is_name_of-clause-fault : goal.returns-then-not-is_name_of-clause-fault
@@ -13,27 +12,23 @@ returns-then-not-is_name_of-clause-fault c = (
 
 pub returns-then-given-number-clause-fault : goal.returns-then-given-number-clause-fault
 returns-then-given-number-clause-fault c =
-    let earlier = c.if-given-number.true in
-    let count = c.count-number.ensures.is in
-    let within : c.in-Ok.given < length (space c.args.names.now c.args.kind).names = omega arith in
-    let at = given_before c.args.names.now c.number.new.self c.args.kind c.args.name.now c.in-Ok.given
-    c.in-Ok.ensures.grows c.in-Ok.ensures.named within in
-    (refl, count, (c.in-Ok.given, earlier, at))
+    let had = (name_numbered c.args.names.now c.number.new.self c.args.kind c.args.name.now c.in-Ok.given
+    c.in-Ok.ensures.ok).0 (omega (arith, c.count-number.ensures.is, c.if-given-number.true)) in
+    (refl, c.count-number.ensures.is, (c.in-Ok.given, c.if-given-number.true, had.0))
 
 pub returns-then-given-number-clause-unchanged : goal.returns-then-given-number-clause-unchanged
 returns-then-given-number-clause-unchanged c =
-    let earlier = c.if-given-number.true in
-    let count = c.count-number.ensures.is in
-    name_kept c.args.names.now c.number.new.self c.args.kind c.args.name.now c.in-Ok.given
-    c.in-Ok.ensures.ok (omega arith)
+    ((name_numbered c.args.names.now c.number.new.self c.args.kind c.args.name.now c.in-Ok.given
+    c.in-Ok.ensures.ok).0 (omega (arith, c.count-number.ensures.is, c.if-given-number.true))).1
 
 pub returns-else-given-number-clause-ok : goal.returns-else-given-number-clause-ok
 returns-else-given-number-clause-ok c =
     let past = c.if-given-number.false in
-    let count = c.count-number.ensures.is in
-    let added = name_added c.args.names.now c.number.new.self c.args.kind c.args.name.now c.in-Ok.given
-    c.in-Ok.ensures.ok c.in-Ok.ensures.named (omega arith) in
-    (count, added)
+    let count = c.count-number.ensures.is in (
+      count,
+      (name_numbered c.args.names.now c.number.new.self c.args.kind c.args.name.now c.in-Ok.given
+          c.in-Ok.ensures.ok).1 (omega (arith, count, past)),
+    )
 
 pub returns-in-Err-TooMany-clause-fault : goal.returns-in-Err-TooMany-clause-fault
 returns-in-Err-TooMany-clause-fault c = (

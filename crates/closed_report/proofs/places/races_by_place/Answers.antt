@@ -1,5 +1,5 @@
 use Rattle.std.proofs.Common.{◌≡◌, ℕ, List, [], rules, length, take, ap, subst, ◌∙◌, arith}
-use Rattle.std.proofs.Math.Seq.{take-length}
+use Rattle.std.proofs.lemmas.List.{take_all}
 use Rattle.verdict_list.specs.declared.verdicts.Race.{Race}
 use Rattle.closed_report.specs.Places.{AreByPlace}
 use Rattle.closed_report.proofs.PlaceLaws.{added, few, none_yet, rises}
@@ -22,18 +22,13 @@ add_race-requires c = record {
 pub loop-race-preserved : goal.loop-race-preserved
 loop-race-preserved c =
     let races = c.races-race-items.result.now in
-    added c.args.closed.now.log c.log-log.result.now.events races c.loop-race.race-index _
-    c.loop-race.found.items _ c.place_of.result c.loop-race-test.true
+    added races c.loop-race.race-index _ c.loop-race-test.true
     (rises races c.verdicts.result.now.verdicts c.races-race-items.ensures)
     c.loop-race.invariant c.log-log.ensures.log c.place_of.ensures c.in_ok-add_race.ensures.ok
 
 pub returns : goal.returns
 returns c =
     let races = c.races-race-items.result.now in
-    let index = c.loop-race.race-index in
-    let past = c.loop-race-test.false in
-    let within = c.loop-race.auto.race-index-end in
-    let ended : index ≡ length races = omega arith in
     record {
       races = races;
       are = record {
@@ -42,5 +37,5 @@ returns c =
         all = c.races-race-items.ensures;
       };
       by_place = subst (λ (rs : List Race). AreByPlace c.args.closed.now.log rs c.loop-race.found.items)
-          (ap (λ (n : ℕ). take n races) ended ∙ take-length races) c.loop-race.invariant;
+          (take_all c.loop-race.race-index races c.loop-race-test.false) c.loop-race.invariant;
     }

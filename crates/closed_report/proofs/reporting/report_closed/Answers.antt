@@ -1,58 +1,34 @@
-use Rattle.std.proofs.Common.{List, Ok, Err, rules, subst, sym}
-use Rattle.event_core.specs.declared.events.Event.{Event}
-use Rattle.seq_monitor.specs.Monitored.{AreVerdicts}
-use Rattle.trace_report.specs.Reports.{AreNamed, AreWithin}
+use Rattle.std.proofs.Common.{Ok, Err, refl, rules}
 use Rattle.trace_report.proofs.TellingLaws.{verdicts_within}
-use Rattle.closed_report.specs.Closed.{IsReportOf}
-use Rattle.closed_report.specs.Unnamed.{IsFirst}
 use Rattle.closed_report.specs.declared.reporting.ReportFault.TheVariants.{Write}
-use Rattle.closed_report.proofs.Telling.{is_ok, not_told, reason, told}
+use Rattle.closed_report.proofs.Telling.{not_told}
 use Rattle.closed_report.proofs.reporting.report_closed.Goals as goal
 
-pub returns-in-Err-clause-unnamed : goal.returns-in-Err-clause-unnamed
-returns-in-Err-clause-unnamed g c =
-    let first : IsFirst c.args.names.now c.log-log.result.now.events c.in-Err.fault = search rules in
-    let none : AreNamed c.args.names.now c.log-log.result.now.events → ⊥ = search rules in
-    told c.args.names.now c.log-log.result.now.events c.in-Err.fault first
-    (λ named. none (subst (λ (l : List Event). AreNamed c.args.names.now l) (sym c.log-log.ensures.log)
-    named))
-
-pub returns-in-Err-clause-first : goal.returns-in-Err-clause-first
-returns-in-Err-clause-first g c =
-    let first : IsFirst c.args.names.now c.log-log.result.now.events c.in-Err.fault = search rules in
-    reason c.args.names.now _ c.in-Err.fault
-    (subst (λ (l : List Event). IsFirst c.args.names.now l c.in-Err.fault) c.log-log.ensures.log first)
+pub returns-in_err-all_named-clause-unnamed : goal.returns-in_err-all_named-clause-unnamed
+returns-in_err-all_named-clause-unnamed g c = rw (← c.log-log.ensures.log) (λ _. search rules, λ _. search rules)
 
 pub report-requires-clause-verdicts : goal.report-requires-clause-verdicts
-report-requires-clause-verdicts g c =
-    subst (λ (l : List Event). AreWithin l c.verdicts.result.now.verdicts) (sym c.log-log.ensures.log)
-    (verdicts_within _ _ c.verdicts.ensures)
+report-requires-clause-verdicts g c = rw c.log-log.ensures.log (verdicts_within _ _ c.verdicts.ensures)
 
 pub report-requires-clause-named : goal.report-requires-clause-named
-report-requires-clause-named g c = c.all_named.ensures.named.0 (is_ok c.all_named.result c.in_default.not-Err)
+report-requires-clause-named g c = c.in_ok-all_named.ensures.named.0 refl
 
 pub returns-in-Ok-clause-ok : goal.returns-in-Ok-clause-ok
 returns-in-Ok-clause-ok g c =
-    let named = c.all_named.ensures.named.0 (is_ok c.all_named.result c.in_default.not-Err) in
-    subst (λ (l : List Event). IsReportOf c.args.names.now l (g.W.Output.written c.args.writer.now)
-    (g.W.Output.written c.report.new.writer) c.in-Ok.summary) c.log-log.ensures.log
-    (record {
+    rw (← c.log-log.ensures.log) (record {
       verdicts = c.verdicts.result.now.verdicts;
-      judged = subst (λ (l : List Event). AreVerdicts l c.verdicts.result.now.verdicts)
-          (sym c.log-log.ensures.log) c.verdicts.ensures;
-      named = named;
+      judged = rw c.log-log.ensures.log c.verdicts.ensures;
+      named = c.in_ok-all_named.ensures.named.0 refl;
       written = c.in-Ok.ensures.ok;
       summary_is = c.in-Ok.ensures.summary;
     })
 
 pub returns-in-Ok-clause-unnamed : goal.returns-in-Ok-clause-unnamed
 returns-in-Ok-clause-unnamed g c =
-    let named = c.all_named.ensures.named.0 (is_ok c.all_named.result c.in_default.not-Err) in
-    not_told (Ok c.in-Ok.summary) (λ never. never)
-    (subst (λ (l : List Event). AreNamed c.args.names.now l) c.log-log.ensures.log named)
+    rw (← c.log-log.ensures.log) (not_told (Ok c.in-Ok.summary) (λ never. never)
+    (c.in_ok-all_named.ensures.named.0 refl))
 
-pub returns-in-Err-report-clause-unnamed : goal.returns-in-Err-report-clause-unnamed
-returns-in-Err-report-clause-unnamed g c =
-    let named = c.all_named.ensures.named.0 (is_ok c.all_named.result c.in_default.not-Err) in
-    not_told (Err Write) (λ never. never)
-    (subst (λ (l : List Event). AreNamed c.args.names.now l) c.log-log.ensures.log named)
+pub returns-in-Err-clause-unnamed : goal.returns-in-Err-clause-unnamed
+returns-in-Err-clause-unnamed g c =
+    rw (← c.log-log.ensures.log) (not_told (Err Write) (λ never. never)
+    (c.in_ok-all_named.ensures.named.0 refl))
