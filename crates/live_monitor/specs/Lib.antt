@@ -1,6 +1,6 @@
+pub mod Acts
 pub mod Calls
 pub mod Rules
-pub mod Swaps
 pub mod Books
 pub mod ClosedLog
 pub mod Tries
