@@ -20,12 +20,8 @@ use Rattle.script_drive.specs.Lines.{IsJoinedFrom}
 use Rattle.script_drive.specs.Runs.{IsRunOf}
 
 op_asks : (u : ThreadId) (o : Op) → is_thread u.0 (op_join o) ≡ true → op_joins u o ≡ true
-op_asks u (Load x) test = absurd (cc test)
-op_asks u (Store x) test = absurd (cc test)
-op_asks u (Acquire l) test = absurd (cc test)
-op_asks u (Release l) test = absurd (cc test)
-op_asks u (Fork v) test = absurd (cc test)
 op_asks u (Join v) test = test
+op_asks u _ test = absurd (cc test)
 
 act_asks : (u : ThreadId) (a : Act) → is_thread u.0 (act_join a) ≡ true
     → list_any (joins u) (asked_by a) ≡ true

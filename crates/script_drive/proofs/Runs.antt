@@ -152,11 +152,7 @@ module _ (script : List ScriptLine) (l : ScriptLine) (p : PassView) (next : IsNe
 
 value_given : (log : List Event) (op : Op) (arg : ℕ) → given op (value_of log op arg) ≡ given op arg
 value_given log (Load x) arg = refl
-value_given log (Store x) arg = refl
-value_given log (Acquire l) arg = refl
-value_given log (Release l) arg = refl
-value_given log (Fork u) arg = refl
-value_given log (Join u) arg = refl
+value_given log _ arg = refl
 
 -- the event of a line's call is what the line asks for
 pub event_asked : (log : List Event) (l : ScriptLine) (call : Call) (t : ThreadId) (op : Op) (arg : ℕ)

@@ -22,12 +22,11 @@ use Rattle.event_core.specs.declared.replies.Refusal.TheVariants.{ThreadRange, N
 use Rattle.event_core.specs.declared.replies.Refusal.TheVariants.{Held, NotHolder, SelfTarget, AlreadyStarted}
 use Rattle.event_core.specs.declared.replies.Refusal.TheVariants.{TargetNotStarted, LogFull, OutOfMemory}
 use Rattle.event_core.specs.declared.replies.Reply.{Reply}
-use Rattle.event_core.specs.declared.replies.SwapReply.{SwapReply}
 use Rattle.event_core.specs.Acts.{swap_refusal}
+use Rattle.live_monitor.specs.Acts.{act_refusal}
 use Rattle.event_core.specs.Refusal.{first_of, op_is_acquire, reasons, refusal}
 use Rattle.event_core.specs.Steps.{log_of}
-use Rattle.live_monitor.specs.Calls.{call_by, Declined, HasComeTo}
-use Rattle.live_monitor.specs.Swaps.{DeclinedSwap}
+use Rattle.live_monitor.specs.Calls.{call_by, Declined, DeclinedAct, HasComeTo}
 use Rattle.live_monitor.specs.Tries.{AreUsedUp, Tried}
 use Rattle.log_pass.specs.declared.views.PassView.{PassView}
 use Rattle.script_text.specs.declared.lines.ScriptLine.{ScriptLine}
@@ -35,14 +34,14 @@ use Rattle.script_text.specs.Lines.{act_join, act_thread, is_of, op_join, thread
 use Rattle.script_drive.specs.declared.faults.DriveFault.{DriveFault}
 use Rattle.script_drive.specs.declared.faults.Halt.{Halt}
 use Rattle.script_drive.specs.declared.faults.Halt.TheVariants.{Abandoned, Fault}
-use Rattle.script_drive.specs.Faults.{act_acquires, act_refusal, act_waits, is_told, op_waits, rank}
+use Rattle.script_drive.specs.Faults.{act_acquires, act_waits, is_told, op_waits, rank}
 use Rattle.script_drive.specs.Faults.{refused_at, Fits, IsAnswer, IsAnswered, IsDue, IsEarlier, IsFaultOf}
 use Rattle.script_drive.specs.Faults.{IsFirst, IsHaltOf, IsHeldBack, IsNext, Refuses}
 use Rattle.script_drive.specs.Lines.{lines_by}
 use Rattle.script_drive.specs.Runs.{IsRunOf}
 use Rattle.script_drive.specs.Workers.{HasDone}
 use Rattle.script_drive.proofs.Progress.{done_later, made_of, own_place, own_thread}
-use Rattle.script_drive.proofs.ToldRefusals.{call_told, swap_told}
+use Rattle.script_drive.proofs.ToldRefusals.{act_told}
 
 -- ---- which is answered
 
@@ -75,17 +74,9 @@ answered_by halt (g ∷ gs) (Some other) f none is answer = (other, is, answer)
 
 refused_fits : (m : Limits) (ahead : Bool) (script : List ScriptLine) (l : ScriptLine) (why : Refusal)
     → Contains script l → is_told why ≡ true → Refuses m script l why → Fits m ahead script (refused_at l why)
-refused_fits m ahead script l ThreadRange line told r = (told, (l, line, (refl, refl, r)))
-refused_fits m ahead script l NotStarted line told r = (told, (l, line, (refl, refl, r)))
-refused_fits m ahead script l Ended line told r = (told, (l, line, (refl, refl, r)))
-refused_fits m ahead script l TargetRange line told r = (told, (l, line, (refl, refl, r)))
 refused_fits m ahead script l (Held by) line told r = absurd (cc told)
-refused_fits m ahead script l NotHolder line told r = (told, (l, line, (refl, refl, r)))
-refused_fits m ahead script l SelfTarget line told r = (told, (l, line, (refl, refl, r)))
-refused_fits m ahead script l AlreadyStarted line told r = (told, (l, line, (refl, refl, r)))
-refused_fits m ahead script l TargetNotStarted line told r = (told, (l, line, (refl, refl, r)))
-refused_fits m ahead script l LogFull line told r = (told, (l, line, (refl, refl, r)))
 refused_fits m ahead script l OutOfMemory line told r = tt
+refused_fits m ahead script l _ line told r = (told, (l, line, (refl, refl, r)))
 
 -- the definition refuses the act so, and not for another thread's hold; or memory ran out
 abbrev IsReason : Limits → List Event → Act → Refusal → Type 0
@@ -132,25 +123,30 @@ same_refusal m log c d thread op = λ i.
     first_of (reasons m log call)
 
 -- so is a line's, whose call its worker makes
-line_refusal : (m : Limits) (log : List Event) (l : ScriptLine) (call : Call) (op : Op) (site : SiteId)
-    (arg : ℕ) (t : ThreadId) → l.act ≡ One call → call.op ≡ op → thread_of l ≡ t
+pub line_refusal : (m : Limits) {l : ScriptLine} {call : Call} {op : Op} {t : ThreadId} (site : SiteId)
+    (arg : ℕ) → l.act ≡ One call → call.op ≡ op → thread_of l ≡ t → (log : List Event)
     → act_refusal m log l.act ≡ refusal m log (call_by t op site arg)
-line_refusal m log l call op site arg t act is thread = ap (act_refusal m log) act
+line_refusal m {l} {call} {op} {t} site arg act is thread log = ap (act_refusal m log) act
     ∙ same_refusal m log call (call_by t op site arg) (sym (ap act_thread act) ∙ thread) is
 
--- of a line's call; of an acquire the refusal is told where another thread's hold is not the answer
-pub call_fits : (m : Limits) (ahead : Bool) (script : List ScriptLine) (l : ScriptLine) (call : Call)
-    (op : Op) (site : SiteId) (arg : ℕ) (p q : PassView) (why : Refusal) → l.act ≡ One call → call.op ≡ op
-    → IsNext script l p → thread_of l ≡ p.thread → HasComeTo m p q → IsRunOf script (log_of q.seen)
-    → Declined m (call_by p.thread op site arg) p q why → (op_is_acquire op ≡ true → is_told why ≡ true)
-    → IsFaultOf m ahead script (refused_at l why)
-call_fits m ahead script l call op site arg p q why act is next thread later run declined acquire =
+-- and whose swap
+pub swap_refusal_of : (m : Limits) {l : ScriptLine} {t u : ThreadId} {x : VarId} {site : SiteId} {arg : ℕ}
+    → l.act ≡ Swap t x site arg → thread_of l ≡ u → (log : List Event)
+    → act_refusal m log l.act ≡ swap_refusal m log u x
+swap_refusal_of m {x = x} act thread log = ap (act_refusal m log) act
+    ∙ ap (λ (u : ThreadId). swap_refusal m log u x) (sym (ap act_thread act) ∙ thread)
+
+-- of an act that is refused as its line's; of an acquire the refusal is told where another thread's hold is
+-- not the answer
+pub act_fits : (m : Limits) (ahead : Bool) {script : List ScriptLine} (l : ScriptLine) {p q : PassView}
+    {made : Act} (why : Refusal) → IsNext script l p → HasComeTo m p q → IsRunOf script (log_of q.seen)
+    → DeclinedAct m made p q why → ((log : List Event) → act_refusal m log l.act ≡ act_refusal m log made)
+    → (act_acquires made ≡ true → is_told why ≡ true) → IsFaultOf m ahead script (refused_at l why)
+act_fits m ahead {script} l {p} {q} {made} why next later run declined same acquire =
     declined_fits m ahead script l p q why next later run declined.mine
     (elim (declined.why) as (λ _. IsReason m (log_of q.seen) l.act why) [
-      | inl refused ↦ inl (
-        line_refusal m (log_of q.seen) l call op site arg p.thread act is thread ∙ refused,
-        call_told m (log_of q.seen) (call_by p.thread op site arg) why acquire refused,
-      )
+      | inl refused ↦
+          inl (same (log_of q.seen) ∙ refused, act_told m (log_of q.seen) made why acquire refused)
       | inr memory ↦ inr (memory.0)
     ])
 
@@ -185,7 +181,7 @@ held_back m script l call lock site p q answer act is next thread later run decl
       record {
         log = log_of q.seen;
         due = due m script l p q next later run refused.mine;
-        refused = line_refusal m (log_of q.seen) l call (Acquire lock) site 0 p.thread act is thread
+        refused = line_refusal m site 0 act is thread (log_of q.seen)
             ∙ (elim (refused.why) as (λ _. refusal m (log_of q.seen)
             (call_by p.thread (Acquire lock) site 0) ≡ Some (Held (held.0))) [
               | inl why ↦ why
@@ -199,12 +195,8 @@ pub joins_alone : (a : Act) → IsSome (act_join a) → act_acquires a ≡ true 
 joins_alone (One c) joins acquires = go c.op joins acquires
   where
     go : (o : Op) → IsSome (op_join o) → op_is_acquire o ≡ true → ⊥
-    go (Load x) joins acquires = cc joins
-    go (Store x) joins acquires = cc joins
-    go (Acquire x) joins acquires = cc joins
-    go (Release x) joins acquires = cc joins
-    go (Fork u) joins acquires = cc joins
     go (Join u) joins acquires = cc acquires
+    go _ joins acquires = cc joins
 joins_alone (Swap t x site arg) joins acquires = cc joins
 
 -- it waits
@@ -212,12 +204,8 @@ joins_wait : (a : Act) → IsSome (act_join a) → act_waits a ≡ true
 joins_wait (One c) joins = go c.op joins
   where
     go : (o : Op) → IsSome (op_join o) → op_waits o ≡ true
-    go (Load x) joins = absurd (cc joins)
-    go (Store x) joins = absurd (cc joins)
-    go (Acquire x) joins = absurd (cc joins)
-    go (Release x) joins = absurd (cc joins)
-    go (Fork u) joins = absurd (cc joins)
     go (Join u) joins = refl
+    go _ joins = absurd (cc joins)
 joins_wait (Swap t x site arg) joins = absurd (cc joins)
 
 -- a worker's halt is answered by a fault of the script
@@ -246,57 +234,23 @@ answer_fits m ahead script (Abandoned l) None f is fits answer =
       ),
     ) ∣₁
 
--- after a line's call
-pub call_halts : (m : Limits) (ahead : Bool) (script : List ScriptLine) (l : ScriptLine) (call : Call)
-    (op : Op) (site : SiteId) (arg : ℕ) (p q : PassView) (answer : Result Reply Refusal)
-    (result : Result PassView Halt) → l.act ≡ One call → call.op ≡ op → IsNext script l p
-    → thread_of l ≡ p.thread → HasComeTo m p q → IsRunOf script (log_of q.seen)
-    → IfErr answer (Declined m (call_by p.thread op site arg) p q)
+-- after a line's act
+pub act_halts : {T : Type 0} (m : Limits) (ahead : Bool) {script : List ScriptLine} (l : ScriptLine)
+    {p q : PassView} {made : Act} (answer : Result T Refusal) (result : Result PassView Halt)
+    → IsNext script l p → HasComeTo m p q → IsRunOf script (log_of q.seen)
+    → IfErr answer (DeclinedAct m made p q)
+    → ((log : List Event) → act_refusal m log l.act ≡ act_refusal m log made)
     → IfErr result (λ halt. IsErrAnd answer (λ why. halt ≡ Fault (refused_at l why)))
-    → (op_is_acquire op ≡ true → IfErr answer (λ why. is_told why ≡ true))
+    → (act_acquires made ≡ true → IfErr answer (λ why. is_told why ≡ true))
     → IfErr result (IsHaltOf m ahead script)
-call_halts m ahead script l call op site arg p q answer result act is next thread later run declined refused
-    acquire =
+act_halts {T} m ahead {script} l {p} {q} {made} answer result next later run declined same refused acquire =
     answered_halts m ahead script l answer result refused (fits answer declined acquire)
   where
-    fits : (a : Result Reply Refusal) → IfErr a (Declined m (call_by p.thread op site arg) p q)
-        → (op_is_acquire op ≡ true → IfErr a (λ why. is_told why ≡ true))
+    fits : (a : Result T Refusal) → IfErr a (DeclinedAct m made p q)
+        → (act_acquires made ≡ true → IfErr a (λ why. is_told why ≡ true))
         → IfErr a (λ why. IsFaultOf m ahead script (refused_at l why))
     fits (Ok x) d told = tt
-    fits (Err why) d told =
-        call_fits m ahead script l call op site arg p q why act is next thread later run d told
-
--- of a line's swap
-swap_fits : (m : Limits) (ahead : Bool) (script : List ScriptLine) (l : ScriptLine) (t : ThreadId) (x : VarId)
-    (site : SiteId) (arg : ℕ) (p q : PassView) (why : Refusal) → l.act ≡ Swap t x site arg
-    → IsNext script l p → thread_of l ≡ p.thread → HasComeTo m p q → IsRunOf script (log_of q.seen)
-    → DeclinedSwap m p.thread x p q why → IsFaultOf m ahead script (refused_at l why)
-swap_fits m ahead script l t x site arg p q why act next thread later run declined =
-    declined_fits m ahead script l p q why next later run declined.mine
-    (elim (declined.why) as (λ _. IsReason m (log_of q.seen) l.act why) [
-      | inl refused ↦ inl (
-        ap (act_refusal m (log_of q.seen)) act
-            ∙ (ap (λ (u : ThreadId). swap_refusal m (log_of q.seen) u x) (sym (ap act_thread act) ∙ thread)
-            ∙ refused),
-        swap_told m (log_of q.seen) p.thread x why refused,
-      )
-      | inr memory ↦ inr (memory.0)
-    ])
-
-pub swap_halts : (m : Limits) (ahead : Bool) (script : List ScriptLine) (l : ScriptLine) (t : ThreadId)
-    (x : VarId) (site : SiteId) (arg : ℕ) (p q : PassView) (answer : Result SwapReply Refusal)
-    (result : Result PassView Halt) → l.act ≡ Swap t x site arg → IsNext script l p
-    → thread_of l ≡ p.thread → HasComeTo m p q → IsRunOf script (log_of q.seen)
-    → IfErr answer (DeclinedSwap m p.thread x p q)
-    → IfErr result (λ halt. IsErrAnd answer (λ why. halt ≡ Fault (refused_at l why)))
-    → IfErr result (IsHaltOf m ahead script)
-swap_halts m ahead script l t x site arg p q answer result act next thread later run declined refused =
-    answered_halts m ahead script l answer result refused (fits answer declined)
-  where
-    fits : (a : Result SwapReply Refusal) → IfErr a (DeclinedSwap m p.thread x p q)
-        → IfErr a (λ why. IsFaultOf m ahead script (refused_at l why))
-    fits (Ok y) d = tt
-    fits (Err why) d = swap_fits m ahead script l t x site arg p q why act next thread later run d
+    fits (Err why) d told = act_fits m ahead l why next later run d same told
 
 -- ---- the lines of a thread
 

@@ -8,6 +8,8 @@ use mathlib.Core.Logic.{inl, inr}
 use Rattle.event_core.specs.declared.ids.ThreadId.{ThreadId}
 use Rattle.event_core.specs.declared.ids.VarId.{VarId}
 use Rattle.event_core.specs.declared.bounds.Limits.{Limits}
+use Rattle.event_core.specs.declared.events.Act.{Act}
+use Rattle.event_core.specs.declared.events.Act.TheVariants.{One, Swap}
 use Rattle.event_core.specs.declared.events.Call.{Call}
 use Rattle.event_core.specs.declared.events.Event.{Event}
 use Rattle.event_core.specs.declared.events.Op.{Op}
@@ -17,10 +19,11 @@ use Rattle.event_core.specs.declared.replies.Refusal.TheVariants.{ThreadRange, N
 use Rattle.event_core.specs.declared.replies.Refusal.TheVariants.{NotHolder, SelfTarget, AlreadyStarted}
 use Rattle.event_core.specs.declared.replies.Refusal.TheVariants.{TargetNotStarted, LogFull}
 use Rattle.event_core.specs.Acts.{swap_refusal}
+use Rattle.live_monitor.specs.Acts.{act_refusal}
 use Rattle.event_core.specs.Refusal.{already_started, first_of, held, log_full, not_holder, op_is_acquire}
 use Rattle.event_core.specs.Refusal.{forked, held_depths, in_range, joins, reasons, refusal, self_target}
 use Rattle.event_core.specs.Refusal.{target_not_started, when}
-use Rattle.script_drive.specs.Faults.{is_told}
+use Rattle.script_drive.specs.Faults.{act_acquires, is_told}
 
 -- each of these reasons is told, where it applies
 data AreTold : List (Option Refusal) → Type 0 where
@@ -65,16 +68,7 @@ other_told m log c why other refused =
     (op_told m log c.thread c.op other)))) in
     subst IsTold refused (first_told all)
 
--- a call's refusal, where an acquire's is told
-pub call_told : (m : Limits) (log : List Event) (c : Call) (why : Refusal)
-    → (op_is_acquire c.op ≡ true → is_told why ≡ true) → refusal m log c ≡ Some why → is_told why ≡ true
-call_told m log c why acquire refused =
-    elim (cases_Bool (op_is_acquire c.op)) as (λ _. is_told why ≡ true) [
-      | inl is ↦ acquire is
-      | inr other ↦ other_told m log c why other refused
-    ]
-
-pub swap_told : (m : Limits) (log : List Event) (t : ThreadId) (x : VarId) (why : Refusal)
+swap_told : (m : Limits) (log : List Event) (t : ThreadId) (x : VarId) (why : Refusal)
     → swap_refusal m log t x ≡ Some why → is_told why ≡ true
 unfolding swap_refusal
 swap_told m log t x why refused =
@@ -89,3 +83,13 @@ swap_told m log t x why refused =
     = told _ ThreadRange refl (told _ NotStarted refl (told _ Ended refl (told _ TargetRange refl
     (told _ LogFull refl none)))) in
     subst IsTold refused (first_told all)
+
+-- an act's refusal, where an acquire's is told
+pub act_told : (m : Limits) (log : List Event) (a : Act) (why : Refusal)
+    → (act_acquires a ≡ true → is_told why ≡ true) → act_refusal m log a ≡ Some why → is_told why ≡ true
+act_told m log (Swap t x site arg) why acquire refused = swap_told m log t x why refused
+act_told m log (One c) why acquire refused =
+    elim (cases_Bool (op_is_acquire c.op)) as (λ _. is_told why ≡ true) [
+      | inl is ↦ acquire is
+      | inr other ↦ other_told m log c why other refused
+    ]

@@ -11,8 +11,8 @@ use Rattle.event_core.specs.declared.events.Event.{Event}
 use Rattle.event_core.specs.declared.bounds.Limits.{Limits}
 use Rattle.event_core.specs.declared.replies.Refusal.{Refusal}
 use Rattle.event_core.specs.declared.replies.Refusal.TheVariants as refusals
-use Rattle.event_core.specs.Acts.{swap_refusal}
-use Rattle.event_core.specs.Refusal.{op_is_acquire, refusal, WellFormed}
+use Rattle.live_monitor.specs.Acts.{act_refusal}
+use Rattle.event_core.specs.Refusal.{op_is_acquire, WellFormed}
 use Rattle.event_core.specs.Steps.{own_events}
 use Rattle.log_pass.specs.declared.views.PassView.{PassView}
 use Rattle.script_text.specs.declared.lines.ScriptLine.{ScriptLine}
@@ -75,11 +75,6 @@ IsAnswered (Err halt) (g ∷ gs) f =
     (other : DriveFault) × IsFirst (g ∷ gs) other × IsAnswer halt (Some other) f
 
 -- ---- the faults of a script
-
--- why the act is refused after the log, if it is
-abbrev pub act_refusal : Limits → List Event → Act → Option Refusal
-act_refusal m log (One c) = refusal m log c
-act_refusal m log (Swap t x site arg) = swap_refusal m log t x
 
 -- the refusal is told; another thread's hold is not, since such an acquire is tried again
 abbrev pub is_told : Refusal → Bool

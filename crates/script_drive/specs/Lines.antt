@@ -13,11 +13,7 @@ use Rattle.script_text.specs.Lines.{is_of, joins}
 -- the value that an operation is given: that of a store, and 0 for others
 abbrev pub given : Op → ℕ → ℕ
 given (Store x) n = n
-given (Load x) n = 0
-given (Acquire l) n = 0
-given (Release l) n = 0
-given (Fork u) n = 0
-given (Join u) n = 0
+given _ n = 0
 
 -- the event without what it read
 abbrev pub unread : Event → Event

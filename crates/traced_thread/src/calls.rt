@@ -4,16 +4,19 @@ ghost use Rattle.event_core.specs.Refusal.{refusal};
 ghost use Rattle.event_core.specs.Steps.{log_of};
 ghost use Rattle.event_core.specs.declared.ids.ThreadId.{ThreadId as Thread};
 ghost use Rattle.event_core.specs.declared.replies.Refusal.TheVariants.{Held};
+ghost use Rattle.event_core.specs.declared.events.Act.TheVariants.{Swap as SwapAct};
+ghost use Rattle.event_core.specs.declared.replies.Done.TheVariants.{Swap as Swapped};
 ghost use Rattle.live_monitor.specs.Calls.{
   load_by,
   store_by,
   acquire_by,
   release_by,
   Accepted,
+  AcceptedAct,
   Declined,
+  DeclinedAct,
   HasComeTo,
 };
-ghost use Rattle.live_monitor.specs.Swaps.{AcceptedSwap, DeclinedSwap};
 ghost use Rattle.live_monitor.specs.Tries.{one_more, AreUsedUp};
 
 use crate::handle::{TracedThread, take};
@@ -69,9 +72,9 @@ impl<'m, N: Name> TracedThread<'m, N> {
     ) -> Result<SwapReply, Refusal>
         ensures later { HasComeTo N.limits self.old self.new }
         ensures accepted { IfOk result (λ reply.
-            AcceptedSwap N.limits self.old.thread var site value self.old self.new reply) }
-        ensures declined { IfErr result
-            (λ answer. DeclinedSwap N.limits self.old.thread var self.old self.new answer) }
+            AcceptedAct N.limits (SwapAct self.old.thread var site value) self.old self.new (Swapped reply)) }
+        ensures declined { IfErr result (λ answer.
+            DeclinedAct N.limits (SwapAct self.old.thread var site value) self.old self.new answer) }
     {
         let (pass, answer) = self
             .monitor

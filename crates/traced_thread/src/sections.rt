@@ -2,8 +2,10 @@
 ghost use Rattle.std.specs.Prelude.{◌≡◌, ◌≤◌, IfOk, IfErr};
 ghost use Rattle.event_core.specs.declared.ids.ThreadId.{ThreadId as Thread};
 ghost use Rattle.event_core.specs.declared.replies.Refusal.TheVariants.{Held};
-ghost use Rattle.live_monitor.specs.Calls.{load_by, store_by, Accepted, Declined, HasComeTo};
-ghost use Rattle.live_monitor.specs.Swaps.{AcceptedSwap, DeclinedSwap};
+ghost use Rattle.event_core.specs.declared.events.Act.TheVariants.{Swap as SwapAct};
+ghost use Rattle.event_core.specs.declared.replies.Done.TheVariants.{Swap as Swapped};
+ghost use Rattle.live_monitor.specs.Calls.{load_by, store_by, Accepted, AcceptedAct, Declined, DeclinedAct};
+ghost use Rattle.live_monitor.specs.Calls.{HasComeTo};
 ghost use Rattle.live_monitor.specs.Tries.{one_more, AreUsedUp};
 ghost use Rattle.traced_thread.specs.Sections.{handle_of, left_of, lock_of, pass_of, site_of, thread_of};
 ghost use Rattle.traced_thread.specs.Sections.{IsAcquired, IsReleased, IsSectionOf, WasRefused};
@@ -97,10 +99,12 @@ impl<'h, 'm, N: Name, R: Wait> Section<'h, 'm, N, R> {
         ensures same_reference { handle_of self.new ≡ handle_of self.old }
         ensures same_lock { IsSectionOf (lock_of self.old) (site_of self.old) self.new }
         ensures later { HasComeTo N.limits (pass_of self.old) (pass_of self.new) }
-        ensures accepted { IfOk result (λ reply. AcceptedSwap N.limits
-            (thread_of self.old) var site value (pass_of self.old) (pass_of self.new) reply) }
-        ensures declined { IfErr result (λ answer. DeclinedSwap N.limits
-            (thread_of self.old) var (pass_of self.old) (pass_of self.new) answer) }
+        ensures accepted { IfOk result (λ reply. AcceptedAct N.limits
+            (SwapAct (thread_of self.old) var site value)
+            (pass_of self.old) (pass_of self.new) (Swapped reply)) }
+        ensures declined { IfErr result (λ answer. DeclinedAct N.limits
+            (SwapAct (thread_of self.old) var site value)
+            (pass_of self.old) (pass_of self.new) answer) }
     {
         self.thread.swap(self.rt, var, value, site)
     }

@@ -4,7 +4,8 @@ use Rattle.script_drive.specs.Faults.{IsFaultOf}
 use Rattle.script_drive.specs.Workers.{Done}
 use Rattle.script_drive.proofs.Calls.{next_forked, next_joined}
 use Rattle.script_drive.proofs.Runs.{may_add, may_join, may_swap}
-use Rattle.script_drive.proofs.ScriptFaults.{call_fits, call_halts, held_back, held_used_up, swap_halts}
+use Rattle.script_drive.proofs.ScriptFaults.{act_fits, act_halts, held_back, held_used_up, line_refusal}
+use Rattle.script_drive.proofs.ScriptFaults.{swap_refusal_of}
 use Rattle.script_drive.proofs.lines.make_call.Goals as goal
 
 -- what a line's call adds to a run of the script makes it a longer one
@@ -67,22 +68,20 @@ join-requires g c =
           done c.requires.next c.requires.thread;
     }
 
--- a call that is declined is so by the definition
+-- an act that is declined is so by the definition
 pub returns-in-Load-clause-halt : goal.returns-in-Load-clause-halt
 returns-in-Load-clause-halt g c =
-    call_halts g.S.Name.limits g.S.Text.ahead g.S.Text.script.lines c.args.line.now c.in-One.call
-    (Load c.in-Load.var) c.in-One.call.site 0 c.args.pass c.load.result.0 c.load.result.1 c.answered.result
-    c.in-One.is c.in-Load.is c.requires.next c.requires.thread c.load.ensures.later
-    c.load.ensures.keeps c.load.ensures.declined
+    act_halts g.S.Name.limits g.S.Text.ahead c.args.line.now c.load.result.1 c.answered.result
+    c.requires.next c.load.ensures.later c.load.ensures.keeps c.load.ensures.declined
+    (line_refusal g.S.Name.limits c.in-One.call.site 0 c.in-One.is c.in-Load.is c.requires.thread)
     c.answered.ensures.refused (λ is. absurd (cc is))
 
 pub returns-in-Store-clause-halt : goal.returns-in-Store-clause-halt
 returns-in-Store-clause-halt g c =
-    call_halts g.S.Name.limits g.S.Text.ahead g.S.Text.script.lines c.args.line.now c.in-One.call
-    (Store c.in-Store.var) c.in-One.call.site _ c.args.pass c.store.result.0 c.store.result.1
-    c.answered-in-Store.result c.in-One.is c.in-Store.is c.requires.next c.requires.thread
-    c.store.ensures.later
-    c.store.ensures.keeps c.store.ensures.declined c.answered-in-Store.ensures.refused (λ is. absurd (cc is))
+    act_halts g.S.Name.limits g.S.Text.ahead c.args.line.now c.store.result.1 c.answered-in-Store.result
+    c.requires.next c.store.ensures.later c.store.ensures.keeps c.store.ensures.declined
+    (line_refusal g.S.Name.limits c.in-One.call.site _ c.in-One.is c.in-Store.is c.requires.thread)
+    c.answered-in-Store.ensures.refused (λ is. absurd (cc is))
 
 pub stuck-requires-clause-held : goal.stuck-requires-clause-held
 stuck-requires-clause-held g c = λ _ _.
@@ -99,21 +98,19 @@ stuck-requires-clause-used_up g c =
 
 pub returns-else-is_held-clause-halt : goal.returns-else-is_held-clause-halt
 returns-else-is_held-clause-halt g c =
-    call_halts g.S.Name.limits g.S.Text.ahead g.S.Text.script.lines c.args.line.now c.in-One.call
-    (Acquire c.in-Acquire.lock) c.in-One.call.site 0 c.args.pass c.acquire_within-pass.result.0
-    c.acquire_within-pass.result.1 c.answered-in-Acquire.result c.in-One.is c.in-Acquire.is c.requires.next
-    c.requires.thread c.acquire_within-pass.ensures.later
+    act_halts g.S.Name.limits g.S.Text.ahead c.args.line.now c.acquire_within-pass.result.1
+    c.answered-in-Acquire.result c.requires.next c.acquire_within-pass.ensures.later
     c.acquire_within-pass.ensures.keeps c.acquire_within-pass.ensures.declined
-    c.answered-in-Acquire.ensures.refused (λ _. c.is_held.ensures.told c.if-is_held.false)
+    (line_refusal g.S.Name.limits c.in-One.call.site 0 c.in-One.is c.in-Acquire.is c.requires.thread)
+    c.answered-in-Acquire.ensures.refused
+    (λ _. c.is_held.ensures.told c.if-is_held.false)
 
 pub returns-in-Release-clause-halt : goal.returns-in-Release-clause-halt
 returns-in-Release-clause-halt g c =
-    call_halts g.S.Name.limits g.S.Text.ahead g.S.Text.script.lines c.args.line.now c.in-One.call
-    (Release c.in-Release.lock) c.in-One.call.site 0 c.args.pass c.release.result.0 c.release.result.1
-    c.answered-in-Release.result c.in-One.is c.in-Release.is c.requires.next c.requires.thread
-    c.release.ensures.later
-    c.release.ensures.keeps c.release.ensures.declined c.answered-in-Release.ensures.refused
-    (λ is. absurd (cc is))
+    act_halts g.S.Name.limits g.S.Text.ahead c.args.line.now c.release.result.1 c.answered-in-Release.result
+    c.requires.next c.release.ensures.later c.release.ensures.keeps c.release.ensures.declined
+    (line_refusal g.S.Name.limits c.in-One.call.site 0 c.in-One.is c.in-Release.is c.requires.thread)
+    c.answered-in-Release.ensures.refused (λ is. absurd (cc is))
 
 pub returns-in_default-Err-clause-halt : goal.returns-in_default-Err-clause-halt
 returns-in_default-Err-clause-halt g c =
@@ -124,11 +121,10 @@ returns-in_default-Err-clause-halt g c =
     = next_forked line c.in-One.call u to c.args.links.now c.next_fork-sender.new.self c.in-One.is
     c.in-Fork.is c.requires.serves.0 c.requires.serves.1 c.next_fork-sender.ensures.forks in
     subst (IsFaultOf g.S.Name.limits g.S.Text.ahead g.S.Text.script.lines) (sym c.refused.ensures)
-    (call_fits g.S.Name.limits g.S.Text.ahead g.S.Text.script.lines line c.in-One.call (Fork to)
-    c.in-One.call.site 0 c.args.pass c.fork.result.0 c.in_default-Err.refusal c.in-One.is
-    (c.in-Fork.is ∙ ap Fork (sym is)) c.requires.next c.requires.thread c.fork.ensures.later
-    c.fork.ensures.keeps
-    (rw c.in_default-Err.is-1 at c.fork.ensures.declined) (λ is. absurd (cc is)))
+    (act_fits g.S.Name.limits g.S.Text.ahead line c.in_default-Err.refusal c.requires.next
+    c.fork.ensures.later c.fork.ensures.keeps (rw c.in_default-Err.is-1 at c.fork.ensures.declined)
+    (line_refusal g.S.Name.limits c.in-One.call.site 0 c.in-One.is (c.in-Fork.is ∙ ap Fork (sym is))
+    c.requires.thread) (λ is. absurd (cc is)))
 
 pub returns-in_default-Err-join-clause-halt : goal.returns-in_default-Err-join-clause-halt
 returns-in_default-Err-join-clause-halt g c =
@@ -141,16 +137,15 @@ returns-in_default-Err-join-clause-halt g c =
     c.in-One.is c.in-Join.is c.requires.serves.0 c.requires.serves.1 c.next_join-receiver.ensures.joins in
     subst (IsFaultOf g.S.Name.limits g.S.Text.ahead g.S.Text.script.lines)
     (sym c.refused-in_default-Err-join.ensures)
-    (call_fits g.S.Name.limits g.S.Text.ahead g.S.Text.script.lines line c.in-One.call (Join child.thread)
-    c.in-One.call.site 0 c.args.pass c.join.result.0 c.in_default-Err-join.refusal c.in-One.is
-    (c.in-Join.is ∙ ap Join (sym (c.in_ok-child-in-Join.ensures.done.thread ∙ is))) c.requires.next
-    c.requires.thread c.join.ensures.later c.join.ensures.keeps
-    (rw c.in_default-Err-join.is-1 at c.join.ensures.declined) (λ is. absurd (cc is)))
+    (act_fits g.S.Name.limits g.S.Text.ahead line c.in_default-Err-join.refusal c.requires.next
+    c.join.ensures.later c.join.ensures.keeps (rw c.in_default-Err-join.is-1 at c.join.ensures.declined)
+    (line_refusal g.S.Name.limits c.in-One.call.site 0 c.in-One.is
+    (c.in-Join.is ∙ ap Join (sym (c.in_ok-child-in-Join.ensures.done.thread ∙ is))) c.requires.thread)
+    (λ is. absurd (cc is)))
 
 pub returns-in-Swap-clause-halt : goal.returns-in-Swap-clause-halt
 returns-in-Swap-clause-halt g c =
-    swap_halts g.S.Name.limits g.S.Text.ahead g.S.Text.script.lines c.args.line.now c.in-Swap.thread
-    c.in-Swap.var c.in-Swap.site c.in-Swap.arg c.args.pass c.swap.result.0 c.swap.result.1
-    c.answered-in-Swap.result c.in-Swap.is c.requires.next c.requires.thread c.swap.ensures.later
-    c.swap.ensures.keeps
-    c.swap.ensures.declined c.answered-in-Swap.ensures.refused
+    act_halts g.S.Name.limits g.S.Text.ahead c.args.line.now c.swap.result.1 c.answered-in-Swap.result
+    c.requires.next c.swap.ensures.later c.swap.ensures.keeps c.swap.ensures.declined
+    (swap_refusal_of g.S.Name.limits c.in-Swap.is c.requires.thread) c.answered-in-Swap.ensures.refused
+    (λ is. absurd (cc is))
