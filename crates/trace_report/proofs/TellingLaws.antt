@@ -16,7 +16,7 @@ use Rattle.trace_report.specs.declared.faults.TraceFault.{TraceFault}
 use Rattle.trace_report.specs.declared.counts.Counts.{Counts}
 use Rattle.trace_report.specs.declared.summary.Summary.{Summary}
 use Rattle.trace_report.specs.Reports.{AreWithin}
-use Rattle.trace_report.specs.Findings.{Trace, finding}
+use Rattle.trace_report.specs.Findings.{Trace}
 use Rattle.trace_report.specs.Replayed.{gives_up, fault_text, Told, TellsText}
 use Rattle.trace_report.specs.Replaying.{fault_or}
 use Rattle.trace_report.specs.Judging.{FindsTrace, FindsFault, RanOut, ReachesLine}

@@ -1,11 +1,9 @@
-use Rattle.std.proofs.Common.{◌≡◌, ◌++◌, ℕ, List, None, sym, ap, subst, refl, ◌∙◌}
-use Rattle.std.specs.Prelude.{IfSome}
+use Rattle.std.proofs.Common.{◌++◌, List, sym, ap, subst, refl, ◌∙◌}
 use Rattle.event_core.specs.declared.events.Event.{Event}
 use Rattle.seq_monitor.specs.declared.monitor.Monitor.{Monitor}
 use Rattle.trace_report.specs.declared.judged_text.JudgedText.{JudgedText}
 use Rattle.trace_report.specs.Reports.{AreNamed}
-use Rattle.trace_report.specs.Judging.{RanOut}
-use Rattle.trace_report.specs.Replaying.{Replaying, ReachesIn, after}
+use Rattle.trace_report.specs.Replaying.{Replaying, after}
 use Rattle.trace_report.proofs.FedLaws.{was_taken, fed_law, fed_reached}
 use Rattle.trace_report.proofs.replayer.Replayer.feed.Goals as goal
 
