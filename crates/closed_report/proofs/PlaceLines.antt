@@ -1,12 +1,9 @@
 -- The races that the lines of places name.
-use Rattle.std.proofs.Common.{◌≡◌, ℕ, suc, ◌+◌, ◌<◌, List, [], ◌∷◌, ◌++◌, Some, length, take, get_or, sym}
-use Rattle.std.proofs.Common.{ap, subst, ◌∙◌, arith, append_assoc, append-nil}
+use Rattle.std.proofs.Common.{◌≡◌, ℕ, ◌<◌, List, Some, length, sym}
+use Rattle.std.proofs.Common.{◌∙◌}
 use Rattle.std.specs.Prelude.{slice_get}
-use Rattle.std.specs.List.{position_or_len}
 use Rattle.std.proofs.lemmas.List.Folds.{find_at}
-use Rattle.std.proofs.lemmas.Option.{slice_get_within, get_or_from_slice_get}
 use Rattle.event_core.specs.declared.events.Event.{Event}
-use Rattle.verdict_list.specs.declared.verdicts.Race.{Race}
 use Rattle.trace_report.proofs.Races.{races_within}
 use Rattle.trace_report.proofs.TellingLaws.{verdicts_within}
 use Rattle.closed_report.specs.declared.places.PlaceRaces.{PlaceRaces}

@@ -1,4 +1,4 @@
-use Rattle.std.proofs.Common.{◌≡◌, ℕ, List, [], rules, length, take, ap, subst, ◌∙◌, arith}
+use Rattle.std.proofs.Common.{◌≡◌, List, [], rules, subst, arith}
 use Rattle.std.proofs.lemmas.List.{take_all}
 use Rattle.verdict_list.specs.declared.verdicts.Race.{Race}
 use Rattle.closed_report.specs.Places.{AreByPlace}

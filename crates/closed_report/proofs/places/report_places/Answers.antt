@@ -4,7 +4,8 @@ use Rattle.closed_report.proofs.Telling.{not_told}
 use Rattle.closed_report.proofs.places.report_places.Goals as goal
 
 pub returns-in_err-all_named-clause-unnamed : goal.returns-in_err-all_named-clause-unnamed
-returns-in_err-all_named-clause-unnamed g c = rw (← c.log-log.ensures.log) (λ _. search rules, λ _. search rules)
+returns-in_err-all_named-clause-unnamed g c =
+    rw (← c.log-log.ensures.log) (λ _. search rules, λ _. search rules)
 
 pub write_places-requires-clause-named : goal.write_places-requires-clause-named
 write_places-requires-clause-named g c = c.in_ok-all_named.ensures.named.0 refl

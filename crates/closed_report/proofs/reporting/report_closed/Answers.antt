@@ -5,7 +5,8 @@ use Rattle.closed_report.proofs.Telling.{not_told}
 use Rattle.closed_report.proofs.reporting.report_closed.Goals as goal
 
 pub returns-in_err-all_named-clause-unnamed : goal.returns-in_err-all_named-clause-unnamed
-returns-in_err-all_named-clause-unnamed g c = rw (← c.log-log.ensures.log) (λ _. search rules, λ _. search rules)
+returns-in_err-all_named-clause-unnamed g c =
+    rw (← c.log-log.ensures.log) (λ _. search rules, λ _. search rules)
 
 pub report-requires-clause-verdicts : goal.report-requires-clause-verdicts
 report-requires-clause-verdicts g c = rw c.log-log.ensures.log (verdicts_within _ _ c.verdicts.ensures)

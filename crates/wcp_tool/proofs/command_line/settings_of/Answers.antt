@@ -1,8 +1,7 @@
 use Rattle.std.proofs.Common.{◌≡◌, ◌∙◌, Some, ap, codes, rules, sym}
-use Rattle.std.proofs.lemmas.Option.{IfSome_then}
 use Rattle.clap.specs.Walk.{Text}
 use Rattle.clap.specs.Words.{found_of, rows_of}
-use Rattle.wcp_tool.specs.CommandLine.{asked_by, asked_in, asked_under, check, over_trace, replay}
+use Rattle.wcp_tool.specs.CommandLine.{asked_by, asked_in, asked_under, check, over_trace}
 use Rattle.wcp_tool.specs.declared.requests.Settings.{Settings}
 use Rattle.wcp_tool.proofs.command_line.settings_of.Goals as goal
 
