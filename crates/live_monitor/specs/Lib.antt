@@ -1,4 +1,3 @@
-pub mod Acts
 pub mod Calls
 pub mod Rules
 pub mod Books

@@ -22,8 +22,7 @@ use Rattle.event_core.specs.declared.replies.Refusal.TheVariants.{ThreadRange, N
 use Rattle.event_core.specs.declared.replies.Refusal.TheVariants.{Held, NotHolder, SelfTarget, AlreadyStarted}
 use Rattle.event_core.specs.declared.replies.Refusal.TheVariants.{TargetNotStarted, LogFull, OutOfMemory}
 use Rattle.event_core.specs.declared.replies.Reply.{Reply}
-use Rattle.event_core.specs.Acts.{swap_refusal}
-use Rattle.live_monitor.specs.Acts.{act_refusal}
+use Rattle.event_core.specs.Acts.{swap_refusal, act_refusal}
 use Rattle.event_core.specs.Refusal.{first_of, op_is_acquire, reasons, refusal}
 use Rattle.event_core.specs.Steps.{log_of}
 use Rattle.live_monitor.specs.Calls.{call_by, Declined, DeclinedAct, HasComeTo}

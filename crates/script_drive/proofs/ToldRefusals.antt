@@ -18,8 +18,7 @@ use Rattle.event_core.specs.declared.replies.Refusal.{Refusal}
 use Rattle.event_core.specs.declared.replies.Refusal.TheVariants.{ThreadRange, NotStarted, Ended, TargetRange}
 use Rattle.event_core.specs.declared.replies.Refusal.TheVariants.{NotHolder, SelfTarget, AlreadyStarted}
 use Rattle.event_core.specs.declared.replies.Refusal.TheVariants.{TargetNotStarted, LogFull}
-use Rattle.event_core.specs.Acts.{swap_refusal}
-use Rattle.live_monitor.specs.Acts.{act_refusal}
+use Rattle.event_core.specs.Acts.{swap_refusal, act_refusal}
 use Rattle.event_core.specs.Refusal.{already_started, first_of, held, log_full, not_holder, op_is_acquire}
 use Rattle.event_core.specs.Refusal.{forked, held_depths, in_range, joins, reasons, refusal, self_target}
 use Rattle.event_core.specs.Refusal.{target_not_started, when}

@@ -11,7 +11,7 @@ use Rattle.event_core.specs.declared.events.Event.{Event}
 use Rattle.event_core.specs.declared.bounds.Limits.{Limits}
 use Rattle.event_core.specs.declared.replies.Refusal.{Refusal}
 use Rattle.event_core.specs.declared.replies.Refusal.TheVariants as refusals
-use Rattle.live_monitor.specs.Acts.{act_refusal}
+use Rattle.event_core.specs.Acts.{act_refusal}
 use Rattle.event_core.specs.Refusal.{op_is_acquire, WellFormed}
 use Rattle.event_core.specs.Steps.{own_events}
 use Rattle.log_pass.specs.declared.views.PassView.{PassView}
