@@ -67,7 +67,7 @@ ready_grown old new g ls cs u o r =
     room (Load x) h = tt
     room (Acquire l) h = (
       omega arith,
-          let b = g.capacity u.0 in
+      let b = g.capacity u.0 in
           let e : length (thread_at new.threads u.0).held.items
           ≡ length (thread_at old.threads u.0).held.items
           = ap (λ (f : ℕ → Thread). length (f u.0).held) g.rows in

@@ -119,7 +119,7 @@ still_ready old new locks c p u o free ts ls cs caps rows r =
     room (Load x) free h = tt
     room (Acquire l) free h = (
       omega arith,
-          let b = caps u.0 in
+      let b = caps u.0 in
           let e : length (thread_at new.threads u.0).held.items
           ≡ length (threads_after c p locks
           (updated c.0 (mentioned_again (threads_of old.threads c.0))
