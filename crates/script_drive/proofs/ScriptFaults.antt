@@ -122,17 +122,17 @@ same_refusal m log c d thread op = λ i.
     first_of (reasons m log call)
 
 -- so is a line's, whose call its worker makes
-pub line_refusal : (m : Limits) {l : ScriptLine} {call : Call} {op : Op} {t : ThreadId} (site : SiteId)
+pub line_refusal : (m : Limits) (l : ScriptLine) {call : Call} {op : Op} {t : ThreadId} (site : SiteId)
     (arg : ℕ) → l.act ≡ One call → call.op ≡ op → thread_of l ≡ t → (log : List Event)
     → act_refusal m log l.act ≡ refusal m log (call_by t op site arg)
-line_refusal m {l} {call} {op} {t} site arg act is thread log = ap (act_refusal m log) act
+line_refusal m l {call} {op} {t} site arg act is thread log = ap (act_refusal m log) act
     ∙ same_refusal m log call (call_by t op site arg) (sym (ap act_thread act) ∙ thread) is
 
 -- and whose swap
-pub swap_refusal_of : (m : Limits) {l : ScriptLine} {t u : ThreadId} {x : VarId} {site : SiteId} {arg : ℕ}
+pub swap_refusal_of : (m : Limits) (l : ScriptLine) {t u : ThreadId} {x : VarId} {site : SiteId} {arg : ℕ}
     → l.act ≡ Swap t x site arg → thread_of l ≡ u → (log : List Event)
     → act_refusal m log l.act ≡ swap_refusal m log u x
-swap_refusal_of m {x = x} act thread log = ap (act_refusal m log) act
+swap_refusal_of m l {x = x} act thread log = ap (act_refusal m log) act
     ∙ ap (λ (u : ThreadId). swap_refusal m log u x) (sym (ap act_thread act) ∙ thread)
 
 -- of an act that is refused as its line's; of an acquire the refusal is told where another thread's hold is
@@ -180,7 +180,7 @@ held_back m script l call lock site p q answer act is next thread later run decl
       record {
         log = log_of q.seen;
         due = due m script l p q next later run refused.mine;
-        refused = line_refusal m site 0 act is thread (log_of q.seen)
+        refused = line_refusal m l site 0 act is thread (log_of q.seen)
             ∙ (elim (refused.why) as (λ _. refusal m (log_of q.seen)
             (call_by p.thread (Acquire lock) site 0) ≡ Some (Held (held.0))) [
               | inl why ↦ why
@@ -235,14 +235,14 @@ answer_fits m ahead script (Abandoned l) None f is fits answer =
 
 -- after a line's act
 pub act_halts : {T : Type 0} (m : Limits) (ahead : Bool) {script : List ScriptLine} (l : ScriptLine)
-    {p q : PassView} {made : Act} (answer : Result T Refusal) (result : Result PassView Halt)
+    {p q : PassView} (made : Act) (answer : Result T Refusal) (result : Result PassView Halt)
     → IsNext script l p → HasComeTo m p q → IsRunOf script (log_of q.seen)
     → IfErr answer (DeclinedAct m made p q)
     → ((log : List Event) → act_refusal m log l.act ≡ act_refusal m log made)
     → IfErr result (λ halt. IsErrAnd answer (λ why. halt ≡ Fault (refused_at l why)))
     → (act_acquires made ≡ true → IfErr answer (λ why. is_told why ≡ true))
     → IfErr result (IsHaltOf m ahead script)
-act_halts {T} m ahead {script} l {p} {q} {made} answer result next later run declined same refused acquire =
+act_halts {T} m ahead {script} l {p} {q} made answer result next later run declined same refused acquire =
     answered_halts m ahead script l answer result refused (fits answer declined acquire)
   where
     fits : (a : Result T Refusal) → IfErr a (DeclinedAct m made p q)

@@ -71,16 +71,18 @@ join-requires g c =
 -- an act that is declined is so by the definition
 pub returns-in-Load-clause-halt : goal.returns-in-Load-clause-halt
 returns-in-Load-clause-halt g c =
-    act_halts g.S.Name.limits g.S.Text.ahead c.args.line.now c.load.result.1 c.answered.result
+    act_halts g.S.Name.limits g.S.Text.ahead c.args.line.now _ c.load.result.1 c.answered.result
     c.requires.next c.load.ensures.later c.load.ensures.keeps c.load.ensures.declined
-    (line_refusal g.S.Name.limits c.in-One.call.site 0 c.in-One.is c.in-Load.is c.requires.thread)
+    (line_refusal g.S.Name.limits c.args.line.now c.in-One.call.site 0 c.in-One.is c.in-Load.is
+    c.requires.thread)
     c.answered.ensures.refused (λ is. absurd (cc is))
 
 pub returns-in-Store-clause-halt : goal.returns-in-Store-clause-halt
 returns-in-Store-clause-halt g c =
-    act_halts g.S.Name.limits g.S.Text.ahead c.args.line.now c.store.result.1 c.answered-in-Store.result
+    act_halts g.S.Name.limits g.S.Text.ahead c.args.line.now _ c.store.result.1 c.answered-in-Store.result
     c.requires.next c.store.ensures.later c.store.ensures.keeps c.store.ensures.declined
-    (line_refusal g.S.Name.limits c.in-One.call.site _ c.in-One.is c.in-Store.is c.requires.thread)
+    (line_refusal g.S.Name.limits c.args.line.now c.in-One.call.site _ c.in-One.is c.in-Store.is
+    c.requires.thread)
     c.answered-in-Store.ensures.refused (λ is. absurd (cc is))
 
 pub stuck-requires-clause-held : goal.stuck-requires-clause-held
@@ -98,18 +100,20 @@ stuck-requires-clause-used_up g c =
 
 pub returns-else-is_held-clause-halt : goal.returns-else-is_held-clause-halt
 returns-else-is_held-clause-halt g c =
-    act_halts g.S.Name.limits g.S.Text.ahead c.args.line.now c.acquire_within-pass.result.1
+    act_halts g.S.Name.limits g.S.Text.ahead c.args.line.now _ c.acquire_within-pass.result.1
     c.answered-in-Acquire.result c.requires.next c.acquire_within-pass.ensures.later
     c.acquire_within-pass.ensures.keeps c.acquire_within-pass.ensures.declined
-    (line_refusal g.S.Name.limits c.in-One.call.site 0 c.in-One.is c.in-Acquire.is c.requires.thread)
+    (line_refusal g.S.Name.limits c.args.line.now c.in-One.call.site 0 c.in-One.is c.in-Acquire.is
+    c.requires.thread)
     c.answered-in-Acquire.ensures.refused
     (λ _. c.is_held.ensures.told c.if-is_held.false)
 
 pub returns-in-Release-clause-halt : goal.returns-in-Release-clause-halt
 returns-in-Release-clause-halt g c =
-    act_halts g.S.Name.limits g.S.Text.ahead c.args.line.now c.release.result.1 c.answered-in-Release.result
+    act_halts g.S.Name.limits g.S.Text.ahead c.args.line.now _ c.release.result.1 c.answered-in-Release.result
     c.requires.next c.release.ensures.later c.release.ensures.keeps c.release.ensures.declined
-    (line_refusal g.S.Name.limits c.in-One.call.site 0 c.in-One.is c.in-Release.is c.requires.thread)
+    (line_refusal g.S.Name.limits c.args.line.now c.in-One.call.site 0 c.in-One.is c.in-Release.is
+    c.requires.thread)
     c.answered-in-Release.ensures.refused (λ is. absurd (cc is))
 
 pub returns-in_default-Err-clause-halt : goal.returns-in_default-Err-clause-halt
@@ -123,7 +127,8 @@ returns-in_default-Err-clause-halt g c =
     subst (IsFaultOf g.S.Name.limits g.S.Text.ahead g.S.Text.script.lines) (sym c.refused.ensures)
     (act_fits g.S.Name.limits g.S.Text.ahead line c.in_default-Err.refusal c.requires.next
     c.fork.ensures.later c.fork.ensures.keeps (rw c.in_default-Err.is-1 at c.fork.ensures.declined)
-    (line_refusal g.S.Name.limits c.in-One.call.site 0 c.in-One.is (c.in-Fork.is ∙ ap Fork (sym is))
+    (line_refusal g.S.Name.limits c.args.line.now c.in-One.call.site 0 c.in-One.is
+    (c.in-Fork.is ∙ ap Fork (sym is))
     c.requires.thread) (λ is. absurd (cc is)))
 
 pub returns-in_default-Err-join-clause-halt : goal.returns-in_default-Err-join-clause-halt
@@ -139,13 +144,14 @@ returns-in_default-Err-join-clause-halt g c =
     (sym c.refused-in_default-Err-join.ensures)
     (act_fits g.S.Name.limits g.S.Text.ahead line c.in_default-Err-join.refusal c.requires.next
     c.join.ensures.later c.join.ensures.keeps (rw c.in_default-Err-join.is-1 at c.join.ensures.declined)
-    (line_refusal g.S.Name.limits c.in-One.call.site 0 c.in-One.is
+    (line_refusal g.S.Name.limits c.args.line.now c.in-One.call.site 0 c.in-One.is
     (c.in-Join.is ∙ ap Join (sym (c.in_ok-child-in-Join.ensures.done.thread ∙ is))) c.requires.thread)
     (λ is. absurd (cc is)))
 
 pub returns-in-Swap-clause-halt : goal.returns-in-Swap-clause-halt
 returns-in-Swap-clause-halt g c =
-    act_halts g.S.Name.limits g.S.Text.ahead c.args.line.now c.swap.result.1 c.answered-in-Swap.result
+    act_halts g.S.Name.limits g.S.Text.ahead c.args.line.now _ c.swap.result.1 c.answered-in-Swap.result
     c.requires.next c.swap.ensures.later c.swap.ensures.keeps c.swap.ensures.declined
-    (swap_refusal_of g.S.Name.limits c.in-Swap.is c.requires.thread) c.answered-in-Swap.ensures.refused
+    (swap_refusal_of g.S.Name.limits c.args.line.now c.in-Swap.is
+    c.requires.thread) c.answered-in-Swap.ensures.refused
     (λ is. absurd (cc is))
