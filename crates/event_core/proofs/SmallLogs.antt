@@ -12,13 +12,12 @@ use Rattle.event_core.specs.Order.{lock, Po, Hb}
 use Rattle.event_core.specs.Wcp.{Meets, Strict, rule_a, rule_c_left, rule_c_right, Below}
 use Rattle.event_core.specs.Verdict.{Races}
 use Rattle.event_core.specs.Examples.{main, child, l, x, y, event, two_sections, empty_section}
-use Rattle.event_core.specs.Examples.{loading_section}
-use Rattle.event_core.specs.Examples.{ConflictingSectionsAreOrdered, HappensBeforeIsNotEnough}
-use Rattle.event_core.specs.Examples.{OrderPassesThroughSections}
+use Rattle.event_core.specs.Examples.{loading_section, ConflictingSectionsAreOrdered}
+use Rattle.event_core.specs.Examples.{HappensBeforeIsNotEnough, OrderPassesThroughSections}
 use Rattle.event_core.proofs.LogFacts.{of_does}
 use Rattle.event_core.proofs.Chains.{chain_one, hb_thread, hb_trans}
-use Rattle.event_core.proofs.SmallTests.{does_at, inside_at, held_for, clear_but, racy_with}
-use Rattle.event_core.proofs.SmallTests.{is_left_by_none, po_stays, no_strict}
+use Rattle.event_core.proofs.SmallTests.{does_at, inside_at, held_for, clear_but, racy_with, is_left_by_none}
+use Rattle.event_core.proofs.SmallTests.{po_stays, no_strict}
 
 -- the event of a small log
 pub is : (log : List Event) (i : ℕ) (t : ThreadId) (o : Op) → slice_get log i ≡ Some (event t o)

@@ -10,8 +10,7 @@ use Rattle.event_core.specs.Order.{lock, Hb}
 use Rattle.event_core.specs.Wcp.{Meets, Strict, rule_a, rule_b, rule_c_left, rule_c_right, Below}
 use Rattle.event_core.specs.Examples.{main, child, other, l, k, m, n, x, y, z, event, early_load}
 use Rattle.event_core.specs.Examples.{sections_of_one_thread, OrderBeginsAtTheAccess, RuleBWithinOneThread}
-use Rattle.event_core.specs.Examples.{sections_in_turn}
-use Rattle.event_core.specs.Examples.{RuleBOrdersReleases}
+use Rattle.event_core.specs.Examples.{sections_in_turn, RuleBOrdersReleases}
 use Rattle.event_core.proofs.Chains.{chain_one, hb_thread, hb_trans}
 use Rattle.event_core.proofs.SmallTests.{inside_at, clear_but, racy_with, no_strict}
 use Rattle.event_core.proofs.SmallLogs.{is, at_thread, section_at, in_it, conflict_at, meets_at}

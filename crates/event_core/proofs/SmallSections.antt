@@ -1,22 +1,18 @@
 -- What the definitions say of the small logs about the ends of sections, forks and races.
-use Rattle.std.proofs.Common.{◌<◌, ◌≡◌, ℕ, Bool, true, refl, ap, arith}
-use Rattle.std.proofs.Common.{nat_le, nat_eq, ◌&&◌}
+use Rattle.std.proofs.Common.{◌<◌, ◌≡◌, ℕ, Bool, true, refl, ap, arith, nat_le, nat_eq, ◌&&◌}
 use mathlib.Core.Logic.{inl, inr}
 use Rattle.event_core.specs.declared.ids.ThreadId.{ThreadId}
 use Rattle.event_core.specs.declared.events.Op.TheVariants.{Store, Acquire, Release, Fork, Join}
 use Rattle.event_core.specs.Log.{depth, Section}
 use Rattle.event_core.specs.Order.{fork_to_join, Po}
 use Rattle.event_core.specs.Wcp.{Meets, rule_a, rule_c_left, Below}
-use Rattle.event_core.specs.Examples.{main, child, other, l, k, x}
-use Rattle.event_core.specs.Examples.{overlapping_sections, inner_release}
-use Rattle.event_core.specs.Examples.{empty_child, three_stores}
-use Rattle.event_core.specs.Examples.{ReleaseEndsItsOwnSection}
+use Rattle.event_core.specs.Examples.{main, child, other, l, k, x, overlapping_sections, inner_release}
+use Rattle.event_core.specs.Examples.{empty_child, three_stores, ReleaseEndsItsOwnSection}
 use Rattle.event_core.specs.Examples.{InnerReleaseEndsNoSection, ForkIsBelowJoin, LatestRaceIsTold}
 use Rattle.event_core.proofs.Chains.{chain_one, chain_trans, hb_thread, po_thread}
-use Rattle.event_core.proofs.SmallTests.{inside_at, clear_but, racy_with, is_left_by_none}
-use Rattle.event_core.proofs.SmallTests.{no_strict}
-use Rattle.event_core.proofs.SmallLogs.{is, at_thread, section_at, conflict_at, meets_at}
-use Rattle.event_core.proofs.SmallLogs.{main_not_child, po_stays_in}
+use Rattle.event_core.proofs.SmallTests.{inside_at, clear_but, racy_with, is_left_by_none, no_strict}
+use Rattle.event_core.proofs.SmallLogs.{is, at_thread, section_at, conflict_at, meets_at, main_not_child}
+use Rattle.event_core.proofs.SmallLogs.{po_stays_in}
 
 -- overlapping sections
 overlap_unordered : Below overlapping_sections 4 7 → ⊥

@@ -1,11 +1,9 @@
 -- Tests that compute, by which small logs are held against the definitions.
 use Rattle.std.proofs.Common.{◌≡◌, ℕ, suc, zero, ◌<◌, ◌≤◌, ◌+◌, List, Bool, true, false, length, refl, sym}
-use Rattle.std.proofs.Common.{ap}
-use Rattle.std.proofs.Common.{ap₂, subst, ◌∙◌, arith, take, ◌⊎◌, Option, Some, None, slice_get, nat_eq}
-use Rattle.std.proofs.Common.{nat_le}
-use Rattle.std.proofs.Common.{nat_lt, not, ◌&&◌, ◌||◌}
-use Rattle.std.proofs.lemmas.Bool.{cases_lt, eq-eqb, eqb-true, ne_eqb, and_parts, and_from}
-use Rattle.std.proofs.lemmas.Bool.{or_cases, or_left, or_right, ltb-true, lt-ltb, leb-true}
+use Rattle.std.proofs.Common.{ap, ap₂, subst, ◌∙◌, arith, take, ◌⊎◌, Option, Some, None, slice_get, nat_eq}
+use Rattle.std.proofs.Common.{nat_le, nat_lt, not, ◌&&◌, ◌||◌}
+use Rattle.std.proofs.lemmas.Bool.{cases_lt, eq-eqb, eqb-true, ne_eqb, and_parts, and_from, or_cases, or_left}
+use Rattle.std.proofs.lemmas.Bool.{or_right, ltb-true, lt-ltb, leb-true}
 use Rattle.std.proofs.lemmas.Option.{slice_get_within}
 use mathlib.Core.Logic.{inl, inr}
 use Rattle.event_core.specs.declared.ids.ThreadId.{ThreadId}
