@@ -1,17 +1,16 @@
 -- Who holds each lock after an operation, as how often each thread does.
-use Rattle.std.proofs.Common.{◌≡◌, ℕ, ◌<◌, ◌+◌, ◌-◌, List, Bool, ◌&&◌, length, set}
-use Rattle.std.proofs.Common.{cond, nat_eq, refl, sym, ap, subst, ◌∙◌, arith, inl, inr, ◌⊎◌}
+use Rattle.std.proofs.Common.{◌≡◌, ℕ, ◌<◌, ◌+◌, ◌-◌, List, Bool, ◌&&◌, length, set, cond, nat_eq, refl, sym}
+use Rattle.std.proofs.Common.{ap, subst, ◌∙◌, arith, inl, inr, ◌⊎◌}
 use Rattle.std.proofs.lemmas.Bool.{cases_eq, eq-eqb}
 use Rattle.std.proofs.lemmas.List.{get_or-set_same, get_or-set_other, length-set}
 use Rattle.event_core.specs.declared.events.Op.{Op}
 use Rattle.event_core.specs.declared.events.Op.TheVariants.{Acquire, Release}
-use Rattle.event_core.specs.Rows.{with_row}
+use Rattle.event_core.specs.Rows.{with_row, depth_after}
 use Rattle.event_core.specs.Effect.{effect_of, Opens, Closes, Inner}
 use Rattle.event_core.proofs.Counting.{nat_eq_same, nat_eq_other}
 use Rattle.hb_clocks.specs.declared.holds.Hold.{Hold}
 use Rattle.hb_clocks.specs.Holds.{hold_at, no_hold, depths_of, lowered, holds_after, is_outer, effect_by}
 use Rattle.hb_clocks.specs.Holds.{HasHold, Alone}
-use Rattle.event_core.specs.Rows.{depth_after}
 use Rattle.event_core.proofs.Growing.{cell_same, cell_other}
 
 -- no other thread holds the lock that is acquired

@@ -1,6 +1,5 @@
 -- One step of the clocks of program order, as sets: what is below the event that a log grows by.
-use Rattle.std.proofs.Common.{◌≡◌, ℕ, ◌<◌, ◌≤◌, List, [], ◌∷◌, ◌++◌, length, sym, subst, arith, inl}
-use Rattle.std.proofs.Common.{inr, ◌⊎◌}
+use Rattle.std.proofs.Common.{◌≡◌, ℕ, ◌<◌, ◌≤◌, List, [], ◌∷◌, ◌++◌, length, sym, subst, arith, inl, inr, ◌⊎◌}
 use Rattle.event_core.specs.declared.ids.ThreadId.{ThreadId}
 use Rattle.event_core.specs.declared.ids.LockId.{LockId}
 use Rattle.event_core.specs.declared.events.Event.{Event}
@@ -17,8 +16,8 @@ use Rattle.event_core.specs.Rows.{Counted}
 use Rattle.event_core.proofs.Chains.{po_forward}
 use Rattle.event_core.proofs.LogFacts.{of_one, of_does, does_op}
 use Rattle.event_core.proofs.Stable.{longer, back, of, po_too}
-use Rattle.event_core.proofs.Counting.{counted_same, counted_longer, last_of, last_does, is_last}
-use Rattle.event_core.proofs.Counting.{last_thread, last_op}
+use Rattle.event_core.proofs.Counting.{counted_same, counted_longer, last_of, last_does, is_last, last_thread}
+use Rattle.event_core.proofs.Counting.{last_op}
 use Rattle.event_core.proofs.Effects.{Fits, accesses, opens, closes, forks, joins, again, inner}
 use Rattle.event_core.proofs.Growing.{Leads, fresh}
 use Rattle.event_core.proofs.Brings.{Brings, join_brings}

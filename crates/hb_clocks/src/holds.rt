@@ -1,6 +1,5 @@
 //! Who holds each lock, and how often. A lock has at most one holder.
-ghost use Rattle.std.specs.Prelude.{◌≡◌, ℕ, ◌+◌, ◌<◌, ◌^◌, ◌&&◌, nat_eq, length, slice_set, IsTrue};
-ghost use Rattle.std.specs.Prelude.{◌↔◌};
+ghost use Rattle.std.specs.Prelude.{◌≡◌, ℕ, ◌+◌, ◌<◌, ◌^◌, ◌&&◌, nat_eq, length, slice_set, IsTrue, ◌↔◌};
 ghost use Rattle.hb_clocks.specs.Holds.{hold_at, lowered, holds_after, is_outer, HasHold, Alone};
 
 use event_core::{Op, ThreadId};

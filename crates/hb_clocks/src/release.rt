@@ -78,7 +78,7 @@ impl ReleaseClocks {
 
     /// Makes room for so many clocks more of the width, where there is none. A refused growth is answered by
     /// `OutOfMemory`.
-    pub fn make_room(&mut self, more: usize, width: usize) -> Result<(), OutOfMemory>
+    pub fn prepare(&mut self, more: usize, width: usize) -> Result<(), OutOfMemory>
         ensures same { self.new.numbers ≡ self.old.numbers }
         ensures larger { self.old.most ≤ self.new.most }
         ensures ok { OnOk result (length self.new.numbers + more * width ≤ self.new.most) }

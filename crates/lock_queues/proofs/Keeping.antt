@@ -1,7 +1,6 @@
 -- What is kept of one lock stays so over each change.
 use Rattle.std.proofs.Common.{◌≡◌, ℕ, ◌+◌, ◌<◌, ◌≤◌, ◌⊎◌, true, false, List, [], ◌∷◌, ◌++◌, length, set}
-use Rattle.std.proofs.Common.{get_or}
-use Rattle.std.proofs.Common.{ap, sym, subst, ◌∙◌, arith, length-set}
+use Rattle.std.proofs.Common.{get_or, ap, sym, subst, ◌∙◌, arith, length-set}
 use Rattle.std.specs.Prelude.{IfSome, slice_index}
 use Rattle.std.specs.List.{remove}
 use Rattle.std.proofs.lemmas.Bool.{cases_lt, cases_eq}

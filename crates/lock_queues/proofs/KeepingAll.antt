@@ -1,8 +1,6 @@
 -- What is kept of all locks stays so over each change of one.
-use Rattle.std.proofs.Common.{max, ap₂, ◌*◌}
-use Rattle.std.proofs.Common.{◌≡◌, ℕ, ◌+◌, ◌*◌, ◌<◌, ◌≤◌, zero, suc, true, List, length}
-use Rattle.std.proofs.Common.{set, get_or}
-use Rattle.std.proofs.Common.{sym, ap, subst, ◌∙◌, arith, length-set, length-append}
+use Rattle.std.proofs.Common.{max, ap₂, ◌*◌, ◌≡◌, ℕ, ◌+◌, ◌<◌, ◌≤◌, zero, suc, true, List, length, set}
+use Rattle.std.proofs.Common.{get_or, sym, ap, subst, ◌∙◌, arith, length-set, length-append}
 use Rattle.std.proofs.Math.Nat.{suc-mul}
 use Rattle.std.proofs.lemmas.Bool.{cases_eq}
 use Rattle.std.proofs.lemmas.List.{get_or_read}

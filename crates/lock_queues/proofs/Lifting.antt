@@ -1,6 +1,5 @@
 -- What a change of one queue is to the table of queues.
-use Rattle.std.proofs.Common.{◌≡◌, ℕ, ◌<◌, true, List, length}
-use Rattle.std.proofs.Common.{get_or, set, sym, ap, subst, ◌∙◌}
+use Rattle.std.proofs.Common.{◌≡◌, ℕ, ◌<◌, true, List, length, get_or, set, sym, ap, subst, ◌∙◌}
 use Rattle.std.proofs.lemmas.Bool.{cases_lt, cases_eq}
 use Rattle.std.proofs.lemmas.List.{get_or-set_same, get_or-set_other, get_or_past, get_or_read}
 use mathlib.Core.Logic.{inl, inr}

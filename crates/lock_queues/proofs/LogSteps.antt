@@ -1,6 +1,6 @@
 -- The calls keep what the queues stand for.
-use Rattle.std.proofs.Common.{◌≡◌, ℕ, ◌<◌, ◌≤◌, ◌+◌, List, [], ◌∷◌, ◌++◌, length, refl, sym, ap}
-use Rattle.std.proofs.Common.{subst, ◌∙◌, arith, ◌⊎◌}
+use Rattle.std.proofs.Common.{◌≡◌, ℕ, ◌<◌, ◌≤◌, ◌+◌, List, [], ◌∷◌, ◌++◌, length, refl, sym, ap, subst, ◌∙◌}
+use Rattle.std.proofs.Common.{arith, ◌⊎◌}
 use Rattle.std.proofs.lemmas.Option.{slice_get_within}
 use Rattle.std.proofs.Math.Seq.{take-append_seam}
 use mathlib.Core.Logic.{inl, inr}
@@ -27,8 +27,7 @@ use Rattle.event_core.proofs.LogFacts.{of_does}
 use Rattle.event_core.proofs.OpenPositions.{ArePositions, positions_same, positions_more, positions_less}
 use Rattle.event_core.proofs.OpenSections.{ends_at, open_by_depth}
 use Rattle.event_core.proofs.Pasts.{past_longer}
-use Rattle.event_core.proofs.SectionNumbers.{number_longer, number_last}
-use Rattle.event_core.proofs.SectionNumbers.{ended_none, ended_snoc}
+use Rattle.event_core.proofs.SectionNumbers.{number_longer, number_last, ended_none, ended_snoc}
 use Rattle.event_core.proofs.SectionSteps.{each_section}
 use Rattle.hb_clocks.specs.Marks.{Named, Names}
 use Rattle.lock_queues.specs.Queues.{AllQueues, closed_of, opened_of, found_of}

@@ -1,8 +1,7 @@
 -- What a list of slots says of each thread, and what it says after a change.
 use Rattle.std.proofs.Common.{◌≡◌, ℕ, suc, ◌+◌, ◌<◌, ◌≤◌, true, false, not, cond, nat_eq, nat_lt, List, []}
-use Rattle.std.proofs.Common.{◌∷◌, ◌++◌}
-use Rattle.std.proofs.Common.{length, set, get_or, take, drop, refl, sym, ap, ap₂, subst, ◌∙◌, arith, ◌⊎◌}
-use Rattle.std.proofs.Common.{Bool, Option, Some, None, length-set}
+use Rattle.std.proofs.Common.{◌∷◌, ◌++◌, length, set, get_or, take, drop, refl, sym, ap, ap₂, subst, ◌∙◌}
+use Rattle.std.proofs.Common.{arith, ◌⊎◌, Bool, Option, Some, None, length-set}
 use Rattle.std.specs.Option.{is_some, option_or}
 use Rattle.std.specs.List.{find, remove}
 use Rattle.std.proofs.lemmas.Bool.{cases_eq, cases_lt, eqb-true, eq-eqb, ne_eqb, lt-ltb, le-ltb, not-true}
@@ -18,8 +17,7 @@ use Rattle.event_core.specs.Rows.{with_row}
 use Rattle.event_core.proofs.Growing.{row_same, row_other}
 use Rattle.lock_queues.specs.declared.slots.Slot.{Slot}
 use Rattle.lock_queues.specs.Slots.{is_of, slot_of, has_slot, place_in, opened_at, opened_in, no_slot}
-use Rattle.lock_queues.specs.Slots.{slot_at}
-use Rattle.lock_queues.specs.Slots.{IsSlot, AreSlots}
+use Rattle.lock_queues.specs.Slots.{slot_at, IsSlot, AreSlots}
 
 abbrev pub Whether : ℕ → ℕ → Type 0
 Whether a b = (a ≡ b) ⊎ (a ≡ b → ⊥)

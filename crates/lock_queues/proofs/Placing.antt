@@ -1,7 +1,6 @@
 -- The thread's slot, as a search finds it and a read gives it.
 use Rattle.std.proofs.Common.{◌≡◌, ℕ, ◌<◌, ◌≤◌, true, List, length, get_or, Option, Some, None, sym, ap}
-use Rattle.std.proofs.Common.{subst, ◌∙◌}
-use Rattle.std.proofs.Common.{rules, arith}
+use Rattle.std.proofs.Common.{subst, ◌∙◌, rules, arith}
 use Rattle.std.specs.Prelude.{IfSome, IsSome}
 use Rattle.std.proofs.lemmas.Bool.{eq-eqb, ne_eqb}
 use Rattle.std.proofs.lemmas.List.{get_or_read}
@@ -9,8 +8,7 @@ use Rattle.std.proofs.lemmas.List.Sums.{position_or_len_is}
 use Rattle.hb_clocks.specs.Marks.{Named}
 use Rattle.lock_queues.specs.declared.slots.Slot.{Slot}
 use Rattle.lock_queues.specs.Slots.{is_of, has_slot, place_in, position_of, opened_at, opened_in, no_slot}
-use Rattle.lock_queues.specs.Slots.{slot_at}
-use Rattle.lock_queues.specs.Slots.{IsSlot, AreSlots}
+use Rattle.lock_queues.specs.Slots.{slot_at, IsSlot, AreSlots}
 use Rattle.lock_queues.specs.Queue.{OneQueue}
 use Rattle.lock_queues.proofs.Lookup.{Placed, has_placed, entered_has}
 

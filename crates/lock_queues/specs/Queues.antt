@@ -1,6 +1,5 @@
 -- What is kept of all locks, and what it means.
-use Rattle.std.specs.Prelude.{ℕ, ◌≡◌, ◌+◌, ◌*◌, ◌<◌, ◌≤◌, List, length, max, slice_index, Bool}
-use Rattle.std.specs.Prelude.{sum_by}
+use Rattle.std.specs.Prelude.{ℕ, ◌≡◌, ◌+◌, ◌*◌, ◌<◌, ◌≤◌, List, length, max, slice_index, Bool, sum_by}
 use Rattle.event_core.specs.Bounds.{Bounds}
 use Rattle.event_core.specs.Closed.{Closed, number_counted}
 use Rattle.hb_clocks.specs.Counts.{counts_of}

@@ -44,14 +44,13 @@ impl Model for Queue {
 }
 
 impl Queue {
-    ghost use Rattle.std.specs.Prelude.{◌≡◌, ℕ, ◌+◌, ◌-◌, ◌*◌, ◌<◌, ◌≤◌, ◌^◌, length, max, cond};
-    ghost use Rattle.std.specs.Prelude.{true, false, MatchOption, IsTrue, OnOk, OnErr, slice_index};
+    ghost use Rattle.std.specs.Prelude.{◌≡◌, ℕ, ◌+◌, ◌-◌, ◌*◌, ◌<◌, ◌≤◌, ◌^◌, length, max, cond, true, false};
+    ghost use Rattle.std.specs.Prelude.{MatchOption, IsTrue, OnOk, OnErr, slice_index};
     ghost use Rattle.event_core.specs.Rows.{with_row};
     ghost use Rattle.hb_clocks.specs.Counts.{counts_of};
     ghost use Rattle.lock_queues.specs.Slots.{has_slot, opened_in};
     ghost use Rattle.hb_clocks.specs.Releases.{before};
-    ghost use Rattle.lock_queues.specs.Sections.{entry_at, section_of, CountsEntry};
-    ghost use Rattle.lock_queues.specs.Sections.{AreReadable, HasJoined};
+    ghost use Rattle.lock_queues.specs.Sections.{entry_at, section_of, CountsEntry, AreReadable, HasJoined};
     ghost use Rattle.lock_queues.specs.Searched.{IsSection};
     ghost use Rattle.lock_queues.specs.Queue.{SameMeaning, no_queue, places_for};
 

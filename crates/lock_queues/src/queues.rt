@@ -123,7 +123,7 @@ impl Queues {
         let Some(slots) = self.slots.checked_add(1) else {
             return Err(OutOfMemory);
         };
-        self.releases.make_room(slots, width)?;
+        self.releases.prepare(slots, width)?;
         grow(&mut self.queues, self.alloc, width, at + 1)?;
         let queue = &mut self.queues[at];
         queue.prepare(thread)?;

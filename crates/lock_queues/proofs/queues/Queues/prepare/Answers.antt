@@ -11,23 +11,23 @@ grow-requires c = record {
 }
 
 pub invariant_of-self : goal.invariant_of-self
-invariant_of-self c = kept_larger c.self.invariant c.make_room.ensures.same c.make_room.ensures.larger
+invariant_of-self c = kept_larger c.self.invariant c.prepare.ensures.same c.prepare.ensures.larger
 
 pub invariant_of-self-in_err-grow : goal.invariant_of-self-in_err-grow
 invariant_of-self-in_err-grow c =
-    kept_alike (kept_larger c.self.invariant c.make_room.ensures.same c.make_room.ensures.larger)
+    kept_alike (kept_larger c.self.invariant c.prepare.ensures.same c.prepare.ensures.larger)
     c.grow.ensures.same c.threads-width.ensures.is c.grow.ensures.wide c.grow.ensures.slots
 
-pub invariant_of-self-in_err-prepare : goal.invariant_of-self-in_err-prepare
-invariant_of-self-in_err-prepare c =
+pub invariant_of-self-in_err-prepare-2 : goal.invariant_of-self-in_err-prepare-2
+invariant_of-self-in_err-prepare-2 c =
     let l = c.args.lock.0 in
     let ok = c.in_ok-grow.ensures.ok in
     let lt : l < length c.grow.new.queues.items = omega arith in
-    let grown = kept_alike (kept_larger c.self.invariant c.make_room.ensures.same c.make_room.ensures.larger)
+    let grown = kept_alike (kept_larger c.self.invariant c.prepare.ensures.same c.prepare.ensures.larger)
     c.grow.ensures.same c.threads-width.ensures.is c.grow.ensures.wide c.grow.ensures.slots in
-    let same = c.prepare.ensures.same in
-    let slots = ap length c.in_err-prepare.ensures.err in
-    kept_set l c.prepare.new.self c.self.inside.slots grown lt c.index_mut-queue.ensures.value same.width
+    let same = c.prepare-2.ensures.same in
+    let slots = ap length c.in_err-prepare-2.ensures.err in
+    kept_set l c.prepare-2.new.self c.self.inside.slots grown lt c.index_mut-queue.ensures.value same.width
     same.entries (omega arith) grown.spare
 
 pub invariant_of-self-2 : goal.invariant_of-self-2
@@ -35,83 +35,83 @@ invariant_of-self-2 c =
     let l = c.args.lock.0 in
     let ok = c.in_ok-grow.ensures.ok in
     let lt : l < length c.grow.new.queues.items = omega arith in
-    let grown = kept_alike (kept_larger c.self.invariant c.make_room.ensures.same c.make_room.ensures.larger)
+    let grown = kept_alike (kept_larger c.self.invariant c.prepare.ensures.same c.prepare.ensures.larger)
     c.grow.ensures.same c.threads-width.ensures.is c.grow.ensures.wide c.grow.ensures.slots in
-    let same = c.prepare.ensures.same in
-    let one = c.in_ok-prepare.ensures.more in
+    let same = c.prepare-2.ensures.same in
+    let one = c.in_ok-prepare-2.ensures.more in
     let next = c.in-Some.ensures.1 in
-    let spare = c.in_ok-make_room.ensures.ok in
+    let spare = c.in_ok-prepare.ensures.ok in
     let times = ap (λ w. c.in-Some.slots * w) c.threads-width.ensures.is in
-    kept_set l c.prepare.new.self _ grown lt c.index_mut-queue.ensures.value same.width same.entries
+    kept_set l c.prepare-2.new.self _ grown lt c.index_mut-queue.ensures.value same.width same.entries
     (omega (arith, next)) (omega (arith, spare, times))
 
-pub returns-in_err-prepare-clause-same : goal.returns-in_err-prepare-clause-same
-returns-in_err-prepare-clause-same c =
+pub returns-in_err-prepare-2-clause-same : goal.returns-in_err-prepare-2-clause-same
+returns-in_err-prepare-2-clause-same c =
     let ok = c.in_ok-grow.ensures.ok in
     let lt : c.args.lock.0 < length c.grow.new.queues.items = omega arith in
     let f = found_at c.args.lock.0 c.grow.ensures.same lt c.index_mut-queue.ensures.value in
-    rw (← c.self.view_is) (same_tables c.prepare.new.self f c.self.inside.limits c.make_room.ensures.same
-    c.prepare.ensures.same)
+    rw (← c.self.view_is) (same_tables c.prepare-2.new.self f c.self.inside.limits c.prepare.ensures.same
+    c.prepare-2.ensures.same)
 
-pub returns-in_err-prepare-clause-err : goal.returns-in_err-prepare-clause-err
-returns-in_err-prepare-clause-err c =
+pub returns-in_err-prepare-2-clause-err : goal.returns-in_err-prepare-2-clause-err
+returns-in_err-prepare-2-clause-err c =
     let ok = c.in_ok-grow.ensures.ok in
     let lt : c.args.lock.0 < length c.grow.new.queues.items = omega arith in
     let f = found_at c.args.lock.0 c.grow.ensures.same lt c.index_mut-queue.ensures.value in
-    where_err c.from_residual-in_err-prepare.result _
-    (rw (← c.self.view_is) (slots_same c.prepare.new.self f c.in_err-prepare.ensures.err))
+    where_err c.from_residual-in_err-prepare-2.result _
+    (rw (← c.self.view_is) (slots_same c.prepare-2.new.self f c.in_err-prepare-2.ensures.err))
 
 pub returns-clause-same : goal.returns-clause-same
 returns-clause-same c =
     let ok = c.in_ok-grow.ensures.ok in
     let lt : c.args.lock.0 < length c.grow.new.queues.items = omega arith in
     let f = found_at c.args.lock.0 c.grow.ensures.same lt c.index_mut-queue.ensures.value in
-    rw (← c.self.view_is) (same_tables c.prepare.new.self f c.self.inside.limits c.make_room.ensures.same
-    c.prepare.ensures.same)
+    rw (← c.self.view_is) (same_tables c.prepare-2.new.self f c.self.inside.limits c.prepare.ensures.same
+    c.prepare-2.ensures.same)
 
 pub returns-clause-ok : goal.returns-clause-ok
 returns-clause-ok c =
     let ok = c.in_ok-grow.ensures.ok in
     let lt : c.args.lock.0 < length c.grow.new.queues.items = omega arith in
     let f = found_at c.args.lock.0 c.grow.ensures.same lt c.index_mut-queue.ensures.value in
-    rw (← c.self.view_is) (slot_made c.prepare.new.self f c.args.thread.0 c.in_ok-prepare.ensures.ok)
+    rw (← c.self.view_is) (slot_made c.prepare-2.new.self f c.args.thread.0 c.in_ok-prepare-2.ensures.ok)
 
-pub returns-in_err-make_room-clause-grown : goal.returns-in_err-make_room-clause-grown
-returns-in_err-make_room-clause-grown c =
+pub returns-in_err-prepare-clause-grown : goal.returns-in_err-prepare-clause-grown
+returns-in_err-prepare-clause-grown c =
     rw (← c.self.view_is) (grown_queues c.self.inside.limits c.args.thread.0 c.args.lock.0
-    (λ m. (refl, refl, refl, refl)) c.make_room.ensures.same (omega arith) (omega arith)
+    (λ m. (refl, refl, refl, refl)) c.prepare.ensures.same (omega arith) (omega arith)
     (numbers_fit c.self.inside.queues.items
     (length c.self.inside.releases.numbers) c.self.inside.releases.most c.self.invariant.slots
-    (omega (arith, c.in-Some.ensures.1)) c.threads-width.ensures.is c.make_room.ensures.most))
+    (omega (arith, c.in-Some.ensures.1)) c.threads-width.ensures.is c.prepare.ensures.most))
 
 pub returns-in_err-grow-clause-grown : goal.returns-in_err-grow-clause-grown
 returns-in_err-grow-clause-grown c =
     rw (← c.self.view_is) (grown_queues c.self.inside.limits c.args.thread.0 c.args.lock.0
-    c.grow.ensures.same c.make_room.ensures.same c.grow.ensures.most c.grow.ensures.room
+    c.grow.ensures.same c.prepare.ensures.same c.grow.ensures.most c.grow.ensures.room
     (numbers_fit c.self.inside.queues.items
     (length c.self.inside.releases.numbers) c.self.inside.releases.most c.self.invariant.slots
-    (omega (arith, c.in-Some.ensures.1)) c.threads-width.ensures.is c.make_room.ensures.most))
+    (omega (arith, c.in-Some.ensures.1)) c.threads-width.ensures.is c.prepare.ensures.most))
 
-pub returns-in_err-prepare-clause-grown : goal.returns-in_err-prepare-clause-grown
-returns-in_err-prepare-clause-grown c =
+pub returns-in_err-prepare-2-clause-grown : goal.returns-in_err-prepare-2-clause-grown
+returns-in_err-prepare-2-clause-grown c =
     let ok = c.in_ok-grow.ensures.ok in
     let lt : c.args.lock.0 < length c.grow.new.queues.items = omega arith in
     let f = found_at c.args.lock.0 c.grow.ensures.same lt c.index_mut-queue.ensures.value in
-    rw (← c.self.view_is) (grown_tables c.prepare.new.self f c.self.inside.limits c.args.thread.0
-    c.make_room.ensures.same c.grow.ensures.most c.prepare.ensures.most c.grow.ensures.room
+    rw (← c.self.view_is) (grown_tables c.prepare-2.new.self f c.self.inside.limits c.args.thread.0
+    c.prepare.ensures.same c.grow.ensures.most c.prepare-2.ensures.most c.grow.ensures.room
     (numbers_fit c.self.inside.queues.items
     (length c.self.inside.releases.numbers) c.self.inside.releases.most c.self.invariant.slots
-    (omega (arith, c.in-Some.ensures.1)) c.threads-width.ensures.is c.make_room.ensures.most)
-    c.prepare.ensures.places)
+    (omega (arith, c.in-Some.ensures.1)) c.threads-width.ensures.is c.prepare.ensures.most)
+    c.prepare-2.ensures.places)
 
 pub returns-clause-grown : goal.returns-clause-grown
 returns-clause-grown c =
     let ok = c.in_ok-grow.ensures.ok in
     let lt : c.args.lock.0 < length c.grow.new.queues.items = omega arith in
     let f = found_at c.args.lock.0 c.grow.ensures.same lt c.index_mut-queue.ensures.value in
-    rw (← c.self.view_is) (grown_tables c.prepare.new.self f c.self.inside.limits c.args.thread.0
-    c.make_room.ensures.same c.grow.ensures.most c.prepare.ensures.most c.grow.ensures.room
+    rw (← c.self.view_is) (grown_tables c.prepare-2.new.self f c.self.inside.limits c.args.thread.0
+    c.prepare.ensures.same c.grow.ensures.most c.prepare-2.ensures.most c.grow.ensures.room
     (numbers_fit c.self.inside.queues.items
     (length c.self.inside.releases.numbers) c.self.inside.releases.most c.self.invariant.slots
-    (omega (arith, c.in-Some.ensures.1)) c.threads-width.ensures.is c.make_room.ensures.most)
-    c.prepare.ensures.places)
+    (omega (arith, c.in-Some.ensures.1)) c.threads-width.ensures.is c.prepare.ensures.most)
+    c.prepare-2.ensures.places)
