@@ -9,8 +9,7 @@ use Rattle.section_sum.specs.LockSums.{LockSum, no_kept, kept_at, IsKept, AreKep
 use Rattle.section_sum.specs.Entries.{entries_of, SaysSame}
 use Rattle.section_sum.specs.Locks.{SaySame, HaveGrown}
 use Rattle.section_sum.specs.Sums.{Sums, said_of, is_held, is_ready, noted_of, others_of, GrownFor}
-use Rattle.section_sum.specs.Sums.{KeepsReady}
-use Rattle.section_sum.specs.Sums.{SameNoted, SameOthers}
+use Rattle.section_sum.specs.Sums.{KeepsReady, SameNoted, SameOthers}
 use Rattle.section_sum.specs.Standing.{Stands}
 use Rattle.event_core.specs.declared.events.Event.{Event}
 use Rattle.section_sum.proofs.Basics.{at_set}

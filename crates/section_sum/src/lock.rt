@@ -82,6 +82,7 @@ impl Lock {
 
     /// Makes room for accesses to the variable in sections on the lock, and for the ends of those sections.
     /// Where there is room it takes no memory. The next calls for the variable find its cell by no hash.
+    #[inline(always)]
     pub fn prepare(
         &mut self,
         cells: &mut Cells,

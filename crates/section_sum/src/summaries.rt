@@ -1,15 +1,14 @@
 //! The summaries of all locks.
 ghost use Rattle.std.specs.Prelude.{◌≡◌, ℕ, ◌+◌, ◌<◌, ◌≤◌, ◌↔◌, ◌||◌, ◌&&◌, List, [], ◌∷◌, ◌++◌, length};
-ghost use Rattle.std.specs.Prelude.{nat_eq, cond};
-ghost use Rattle.std.specs.Prelude.{not, false, OnOk, OnErr, IsTrue};
+ghost use Rattle.std.specs.Prelude.{nat_eq, cond, not, false, OnOk, OnErr, IsTrue};
 ghost use Rattle.event_core.specs.declared.events.AccessKind.{AccessKind as Kind};
 ghost use Rattle.event_core.specs.declared.events.Event.{Event};
 ghost use Rattle.event_core.specs.declared.bounds.Limits.{Limits};
 ghost use Rattle.event_core.specs.Log.{depth};
 ghost use Rattle.event_core.specs.Refusal.{WellFormed};
 ghost use Rattle.event_core.specs.Closed.{EndsSection, ended};
-ghost use Rattle.section_sum.specs.Sums.{noted_of, others_of, sources_of, is_access, IsReady};
-ghost use Rattle.section_sum.specs.Sums.{IsAlone, SameNoted, SameOthers, KeepsReady, GrownFor};
+ghost use Rattle.section_sum.specs.Sums.{noted_of, others_of, sources_of, is_access, IsReady, IsAlone};
+ghost use Rattle.section_sum.specs.Sums.{SameNoted, SameOthers, KeepsReady, GrownFor};
 ghost use Rattle.section_sum.specs.Sources.{left, most_sources};
 ghost use Rattle.section_sum.specs.Standing.{Stands, IsAccess, AreHeld};
 ghost use Rattle.section_sum.specs.Paired.{AreSources};
@@ -60,7 +59,7 @@ impl Summaries {
     /// Where there is room it takes no memory. The next calls of `sources` and `note` for the variable under
     /// these locks take no hash. A refused growth is answered by `OutOfMemory`, and the same call can be made
     /// again.
-    #[inline(always)]
+    #[inline(never)]
     pub fn prepare(&mut self, held: &[LockId], var: VarId) -> Result<(), OutOfMemory>
         ensures ready { OnOk result (IsReady self.new held.now var.0) }
         ensures refused { OnErr result (IsReady self.new held.now var.0 → ⊥) }
