@@ -15,38 +15,47 @@ use Rattle.hb_clocks.specs.State as hb
 use Rattle.hb_clocks.specs.Tables as hb_tables
 use Rattle.hb_clocks.specs.Work.{Done, more_joins}
 use Rattle.lock_queues.specs.Queues.{closed_of}
-use Rattle.section_sum.specs.Sums.{Sums, noted_of, is_access, SameOthers}
-use Rattle.section_sum.specs.Sums.{KeepsReady as sum_rooms}
+use Rattle.section_sum.specs.Sums.{Sums, noted_of, is_access, SameOthers, KeepsReady as sum_rooms}
 use Rattle.wcp_laws.specs.Step.{effect, join_all}
-use Rattle.wcp_clocks.specs.Parts.{Parts}
+use Rattle.wcp_clocks.specs.Parts.{Parts, hb_of, state_of, Fits, HasPlaces, KeepsReady}
 use Rattle.wcp_clocks.specs.HeldLists.{list_at, numbers_of, held_of}
 use Rattle.wcp_clocks.specs.StrictRows.{StrictTables, strict_of, SameRoom}
-use Rattle.wcp_clocks.specs.Parts.{hb_of, state_of, Fits, HasPlaces, KeepsReady}
-use Rattle.wcp_clocks.specs.Stepping.{IsStepBy, strict_clock}
+use Rattle.wcp_clocks.specs.Stepping.{IsStepBy}
 use Rattle.wcp_clocks.specs.Met.{met_clocks, met_under, joins_under, AreNumbers}
 use Rattle.wcp_clocks.proofs.Growth.{rows_ready}
+use Rattle.wcp_clocks.proofs.RowsKept.{room_kept}
+use Rattle.wcp_clocks.proofs.Passing.{joins_told}
 use Rattle.wcp_clocks.proofs.EffectWords.{same_sources, same_noted, same_clocks, same_numbers}
+
+-- what was ready stays so
+access_keeps : (old : Parts) (rows : StrictTables) (tables : hb_tables.Tables) (sums : Sums) (work : Done)
+    → hb_tables.KeepsRoom old.hb tables → SameRoom old.rows rows → sum_rooms old.sums sums
+    → KeepsReady old (record {
+      hb = tables;
+      rows = rows;
+      sums = sums;
+      queues = old.queues;
+      held = old.held;
+      work = work;
+    })
+access_keeps old rows tables sums work hb kept rooms t op ready = record {
+  hb = hb t op ready.hb;
+  rows = rows_ready old.rows rows t op (room_kept kept) ready.rows;
+  places = places op ready.places;
+}
+  where
+    places : (op : Op) → HasPlaces old.sums old.queues old.held t op
+        → HasPlaces sums old.queues old.held t op
+    places (Load x) room = λ l h. rooms l x.0 (room l h)
+    places (Store x) room = λ l h. rooms l x.0 (room l h)
+    places (Acquire l) room = room
+    places _ room = tt
 
 module _ (e : Event) (x : VarId) (k : AccessKind) (old : Parts)
     (told : effect e (state_of old) ≡ Accesses x k)
     (fits : Fits e old) where
   abbrev t : ℕ
   t = e.thread.0
-
-  -- what the strict clock takes
-  pub taken_row : (locks : List LockId) (rows : StrictTables) → locks ≡ (list_at old.held t).locks
-      → (strict_of rows).thread ≡ with_row t
-      (join ((strict_of old.rows).thread t) (join_all (met_under (met_clocks old.sums
-      (closed_of old.queues)) x.0 k t)
-      (numbers_of locks)))
-      (strict_of old.rows).thread
-      → (strict_of rows).thread ≡ with_row t (strict_clock e (Accesses x k) old) (strict_of old.rows).thread
-  taken_row locks rows of taken =
-      taken
-      ∙ ap₂ (λ (f : ℕ → ℕ → ℕ) (ns : List ℕ). with_row t (join ((strict_of old.rows).thread t)
-      (join_all f ns))
-      (strict_of old.rows).thread)
-      (same_sources (state_of old) x k e.thread) (ap numbers_of of)
 
   pub access_step : (locks : List LockId) (taken : StrictTables) (tables : hb_tables.Tables)
       (sums : Sums)
@@ -66,15 +75,17 @@ module _ (e : Event) (x : VarId) (k : AccessKind) (old : Parts)
       → SameOthers old.sums sums → AreNumbers old.sums (closed_of old.queues)
       → hb_tables.state_of tables ≡ hb.after e (hb_of old) → tables.width ≡ old.hb.width
       → hb_tables.KeepsRoom old.hb tables
-      → work ≡ more_joins (hb.joins_of (hb.effect e (hb_of old))) joined
+      → work ≡ more_joins (hb.joins_of (hb.effect e (hb_of old))) joined → sum_rooms old.sums sums
       → IsStepBy e (Accesses x k) old
       (record { hb = tables; rows = taken; sums = sums; queues = old.queues; held = old.held; work = work })
   access_step locks taken tables sums joined work of threads lock room joins made comparisons noted others
-      numbers exact width order done =
+      numbers exact width order done rooms =
       record {
         hb = exact;
         order_room = order;
-        threads = taken_row locks taken of threads;
+        threads = threads ∙ ap₂ (λ (f : ℕ → ℕ → ℕ) (ns : List ℕ). with_row t
+            (join ((strict_of old.rows).thread t) (join_all f ns)) (strict_of old.rows).thread)
+            (same_sources (state_of old) x k e.thread) (ap numbers_of of);
         locks = lock;
         opened = refl;
         held = refl;
@@ -85,14 +96,12 @@ module _ (e : Event) (x : VarId) (k : AccessKind) (old : Parts)
         numbers = same_numbers old.sums sums (closed_of old.queues) others numbers;
         closed = refl;
         found = refl;
-        joins = (let w : work.joins ≡ joined.joins + 0 = ap (λ (d : Done). d.joins) done
-            ∙ ap (λ k. joined.joins + hb.joins_of k) told in
+        joins = (let w = joins_told e (Accesses x k) old joined work told done in
             let n : length (held_of old.held t) ≡ length locks =
             length-map (list_at old.held t).locks (λ (l : LockId). l.0)
             ∙ ap (λ (ls : List LockId). length ls) (sym of) in
             omega arith);
-        joins_exact = (let w : work.joins ≡ joined.joins + 0 = ap (λ (d : Done). d.joins) done
-            ∙ ap (λ k. joined.joins + hb.joins_of k) told in
+        joins_exact = (let w = joins_told e (Accesses x k) old joined work told done in
             let n = ap (λ (ls : List LockId). joins_under old.sums (closed_of old.queues) x.0 k t
             ((strict_of old.rows).thread t) (numbers_of ls)) of in
             omega arith);
@@ -100,29 +109,5 @@ module _ (e : Event) (x : VarId) (k : AccessKind) (old : Parts)
         no_fewer = tt;
         room = room;
         limits = record { width = width; limits = refl };
+        kept = access_keeps old taken tables sums work order room rooms;
       }
-
--- what was ready stays so
-pub access_keeps : (old : Parts) (rows : StrictTables) (tables : hb_tables.Tables) (sums : Sums) (work : Done)
-    → hb_tables.KeepsRoom old.hb tables → SameRoom old.rows rows → sum_rooms old.sums sums
-    → KeepsReady old (record {
-      hb = tables;
-      rows = rows;
-      sums = sums;
-      queues = old.queues;
-      held = old.held;
-      work = work;
-    })
-access_keeps old rows tables sums work hb kept rooms t op ready = record {
-  hb = hb t op ready.hb;
-  rows = rows_ready old.rows rows t op (record { width = kept.width; thread = kept.thread; lock = kept.lock })
-      ready.rows;
-  places = places op ready.places;
-}
-  where
-    places : (op : Op) → HasPlaces old.sums old.queues old.held t op
-        → HasPlaces sums old.queues old.held t op
-    places (Load x) room = λ l h. rooms l x.0 (room l h)
-    places (Store x) room = λ l h. rooms l x.0 (room l h)
-    places (Acquire l) room = room
-    places _ room = tt

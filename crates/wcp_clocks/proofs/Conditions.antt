@@ -1,7 +1,6 @@
 -- A legal event finds the numbers as the step asks.
 use Rattle.std.proofs.Common.{◌≡◌, ℕ, zero, suc, ◌<◌, ◌≤◌, ◌+◌, List, [], ◌∷◌, ◌++◌, length, true, false}
-use Rattle.std.proofs.Common.{nat_eq}
-use Rattle.std.proofs.Common.{sym, ap, subst, ◌∙◌, inl, inr, ◌⊎◌, ◌↔◌, arith, take}
+use Rattle.std.proofs.Common.{nat_eq, sym, ap, subst, ◌∙◌, inl, inr, ◌⊎◌, ◌↔◌, arith, take}
 use Rattle.std.proofs.lemmas.Bool.{cases_Bool, cases_lt, eqb-true}
 use Rattle.std.proofs.lemmas.Option.{slice_get_within}
 use Rattle.std.proofs.Math.Seq.{take-length}
@@ -12,12 +11,11 @@ use Rattle.event_core.specs.declared.ids.ThreadId.{ThreadId}
 use Rattle.event_core.specs.declared.ids.VarId.{VarId}
 use Rattle.event_core.specs.Closed.{Has, Noted}
 use Rattle.event_core.specs.Log.{depth}
-use Rattle.event_core.specs.Refusal.{WellFormed}
+use Rattle.event_core.specs.Refusal.{WellFormed, open_acquires}
 use Rattle.event_core.proofs.Growth.{well_formed_front}
 use Rattle.event_core.proofs.Legality.{orderly}
 use Rattle.event_core.proofs.Members.{any_has}
 use Rattle.event_core.proofs.Slots.{slots}
-use Rattle.event_core.specs.Refusal.{open_acquires}
 use Rattle.hb_clocks.proofs.Conditions.{admits_legal, few_in_log, events_within}
 use Rattle.section_sum.specs.Sums.{IsAlone, noted_of}
 use Rattle.event_core.specs.Count.{events_of}
@@ -31,9 +29,8 @@ use Rattle.wcp_laws.specs.Step as wcp
 use Rattle.wcp_laws.proofs.LegalSteps as wcp_steps
 use Rattle.wcp_clocks.specs.Whole.{own_of}
 use Rattle.wcp_laws.proofs.Conditions.{sound_where_legal}
-use Rattle.wcp_clocks.specs.Parts.{Parts}
+use Rattle.wcp_clocks.specs.Parts.{Parts, hb_of, state_of}
 use Rattle.wcp_clocks.specs.HeldLists.{list_at, held_of}
-use Rattle.wcp_clocks.specs.Parts.{hb_of, state_of}
 use Rattle.wcp_clocks.specs.StandsFor.{StandsFor, FitsWhereLegal}
 use Rattle.wcp_clocks.proofs.Growth.{held_numbers}
 

@@ -1,8 +1,6 @@
 -- Parts that have more room are as before in all else.
 use Rattle.std.proofs.Common.{◌≡◌, ℕ, ◌<◌, List, [], ◌∷◌, length, Bool, true, false, ◌||◌, nat_eq, refl, sym}
-use Rattle.std.proofs.Common.{ap, ap₂, subst, ◌∙◌}
-use Rattle.std.proofs.Common.{IsTrue, arith}
-use Rattle.std.proofs.Common.{inl, inr, ◌⊎◌, Result, Ok, Err, OnOk, OnErr}
+use Rattle.std.proofs.Common.{ap, ap₂, subst, ◌∙◌, IsTrue, arith, inl, inr, ◌⊎◌, Result, Ok, Err, OnOk, OnErr}
 use Rattle.std.specs.Prelude.{is_ok, IsOk}
 use Rattle.std.proofs.lemmas.Bool.{cases_eq, cases_Bool}
 use Rattle.event_core.specs.declared.replies.OutOfMemory.{OutOfMemory}
@@ -14,21 +12,22 @@ use Rattle.event_core.specs.declared.events.Op.{Op}
 use Rattle.event_core.specs.declared.events.Op.TheVariants.{Load, Store, Acquire, Release, Fork, Join}
 use Rattle.event_core.specs.declared.events.AccessKind.{AccessKind}
 use Rattle.event_core.specs.Bounds.{Bounds}
-use Rattle.event_core.specs.Rows.{Rows, with_row, no_rows}
+use Rattle.event_core.specs.Rows.{with_row, no_rows}
 use Rattle.hb_clocks.specs.State.{HbState, empty as hb_empty}
 use Rattle.hb_clocks.specs.Tables as hb
+use Rattle.hb_clocks.specs.Work.{Done}
 use Rattle.section_sum.specs.Sums.{Sums, IsReady as SumsAreReady, is_held, noted_of, others_of}
 use Rattle.lock_queues.specs.Queues.{AllQueues as Queues, SameMeaning, closed_of, opened_of, is_ready}
-use Rattle.wcp_laws.specs.State.{empty}
-use Rattle.wcp_clocks.specs.Parts.{Parts}
+use Rattle.wcp_laws.specs.State.{State, empty}
+use Rattle.wcp_clocks.specs.Parts.{Parts, parts_of, hb_of, state_of, HasPlaces, KeepsReady, SameNumbers}
+use Rattle.wcp_clocks.specs.Parts.{AreParts}
 use Rattle.wcp_clocks.specs.HeldLists.{HeldList, list_at, numbers_of, held_of}
 use Rattle.wcp_clocks.specs.StrictRows.{StrictTables, strict_of, HasThread, HasLock, SameClocks, KeepsRoom}
 use Rattle.wcp_clocks.specs.StrictRows.{HasNamed, IsReady, GrownFor}
 use Rattle.event_core.specs.Closed.{Closed}
 use Rattle.wcp_clocks.specs.Met.{release_at}
 use Rattle.wcp_clocks.specs.Whole.{AreWhole}
-use Rattle.wcp_clocks.proofs.Wholeness.{none_whole}
-use Rattle.wcp_clocks.specs.Parts.{hb_of, state_of, HasPlaces, KeepsReady, SameLimits, SameNumbers, AreParts}
+use Rattle.wcp_clocks.proofs.Wholeness.{empty_whole}
 use Rattle.wcp_clocks.specs.Growth.{ClocksHaveGrown, SumsHaveGrown, QueuesHaveGrown, HoldsHaveGrown, HasGrown}
 use Rattle.wcp_clocks.proofs.Ordered.{ordered_more, ordered_grown}
 
@@ -45,16 +44,6 @@ queues_same q = record {
 pub held_same : (held : List HeldList) → HoldsHaveGrown held held
 held_same held = record { same = refl; room = λ t r. r }
 
-pub clocks_same : (order : hb.Tables) (rows : StrictTables) → ClocksHaveGrown order order rows rows
-clocks_same order rows = record {
-  order = refl;
-  width = refl;
-  order_room = λ t op r. r;
-  rows = record { strict = refl };
-  rows_room = record { width = refl; thread = λ t r. r; lock = λ l r. r };
-  ordered = λ o. o;
-}
-
 -- the clocks of happens-before have grown, and the strict ones stay
 pub order_grown : (old new : hb.Tables) (rows : StrictTables) → hb.state_of new ≡ hb.state_of old
     → new.width ≡ old.width → hb.KeepsRoom old new → ClocksHaveGrown old new rows rows
@@ -66,6 +55,9 @@ order_grown old new rows same width kept = record {
   rows_room = record { width = refl; thread = λ t r. r; lock = λ l r. r };
   ordered = ordered_more rows old new kept;
 }
+
+pub clocks_same : (order : hb.Tables) (rows : StrictTables) → ClocksHaveGrown order order rows rows
+clocks_same order rows = order_grown order order rows refl refl (λ t op r. r)
 
 -- and then the strict ones have grown too, for an operation for which the others have room
 pub rows_grown : {old new : hb.Tables} {was is : StrictTables} (t : ThreadId) (op : Op)
@@ -80,8 +72,16 @@ rows_grown {new = new} {was = was} {is = is} t op g same kept ready grown = reco
   ordered = λ o. ordered_grown was is new t op ready grown (g.ordered o);
 }
 
-pub grown_numbers : (old new : Parts) → HasGrown old new → SameNumbers old new
-grown_numbers old new g = record {
+-- parts that have grown each
+pub all_grown : {order more : hb.Tables} {was is : StrictTables} {s t : Sums} {q r : Queues}
+    {h g : List HeldList} {work : Done} → ClocksHaveGrown order more was is → SumsHaveGrown s t
+    → QueuesHaveGrown q r → HoldsHaveGrown h g
+    → HasGrown (parts_of order was s q h work) (parts_of more is t r g work)
+all_grown clocks sums queues held =
+    record { clocks = clocks; sums = sums; queues = queues; held = held; work = refl }
+
+grown_numbers : {old new : Parts} → HasGrown old new → SameNumbers old new
+grown_numbers g = record {
   state = λ i. record {
     hb = (g.clocks.order i).hb;
     strict = g.clocks.rows.strict i;
@@ -96,9 +96,6 @@ grown_numbers old new g = record {
   found = g.queues.same.found;
   work = g.work;
 }
-
-pub grown_limits : (old new : Parts) → HasGrown old new → SameLimits old new
-grown_limits old new g = record { width = g.clocks.width; limits = g.queues.same.limits }
 
 -- a lock is one of a list where its number is
 pub held_numbers : (held : List LockId) (l : ℕ) → is_held held l ≡ list_any (nat_eq l) (numbers_of held)
@@ -136,15 +133,15 @@ rows_ready old new t op kept has = record { thread = kept.thread t.0 has.thread;
     go (Join u) n = kept.thread u.0 n
     go _ n = tt
 
-pub grown_ready : (old new : Parts) → HasGrown old new → KeepsReady old new
-grown_ready old new g t op r = record {
+grown_ready : {old new : Parts} → HasGrown old new → KeepsReady old new
+grown_ready {old} {new} g t op r = record {
   hb = g.clocks.order_room t op r.hb;
   rows = rows_ready old.rows new.rows t op g.clocks.rows_room r.rows;
   places = places_kept old new t op g r.places;
 }
 
-pub grown_parts : (old new : Parts) → HasGrown old new → AreParts old → AreParts new
-grown_parts old new g a = record {
+pub grown_parts : {old new : Parts} → HasGrown old new → AreParts old → AreParts new
+grown_parts g a = record {
   rows = g.clocks.rows_room.width ∙ a.rows ∙ sym g.clocks.width;
   queues = ap (λ (b : Bounds). b.threads) g.queues.same.limits ∙ a.queues ∙ sym g.clocks.width;
   numbers = λ l x k t.
@@ -152,7 +149,7 @@ grown_parts old new g a = record {
       let n = a.numbers l x k t in
       let w = ap (λ (f : ℕ → List Closed). length (f l)) g.queues.same.closed in
       omega arith);
-  whole = subst AreWhole (sym (grown_numbers old new g).state) a.whole;
+  whole = subst AreWhole (sym (grown_numbers g).state) a.whole;
   held_thread = λ t l up. g.clocks.rows_room.thread t
       (a.held_thread t l (subst (λ (s : HbState). 0 < s.depth t l) g.clocks.order up));
   held_lock = λ t l up. g.clocks.rows_room.lock l
@@ -163,10 +160,10 @@ grown_parts old new g a = record {
 -- the same of the parts that are seen, where they are those within
 module _ {inside now new : Parts} (is : inside ≡ now) (grown : HasGrown inside new) where
   pub seen_ready : KeepsReady now new
-  seen_ready = subst (λ (p : Parts). KeepsReady p new) is (grown_ready inside new grown)
+  seen_ready = subst (λ (p : Parts). KeepsReady p new) is (grown_ready grown)
 
   pub seen_numbers : SameNumbers now new
-  seen_numbers = subst (λ (p : Parts). SameNumbers p new) is (grown_numbers inside new grown)
+  seen_numbers = subst (λ (p : Parts). SameNumbers p new) is (grown_numbers grown)
 
 -- a table with one place more that is true
 row_true : (t l : ℕ) (f : ℕ → ℕ → Bool) (u m : ℕ) → f u m ≡ true
@@ -179,10 +176,10 @@ row_true t l f u m is = go (cases_eq u t) (cases_eq m l)
     go (inr n) _ = cell_other t l true f u m (λ q _. n q) ∙ is
 
 -- room is made in the queues of a lock, or none is
-pub queues_grown : (r : Result (Unit {0}) OutOfMemory) (t l : ℕ) (old new : Queues) → SameMeaning old new
+pub queues_grown : {old new : Queues} (r : Result (Unit {0}) OutOfMemory) (t l : ℕ) → SameMeaning old new
     → OnOk r (is_ready new ≡ with_row t (with_row l true (is_ready old t)) (is_ready old))
     → OnErr r (is_ready new ≡ is_ready old) → QueuesHaveGrown old new
-queues_grown r t l old new same ok err = record { same = same; room = λ u m is. kept r ok err u m is }
+queues_grown {old} {new} r t l same ok err = record { same = same; room = λ u m is. kept r ok err u m is }
   where
     kept : (r : Result (Unit {0}) OutOfMemory)
         → OnOk r (is_ready new ≡ with_row t (with_row l true (is_ready old t)) (is_ready old))
@@ -206,31 +203,7 @@ queue_told (Err x) t l old new ok err again = go (cases_Bool (old t l))
     go (inl some) = absurd (let q : false ≡ true = again some in cc)
     go (inr none) = sym (ap (λ (f : ℕ → ℕ → Bool). f t l) err ∙ none)
 
--- parts of one width, without numbers
-pub are_parts : (p : Parts) (width : ℕ) → p.hb.width ≡ width → hb_of p ≡ hb_empty
-    → p.rows.width ≡ width → strict_of p.rows ≡ no_rows
-    → p.queues.limits.threads ≡ width
-    → ((l x : ℕ) (k : AccessKind) (t : ℕ) → others_of p.sums l x k t ≡ 0)
-    → ((l : ℕ) → closed_of p.queues l ≡ []) → ((t : ℕ) → HasThread p.rows t → ⊥)
-    → ((l : ℕ) → HasLock p.rows l → ⊥) → AreParts p
-are_parts p width hb_width hb rows_width strict queues others closed no_thread no_lock = record {
-  rows = rows_width ∙ sym hb_width;
-  queues = queues ∙ sym hb_width;
-  numbers = λ l x k t. (let e = others l x k t in omega arith);
-  whole = none_whole (state_of p)
-      (λ l x k t u. ap (λ n. release_at (closed_of p.queues l) n u) (others l x k t))
-      (λ t u. ap (λ (r : Rows). r.thread t u) strict) (λ l u. ap (λ (r : Rows). r.lock l u) strict)
-      (λ t u. ap (λ (s : HbState). s.hb.thread t u) hb) (λ l u. ap (λ (s : HbState). s.hb.lock l u) hb)
-      closed;
-  held_thread = λ t l up. absurd (none t l up);
-  held_lock = λ t l up. absurd (none t l up);
-  ordered = record { thread = λ t has. absurd (no_thread t.0 has); lock = λ l has. absurd (no_lock l.0 has) };
-}
-  where
-    none : (t l : ℕ) → 0 < (hb_of p).depth t l → ⊥
-    none t l up = let z : (hb_of p).depth t l ≡ 0 = ap (λ (s : HbState). s.depth t l) hb in omega arith
-
--- and their numbers are those of the empty log
+-- parts without numbers
 pub empty_numbers : (p : Parts) → hb_of p ≡ hb_empty → strict_of p.rows ≡ no_rows
     → opened_of p.queues ≡ (λ _ _. 0) → held_of p.held ≡ (λ _. [])
     → ((t l x : ℕ) (k : AccessKind) → noted_of p.sums t l x k ≡ false)
@@ -246,3 +219,21 @@ empty_numbers p hb strict opened held noted others closed i = record {
   met_clock = λ l x k t. release_at (closed i l) (others l x k t i);
   closed = closed i;
 }
+
+-- and of one width
+pub are_parts : (p : Parts) → state_of p ≡ empty → p.rows.width ≡ p.hb.width
+    → p.queues.limits.threads ≡ p.hb.width
+    → ((l x : ℕ) (k : AccessKind) (t : ℕ) → others_of p.sums l x k t ≡ 0)
+    → ((t : ℕ) → HasThread p.rows t → ⊥) → ((l : ℕ) → HasLock p.rows l → ⊥) → AreParts p
+are_parts p is rows queues others no_thread no_lock = record {
+  rows = rows;
+  queues = queues;
+  numbers = λ l x k t. (let e = others l x k t in omega arith);
+  whole = subst AreWhole (sym is) empty_whole;
+  held_thread = λ t l up. absurd (none t l up);
+  held_lock = λ t l up. absurd (none t l up);
+  ordered = record { thread = λ t has. absurd (no_thread t.0 has); lock = λ l has. absurd (no_lock l.0 has) };
+}
+  where
+    none : (t l : ℕ) → 0 < (hb_of p).depth t l → ⊥
+    none t l up = let z : (hb_of p).depth t l ≡ 0 = ap (λ (s : State). s.depth t l) is in omega arith

@@ -1,7 +1,6 @@
 -- The lists of held locks: no lock stands twice in one, and none is longer than there are locks.
 use Rattle.std.proofs.Common.{◌≡◌, ℕ, ◌<◌, ◌≤◌, List, [], ◌∷◌, ◌++◌, length, Bool, true, false, cond, nat_eq}
-use Rattle.std.proofs.Common.{nat_lt, not}
-use Rattle.std.proofs.Common.{refl, sym, ap, subst, ◌∙◌, inl, inr, ◌⊎◌, arith, take}
+use Rattle.std.proofs.Common.{nat_lt, not, refl, sym, ap, subst, ◌∙◌, inl, inr, ◌⊎◌, arith, take}
 use Rattle.std.specs.List.{IsDistinct, AllByRecursion, list_any}
 use Rattle.std.proofs.lemmas.Bool.{cases_eq, cases_lt, eqb-true, le-ltb}
 use Rattle.std.proofs.lemmas.Map.Steps.{length-le_from_distinct_below}
@@ -27,9 +26,8 @@ use Rattle.wcp_laws.specs.State.{State}
 use Rattle.wcp_laws.specs.Standing.{Stands}
 use Rattle.wcp_laws.specs.Step.{effect, after, held_after, without}
 use Rattle.wcp_laws.proofs.Clocks.{effect_fits}
-use Rattle.wcp_clocks.specs.Parts.{state_of}
+use Rattle.wcp_clocks.specs.Parts.{state_of, Parts}
 use Rattle.wcp_clocks.specs.StandsFor.{AreDistinct, StandsFor}
-use Rattle.wcp_clocks.specs.Parts.{Parts}
 
 -- a property of all but one number of a list
 all_without : (P : ℕ → Type 0) (n : ℕ) (xs : List ℕ) → AllByRecursion P xs → AllByRecursion P (without n xs)

@@ -9,8 +9,7 @@ use Rattle.event_core.specs.Wcp.{Below}
 use Rattle.hb_clocks.specs.Marks.{IsLatest}
 use Rattle.hb_clocks.proofs.Conditions.{po_latest}
 use Rattle.wcp_laws.proofs.Ordering.{below_is_latest}
-use Rattle.wcp_clocks.specs.Parts.{Parts}
-use Rattle.wcp_clocks.specs.Parts.{state_of, hb_of}
+use Rattle.wcp_clocks.specs.Parts.{Parts, state_of, hb_of}
 use Rattle.wcp_clocks.specs.StandsFor.{StandsFor}
 
 pub below_latest : (limits : Limits) (log : List Event) (p : Parts) (t : ThreadId) (j : ℕ)

@@ -1,7 +1,6 @@
 -- Lists of held locks that are written.
-use Rattle.std.proofs.Common.{◌≡◌, ℕ, ◌<◌, ◌≤◌, List, [], ◌∷◌, ◌++◌, length, set, refl, sym, ap, subst}
-use Rattle.std.proofs.Common.{cond, nat_eq, not}
-use Rattle.std.proofs.Common.{inl, inr, ◌⊎◌, arith, Bool, true, false}
+use Rattle.std.proofs.Common.{◌≡◌, ℕ, ◌<◌, ◌≤◌, List, [], ◌∷◌, ◌++◌, length, set, refl, sym, ap, subst, cond}
+use Rattle.std.proofs.Common.{nat_eq, not, inl, inr, ◌⊎◌, arith, Bool, true, false}
 use Rattle.std.proofs.lemmas.Bool.{cases_lt, cases_Bool}
 use Rattle.std.proofs.lemmas.List.{get_or_past, map-append}
 use Rattle.event_core.specs.declared.ids.LockId.{LockId}

@@ -4,14 +4,13 @@ use Rattle.std.proofs.lemmas.Bool.{cases_eq}
 use Rattle.event_core.specs.declared.ids.ThreadId.{ThreadId}
 use Rattle.event_core.specs.declared.ids.LockId.{LockId}
 use Rattle.event_core.specs.declared.events.Op.{Op}
-use Rattle.event_core.specs.declared.events.Op.TheVariants.{Load, Store, Acquire, Release, Fork, Join}
+use Rattle.event_core.specs.declared.events.Op.TheVariants.{Acquire, Release, Fork, Join}
 use Rattle.hb_clocks.specs.Rows.{IsMade}
 use Rattle.hb_clocks.specs.Tables as hb
 use Rattle.hb_clocks.proofs.Room.{thread_stays}
-use Rattle.wcp_clocks.specs.Parts.{Parts}
+use Rattle.wcp_clocks.specs.Parts.{Parts, AreOrdered, HasPlaces, IsReady, IsWithin, NamesWithin}
 use Rattle.wcp_clocks.specs.StrictRows.{StrictTables, HasThread, HasLock, HasNamed, GrownFor}
 use Rattle.wcp_clocks.specs.StrictRows.{IsReady as RowsAreReady}
-use Rattle.wcp_clocks.specs.Parts.{AreOrdered, HasPlaces, IsReady, IsWithin, NamesWithin}
 
 -- more room in the clocks of happens-before
 pub ordered_more : (rows : StrictTables) (old new : hb.Tables) → hb.KeepsRoom old new → AreOrdered rows old
@@ -63,10 +62,7 @@ thread_ready order t (Fork v) u ready (inr q) =
     subst (hb.HasThread order.width order.po order.hb) (sym q) ready.clocks
 thread_ready order t (Join v) u ready (inr q) =
     subst (hb.HasThread order.width order.po order.hb) (sym q) ready.clocks
-thread_ready order t (Load x) u ready (inr q) = absurd q
-thread_ready order t (Store x) u ready (inr q) = absurd q
-thread_ready order t (Acquire l) u ready (inr q) = absurd q
-thread_ready order t (Release l) u ready (inr q) = absurd q
+thread_ready order t _ u ready (inr q) = absurd q
 
 lock_ready : (order : hb.Tables) (t : ThreadId) (op : Op) (l : LockId) → hb.IsReady order t op
     → hb.IsLockOf op l.0 → hb.IsReady order t (Release l)
@@ -80,7 +76,6 @@ lock_ready order t (Release m) l ready q = record {
   clocks = subst (IsMade order.width order.lock) (sym q) ready.clocks;
   hold = subst (λ n. n < length order.holds) (sym q) ready.hold;
 }
-lock_ready order t (Load x) l ready q = absurd q
 lock_ready order t _ l ready q = absurd q
 
 -- so strict clocks may be made for such an operation

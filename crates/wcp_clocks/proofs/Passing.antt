@@ -7,9 +7,8 @@ use Rattle.event_core.proofs.Growing.{row_same}
 use Rattle.hb_clocks.specs.State as hb
 use Rattle.hb_clocks.specs.Work.{Done, more_joins}
 use Rattle.wcp_laws.specs.Step.{effect, extra}
-use Rattle.wcp_clocks.specs.Parts.{Parts}
+use Rattle.wcp_clocks.specs.Parts.{Parts, hb_of, state_of}
 use Rattle.wcp_clocks.specs.StrictRows.{StrictTables, strict_of}
-use Rattle.wcp_clocks.specs.Parts.{hb_of, state_of}
 use Rattle.wcp_clocks.specs.Stepping.{strict_clock}
 use Rattle.wcp_clocks.proofs.Rows.{row_kept, join_nothing}
 

@@ -1,13 +1,11 @@
 -- Rows that are written.
-use Rattle.std.proofs.Common.{◌≡◌, ℕ, max, sym, subst, ◌∙◌, arith}
-use Rattle.std.proofs.Common.{List, length, ap}
+use Rattle.std.proofs.Common.{◌≡◌, ℕ, max, sym, subst, ◌∙◌, arith, List, length, ap, inl, inr, ◌⊎◌}
 use Rattle.std.proofs.lemmas.List.{ext_get_or}
 use Rattle.hb_clocks.specs.Counts.{counts_of}
 use Rattle.hb_clocks.specs.Rows.{row_at, rows_of, IsMade}
-use Rattle.std.proofs.Common.{inl, inr, ◌⊎◌}
 use Rattle.std.proofs.lemmas.Bool.{cases_eq}
 use Rattle.event_core.specs.Rows.{no_clock, join, with_row, to_child}
-use Rattle.event_core.specs.Effect.{Effect, Accesses, Forks}
+use Rattle.event_core.specs.Effect.{Effect, Forks}
 use Rattle.event_core.proofs.Growing.{row_same, row_other}
 
 -- a row that is written with what it has
@@ -25,7 +23,6 @@ own_row (Forks u) t g f = go (cases_eq t u.0)
     go : (t ≡ u.0) ⊎ (t ≡ u.0 → ⊥) → with_row u.0 g (with_row t g f) t ≡ g
     go (inl q) = subst (λ b. with_row u.0 g (with_row t g f) b ≡ g) (sym q) (row_same u.0 g (with_row t g f))
     go (inr n) = row_other u.0 g (with_row t g f) t n ∙ row_same t g f
-own_row (Accesses x k) t g f = row_same t g f
 own_row _ t g f = row_same t g f
 
 pub join_nothing : (f : ℕ → ℕ) → join f no_clock ≡ f

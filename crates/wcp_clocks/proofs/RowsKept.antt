@@ -1,75 +1,26 @@
 -- Tables whose clocks keep their widths.
-use Rattle.std.proofs.Common.{◌≡◌, ℕ, ◌<◌, List, length, refl, sym, subst}
-use Rattle.hb_clocks.specs.Rows.{widths_of, IsMade}
-use Rattle.hb_clocks.proofs.MadeRows.{made_kept, made_within, wide_kept}
-use Rattle.wcp_clocks.specs.StrictRows.{StrictTables, HasThread, HasLock, SameRoom, AreTables}
+use Rattle.std.proofs.Common.{◌≡◌, ℕ, ◌<◌, List, length, refl, sym, ap, subst, ◌∙◌}
+use Rattle.hb_clocks.specs.Rows.{widths_of}
+use Rattle.hb_clocks.proofs.MadeRows.{made_within, wide_kept}
+use Rattle.wcp_clocks.specs.StrictRows.{StrictTables, HasThread, HasLock, KeepsRoom, SameRoom, AreTables}
 
--- the clocks have the widths that they had
-record SameWidths (old new : StrictTables) : Type 0 where
-  pub width : new.width ≡ old.width
-  pub thread : widths_of new.thread ≡ widths_of old.thread
-  pub lock : widths_of new.lock ≡ widths_of old.lock
-
-same_back : (old new : StrictTables) → SameWidths old new → SameWidths new old
-same_back old new same = record {
-  width = sym same.width;
-  thread = sym same.thread;
-  lock = sym same.lock;
+pub tables_kept : {width : ℕ} {zeros : List ℕ} {thread lock threads locks : List (List ℕ)}
+    → AreTables width zeros thread lock → widths_of threads ≡ widths_of thread
+    → widths_of locks ≡ widths_of lock → AreTables width zeros threads locks
+tables_kept a same_thread same_lock = record {
+  some = a.some;
+  only_zeros = a.only_zeros;
+  thread_wide = wide_kept _ _ _ same_thread a.thread_wide;
+  lock_wide = wide_kept _ _ _ same_lock a.lock_wide;
 }
 
-module _ (old new : StrictTables) (same : SameWidths old new) where
-  row_made : (t : ℕ) (was is : List (List ℕ)) → widths_of is ≡ widths_of was → IsMade old.width was t
-      → IsMade new.width is t
-  row_made t was is e m = subst (λ w. IsMade w is t) (sym same.width) (made_kept old.width t was is e m)
-
-  thread_made : (t : ℕ) → HasThread old t → HasThread new t
-  thread_made t room = record { made = row_made t old.thread new.thread same.thread room.made }
-
-  lock_made : (l : ℕ) → HasLock old l → HasLock new l
-  lock_made l room = record { made = row_made l old.lock new.lock same.lock room.made }
-
-room_kept : (old new : StrictTables) → SameWidths old new → SameRoom old new
-room_kept old new same =
-    let back = same_back old new same in
-    record {
-      width = same.width;
-      thread = thread_made old new same;
-      lock = lock_made old new same;
-      had_thread = thread_made new old back;
-      had_lock = lock_made new old back;
-    }
-
--- clocks of threads that are written, and clocks of locks
-module _ {found now : StrictTables} {rows : List (List ℕ)} (is : found ≡ now) where
-  pub threads_room : widths_of rows ≡ widths_of found.thread → SameRoom now (record found { thread = rows })
-  threads_room same =
-      let new = record found { thread = rows } in
-      subst (λ (v : StrictTables). SameRoom v new) is
-      (room_kept found new (record { width = refl; thread = same; lock = refl }))
-
-  pub locks_room : widths_of rows ≡ widths_of found.lock → SameRoom now (record found { lock = rows })
-  locks_room same =
-      let new = record found { lock = rows } in
-      subst (λ (v : StrictTables). SameRoom v new) is
-      (room_kept found new (record { width = refl; thread = refl; lock = same }))
-
-module _ {width : ℕ} {zeros : List ℕ} {thread lock rows : List (List ℕ)}
-    (a : AreTables width zeros thread lock) where
-  pub threads_kept : widths_of rows ≡ widths_of thread → AreTables width zeros rows lock
-  threads_kept same = record {
-    some = a.some;
-    only_zeros = a.only_zeros;
-    thread_wide = wide_kept width thread rows same a.thread_wide;
-    lock_wide = a.lock_wide;
-  }
-
-  pub locks_kept : widths_of rows ≡ widths_of lock → AreTables width zeros thread rows
-  locks_kept same = record {
-    some = a.some;
-    only_zeros = a.only_zeros;
-    thread_wide = a.thread_wide;
-    lock_wide = wide_kept width lock rows same a.lock_wide;
-  }
+-- and the same of those that are seen, where they are those within
+pub seen_kept : {found now : StrictTables} {threads locks : List (List ℕ)} → found ≡ now
+    → widths_of threads ≡ widths_of found.thread → widths_of locks ≡ widths_of found.lock
+    → SameRoom now (record found { thread = threads; lock = locks })
+seen_kept {found} {now} {threads} {locks} is same_thread same_lock =
+    subst (λ (v : StrictTables). SameRoom v (record found { thread = threads; lock = locks })) is
+    (record { width = refl; thread = same_thread; lock = same_lock })
 
 -- the rows that are named are among those that are read
 module _ {found now : StrictTables} {zeros : List ℕ} {t : ℕ} {read : List (List ℕ)} (is : found ≡ now)
@@ -81,3 +32,23 @@ module _ {found now : StrictTables} {zeros : List ℕ} {t : ℕ} {read : List (L
   pub lock_within : read ≡ found.lock → HasLock now t → t < length read
   lock_within e has = subst (λ (rows : List (List ℕ)). t < length rows) (sym e)
       (made_within (subst (λ (v : StrictTables). HasLock v t) (sym is) has).made a.some)
+
+pub room_same : (c : StrictTables) → SameRoom c c
+room_same c = record { width = refl; thread = refl; lock = refl }
+
+pub room_back : {a b : StrictTables} → SameRoom a b → SameRoom b a
+room_back p = record { width = sym p.width; thread = sym p.thread; lock = sym p.lock }
+
+pub room_then : {a b c : StrictTables} → SameRoom a b → SameRoom b c → SameRoom a c
+room_then p q = record { width = q.width ∙ p.width; thread = q.thread ∙ p.thread; lock = q.lock ∙ p.lock }
+
+-- a clock that was made stays
+pub thread_kept : {a b : StrictTables} → SameRoom a b → (t : ℕ) → HasThread a t → HasThread b t
+thread_kept p t has =
+    record { made = record { wide = ap (λ f. f t) p.thread ∙ has.made.wide ∙ sym p.width } }
+
+pub lock_kept : {a b : StrictTables} → SameRoom a b → (l : ℕ) → HasLock a l → HasLock b l
+lock_kept p l has = record { made = record { wide = ap (λ f. f l) p.lock ∙ has.made.wide ∙ sym p.width } }
+
+pub room_kept : {a b : StrictTables} → SameRoom a b → KeepsRoom a b
+room_kept p = record { width = p.width; thread = thread_kept p; lock = lock_kept p }

@@ -16,8 +16,7 @@ use Rattle.wcp_laws.specs.Found.{FoundFits}
 use Rattle.wcp_laws.proofs.Empty as laws_empty
 use Rattle.wcp_laws.proofs.LegalSteps as laws_steps
 use Rattle.wcp_laws.proofs.FoundLaws.{nothing_found_fits, found_step}
-use Rattle.wcp_clocks.specs.Parts.{Parts}
-use Rattle.wcp_clocks.specs.Parts.{hb_of, state_of, found_in}
+use Rattle.wcp_clocks.specs.Parts.{Parts, hb_of, state_of, found_in}
 use Rattle.wcp_clocks.specs.StandsFor.{StandsFor, SameStand, AreDistinct}
 use Rattle.wcp_clocks.proofs.HeldLocks.{distinct_step}
 

@@ -1,7 +1,6 @@
 -- A thread's strict clock takes one clock after another.
-use Rattle.std.proofs.Common.{◌≡◌, ℕ, zero, suc, ◌+◌, ◌-◌, ◌*◌, ◌<◌, ◌≤◌, List, [], ◌∷◌, ◌++◌, length}
-use Rattle.std.proofs.Common.{cond, All, max, true, false, nat_le}
-use Rattle.std.proofs.Common.{refl, sym, ap, ap₂, subst, ◌∙◌, arith}
+use Rattle.std.proofs.Common.{◌≡◌, ℕ, zero, suc, ◌+◌, ◌-◌, ◌*◌, ◌<◌, ◌≤◌, List, [], ◌∷◌, ◌++◌, length, cond}
+use Rattle.std.proofs.Common.{All, max, true, false, nat_le, refl, sym, ap, ap₂, subst, ◌∙◌, arith}
 use Rattle.std.proofs.lemmas.List.{length_push, append-nil}
 use Rattle.std.proofs.lemmas.List.Elements.{All-head, All-tail, All-nil, All-cons, All-append}
 use Rattle.std.proofs.lemmas.Bool.{ne_eqb, leb-true}
@@ -15,39 +14,21 @@ use Rattle.event_core.specs.Closed.{Closed, Has, first, later}
 use Rattle.lock_queues.specs.Sections.{closed_at}
 use Rattle.section_sum.specs.Newest.{section}
 use Rattle.section_sum.specs.Sums.{Sums, others_of, sources_of}
-use Rattle.wcp_clocks.specs.Met.{release_at, thread_at, met_clocks, met_under, joined_all}
-use Rattle.wcp_clocks.specs.Met.{counts_release, joins_for, joins_under}
-use Rattle.wcp_clocks.specs.Met.{AreNumbers, AreWholeIn}
+use Rattle.wcp_clocks.specs.Met.{release_at, thread_at, met_clocks, met_under, joined_all, counts_release}
+use Rattle.wcp_clocks.specs.Met.{joins_for, joins_under, AreNumbers, AreWholeIn}
 use Rattle.wcp_clocks.specs.Whole.{IsWhole}
 use Rattle.wcp_clocks.proofs.Wholeness.{whole_join}
 use Rattle.wcp_laws.specs.Step.{join_all}
 use Rattle.hb_clocks.proofs.TableSteps.{row_again}
 use Rattle.wcp_clocks.proofs.Rows.{row_kept, join_nothing}
 use Rattle.wcp_clocks.specs.StrictRows.{StrictTables, SameRoom}
+use Rattle.wcp_clocks.proofs.RowsKept.{room_same, room_then}
 
 -- the number is that of a section that an access of the thread to the variable meets
 pub record IsMet (s : Sums) (l x t n : ℕ) : Type 0 where
   pub some : 0 < n
   pub kind : AccessKind
   pub number : n ≡ others_of s l x kind t
-
-pub room_same : (c : StrictTables) → SameRoom c c
-room_same c = record {
-  width = refl;
-  thread = λ t r. r;
-  lock = λ l r. r;
-  had_thread = λ t r. r;
-  had_lock = λ l r. r;
-}
-
-pub room_then : (a b c : StrictTables) → SameRoom a b → SameRoom b c → SameRoom a c
-room_then a b c p q = record {
-  width = q.width ∙ p.width;
-  thread = λ t r. q.thread t (p.thread t r);
-  lock = λ l r. q.lock l (p.lock l r);
-  had_thread = λ t r. p.had_thread t (q.had_thread t r);
-  had_lock = λ l r. p.had_lock l (q.had_lock l r);
-}
 
 -- the section with a number that is not 0
 pub release_is : (qs : List Closed) (n : ℕ) → 0 < n → (closed_at qs (n - 1)).release ≡ release_at qs n
@@ -216,7 +197,7 @@ module _ {s : Sums} {closed : ℕ → List Closed} {l x t : ℕ} {k : AccessKind
           ∙ ap (λ g. with_row t g (rows_of old.thread)) (sym own);
       joined = λ u. ap (λ (g : ℕ → ℕ). joined_all (closed l) g rest u) own ∙ is.joined u;
       lock = lock ∙ is.lock;
-      kept = room_then old now new is.kept kept;
+      kept = room_then is.kept kept;
       met = All-tail (IsMet s l x t) n rest is.met;
       whole = subst (IsWhole closed) (sym own)
           (whole_join closed row release is.whole (met_whole s closed l x t n each next_met));
@@ -318,7 +299,7 @@ module _ {s : Sums} {closed : ℕ → List Closed} {x : ℕ} {k : AccessKind} {t
         ∙ ap (λ g. with_row t g (rows_of old.thread))
         (sym (join_all_more source (rows_of old.thread t) locks l));
     lock = lock ∙ is.lock;
-    kept = room_then old now new is.kept kept;
+    kept = room_then is.kept kept;
     whole = subst (IsWhole closed)
         (sym (ap (λ (f : ℕ → ℕ → ℕ). f t) threads
         ∙ row_same t (join (rows_of now.thread t) (source l)) (rows_of now.thread)))

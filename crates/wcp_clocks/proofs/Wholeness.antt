@@ -1,6 +1,6 @@
 -- All clocks stay whole at an event.
-use Rattle.std.proofs.Common.{◌≡◌, ℕ, ◌+◌, ◌<◌, ◌≤◌, max, Bool, true, false, not, ◌&&◌, nat_eq, cond}
-use Rattle.std.proofs.Common.{List, [], ◌∷◌, ◌++◌, refl, sym, ap, subst, arith, inl, inr, ◌⊎◌}
+use Rattle.std.proofs.Common.{◌≡◌, ℕ, ◌+◌, ◌<◌, ◌≤◌, max, Bool, true, false, not, ◌&&◌, nat_eq, cond, List}
+use Rattle.std.proofs.Common.{[], ◌∷◌, ◌++◌, refl, sym, ap, subst, arith, inl, inr, ◌⊎◌}
 use Rattle.std.proofs.lemmas.Bool.{cases_eq, cases_lt, eq-eqb, ne_eqb}
 use Rattle.event_core.specs.declared.ids.ThreadId.{ThreadId}
 use Rattle.event_core.specs.declared.ids.VarId.{VarId}
@@ -8,11 +8,10 @@ use Rattle.event_core.specs.declared.events.AccessKind.{AccessKind}
 use Rattle.event_core.specs.declared.events.AccessKind.TheVariants.{Read, Write}
 use Rattle.event_core.specs.declared.events.Event.{Event}
 use Rattle.event_core.specs.Closed.{Closed, Has, first, later, is_counted, below_closed}
-use Rattle.event_core.specs.Rows.{Rows, no_clock, join, with_row, to_child, to_lock, brought}
+use Rattle.event_core.specs.Rows.{Rows, no_clock, join, with_row, to_child, to_lock, brought, clock_after}
 use Rattle.event_core.specs.Effect.{Effect, Accesses, Opens, Closes, Forks, Joins}
 use Rattle.event_core.proofs.Members.{has_split}
-use Rattle.event_core.specs.Rows.{clock_after}
-use Rattle.wcp_laws.specs.State.{State}
+use Rattle.wcp_laws.specs.State.{State, empty}
 use Rattle.wcp_laws.specs.Step.{effect, after, sources, join_all, extra, met_clock_after, closed_after}
 use Rattle.wcp_clocks.specs.Whole.{IsWhole, IsWholeWithin, AreWhole, own_of}
 use Rattle.wcp_clocks.proofs.Rows.{own_row}
@@ -34,28 +33,19 @@ within_join own closed f g a b = record {
 }
 
 -- where there are no releases
-pub none_whole : (s : State) → ((l x : ℕ) (k : AccessKind) (t u : ℕ) → s.met_clock l x k t u ≡ 0)
-    → ((t u : ℕ) → s.strict.thread t u ≡ 0) → ((l u : ℕ) → s.strict.lock l u ≡ 0)
-    → ((t u : ℕ) → s.hb.thread t u ≡ 0) → ((l u : ℕ) → s.hb.lock l u ≡ 0)
-    → ((l : ℕ) → s.closed l ≡ []) → AreWhole s
-none_whole s met strict strict_lock hb hb_lock closed = record {
-  none = it no_clock (λ u. refl);
-  strict = λ t. it (s.strict.thread t) (strict t);
-  strict_lock = λ l. it (s.strict.lock l) (strict_lock l);
-  hb = λ t. it (s.hb.thread t) (hb t);
-  hb_lock = λ l. it (s.hb.lock l) (hb_lock l);
-  met = λ l x k t. it (s.met_clock l x k t) (met l x k t);
-  closed = λ l q h. absurd (empty l q h);
+pub empty_whole : AreWhole empty
+empty_whole = record {
+  none = zeros;
+  strict = λ t. zeros;
+  strict_lock = λ l. zeros;
+  hb = λ t. zeros;
+  hb_lock = λ l. zeros;
+  met = λ l x k t. zeros;
+  closed = λ l q has. elim has [ ];
 }
   where
-    empty : (l : ℕ) (q : Closed) → Has q (s.closed l) → ⊥
-    empty l q h = elim (subst (Has q) (closed l) h) [ ]
-
-    it : (f : ℕ → ℕ) → ((u : ℕ) → f u ≡ 0) → IsWholeWithin (own_of s) s.closed f
-    it f z = record {
-      within = λ u. (let e = z u in omega arith);
-      whole = λ l q has h u. absurd (empty l q has);
-    }
+    zeros : IsWholeWithin (own_of empty) empty.closed no_clock
+    zeros = record { within = λ u. omega arith; whole = λ l q has. elim has [ ] }
 
 -- an event at which no thread's own number falls
 module _ (e : Event) (s : State) (w : AreWhole s)
@@ -129,7 +119,6 @@ module _ (e : Event) (s : State) (w : AreWhole s)
           either : (b : Bool) → Has q (cond b (s.closed m.0 ++ new ∷ []) (s.closed l)) → Either q
           either true h = split (has_split q (s.closed m.0) new h)
           either false h = inl (l, h)
-      go (Forks u) h = inl (l, h)
       go _ h = inl (l, h)
 
   -- so each is whole after it too

@@ -1,6 +1,6 @@
 -- What a legal event names is within the limits.
-use Rattle.std.proofs.Common.{◌≡◌, ℕ, ◌<◌, ◌≤◌, List, [], ◌∷◌, ◌++◌, true, false, nat_le, nat_lt, not}
-use Rattle.std.proofs.Common.{ap, subst, sym, inl, inr, ◌⊎◌}
+use Rattle.std.proofs.Common.{◌≡◌, ℕ, ◌<◌, ◌≤◌, List, [], ◌∷◌, ◌++◌, true, false, nat_le, nat_lt, not, ap}
+use Rattle.std.proofs.Common.{subst, sym, inl, inr, ◌⊎◌}
 use Rattle.std.proofs.lemmas.Bool.{cases_lt, le-ltb, le-leb}
 use Rattle.event_core.specs.declared.bounds.Limits.{Limits}
 use Rattle.event_core.specs.declared.events.Event.{Event}
@@ -18,8 +18,7 @@ use Rattle.event_core.proofs.Effects.{Fits, closes}
 use Rattle.wcp_laws.specs.State.{State}
 use Rattle.wcp_laws.specs.Standing.{Stands}
 use Rattle.wcp_laws.specs.Step.{effect}
-use Rattle.wcp_clocks.specs.Parts.{NamesWithin, width_of, limits_of, IsWithin}
-use Rattle.wcp_clocks.specs.Parts.{Parts}
+use Rattle.wcp_clocks.specs.Parts.{NamesWithin, width_of, limits_of, IsWithin, Parts}
 use Rattle.wcp_laws.proofs.Clocks.{effect_fits}
 
 pub thread_within : (limits : Limits) (log : List Event) (e : Event) → WellFormed limits (log ++ e ∷ [])

@@ -1,6 +1,6 @@
 -- How much work the events of a log take at most.
-use Rattle.std.proofs.Common.{◌≡◌, ℕ, ◌<◌, ◌≤◌, ◌+◌, ◌*◌, [], ◌∷◌, ◌++◌, length}
-use Rattle.std.proofs.Common.{refl, sym, ap, subst, ◌∙◌, arith}
+use Rattle.std.proofs.Common.{◌≡◌, ℕ, ◌<◌, ◌≤◌, ◌+◌, ◌*◌, [], ◌∷◌, ◌++◌, length, refl, sym, ap, subst, ◌∙◌}
+use Rattle.std.proofs.Common.{arith}
 use Rattle.std.proofs.Math.Nat.{mul-le-mul_left, add-mul, mul_comm}
 use Rattle.event_core.specs.declared.bounds.Limits.{Limits}
 use Rattle.event_core.specs.declared.ids.LockId.{LockId}
@@ -17,10 +17,8 @@ use Rattle.wcp_laws.specs.Conditions.{found_at}
 use Rattle.wcp_laws.specs.Found.{total_found, threads_in}
 use Rattle.wcp_laws.specs.Step.{effect}
 use Rattle.wcp_laws.proofs.FoundLaws.{found_at_close, found_at_most, threads_within}
-use Rattle.wcp_clocks.specs.Parts.{Parts}
-use Rattle.wcp_clocks.specs.Parts.{state_of, found_in, most_joins, FewComparisons}
-use Rattle.wcp_clocks.specs.WorkWithin.{NoWork, SameWork, WorkStep, LittleWork}
-use Rattle.wcp_clocks.specs.WorkWithin.{FewComparisonsInAll}
+use Rattle.wcp_clocks.specs.Parts.{Parts, state_of, found_in, most_joins, FewComparisons}
+use Rattle.wcp_clocks.specs.WorkWithin.{NoWork, SameWork, WorkStep, LittleWork, FewComparisonsInAll}
 use Rattle.wcp_clocks.proofs.Conditions.{log_within, closed_few}
 use Rattle.wcp_clocks.proofs.HeldLocks.{held_within}
 use Rattle.wcp_clocks.proofs.WithinLimits.{thread_within, closed_within}
@@ -63,8 +61,6 @@ comparisons_within m t (Closes l) old new n thread lock few found was =
   where
     count : ℕ
     count = number_counted ((state_of old).strict.thread t.0) ((state_of old).closed l.0)
-comparisons_within m t (Accesses x k) old new n thread lock few found was =
-    none_compared m old new n few found was
 comparisons_within m t _ old new n thread lock few found was = none_compared m old new n few found was
 
 pub no_work : NoWork

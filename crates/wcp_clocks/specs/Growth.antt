@@ -9,10 +9,9 @@ use Rattle.hb_clocks.specs.Tables.{GrownFor as OrderGrownFor}
 use Rattle.section_sum.specs.Sums.{Sums, SameNoted, SameOthers, KeepsReady as KeepsSums, is_held}
 use Rattle.section_sum.specs.Sums.{is_ready as has_cell}
 use Rattle.lock_queues.specs.Queues.{AllQueues as Queues, GrownFor as QueuesGrownFor, SameMeaning, is_ready}
-use Rattle.wcp_clocks.specs.Parts.{Parts}
+use Rattle.wcp_clocks.specs.Parts.{Parts, AreOrdered}
 use Rattle.wcp_clocks.specs.HeldLists.{HeldList, HaveGrownFor, list_at, held_of, KeepsPlaces}
 use Rattle.wcp_clocks.specs.StrictRows.{StrictTables, SameClocks, KeepsRoom, GrownFor as RowsGrownFor}
-use Rattle.wcp_clocks.specs.Parts.{AreOrdered}
 
 -- the clocks have as much room as before, or more, and their numbers are as they were
 pub record ClocksHaveGrown (old new : Order) (was is : StrictTables) : Type 0 where

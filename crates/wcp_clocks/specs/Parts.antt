@@ -20,8 +20,7 @@ use Rattle.wcp_laws.specs.State.{State}
 use Rattle.wcp_laws.specs.Step.{effect, after}
 use Rattle.wcp_laws.specs.Conditions.{IsSound, CursorsStand}
 use Rattle.wcp_clocks.specs.HeldLists.{HeldList, list_at, held_of, room_at}
-use Rattle.wcp_clocks.specs.StrictRows.{StrictTables, strict_of, HasThread, HasLock}
-use Rattle.wcp_clocks.specs.StrictRows.{IsReady as RowsAreReady}
+use Rattle.wcp_clocks.specs.StrictRows.{StrictTables, strict_of, HasThread, HasLock, IsReady as RowsAreReady}
 use Rattle.wcp_clocks.specs.Met.{met_clocks, AreNumbers, joins_under, joins_latest}
 use Rattle.wcp_clocks.specs.Whole.{AreWhole, own_of}
 

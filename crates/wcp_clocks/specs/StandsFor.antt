@@ -10,9 +10,7 @@ use Rattle.event_core.specs.Refusal.{WellFormed}
 use Rattle.hb_clocks.specs.Stands as hb_stands
 use Rattle.wcp_laws.specs.Standing.{Stands}
 use Rattle.wcp_laws.specs.Found.{FoundFits}
-use Rattle.wcp_clocks.specs.Parts.{Parts}
-use Rattle.wcp_clocks.specs.Parts.{hb_of, state_of, work_of, found_in, Fits}
-use Rattle.wcp_clocks.specs.Parts.{SameNumbers}
+use Rattle.wcp_clocks.specs.Parts.{Parts, hb_of, state_of, work_of, found_in, Fits, SameNumbers}
 
 -- no lock stands twice in the list of a thread
 abbrev pub AreDistinct : (ℕ → List ℕ) → Type 0

@@ -4,7 +4,7 @@ use Rattle.event_core.specs.declared.ids.ThreadId.{ThreadId}
 use Rattle.event_core.specs.declared.events.Op.{Op}
 use Rattle.event_core.specs.declared.events.Op.TheVariants.{Acquire, Release, Fork, Join}
 use Rattle.event_core.specs.Rows.{Rows}
-use Rattle.hb_clocks.specs.Rows.{rows_of, IsMade, AreWide}
+use Rattle.hb_clocks.specs.Rows.{rows_of, widths_of, IsMade, AreWide}
 use Rattle.hb_clocks.specs.Tables.{IsThreadFor, IsLockOf, threads_for, locks_for}
 
 -- a clock for each thread and one for each lock; none of numbers where none was made
@@ -41,13 +41,17 @@ pub record IsReady (c : StrictTables) (t : ThreadId) (op : Op) : Type 0 where
   pub thread : HasThread c t.0
   pub named : HasNamed c op
 
--- no clock was made but of the threads and the lock that the operation names, and no table has memory for
--- more than twice as many rows as it needs, or had it before
-pub record GrownFor (old new : StrictTables) (t : ThreadId) (op : Op) : Type 0 where
-  pub thread : (u : ℕ) → (IsThreadFor t op u → ⊥) → HasThread new u → HasThread old u
-  pub lock : (l : ℕ) → (IsLockOf op l → ⊥) → HasLock new l → HasLock old l
-  pub thread_room : new.thread_room ≤ max old.thread_room (2 * threads_for t op)
-  pub lock_room : new.lock_room ≤ max old.lock_room (2 * locks_for op)
+-- no clock was made but of these threads and these locks, and no table has memory for more than twice so many
+-- rows, or had it before
+pub record HasMade (Thread Lock : ℕ → Type 0) (threads locks : ℕ) (old new : StrictTables) : Type 0 where
+  pub thread : (u : ℕ) → (Thread u → ⊥) → HasThread new u → HasThread old u
+  pub lock : (l : ℕ) → (Lock l → ⊥) → HasLock new l → HasLock old l
+  pub thread_room : new.thread_room ≤ max old.thread_room (2 * threads)
+  pub lock_room : new.lock_room ≤ max old.lock_room (2 * locks)
+
+-- none but of the threads and the lock that the operation names
+abbrev pub GrownFor : StrictTables → StrictTables → ThreadId → Op → Type 0
+GrownFor old new t op = HasMade (IsThreadFor t op) (IsLockOf op) (threads_for t op) (locks_for op) old new
 
 -- what had room has room, in clocks of the same width
 pub record KeepsRoom (old new : StrictTables) : Type 0 where
@@ -55,13 +59,11 @@ pub record KeepsRoom (old new : StrictTables) : Type 0 where
   pub thread : (t : ℕ) → HasThread old t → HasThread new t
   pub lock : (l : ℕ) → HasLock old l → HasLock new l
 
--- there is room where there was, and nowhere else, in clocks of the same width
+-- there is room where there was, and nowhere else: each clock is as wide as it was
 pub record SameRoom (old new : StrictTables) : Type 0 where
   pub width : new.width ≡ old.width
-  pub thread : (t : ℕ) → HasThread old t → HasThread new t
-  pub lock : (l : ℕ) → HasLock old l → HasLock new l
-  pub had_thread : (t : ℕ) → HasThread new t → HasThread old t
-  pub had_lock : (l : ℕ) → HasLock new l → HasLock old l
+  pub thread : widths_of new.thread ≡ widths_of old.thread
+  pub lock : widths_of new.lock ≡ widths_of old.lock
 
 -- there may be other room, and all else is as it was
 pub record SameClocks (old new : StrictTables) : Type 0 where

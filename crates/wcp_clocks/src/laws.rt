@@ -4,6 +4,7 @@ ghost use Rattle.wcp_clocks.specs.SourcesCount.{SourcesCount};
 ghost use Rattle.wcp_clocks.specs.WorkWithin.{NoWork, SameWork, WorkStep, LittleWork, FewComparisonsInAll};
 
 /// Clocks with the same numbers stand for the same log.
+#[tactic(auto, using(crate::proofs::Standing::same_stand))]
 pub fn same_stand()
     ensures { SameStand }
 {}
@@ -21,11 +22,13 @@ pub fn sources_count()
 {}
 
 /// Clocks that have done no work are within the bounds of the empty log.
+#[tactic(auto, using(crate::proofs::WorkLaws::no_work))]
 pub fn no_work()
     ensures { NoWork }
 {}
 
 /// Clocks that have done the same work are within the same bounds.
+#[tactic(auto, using(crate::proofs::WorkLaws::same_work))]
 pub fn same_work()
     ensures { SameWork }
 {}

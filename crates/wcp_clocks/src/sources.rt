@@ -7,8 +7,7 @@ ghost use Rattle.lock_queues.specs.Queues.{closed_of};
 ghost use Rattle.section_sum.specs.Sums.{sources_of};
 ghost use Rattle.wcp_laws.specs.Step.{join_all};
 ghost use Rattle.wcp_clocks.specs.HeldLists.{numbers_of};
-ghost use Rattle.wcp_clocks.specs.Met.{met_clocks, met_under, joins_for, joins_under};
-ghost use Rattle.wcp_clocks.specs.Met.{AreNumbers, AreWholeIn};
+ghost use Rattle.wcp_clocks.specs.Met.{met_clocks, met_under, joins_for, joins_under, AreNumbers, AreWholeIn};
 ghost use Rattle.wcp_clocks.specs.Whole.{IsWhole};
 ghost use Rattle.wcp_clocks.specs.StrictRows.{strict_of, HasThread, SameRoom};
 

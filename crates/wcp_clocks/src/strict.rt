@@ -6,7 +6,7 @@ ghost use Rattle.hb_clocks.specs.Counts.{counts_of};
 ghost use Rattle.hb_clocks.specs.Released.{thread_of, before_of, clock_of};
 ghost use Rattle.hb_clocks.specs.Rows.{row_at};
 ghost use Rattle.wcp_clocks.specs.StrictRows.{strict_of, HasThread, HasLock, KeepsRoom, SameRoom};
-ghost use Rattle.wcp_clocks.specs.StrictRows.{SameClocks, IsReady, GrownFor};
+ghost use Rattle.wcp_clocks.specs.StrictRows.{SameClocks, IsReady, HasMade, GrownFor};
 
 use event_core::{LockId, Op, OutOfMemory, ThreadId};
 use hb_clocks::rows::{
@@ -98,10 +98,7 @@ impl StrictRows {
         ensures same { SameClocks self.old self.new }
         ensures kept { KeepsRoom self.old self.new }
         ensures made { OnOk result (HasThread self.new thread.0) }
-        ensures others { (t : ℕ) → t ≢ thread.0 → HasThread self.new t → HasThread self.old t }
-        ensures locks { (l : ℕ) → HasLock self.new l → HasLock self.old l }
-        ensures room { self.new.thread_room ≤ max self.old.thread_room (2 * (thread.0 + 1)) }
-        ensures lock_room { self.new.lock_room ≡ self.old.lock_room }
+        ensures grown { HasMade (λ t. t ≡ thread.0) (λ l. ⊥) (thread.0 + 1) 0 self.old self.new }
     {
         make_row(&mut self.threads, self.alloc, self.width, thread.0 as usize)
     }
@@ -111,10 +108,7 @@ impl StrictRows {
         ensures same { SameClocks self.old self.new }
         ensures kept { KeepsRoom self.old self.new }
         ensures made { OnOk result (HasLock self.new lock.0) }
-        ensures others { (l : ℕ) → l ≢ lock.0 → HasLock self.new l → HasLock self.old l }
-        ensures threads { (t : ℕ) → HasThread self.new t → HasThread self.old t }
-        ensures room { self.new.lock_room ≤ max self.old.lock_room (2 * (lock.0 + 1)) }
-        ensures thread_room { self.new.thread_room ≡ self.old.thread_room }
+        ensures grown { HasMade (λ t. ⊥) (λ l. l ≡ lock.0) 0 (lock.0 + 1) self.old self.new }
     {
         make_row(&mut self.locks, self.alloc, self.width, lock.0 as usize)
     }

@@ -4,7 +4,7 @@ ghost use Rattle.event_core.specs.declared.events.Op.TheVariants.{Acquire, Relea
 ghost use Rattle.event_core.specs.Effect.{Accesses, Opens, Closes, Forks, Joins, Inner};
 ghost use Rattle.wcp_clocks.specs.Met.{joins_latest};
 ghost use Rattle.wcp_clocks.specs.Whole.{IsWhole};
-ghost use Rattle.wcp_clocks.specs.Parts.{IsReady, Fits, KeepsReady};
+ghost use Rattle.wcp_clocks.specs.Parts.{IsReady, Fits};
 ghost use Rattle.wcp_clocks.specs.Stepping.{IsDue, IsStepBy, IsStep};
 ghost use Rattle.event_core.specs.Rows.{join, with_row};
 ghost use Rattle.event_core.specs.Closed.{below_closed, number_counted};
@@ -81,8 +81,7 @@ impl WcpClocks {
     #[inline(always)]
     fn access(&mut self, event: &Event, var: VarId, kind: AccessKind)
         requires { IsDue event.now (Accesses var kind) self.old }
-        ensures step { IsStepBy event.now (Accesses var kind) self.old self.new }
-        ensures kept { KeepsReady self.old self.new }
+        ensures { IsStepBy event.now (Accesses var kind) self.old self.new }
     {
         let thread = event.thread;
         let held = self.held.of(thread);

@@ -7,15 +7,13 @@ use Rattle.wcp_clocks.proofs.room.make_places.Goals as goal
 
 pub returns-in_err-prepare-in-Acquire-clause-queues : goal.returns-in_err-prepare-in-Acquire-clause-queues
 returns-in_err-prepare-in-Acquire-clause-queues c =
-    let made = c.prepare in
-    queues_grown made.result c.args.thread.0 c.in-Acquire.lock.0 c.args.queues.now made.new.self
-    made.ensures.same made.ensures.ok made.ensures.err
+    let made = c.prepare.ensures in
+    queues_grown c.prepare.result c.args.thread.0 c.in-Acquire.lock.0 made.same made.ok made.err
 
 pub returns-in_ok-prepare-in-Acquire-clause-queues : goal.returns-in_ok-prepare-in-Acquire-clause-queues
 returns-in_ok-prepare-in-Acquire-clause-queues c =
-    let made = c.prepare in
-    queues_grown made.result c.args.thread.0 c.in-Acquire.lock.0 c.args.queues.now made.new.self
-    made.ensures.same made.ensures.ok made.ensures.err
+    let made = c.prepare.ensures in
+    queues_grown c.prepare.result c.args.thread.0 c.in-Acquire.lock.0 made.same made.ok made.err
 
 pub returns-in_ok-prepare-in-Acquire-clause-ready : goal.returns-in_ok-prepare-in-Acquire-clause-ready
 returns-in_ok-prepare-in-Acquire-clause-ready c =

@@ -12,5 +12,4 @@ returns-clause-ready c =
 pub returns-clause-queues : goal.returns-clause-queues
 returns-clause-queues c =
     let made = c.prepare in
-    queues_grown made.result c.args.thread.0 c.args.lock.0 c.args.queues.now made.new.self made.ensures.same
-    made.ensures.ok made.ensures.err
+    queues_grown made.result c.args.thread.0 c.args.lock.0 made.ensures.same made.ensures.ok made.ensures.err

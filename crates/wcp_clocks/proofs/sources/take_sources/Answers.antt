@@ -2,6 +2,7 @@ use Rattle.std.proofs.Common.{◌≡◌, ℕ, length, take, get_or, sym, subst, 
 use Rattle.std.proofs.lemmas.List.{map_more, length-map, length-take-le}
 use Rattle.event_core.specs.declared.ids.LockId.{LockId}
 use Rattle.wcp_clocks.specs.HeldLists.{numbers_of}
+use Rattle.wcp_clocks.proofs.RowsKept.{thread_kept}
 use Rattle.wcp_clocks.proofs.Taking.{HasTaken, taken_begins, taken_on}
 use Rattle.wcp_clocks.proofs.sources.take_sources.Goals as goal
 
@@ -9,7 +10,7 @@ pub loop-lock-init : goal.loop-lock-init
 loop-lock-init c = taken_begins c.requires.whole
 
 pub take_under-requires-clause-room : goal.take_under-requires-clause-room
-take_under-requires-clause-room c = c.loop-lock.invariant.kept.thread c.args.thread.0 c.requires.room
+take_under-requires-clause-room c = thread_kept c.loop-lock.invariant.kept _ c.requires.room
 
 pub take_under-requires-clause-wide : goal.take_under-requires-clause-wide
 take_under-requires-clause-wide c = c.requires.wide ∙ sym c.loop-lock.invariant.kept.width

@@ -7,6 +7,7 @@ use Rattle.hb_clocks.specs.Rows.{rows_of}
 use Rattle.lock_queues.specs.Queues.{closed_of}
 use Rattle.section_sum.specs.declared.sources.Sources.{Sources}
 use Rattle.section_sum.specs.Sources.{left, most_sources}
+use Rattle.wcp_clocks.proofs.RowsKept.{thread_kept}
 use Rattle.wcp_clocks.proofs.Taking.{IsTaking, taking_begins, taking_past, taking_on, next_met}
 use Rattle.wcp_clocks.proofs.Taking.{release_is, counts_is}
 use Rattle.wcp_clocks.proofs.sources.take_under.Goals as goal
@@ -35,6 +36,9 @@ section-section-requires-clause-within c =
     let number = here.number in
     let within = c.requires.numbers c.args.lock.0 c.args.var.0 here.kind c.args.thread.0 in
     omega arith
+
+pub take_release-requires-clause-room : goal.take_release-requires-clause-room
+take_release-requires-clause-room c = thread_kept c.loop-number.invariant.kept _ c.requires.room
 
 pub loop-number-preserved-then-not-counts : goal.loop-number-preserved-then-not-counts
 loop-number-preserved-then-not-counts c =

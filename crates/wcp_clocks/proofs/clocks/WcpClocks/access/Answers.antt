@@ -1,8 +1,7 @@
-use Rattle.std.proofs.Common.{subst}
 use Rattle.event_core.specs.Effect.{Accesses}
-use Rattle.wcp_clocks.specs.Parts.{Parts, parts_of, KeepsReady}
+use Rattle.wcp_clocks.specs.Parts.{Parts, parts_of}
 use Rattle.wcp_clocks.specs.Stepping.{IsStepBy}
-use Rattle.wcp_clocks.proofs.Accessing.{access_step, access_keeps}
+use Rattle.wcp_clocks.proofs.Accessing.{access_step}
 use Rattle.wcp_clocks.proofs.Stepped.{kept_within, due_within, seen_step}
 use Rattle.wcp_clocks.proofs.Within.{within}
 use Rattle.wcp_clocks.proofs.clocks.WcpClocks.access.Goals as goal
@@ -29,15 +28,10 @@ step c =
     c.of-held.ensures s.ensures.threads s.ensures.locks s.ensures.kept s.ensures.joins s.ensures.joins_exact
     s.ensures.comparisons c.note.ensures.noted c.note.ensures.others c.self.invariant.numbers
     c.advance.ensures.exact c.advance.ensures.width c.advance.ensures.kept c.advance.ensures.work
+    c.note.ensures.kept
 
 pub invariant_of-self : goal.invariant_of-self
 invariant_of-self c = kept_within (due_within c.self.view_is c.requires) (step c) c.self.invariant
 
-pub returns-clause-step : goal.returns-clause-step
-returns-clause-step c = seen_step c.self.view_is (step c)
-
-pub returns-clause-kept : goal.returns-clause-kept
-returns-clause-kept c =
-    subst (λ (p : Parts). KeepsReady p (left c)) c.self.view_is
-    (access_keeps (within c.self.inside) c.take_sources.new.rows c.advance.new.self c.note.new.self
-    c.advance.new.work c.advance.ensures.kept c.take_sources.ensures.kept c.note.ensures.kept)
+pub returns : goal.returns
+returns c = seen_step c.self.view_is (step c)

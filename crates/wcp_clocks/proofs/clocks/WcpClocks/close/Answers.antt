@@ -1,5 +1,5 @@
 use Rattle.std.proofs.Common.{◌≡◌, ℕ, suc, ◌≤◌, ◌<◌, ◌++◌, ◌∷◌, [], List, length, length-append, ap, ap₂, sym}
-use Rattle.std.proofs.Common.{subst, ◌∙◌, arith}
+use Rattle.std.proofs.Common.{subst, ◌∙◌, arith, rules}
 use Rattle.event_core.specs.Closed.{Closed, Has}
 use Rattle.event_core.specs.Rows.{with_row}
 use Rattle.event_core.specs.Effect.{Effect, Closes}
@@ -11,15 +11,13 @@ use Rattle.lock_queues.specs.Queues.{closed_of, opened_of, found_of}
 use Rattle.hb_clocks.specs.Releases.{before}
 use Rattle.wcp_clocks.specs.Met.{met_clocks}
 use Rattle.wcp_laws.specs.Step.{hb_row}
-use Rattle.wcp_clocks.specs.Parts.{hb_of, state_of}
-use Rattle.wcp_clocks.proofs.Taking.{room_then}
+use Rattle.wcp_clocks.specs.Parts.{hb_of, state_of, parts_of}
+use Rattle.wcp_clocks.proofs.RowsKept.{room_then, thread_kept, lock_kept}
 use Rattle.wcp_clocks.proofs.EffectWords.{own_happens_before, closed_noted}
-use Rattle.wcp_clocks.proofs.Closing.{closing_clocks, closing_numbers}
-use Rattle.wcp_clocks.proofs.Closing.{before_closing, counts_itself}
+use Rattle.wcp_clocks.proofs.Closing.{closing_clocks, closing_numbers, before_closing, counts_itself}
 use Rattle.wcp_clocks.proofs.Passing.{own_written, joins_told}
 use Rattle.wcp_clocks.proofs.Stepped.{kept_within, due_within, seen_step}
 use Rattle.wcp_clocks.proofs.Within.{within}
-use Rattle.wcp_clocks.specs.Parts.{parts_of}
 use Rattle.wcp_clocks.specs.Stepping.{IsStepBy}
 use Rattle.wcp_clocks.proofs.clocks.WcpClocks.close.Goals as goal
 
@@ -68,6 +66,13 @@ leave-requires-clause-few c u =
     (let same = before_closing e old c.args.lock due.effect u in
     let few = due.fits.few_counts u in
     omega arith)
+
+pub give_lock-requires-clause-room : goal.give_lock-requires-clause-room
+give_lock-requires-clause-room c =
+    thread_kept c.take_closed.ensures.kept _ (due_within c.self.view_is c.requires).ready.rows.thread
+
+pub give_lock-requires-clause-lock_room : goal.give_lock-requires-clause-lock_room
+give_lock-requires-clause-lock_room c = lock_kept c.take_closed.ensures.kept _ (search rules)
 
 pub take_closed-requires-clause-whole : goal.take_closed-requires-clause-whole
 take_closed-requires-clause-whole c = (c.self.invariant.whole.strict c.args.event.now.thread.0).whole
@@ -136,9 +141,9 @@ step c =
       joins_exact = (let w = taken.ensures.joins_exact in omega arith);
       comparisons = (let w = taken.ensures.comparisons in omega arith);
       no_fewer = (let w = taken.ensures.no_fewer in omega arith);
-      room = room_then old.rows taken.new.rows c.give_lock.new.self taken.ensures.kept
-          c.give_lock.ensures.kept;
+      room = room_then taken.ensures.kept c.give_lock.ensures.kept;
       limits = record { width = c.advance.ensures.width; limits = left.limits ∙ taken.ensures.found.limits };
+      kept = tt;
     }
 
 pub invariant_of-self : goal.invariant_of-self

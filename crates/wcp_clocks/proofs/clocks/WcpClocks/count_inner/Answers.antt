@@ -2,7 +2,7 @@ use Rattle.std.proofs.Common.{ap, arith, refl}
 use Rattle.event_core.specs.Effect.{Inner}
 use Rattle.hb_clocks.specs.Work.{Done}
 use Rattle.wcp_clocks.proofs.Passing.{plain_threads, joins_told}
-use Rattle.wcp_clocks.proofs.Taking.{room_same}
+use Rattle.wcp_clocks.proofs.RowsKept.{room_same}
 use Rattle.wcp_clocks.proofs.Stepped.{kept_within, due_within, seen_step}
 use Rattle.wcp_clocks.proofs.Within.{within}
 use Rattle.wcp_clocks.specs.Parts.{parts_of}
@@ -36,6 +36,7 @@ step c =
       no_fewer = tt;
       room = room_same old.rows;
       limits = record { width = c.advance.ensures.width; limits = refl };
+      kept = tt;
     }
 
 pub invariant_of-self : goal.invariant_of-self

@@ -40,6 +40,7 @@ step c =
       no_fewer = tt;
       room = give.kept;
       limits = record { width = c.advance.ensures.width; limits = refl };
+      kept = tt;
     }
 
 pub invariant_of-self : goal.invariant_of-self

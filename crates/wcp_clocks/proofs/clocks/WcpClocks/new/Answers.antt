@@ -1,6 +1,5 @@
-use Rattle.std.proofs.Common.{ℕ, List, ◌∙◌, ap}
+use Rattle.std.proofs.Common.{◌∙◌, ap, sym}
 use Rattle.event_core.specs.Bounds.{Bounds}
-use Rattle.event_core.specs.Closed.{Closed}
 use Rattle.wcp_clocks.specs.Parts.{Parts}
 use Rattle.wcp_clocks.specs.HeldLists.{held_of}
 use Rattle.wcp_clocks.proofs.Growth.{are_parts, empty_numbers}
@@ -17,19 +16,18 @@ parts c = record {
   work = c.in_ok-hb.work;
 }
 
-pub invariant_of-result : goal.invariant_of-result
-invariant_of-result c =
-    are_parts (parts c) c.args.limits.threads c.in_ok-hb.ensures.width c.in_ok-hb.ensures.empty
-    (c.in_ok-rows.ensures.width ∙ c.threads.ensures.is) c.in_ok-rows.ensures.strict
-    (ap (λ (b : Bounds). b.threads) c.in_ok-queues.ensures.limits)
-    c.new-4.ensures.no_others (λ l. ap (λ (f : ℕ → List Closed). f l) c.in_ok-queues.ensures.closed)
-    c.in_ok-rows.ensures.no_thread c.in_ok-rows.ensures.no_lock
-
 pub returns-clause-empty : goal.returns-clause-empty
 returns-clause-empty c =
     empty_numbers (parts c) c.in_ok-hb.ensures.empty c.in_ok-rows.ensures.strict c.in_ok-queues.ensures.opened
     (ap held_of c.new-5.ensures)
     c.new-4.ensures.nothing_noted c.new-4.ensures.no_others c.in_ok-queues.ensures.closed
+
+pub invariant_of-result : goal.invariant_of-result
+invariant_of-result c =
+    are_parts (parts c) (returns-clause-empty c)
+    (c.in_ok-rows.ensures.width ∙ c.threads.ensures.is ∙ sym c.in_ok-hb.ensures.width)
+    (ap (λ (b : Bounds). b.threads) c.in_ok-queues.ensures.limits ∙ sym c.in_ok-hb.ensures.width)
+    c.new-4.ensures.no_others c.in_ok-rows.ensures.no_thread c.in_ok-rows.ensures.no_lock
 
 pub returns-clause-stands : goal.returns-clause-stands
 returns-clause-stands c =

@@ -1,7 +1,7 @@
-use Rattle.std.proofs.Common.{sym, subst, refl}
-use Rattle.wcp_clocks.specs.Parts.{Parts}
-use Rattle.wcp_clocks.specs.Parts.{IsWithin}
-use Rattle.wcp_clocks.proofs.Growth.{grown_parts, seen_ready, seen_numbers, sums_same, queues_same, held_same}
+use Rattle.std.proofs.Common.{sym, subst}
+use Rattle.wcp_clocks.specs.Parts.{Parts, IsWithin}
+use Rattle.wcp_clocks.proofs.Growth.{all_grown, grown_parts, seen_ready, seen_numbers}
+use Rattle.wcp_clocks.proofs.Growth.{sums_same, queues_same, held_same}
 use Rattle.wcp_clocks.proofs.Ordered.{order_within}
 use Rattle.wcp_clocks.proofs.Within.{within}
 use Rattle.wcp_clocks.proofs.clocks.WcpClocks.prepare.Goals as goal
@@ -14,46 +14,26 @@ make_clocks-requires c =
     (subst (λ (p : Parts). IsWithin p t op) (sym c.self.view_is) c.requires)
 
 pub invariant_of-self : goal.invariant_of-self
-invariant_of-self c = grown_parts (within c.self.inside) _ (record {
-  clocks = c.make_clocks.ensures.grown;
-  sums = sums_same _;
-  queues = queues_same _;
-  held = held_same _;
-  work = refl;
-}) c.self.invariant
+invariant_of-self c =
+    let clocks = c.make_clocks.ensures.grown in
+    grown_parts (all_grown clocks (sums_same _) (queues_same _) (held_same _)) c.self.invariant
 
 pub invariant_of-self-2 : goal.invariant_of-self-2
-invariant_of-self-2 c = grown_parts (within c.self.inside) _ (record {
-  clocks = c.make_clocks.ensures.grown;
-  sums = c.make_places.ensures.sums;
-  queues = c.make_places.ensures.queues;
-  held = c.make_places.ensures.held;
-  work = refl;
-}) c.self.invariant
+invariant_of-self-2 c =
+    let more = c.make_places.ensures in
+    grown_parts (all_grown c.make_clocks.ensures.grown more.sums more.queues more.held) c.self.invariant
 
 pub returns-clause-same : goal.returns-clause-same
-returns-clause-same c = seen_numbers c.self.view_is (record {
-  clocks = c.make_clocks.ensures.grown;
-  sums = c.make_places.ensures.sums;
-  queues = c.make_places.ensures.queues;
-  held = c.make_places.ensures.held;
-  work = refl;
-})
+returns-clause-same c =
+    let more = c.make_places.ensures in
+    seen_numbers c.self.view_is (all_grown c.make_clocks.ensures.grown more.sums more.queues more.held)
 
 pub returns-clause-kept : goal.returns-clause-kept
-returns-clause-kept c = seen_ready c.self.view_is (record {
-  clocks = c.make_clocks.ensures.grown;
-  sums = c.make_places.ensures.sums;
-  queues = c.make_places.ensures.queues;
-  held = c.make_places.ensures.held;
-  work = refl;
-})
+returns-clause-kept c =
+    let more = c.make_places.ensures in
+    seen_ready c.self.view_is (all_grown c.make_clocks.ensures.grown more.sums more.queues more.held)
 
 pub returns-in_err-make_clocks-clause-kept : goal.returns-in_err-make_clocks-clause-kept
-returns-in_err-make_clocks-clause-kept c = seen_ready c.self.view_is (record {
-  clocks = c.make_clocks.ensures.grown;
-  sums = sums_same _;
-  queues = queues_same _;
-  held = held_same _;
-  work = refl;
-})
+returns-in_err-make_clocks-clause-kept c =
+    let clocks = c.make_clocks.ensures.grown in
+    seen_ready c.self.view_is (all_grown clocks (sums_same _) (queues_same _) (held_same _))

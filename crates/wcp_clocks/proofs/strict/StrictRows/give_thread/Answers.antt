@@ -1,27 +1,24 @@
-use Rattle.std.proofs.Common.{◌≡◌}
-use Rattle.std.specs.Vec.{with_items}
-use Rattle.hb_clocks.specs.Rows.{widths_of}
-use Rattle.hb_clocks.proofs.MadeRows.{written_widths}
-use Rattle.wcp_clocks.proofs.RowsKept.{threads_kept, threads_room, thread_within}
+use Rattle.std.proofs.Common.{arith, refl}
+use Rattle.std.proofs.lemmas.Grind.{common_steps}
+use Rattle.wcp_clocks.proofs.RowsKept.{tables_kept, seen_kept, thread_within}
 use Rattle.wcp_clocks.proofs.strict.StrictRows.give_thread.Goals as goal
 
-same : (c : goal.After-self-1)
-    → widths_of (with_items c.self.inside.threads c.copy_rows.new.rows).items
-    ≡ widths_of c.self.inside.threads.items
-same c =
-    written_widths c.self.inside.threads _ c.copy_rows.new.rows c.deref_mut.ensures.len
-    c.deref_mut.ensures.value c.copy_rows.auto.rows c.copy_rows.ensures.widths
-
 pub invariant_of-self : goal.invariant_of-self
-invariant_of-self c = threads_kept c.self.invariant (same c)
+invariant_of-self c = tables_kept c.self.invariant (grind (arith, common_steps)) refl
 
 pub returns-clause-kept : goal.returns-clause-kept
-returns-clause-kept c = threads_room c.self.view_is (same c)
+returns-clause-kept c = seen_kept c.self.view_is (grind (arith, common_steps)) refl
 
 pub copy_rows-requires-clause-to : goal.copy_rows-requires-clause-to
 copy_rows-requires-clause-to c =
-    thread_within c.self.view_is c.self.invariant c.deref_mut.ensures.value c.requires.child_room
+    let rows = c.deref_mut.ensures.value in
+    let own = thread_within c.self.view_is c.self.invariant rows c.requires.room in
+    let other = thread_within c.self.view_is c.self.invariant rows c.requires.child_room in
+    omega arith
 
 pub copy_rows-requires-clause-from : goal.copy_rows-requires-clause-from
 copy_rows-requires-clause-from c =
-    thread_within c.self.view_is c.self.invariant c.deref_mut.ensures.value c.requires.room
+    let rows = c.deref_mut.ensures.value in
+    let own = thread_within c.self.view_is c.self.invariant rows c.requires.room in
+    let other = thread_within c.self.view_is c.self.invariant rows c.requires.child_room in
+    omega arith

@@ -1,7 +1,7 @@
-use Rattle.std.proofs.Common.{inl, refl}
+use Rattle.std.proofs.Common.{inl, inr, refl}
 use Rattle.std.proofs.lemmas.Result.{on_ok_weaker}
-use Rattle.wcp_clocks.proofs.RowsGrown.{thread_grown, then_lock, then_thread, keeps_then, lock_ready}
-use Rattle.wcp_clocks.proofs.RowsGrown.{thread_ready}
+use Rattle.wcp_clocks.proofs.RowsGrown.{thread_grown, lock_grown, thread_named, grown_then, keeps_then}
+use Rattle.wcp_clocks.proofs.RowsGrown.{lock_ready, thread_ready}
 use Rattle.wcp_clocks.proofs.strict.StrictRows.prepare.Goals as goal
 
 pub returns-in-Acquire-clause-kept : goal.returns-in-Acquire-clause-kept
@@ -25,26 +25,19 @@ returns-in-Fork-clause-ready c =
 
 pub returns-in_err-make_thread-clause-grown : goal.returns-in_err-make_thread-clause-grown
 returns-in_err-make_thread-clause-grown c =
-    let own = c.make_thread.ensures in
-    thread_grown c.args.thread c.args.op _ (inl refl) own.others own.locks own.room own.lock_room
+    thread_grown c.args.thread c.args.op _ (inl refl) c.make_thread.ensures.grown
 
 pub returns-in-Load-clause-grown : goal.returns-in-Load-clause-grown
 returns-in-Load-clause-grown c =
-    let own = c.make_thread.ensures in
-    thread_grown c.args.thread c.args.op _ (inl refl) own.others own.locks own.room own.lock_room
+    thread_grown c.args.thread c.args.op _ (inl refl) c.make_thread.ensures.grown
 
 pub returns-in-Acquire-clause-grown : goal.returns-in-Acquire-clause-grown
 returns-in-Acquire-clause-grown c =
-    let own = c.make_thread.ensures in
-    let more = c.make_lock.ensures in
-    then_lock c.args.thread c.args.op c.in-Acquire.lock c.in-Acquire.is
-    (thread_grown c.args.thread c.args.op _ (inl refl) own.others own.locks own.room own.lock_room)
-    more.others more.threads more.room more.thread_room
+    grown_then (thread_grown c.args.thread c.args.op _ (inl refl) c.make_thread.ensures.grown)
+    (lock_grown c.args.thread c.args.op _ c.in-Acquire.is c.make_lock.ensures.grown)
 
 pub returns-in-Fork-clause-grown : goal.returns-in-Fork-clause-grown
 returns-in-Fork-clause-grown c =
-    let own = c.make_thread.ensures in
-    let more = c.make_thread-in-Fork.ensures in
-    then_thread c.args.thread c.args.op c.in-Fork.child c.in-Fork.is
-    (thread_grown c.args.thread c.args.op _ (inl refl) own.others own.locks own.room own.lock_room)
-    more.others more.locks more.room more.lock_room
+    grown_then (thread_grown c.args.thread c.args.op _ (inl refl) c.make_thread.ensures.grown)
+    (thread_grown c.args.thread c.args.op _ (inr (thread_named _ c.in-Fork.is))
+    c.make_thread-in-Fork.ensures.grown)
