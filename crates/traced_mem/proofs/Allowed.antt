@@ -1,6 +1,6 @@
 -- What is known of an operation that is not refused.
-use Rattle.std.proofs.Common.{◌≡◌, ℕ, ◌+◌, ◌<◌, ◌≤◌, Bool, true, false, List, Option, Some, None, length, not}
-use Rattle.std.proofs.Common.{nat_eq, nat_le, nat_lt, ap, refl, sym, subst, ◌⊎◌, arith}
+use Rattle.std.proofs.Common.{◌≡◌, ℕ, ◌+◌, ◌<◌, ◌≤◌, false, List, Option, Some, None, length, not}
+use Rattle.std.proofs.Common.{nat_eq, nat_le, nat_lt, ap, refl, sym, subst, arith}
 use Rattle.std.proofs.lemmas.Bool.{leb-true, eqb-true, ltb-true, cases_lt, not-false}
 use Rattle.std.proofs.lemmas.Option.{cond_some}
 use Rattle.std.proofs.lemmas.List.{get_or_past}
@@ -9,10 +9,10 @@ use mathlib.Core.Logic.{inl, inr}
 use Rattle.event_core.specs.declared.ids.ThreadId.{ThreadId}
 use Rattle.event_core.specs.declared.ids.LockId.{LockId}
 use Rattle.event_core.specs.declared.bounds.Limits.{Limits}
-use Rattle.event_core.specs.declared.replies.Refusal.TheVariants.{LogFull, NotHolder, Held}
+use Rattle.event_core.specs.declared.replies.Refusal.TheVariants.{LogFull, NotHolder}
 use Rattle.event_core.specs.declared.events.Op.{Op}
 use Rattle.event_core.specs.declared.events.Op.TheVariants.{Acquire, Release}
-use Rattle.event_core.specs.Refusal.{is_holder, held_by}
+use Rattle.event_core.specs.Refusal.{is_holder}
 use Rattle.event_core.proofs.Legality.{AllNone, all_none, when_none}
 use Rattle.event_core.proofs.Depth.{same_thread_id}
 use Rattle.traced_mem.specs.declared.rows.LockRow.{LockRow}
@@ -33,16 +33,13 @@ allowed k m u o h =
     let r : AllNone (reasons_at k m u o) = all_none (reasons_at k m u o) h in
     record { no_holder = r.1.1.1.1.0; holds = r.1.1.1.1.1.0; fits = r.1.1.1.1.1.1.1.1.1.0 }
 
-pub un_not : (b : Bool) → not b ≡ false → b ≡ true
-un_not b e = not-false b e
-
 pub room : (n m : ℕ) → not (nat_le n m) ≡ false → n ≤ m
-room n m e = leb-true n m (un_not (nat_le n m) e)
+room n m e = leb-true n m (not-false (nat_le n m) e)
 
 -- the holder
 pub holder_here : (o : Option ThreadId) (u : ThreadId) → not (is_holder o u) ≡ false → o ≡ Some u
 holder_here None u e = absurd (cc)
-holder_here (Some v) u e = ap Some (same_thread_id (eqb-true v.0 u.0 (un_not (nat_eq v.0 u.0) e)))
+holder_here (Some v) u e = ap Some (same_thread_id (eqb-true v.0 u.0 (not-false (nat_eq v.0 u.0) e)))
 
 pub release_holder : (m : Meaning) (u : ThreadId) (l : LockId) → not_holder_at m u (Release l) ≡ None
     → (m.lock l.0).holder ≡ Some u
@@ -50,12 +47,6 @@ release_holder m u l h = holder_here (m.lock l.0).holder u (when_none _ NotHolde
 
 pub holder_of : (r : LockRow) (u : ThreadId) → (lock_of r).holder ≡ Some u → (0 < r.depth) × (r.by ≡ u)
 holder_of r u e = let p = cond_some (nat_lt 0 r.depth) r.by u e in (ltb-true 0 r.depth p.0, p.1)
-
--- an acquire finds no holder, or its own thread
-pub free_or_own : (o : Option ThreadId) (u : ThreadId) → held_by o u ≡ None → (o ≡ None) ⊎ (o ≡ Some u)
-free_or_own None u e = inl refl
-free_or_own (Some v) u e = inr
-    (ap Some (same_thread_id (eqb-true v.0 u.0 (un_not (nat_eq v.0 u.0) (when_none _ (Held v) e)))))
 
 -- the log has room
 pub slots_after : (k : Limits) (m : Meaning) (u : ThreadId) (o : Op) → Allowed k m u o
@@ -86,16 +77,16 @@ held_within locks l d = elim (cases_lt l (length locks)) [
       ap (λ (r : LockRow). r.depth) (get_or_past locks l blank_lock h) in omega arith)
 ]
 
--- what a step needs
+-- what a step needs, of tables that are given by their fields
 pub record StepFits (t : Tables) (o : Op) : Type 0 where
   pub depth : DepthFits t.locks o
   pub fits_holds : HoldsFit t.holds o
   pub kept : t.length + 1 + holds_after o t.holds ≤ t.limits.events
 
-pub step_fits : (t : Tables) (u : ThreadId) (o : Op) → AreTables t.limits t.length t.holds t.threads t.locks
-    → t.limits.events ≤ 4294967296
-    → Allows t u o → StepFits t o
-step_fits t u o inv small h = record {
+pub fits_inside : {t s : Tables} (u : ThreadId) (o : Op) → t ≡ s
+    → AreTables t.limits t.length t.holds t.threads t.locks → t.limits.events ≤ 4294967296
+    → Allows s u o → StepFits t o
+fits_inside {t = t} u o same inv small h = record {
   depth = depth o a;
   fits_holds = holds_fit o a;
   kept = slots_after t.limits (meaning t) u o a inv.kept
@@ -103,7 +94,7 @@ step_fits t u o inv small h = record {
 }
   where
     a : Allowed t.limits (meaning t) u o
-    a = allowed t.limits (meaning t) u o h
+    a = allowed t.limits (meaning t) u o (subst (λ (x : Tables). Allows x u o) (sym same) h)
 
     deep : (l : LockId) → not_holder_at (meaning t) u (Release l) ≡ None → 0 < (lock_at t.locks l.0).depth
     deep l n = (holder_of (lock_at t.locks l.0) u (release_holder (meaning t) u l n)).0
@@ -123,27 +114,14 @@ step_fits t u o inv small h = record {
     holds_fit _ a = tt
 
 -- a release that is allowed has room
-release_ready : (t : Tables) (u : ThreadId) (o : Op) (l : LockId)
-    → AreTables t.limits t.length t.holds t.threads t.locks
-    → o ≡ Release l → Allows t u o → (u.0 < length t.threads) × (l.0 < length t.locks)
-release_ready t u o l inv e h =
-    let a = allowed t.limits (meaning t) u o h in
-    let n : not_holder_at (meaning t) u (Release l) ≡ None
-    = subst (λ p. not_holder_at (meaning t) u p ≡ None) e a.holds in
-    let p = holder_of (lock_at t.locks l.0) u (release_holder (meaning t) u l n) in
-    (subst (λ (v : ThreadId). v.0 < length t.threads) p.1 (inv.held l.0 p.0), held_within t.locks l.0 p.0)
-
--- the same, where the tables are given by their fields
 pub release_room : (t s : Tables) (u : ThreadId) (o : Op) (l : LockId) → t ≡ s
     → AreTables t.limits t.length t.holds t.threads t.locks → o ≡ Release l → Allows s u o → IsReady s u o
 release_room t s u o l same inv e h =
-    let r = release_ready t u o l inv e (subst (λ (x : Tables). Allows x u o) (sym same) h) in
-    subst (λ (x : Tables). IsReady x u o) same
-    (subst (IsReady t u) (sym e) (record { caller = r.0; room = r.1 }))
-
--- what a step needs, where the tables are given by their fields
-pub fits_inside : (t s : Tables) (u : ThreadId) (o : Op) → t ≡ s
-    → AreTables t.limits t.length t.holds t.threads t.locks → t.limits.events ≤ 4294967296
-    → Allows s u o → StepFits t o
-fits_inside t s u o same inv small h =
-    step_fits t u o inv small (subst (λ (x : Tables). Allows x u o) (sym same) h)
+    let a = allowed t.limits (meaning t) u o (subst (λ (x : Tables). Allows x u o) (sym same) h) in
+    let n : not_holder_at (meaning t) u (Release l) ≡ None
+    = subst (λ p. not_holder_at (meaning t) u p ≡ None) e a.holds in
+    let p = holder_of (lock_at t.locks l.0) u (release_holder (meaning t) u l n) in
+    subst (λ (x : Tables). IsReady x u o) same (subst (IsReady t u) (sym e) (record {
+      caller = subst (λ (v : ThreadId). v.0 < length t.threads) p.1 (inv.held l.0 p.0);
+      room = held_within t.locks l.0 p.0;
+    }))

@@ -1,6 +1,6 @@
 -- The variables after an accepted call.
-use Rattle.std.proofs.Common.{◌≡◌, ℕ, None, List, [], ◌∷◌, ◌++◌, nat_eq, ap, sym, refl, ◌∙◌, if◌then◌else◌}
-use Rattle.std.proofs.lemmas.Bool.{eq-eqb, cond-true, cond-false}
+use Rattle.std.proofs.Common.{◌≡◌, ℕ, None, List, [], ◌∷◌, ◌++◌, ap, refl, ◌∙◌, if◌then◌else◌}
+use Rattle.std.proofs.lemmas.Bool.{cond-false}
 use Rattle.event_core.specs.declared.events.Event.{Event}
 use Rattle.event_core.specs.declared.events.Call.{Call}
 use Rattle.event_core.specs.declared.bounds.Limits.{Limits}
@@ -10,7 +10,7 @@ use Rattle.event_core.specs.Refusal.{refusal, op_stores, last_value, last_value_
 use Rattle.event_core.specs.Refusal.{WellFormed}
 use Rattle.traced_mem.specs.After.{cells_after}
 use Rattle.traced_mem.specs.OfLog.{var_id, meaning_of}
-use Rattle.traced_mem.proofs.Updates.{eqb_ne, is_updated}
+use Rattle.traced_mem.proofs.Updates.{updated_if}
 use Rattle.traced_mem.proofs.OneMore.{value_snoc}
 
 module _ (k : Limits) (log : List Event) (c : Call) (w : WellFormed k log) (h : refusal k log c ≡ None) where
@@ -18,18 +18,12 @@ module _ (k : Limits) (log : List Event) (c : Call) (w : WellFormed k log) (h : 
       → last_value (log ++ event_of log c ∷ []) (var_id n)
       ≡ cells_after o c.arg (λ x. last_value log (var_id x)) n
   unfolding last_value
-  cells_law_at (Store x) q =
-      is_updated x.0 c.arg (λ x. last_value_from 0 log (var_id x))
-      (λ n. last_value_from 0 (log ++ event_of log c ∷ []) (var_id n))
-      (stored x.0 ∙ cond-true _ _ _ (eq-eqb x.0 x.0 refl))
-      (λ n other. stored n ∙ cond-false _ _ _ (eqb_ne x.0 n (λ e. other (sym e))))
-    where
-      stored : (n : ℕ) → last_value_from 0 (log ++ event_of log c ∷ []) (var_id n)
-          ≡ (if nat_eq x.0 n then c.arg else last_value_from 0 log (var_id n))
-      stored n =
-          value_snoc 0 log (event_of log c) (var_id n)
-          ∙ ap (λ (o : Op). if op_stores
-          (var_id n) o then value_of log o c.arg else last_value_from 0 log (var_id n)) q
+  cells_law_at (Store x) q = λ n.
+      value_snoc 0 log (event_of log c) (var_id n)
+      ∙ ap (λ (o : Op). if op_stores (var_id n) o then value_of log o c.arg else
+      last_value_from 0 log (var_id n)) q
+      ∙ updated_if x.0 c.arg (λ x. last_value_from 0 log (var_id x))
+      (λ b n. if b then c.arg else last_value_from 0 log (var_id n)) refl (λ n. refl) n
   cells_law_at _ q = λ n. value_snoc 0 log (event_of log c) (var_id n)
       ∙ cond-false _ _ _ (ap (op_stores (var_id n)) q)
 

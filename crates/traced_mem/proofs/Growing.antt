@@ -1,5 +1,5 @@
 -- A further row that says nothing.
-use Rattle.std.proofs.Common.{◌≡◌, ℕ, ◌<◌, ◌≤◌, List, [], ◌∷◌, ◌++◌, length, get_or, refl, ap, ◌∙◌}
+use Rattle.std.proofs.Common.{◌≡◌, ℕ, ◌<◌, ◌≤◌, List, length, refl, ap, ◌∙◌}
 use Rattle.std.proofs.Common.{arith, subst}
 use Rattle.traced_mem.specs.declared.rows.ThreadRow.{ThreadRow}
 use Rattle.event_core.specs.declared.ids.ThreadId.{ThreadId}
@@ -7,18 +7,9 @@ use Rattle.event_core.specs.declared.events.Op.{Op}
 use Rattle.event_core.specs.declared.events.Op.TheVariants.{Load, Acquire}
 use Rattle.traced_mem.specs.declared.rows.LockRow.{LockRow}
 use Rattle.traced_mem.specs.Meaning.{Thread}
-use Rattle.traced_mem.specs.Tables.{Tables, meaning, cells_of, lock_of, lock_at, HeldBelow, thread_at}
-use Rattle.traced_mem.specs.Tables.{threads_of, thread_of}
+use Rattle.traced_mem.specs.Tables.{Tables, lock_at, HeldBelow, thread_at}
+use Rattle.traced_mem.specs.Tables.{thread_of}
 use Rattle.traced_mem.specs.Room.{HasRoom, IsReady, Grown}
-use Rattle.event_core.proofs.Blanks.{blank_reads_same}
-
--- a list as a function, with d past its end
-abbrev pub reads : {A : Type 0} → A → List A → ℕ → A
-reads d xs i = get_or xs i d
-
-pub padded_push : {A : Type 0} (xs ys : List A) (x d : A) → ys ≡ xs ++ x ∷ [] → x ≡ d
-    → reads d ys ≡ reads d xs
-padded_push xs ys x d e is j i = blank_reads_same d x xs ys e is i j
 
 pub grown_none : (xs : List ThreadRow) → Grown xs xs
 grown_none xs = record { rows = refl; more = omega arith; capacity = λ u. omega arith }
@@ -41,25 +32,18 @@ grown_same old new more same = record {
       λ i. (same u i).held.capacity in omega arith);
 }
 
-pub below_grown : (n m : ℕ) (old new : List LockRow) → n ≤ m → lock_at new ≡ lock_at old → HeldBelow n old
+pub below_grown : {n m : ℕ} (old new : List LockRow) → n ≤ m → lock_at new ≡ lock_at old → HeldBelow n old
     → HeldBelow m new
-below_grown n m old new le same h l d =
+below_grown {n = n} old new le same h l d =
     let here : lock_at new l ≡ lock_at old l = λ i. same i l in
     let b : (lock_at old l).by.0 < n = h l (subst (λ (x : LockRow). 0 < x.depth) here d) in
     let e : (lock_at new l).by.0 ≡ (lock_at old l).by.0 = ap (λ (x : LockRow). x.by.0) here in
     omega arith
 
-pub same_meaning : (old new : Tables) → new.length ≡ old.length → new.holds ≡ old.holds
-    → threads_of new.threads ≡ threads_of old.threads
-    → lock_at new.locks ≡ lock_at old.locks → cells_of new.cells ≡ cells_of old.cells
-    → meaning new ≡ meaning old
-same_meaning old new a b t l c i =
-    record { length = a i; holds = b i; thread = t i; lock = λ x. lock_of (l i x); cell = c i }
-
-pub ready_grown : (old new : Tables) → Grown old.threads new.threads → length old.locks ≤ length new.locks
+pub ready_grown : {old new : Tables} → Grown old.threads new.threads → length old.locks ≤ length new.locks
     → old.room ≤ new.room
     → (u : ThreadId) (o : Op) → IsReady old u o → IsReady new u o
-ready_grown old new g ls cs u o r =
+ready_grown {old = old} {new = new} g ls cs u o r =
     record { caller = (let a = r.caller in omega arith); room = room o r.room }
   where
     room : (o : Op) → HasRoom old.threads (length old.locks) old.room u o

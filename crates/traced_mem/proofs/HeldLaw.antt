@@ -2,7 +2,7 @@
 use Rattle.std.proofs.Common.{◌≡◌, ℕ, suc, ◌+◌, ◌-◌, ◌<◌, ◌≤◌, Bool, true, false, List, [], ◌∷◌, ◌++◌, length}
 use Rattle.std.proofs.Common.{take, nat_eq, ◌&&◌, ap, sym, ◌∙◌, subst, ◌⊎◌, if◌then◌else◌, arith}
 use Rattle.std.proofs.Common.{refl, append-nil, append_assoc}
-use Rattle.std.proofs.lemmas.Bool.{eqb-true, eq-eqb, and_from, and_left, and_right}
+use Rattle.std.proofs.lemmas.Bool.{cases_Bool, eqb-true, eq-eqb, ne_eqb, and_from, and_left, and_right}
 use mathlib.Core.Logic.{inl, inr}
 use Rattle.event_core.specs.declared.ids.ThreadId.{ThreadId}
 use Rattle.event_core.specs.declared.ids.LockId.{LockId}
@@ -29,8 +29,7 @@ use Rattle.event_core.proofs.OpenSections.{its_effect, open_held, open_new, open
 use Rattle.traced_mem.specs.After.{without}
 use Rattle.traced_mem.specs.Held.{InOrder, none, more, AreHeld}
 use Rattle.traced_mem.specs.OfLog.{held_after, held_from, held_in}
-use Rattle.traced_mem.proofs.Updates.{eqb_ne}
-use Rattle.traced_mem.proofs.Without.{without_here, without_next, eqb_cases, has_without}
+use Rattle.traced_mem.proofs.Without.{without_here, without_next, has_without}
 
 -- the list, as depths say it
 record Are (log : List Event) (u : ThreadId) (ls : List LockId) : Type 0 where
@@ -85,7 +84,7 @@ module _ (log : List Event) (e : Event) (u : ThreadId) (ord : Orderly (log ++ e 
       → InOrder (log ++ e ∷ []) u n (without y ls)
   drops n [] y (none m) d = none n
   drops n (l ∷ ls) y (more m a x xs le s r) d =
-      go (eqb_cases l y) (drops (suc a) ls y r (λ z q h. d z q (later l ls h)))
+      go (cases_Bool (nat_eq l.0 y.0)) (drops (suc a) ls y r (λ z q h. d z q (later l ls h)))
     where
       go : (nat_eq l.0 y.0 ≡ true) ⊎ (nat_eq l.0 y.0 ≡ false)
           → InOrder (log ++ e ∷ []) u (suc a) (without y ls)
@@ -137,8 +136,8 @@ module _ (log : List Event) (e : Event) (u : ThreadId) (ord : Orderly (log ++ e 
   -- an event that does not begin or end the thread's hold of its lock passes no test
   no_test : (n : ℕ) → (e.thread ≡ u → n ≡ 0 → ⊥) → (nat_eq e.thread.0 u.0 && nat_eq n 0) ≡ false
   no_test n never = elim (thread_cases e.thread u) [
-    | inl t ↦ and_right _ _ (eqb_ne n 0 (never t))
-    | inr other ↦ and_left _ _ (eqb_ne _ _ (λ x. other (same_thread_id x)))
+    | inl t ↦ and_right _ _ (ne_eqb n 0 (never t))
+    | inr other ↦ and_left _ _ (ne_eqb _ _ (λ x. other (same_thread_id x)))
   ]
 
   acquires_if : (y : LockId) (b : Bool) → e.op ≡ Acquire y

@@ -1,5 +1,6 @@
 -- How many acquires are still to be released after an accepted call.
-use Rattle.std.proofs.Common.{◌≡◌, true, false, None, List, [], ◌∷◌, ◌++◌, ap, refl, arith}
+use Rattle.std.proofs.Common.{◌≡◌, ◌+◌, Bool, true, false, cond, None, List, [], ◌∷◌, ◌++◌, ap, refl, arith}
+use Rattle.std.specs.List.{count_by}
 use Rattle.event_core.specs.declared.events.Event.{Event}
 use Rattle.event_core.specs.declared.events.Call.{Call}
 use Rattle.event_core.specs.declared.bounds.Limits.{Limits}
@@ -12,28 +13,33 @@ use Rattle.event_core.proofs.Slots.{no_more_releases}
 use Rattle.traced_mem.specs.After.{holds_after}
 
 module _ (k : Limits) (log : List Event) (c : Call) (w : WellFormed k log) (h : refusal k log c ≡ None) where
+  counted : (p : Op → Bool) (b : Bool) → p c.op ≡ b
+      → count_by (λ (e : Event). p e.op) (log ++ event_of log c ∷ [])
+      ≡ count_by (λ (e : Event). p e.op) log + cond b 1 0
+  counted p b is = count_with (λ (e : Event). p e.op) log (event_of log c) b is
+
   holds_law_at : (o : Op) → c.op ≡ o
       → open_acquires (log ++ event_of log c ∷ []) ≡ holds_after o (open_acquires log)
   unfolding open_acquires
   holds_law_at (Acquire l) q =
-      let le = no_more_releases k log w in
-      let a = count_with (λ (e : Event). op_is_acquire e.op) log (event_of log c) true
-      (ap op_is_acquire q) in
-      let r = count_with (λ (e : Event). op_is_release e.op) log (event_of log c) false
-      (ap op_is_release q) in
-      omega arith
+      omega (
+        arith,
+        no_more_releases k log w,
+        counted op_is_acquire true (ap op_is_acquire q),
+        counted op_is_release false (ap op_is_release q),
+      )
   holds_law_at (Release l) q =
-      let a = count_with (λ (e : Event). op_is_acquire e.op) log (event_of log c) false
-      (ap op_is_acquire q) in
-      let r = count_with (λ (e : Event). op_is_release e.op) log (event_of log c) true
-      (ap op_is_release q) in
-      omega arith
+      omega (
+        arith,
+        counted op_is_acquire false (ap op_is_acquire q),
+        counted op_is_release true (ap op_is_release q),
+      )
   holds_law_at _ q =
-      let a = count_with (λ (e : Event). op_is_acquire e.op) log (event_of log c) false
-      (ap op_is_acquire q) in
-      let r = count_with (λ (e : Event). op_is_release e.op) log (event_of log c) false
-      (ap op_is_release q) in
-      omega arith
+      omega (
+        arith,
+        counted op_is_acquire false (ap op_is_acquire q),
+        counted op_is_release false (ap op_is_release q),
+      )
 
   pub holds_law : open_acquires (log ++ event_of log c ∷ []) ≡ holds_after c.op (open_acquires log)
   holds_law = holds_law_at c.op refl

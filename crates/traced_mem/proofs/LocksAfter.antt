@@ -1,7 +1,7 @@
 -- The locks after an accepted call.
 use Rattle.std.proofs.Common.{◌≡◌, ℕ, ◌-◌, false, Option, Some, None, List, [], ◌∷◌, ◌++◌, nat_lt}
 use Rattle.std.proofs.Common.{option_and_then, ap, ap₂, sym, refl, ◌∙◌, subst, if◌then◌else◌, arith}
-use Rattle.std.proofs.lemmas.Bool.{cond-true, cond-false}
+use Rattle.std.proofs.lemmas.Bool.{cond-true, cond-false, ne_eqb}
 use Rattle.event_core.specs.declared.ids.ThreadId.{ThreadId}
 use Rattle.event_core.specs.declared.ids.LockId.{LockId}
 use Rattle.event_core.specs.declared.events.Event.{Event}
@@ -12,7 +12,7 @@ use Rattle.event_core.specs.declared.events.Op.TheVariants.{Acquire, Release}
 use Rattle.event_core.specs.Log.{depth, op_acquires, op_releases}
 use Rattle.event_core.specs.Refusal.{refusal, lock_depth, depth_by, holder, last_acquirer, event_of, lock_at}
 use Rattle.event_core.specs.Refusal.{WellFormed}
-use Rattle.event_core.proofs.Effects.{depth_up, depth_down}
+use Rattle.event_core.proofs.Effects.{depth_up}
 use Rattle.event_core.proofs.Growth.{well_formed_grown, well_formed_front}
 use Rattle.event_core.proofs.Holds.{acquired, released, last_holds}
 use Rattle.event_core.proofs.Legality.{acquirer_snoc, holder_is, holder_depth, orderly}
@@ -22,9 +22,9 @@ use Rattle.traced_mem.specs.After.{deeper, shallower, locks_after}
 use Rattle.traced_mem.specs.OfLog.{meaning_of}
 use Rattle.traced_mem.proofs.Allowed.{Allowed, allowed, release_holder}
 use Rattle.traced_mem.proofs.SameRefusals.{same_refusal}
-use Rattle.traced_mem.proofs.Updates.{eqb_ne, eqb_refl, is_updated}
+use Rattle.traced_mem.proofs.Updates.{eqb_refl, is_updated}
 use Rattle.traced_mem.proofs.OneMore.{same_depth, same_holder}
-use Rattle.traced_mem.proofs.Depths.{depth_if_held}
+use Rattle.traced_mem.proofs.Depths.{depth_left}
 
 -- a lock that the event has nothing to do with
 same_lock : (log : List Event) (e : Event) (l : LockId) → op_acquires l e.op ≡ false
@@ -33,16 +33,12 @@ same_lock : (log : List Event) (e : Event) (l : LockId) → op_acquires l e.op �
 unfolding lock_depth
 same_lock log e l a r i = record {
   holder = same_holder log e l a r i;
-  depth = depths (same_holder log e l a r) i;
+  depth = (deep (holder (log ++ e ∷ []) l) ∙ ap (λ o. depth_by o log l) (same_holder log e l a r)) i;
 }
   where
     deep : (o : Option ThreadId) → depth_by o (log ++ e ∷ []) l ≡ depth_by o log l
     deep None = refl
     deep (Some u) = same_depth log e u l a r
-
-    depths : holder (log ++ e ∷ []) l ≡ holder log l
-        → depth_by (holder (log ++ e ∷ []) l) (log ++ e ∷ []) l ≡ depth_by (holder log l) log l
-    depths h = deep (holder (log ++ e ∷ []) l) ∙ ap (λ o. depth_by o log l) h
 
 -- the lock of an acquire
 acquired_lock : (k : Limits) (log : List Event) (e : Event) (l : LockId) → WellFormed k (log ++ e ∷ [])
@@ -69,17 +65,20 @@ released_lock k log e l w o held_now i = record { holder = is i; depth = less i 
         ∙ last_holds k log e.thread l (well_formed_front k log (e ∷ []) w)
         (holder_depth log l e.thread held_now)
 
-    left : depth (log ++ e ∷ []) e.thread l ≡ lock_depth log l - 1
-    left = depth_down log e l o ∙ ap (λ d. d - 1) (sym (depth_if_held log l e.thread held_now))
-
     is : holder (log ++ e ∷ []) l ≡ (if nat_lt 0 (lock_depth log l - 1) then holder log l else None)
     is = ap (option_and_then
         (λ (u : ThreadId). if nat_lt 0 (depth (log ++ e ∷ []) u l) then Some u else None)) last
-        ∙ ap₂ (λ (d : ℕ) (o : Option ThreadId). if nat_lt 0 d then o else None) left (sym held_now)
+        ∙ ap₂ (λ (d : ℕ) (o : Option ThreadId). if nat_lt 0 d then o else None)
+        (depth_left log e l o held_now) (sym held_now)
 
 module _ (k : Limits) (log : List Event) (c : Call) (w : WellFormed k log) (h : refusal k log c ≡ None) where
-  may : Allowed k (meaning_of log) c.thread c.op
+  pub may : Allowed k (meaning_of log) c.thread c.op
   may = allowed k (meaning_of log) c.thread c.op (same_refusal k log c w ∙ h)
+
+  pub holder_now : (l : LockId) → c.op ≡ Release l → holder log l ≡ Some c.thread
+  holder_now l q =
+      release_holder (meaning_of log) c.thread l
+      (subst (λ o. not_holder_at (meaning_of log) c.thread o ≡ None) q may.holds)
 
   grown : WellFormed k (log ++ event_of log c ∷ [])
   grown = well_formed_grown k log (event_of log c) w (allowed_legal k log c h)
@@ -90,15 +89,13 @@ module _ (k : Limits) (log : List Event) (c : Call) (w : WellFormed k log) (h : 
       is_updated l.0 (deeper c.thread ((meaning_of log).lock l.0)) (meaning_of log).lock
       (meaning_of (log ++ event_of log c ∷ [])).lock (acquired_lock k log (event_of log c) l grown q)
       (λ n other. same_lock log (event_of log c) (lock_at n) (ap (op_acquires (lock_at n)) q
-      ∙ eqb_ne l.0 n (λ e. other (sym e))) (ap (op_releases (lock_at n)) q))
+      ∙ ne_eqb l.0 n (λ e. other (sym e))) (ap (op_releases (lock_at n)) q))
   locks_law_at (Release l) q =
       is_updated l.0 (shallower ((meaning_of log).lock l.0)) (meaning_of log).lock
       (meaning_of (log ++ event_of log c ∷ [])).lock
-      (released_lock k log (event_of log c) l grown q
-      (release_holder (meaning_of log) c.thread l
-      (subst (λ o. not_holder_at (meaning_of log) c.thread o ≡ None) q may.holds)))
+      (released_lock k log (event_of log c) l grown q (holder_now l q))
       (λ n other. same_lock log (event_of log c) (lock_at n) (ap (op_acquires (lock_at n)) q)
-      (ap (op_releases (lock_at n)) q ∙ eqb_ne l.0 n (λ e. other (sym e))))
+      (ap (op_releases (lock_at n)) q ∙ ne_eqb l.0 n (λ e. other (sym e))))
   locks_law_at _ q =
       λ n. same_lock log (event_of log c) (lock_at n) (ap (op_acquires (lock_at n)) q)
       (ap (op_releases (lock_at n)) q)

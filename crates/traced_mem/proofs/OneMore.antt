@@ -2,6 +2,7 @@
 use Rattle.std.proofs.Common.{◌≡◌, ℕ, Bool, false, Some, None, List, [], ◌∷◌, ◌++◌, nat_lt, ◌||◌}
 use Rattle.std.proofs.Common.{option_and_then, ap, sym, refl, ◌∙◌, if◌then◌else◌, append-nil, append_assoc}
 use Rattle.std.proofs.lemmas.Bool.{cond-false}
+use Rattle.std.proofs.Math.Bool.{or-false}
 use Rattle.std.proofs.lemmas.List.Folds.{list_any-append}
 use Rattle.std.specs.List.{list_any}
 use Rattle.event_core.specs.declared.ids.ThreadId.{ThreadId}
@@ -13,11 +14,11 @@ use Rattle.event_core.specs.Refusal.{held, op_stores, holder, last_acquirer, las
 use Rattle.event_core.proofs.Effects.{depth_same}
 use Rattle.event_core.proofs.Legality.{acquirer_snoc}
 use Rattle.traced_mem.specs.OfLog.{held_after, held_from}
-use Rattle.traced_mem.proofs.Updates.{eqb_refl, or_false}
+use Rattle.traced_mem.proofs.Updates.{eqb_refl}
 
 pub any_snoc : (p : Event → Bool) (xs : List Event) (e : Event)
     → list_any p (xs ++ e ∷ []) ≡ (list_any p xs || p e)
-any_snoc p xs e = list_any-append p xs (e ∷ []) ∙ ap (λ b. list_any p xs || b) (or_false (p e))
+any_snoc p xs e = list_any-append p xs (e ∷ []) ∙ ap (λ b. list_any p xs || b) (or-false (p e))
 
 pub value_snoc : (n : ℕ) (xs : List Event) (e : Event) (x : VarId)
     → last_value_from n (xs ++ e ∷ []) x ≡ (if op_stores x e.op then e.value else last_value_from n xs x)

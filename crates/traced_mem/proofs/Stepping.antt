@@ -4,7 +4,6 @@ use Rattle.std.proofs.Common.{length, take, drop, append-nil, take_all, drop_of_
 use Rattle.std.proofs.Common.{◌∙◌, subst, if◌then◌else◌, arith}
 use Rattle.std.proofs.lemmas.Bool.{cases_eq, eq-eqb}
 use Rattle.std.proofs.lemmas.List.{length-append, length-take, length-drop}
-use Rattle.std.proofs.Math.Nat.{min-le_left, min-le_right}
 use Rattle.std.specs.List.{position}
 use mathlib.Core.Logic.{inl, inr}
 use Rattle.event_core.specs.declared.ids.ThreadId.{ThreadId}
@@ -20,18 +19,12 @@ use Rattle.traced_mem.specs.Tables.{Tables, thread_at, threads_of}
 use Rattle.traced_mem.specs.Room.{IsReady, HasRoom, takes_place}
 use Rattle.traced_mem.proofs.Updates.{updated_same, updated_other}
 
--- a write of all of a list
-pub refilled : {A : Type 0} (n : ℕ) (xs ys : List A) → length xs ≡ length ys → n ≡ length ys
-    → take n (xs ++ drop (length xs) ys) ≡ xs
-refilled n xs ys e f =
-    ap (λ rest. take n (xs ++ rest)) (drop_of_length-le ys (omega arith)) ∙ ap (take n) (append-nil xs)
-    ∙ take_all n xs (omega arith)
-
--- the same, of a list that was lent whole
+-- a write of all of a list that was lent whole
 pub given_back : {A : Type 0} {n : ℕ} {lent ys : List A} (xs : List A) → lent ≡ ys → length lent ≡ n
     → length xs ≡ length lent → take n (xs ++ drop (length xs) ys) ≡ xs
 given_back {n = n} {ys = ys} xs same len e =
-    refilled n xs ys (e ∙ ap length same) (sym len ∙ ap length same)
+    ap (λ rest. take n (xs ++ rest)) (drop_of_length-le ys (omega (arith, ap length same)))
+    ∙ ap (take n) (append-nil xs) ∙ take_all n xs (omega arith)
 
 without_shorter : (l : LockId) (held : List LockId) → length (without l held) ≤ length held
 without_shorter l held = by_place (position (λ (h : LockId). nat_eq h.0 l.0) held)
@@ -39,12 +32,12 @@ without_shorter l held = by_place (position (λ (h : LockId). nat_eq h.0 l.0) he
     by_place : (o : Option ℕ) → length (without_at o held) ≤ length held
     by_place None = omega arith
     by_place (Some i) =
-        let all = length-append (take i held) (drop (suc i) held) in
-        let front = length-take i held in
-        let back = length-drop (suc i) held in
-        let few = min-le_left i (length held) in
-        let most = min-le_right i (length held) in
-        omega arith
+        omega (
+          arith,
+          length-append (take i held) (drop (suc i) held),
+          length-take i held,
+          length-drop (suc i) held,
+        )
 
 loses_some : (l : LockId) (left : ℕ) (t : Thread) → length (loses l left t).held ≤ length t.held
 loses_some l left t = by_test (nat_eq left 0)
@@ -67,42 +60,28 @@ no_more k t f le u = elim (cases_eq u k) [
 -- the list of a thread that no acquire is of does not grow
 step_no_more : (c : ThreadId) (p : Op) (locks : ℕ → Lock) (f : ℕ → Thread) (u : ThreadId) (m : LockId)
     → takes_place c p u (Acquire m) ≡ false
-    → length (threads_after c p locks (updated c.0 (mentioned_again (f c.0)) f) u.0).held ≤ length
-    (f u.0).held
-step_no_more c p locks f u m free = by_op p free
-  where
-    first : (n : ℕ) → length (updated c.0 (mentioned_again (f c.0)) f n).held ≤ length (f n).held
-    first n = no_more c.0 (mentioned_again (f c.0)) f (omega arith) n
+    → length (threads_after c p locks f u.0).held ≤ length (f u.0).held
+step_no_more c (Fork v) locks f u m free = no_more v.0 (now_forked (f v.0)) f (omega arith) u.0
+step_no_more c (Join v) locks f u m free = no_more v.0 (now_joined (f v.0)) f (omega arith) u.0
+step_no_more c (Release l) locks f u m free =
+    let left = (locks l.0).depth - 1 in
+    no_more c.0 (loses l left (f c.0)) f (loses_some l left (f c.0)) u.0
+step_no_more c (Acquire l) locks f u m free =
+    let other : u.0 ≡ c.0 → ⊥ = λ e. (let t : nat_eq c.0 u.0 ≡ true = eq-eqb c.0 u.0 (sym e) in cc) in
+    omega (
+      arith,
+      ap (λ (r : Thread). length r.held)
+          (updated_other c.0 (gains l (locks l.0).depth (f c.0)) f u.0 other),
+    )
+step_no_more c _ locks f u m free = omega arith
 
-    by_op : (p : Op) → takes_place c p u (Acquire m) ≡ false
-        → length (threads_after c p locks (updated c.0 (mentioned_again (f c.0)) f) u.0).held ≤ length
-        (f u.0).held
-    by_op (Fork v) free = let a = first u.0 in let b =
-        no_more v.0 (now_forked (updated c.0 (mentioned_again (f c.0)) f v.0))
-        (updated c.0 (mentioned_again (f c.0)) f) (omega arith) u.0 in omega arith
-    by_op (Join v) free = let a = first u.0 in let b =
-        no_more v.0 (now_joined (updated c.0 (mentioned_again (f c.0)) f v.0))
-        (updated c.0 (mentioned_again (f c.0)) f) (omega arith) u.0 in omega arith
-    by_op (Release l) free =
-        let a = first u.0 in
-        let b = no_more c.0 (loses l ((locks l.0).depth - 1) (updated c.0 (mentioned_again (f c.0)) f c.0))
-        (updated c.0 (mentioned_again (f c.0)) f)
-        (loses_some l ((locks l.0).depth - 1) (updated c.0 (mentioned_again (f c.0)) f c.0)) u.0 in
-        omega arith
-    by_op (Acquire l) free =
-        let other : u.0 ≡ c.0 → ⊥ = λ e. (let t : nat_eq c.0 u.0 ≡ true = eq-eqb c.0 u.0 (sym e) in cc) in
-        let a = first u.0 in
-        let b : length (updated c.0 (gains l (locks l.0).depth (updated c.0 (mentioned_again (f c.0)) f c.0))
-        (updated c.0 (mentioned_again (f c.0)) f) u.0).held
-        ≡ length (updated c.0 (mentioned_again (f c.0)) f u.0).held
-        = ap (λ (r : Thread). length r.held)
-        (updated_other c.0 (gains l (locks l.0).depth (updated c.0 (mentioned_again (f c.0)) f c.0))
-        (updated c.0 (mentioned_again (f c.0)) f) u.0 other) in
-        omega arith
-    by_op _ free = first u.0
+-- the threads after an operation that is p, where it is known what they were before
+pub threads_by : (u : ThreadId) (locks : ℕ → Lock) {p o : Op} {before now then' : ℕ → Thread} → p ≡ o
+    → then' ≡ threads_after u o locks now → now ≡ before → then' ≡ threads_after u p locks before
+threads_by u locks is by was = by ∙ (λ i. threads_after u (sym is i) locks (was i))
 
 -- what stays ready over a step
-pub still_ready : (old new : Tables) (locks : ℕ → Lock) (c : ThreadId) (p : Op) (u : ThreadId) (o : Op)
+pub still_ready : {old new : Tables} (locks : ℕ → Lock) (c : ThreadId) (p : Op) (u : ThreadId) (o : Op)
     → takes_place c p u o ≡ false
     → length new.threads ≡ length old.threads → length new.locks ≡ length old.locks
     → new.room ≡ old.room
@@ -110,7 +89,7 @@ pub still_ready : (old new : Tables) (locks : ℕ → Lock) (c : ThreadId) (p : 
     → threads_of new.threads ≡ threads_after c p locks
     (updated c.0 (mentioned_again (threads_of old.threads c.0)) (threads_of old.threads))
     → IsReady old u o → IsReady new u o
-still_ready old new locks c p u o free ts ls cs caps rows r =
+still_ready {old = old} {new = new} locks c p u o free ts ls cs caps rows r =
     record { caller = omega arith; room = room o free r.room }
   where
     room : (o : Op) → takes_place c p u o ≡ false
@@ -125,17 +104,14 @@ still_ready old new locks c p u o free ts ls cs caps rows r =
           (updated c.0 (mentioned_again (threads_of old.threads c.0))
           (threads_of old.threads)) u.0).held
           = ap (λ (f : ℕ → Thread). length (f u.0).held) rows in
-          let n = step_no_more c p locks (threads_of old.threads) u l free in
+          let f : ℕ → Thread = threads_of old.threads in
+          let m = no_more c.0 (mentioned_again (f c.0)) f (omega arith) u.0 in
+          let n = step_no_more c p locks (updated c.0 (mentioned_again (f c.0)) f) u l free in
           omega arith,
     )
     room _ free h = omega arith
 
--- readiness, of equal tables
-pub ready_of_parts : (t : Tables) (threads : List ThreadRow) (locks : List LockRow)
-    → threads ≡ t.threads → locks ≡ t.locks
-    → (u : ThreadId) (o : Op) → IsReady t u o
-    → IsReady (record t { threads = threads; locks = locks }) u o
-ready_of_parts t threads locks a b u o r =
-    let same : t ≡ record t { threads = threads; locks = locks }
-    = λ i. record t { threads = sym a i; locks = sym b i } in
-    subst (λ (s : Tables). IsReady s u o) same r
+-- tables of which two are lent
+pub lent_whole : {t s : Tables} {threads : List ThreadRow} {locks : List LockRow} → t ≡ s
+    → threads ≡ t.threads → locks ≡ t.locks → record t { threads = threads; locks = locks } ≡ s
+lent_whole {t = t} same a b = (λ i. record t { threads = a i; locks = b i }) ∙ same

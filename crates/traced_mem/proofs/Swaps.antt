@@ -23,17 +23,15 @@ fits : (k : Limits) (m : Meaning) (n : ℕ) → m.length + m.holds + n ≤ k.eve
 fits k m n h = ap (λ b. when (not b) LogFull) (le-leb (m.length + m.holds + n) k.events h)
 
 -- to be mentioned again neither forks nor joins the thread
-same_forked : (b : Bool) (t : Thread) → (cond b (mentioned_again t) t).forked ≡ t.forked
-same_forked true t = refl
-same_forked false t = refl
-
-same_joined : (b : Bool) (t : Thread) → (cond b (mentioned_again t) t).joined ≡ t.joined
-same_joined true t = refl
-same_joined false t = refl
+mentioned_if : (b : Bool) (t : Thread) → cond b (mentioned_again t) t
+    ≡ record t { mentioned = b || t.mentioned }
+mentioned_if true t = refl
+mentioned_if false t = refl
 
 forked_again : (r : Roots) (m : Meaning) (u : ThreadId) (x : VarId) (arg : ℕ)
     → forked_at r (after u (Load x) arg m) u ≡ forked_at r m u
-forked_again OnlyMain m u x arg = ap (λ b. nat_eq u.0 0 || b) (same_forked (u.0 == u.0) (m.thread u.0))
+forked_again OnlyMain m u x arg =
+    ap (λ (t : Thread). nat_eq u.0 0 || t.forked) (mentioned_if (u.0 == u.0) (m.thread u.0))
 forked_again Free m u x arg = refl
 
 pub load_allowed : (k : Limits) (m : Meaning) (u : ThreadId) (x : VarId) → swap_refusal_at k m u x ≡ None
@@ -59,7 +57,7 @@ store_allowed k m u x h =
     let started : when (not (forked_at k.roots n u)) NotStarted ≡ None
     = ap (λ b. when (not b) NotStarted) (forked_again k.roots m u x 0) ∙ r.1.0 in
     let going : when (n.thread u.0).joined Ended ≡ None
-    = ap (λ b. when b Ended) (same_joined (u.0 == u.0) (m.thread u.0)) ∙ r.1.1.0 in
+    = ap (λ (t : Thread). when t.joined Ended) (mentioned_if (u.0 == u.0) (m.thread u.0)) ∙ r.1.1.0 in
     λ i. first_of (
     r.0 i ∷ started i ∷ going i ∷ r.1.1.1.0 i ∷ None ∷ None ∷ None ∷ None ∷ None
     ∷ fits k n 1 (omega arith) i ∷ []

@@ -1,11 +1,8 @@
 -- Tests on numbers, and functions with one value changed.
-use Rattle.std.proofs.Common.{◌≡◌, ℕ, Bool, true, false, cond, nat_eq, ◌||◌, ap, sym, subst, ◌∙◌, refl}
+use Rattle.std.proofs.Common.{◌≡◌, ℕ, Bool, true, false, cond, nat_eq, ap, sym, subst, ◌∙◌, refl}
 use Rattle.std.proofs.lemmas.Bool.{cases_eq, eq-eqb, ne_eqb}
 use mathlib.Core.Logic.{inl, inr}
 use Rattle.traced_mem.specs.After.{updated}
-
-pub eqb_ne : (a b : ℕ) → (a ≡ b → ⊥) → nat_eq a b ≡ false
-eqb_ne a b n = ne_eqb a b n
 
 pub eqb_refl : (a : ℕ) → nat_eq a a ≡ true
 eqb_refl a = eq-eqb a a refl
@@ -14,7 +11,7 @@ pub updated_same : {A : Type 0} (k : ℕ) (x : A) (f : ℕ → A) → updated k 
 updated_same k x f = ap (λ b. cond b x (f k)) (eqb_refl k)
 
 pub updated_other : {A : Type 0} (k : ℕ) (x : A) (f : ℕ → A) (a : ℕ) → (a ≡ k → ⊥) → updated k x f a ≡ f a
-updated_other k x f a n = ap (λ b. cond b x (f a)) (eqb_ne a k n)
+updated_other k x f a n = ap (λ b. cond b x (f a)) (ne_eqb a k n)
 
 -- what is x at k, and as f elsewhere
 pub is_updated : {A : Type 0} (k : ℕ) (x : A) (f g : ℕ → A) → g k ≡ x
@@ -24,10 +21,9 @@ is_updated k x f g here there n = elim (cases_eq n k) [
   | inr other ↦ there n other ∙ sym (updated_other k x f n other)
 ]
 
-pub or_true : (b : Bool) → (b || true) ≡ true
-or_true true = refl
-or_true false = refl
-
-pub or_false : (b : Bool) → (b || false) ≡ b
-or_false true = refl
-or_false false = refl
+-- the same, where g is given by that test
+pub updated_if : {A : Type 0} (k : ℕ) (x : A) (f : ℕ → A) (g : Bool → ℕ → A) → g true k ≡ x
+    → ((n : ℕ) → g false n ≡ f n) → (n : ℕ) → g (nat_eq k n) n ≡ updated k x f n
+updated_if k x f g here there =
+    is_updated k x f (λ n. g (nat_eq k n) n) (ap (λ b. g b k) (eqb_refl k) ∙ here)
+    (λ n other. ap (λ b. g b n) (ne_eqb k n (λ e. other (sym e))) ∙ there n)

@@ -1,6 +1,5 @@
 -- The room in a memory's tables.
-use Rattle.std.specs.Prelude.{◌≡◌, ℕ, ◌+◌, ◌*◌, ◌^◌, ◌<◌, ◌≤◌, Bool, false, List, length, max, nat_eq}
-use Rattle.std.specs.Prelude.{cond}
+use Rattle.std.specs.Prelude.{◌≡◌, ℕ, ◌+◌, ◌*◌, ◌^◌, ◌<◌, ◌≤◌, Bool, false, List, length, max, nat_eq, cond}
 use Rattle.smallvec.specs.SmallVec.{HasRoomFor}
 use Rattle.event_core.specs.declared.ids.ThreadId.{ThreadId}
 use Rattle.event_core.specs.declared.events.Op.{Op}

@@ -132,19 +132,6 @@ impl Memory {
         ensures stands { (log : List Event) → StandsFor self.old log
             → StandsFor self.new (log ++ event_of log call.now ∷ []) }
     {
-        self.perform(call)
-    }
-
-    #[inline(always)]
-    fn perform(&mut self, call: &Call) -> u64
-        requires allowed { Allows self.old call.now.thread call.now.op }
-        requires ready { IsReady self.old call.now.thread call.now.op }
-        ensures value { result ≡ value_at (meaning self.old) call.now.op call.now.arg }
-        ensures means { meaning self.new ≡ after call.now.thread call.now.op call.now.arg (meaning self.old) }
-        ensures limits { self.new.limits ≡ self.old.limits }
-        ensures kept { (u : Thread) (o : Operation) → takes_place call.now.thread call.now.op u o ≡ false
-            → IsReady self.old u o → IsReady self.new u o }
-    {
         // No log has more events than this, so the counts below are within their range.
         let _events = self.limits.events();
         let value = match call.op {

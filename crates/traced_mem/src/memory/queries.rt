@@ -3,8 +3,7 @@ ghost use Rattle.std.specs.Prelude.{◌≡◌, ℕ, ◌<◌, ◌≤◌, ◌↔�
 ghost use Rattle.event_core.specs.declared.events.Event.{Event};
 ghost use Rattle.event_core.specs.declared.events.Op.{Op as Operation};
 ghost use Rattle.event_core.specs.declared.ids.LockId.{LockId as Lock};
-ghost use Rattle.event_core.specs.Refusal.{last_value, lock_depth, open_acquires};
-ghost use Rattle.event_core.specs.Refusal.{holder as holder_of};
+ghost use Rattle.event_core.specs.Refusal.{last_value, lock_depth, open_acquires, holder as holder_of};
 ghost use Rattle.traced_mem.specs.Tables.{meaning, Allows};
 ghost use Rattle.traced_mem.specs.Room.{HasRoom, IsReady};
 ghost use Rattle.traced_mem.specs.OfLog.{StandsFor};
