@@ -1,11 +1,10 @@
 -- The joins of a log, one event longer.
-use Rattle.std.proofs.Common.{◌≡◌, ℕ, zero, suc, ◌+◌, ◌<◌, ◌≤◌, List, [], ◌∷◌, ◌++◌, length}
-use Rattle.std.proofs.Common.{Bool, true, false, cond, nat_eq, nat_lt, not, ◌||◌, take, append_assoc}
-use Rattle.std.proofs.Common.{append-nil}
-use Rattle.std.proofs.Common.{refl, sym, ap, subst, ◌∙◌, inl, inr, ◌⊎◌, arith}
+use Rattle.std.proofs.Common.{◌≡◌, ℕ, zero, suc, ◌+◌, ◌<◌, ◌≤◌, List, [], ◌∷◌, ◌++◌, length, Bool, true}
+use Rattle.std.proofs.Common.{false, cond, nat_eq, nat_lt, ◌||◌, take, append_assoc, append-nil, refl}
+use Rattle.std.proofs.Common.{sym, ap, subst, ◌∙◌, inl, inr, ◌⊎◌, arith}
 use Rattle.std.specs.Set.{is_member}
 use Rattle.std.proofs.lemmas.Cmp.{nat_eq_equiv}
-use Rattle.std.proofs.lemmas.Bool.{cases_eq, cases_lt, eqb-true, eq-eqb, lt-ltb, le-ltb, or_right}
+use Rattle.std.proofs.lemmas.Bool.{cases_eq, eqb-true, eq-eqb, ltb-true, lt-ltb, not-false, or_right}
 use Rattle.std.proofs.lemmas.Map.Made.{length-le_from_is_member}
 use Rattle.std.proofs.Math.Seq.{take-length}
 use Rattle.event_core.specs.declared.bounds.Limits.{Limits}
@@ -18,13 +17,12 @@ use Rattle.event_core.specs.declared.replies.Refusal.TheVariants.{TargetRange}
 use Rattle.event_core.specs.Closed.{Has}
 use Rattle.event_core.specs.Log.{depth}
 use Rattle.event_core.specs.Refusal.{WellFormed, lock_at, sum_locks}
-use Rattle.event_core.specs.Effect.{Opens, Closes, Inner, effect_of}
+use Rattle.event_core.specs.Effect.{Effect, Opens, Closes, Inner, effect_of}
 use Rattle.event_core.proofs.Depth.{opener}
 use Rattle.event_core.proofs.Legality.{reasons_at, when_none}
 use Rattle.event_core.proofs.Members.{any_has}
 use Rattle.wcp_laws.specs.Step.{effect}
-use Rattle.wcp_clocks.specs.Parts.{Parts}
-use Rattle.wcp_clocks.specs.Parts.{state_of, work_of, most_joins}
+use Rattle.wcp_clocks.specs.Parts.{Parts, state_of, work_of, most_joins}
 use Rattle.wcp_clocks.specs.StandsFor.{StandsFor}
 use Rattle.wcp_clocks.specs.WorkWithin.{IsWorkOf}
 use Rattle.seq_monitor.specs.Joins.{locks_held, joins_at, joins_from, joins_of}
@@ -49,24 +47,16 @@ passing_length p (suc n) = go (p n) (passing_length p n)
 -- and each such number is among them
 passing_has : (p : ℕ → Bool) (n q : ℕ) → q < n → p q ≡ true → is_member nat_eq (passing p n) q ≡ true
 passing_has p zero q lt is = absurd (omega arith)
-passing_has p (suc n) q lt is = go (λ less. passing_has p n q less is) (cases_eq q n)
+passing_has p (suc n) q lt is = go (λ less. passing_has p n q less is) (p n) refl (cases_eq q n)
   where
-    last : (b : Bool) → b ≡ true → q ≡ n
+    go : (q < n → is_member nat_eq (passing p n) q ≡ true) → (b : Bool) → p n ≡ b → (q ≡ n) ⊎ (q ≡ n → ⊥)
         → is_member nat_eq (cond b (n ∷ passing p n) (passing p n)) q ≡ true
-    last true is same = ap (λ (b : Bool). b || is_member nat_eq (passing p n) q) (eq-eqb q n same)
-    last false is same = cc
-
-    other : (b : Bool) → is_member nat_eq (passing p n) q ≡ true
-        → is_member nat_eq (cond b (n ∷ passing p n) (passing p n)) q ≡ true
-    other true has = or_right (nat_eq q n) (is_member nat_eq (passing p n) q) has
-    other false has = has
-
-    go : (q < n → is_member nat_eq (passing p n) q ≡ true) → (q ≡ n) ⊎ (q ≡ n → ⊥)
-        → is_member nat_eq (passing p (suc n)) q ≡ true
-    go rest (inl same) = last (p n) (ap p (sym same) ∙ is) same
-    go rest (inr differs) =
-        let less : q < n = (let no : q ≡ n → ⊥ = differs in omega arith) in
-        other (p n) (rest less)
+    go rest true at (inl same) = ap (λ (b : Bool). b || is_member nat_eq (passing p n) q) (eq-eqb q n same)
+    go rest false at (inl same) = let no : p q ≡ false = ap p same ∙ at in cc
+    go rest true at (inr differs) =
+        or_right (nat_eq q n) (is_member nat_eq (passing p n) q)
+        (rest (let no : q ≡ n → ⊥ = differs in omega arith))
+    go rest false at (inr differs) = rest (let no : q ≡ n → ⊥ = differs in omega arith)
 
 -- a lock that is held is within the limit
 lock_within : (m : Limits) (log : List Event) (t : ThreadId) (l : LockId) → WellFormed m log
@@ -75,12 +65,7 @@ lock_within m log t l w up =
     let all : take (length log) log ≡ log = take-length log in
     let o = opener log t l (length log) (omega arith) (subst (λ xs. 0 < depth xs t l) (sym all) up) in
     let r = reasons_at m log o.index t (Acquire l) w o.opened.does in
-    let out : not (nat_lt l.0 m.locks) ≡ false = when_none _ TargetRange r.on_table in
-    by out (cases_lt l.0 m.locks)
-  where
-    by : not (nat_lt l.0 m.locks) ≡ false → (l.0 < m.locks) ⊎ (m.locks ≤ l.0) → l.0 < m.locks
-    by out (inl lt) = lt
-    by out (inr ge) = absurd (let no : not (nat_lt l.0 m.locks) ≡ true = ap not (le-ltb l.0 m.locks ge) in cc)
+    ltb-true l.0 m.locks (not-false _ (when_none _ TargetRange r.on_table))
 
 -- the list of the locks that a thread holds is no longer than that
 held_few : (m : Limits) (log : List Event) (p : Parts) (t : ThreadId) → WellFormed m log → StandsFor log p
@@ -105,18 +90,15 @@ held_few m log p t w st =
         (lt-ltb 0 (depth log t (lock_at q)) up)
 
 -- the joins of one event
+at_most_three : (b : Bool) (k : Effect) (held : ℕ) → most_joins k held ≤ 3
+    → most_joins (cond b k Inner) held ≤ 3
+at_most_three true k held le = le
+at_most_three false k held le = omega arith
+
 event_joins : (d : ℕ → ℕ) (o : Op) (held more : ℕ) → held ≤ more → most_joins (effect_of d o) held ≤
     joins_at o more
-event_joins d (Acquire l) held more few = go (nat_eq (d l.0) 0)
-  where
-    go : (b : Bool) → most_joins (cond b (Opens l) Inner) held ≤ 3
-    go true = omega arith
-    go false = omega arith
-event_joins d (Release l) held more few = go (nat_eq (d l.0) 1)
-  where
-    go : (b : Bool) → most_joins (cond b (Closes l) Inner) held ≤ 3
-    go true = omega arith
-    go false = omega arith
+event_joins d (Acquire l) held more few = at_most_three (nat_eq (d l.0) 0) (Opens l) held (omega arith)
+event_joins d (Release l) held more few = at_most_three (nat_eq (d l.0) 1) (Closes l) held (omega arith)
 event_joins d _ held more few = omega arith
 
 -- the last event's joins are added

@@ -1,6 +1,6 @@
 -- One verdict more.
 use Rattle.std.proofs.Common.{◌≡◌, ℕ, ◌+◌, ◌<◌, List, [], ◌∷◌, ◌++◌, Some, None, length, refl, sym, ap}
-use Rattle.std.proofs.Common.{subst, ◌∙◌, ◌⊎◌, slice_get, arith}
+use Rattle.std.proofs.Common.{◌∙◌, ◌⊎◌, slice_get, arith}
 use Rattle.std.proofs.lemmas.List.{length_push}
 use Rattle.std.proofs.lemmas.Option.{slice_get_within}
 use mathlib.Core.Logic.{inl, inr}
@@ -29,5 +29,4 @@ one_verdict_more log e vs v are is = record {
         let all : length vs ≡ length log = are.all in
         verdict_too j w (longer log (e ∷ [])) (omega arith) (are.each j w at)
     go j w (inr h) =
-        subst (λ k. IsVerdict (log ++ e ∷ []) k w) (sym (h.0 ∙ are.all))
-        (subst (λ u. IsVerdict (log ++ e ∷ []) (length log) u) (sym h.1) is)
+        rw (h.0, are.all, h.1) is

@@ -1,8 +1,7 @@
 -- What a release finds that is not refused: its thread holds the lock, has events, and a slot is kept for it.
 use Rattle.std.proofs.Common.{◌≡◌, ℕ, zero, suc, ◌+◌, ◌<◌, ◌≤◌, List, Some, None, Bool, true, false, cond}
-use Rattle.std.proofs.Common.{nat_eq, not, ◌&&◌, refl, ap, subst, ◌⊎◌, length}
-use Rattle.std.proofs.Common.{arith}
-use Rattle.std.proofs.lemmas.Bool.{cases_lt, ltb-true}
+use Rattle.std.proofs.Common.{nat_eq, not, ◌&&◌, refl, ap, subst, length, arith}
+use Rattle.std.proofs.lemmas.Bool.{cases_lt, ltb-true, not-false}
 use Rattle.std.proofs.lemmas.List.{get_or_past}
 use mathlib.Core.Logic.{inl, inr}
 use Rattle.event_core.specs.declared.ids.ThreadId.{ThreadId}
@@ -19,9 +18,9 @@ use Rattle.event_core.specs.Refusal.{open_acquires, WellFormed}
 use Rattle.event_core.proofs.Legality.{Reasons, legal_reasons, when_none, holder_depth}
 use Rattle.event_core.proofs.RunFacts.{allowed_legal}
 use Rattle.event_core.proofs.Holds.{depths_are_open, split_count}
-use Rattle.traced_mem.proofs.Allowed.{holder_here, un_not}
+use Rattle.traced_mem.proofs.Allowed.{holder_here}
 use Rattle.traced_mem.proofs.Depths.{depth_if_held}
-use Rattle.access_check.specs.Tables.{Tables, count_at}
+use Rattle.access_check.specs.Tables.{Tables}
 use Rattle.access_check.specs.Standing.{Stands}
 
 reasons : (m : Limits) (log : List Event) (c : Call) (l : LockId) → refusal m log c ≡ None → c.op ≡ Release l
@@ -41,29 +40,24 @@ release_held m log c l allowed is = holder_depth log l c.thread (is_held m log c
 -- one of the locks is not above their sum
 one_of_sum : (f : LockId → ℕ) (n i : ℕ) → i < n → f (lock_at i) ≤ sum_locks f n
 one_of_sum f zero i lt = absurd (omega (arith, lt))
-one_of_sum f (suc n) i lt = go (cases_lt i n) (one_of_sum f n i)
-  where
-    go : (i < n) ⊎ (n ≤ i) → (i < n → f (lock_at i) ≤ sum_locks f n)
-        → f (lock_at i) ≤ sum_locks f n + f (lock_at n)
-    go (inl less) rest = let h : f (lock_at i) ≤ sum_locks f n = rest less in omega arith
-    go (inr more) rest =
-        let same : i ≡ n = omega arith in
-        let here : f (lock_at i) ≡ f (lock_at n) = ap (λ k. f (lock_at k)) same in
-        omega arith
+one_of_sum f (suc n) i lt = elim (cases_lt i n) [
+  | inl less ↦ omega (arith, one_of_sum f n i less)
+  | inr more ↦ (let same : i ≡ n = omega arith in omega (arith, ap (λ k. f (lock_at k)) same))
+]
 
 pub release_open : (m : Limits) (log : List Event) (c : Call) (l : LockId) → WellFormed m log
     → refusal m log c ≡ None → c.op ≡ Release l → 0 < open_acquires log
 unfolding held_depths
 release_open m log c l well allowed is =
     let within : l.0 < m.locks
-    = ltb-true l.0 m.locks (un_not _ (when_none _ TargetRange (reasons m log c l allowed is).on_table)) in
-    let sum : lock_depth log l ≤ sum_locks (lock_depth log) m.locks
-    = one_of_sum (lock_depth log) m.locks l.0 within in
-    let same : lock_depth log l ≡ depth log c.thread l
-    = depth_if_held log l c.thread (is_held m log c l allowed is) in
-    let held : 0 < depth log c.thread l = release_held m log c l allowed is in
-    let open' : sum_locks (lock_depth log) m.locks ≡ open_acquires log = depths_are_open m log well in
-    omega arith
+    = ltb-true l.0 m.locks (not-false _ (when_none _ TargetRange (reasons m log c l allowed is).on_table)) in
+    omega (
+      arith,
+      one_of_sum (lock_depth log) m.locks l.0 within,
+      depths_are_open m log well,
+      depth_if_held log l c.thread (is_held m log c l allowed is),
+      release_held m log c l allowed is,
+    )
 
 -- a thread that holds a lock has events
 holder_has_events : (log : List Event) (u : ThreadId) (l : LockId) → 0 < depth log u l → 0 < events_of log u
@@ -82,15 +76,12 @@ holder_has_events log u l held =
 -- so its events are counted
 pub release_counted : (m : Limits) (log : List Event) (c : Call) (l : LockId) (t : Tables)
     → refusal m log c ≡ None → c.op ≡ Release l → Stands log t → c.thread.0 < length t.counts
-release_counted m log c l t allowed is stands = go (cases_lt c.thread.0 (length t.counts))
-  where
-    some : 0 < events_of log c.thread
-    some = holder_has_events log c.thread l (release_held m log c l allowed is)
-
-    go : (c.thread.0 < length t.counts) ⊎ (length t.counts ≤ c.thread.0) → c.thread.0 < length t.counts
-    go (inl less) = less
-    go (inr past) =
-        let none : count_at t.counts c.thread.0 ≡ 0 = get_or_past t.counts c.thread.0 0 past in
-        let same : count_at t.counts c.thread.0 ≡ events_of log c.thread = stands.counts c.thread in
-        let events : 0 < events_of log c.thread = some in
-        absurd (omega arith)
+release_counted m log c l t allowed is stands = elim (cases_lt c.thread.0 (length t.counts)) [
+  | inl less ↦ less
+  | inr past ↦ absurd (omega (
+    arith,
+    get_or_past t.counts c.thread.0 0 past,
+    stands.counts c.thread,
+    holder_has_events log c.thread l (release_held m log c l allowed is),
+  ))
+]

@@ -1,8 +1,7 @@
 -- The parts of a monitor stand for its log: what that gives at a legal call, and that it lasts.
-use Rattle.std.proofs.Common.{◌≡◌, ℕ, ◌+◌, ◌<◌, ◌≤◌, List, [], ◌∷◌, ◌++◌, None, true}
-use Rattle.std.proofs.Common.{length}
-use Rattle.std.proofs.Common.{refl, sym, ap, subst, ◌∙◌, nat_eq, nat_lt, arith}
-use Rattle.std.proofs.lemmas.Bool.{ltb-true, leb-false}
+use Rattle.std.proofs.Common.{◌≡◌, ℕ, ◌+◌, ◌<◌, ◌≤◌, List, [], ◌∷◌, ◌++◌, None, true, length, refl, sym, ap}
+use Rattle.std.proofs.Common.{subst, ◌∙◌, nat_eq, nat_lt, arith}
+use Rattle.std.proofs.lemmas.Bool.{ltb-true, leb-false, not-false}
 use Rattle.std.proofs.lemmas.List.Sums.{count_by-le-length}
 use Rattle.std.proofs.lemmas.Option.{slice_get_within}
 use Rattle.event_core.specs.declared.ids.ThreadId.{ThreadId}
@@ -18,9 +17,7 @@ use Rattle.event_core.specs.declared.replies.Verdict.{Verdict}
 use Rattle.event_core.specs.Bounds.{AreBounded}
 use Rattle.event_core.specs.Count.{events_of}
 use Rattle.event_core.specs.Refusal.{refusal, event_of, value_of, open_acquires, in_range, WellFormed}
-use Rattle.event_core.specs.Rows.{Counted}
-use Rattle.event_core.specs.Verdict.{IsVerdict}
-use Rattle.event_core.specs.Wcp.{Below}
+use Rattle.event_core.specs.Verdict.{IsVerdict, IsOutcome}
 use Rattle.event_core.proofs.Counting.{grown_length, last_does}
 use Rattle.event_core.proofs.Growth.{well_formed_grown}
 use Rattle.event_core.proofs.Legality.{AllNone, all_none, when_none}
@@ -31,30 +28,22 @@ use Rattle.traced_mem.specs.Meaning.{Meaning}
 use Rattle.traced_mem.specs.Refusals.{refusal_at, reasons_at}
 use Rattle.traced_mem.specs.After.{after, holds_after}
 use Rattle.traced_mem.specs.OfLog.{StandsFor}
-use Rattle.traced_mem.specs.Tables.{meaning}
-use Rattle.traced_mem.proofs.Allowed.{un_not}
-use Rattle.access_check.specs.Tables.{count_at}
-use Rattle.access_check.specs.Tables.{IsReady as AccessHasRoom}
-use Rattle.access_check.specs.Tables.{Tables as AccessTables}
+use Rattle.traced_mem.specs.Tables.{meaning, Allows, Tables as MemoryTables}
+use Rattle.access_check.specs.Tables.{count_at, IsReady as AccessHasRoom}
 use Rattle.access_check.specs.Standing.{Stands as AccessesStand}
 use Rattle.hb_clocks.specs.Stands.{IsHeldRelease}
 use Rattle.event_core.specs.Log.{depth}
-use Rattle.event_core.specs.Verdict.{IsOutcome}
 use Rattle.event_core.specs.declared.replies.Outcome.TheVariants.{Accepted}
 use Rattle.traced_mem.proofs.SameRefusals.{same_refusal}
-use Rattle.traced_mem.specs.Tables.{Allows}
-use Rattle.traced_mem.specs.Tables.{Tables as MemoryTables}
 use Rattle.wcp_clocks.proofs.Conditions.{log_within}
-use Rattle.wcp_clocks.specs.Parts.{Parts as Clocks}
-use Rattle.wcp_clocks.specs.Parts.{hb_of, width_of, limits_of, Fits, NamesWithin, SameLimits}
+use Rattle.wcp_clocks.specs.Parts.{Parts as Clocks, hb_of, width_of, limits_of, Fits, NamesWithin, SameLimits}
 use Rattle.wcp_clocks.specs.Parts.{IsWithin as ClocksAreWithin}
-use Rattle.wcp_clocks.specs.StandsFor.{FitsWhereLegal}
-use Rattle.wcp_clocks.specs.StandsFor.{StandsFor as ClocksStandFor}
+use Rattle.wcp_clocks.specs.StandsFor.{FitsWhereLegal, StandsFor as ClocksStandFor}
 use Rattle.wcp_clocks.specs.WorkWithin.{IsWorkOf, WorkStep, LittleWork}
 use Rattle.seq_monitor.specs.declared.parts.Parts.{Parts}
 use Rattle.seq_monitor.specs.Grown.{IsKeptRelease}
-use Rattle.seq_monitor.specs.Monitored.{slots_for, AreVerdicts, IsClocksReplay, IsReplay}
-use Rattle.seq_monitor.proofs.ClockLaws.{clocks_fit, clocks_advanced}
+use Rattle.seq_monitor.specs.Monitored.{slots_for, IsClocksReplay, IsReplay}
+use Rattle.seq_monitor.proofs.Joining.{joins_step}
 use Rattle.seq_monitor.proofs.Releases.{release_open, release_held, release_counted}
 use Rattle.seq_monitor.proofs.JudgedMore.{one_verdict_more, no_verdicts}
 
@@ -83,7 +72,7 @@ clocks_within {m} {p} t o r allowed = (subst (λ (n : ℕ). t.0 < n) (sym r.cloc
 
     target : in_range m o ≡ true
     target = subst (λ (k : Limits). in_range k o ≡ true) r.memory_limits
-        (un_not _ (when_none _ TargetRange all.1.1.1.0))
+        (not-false _ (when_none _ TargetRange all.1.1.1.0))
 
     lock : (l : LockId) → nat_lt l.0 m.locks ≡ true → l.0 < (limits_of p.clocks).locks
     lock l is =
@@ -155,39 +144,28 @@ last_is_latest log e = record {
       omega arith;
 }
 
--- by clocks that stand for the log with the event, the verdict is on that event
-pub judged : (e : Event) (clocks : Clocks) (accesses : AccessTables) (count : ℕ → ℕ) (v : Verdict)
-    → ((limits : Limits) (log : List Event) (j : ℕ) → WellFormed limits log → ClocksStandFor log clocks
-    → IsLatest log e.thread j → Counted log (λ i. Below log i j) count)
-    → ((log : List Event) → AccessesStand log accesses
-    → Counted (log ++ e ∷ []) (λ i. Below (log ++ e ∷ []) i (length log)) count
-    → IsVerdict (log ++ e ∷ []) (length log) v)
-    → (limits : Limits) (log : List Event) → WellFormed limits (log ++ e ∷ [])
-    → ClocksStandFor (log ++ e ∷ []) clocks → AccessesStand log accesses
-    → IsVerdict (log ++ e ∷ []) (length log) v
-judged e clocks accesses count v latest verdict limits log well stands made =
-    verdict log made (latest limits (log ++ e ∷ []) (length log) well stands (last_is_latest log e))
-
 -- before an event that is accepted the log has fewer events than it may have
 pub index_fits : {m : Limits} {p : Parts} {c : Call} {e : Event} → IsReplay m p → IsNext m p c e
     → length p.log.events < 4294967296
 index_fits {m} {p} {e = e} r next =
-    let grown : length (p.log.events ++ e ∷ []) ≡ length p.log.events + 1 = grown_length p.log.events e in
-    let within : length (p.log.events ++ e ∷ []) ≤ m.events
-    = log_within m (p.log.events ++ e ∷ []) next.longer in
-    let events : m.events ≤ 4294967296 = r.bounds.most_events in
-    omega arith
+    omega (
+      arith,
+      grown_length p.log.events e,
+      log_within m (p.log.events ++ e ∷ []) next.longer,
+      r.bounds.most_events,
+    )
 
 -- and so has each thread
 pub position_fits : {m : Limits} {p : Parts} {c : Call} {e : Event} (t : ThreadId) → IsReplay m p
     → IsNext m p c e → count_at p.accesses.counts t.0 < 4294967296
 unfolding events_of
 position_fits {p = p} t r next =
-    let log = p.log.events in
-    let same : count_at p.accesses.counts t.0 ≡ events_of log t = r.accesses.counts t in
-    let most : events_of log t ≤ length log = count_by-le-length (λ (e : Event). nat_eq e.thread.0 t.0) log in
-    let few : length log < 4294967296 = index_fits r next in
-    omega arith
+    omega (
+      arith,
+      r.accesses.counts t,
+      index_fits r next,
+      count_by-le-length (λ (e : Event). nat_eq e.thread.0 t.0) p.log.events,
+    )
 
 -- how many acquires are to be released after the call
 pub opened_after : (log : List Event) (c : Call) (old new : MemoryTables) → StandsFor old log
@@ -220,18 +198,15 @@ replay_more {m} {old} {new} {c} {e} {v} r next taken =
     let opened : open_acquires new.log.events ≡ holds_after c.op (open_acquires log)
     = ap open_acquires (taken.events ∙ ap (λ (x : Event). log ++ x ∷ []) next.is)
     ∙ opened_after log c old.memory new.memory r.memory taken.memory_stands taken.memory in
-    let longer = sym taken.events in
     record {
       bounds = r.bounds;
-      memory = subst (StandsFor new.memory) (ap (λ (x : Event). log ++ x ∷ []) (sym next.is) ∙ longer)
-          taken.memory_stands;
+      memory = rw (taken.events, next.is) taken.memory_stands;
       memory_limits = taken.memory_limits ∙ r.memory_limits;
-      clocks = subst (λ (xs : List Event). IsClocksReplay m xs new.clocks) longer taken.clocks;
-      accesses = subst (λ (xs : List Event). AccessesStand xs new.accesses) longer taken.accesses;
+      clocks = rw taken.events taken.clocks;
+      accesses = rw taken.events taken.accesses;
       access_limits = taken.access_limits ∙ r.access_limits;
-      judged = subst (λ (xs : List Event). AreVerdicts xs new.verdicts.verdicts) longer
-          (subst (AreVerdicts (log ++ e ∷ [])) (sym taken.verdicts)
-          (one_verdict_more log e old.verdicts.verdicts v r.judged taken.verdict));
+      judged = rw (taken.events, taken.verdicts)
+          (one_verdict_more log e old.verdicts.verdicts v r.judged taken.verdict);
       event_slots = omega (arith, opened, slot.kept, taken.event_slots);
       verdict_slots = omega (arith, opened, slot.kept, taken.verdict_slots);
     }
@@ -240,7 +215,10 @@ replay_more {m} {old} {new} {c} {e} {v} r next taken =
 pub clocks_ready : FitsWhereLegal → LittleWork → {m : Limits} {p : Parts} {c : Call} {e : Event}
     → IsReplay m p → IsNext m p c e → Fits e p.clocks
 clocks_ready fits little {m} {p} {e = e} r next =
-    clocks_fit fits little m p.log.events e p.clocks r.bounds next.longer r.clocks
+    let log = p.log.events in
+    let stands = r.clocks.stands in
+    fits m log e p.clocks r.bounds next.longer stands
+    (little m log e p.clocks r.bounds next.longer stands r.clocks.work)
 
 -- the parts before any event
 pub replay_empty : (m : Limits) (p : Parts) → AreBounded m.threads m.locks m.vars m.events
@@ -252,13 +230,12 @@ replay_empty m p bounds memory memory_limits clocks accesses access_limits none 
     let slots : open_acquires p.log.events ≡ 0 = ap open_acquires none in
     record {
       bounds = bounds;
-      memory = subst (StandsFor p.memory) (sym none) memory;
+      memory = rw none memory;
       memory_limits = memory_limits;
-      clocks = subst (λ (xs : List Event). IsClocksReplay m xs p.clocks) (sym none) clocks;
-      accesses = subst (λ (xs : List Event). AccessesStand xs p.accesses) (sym none) accesses;
+      clocks = rw none clocks;
+      accesses = rw none accesses;
       access_limits = access_limits;
-      judged = subst (λ (xs : List Event). AreVerdicts xs p.verdicts.verdicts) (sym none)
-          (subst (AreVerdicts []) (sym no_vs) no_verdicts);
+      judged = rw (none, no_vs) no_verdicts;
       event_slots = omega (arith, slots);
       verdict_slots = omega (arith, slots);
     }
@@ -271,8 +248,15 @@ pub clocks_more : WorkStep → {m : Limits} {old : Parts} {c : Call} {e : Event}
     → IsWorkOf e old.clocks new → SameLimits old.clocks new
     → IsClocksReplay m (old.log.events ++ e ∷ []) new
 clocks_more work_step {m} {old} {e = e} new r next stands work limits =
-    clocks_advanced work_step m old.log.events e old.clocks new next.longer r.clocks
-    (stands m old.log.events next.longer r.clocks.stands) work limits
+    let log = old.log.events in
+    let was = r.clocks in
+    record {
+      stands = stands m log next.longer was.stands;
+      width = limits.width ∙ was.width;
+      limits_of = limits.limits ∙ was.limits_of;
+      work = work_step m log e old.clocks new next.longer was.stands was.work work;
+      joins = joins_step m log e old.clocks new (well r) was.stands work was.joins;
+    }
 
 -- the reply's parts
 pub is_outcome : {m : Limits} {p : Parts} {c : Call} {e : Event} (v : Verdict) (index value : ℕ)

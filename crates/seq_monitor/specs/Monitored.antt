@@ -16,9 +16,7 @@ use Rattle.traced_mem.specs.OfLog.{StandsFor}
 use Rattle.access_check.specs.Tables.{IsReady as AccessHasRoom}
 use Rattle.access_check.specs.Standing.{Stands as AccessesStand}
 use Rattle.wcp_laws.specs.Found.{threads_in}
-use Rattle.wcp_clocks.specs.Parts.{Parts as Clocks}
-use Rattle.wcp_clocks.specs.Parts.{width_of, limits_of, work_of}
-use Rattle.wcp_clocks.specs.Parts.{IsReady as ClocksIsReady}
+use Rattle.wcp_clocks.specs.Parts.{Parts as Clocks, width_of, limits_of, work_of, IsReady as ClocksIsReady}
 use Rattle.wcp_clocks.specs.StandsFor.{StandsFor as ClocksStandFor}
 use Rattle.wcp_clocks.specs.WorkWithin.{WorkWithin}
 use Rattle.seq_monitor.specs.Joins.{joins_of}

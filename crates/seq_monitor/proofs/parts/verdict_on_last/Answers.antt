@@ -1,8 +1,9 @@
-use Rattle.hb_clocks.specs.Counts.{counts_of}
-use Rattle.seq_monitor.proofs.Replaying.{judged}
+use Rattle.std.proofs.Common.{length, [], ◌∷◌, ◌++◌}
+use Rattle.seq_monitor.proofs.Replaying.{last_is_latest}
 use Rattle.seq_monitor.proofs.parts.verdict_on_last.Goals as goal
 
 pub returns : goal.returns
-returns c =
-    judged c.args.event.now c.args.clocks.now c.args.accesses.now (counts_of c.clock.result)
-    c.verdict.result c.clock.ensures.latest c.verdict.ensures.verdict
+returns c limits past well stands made =
+    c.verdict.ensures.verdict past made
+    (c.clock.ensures.latest limits (past ++ c.args.event.now ∷ []) (length past) well stands
+    (last_is_latest past c.args.event.now))

@@ -8,21 +8,10 @@ use Rattle.seq_monitor.proofs.monitor.Monitor.run.Goals as goal
 
 pub loop-call-preserved : goal.loop-call-preserved
 loop-call-preserved c =
-    record {
-      ran = ran_more IsRun IsOutcome log_after run_more c.loop-call.invariant.ran c.loop-call.invariant.limits
-          c.in_ok-outcome.ensures.outcome
-          (take_more c.args.calls.now c.loop-call.call-index _ c.loop-call-test.true)
-          c.push_reserved.ensures.items c.in_ok-outcome.ensures.log;
-      limits = c.take.ensures.limits ∙ c.loop-call.invariant.limits;
-      work = c.take.ensures.work;
-      room = omega (
-        arith,
-        c.loop-call.invariant.room,
-        c.push_reserved.ensures.len,
-        c.push_reserved.ensures.capacity,
-        c.loop-call-test.true,
-      );
-    }
+    ran_more IsRun IsOutcome log_after run_more c.loop-call.invariant c.in_ok-outcome.ensures.outcome
+    (take_more c.args.calls.now c.loop-call.call-index _ c.loop-call-test.true) c.push_reserved.ensures.items
+    c.in_ok-outcome.ensures.log c.take.ensures.limits c.take.ensures.work
+    (omega (arith, c.push_reserved.ensures.len, c.push_reserved.ensures.capacity))
 
 pub returns-then-is_err-clause-some : goal.returns-then-is_err-clause-some
 returns-then-is_err-clause-some c =
@@ -33,10 +22,9 @@ returns-then-is_err-clause-some c =
 pub returns-in_err-outcome-clause-some : goal.returns-in_err-outcome-clause-some
 returns-in_err-outcome-clause-some c =
     where_err c.from_residual.result
-    (ran_some IsRun MayWantMemory _ c.loop-call.call-index c.loop-call.invariant.ran
-    c.loop-call.invariant.limits
+    (ran_some IsRun MayWantMemory _ c.loop-call.invariant
     (slice_get-get_or c.args.calls.now c.loop-call.call-index _ c.loop-call-test.true)
     c.in_err-outcome.ensures.memory c.in_err-outcome.ensures.same)
 
 pub returns-clause-all : goal.returns-clause-all
-returns-clause-all c = ran_all IsRun _ c.loop-call.invariant.ran c.loop-call-test.false
+returns-clause-all c = ran_all IsRun c.loop-call.invariant c.loop-call-test.false

@@ -9,21 +9,10 @@ use Rattle.seq_monitor.proofs.monitor.Monitor.run_acts.Goals as goal
 
 pub loop-act-preserved : goal.loop-act-preserved
 loop-act-preserved c =
-    record {
-      ran = ran_more IsActRun IsDone log_after_act act_run_more c.loop-act.invariant.ran
-          c.loop-act.invariant.limits c.in_ok-done.ensures.done
-          (take_more c.args.acts.now c.loop-act.act-index _ c.loop-act-test.true)
-          c.push_reserved.ensures.items c.in_ok-done.ensures.log;
-      limits = c.take_act.ensures.limits ∙ c.loop-act.invariant.limits;
-      work = c.take_act.ensures.work;
-      room = omega (
-        arith,
-        c.loop-act.invariant.room,
-        c.push_reserved.ensures.len,
-        c.push_reserved.ensures.capacity,
-        c.loop-act-test.true,
-      );
-    }
+    ran_more IsActRun IsDone log_after_act act_run_more c.loop-act.invariant c.in_ok-done.ensures.done
+    (take_more c.args.acts.now c.loop-act.act-index _ c.loop-act-test.true) c.push_reserved.ensures.items
+    c.in_ok-done.ensures.log c.take_act.ensures.limits c.take_act.ensures.work
+    (omega (arith, c.push_reserved.ensures.len, c.push_reserved.ensures.capacity))
 
 pub returns-then-is_err-clause-some : goal.returns-then-is_err-clause-some
 returns-then-is_err-clause-some c =
@@ -34,10 +23,9 @@ returns-then-is_err-clause-some c =
 pub returns-in_err-done-clause-some : goal.returns-in_err-done-clause-some
 returns-in_err-done-clause-some c =
     where_err c.from_residual.result
-    (ran_some IsActRun ActMayWantMemory _ c.loop-act.act-index c.loop-act.invariant.ran
-    c.loop-act.invariant.limits
+    (ran_some IsActRun ActMayWantMemory _ c.loop-act.invariant
     (slice_get-get_or c.args.acts.now c.loop-act.act-index _ c.loop-act-test.true)
     c.in_err-done.ensures.memory c.in_err-done.ensures.same)
 
 pub returns-clause-all : goal.returns-clause-all
-returns-clause-all c = ran_all IsActRun _ c.loop-act.invariant.ran c.loop-act-test.false
+returns-clause-all c = ran_all IsActRun c.loop-act.invariant c.loop-act-test.false
