@@ -11,7 +11,7 @@ use Rattle.event_core.specs.declared.steps.Step.TheVariants.{One}
 use Rattle.event_core.specs.Refusal.{event_of}
 use Rattle.event_core.specs.Steps.{log_of, own_events}
 use Rattle.log_pass.specs.declared.views.PassView.{PassView}
-use Rattle.log_pass.proofs.Prefixes.{prefix_trans}
+use base.Growing.{prefix_trans}
 use Rattle.live_monitor.specs.Calls.{acquire_by, Accepted, Declined, HasComeTo}
 use Rattle.live_monitor.specs.Rules.{HasOwn, MayAdd}
 

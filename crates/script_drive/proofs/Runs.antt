@@ -1,7 +1,6 @@
 -- What a thread's next line adds to a run of the script is a run again.
-use Rattle.std.proofs.Common.{◌≡◌, ℕ, ◌+◌, ◌≤◌, List, [], ◌∷◌, ◌++◌, Bool, true, false, cond, refl, sym}
-use Rattle.std.proofs.Common.{ap, ◌∙◌, append_assoc, arith, length, length-append, map, nat_eq, subst, ◌⊎◌}
-use Rattle.std.proofs.Common.{◌||◌}
+use Rattle.std.proofs.Common.{◌≡◌, ℕ, ◌≤◌, List, [], ◌∷◌, ◌++◌, Bool, true, false, cond, refl, sym, ap}
+use Rattle.std.proofs.Common.{◌∙◌, append_assoc, arith, length, length-append, map, nat_eq, subst, ◌⊎◌, ◌||◌}
 use Rattle.std.specs.List.{list_any, AllByRecursion}
 use Rattle.std.proofs.lemmas.Bool.{eq-eqb, eqb-true, or_cases}
 use Rattle.std.proofs.lemmas.List.{append-nil, map-append}
@@ -17,14 +16,16 @@ use Rattle.event_core.specs.declared.events.Act.TheVariants.{One, Swap}
 use Rattle.event_core.specs.declared.events.Call.{Call}
 use Rattle.event_core.specs.declared.events.Event.{Event}
 use Rattle.event_core.specs.declared.events.Op.{Op}
-use Rattle.event_core.specs.declared.events.Op.TheVariants.{Load, Store, Acquire, Release, Fork, Join}
+use Rattle.event_core.specs.declared.events.Op.TheVariants.{Load, Join}
+use Rattle.event_core.specs.declared.bounds.Limits.{Limits}
+use Rattle.event_core.specs.declared.replies.Reply.{Reply}
+use Rattle.event_core.specs.declared.steps.Step.TheVariants.{One as OneStep}
 use Rattle.event_core.specs.Acts.{swap_load, swap_store}
 use Rattle.event_core.specs.Refusal.{event_of, joins, op_joins, value_of}
 use Rattle.event_core.specs.Steps.{log_of, own_events}
-use Rattle.event_core.proofs.Counting.{nat_eq_other}
 use Rattle.event_core.proofs.Depth.{same_thread_id}
-use Rattle.event_core.proofs.StepLaws.{not_both}
-use Rattle.live_monitor.specs.Calls.{call_by, join_by}
+use Rattle.event_core.proofs.StepLaws.{log_of-snoc, not_both}
+use Rattle.live_monitor.specs.Calls.{call_by, join_by, Accepted, HasComeTo}
 use Rattle.live_monitor.specs.Rules.{HasOwn, MayAdd, MayJoin, MaySwap}
 use Rattle.log_pass.specs.declared.views.PassView.{PassView}
 use Rattle.script_text.specs.declared.lines.ScriptLine.{ScriptLine}
@@ -32,7 +33,7 @@ use Rattle.script_text.specs.Lines.{act_thread, thread_of}
 use Rattle.script_drive.specs.Faults.{IsNext}
 use Rattle.script_drive.specs.Lines.{asked, asked_by, given, lines_by, unread, Follows}
 use Rattle.script_drive.specs.Runs.{FollowsFirst, IsRunOf}
-use Rattle.script_drive.specs.Workers.{Done}
+use Rattle.script_drive.specs.Workers.{Does, Done}
 
 -- the empty log is a run
 pub nothing_ran : (script : List ScriptLine) → IsRunOf script []
@@ -167,15 +168,6 @@ event_asked log l call t op arg act thread is same =
     (let e : Event = record { thread = own i; op = its i; site = call.site; value = value i } in e) ∷ [] in
     events ∙ sym (ap asked_by act)
 
-pub may_add : (script : List ScriptLine) (l : ScriptLine) (call : Call) (op : Op) (arg : ℕ) (p : PassView)
-    → l.act ≡ One call → call.op ≡ op → given op call.arg ≡ given op arg
-    → ((u : ThreadId) → op_joins u op ≡ false) → IsNext script l p → thread_of l ≡ p.thread
-    → MayAdd (IsRunOf script) p (call_by p.thread op call.site arg)
-may_add script l call op arg p act is same none next thread log own run =
-    run_more script l p next thread log (event_of log (call_by p.thread op call.site arg) ∷ []) own run
-    (refl, tt) (event_asked log l call p.thread op arg act thread is same)
-    (λ u test. absurd (not_both _ test (ap (λ (b : Bool). b || false) (none u))))
-
 -- the one who is joined made all its lines
 joined_all : (script : List ScriptLine) (log : List Event) (u v : ThreadId) (child : PassView)
     → Done script u child → HasOwn child log → (nat_eq child.thread.0 v.0 || false) ≡ true
@@ -192,22 +184,46 @@ joined_all script log u v child done its test =
     left true e = refl
     left false e = e
 
-pub may_join : (script : List ScriptLine) (l : ScriptLine) (call : Call) (u : ThreadId) (p child : PassView)
-    → l.act ≡ One call → call.op ≡ Join u → Done script u child → IsNext script l p → thread_of l ≡ p.thread
-    → MayJoin (IsRunOf script) p child (join_by p.thread child.thread call.site)
-may_join script l call u p child act op done next thread log own its run =
-    let e = event_of log (join_by p.thread child.thread call.site) in
-    run_more script l p next thread log (e ∷ []) own run (refl, tt)
-    (event_asked log l call p.thread (Join child.thread) 0 act thread (op ∙ ap Join (sym done.thread)) refl)
-    (λ v test. joined_all script (log ++ e ∷ []) u v child done its test)
+module _ {script : List ScriptLine} {l : ScriptLine} {p : PassView} (next : IsNext script l p)
+    (thread : thread_of l ≡ p.thread) where
+  pub may_add : {call : Call} {op : Op} (arg : ℕ) → l.act ≡ One call → call.op ≡ op
+      → given op call.arg ≡ given op arg → ((u : ThreadId) → op_joins u op ≡ false)
+      → MayAdd (IsRunOf script) p (call_by p.thread op call.site arg)
+  may_add {call} {op} arg act is same none log own run =
+      run_more script l p next thread log (event_of log (call_by p.thread op call.site arg) ∷ []) own run
+      (refl, tt) (event_asked log l call p.thread op arg act thread is same)
+      (λ u test. absurd (not_both _ test (ap (λ (b : Bool). b || false) (none u))))
 
-pub may_swap : (script : List ScriptLine) (l : ScriptLine) (t : ThreadId) (x : VarId) (site : SiteId)
-    (arg : ℕ) (p : PassView) → l.act ≡ Swap t x site arg → IsNext script l p → thread_of l ≡ p.thread
-    → MaySwap (IsRunOf script) p x site arg
-may_swap script l t x site arg p act next thread log own run =
-    let asks : asked_by (Swap p.thread x site arg) ≡ asked_by l.act
-    = ap (λ (u : ThreadId). asked_by (Swap u x site arg)) (sym thread ∙ ap act_thread act)
-    ∙ sym (ap asked_by act) in
-    run_more script l p next thread log
-    (swap_load log p.thread x site ∷ swap_store p.thread x site arg ∷ []) own run (refl, (refl, tt)) asks
-    (λ u test. absurd (cc test))
+  pub may_swap : {t : ThreadId} {x : VarId} {site : SiteId} {arg : ℕ} → l.act ≡ Swap t x site arg
+      → MaySwap (IsRunOf script) p x site arg
+  may_swap {x = x} {site = site} {arg = arg} act log own run =
+      let asks : asked_by (Swap p.thread x site arg) ≡ asked_by l.act
+      = ap (λ (u : ThreadId). asked_by (Swap u x site arg)) (sym thread ∙ ap act_thread act)
+      ∙ sym (ap asked_by act) in
+      run_more script l p next thread log
+      (swap_load log p.thread x site ∷ swap_store p.thread x site arg ∷ []) own run (refl, (refl, tt)) asks
+      (λ u test. absurd (cc test))
+
+  pub may_join : {call : Call} {u : ThreadId} {child : PassView} → l.act ≡ One call → call.op ≡ Join u
+      → Done script u child → MayJoin (IsRunOf script) p child (join_by p.thread child.thread call.site)
+  may_join {call} {u} {child} act op done log own its run =
+      let e = event_of log (join_by p.thread child.thread call.site) in
+      run_more script l p next thread log (e ∷ []) own run (refl, tt)
+      (event_asked log l call p.thread (Join child.thread) 0 act thread (op ∙ ap Join (sym done.thread)) refl)
+      (λ v test. joined_all script (log ++ e ∷ []) u v child done its test)
+
+-- a pass whose line's call was accepted did the line
+pub call_does : {m : Limits} {l : ScriptLine} {call : Call} {op : Op} {p q : PassView} {reply : Reply}
+    (arg : ℕ) → l.act ≡ One call → call.op ≡ op → given op call.arg ≡ given op arg → thread_of l ≡ p.thread
+    → HasComeTo m p q → Accepted m (call_by p.thread op call.site arg) p q reply → Does l p q
+call_does {l = l} {call = call} {op = op} {p = p} arg act is same thread later did =
+    let made = call_by p.thread op call.site arg in
+    let log = log_of did.steps in record {
+      thread = later.same_thread;
+      begins = later.begins;
+      mine = ap (λ ds. map unread (log_of ds)) did.mine
+          ∙ (ap (map unread) (log_of-snoc p.mine (OneStep (event_of log made)))
+          ∙ (map-append unread (log_of p.mine) (event_of log made ∷ [])
+          ∙ ap (λ es. map unread (log_of p.mine) ++ es)
+          (event_asked log l call p.thread op arg act thread is same)));
+    }

@@ -1,10 +1,9 @@
 -- The faults of workers are those of lines of the script.
-use Rattle.std.proofs.Common.{◌≡◌, ℕ, ◌+◌, ◌<◌, ◌≤◌, ◌⊎◌, List, ◌∷◌, Some, refl, sym, ap}
+use Rattle.std.proofs.Common.{◌≡◌, ℕ, ◌+◌, ◌<◌, ◌≤◌, List, ◌∷◌, Some, refl, sym, ap, ◌∙◌, subst, length}
+use Rattle.std.proofs.Common.{get_or, take, drop, arith}
 use Rattle.std.specs.Prelude.{[], Bool, true, Option, None, IfErr, IfSome, IsErrAnd, IsSome, Result, Ok, Err}
-use Rattle.std.proofs.Common.{◌∙◌, subst, length, get_or, take, drop, arith}
 use Rattle.std.specs.List.{All, Contains}
-use Rattle.std.proofs.lemmas.List.Elements.{All-more, All-weaker}
-use Rattle.std.proofs.lemmas.List.Elements.{Contains-get_or}
+use Rattle.std.proofs.lemmas.List.Elements.{All-more, All-weaker, Contains-get_or}
 use mathlib.Core.Logic.{inl, inr}
 use Rattle.event_core.specs.declared.ids.ThreadId.{ThreadId}
 use Rattle.event_core.specs.declared.ids.LockId.{LockId}
@@ -16,11 +15,10 @@ use Rattle.event_core.specs.declared.events.Act.{Act}
 use Rattle.event_core.specs.declared.events.Act.TheVariants.{One, Swap}
 use Rattle.event_core.specs.declared.events.Call.{Call}
 use Rattle.event_core.specs.declared.events.Op.{Op}
-use Rattle.event_core.specs.declared.events.Op.TheVariants.{Load, Store, Acquire, Release, Fork, Join}
+use Rattle.event_core.specs.declared.events.Op.TheVariants.{Acquire, Join}
 use Rattle.event_core.specs.declared.replies.Refusal.{Refusal}
-use Rattle.event_core.specs.declared.replies.Refusal.TheVariants.{ThreadRange, NotStarted, Ended, TargetRange}
-use Rattle.event_core.specs.declared.replies.Refusal.TheVariants.{Held, NotHolder, SelfTarget, AlreadyStarted}
-use Rattle.event_core.specs.declared.replies.Refusal.TheVariants.{TargetNotStarted, LogFull, OutOfMemory}
+use Rattle.event_core.specs.declared.replies.Refusal.TheVariants.{Held}
+use Rattle.event_core.specs.declared.replies.Refusal.TheVariants.{OutOfMemory}
 use Rattle.event_core.specs.declared.replies.Reply.{Reply}
 use Rattle.event_core.specs.Acts.{swap_refusal, act_refusal}
 use Rattle.event_core.specs.Refusal.{first_of, op_is_acquire, reasons, refusal}
@@ -33,9 +31,9 @@ use Rattle.script_text.specs.Lines.{act_join, act_thread, is_of, op_join, thread
 use Rattle.script_drive.specs.declared.faults.DriveFault.{DriveFault}
 use Rattle.script_drive.specs.declared.faults.Halt.{Halt}
 use Rattle.script_drive.specs.declared.faults.Halt.TheVariants.{Abandoned, Fault}
-use Rattle.script_drive.specs.Faults.{act_acquires, act_waits, is_told, op_waits, rank}
-use Rattle.script_drive.specs.Faults.{refused_at, Fits, IsAnswer, IsAnswered, IsDue, IsEarlier, IsFaultOf}
-use Rattle.script_drive.specs.Faults.{IsFirst, IsHaltOf, IsHeldBack, IsNext, Refuses}
+use Rattle.script_drive.specs.Faults.{act_acquires, act_waits, is_told, op_waits, rank, refused_at, Fits}
+use Rattle.script_drive.specs.Faults.{IsAnswer, IsAnswered, IsDue, IsEarlier, IsFaultOf, IsFirst, IsHaltOf}
+use Rattle.script_drive.specs.Faults.{IsHeldBack, IsNext, Refuses}
 use Rattle.script_drive.specs.Lines.{lines_by}
 use Rattle.script_drive.specs.Runs.{IsRunOf}
 use Rattle.script_drive.specs.Workers.{HasDone}
@@ -77,42 +75,6 @@ refused_fits m ahead script l (Held by) line told r = absurd (cc told)
 refused_fits m ahead script l OutOfMemory line told r = tt
 refused_fits m ahead script l _ line told r = (told, (l, line, (refl, refl, r)))
 
--- the definition refuses the act so, and not for another thread's hold; or memory ran out
-abbrev IsReason : Limits → List Event → Act → Refusal → Type 0
-IsReason m log act why = ((act_refusal m log act ≡ Some why) × (is_told why ≡ true)) ⊎ (why ≡ OutOfMemory)
-
--- a line is due after what its pass has seen by the time that its call is declined
-due : (m : Limits) (script : List ScriptLine) (l : ScriptLine) (p q : PassView) → IsNext script l p
-    → HasComeTo m p q → IsRunOf script (log_of q.seen) → q.mine ≡ p.mine → IsDue m script l (log_of q.seen)
-due m script l p q next later run mine =
-    let done : HasDone (thread_of l) q next.before
-    = done_later m (thread_of l) p q next.before later mine next.done in
-    record {
-      before = next.before;
-      later = next.later;
-      place = next.place;
-      well_formed = later.is_pass.formed.well_formed;
-      run = run;
-      started = done.started;
-      made = made_of m (thread_of l) q next.before later.is_pass done;
-    }
-
--- the act was refused so to a pass that had done the lines before
-declined_fits : (m : Limits) (ahead : Bool) (script : List ScriptLine) (l : ScriptLine) (p q : PassView)
-    (why : Refusal) → IsNext script l p → HasComeTo m p q → IsRunOf script (log_of q.seen)
-    → q.mine ≡ p.mine → IsReason m (log_of q.seen) l.act why
-    → IsFaultOf m ahead script (refused_at l why)
-declined_fits m ahead script l p q why next later run mine reason =
-    elim reason as (λ _. IsFaultOf m ahead script (refused_at l why)) [
-      | inl refused ↦
-          ∣ refused_fits m ahead script l why next.line refused.1 (record {
-            log = log_of q.seen;
-            due = due m script l p q next later run mine;
-            refused = refused.0;
-          }) ∣₁
-      | inr e ↦ subst (λ (w : Refusal). IsFaultOf m ahead script (refused_at l w)) (sym e) ∣ tt ∣₁
-    ]
-
 -- a call is refused by what it does and whose it is
 same_refusal : (m : Limits) (log : List Event) (c d : Call) → c.thread ≡ d.thread → c.op ≡ d.op
     → refusal m log c ≡ refusal m log d
@@ -135,30 +97,73 @@ pub swap_refusal_of : (m : Limits) (l : ScriptLine) {t u : ThreadId} {x : VarId}
 swap_refusal_of m l {x = x} act thread log = ap (act_refusal m log) act
     ∙ ap (λ (u : ThreadId). swap_refusal m log u x) (sym (ap act_thread act) ∙ thread)
 
--- of an act that is refused as its line's; of an acquire the refusal is told where another thread's hold is
--- not the answer
-pub act_fits : (m : Limits) (ahead : Bool) {script : List ScriptLine} (l : ScriptLine) {p q : PassView}
-    {made : Act} (why : Refusal) → IsNext script l p → HasComeTo m p q → IsRunOf script (log_of q.seen)
-    → DeclinedAct m made p q why → ((log : List Event) → act_refusal m log l.act ≡ act_refusal m log made)
-    → (act_acquires made ≡ true → is_told why ≡ true) → IsFaultOf m ahead script (refused_at l why)
-act_fits m ahead {script} l {p} {q} {made} why next later run declined same acquire =
-    declined_fits m ahead script l p q why next later run declined.mine
-    (elim (declined.why) as (λ _. IsReason m (log_of q.seen) l.act why) [
-      | inl refused ↦
-          inl (same (log_of q.seen) ∙ refused, act_told m (log_of q.seen) made why acquire refused)
-      | inr memory ↦ inr (memory.0)
-    ])
+module _ {m : Limits} {script : List ScriptLine} {l : ScriptLine} {p q : PassView} (next : IsNext script l p)
+    (later : HasComeTo m p q) (run : IsRunOf script (log_of q.seen)) where
+  -- a line is due after what its pass has seen by the time that its call is declined
+  due : q.mine ≡ p.mine → IsDue m script l (log_of q.seen)
+  due mine =
+      let done : HasDone (thread_of l) q next.before
+      = done_later m (thread_of l) p q next.before later mine next.done in
+      record {
+        before = next.before;
+        later = next.later;
+        place = next.place;
+        well_formed = later.is_pass.formed.well_formed;
+        run = run;
+        started = done.started;
+        made = made_of m (thread_of l) q next.before later.is_pass done;
+      }
 
--- a worker whose line was answered so
-answered_halts : {T : Type 0} (m : Limits) (ahead : Bool) (script : List ScriptLine) (l : ScriptLine)
-    (answer : Result T Refusal) (result : Result PassView Halt)
-    → IfErr result (λ halt. IsErrAnd answer (λ why. halt ≡ Fault (refused_at l why)))
-    → IfErr answer (λ why. IsFaultOf m ahead script (refused_at l why))
-    → IfErr result (IsHaltOf m ahead script)
-answered_halts m ahead script l answer (Ok p) refused fits = tt
-answered_halts m ahead script l (Ok x) (Err halt) refused fits = absurd refused
-answered_halts m ahead script l (Err why) (Err halt) refused fits =
-    subst (IsHaltOf m ahead script) (sym refused) fits
+  -- of an act that is refused as its line's; of an acquire the refusal is told where another thread's hold is
+  -- not the answer
+  pub act_fits : (ahead : Bool) {made : Act} {why : Refusal} → DeclinedAct m made p q why
+      → ((log : List Event) → act_refusal m log l.act ≡ act_refusal m log made)
+      → (act_acquires made ≡ true → is_told why ≡ true) → IsFaultOf m ahead script (refused_at l why)
+  act_fits ahead {made} {why} declined same acquire =
+      elim (declined.why) as (λ _. IsFaultOf m ahead script (refused_at l why)) [
+        | inl refused ↦
+            ∣ refused_fits m ahead script l why next.line
+            (act_told m (log_of q.seen) made why acquire refused) (record {
+              log = log_of q.seen;
+              due = due declined.mine;
+              refused = same (log_of q.seen) ∙ refused;
+            }) ∣₁
+        | inr memory ↦
+            subst (λ (w : Refusal). IsFaultOf m ahead script (refused_at l w)) (sym (memory.0)) ∣ tt ∣₁
+      ]
+
+  -- a worker whose line's act was answered so
+  pub act_halts : {T : Type 0} (ahead : Bool) (made : Act) (answer : Result T Refusal)
+      (result : Result PassView Halt) → IfErr answer (DeclinedAct m made p q)
+      → ((log : List Event) → act_refusal m log l.act ≡ act_refusal m log made)
+      → IfErr result (λ halt. IsErrAnd answer (λ why. halt ≡ Fault (refused_at l why)))
+      → (act_acquires made ≡ true → IfErr answer (λ why. is_told why ≡ true))
+      → IfErr result (IsHaltOf m ahead script)
+  act_halts ahead made answer (Ok p) declined same refused acquire = tt
+  act_halts ahead made (Ok x) (Err halt) declined same refused acquire = absurd refused
+  act_halts ahead made (Err why) (Err halt) declined same refused acquire =
+      subst (IsHaltOf m ahead script) (sym refused) (act_fits ahead declined same acquire)
+
+  -- the lock that an acquire was refused is then held
+  pub held_back : {call : Call} {lock : LockId} {answer : Result Reply Refusal} → l.act ≡ One call
+      → call.op ≡ Acquire lock → thread_of l ≡ p.thread
+      → IfErr answer (Declined m (call_by p.thread (Acquire lock) call.site 0) p q)
+      → (by : ThreadId) × (answer ≡ Err (Held by)) → IsHeldBack m script l
+  held_back {call} {lock} act is thread declined held =
+      let acquire : Call = call_by p.thread (Acquire lock) call.site 0 in
+      let refused : Declined m acquire p q (Held (held.0))
+      = subst (λ a. IfErr a (Declined m acquire p q)) held.1 declined in (
+        held.0,
+        record {
+          log = log_of q.seen;
+          due = due refused.mine;
+          refused = line_refusal m l call.site 0 act is thread (log_of q.seen)
+              ∙ (elim (refused.why) as (λ _. refusal m (log_of q.seen) acquire ≡ Some (Held (held.0))) [
+                | inl why ↦ why
+                | inr memory ↦ absurd (cc (memory.0))
+              ]);
+        },
+      )
 
 -- an acquire that another thread's hold refused has used its tries up
 pub held_used_up : (tries : Tried) (answer : Result Reply Refusal)
@@ -166,28 +171,6 @@ pub held_used_up : (tries : Tried) (answer : Result Reply Refusal)
     → (by : ThreadId) × (answer ≡ Err (Held by)) → AreUsedUp tries
 held_used_up tries answer used_up held =
     (subst (λ a. IfErr a (λ why. why ≡ Held (held.0) → AreUsedUp tries)) held.1 (used_up held.0)) refl
-
--- the lock that it acquires is then held
-pub held_back : (m : Limits) (script : List ScriptLine) (l : ScriptLine) (call : Call) (lock : LockId)
-    (site : SiteId) (p q : PassView) (answer : Result Reply Refusal) → l.act ≡ One call
-    → call.op ≡ Acquire lock → IsNext script l p → thread_of l ≡ p.thread → HasComeTo m p q
-    → IsRunOf script (log_of q.seen) → IfErr answer (Declined m (call_by p.thread (Acquire lock) site 0) p q)
-    → (by : ThreadId) × (answer ≡ Err (Held by)) → IsHeldBack m script l
-held_back m script l call lock site p q answer act is next thread later run declined held =
-    let refused : Declined m (call_by p.thread (Acquire lock) site 0) p q (Held (held.0))
-    = subst (λ a. IfErr a (Declined m (call_by p.thread (Acquire lock) site 0) p q)) held.1 declined in (
-      held.0,
-      record {
-        log = log_of q.seen;
-        due = due m script l p q next later run refused.mine;
-        refused = line_refusal m l site 0 act is thread (log_of q.seen)
-            ∙ (elim (refused.why) as (λ _. refusal m (log_of q.seen)
-            (call_by p.thread (Acquire lock) site 0) ≡ Some (Held (held.0))) [
-              | inl why ↦ why
-              | inr memory ↦ absurd (cc (memory.0))
-            ]);
-      },
-    )
 
 -- a line that joins acquires nothing
 pub joins_alone : (a : Act) → IsSome (act_join a) → act_acquires a ≡ true → ⊥
@@ -232,24 +215,6 @@ answer_fits m ahead script (Abandoned l) None f is fits answer =
         λ _ acquires. absurd (joins_alone l.act is.1 acquires),
       ),
     ) ∣₁
-
--- after a line's act
-pub act_halts : {T : Type 0} (m : Limits) (ahead : Bool) {script : List ScriptLine} (l : ScriptLine)
-    {p q : PassView} (made : Act) (answer : Result T Refusal) (result : Result PassView Halt)
-    → IsNext script l p → HasComeTo m p q → IsRunOf script (log_of q.seen)
-    → IfErr answer (DeclinedAct m made p q)
-    → ((log : List Event) → act_refusal m log l.act ≡ act_refusal m log made)
-    → IfErr result (λ halt. IsErrAnd answer (λ why. halt ≡ Fault (refused_at l why)))
-    → (act_acquires made ≡ true → IfErr answer (λ why. is_told why ≡ true))
-    → IfErr result (IsHaltOf m ahead script)
-act_halts {T} m ahead {script} l {p} {q} made answer result next later run declined same refused acquire =
-    answered_halts m ahead script l answer result refused (fits answer declined acquire)
-  where
-    fits : (a : Result T Refusal) → IfErr a (DeclinedAct m made p q)
-        → (act_acquires made ≡ true → IfErr a (λ why. is_told why ≡ true))
-        → IfErr a (λ why. IsFaultOf m ahead script (refused_at l why))
-    fits (Ok x) d told = tt
-    fits (Err why) d told = act_fits m ahead l why next later run d same told
 
 -- ---- the lines of a thread
 
