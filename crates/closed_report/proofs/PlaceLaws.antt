@@ -6,14 +6,17 @@ use Rattle.std.specs.Prelude.{slice_get}
 use Rattle.std.specs.List.{position_or_len}
 use Rattle.std.specs.Option.{option_or}
 use Rattle.std.specs.Cmp.Derive.{both_true}
-use Rattle.std.proofs.lemmas.Bool.{cases_eq, cases_lt, eqb-true, eq-eqb, ltb-false}
-use Rattle.std.proofs.lemmas.List.{get_or-set_same, get_or-set_other, length-set, length-take, take_more}
+use Rattle.std.proofs.lemmas.Bool.{and_parts, cases_eq, cases_lt, eqb-true, eq-eqb, ltb-false}
+use Rattle.std.proofs.lemmas.Bool.{false_from_ne_true}
+use Rattle.std.proofs.lemmas.List.{get_or-set_same, get_or-set_other, length-set, length-take, length_push}
+use Rattle.std.proofs.lemmas.List.{take_more}
 use Rattle.std.proofs.lemmas.List.Elements.{All-more, All-weaker, All-head, All-tail}
 use Rattle.std.proofs.lemmas.List.Folds.{find_at, find-append}
 use Rattle.std.proofs.lemmas.List.Quantifiers.{position-Some}
 use Rattle.std.proofs.lemmas.List.Sums.{sum_by-cons, count_by_more_yes, count_by_more_no, count_by-le-length}
 use Rattle.std.proofs.lemmas.List.Sums.{fails_before_first}
 use Rattle.std.proofs.lemmas.Option.{same_Some, slice_get_within, slice_get-get_or, get_or_from_slice_get}
+use Rattle.event_core.proofs.Tests.{not_both}
 use Rattle.event_core.proofs.Places.{get_before, get_last, front_or_last}
 use Rattle.event_core.specs.declared.ids.SiteId.{SiteId}
 use Rattle.event_core.specs.declared.ids.VarId.{VarId}
@@ -29,14 +32,10 @@ use Rattle.closed_report.specs.Places.{new_place, one_more, counted_at, with_rac
 
 -- ---- the same place
 
-both : (a b : Bool) → (a && b) ≡ true → (a ≡ true) × (b ≡ true)
-both true b e = (refl, e)
-both false b e = absurd cc
-
 same : (p q : Place) → same_place p q ≡ true → p ≡ q
 same p q e =
-    let parts = both (nat_eq p.site.0 q.site.0) (nat_eq p.with.0 q.with.0 && nat_eq p.var.0 q.var.0) e in
-    let rest = both (nat_eq p.with.0 q.with.0) (nat_eq p.var.0 q.var.0) parts.1 in
+    let parts = and_parts (nat_eq p.site.0 q.site.0) (nat_eq p.with.0 q.with.0 && nat_eq p.var.0 q.var.0) e in
+    let rest = and_parts (nat_eq p.with.0 q.with.0) (nat_eq p.var.0 q.var.0) parts.1 in
     let number : ℕ → SiteId = λ n. record { 0 = n } in
     let variable : ℕ → VarId = λ n. record { 0 = n } in
     let site : p.site ≡ q.site = ap number (eqb-true p.site.0 q.site.0 parts.0) in
@@ -50,16 +49,10 @@ itself p =
     (both_true (eq-eqb p.with.0 p.with.0 refl) (eq-eqb p.var.0 p.var.0 refl))
 
 other : (p q : Place) → same_place p q ≡ false → p ≡ q → ⊥
-other p q no' e =
-    let bad : true ≡ false = sym (itself p) ∙ ap (same_place p) e ∙ no' in
-    absurd cc
+other p q differ e = not_both (sym (ap (same_place p) e) ∙ itself p) differ
 
 apart : (p q : Place) → (p ≡ q → ⊥) → same_place p q ≡ false
-apart p q differ = go (same_place p q) refl
-  where
-    go : (b : Bool) → same_place p q ≡ b → b ≡ false
-    go true is = absurd (differ (same p q is))
-    go false is = refl
+apart p q differ = false_from_ne_true (same_place p q) (λ is. differ (same p q is))
 
 -- ---- races in the order of their events
 
@@ -336,12 +329,8 @@ module _ (log : List Event) (rs : List Race) (n : ℕ) (d : Race) (lt : n < leng
         ];
       }
     where
-      longer : (xs : List PlaceRaces) (x : PlaceRaces) → length (xs ++ x ∷ []) ≡ length xs + 1
-      longer [] x = refl
-      longer (y ∷ ys) x = omega (arith, longer ys x)
-
       past_end : {i j : ℕ} (x : PlaceRaces) → i ≡ length found → i < j → j < length (found ++ x ∷ []) → ⊥
-      past_end x end before place = omega (arith, longer found x)
+      past_end x end before place = omega (arith, length_push found x)
 
 -- ---- both
 

@@ -42,10 +42,8 @@ impl Naming {
         ensures fault { IfErr result (IsFaultAt (space self.old kinds.Thread) kinds.Thread name.now) }
         ensures unchanged { OnErr result (self.new ≡ self.old) }
     {
-        match add_name(&mut self.names, Kind::Thread, name.as_bytes()) {
-            Ok(number) => Ok(ThreadId(number)),
-            Err(fault) => Err(fault),
-        }
+        let number = add_name(&mut self.names, Kind::Thread, name.as_bytes())?;
+        Ok(ThreadId(number))
     }
 
     /// The next lock, under this name.
@@ -54,10 +52,8 @@ impl Naming {
         ensures fault { IfErr result (IsFaultAt (space self.old kinds.Lock) kinds.Lock name.now) }
         ensures unchanged { OnErr result (self.new ≡ self.old) }
     {
-        match add_name(&mut self.names, Kind::Lock, name.as_bytes()) {
-            Ok(number) => Ok(LockId(number)),
-            Err(fault) => Err(fault),
-        }
+        let number = add_name(&mut self.names, Kind::Lock, name.as_bytes())?;
+        Ok(LockId(number))
     }
 
     /// The next variable, under this name.
@@ -66,10 +62,8 @@ impl Naming {
         ensures fault { IfErr result (IsFaultAt (space self.old kinds.Variable) kinds.Variable name.now) }
         ensures unchanged { OnErr result (self.new ≡ self.old) }
     {
-        match add_name(&mut self.names, Kind::Variable, name.as_bytes()) {
-            Ok(number) => Ok(VarId(number)),
-            Err(fault) => Err(fault),
-        }
+        let number = add_name(&mut self.names, Kind::Variable, name.as_bytes())?;
+        Ok(VarId(number))
     }
 
     /// The next site, under this name.
@@ -78,10 +72,8 @@ impl Naming {
         ensures fault { IfErr result (IsFaultAt (space self.old kinds.Site) kinds.Site name.now) }
         ensures unchanged { OnErr result (self.new ≡ self.old) }
     {
-        match add_name(&mut self.names, Kind::Site, name.as_bytes()) {
-            Ok(number) => Ok(SiteId(number)),
-            Err(fault) => Err(fault),
-        }
+        let number = add_name(&mut self.names, Kind::Site, name.as_bytes())?;
+        Ok(SiteId(number))
     }
 
     /// The names that were given.
