@@ -41,6 +41,10 @@ pub simple : is_simple wcp ≡ true
 unfolding wcp
 simple = refl
 
+pub needs_command : wcp.top.subcommand_required ≡ true
+unfolding wcp
+needs_command = refl
+
 -- ---- what a parse answers
 
 -- clap has the command lines of the program

@@ -32,9 +32,6 @@ cuts_script m n left rest failed f same read is = record {
 pub refusal_told : (m : Limits) (ahead : Bool) (lines : List ScriptLine) (f : DriveFault)
     (old new : Option (List ℕ)) → IsFaultOf m ahead lines f → TellsRefused f old new
     → TellsRefusal m lines old new
-refusal_told m ahead lines drive.OutOfMemory old new fits told = absurd told
-refusal_told m ahead lines (drive.Stuck t n) old new fits told = absurd told
-refusal_told m ahead lines (drive.NoWorker n) old new fits told = absurd told
 refusal_told m ahead lines (drive.Refused t n why) old new fits told =
     ∥∥₁_map fits (λ p. record {
       line = p.1.0;
@@ -44,20 +41,15 @@ refusal_told m ahead lines (drive.Refused t n why) old new fits told =
       refused = p.1.2.2;
       written = subst (λ (k : ℕ). Appends old new (fault_line k (refusal_word why))) (sym p.1.2.1) told;
     })
+refusal_told m ahead lines _ old new fits told = absurd told
 
 -- a fault that is no read fault and no want of memory is one of the text
 of_text : (m : Limits) (left rest : Option (List ℕ)) (turns : ℕ) (failed : Bool) (f : ScriptFault)
     (cause : ScriptCause) → ((cause ≡ causes.Read) ⊎ (cause ≡ causes.OutOfMemory) → ⊥)
     → IsFault m left rest turns failed f cause → IsOfText m left f cause
-of_text m left rest turns failed f causes.LineTooLong other is = is
-of_text m left rest turns failed f causes.BadLine other is = is
-of_text m left rest turns failed f causes.BadNumber other is = is
-of_text m left rest turns failed f causes.TooManyNames other is = is
-of_text m left rest turns failed f causes.BadFork other is = is
-of_text m left rest turns failed f causes.BadJoin other is = is
-of_text m left rest turns failed f causes.NoFork other is = is
 of_text m left rest turns failed f causes.Read other is = other (inl refl)
 of_text m left rest turns failed f causes.OutOfMemory other is = other (inr refl)
+of_text m left rest turns failed f _ other is = is
 
 -- the run of a text whose fault is reported
 pub fault_told : (m : Limits) (left rest : Option (List ℕ)) (turns : ℕ) (failed : Bool) (f : ScriptFault)

@@ -1,8 +1,10 @@
 -- The command lines that the program takes, and what they ask for, in the words of clap's contracts.
 use Rattle.std.specs.Prelude.{ℕ, List, [], ◌∷◌, Option, Some, None, Bool, true, false, not, codes, pos}
-use Rattle.std.specs.Prelude.{◌≡◌, ◌≢◌, if◌then◌else◌, option_map}
-use Rattle.std.specs.List.{list_any}
+use Rattle.std.specs.Prelude.{◌≡◌, ◌≢◌, ◌&&◌, if◌then◌else◌, length, max, min, nat_lt, option_and_then}
+use Rattle.std.specs.Prelude.{option_map, unwrap_or}
+use Rattle.std.specs.List.{list_all, list_any}
 use Rattle.std.specs.Str.{bytes_eq}
+use Rattle.std.specs.Char.{digit_value}
 use Rattle.std.specs.Str.Parse.{digits_value, without_leading_plus}
 use Rattle.std.specs.String.{string_bytes}
 use Rattle.clap.specs.Words.{App, Kinds, Row, Rule, Shape, Text, fault_of, new_app, new_rule, one_of}
@@ -97,37 +99,42 @@ request_of (Run file) = run (string_bytes file)
 abbrev pub asked_by : Settings → Asked
 asked_by s = record { request = request_of s.command; threads = s.threads; patience = s.patience }
 
--- the number that decimal digits stand for
-abbrev pub number_of : Text → ℕ
-number_of text = digits_value 10 (without_leading_plus text)
+-- the number of 32 bits that a text stands for, if it does
+abbrev pub number_of : Text → Option ℕ
+number_of text =
+    let digits = without_leading_plus text in
+    if nat_lt 0 (length digits) && (list_all (λ d. nat_lt (digit_value d) 10) digits
+    && nat_lt (digits_value 10 digits) 4294967296) then Some (digits_value 10 digits) else None
 
--- the number that was found for the option with this name
-abbrev pub number_for : Text → List Row → Option ℕ
-number_for name rows = option_map number_of (one_of name rows)
+-- the number that was found for the option with this name, or its default: from 1 to the greatest
+abbrev pub number_for : Text → ℕ → ℕ → List Row → ℕ
+number_for name most default rows =
+    max 1 (min (unwrap_or (option_and_then number_of (one_of name rows)) default) most)
+
+abbrev pub threads_in : List Row → ℕ
+threads_in = number_for (codes "threads") 1024 64
+
+abbrev pub patience_in : List Row → ℕ
+patience_in = number_for (codes "patience") 4294967295 1000000
 
 -- no script is run
-abbrev pub over_trace : Request → Option ℕ → Option Asked
-over_trace request (Some threads) =
-    Some (record { request = request; threads = threads; patience = 1000000 })
-over_trace request None = None
+abbrev pub over_trace : Request → ℕ → Asked
+over_trace request threads = record { request = request; threads = threads; patience = 1000000 }
 
-abbrev pub over_script : Option Text → Option ℕ → Option ℕ → Option Asked
-over_script (Some file) (Some threads) (Some patience) =
-    Some (record { request = run file; threads = threads; patience = patience })
-over_script _ _ _ = None
+-- the path that was found for FILE
+abbrev pub path_in : List Row → Text
+path_in rows = unwrap_or (first_of (codes "FILE") rows) []
 
--- what a command with this name asks for, where clap found this for its options
-abbrev pub asked_under : Text → List Row → Option Asked
+-- what the command with this name asks for, where clap found this for its options. Clap lets no other name
+-- pass, no run without a path, and no other number.
+abbrev pub asked_under : Text → List Row → Asked
 asked_under name rows =
-    if bytes_eq name (codes "check") then over_trace check (number_for (codes "threads") rows)
-    else (if bytes_eq name (codes "replay") then over_trace replay (number_for (codes "threads") rows)
-    else (if bytes_eq name (codes "run") then over_script (first_of (codes "FILE") rows)
-    (number_for (codes "threads") rows) (number_for (codes "patience") rows)
-    else None))
+    if bytes_eq name (codes "check") then over_trace check (threads_in rows)
+    else (if bytes_eq name (codes "replay") then over_trace replay (threads_in rows)
+    else record { request = run (path_in rows); threads = threads_in rows; patience = patience_in rows })
 
 abbrev pub asked_in : Option (Text × List Row) → Option Asked
-asked_in None = None
-asked_in (Some p) = asked_under p.0 p.1
+asked_in = option_map (λ p. asked_under p.0 p.1)
 
 -- what the words ask for
 unfoldable pub asked : List Text → Option Asked

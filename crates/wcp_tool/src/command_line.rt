@@ -1,13 +1,11 @@
 //! What the words of a command line ask for.
-ghost use Rattle.std.specs.Prelude.{◌≡◌, ◌≤◌, [], Some, IfOk, IfErr, IfSome, OnOk, false, map, codes};
-ghost use Rattle.std.specs.Prelude.{option_map};
-ghost use Rattle.clap.specs.Words.{app_of, first_of, found_of, kind_of, new_app, rows_of, rule_of};
+ghost use Rattle.std.specs.Prelude.{◌≡◌, ◌≤◌, [], Some, IfOk, IfErr, OnOk, true, false, map};
+ghost use Rattle.clap.specs.Words.{app_of, found_of, has_subcommand, kind_of, new_app, rows_of, rule_of};
 ghost use Rattle.clap.specs.Words.{shape_of, subcommand_rows_of, with_subcommand};
 ghost use Rattle.clap.specs.declared.builder.command.Command.TheViews.{out-Command};
 ghost use Rattle.wcp_tool.specs.CommandLine.{bare, run_command as run_shape, trace_command, wcp};
-ghost use Rattle.wcp_tool.specs.CommandLine.{file_argument as file_rule};
-ghost use Rattle.wcp_tool.specs.CommandLine.{TellsKind, faults_of, asked, asked_by, asked_in};
-ghost use Rattle.wcp_tool.specs.CommandLine.{IsFaultAt, number_for, over_script};
+ghost use Rattle.wcp_tool.specs.CommandLine.{file_argument as file_rule, TellsKind, faults_of, asked};
+ghost use Rattle.wcp_tool.specs.CommandLine.{asked_by, asked_in, path_in, IsFaultAt};
 
 use crate::help_texts::{CHECK_TEXTS, PROGRAM_TEXTS, REPLAY_TEXTS, RUN_TEXTS};
 use crate::options::{DEFAULT_PATIENCE, patience_of, patience_option, threads_of, threads_option};
@@ -120,19 +118,19 @@ fn command_line<'a>(alloc: Global) -> Result<clap::Command<'a>, AllocError>
     two.subcommand(run_command(alloc)?)
 }
 
-/// The name of the command that the words have, and what its options were given.
-fn command_met<'a, 'm>(matches: &'m ArgMatches<'a>) -> Option<(&'a str, &'m ArgMatches<'a>)>
-    ensures { IfSome result (λ met.
-        subcommand_rows_of matches.now ≡ Some (met.0.now, rows_of (found_of met.1.now))) }
+/// The name of the command that was met, and what its options were given.
+fn command_met<'a, 'm>(matches: &'m ArgMatches<'a>) -> (&'a str, &'m ArgMatches<'a>)
+    requires { has_subcommand matches.now ≡ true }
+    ensures { subcommand_rows_of matches.now ≡ Some (result.0.now, rows_of (found_of result.1.now)) }
 {
-    matches.subcommand()
+    matches.subcommand().unwrap()
 }
 
 /// The path of the script that was given.
-fn file_of<'a>(matches: &ArgMatches<'a>) -> Option<&'a str>
-    ensures { option_map (λ s. s.now) result ≡ first_of (codes "FILE") (rows_of (found_of matches.now)) }
+fn file_of<'a>(matches: &ArgMatches<'a>) -> &'a str
+    ensures { result.now ≡ path_in (rows_of (found_of matches.now)) }
 {
-    matches.get_str("FILE")
+    matches.get_str("FILE").unwrap_or("")
 }
 
 fn fault_of(alloc: Global, error: &clap::Error) -> UsageFault
@@ -162,44 +160,27 @@ fn trace_settings(command: Command, threads: u32) -> Settings
     }
 }
 
-/// The settings of a run of a script.
-fn script_settings(alloc: Global, given: &ArgMatches<'_>, threads: u32) -> Option<Settings>
-    ensures threads { IfSome result (λ s. s.threads ≡ threads) }
-    ensures patience { IfSome result (λ s. (1 ≤ s.patience) × (s.patience ≤ 4294967295)) }
-    ensures asked { IfSome result (λ s. over_script (first_of (codes "FILE") (rows_of (found_of given.now)))
-        (Some threads) (number_for (codes "patience") (rows_of (found_of given.now))) ≡ Some (asked_by s)) }
+/// The settings of a parse that met a command. Memory may run out.
+fn settings_of(alloc: Global, matches: &ArgMatches<'_>) -> Result<Settings, AllocError>
+    requires { has_subcommand matches.now ≡ true }
+    ensures threads { IfOk result (λ s. (1 ≤ s.threads) × (s.threads ≤ 1024)) }
+    ensures patience { IfOk result (λ s. (1 ≤ s.patience) × (s.patience ≤ 4294967295)) }
+    ensures asked { IfOk result (λ s. asked_in (subcommand_rows_of matches.now) ≡ Some (asked_by s)) }
 {
-    let patience = patience_of(given)?;
-    let path = file_of(given)?;
-    let Ok(file) = String::from_str(alloc, path) else {
-        return None;
-    };
-    Some(Settings {
-        command: Command::Run(file),
-        threads,
-        patience,
-    })
-}
-
-/// The settings of a parse. There are none where memory ran out, and none where the parse has no command, or
-/// lacks what the command asks for: clap refuses such words, so this does not occur, but no clause says so.
-fn settings_of(alloc: Global, matches: &ArgMatches<'_>) -> Option<Settings>
-    ensures threads { IfSome result (λ s. (1 ≤ s.threads) × (s.threads ≤ 1024)) }
-    ensures patience { IfSome result (λ s. (1 ≤ s.patience) × (s.patience ≤ 4294967295)) }
-    ensures asked { IfSome result (λ s. asked_in (subcommand_rows_of matches.now) ≡ Some (asked_by s)) }
-{
-    let (name, given) = command_met(matches)?;
-    let threads = threads_of(given)?;
+    let (name, given) = command_met(matches);
+    let threads = threads_of(given);
     if name == "check" {
-        return Some(trace_settings(Command::Check, threads));
+        return Ok(trace_settings(Command::Check, threads));
     }
     if name == "replay" {
-        return Some(trace_settings(Command::Replay, threads));
+        return Ok(trace_settings(Command::Replay, threads));
     }
-    if name == "run" {
-        return script_settings(alloc, given, threads);
-    }
-    None
+    let file = String::from_str(alloc, file_of(given))?;
+    Ok(Settings {
+        command: Command::Run(file),
+        threads,
+        patience: patience_of(given),
+    })
 }
 
 /// What the words after the program's own name ask for: a command, and how many threads may be named, 64
@@ -230,7 +211,7 @@ pub fn settings<'a, S: AsStr>(alloc: Global, words: &'a [S]) -> Result<Settings,
     let settings = settings_of(alloc, &matches);
     drop(matches);
     match settings {
-        Some(settings) => Ok(settings),
-        None => Err(UsageFault::OutOfMemory),
+        Ok(settings) => Ok(settings),
+        Err(_) => Err(UsageFault::OutOfMemory),
     }
 }

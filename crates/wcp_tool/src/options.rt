@@ -1,7 +1,7 @@
 //! The options of the commands. The value of each is a number.
-ghost use Rattle.std.specs.Prelude.{◌≡◌, ◌≤◌, IfSome, Some, codes, false};
+ghost use Rattle.std.specs.Prelude.{◌≡◌, ◌≤◌, false};
 ghost use Rattle.clap.specs.Words.{found_of, rows_of, rule_of};
-ghost use Rattle.wcp_tool.specs.CommandLine.{number_for, number_option as rule_for};
+ghost use Rattle.wcp_tool.specs.CommandLine.{number_for, patience_in, threads_in, number_option as rule_for};
 ghost use Rattle.wcp_tool.specs.CommandLine.{threads_option as threads_rule};
 ghost use Rattle.wcp_tool.specs.CommandLine.{patience_option as patience_rule};
 
@@ -9,6 +9,9 @@ use clap::builder::ValueParser;
 use clap::{Arg, ArgAction, ArgMatches};
 use event_core::MOST_THREADS;
 use std::alloc::Global;
+
+/// How many threads may be named where no number is given.
+const DEFAULT_THREADS: u32 = 64;
 
 /// The patience where none is given.
 pub(crate) const DEFAULT_PATIENCE: u32 = 1000000;
@@ -33,18 +36,15 @@ fn number_option<'a>(
         .help(help)
 }
 
-/// The number that an option was given, or its default. There is none where it is not from 1 to the greatest:
-/// clap refuses such words, so this does not occur, but no clause says so.
-fn number_of(matches: &ArgMatches<'_>, name: &str, most: u32) -> Option<u32>
-    ensures least { IfSome result (λ n. 1 ≤ n) }
-    ensures most { IfSome result (λ n. n ≤ most) }
-    ensures given { IfSome result (λ n. number_for name.now (rows_of (found_of matches.now)) ≡ Some n) }
+/// The number that an option was given, or its default.
+fn number_of(matches: &ArgMatches<'_>, name: &str, most: u32, default: u32) -> u32
+    requires { 1 ≤ most }
+    ensures least { 1 ≤ result }
+    ensures most { result ≤ most }
+    ensures given { result ≡ number_for name.now most default (rows_of (found_of matches.now)) }
 {
-    let number = matches.get_one(name)?;
-    if number < 1 || most < number {
-        return None;
-    }
-    Some(number)
+    let given: Option<u32> = matches.get_one(name);
+    given.unwrap_or(default).clamp(1, most)
 }
 
 /// clap's option that says how many threads may be named.
@@ -62,13 +62,12 @@ pub(crate) fn threads_option<'a>(alloc: Global) -> Arg<'a>
 }
 
 /// How many threads may be named.
-pub(crate) fn threads_of(matches: &ArgMatches<'_>) -> Option<u32>
-    ensures least { IfSome result (λ n. 1 ≤ n) }
-    ensures most { IfSome result (λ n. n ≤ 1024) }
-    ensures given { IfSome result (λ n.
-        number_for (codes "threads") (rows_of (found_of matches.now)) ≡ Some n) }
+pub(crate) fn threads_of(matches: &ArgMatches<'_>) -> u32
+    ensures least { 1 ≤ result }
+    ensures most { result ≤ 1024 }
+    ensures given { result ≡ threads_in (rows_of (found_of matches.now)) }
 {
-    number_of(matches, "threads", MOST_THREADS)
+    number_of(matches, "threads", MOST_THREADS, DEFAULT_THREADS)
 }
 
 /// clap's option that says how often a line is tried.
@@ -86,11 +85,10 @@ pub(crate) fn patience_option<'a>(alloc: Global) -> Arg<'a>
 }
 
 /// How often a line is tried.
-pub(crate) fn patience_of(matches: &ArgMatches<'_>) -> Option<u32>
-    ensures least { IfSome result (λ n. 1 ≤ n) }
-    ensures most { IfSome result (λ n. n ≤ 4294967295) }
-    ensures given { IfSome result (λ n.
-        number_for (codes "patience") (rows_of (found_of matches.now)) ≡ Some n) }
+pub(crate) fn patience_of(matches: &ArgMatches<'_>) -> u32
+    ensures least { 1 ≤ result }
+    ensures most { result ≤ 4294967295 }
+    ensures given { result ≡ patience_in (rows_of (found_of matches.now)) }
 {
-    number_of(matches, "patience", u32::MAX)
+    number_of(matches, "patience", u32::MAX, DEFAULT_PATIENCE)
 }

@@ -1,9 +1,8 @@
 use Rattle.std.proofs.Common.{◌∙◌, ◌||◌, ap, ap₂}
 use Rattle.std.proofs.lemmas.Result.{IfOk-weaker}
-use Rattle.clap.specs.Words.{with_subcommand}
+use Rattle.clap.specs.Words.{with_subcommand, App}
 use Rattle.wcp_tool.specs.CommandLine.{trace_command, wcp}
 use Rattle.std.specs.Prelude.{codes}
-use Rattle.clap.specs.Words.{App}
 use Rattle.wcp_tool.proofs.command_line.command_line.Goals as goal
 
 pub returns-clause-app : goal.returns-clause-app

@@ -6,7 +6,7 @@ use Rattle.wcp_tool.proofs.command_line.command_met.Goals as goal
 
 pub returns : goal.returns
 returns c =
-    met_is c.subcommand.result (out-ArgMatches c.args.matches.now).subcommand
-    (λ b. (out-SubCommand (box_value b)).name.now)
-    (λ b. rows_of (found_of (out-SubCommand (box_value b)).matches))
-    (λ p. p.0.now) (λ p. rows_of (found_of p.1.now)) c.subcommand.ensures.name c.subcommand.ensures.rows
+    let named = rw c.unwrap.ensures at c.subcommand.ensures.name in
+    let found = rw c.unwrap.ensures at c.subcommand.ensures.rows in
+    met_is (out-ArgMatches c.args.matches.now).subcommand (λ b. (out-SubCommand (box_value b)).name.now)
+    (λ b. rows_of (found_of (out-SubCommand (box_value b)).matches)) named found

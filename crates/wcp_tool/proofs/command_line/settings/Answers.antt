@@ -1,8 +1,15 @@
 use Rattle.std.proofs.Common.{◌∙◌, ap, map, sym}
-use Rattle.clap.specs.Words.{app_of}
+use Rattle.clap.specs.Words.{App, app_of}
+use Rattle.clap.proofs.CallerLemmas.{subcommand_required}
 use Rattle.wcp_tool.specs.CommandLine.{asked, asked_in}
-use Rattle.wcp_tool.proofs.CommandFaults.{fault_is, has_command, has_fault, has_no_fault}
+use Rattle.wcp_tool.proofs.CommandFaults.{fault_is, has_command, has_fault, has_no_fault, needs_command}
 use Rattle.wcp_tool.proofs.command_line.settings.Goals as goal
+
+pub settings_of-settings-requires : goal.settings_of-settings-requires
+settings_of-settings-requires g c =
+    subcommand_required c.in-Ok.command c.in-Ok-try_get_matches_from.matches
+    c.in-Ok-try_get_matches_from.ensures.parsed c.in-Ok.ensures.local
+    (ap (λ (a : App). a.top.subcommand_required) c.in-Ok.ensures.app ∙ needs_command)
 
 pub returns-in-Err-clause-fault : goal.returns-in-Err-clause-fault
 returns-in-Err-clause-fault g c =
@@ -11,14 +18,14 @@ returns-in-Err-clause-fault g c =
     (has_fault (app_of c.in-Ok.command) words c.in-Err.error c.in-Ok.ensures.app c.in-Err.ensures.kinds)
     c.fault_of-fault.ensures
 
-pub returns-in-Some-clause-taken : goal.returns-in-Some-clause-taken
-returns-in-Some-clause-taken g c =
+pub returns-in-Ok-settings-clause-taken : goal.returns-in-Ok-settings-clause-taken
+returns-in-Ok-settings-clause-taken g c =
     has_no_fault (app_of c.in-Ok.command) (map g.S.AsStr.text c.args.words.now) c.in-Ok.ensures.app
     c.in-Ok-try_get_matches_from.ensures.kinds
 
-pub returns-in-Some-clause-asked : goal.returns-in-Some-clause-asked
+pub returns-in-Ok-settings-clause-asked : goal.returns-in-Ok-settings-clause-asked
 unfolding asked
-returns-in-Some-clause-asked g c =
+returns-in-Ok-settings-clause-asked g c =
     ap asked_in (sym (has_command (app_of c.in-Ok.command) (map g.S.AsStr.text c.args.words.now)
     c.in-Ok-try_get_matches_from.matches c.in-Ok.ensures.app c.in-Ok-try_get_matches_from.ensures.matches))
-    ∙ c.in-Some.ensures.asked
+    ∙ c.in-Ok-settings.ensures.asked
