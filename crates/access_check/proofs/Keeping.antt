@@ -1,6 +1,6 @@
 -- What is kept of a variable after an access of it, or after another event, stands for the longer log.
-use Rattle.std.proofs.Common.{◌≡◌, ℕ, ◌+◌, ◌<◌, ◌≤◌, List, [], ◌∷◌, ◌++◌}
-use Rattle.std.proofs.Common.{length, take, refl, sym, ap, subst, ◌∙◌, ◌⊎◌, arith}
+use Rattle.std.proofs.Common.{◌≡◌, ℕ, ◌+◌, ◌<◌, ◌≤◌, List, [], ◌∷◌, ◌++◌, length, take, refl, sym, ap, subst}
+use Rattle.std.proofs.Common.{◌∙◌, ◌⊎◌, arith}
 use Rattle.std.proofs.lemmas.Option.{slice_get_within}
 use Rattle.std.proofs.Math.Seq.{take-append_seam}
 use mathlib.Core.Logic.{inl, inr}
@@ -19,8 +19,7 @@ use Rattle.event_core.specs.Wcp.{Below, rule_c_right}
 use Rattle.event_core.specs.Order.{Po}
 use Rattle.event_core.proofs.Accesses.{access_one}
 use Rattle.event_core.proofs.Chains.{chain_trans, hb_of_po, po_thread}
-use Rattle.event_core.proofs.Counting.{last_does, last_of, is_last, last_thread}
-use Rattle.event_core.proofs.Counting.{last_op}
+use Rattle.event_core.proofs.Counting.{last_does, last_of, is_last, last_thread, last_op}
 use Rattle.event_core.proofs.Depth.{thread_cases}
 use Rattle.event_core.proofs.LogFacts.{of_does}
 use Rattle.event_core.proofs.Members.{none_in}

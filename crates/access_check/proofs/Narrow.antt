@@ -1,6 +1,5 @@
 -- Noting an access of a thread below the width keeps each number below it.
-use Rattle.std.proofs.Common.{ℕ, ◌<◌, List, [], Option, Some, None, Bool, true, false, nat_eq}
-use Rattle.std.proofs.Common.{cond, arith}
+use Rattle.std.proofs.Common.{ℕ, ◌<◌, List, [], Option, Some, None, Bool, true, false, nat_eq, cond, arith}
 use Rattle.std.specs.List.{position}
 use Rattle.std.proofs.lemmas.List.Elements.{All-set, All-push}
 use Rattle.event_core.specs.declared.ids.ThreadId.{ThreadId}

@@ -1,6 +1,6 @@
 -- Noting an event makes the tables stand for the log with it.
-use Rattle.std.proofs.Common.{◌≡◌, ℕ, ◌+◌, List, [], ◌∷◌, ◌++◌, Bool, true, false}
-use Rattle.std.proofs.Common.{cond, nat_eq, length, refl, sym, ap, subst, ◌∙◌, ◌⊎◌}
+use Rattle.std.proofs.Common.{◌≡◌, ℕ, ◌+◌, List, [], ◌∷◌, ◌++◌, Bool, true, false, cond, nat_eq, length, refl}
+use Rattle.std.proofs.Common.{sym, ap, subst, ◌∙◌, ◌⊎◌}
 use Rattle.std.proofs.lemmas.Bool.{eqb-true}
 use mathlib.Core.Logic.{inl, inr}
 use Rattle.event_core.specs.declared.ids.ThreadId.{ThreadId}
@@ -18,8 +18,7 @@ use Rattle.event_core.specs.Effect.{access_of}
 use Rattle.event_core.specs.Refusal.{WellFormed}
 use Rattle.event_core.specs.Verdict.{IsVerdict}
 use Rattle.event_core.proofs.Accesses.{access_one}
-use Rattle.event_core.proofs.Counting.{nat_eq_same, nat_eq_other}
-use Rattle.event_core.proofs.Counting.{events_own, events_other}
+use Rattle.event_core.proofs.Counting.{nat_eq_same, nat_eq_other, events_own, events_other}
 use Rattle.event_core.proofs.Depth.{thread_cases, same_thread_id}
 use Rattle.access_check.specs.declared.last_accesses.Access.{Access}
 use Rattle.access_check.specs.declared.variable_accesses.VariableAccesses.{VariableAccesses}

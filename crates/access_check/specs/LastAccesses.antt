@@ -1,8 +1,7 @@
 -- The last accesses of one kind to a variable, thread by thread: what a verdict reads in them, and what an
 -- access makes of them.
-use Rattle.std.specs.Prelude.{◌≡◌, ℕ, ◌+◌, ◌<◌, ◌≤◌, List, [], ◌∷◌, ◌++◌, Option, Some, None, Bool}
-use Rattle.std.specs.Prelude.{nat_eq, nat_lt, ◌||◌}
-use Rattle.std.specs.Prelude.{fold, if◌then◌else◌, All, slice_set}
+use Rattle.std.specs.Prelude.{◌≡◌, ℕ, ◌+◌, ◌<◌, ◌≤◌, List, [], ◌∷◌, ◌++◌, Option, Some, None, Bool, nat_eq}
+use Rattle.std.specs.Prelude.{nat_lt, ◌||◌, fold, if◌then◌else◌, All, slice_set}
 use Rattle.std.specs.List.{list_any, position}
 use Rattle.event_core.specs.declared.ids.ThreadId.{ThreadId}
 use Rattle.access_check.specs.declared.last_accesses.LastAccess.{LastAccess}

@@ -7,8 +7,7 @@ ghost use Rattle.event_core.specs.declared.events.Op.{Op as Operation};
 ghost use Rattle.hb_clocks.specs.Counts.{counts_of};
 ghost use Rattle.access_check.specs.LastAccesses.{AreNarrow, IsShort};
 ghost use Rattle.access_check.specs.VariableAccesses.{kept, latest_racing, kept_after};
-ghost use Rattle.access_check.specs.Tables.{last_of};
-ghost use Rattle.access_check.specs.Tables.{count_at, accesses_at, touched_after, verdict_at};
+ghost use Rattle.access_check.specs.Tables.{last_of, count_at, accesses_at, touched_after, verdict_at};
 ghost use Rattle.access_check.specs.Tables.{IsReadyAt, IsReadyFor, LastsAt};
 
 use crate::last_accesses::{Access, LastAccess};

@@ -1,7 +1,6 @@
 -- What is read of a content is its named event, or the first cause why it has none.
 use Rattle.std.proofs.Common.{◌≡◌, ℕ, ◌+◌, ◌<◌, ◌≤◌, Bool, true, false, cond, List, [], ◌∷◌, ◌++◌, length}
-use Rattle.std.proofs.Common.{Result, Ok, Err}
-use Rattle.std.proofs.Common.{refl, sym, ap, subst, ◌∙◌, arith, inl, inr}
+use Rattle.std.proofs.Common.{Result, Ok, Err, refl, sym, ap, subst, ◌∙◌, arith, inl, inr}
 use Rattle.std.specs.Prelude.{◌||◌, ◌==◌, ◌⊎◌, nat_lt, IfOk, IfErr}
 use Rattle.std.proofs.lemmas.Bool.{or_parts, ltb-true, ltb-false, both_ways, cases_lt}
 use Rattle.std.proofs.lemmas.Bool.Decides.{nat_tests}
@@ -13,13 +12,13 @@ use Rattle.rapid_line.specs.declared.lines.NamedLine.{NamedLine}
 use Rattle.rapid_line.specs.Cut.{has, Lacks}
 use Rattle.rapid_line.specs.Grammar.{Named, IsNamed, operation, content_of, spelling}
 use Rattle.rapid_line.specs.Causes.{HasFields, HasParts, IsFirstCause, Applies, rank}
-use Rattle.rapid_line.specs.Reading.{unless, and_then, fields_of, operation_of, names_of, line_of}
-use Rattle.rapid_line.specs.Reading.{named_of, Gives, ok_named}
+use Rattle.rapid_line.specs.Reading.{unless, and_then, fields_of, operation_of, names_of, line_of, named_of}
+use Rattle.rapid_line.specs.Reading.{Gives, ok_named}
 use Rattle.rapid_line.proofs.Cuts.{Lacks-left, Lacks-right}
 use Rattle.rapid_line.proofs.Steps.{unless_by, and_then_by}
 use Rattle.rapid_line.proofs.Again.{operation_again}
-use Rattle.rapid_line.proofs.Split.{FieldsSay, fields_say, two_bars, one_split, one_parts}
-use Rattle.rapid_line.proofs.Split.{OperationSays, operation_says}
+use Rattle.rapid_line.proofs.Split.{FieldsSay, fields_say, two_bars, one_split, one_parts, OperationSays}
+use Rattle.rapid_line.proofs.Split.{operation_says}
 
 -- ---- the order of the causes
 

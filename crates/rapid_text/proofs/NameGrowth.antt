@@ -1,7 +1,6 @@
 -- Names are only added, and the numbers of an event have the names that its line gave.
-use Rattle.std.proofs.Common.{◌≡◌, ℕ, ◌<◌, List, [], ◌++◌, length, Option, Some, None}
-use Rattle.std.proofs.Common.{Result, Ok, Err, refl, sym, ap, subst, ◌∙◌, append-nil}
-use Rattle.std.proofs.Common.{append_assoc, arith}
+use Rattle.std.proofs.Common.{◌≡◌, ℕ, ◌<◌, List, [], ◌++◌, length, Option, Some, None, Result, Ok, Err, refl}
+use Rattle.std.proofs.Common.{sym, ap, subst, ◌∙◌, append-nil, append_assoc, arith}
 use Rattle.std.specs.Prelude.{IfOk, OnErr, unwrap_or, slice_get}
 use Rattle.std.proofs.lemmas.List.{length-append}
 use Rattle.std.proofs.lemmas.Option.{slice_get_within}
@@ -15,8 +14,8 @@ use Rattle.rapid_text.specs.declared.causes.Kind.TheVariants as kinds
 use Rattle.rapid_text.specs.declared.causes.NameFault.{NameFault}
 use Rattle.rapid_text.specs.Numbers.{Numbered, number_of, Grows}
 use Rattle.rapid_text.specs.Tables.{Tables, space, with_space, number_in, name_at, TablesGrow}
-use Rattle.rapid_text.specs.Events.{kind_of, op_of, event_of, number_or_fault, named_event}
-use Rattle.rapid_text.specs.Events.{word_of_op, target_of, named_by, HasNames}
+use Rattle.rapid_text.specs.Events.{kind_of, op_of, event_of, number_or_fault, named_event, word_of_op}
+use Rattle.rapid_text.specs.Events.{target_of, named_by, HasNames}
 use Rattle.rapid_text.proofs.NameLaws.{numbers, grows, first_number, with_each, with_space_of, put_some}
 use Rattle.event_core.proofs.Places.{get_before}
 

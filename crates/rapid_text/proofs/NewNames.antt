@@ -1,7 +1,6 @@
 -- The names of a line of which some are new: whether each has a number left.
-use Rattle.std.proofs.Common.{◌≡◌, ◌≢◌, ℕ, ◌+◌, ◌<◌, ◌≤◌, List, length, Option, Some, None}
-use Rattle.std.proofs.Common.{Result, Ok, Err, refl, sym, ap, subst, ◌∙◌, arith}
-use Rattle.std.proofs.Common.{◌⊎◌, inl, inr}
+use Rattle.std.proofs.Common.{◌≡◌, ◌≢◌, ℕ, ◌+◌, ◌<◌, ◌≤◌, List, length, Option, Some, None, Result, Ok, Err}
+use Rattle.std.proofs.Common.{refl, sym, ap, subst, ◌∙◌, arith, ◌⊎◌, inl, inr}
 use Rattle.std.specs.Prelude.{IsOk, IsSome}
 use Rattle.std.proofs.lemmas.List.{length_push}
 use Rattle.event_core.specs.declared.events.Event.{Event}
@@ -18,8 +17,8 @@ use Rattle.rapid_text.specs.Tables.{Tables, space, number_in}
 use Rattle.rapid_text.specs.Events.{kind_of, event_of, number_or_fault, named_event, some_event, HasEvent}
 use Rattle.rapid_text.specs.declared.event_lines.Known.{Known}
 use Rattle.rapid_text.specs.KnownNames.{AreKnown, AddsTwo}
-use Rattle.rapid_text.proofs.NamePlaces.{fits, lacks, known_place, spaces, same_place, other_place}
-use Rattle.rapid_text.proofs.NamePlaces.{has_place, keeps_thread, numbered_again}
+use Rattle.rapid_text.proofs.NamePlaces.{fits, lacks, known_place, spaces, same_place, other_place, has_place}
+use Rattle.rapid_text.proofs.NamePlaces.{keeps_thread, numbered_again}
 
 pub event_read : (r : Result (Event × Tables) Cause) → IsOk r → HasEvent (some_event r)
 event_read (Ok p) ok = refl

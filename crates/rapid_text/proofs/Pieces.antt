@@ -273,7 +273,6 @@ long_at {start} {piece} {names} {lines} {rest} {n} at g long more =
 fails_by : (start : Cutting) (piece : List ℕ) (n : ℕ) (k : Cause)
     → ((more : List ℕ) → FaultAt k n (judged start (piece ++ more)))
     → FailsAt start piece (record { line = n; cause = k }) k
-fails_by start piece n causes.OutOfMemory h = h
 fails_by start piece n causes.Read h = absurd (h [])
 fails_by start piece n causes.Failed h = absurd (h [])
 fails_by start piece n k h = h
@@ -293,8 +292,6 @@ fails_at {start} {piece} {names} {lines} {next} {rest} {line} {after} n k at g c
 
 closes_by : (s : Cutting) (n : ℕ) (k : Cause) → FaultAt k n (judged s [])
     → ClosesAt s (record { line = n; cause = k }) k
-closes_by s n causes.OutOfMemory h = h
-closes_by s n causes.Read h = h
 closes_by s n causes.Failed h = absurd h
 closes_by s n k h = h
 

@@ -1,11 +1,10 @@
 -- A set of names as the names with their numbers.
-use Rattle.std.proofs.Common.{◌≡◌, ℕ, ◌<◌, ◌≤◌, ◌++◌, [], ◌∷◌, List, Some, None, Option, length, get_or}
-use Rattle.std.proofs.Common.{true, false, cond, sym, ◌∙◌, ap, arith, refl}
+use Rattle.std.proofs.Common.{◌≡◌, ℕ, ◌<◌, ◌≤◌, ◌++◌, [], ◌∷◌, List, Some, None, Option, length, get_or, true}
+use Rattle.std.proofs.Common.{false, cond, sym, ◌∙◌, ap, arith, refl}
 use Rattle.std.specs.Prelude.{nat_lt, slice_get}
-use Rattle.std.specs.List.{IsDistinct}
+use Rattle.std.specs.List.{IsDistinct, position, position_or_len, list_any}
 use Rattle.std.proofs.lemmas.Option.{slice_get_within, get_or_from_slice_get}
 use Rattle.std.proofs.lemmas.Slice.Eq.{bytes_eq-Decides}
-use Rattle.std.specs.List.{position, position_or_len, list_any}
 use Rattle.std.specs.Str.{bytes_eq}
 use Rattle.std.proofs.lemmas.Bool.{lt-ltb, false_from_ne_true, both_ways}
 use Rattle.std.proofs.lemmas.Bool.Decides.{nat_tests}

@@ -1,7 +1,6 @@
 -- What the steps of a cutter take of a text, and where a text stands that was not read to its end.
-use Rattle.std.proofs.Common.{◌≡◌, ℕ, ◌+◌, ◌≤◌, ◌⊎◌, List, [], ◌∷◌, ◌++◌, length, length-append}
-use Rattle.std.proofs.Common.{Option, Bool, true, refl, sym, ap, subst, ◌∙◌, append_assoc}
-use Rattle.std.proofs.Common.{append-nil, arith, take, drop}
+use Rattle.std.proofs.Common.{◌≡◌, ℕ, ◌+◌, ◌≤◌, ◌⊎◌, List, [], ◌∷◌, ◌++◌, length, length-append, Option, Bool}
+use Rattle.std.proofs.Common.{true, refl, sym, ap, subst, ◌∙◌, append_assoc, append-nil, arith, take, drop}
 use Rattle.std.proofs.lemmas.List.{length-take-le, take-append-drop}
 use Rattle.std.specs.Io.KnownBytes.{Consumes}
 use Rattle.rapid_line.specs.Cut.{Lacks, count, after_last}
@@ -10,8 +9,7 @@ use Rattle.rapid_line.proofs.Cuts.{after_last-append, after_last-end, after_last
 use Rattle.rapid_line.proofs.Cuts.{count-Lacks, IsCut-at}
 use Rattle.event_core.specs.declared.events.Event.{Event}
 use Rattle.rapid_text.specs.Cutting.{Cutting, Pushes}
-use Rattle.rapid_text.specs.Taking.{Place, lines_place, place_of, start, AreUnended}
-use Rattle.rapid_text.specs.Taking.{Advances, StopsShort}
+use Rattle.rapid_text.specs.Taking.{Place, lines_place, place_of, start, AreUnended, Advances, StopsShort}
 
 -- all these bytes were taken: each LF ended a line, and what follows the last one is kept
 pub record Took (old : Place) (bytes : List ℕ) (new : Place) : Type 0 where

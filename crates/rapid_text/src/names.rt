@@ -3,8 +3,7 @@ ghost use Rattle.std.specs.Prelude.{◌≡◌, ◌↔◌, ℕ, ◌+◌, ◌<◌,
 ghost use Rattle.std.specs.Prelude.{IsTrue};
 ghost use Rattle.std.specs.Result.{IsErrOf};
 ghost use Rattle.rapid_text.specs.Numbers.{found_number};
-ghost use Rattle.rapid_text.specs.Tables.{Tables, no_names, space, number_in, IsNameOf, TablesGrow};
-ghost use Rattle.rapid_text.specs.Tables.{AreNamed};
+ghost use Rattle.rapid_text.specs.Tables.{Tables, no_names, space, number_in, IsNameOf, TablesGrow, AreNamed};
 
 use crate::causes::{Kind, NameFault};
 use crate::interner::Interner;

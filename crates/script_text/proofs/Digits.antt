@@ -1,7 +1,6 @@
 -- The value of digits, as it grows.
 use Rattle.std.proofs.Common.{◌≡◌, ℕ, ◌+◌, ◌-◌, ◌*◌, ◌<◌, ◌≤◌, ◌^◌, List, [], ◌∷◌, length, take, drop, get_or}
-use Rattle.std.proofs.Common.{refl, ap, ◌∙◌, sym, arith, Some, None, true, false}
-use Rattle.std.proofs.Common.{take-append-drop}
+use Rattle.std.proofs.Common.{refl, ap, ◌∙◌, sym, arith, Some, None, true, false, take-append-drop}
 use Rattle.std.specs.Prelude.{fold}
 use Rattle.std.specs.List.{list_all}
 use Rattle.std.specs.Char.{is_ascii_digit}

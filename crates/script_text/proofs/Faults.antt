@@ -1,6 +1,5 @@
 -- Why there is no script.
-use Rattle.std.proofs.Common.{◌≡◌, ◌≢◌, ℕ, ◌≤◌, ◌++◌, List, [], Option, Some, None, Ok}
-use Rattle.std.proofs.Common.{ap, ◌∙◌, sym, subst}
+use Rattle.std.proofs.Common.{◌≡◌, ◌≢◌, ℕ, ◌≤◌, ◌++◌, List, [], Option, Some, None, Ok, ap, ◌∙◌, sym, subst}
 use Rattle.std.proofs.Common.{Bool, true, ◌⊎◌, inl, inr, refl, arith, length}
 use Rattle.std.specs.Prelude.{IfSome, IsSomeAnd}
 use Rattle.std.proofs.lemmas.Option.{IfSome_then}
@@ -14,8 +13,8 @@ use Rattle.script_text.specs.declared.causes.ScriptCause.{ScriptCause}
 use Rattle.script_text.specs.declared.causes.ScriptCause.TheVariants as causes
 use Rattle.script_text.specs.declared.causes.ScriptFault.{ScriptFault}
 use Rattle.script_text.specs.Scripts.{Parsed, IsDraft, begun, script_of}
-use Rattle.script_text.specs.Readings.{Progress, unread, judged, Takes, Stops, EndStops, is_of_line}
-use Rattle.script_text.specs.Readings.{HasFault, HasNoneBefore, Incomplete, IsFault, ReadFails}
+use Rattle.script_text.specs.Readings.{Progress, unread, judged, Takes, Stops, EndStops, is_of_line, HasFault}
+use Rattle.script_text.specs.Readings.{HasNoneBefore, Incomplete, IsFault, ReadFails}
 use Rattle.script_text.proofs.Steps.{judge_from}
 use Rattle.script_text.proofs.Legal.{draft_judged, draft_begun}
 

@@ -1,7 +1,6 @@
 -- Lines that were judged keep the rules of forks and joins, and their numbers have names.
-use Rattle.std.proofs.Common.{◌≡◌, ℕ, ◌+◌, ◌==◌, ◌||◌, ◌++◌, List, [], ◌∷◌, length, Option, Some}
-use Rattle.std.proofs.Common.{None, Ok, Err, refl, ap, ◌∙◌, sym, subst, inl, inr, ◌⊎◌, true}
-use Rattle.std.proofs.Common.{false, Bool}
+use Rattle.std.proofs.Common.{◌≡◌, ℕ, ◌+◌, ◌==◌, ◌||◌, ◌++◌, List, [], ◌∷◌, length, Option, Some, None, Ok}
+use Rattle.std.proofs.Common.{Err, refl, ap, ◌∙◌, sym, subst, inl, inr, ◌⊎◌, true, false, Bool}
 use Rattle.std.specs.Prelude.{slice_get, unwrap_or, Result, decimal, IfSome}
 use Rattle.std.specs.List.{list_any}
 use Rattle.std.proofs.lemmas.Bool.{eqb-true, cases_Bool, or_parts, false_from_ne_true, both_ways}
@@ -27,8 +26,7 @@ use Rattle.rapid_line.specs.declared.words.Word.TheVariants as words
 use Rattle.script_text.specs.Forms.{Named, line_of}
 use Rattle.script_text.specs.Lines.{thread_of, fork_of, join_of, forks, joins, is_thread}
 use Rattle.script_text.specs.Scripts.{Parsed, Once, AreLegal, IsDraft, judge, next_line, after_content}
-use Rattle.script_text.specs.Scripts.{with_line}
-use Rattle.script_text.specs.Scripts.{number_or_cause, numbered_line, is_bad_fork, is_bad_join}
+use Rattle.script_text.specs.Scripts.{with_line, number_or_cause, numbered_line, is_bad_fork, is_bad_join}
 use Rattle.script_text.specs.Scripts.{act_event, act_of, kind_of, begun}
 
 -- ---- what an Ok says

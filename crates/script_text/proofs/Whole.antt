@@ -1,6 +1,5 @@
 -- Lines that were all judged make a script where forks lead to each thread.
-use Rattle.std.proofs.Common.{◌≡◌, ℕ, ◌<◌, List, length, subst, arith, inl, inr}
-use Rattle.std.proofs.Common.{◌⊎◌, true, Bool}
+use Rattle.std.proofs.Common.{◌≡◌, ℕ, ◌<◌, List, length, subst, arith, inl, inr, ◌⊎◌, true, Bool}
 use Rattle.std.proofs.lemmas.Bool.{eqb-true}
 use Rattle.event_core.specs.declared.events.Op.{Op}
 use Rattle.event_core.specs.declared.events.Op.TheVariants as ops
@@ -8,10 +7,9 @@ use Rattle.event_core.specs.declared.events.Act.{Act}
 use Rattle.event_core.specs.declared.events.Act.TheVariants as acts
 use Rattle.rapid_text.specs.Tables.{Tables, space}
 use Rattle.rapid_text.specs.Events.{HasNames, target_of, word_of_op, kind_of}
-use Rattle.script_text.specs.Lines.{is_of, forks, joins, is_thread, thread_of, act_thread}
-use Rattle.script_text.specs.Lines.{act_fork, act_join, op_fork, op_join}
-use Rattle.script_text.specs.Scripts.{Parsed, IsDraft, IsScript, AllNamed}
-use Rattle.script_text.specs.Scripts.{act_event}
+use Rattle.script_text.specs.Lines.{is_of, forks, joins, is_thread, thread_of, act_thread, act_fork, act_join}
+use Rattle.script_text.specs.Lines.{op_fork, op_join}
+use Rattle.script_text.specs.Scripts.{Parsed, IsDraft, IsScript, AllNamed, act_event}
 use Rattle.script_text.specs.Marks.{AreBelow, MarksReached, AllMarked, IsFirstUnmarked}
 use Rattle.script_text.proofs.Marking.{names_reached, own_named, own_or_more}
 

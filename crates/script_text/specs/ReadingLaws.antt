@@ -1,7 +1,6 @@
 -- Pieces of a script, one after another, are one piece. These lemmas stand among the definitions since the
 -- ghost members of `Reading` cite them.
-use Rattle.std.proofs.Common.{ℕ, List, [], ◌++◌, Option, Some, None, refl, sym, ap, ◌∙◌, append_assoc}
-use Rattle.std.proofs.Common.{arith}
+use Rattle.std.proofs.Common.{ℕ, List, [], ◌++◌, Option, Some, None, refl, sym, ap, ◌∙◌, append_assoc, arith}
 use Rattle.std.specs.Prelude.{IsSomeAnd}
 use Rattle.rapid_text.specs.Taking.{lines_place}
 use Rattle.rapid_text.specs.TakingLaws.{advances_none, advances_more, advances_before}

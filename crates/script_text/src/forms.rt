@@ -1,11 +1,10 @@
 //! The forms of a line: `thread word argument` and `thread word argument number`.
 ghost use Rattle.std.specs.Prelude.{◌≡◌, IfOk, IfErr, IsTrue};
 ghost use Rattle.std.specs.List.{list_all};
-ghost use Rattle.script_text.specs.Forms.{word_of, takes_number, is_name, is_name_byte};
-ghost use Rattle.script_text.specs.Forms.{line_of, plain, numbered};
+ghost use Rattle.script_text.specs.Forms.{word_of, takes_number, is_name, is_name_byte, line_of, plain};
+ghost use Rattle.script_text.specs.Forms.{numbered, form, named_of, AreNames, Fails};
 ghost use Rattle.rapid_line.specs.Grammar.{IsName};
 ghost use Rattle.rapid_line.specs.Reading.{Gives};
-ghost use Rattle.script_text.specs.Forms.{form, named_of, AreNames, Fails};
 
 use crate::causes::ScriptCause;
 use crate::numbers::number;

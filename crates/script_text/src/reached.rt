@@ -5,9 +5,8 @@ ghost use Rattle.std.specs.Prelude.{◌≡◌, ℕ, ◌<◌, length, Some, IfOk,
 ghost use Rattle.std.specs.List.{slice_set};
 ghost use Rattle.event_core.specs.declared.ids.ThreadId.{ThreadId as Id};
 ghost use Rattle.script_text.specs.Scripts.{Reached, names_thread};
-ghost use Rattle.script_text.specs.Marks.{is_marked, unmarked, AreBelow, MarksLine, MarksReached};
-ghost use Rattle.script_text.specs.Marks.{IsClosed, Keeps};
-ghost use Rattle.script_text.specs.Marks.{none_or_marked, names_marked, AllMarked, IsFirstUnmarked};
+ghost use Rattle.script_text.specs.Marks.{is_marked, unmarked, AreBelow, MarksLine, MarksReached, IsClosed};
+ghost use Rattle.script_text.specs.Marks.{Keeps, none_or_marked, names_marked, AllMarked, IsFirstUnmarked};
 
 use crate::lines::ScriptLine;
 use crate::stored_lines::StoredLine;

@@ -1,7 +1,6 @@
 -- What a text comes to, line by line.
-use Rattle.std.proofs.Common.{◌≡◌, ℕ, ◌+◌, ◌<◌, List, [], ◌∷◌, ◌++◌, true, false, Option, Some, None, Ok}
-use Rattle.std.proofs.Common.{Err, length, drop, refl, sym, ap, ap₂, subst, ◌∙◌}
-use Rattle.std.proofs.Common.{inl, inr, unwrap_or}
+use Rattle.std.proofs.Common.{◌≡◌, ℕ, ◌+◌, ◌<◌, List, [], ◌∷◌, ◌++◌, true, false, Option, Some, None, Ok, Err}
+use Rattle.std.proofs.Common.{length, drop, refl, sym, ap, ap₂, subst, ◌∙◌, inl, inr, unwrap_or}
 use Rattle.std.proofs.Math.Seq.{drop-length}
 use Rattle.event_core.specs.declared.bounds.Limits.{Limits}
 use Rattle.event_core.specs.declared.events.Event.{Event}
@@ -99,11 +98,8 @@ push_stops m log s piece f causes.Failed live h g more =
 
 pub push_read : (s : Cutting) (piece : List ℕ) (f : TextFault) (c : Cause) → FailsAt s piece f c
     → is_read c ≡ true → most < s.taken + length piece
-push_read s piece f (causes.Line x) h e = absurd (cc)
-push_read s piece f (causes.TooManyNames k) h e = absurd (cc)
-push_read s piece f causes.OutOfMemory h e = absurd (cc)
 push_read s piece f causes.Read h e = h.1
-push_read s piece f causes.Failed h e = absurd (cc)
+push_read s piece f _ h e = absurd (cc)
 
 -- ---- the end of the text
 
@@ -126,8 +122,5 @@ close_stops m log s f causes.Read live h g = absurd (cc)
 close_stops m log s f causes.Failed live h g = absurd (let bad : None ≡ Some f.line = sym live ∙ h in cc)
 
 pub close_whole : (s : Cutting) (f : TextFault) (c : Cause) → ClosesAt s f c → is_read c ≡ false
-close_whole s f (causes.Line x) h = refl
-close_whole s f (causes.TooManyNames k) h = refl
-close_whole s f causes.OutOfMemory h = refl
 close_whole s f causes.Read h = absurd h
-close_whole s f causes.Failed h = refl
+close_whole s f _ h = refl

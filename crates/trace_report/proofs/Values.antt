@@ -75,11 +75,7 @@ last_is_zero (e ∷ es) n x z s = last_is_zero es _ x (either (op_stores x e.op)
 value_is_zero : (log : List Event) (o : Op) → StoreNothing log → value_of log o 0 ≡ 0
 unfolding last_value
 value_is_zero log (Load x) s = last_is_zero log 0 x refl s
-value_is_zero log (Store x) s = refl
-value_is_zero log (Acquire l) s = refl
-value_is_zero log (Release l) s = refl
-value_is_zero log (Fork u) s = refl
-value_is_zero log (Join u) s = refl
+value_is_zero log _ s = refl
 
 -- the event of a line is the one that its call makes
 pub event_is : (log : List Event) (e : Event) → StoreNothing log → e.value ≡ 0 → event_of log (call_of e) ≡ e

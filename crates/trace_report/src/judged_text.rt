@@ -1,7 +1,6 @@
 //! A text that is judged in pieces, however it is cut.
 ghost use Rattle.std.specs.Prelude.{◌≡◌, ◌≢◌, ◌+◌, ◌≤◌, List, [], ◌++◌, length, drop, true, false, Ok, Err};
-ghost use Rattle.std.specs.Prelude.{None, Some};
-ghost use Rattle.std.specs.Prelude.{IfErr, IfSome, IsSomeAnd, OnOk, ℕ};
+ghost use Rattle.std.specs.Prelude.{None, Some, IfErr, IfSome, IsSomeAnd, OnOk, ℕ};
 ghost use Rattle.event_core.specs.declared.bounds.Limits.{Limits as Bounds};
 ghost use Rattle.event_core.specs.declared.events.Event.{Event as Entry};
 ghost use Rattle.rapid_text.specs.Cutting.{begun, judged};

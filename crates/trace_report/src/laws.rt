@@ -7,8 +7,7 @@ ghost use Rattle.rapid_text.specs.declared.causes.TextFault.{TextFault as Fault}
 ghost use Rattle.rapid_text.specs.Tables.{no_names};
 ghost use Rattle.rapid_text.specs.Texts.{judgement};
 ghost use Rattle.trace_report.specs.declared.faults.TraceFault.TheVariants.{Text, Refused};
-ghost use Rattle.trace_report.specs.Findings.{Trace, finding};
-ghost use Rattle.trace_report.specs.Findings.{IsLegalTrace, IsFirstRefused, IsFirstFault};
+ghost use Rattle.trace_report.specs.Findings.{Trace, finding, IsLegalTrace, IsFirstRefused, IsFirstFault};
 
 /// What a text comes to is its first line that has a fault or whose event is refused, and else its trace.
 pub fn finding_is_the_first()

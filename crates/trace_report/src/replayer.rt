@@ -1,7 +1,6 @@
 //! A text that is replayed in pieces, however it is cut.
-ghost use Rattle.std.specs.Prelude.{◌≡◌, ◌≢◌, ◌⊎◌, ℕ, ◌+◌, ◌↔◌, ◌++◌, []};
-ghost use Rattle.std.specs.Prelude.{List, length, Err, None, Some, true, false};
-ghost use Rattle.std.specs.Prelude.{IfOk, IfErr, IfSome, IsTrue, ◌<◌};
+ghost use Rattle.std.specs.Prelude.{◌≡◌, ◌≢◌, ◌⊎◌, ℕ, ◌+◌, ◌↔◌, ◌++◌, [], List, length, Err, None, Some};
+ghost use Rattle.std.specs.Prelude.{true, false, IfOk, IfErr, IfSome, IsTrue, ◌<◌};
 ghost use Rattle.rapid_text.specs.Cutting.{most};
 ghost use Rattle.rapid_text.specs.Taking.{Advances, place_of};
 ghost use Rattle.rapid_text.specs.declared.causes.Cause.TheVariants.{Read};

@@ -16,8 +16,7 @@ use Rattle.event_core.proofs.Legality.{orderly}
 use Rattle.event_core.proofs.Main.{strict_forward}
 use Rattle.event_core.proofs.SectionSteps.{before_within, before_end, counted_before, release_order}
 use Rattle.event_core.proofs.Pasts.{source_within, past_longer, past_latest}
-use Rattle.wcp_laws.specs.Conditions.{ReleasesAbove, CountedEarlier, StrictIsLatest}
-use Rattle.wcp_laws.specs.Conditions.{BelowIsLatest}
+use Rattle.wcp_laws.specs.Conditions.{ReleasesAbove, CountedEarlier, StrictIsLatest, BelowIsLatest}
 use Rattle.wcp_laws.specs.Step.{effect, hb_row, after}
 use Rattle.wcp_laws.specs.State.{State}
 use Rattle.wcp_laws.specs.Standing.{Stands}

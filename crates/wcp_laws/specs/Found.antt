@@ -2,8 +2,7 @@
 --
 -- A closing release looks, from where its thread's last one on the lock ended, for the latest closed section
 -- that its strict clock counts. So all releases together find no section twice for one thread.
-use Rattle.std.specs.Prelude.{ℕ, zero, suc, ◌≡◌, ◌+◌, ◌<◌, ◌≤◌, cond, nat_lt}
-use Rattle.std.specs.Prelude.{List, length}
+use Rattle.std.specs.Prelude.{ℕ, zero, suc, ◌≡◌, ◌+◌, ◌<◌, ◌≤◌, cond, nat_lt, List, length}
 use Rattle.event_core.specs.declared.ids.ThreadId.{ThreadId}
 use Rattle.event_core.specs.declared.ids.LockId.{LockId}
 use Rattle.event_core.specs.declared.events.Event.{Event}

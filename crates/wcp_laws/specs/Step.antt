@@ -1,15 +1,14 @@
 -- What an event makes of the numbers.
-use Rattle.std.specs.Prelude.{ℕ, Bool, true, false, not, ◌&&◌, ◌||◌, cond, nat_eq, nat_lt}
-use Rattle.std.specs.Prelude.{List, [], ◌∷◌, ◌++◌}
+use Rattle.std.specs.Prelude.{ℕ, Bool, true, false, not, ◌&&◌, ◌||◌, cond, nat_eq, nat_lt, List, [], ◌∷◌}
+use Rattle.std.specs.Prelude.{◌++◌}
 use Rattle.event_core.specs.declared.ids.ThreadId.{ThreadId}
 use Rattle.event_core.specs.declared.ids.VarId.{VarId}
 use Rattle.event_core.specs.declared.events.Event.{Event}
 use Rattle.event_core.specs.declared.events.AccessKind.{AccessKind}
 use Rattle.event_core.specs.declared.events.AccessKind.TheVariants.{Read, Write}
 use Rattle.event_core.specs.Effect.{Effect, Accesses, Opens, Closes, effect_of}
-use Rattle.event_core.specs.Rows.{no_clock, join, with_row, rows_after, brought}
+use Rattle.event_core.specs.Rows.{no_clock, join, with_row, rows_after, brought, clock_after, depth_after}
 use Rattle.event_core.specs.Closed.{Closed, below_closed}
-use Rattle.event_core.specs.Rows.{clock_after, depth_after}
 use Rattle.wcp_laws.specs.State.{State}
 
 -- what the event is to the clocks

@@ -1,5 +1,4 @@
-use Rattle.std.proofs.Common.{arith, ◌∙◌, sym, ap, ◌+◌, ◌≤◌, ◌^◌, ◌≡◌, take, length}
-use Rattle.std.proofs.Common.{Some, subst, true}
+use Rattle.std.proofs.Common.{arith, ◌∙◌, sym, ap, ◌+◌, ◌≤◌, ◌^◌, ◌≡◌, take, length, Some, subst, true}
 use Rattle.std.specs.Char.{is_ascii_digit}
 use Rattle.std.specs.List.{list_all}
 use Rattle.std.proofs.lemmas.Bool.{eqb-true}
