@@ -17,14 +17,6 @@ module _ (Good : ThreadId → PassView → Type 0) where
   all_snoc P [] x all here = (here, tt)
   all_snoc P (y ∷ xs) x all here = (all.0, all_snoc P xs x all.1 here)
 
-  -- a new channel has one end, and nothing in it
-  pub begins : Posted Good [] (nobody ∷ [])
-  begins = record { to = None; known = known; good = tt; one_end = λ _. refl }
-    where
-      known : (seat : ℕ) (v : Address) → get_elem? (nobody ∷ []) seat ≡ some v → v.to ≡ None
-      known zero v at = ap (λ (a : Address). a.to) (sym (some-injective nobody v at))
-      known (suc n) v at = absurd (some-ne-none v (sym at))
-
   -- a pass that may go to the channel's thread is sent
   pub sends : (n seat : ℕ) (t : ThreadId) (v : Address) (x : PassView) → v ≡ somebody t → Good t x
       → Pushes (Posted Good) n seat v x (λ w. w ≡ v)

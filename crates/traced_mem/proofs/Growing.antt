@@ -8,7 +8,6 @@ use Rattle.event_core.specs.declared.events.Op.TheVariants.{Load, Acquire}
 use Rattle.traced_mem.specs.declared.rows.LockRow.{LockRow}
 use Rattle.traced_mem.specs.Meaning.{Thread}
 use Rattle.traced_mem.specs.Tables.{Tables, lock_at, HeldBelow, thread_at}
-use Rattle.traced_mem.specs.Tables.{thread_of}
 use Rattle.traced_mem.specs.Room.{HasRoom, IsReady, Grown}
 
 pub grown_none : (xs : List ThreadRow) → Grown xs xs
@@ -20,16 +19,6 @@ grown_more a b = record {
   rows = b.rows ∙ a.rows;
   more = omega (arith, a.more, b.more);
   capacity = λ u. omega (arith, a.capacity u, b.capacity u);
-}
-
--- rows that read the same, and no fewer
-pub grown_same : (old new : List ThreadRow) → length old ≤ length new
-    → ((u : ℕ) → thread_at new u ≡ thread_at old u) → Grown old new
-grown_same old new more same = record {
-  rows = λ i u. thread_of (same u i);
-  more = more;
-  capacity = λ u. (let c : (thread_at new u).held.capacity ≡ (thread_at old u).held.capacity =
-      λ i. (same u i).held.capacity in omega arith);
 }
 
 pub below_grown : {n m : ℕ} (old new : List LockRow) → n ≤ m → lock_at new ≡ lock_at old → HeldBelow n old
