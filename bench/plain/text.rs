@@ -14,7 +14,7 @@ pub const JOIN: u8 = 5;
 
 /// What is done at each event of a legal trace.
 pub trait Engine {
-    /// `outer` says of an acquire or a release whether its thread holds the lock but for it.
+    /// `outer` says of an acquire or a release whether its thread holds the lock without it.
     fn event(&mut self, thread: u32, op: u8, arg: u32, site: u32, outer: bool);
 }
 

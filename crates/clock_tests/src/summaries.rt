@@ -48,7 +48,7 @@ const LOAD_AND_STORE: &[Row] = &[
     Row::Section(2, &[A, A], X, STORE, 2),
     Row::Meets(3, A, X, LOAD, [Some(2), None]),
     Row::Meets(3, A, X, STORE, [Some(2), Some(1)]),
-    // but for its own load
+    // except its own load
     Row::Meets(1, A, X, STORE, [Some(2), None]),
 ];
 

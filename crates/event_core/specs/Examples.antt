@@ -265,7 +265,7 @@ three_stores =
     ∷ event main (Store x)
     ∷ []
 
--- of the stores that race with one, the latest is told
+-- of the stores that race with one, the latest is reported
 abbrev pub LatestRaceIsTold : Type 0
 LatestRaceIsTold = IsVerdict three_stores 3 (Racy 2) × IsVerdict three_stores 4 (Racy 3)
 
@@ -329,7 +329,7 @@ EachHoldKeepsASlot =
     ∷ event main (Release l)
     ∷ [])
 
--- one slot, used up at once: each further call is told the first reason that speaks against it
+-- one slot, used up at once: each further call is answered the first reason that speaks against it
 abbrev pub TheFirstReasonIsTold : Type 0
 TheFirstReasonIsTold =
     IsRun (record { threads = 2; locks = 1; vars = 1; events = 1; roots = OnlyMain }) []

@@ -1,4 +1,4 @@
--- Verdicts: what an access is told. And the outcome of a call, and the run of a list of calls.
+-- Verdicts: what an access is answered. And the outcome of a call, and the run of a list of calls.
 --
 -- A race is a pair of conflicting accesses that weak causal precedence leaves unordered, as in the paper.
 -- Which of an access's races is told, and the replies, are this project's own.

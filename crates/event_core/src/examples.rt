@@ -64,7 +64,7 @@ pub fn fork_is_below_join()
     ensures { ForkIsBelowJoin }
 {}
 
-/// Of the accesses that race with one, the latest is told.
+/// Of the accesses that race with one, the latest is reported.
 pub fn latest_race_is_told()
     ensures { LatestRaceIsTold }
 {}
@@ -84,7 +84,7 @@ pub fn each_hold_keeps_a_slot()
     ensures { EachHoldKeepsASlot }
 {}
 
-/// A refused call is told the first reason that speaks against it.
+/// A refused call is answered the first reason that speaks against it.
 pub fn the_first_reason_is_told()
     ensures { TheFirstReasonIsTold }
 {}

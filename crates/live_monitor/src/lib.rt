@@ -8,7 +8,7 @@
 //!
 //! What is proved of every schedule: the accepted calls of all passes that meet stand, each once and in
 //! each caller's order, in one well-formed log; each reply is the sequential monitor's at its place; a load
-//! gives the last value stored; and an access is told of a race exactly when an earlier conflicting event
+//! gives the last value stored; and an access is marked racy exactly when an earlier conflicting event
 //! of the log is not below it in the least weak causal precedence. It is not proved that a call which takes
 //! the lock returns, nor who gets the lock.
 //!

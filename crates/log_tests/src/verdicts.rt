@@ -45,7 +45,7 @@ fn add_all(verdicts: &mut Verdicts) {
     }
 }
 
-/// Each verdict is told by the index of its event.
+/// Each verdict is named by the index of its event.
 fn expect_all(rt: &impl Abort, verdicts: &Verdicts) {
     expect(rt, "a list of five", verdicts.len(), 5);
     for (index, verdict) in (0u64..).zip(VERDICTS) {

@@ -15,7 +15,7 @@ use std::sync::Wait;
 /// The right to use one end, with what it knows of the channel.
 type Ticket<N> = crossbeam_channel::Pass<Pass<N>, Address>;
 
-/// The end into which the pass for a thread goes. Who waits at the other end is told when it is let go.
+/// The end into which the pass for a thread goes. Who waits at the other end learns when it is let go.
 pub struct PassSender<N: Name, T: Terms> {
     pub to: ThreadId,
     sender: RuledSender<Pass<N>, Address, Ruled<T>>,

@@ -6,7 +6,7 @@ use crate::runs::expect_both;
 /// ends within it; and the status.
 type Part = (&'static str, &'static str, &'static str, u8);
 
-/// Nested sections. An operation is told once its second bar has come, and its location may be cut short.
+/// Nested sections. An operation is read once its second bar has come, and its location may be cut short.
 const PARTS: &[Part] = &[
     (
         "T0|fork(T1)",

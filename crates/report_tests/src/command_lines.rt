@@ -144,8 +144,8 @@ fn is_narrow(text: &str) -> bool {
     true
 }
 
-/// What is wrong is told on standard error, with status 2; all else on standard output, in lines of at most
-/// 80 columns. The trace of help is on standard input.
+/// What is wrong is printed on standard error, with status 2; all else on standard output, in lines of at
+/// most 80 columns. The trace of help is on standard input.
 #[test]
 fn each_command_line_is_answered(rt: HostRuntime) {
     for (words, part, status) in SAID {

@@ -2,7 +2,7 @@
 //!
 //! The crate has tests alone, and they see no more of `trace_report` and `wcp_tool` than any caller does.
 //! They stand here and not in the crates themselves since a crate is proved once more with its tests. They
-//! expect ample memory, but for those whose names say that memory is refused.
+//! expect ample memory, except those whose names say that memory is refused.
 #![tactic(auto)]
 
 #[cfg(test)]

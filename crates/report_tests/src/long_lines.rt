@@ -37,7 +37,7 @@ const TOO_LONG: Told = (("line 1: LineTooLong\n", "line 1: LineTooLong\n"), "", 
 
 const READ_FAULT: Told = (("", ""), "read fault\n", 4);
 
-/// What a text shows, its parts, whether its reader fails after it, and what is told.
+/// What a text shows, its parts, whether its reader fails after it, and what is printed.
 type Case = (&'static str, &'static [Part], bool, Told);
 
 const CASES: &[Case] = &[

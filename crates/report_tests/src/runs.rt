@@ -131,7 +131,7 @@ impl<'a> Run<'a> {
     }
 }
 
-/// A check and a replay of the text come to this: the counts or the report, what is told on standard error,
+/// A check and a replay of the text come to this: the counts or the report, what standard error has,
 /// and the status of the replay. A check ends with 0 where a replay reports a race.
 pub fn expect_both<R: Abort + AllocGlobal + ScriptFiles + Threads + Wait + Sync>(
     rt: &R,
@@ -158,7 +158,7 @@ pub type Row = (
     u8,
 );
 
-/// Each row holds. Where one does not, its number is told, counted from 0.
+/// Each row holds. Where one does not, its number is printed, counted from 0.
 pub fn expect_rows<R: Abort + AllocGlobal + ScriptFiles + Threads + Wait + Sync>(
     rt: &R,
     rows: &[Row],

@@ -114,7 +114,7 @@ module _ {m : Limits} {script : List ScriptLine} {l : ScriptLine} {p q : PassVie
         made = made_of m (thread_of l) q next.before later.is_pass done;
       }
 
-  -- of an act that is refused as its line's; of an acquire the refusal is told where another thread's hold is
+  -- of an act that is refused as its line's; an acquire's refusal is reported where another thread's hold is
   -- not the answer
   pub act_fits : (ahead : Bool) {made : Act} {why : Refusal} → DeclinedAct m made p q why
       → ((log : List Event) → act_refusal m log l.act ≡ act_refusal m log made)

@@ -24,7 +24,7 @@ use Rattle.event_core.specs.Refusal.{forked, held_depths, in_range, joins, reaso
 use Rattle.event_core.specs.Refusal.{target_not_started, when}
 use Rattle.script_drive.specs.Faults.{act_acquires, is_told}
 
--- each of these reasons is told, where it applies
+-- each of these reasons is reported, where it applies
 data AreTold : List (Option Refusal) → Type 0 where
   none : AreTold []
   never : {reasons : List (Option Refusal)} → AreTold reasons → AreTold (None ∷ reasons)
@@ -83,7 +83,7 @@ swap_told m log t x why refused =
     (told _ LogFull refl none)))) in
     subst IsTold refused (first_told all)
 
--- an act's refusal, where an acquire's is told
+-- an act's refusal, where an acquire's is reported
 pub act_told : (m : Limits) (log : List Event) (a : Act) (why : Refusal)
     → (act_acquires a ≡ true → is_told why ≡ true) → act_refusal m log a ≡ Some why → is_told why ≡ true
 act_told m log (Swap t x site arg) why acquire refused = swap_told m log t x why refused

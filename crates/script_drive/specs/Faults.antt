@@ -76,7 +76,7 @@ IsAnswered (Err halt) (g ∷ gs) f =
 
 -- ---- the faults of a script
 
--- the refusal is told; another thread's hold is not, since such an acquire is tried again
+-- the refusal is reported; another thread's hold is not, since such an acquire is tried again
 abbrev pub is_told : Refusal → Bool
 is_told (refusals.Held by) = false
 is_told why = true

@@ -17,7 +17,7 @@ pub enum Answer {
     Fault(u64, Cause),
 }
 
-/// A text, and what is told of it.
+/// A text, and what is reported of it.
 pub struct Case {
     pub text: &'static [u8],
     pub answers: &'static [Answer],

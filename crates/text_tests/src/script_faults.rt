@@ -35,7 +35,7 @@ const FAULTS: &[Faulty] = &[
     ("m r a\nm w b 1\nm swap c 1", 3, ScriptCause::TooManyNames),
 ];
 
-/// A failed read is told where it failed. Whole lines that came before the failure are judged first. The
+/// A failed read is reported where it failed. Whole lines that came before the failure are judged first. The
 /// fault has the number of the line whose end was not read.
 const FAILED_READS: &[Faulty] = &[
     ("", 1, ScriptCause::Read),

@@ -27,7 +27,7 @@ plain_threads e k old none =
     row_kept e.thread.0 (strict_of old.rows).thread
     ∙ ap (λ (c : ℕ → ℕ). with_row e.thread.0 c (strict_of old.rows).thread) (sym (plain_strict e k old none))
 
--- how many joins happens-before takes, where the effect is told
+-- how many joins happens-before takes, where the effect is known
 pub joins_told : (e : Event) (k : Effect) (old : Parts) (before after : Done) → effect e (state_of old) ≡ k
     → after ≡ more_joins (hb.joins_of (hb.effect e (hb_of old))) before
     → after.joins ≡ before.joins + hb.joins_of k

@@ -56,7 +56,7 @@ module _ (e : Event) (s : State) (w : AreWhole s)
   abbrev k : Effect
   k = effect e s
 
-  -- what is at or below the event, but for itself
+  -- what is at or below the event, except itself
   abbrev past : ℕ → ℕ
   past = join (s.hb.thread t.0) (brought k s.hb)
 

@@ -71,7 +71,7 @@ pub record GrownFor (old new : Parts) (t : ThreadId) (op : Op) : Type 0 where
   pub sections : SectionsGrownFor old.queues new.queues t op
   pub holds : HoldsGrownFor old.held new.held t op
 
--- no clock was made but for the operation
+-- no clock was made except for the operation
 pub record MadeFor (old new : Parts) (t : ThreadId) (op : Op) : Type 0 where
   pub order : OrderGrownFor old.hb new.hb t op
   pub rows : RowsGrownFor old.rows new.rows t op
