@@ -32,7 +32,7 @@ use Rattle.access_check.specs.declared.variable_accesses.VariableAccesses.{Varia
 use Rattle.access_check.specs.LastAccesses.{racing}
 use Rattle.access_check.specs.VariableAccesses.{kept, latest_racing}
 use Rattle.access_check.specs.Tables.{Tables, accesses_at, verdict_at, verdict_of}
-use Rattle.access_check.specs.Standing.{IsAccess, HasLast, IsCovered, VariableStands, Stands}
+use Rattle.access_check.specs.Standing.{IsAccess, HasLast, IsCovered, VariableStands, StandsFor}
 use Rattle.access_check.proofs.Latest.{AtLeast, lower, Clashes, write_read, read_write, write_write}
 use Rattle.access_check.proofs.Latest.{write_clashes, ReadFrom, found_racing, latest_above, latest_from}
 use Rattle.access_check.proofs.Latest.{fold_member}
@@ -204,7 +204,7 @@ clear log e none i r =
     let a = conflict_access r.conflict.first r.conflict.second r.conflict.ops in
     none (subst IsOne (sym (does_op (last_does log e) r.conflict.does_second ∙ a.2)) (is_one a.0 a.1))
 
-pub verdict_stands : (log : List Event) (e : Event) (t : Tables) (c : ℕ → ℕ) → Stands log t
+pub verdict_stands : (log : List Event) (e : Event) (t : Tables) (c : ℕ → ℕ) → StandsFor log t
     → Counted (log ++ e ∷ []) (λ i. Below (log ++ e ∷ []) i (length log)) c
     → IsVerdict (log ++ e ∷ []) (length log) (verdict_of t.vars e.thread e.op c)
 verdict_stands log e t c s counted = go e.op refl

@@ -24,7 +24,7 @@ use Rattle.access_check.specs.declared.last_accesses.Access.{Access}
 use Rattle.access_check.specs.declared.variable_accesses.VariableAccesses.{VariableAccesses}
 use Rattle.access_check.specs.VariableAccesses.{kept, kept_after}
 use Rattle.access_check.specs.Tables.{Tables, count_at, last_of as its_last, touched_after, Notes}
-use Rattle.access_check.specs.Standing.{VariableStands, Stands}
+use Rattle.access_check.specs.Standing.{VariableStands, StandsFor}
 use Rattle.access_check.proofs.Judging.{IsOne, is_one}
 use Rattle.access_check.proofs.Keeping.{untouched, put_stands, alone_stands}
 
@@ -99,9 +99,9 @@ counts_stand log e u n m is own = go (thread_cases e.thread u)
         ∙ (is ∙ sym (events_other log e u other))
 
 pub note_stands : (before after : Tables) (log : List Event) (e : Event) (index : ℕ) (v : Verdict)
-    → Notes before after e index v → Stands log before → index ≡ length log
+    → Notes before after e index v → StandsFor log before → index ≡ length log
     → WellFormed before.limits (log ++ e ∷ []) → IsVerdict (log ++ e ∷ []) (length log) v
-    → Stands (log ++ e ∷ []) after
+    → StandsFor (log ++ e ∷ []) after
 note_stands before after log e index v n s at well verdict = record {
   well_formed = subst (λ (m : Limits). WellFormed m (log ++ e ∷ [])) (sym n.limits) well;
   counts = λ u. n.counts u.0 ∙ counts_stand log e u _ _ (s.counts u) (s.counts e.thread);

@@ -45,7 +45,7 @@ pub record VariableStands (log : List Event) (x : VarId) (ts : VariableAccesses)
       → HasLast (kept k ts) u j ⊎ IsCovered log (kept Write ts) j
 
 -- the tables stand for the log
-pub record Stands (log : List Event) (t : Tables) : Type 0 where
+pub record StandsFor (log : List Event) (t : Tables) : Type 0 where
   pub well_formed : WellFormed t.limits log
   pub counts : (u : ThreadId) → count_at t.counts u.0 ≡ events_of log u
   pub accesses : (x : VarId) → VariableStands log x (accesses_at t.vars x.0)

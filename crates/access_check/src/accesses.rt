@@ -45,13 +45,13 @@ impl Accesses {
     ghost use Rattle.hb_clocks.specs.Counts.{counts_of};
     ghost use Rattle.access_check.specs.Tables.{IsReady, KeepsReady, Notes, Grown, GrownFor};
     ghost use Rattle.access_check.specs.Tables.{count_at, no_tables, verdict_of, IsReadyAt};
-    ghost use Rattle.access_check.specs.Standing.{Stands};
+    ghost use Rattle.access_check.specs.Standing.{StandsFor};
 
     /// The accesses of the empty log. It takes no memory, and so succeeds.
     pub fn new(alloc: Global, limits: Limits) -> Result<Accesses, OutOfMemory>
         ensures succeeds { IsOk result }
         ensures exact { IfOk result (λ made. made ≡ no_tables limits) }
-        ensures stands { IfOk result (λ made. Stands [] made) }
+        ensures stands { IfOk result (λ made. StandsFor [] made) }
     {
         Ok(Accesses {
             alloc,
@@ -146,7 +146,7 @@ impl Accesses {
         requires { length clock.now ≡ self.now.limits.threads }
         ensures exact { result
             ≡ verdict_of self.now.vars event.now.thread event.now.op (counts_of clock.now) }
-        ensures verdict { (log : List AnEvent) → Stands log self.now
+        ensures verdict { (log : List AnEvent) → StandsFor log self.now
             → Counted (log ++ event.now ∷ []) (λ i. Below (log ++ event.now ∷ []) i (length log))
             (counts_of clock.now)
             → IsVerdict (log ++ event.now ∷ []) (length log) result }
@@ -165,10 +165,10 @@ impl Accesses {
         requires index { index < 2 ^ 32 }
         requires few { count_at self.old.counts event.now.thread.0 < 2 ^ 32 }
         ensures exact { Notes self.old self.new event.now index verdict }
-        ensures stands { (log : List AnEvent) → Stands log self.old → index ≡ length log
+        ensures stands { (log : List AnEvent) → StandsFor log self.old → index ≡ length log
             → WellFormed self.old.limits (log ++ event.now ∷ [])
             → IsVerdict (log ++ event.now ∷ []) (length log) verdict
-            → Stands (log ++ event.now ∷ []) self.new }
+            → StandsFor (log ++ event.now ∷ []) self.new }
         ensures kept { KeepsReady self.old self.new event.now.thread }
     {
         let position = count_event(&mut self.counts, event.thread.0 as usize);

@@ -5,10 +5,10 @@ use Rattle.event_core.specs.declared.events.Event.{Event}
 use Rattle.event_core.specs.declared.events.Call.{Call}
 use Rattle.event_core.specs.Refusal.{WellFormed, event_of, value_of}
 use Rattle.traced_mem.specs.Tables.{Tables}
-use Rattle.traced_mem.specs.OfLog.{StandsFor as MemoryStandsFor}
+use Rattle.traced_mem.specs.Standing.{StandsFor as MemoryStandsFor}
 use Rattle.wcp_clocks.specs.Parts.{Parts}
 use Rattle.wcp_clocks.specs.Parts.{Fits, IsWithin, SameLimits, SameNumbers, width_of, limits_of, work_of}
-use Rattle.wcp_clocks.specs.StandsFor.{StandsFor, IsBounded}
+use Rattle.wcp_clocks.specs.Standing.{StandsFor, IsBounded}
 use Rattle.wcp_clocks.specs.WorkWithin.{IsWorkOf}
 use Rattle.wcp_clocks.proofs.Conditions.{fits_where_legal}
 use Rattle.wcp_clocks.proofs.WithinLimits.{within_where_legal}
@@ -28,7 +28,7 @@ bounded = record {
   most_events = omega arith;
 }
 
-pub no_events : (m : Tables) (p : Parts) → MemoryStandsFor m [] → m.limits ≡ small → StandsFor [] p
+pub no_events : (m : Tables) (p : Parts) → MemoryStandsFor [] m → m.limits ≡ small → StandsFor [] p
     → work_of p ≡ record { comparisons = 0; joins = 0 } → width_of p ≡ small.threads → limits_of p ≡ small
     → StandForOneLog m p
 no_events m p memory memory_limits clocks none width clock_limits = record {
@@ -52,21 +52,21 @@ is_event log c v e is value =
 
 -- the memory after the next event of the log
 pub record IsNext (log : List Event) (e : Event) (m : Tables) : Type 0 where
-  pub stands : MemoryStandsFor m (log ++ e ∷ [])
+  pub stands : MemoryStandsFor (log ++ e ∷ []) m
   pub limits : m.limits ≡ small
 
 next_event : (log : List Event) (c : Call) (e : Event) (m : Tables)
-    → MemoryStandsFor m (log ++ event_of log c ∷ []) → m.limits ≡ small → e ≡ event_of log c → IsNext log e m
+    → MemoryStandsFor (log ++ event_of log c ∷ []) m → m.limits ≡ small → e ≡ event_of log c → IsNext log e m
 next_event log c e m stands limits is = record {
-  stands = subst (λ (f : Event). MemoryStandsFor m (log ++ f ∷ [])) (sym is) stands;
+  stands = subst (λ (f : Event). MemoryStandsFor (log ++ f ∷ []) m) (sym is) stands;
   limits = limits;
 }
 
 -- a memory that permits a call performs it
 pub next_call : (old mid new : Tables) (p : Parts) (c : Call) (v : ℕ) (e : Event) (r : StandForOneLog old p)
-    → ((log : List Event) → MemoryStandsFor old log → MemoryStandsFor mid log) → mid.limits ≡ old.limits
-    → ((log : List Event) → MemoryStandsFor mid log → v ≡ value_of log c.op c.arg)
-    → ((log : List Event) → MemoryStandsFor mid log → MemoryStandsFor new (log ++ event_of log c ∷ []))
+    → ((log : List Event) → MemoryStandsFor log old → MemoryStandsFor log mid) → mid.limits ≡ old.limits
+    → ((log : List Event) → MemoryStandsFor log mid → v ≡ value_of log c.op c.arg)
+    → ((log : List Event) → MemoryStandsFor log mid → MemoryStandsFor (log ++ event_of log c ∷ []) new)
     → new.limits ≡ mid.limits → e ≡ record { thread = c.thread; op = c.op; site = c.site; value = v }
     → IsNext r.log e new
 next_call old mid new p c v e r permitted kept value performed same is =

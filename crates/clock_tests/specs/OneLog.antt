@@ -4,10 +4,10 @@ use Rattle.event_core.specs.declared.bounds.Limits.{Limits}
 use Rattle.event_core.specs.declared.bounds.Roots.TheVariants.{OnlyMain}
 use Rattle.event_core.specs.declared.events.Event.{Event}
 use Rattle.traced_mem.specs.Tables.{Tables}
-use Rattle.traced_mem.specs.OfLog.{StandsFor as MemoryStandsFor}
+use Rattle.traced_mem.specs.Standing.{StandsFor as MemoryStandsFor}
 use Rattle.wcp_clocks.specs.Parts.{Parts}
 use Rattle.wcp_clocks.specs.Parts.{width_of, limits_of}
-use Rattle.wcp_clocks.specs.StandsFor.{StandsFor}
+use Rattle.wcp_clocks.specs.Standing.{StandsFor}
 use Rattle.wcp_clocks.specs.WorkWithin.{WorkWithin}
 
 -- the limits of the logs
@@ -17,7 +17,7 @@ small = record { threads = 3; locks = 4; vars = 3; events = 64; roots = OnlyMain
 -- there is a log for which both stand, and the clocks have done no more work than it takes
 pub record StandForOneLog (m : Tables) (p : Parts) : Type 0 where
   pub log : List Event
-  pub memory : MemoryStandsFor m log
+  pub memory : MemoryStandsFor log m
   pub memory_limits : m.limits ≡ small
   pub clocks : StandsFor log p
   pub work : WorkWithin small log p

@@ -1,7 +1,7 @@
 //! Worked logs with the numbers of their clocks.
 ghost use Rattle.std.specs.Prelude.{◌≡◌, ℕ, ◌<◌, ◌≤◌, ◌↔◌, length, IsTrue};
 ghost use Rattle.hb_clocks.specs.Counts.{counts_of};
-ghost use Rattle.hb_clocks.specs.Stands.{IsAtMost};
+ghost use Rattle.hb_clocks.specs.Standing.{IsAtMost};
 ghost use Rattle.hb_clocks.specs.Tables.{state_of, IsWithin};
 
 mod cases;

@@ -5,7 +5,7 @@
 //! its call.
 ghost use Rattle.std.specs.Prelude.{◌≡◌, List};
 ghost use Rattle.event_core.specs.declared.events.Event.{Event as AnEvent};
-ghost use Rattle.traced_mem.specs.OfLog.{StandsFor as MemoryStandsFor};
+ghost use Rattle.traced_mem.specs.Standing.{StandsFor as MemoryStandsFor};
 ghost use Rattle.traced_mem.specs.Room.{IsReady as MemoryIsReady};
 ghost use Rattle.traced_mem.specs.Tables.{Allows};
 ghost use Rattle.wcp_clocks.specs.Parts.{IsReady, IsWithin, SameLimits, SameNumbers, width_of};
@@ -46,7 +46,7 @@ fn permit(rt: &impl Abort, memory: &mut Memory, call: &Call)
     ensures allowed { Allows memory.new call.now.thread call.now.op }
     ensures ready { MemoryIsReady memory.new call.now.thread call.now.op }
     ensures limits { memory.new.limits ≡ memory.old.limits }
-    ensures stands { (log : List AnEvent) → MemoryStandsFor memory.old log → MemoryStandsFor memory.new log }
+    ensures stands { (log : List AnEvent) → MemoryStandsFor log memory.old → MemoryStandsFor log memory.new }
 {
     assert!(rt; memory.permit(call).is_ok(), "a legal event");
     assert!(rt; memory.prepare(call.thread, call.op).is_ok(), "memory");

@@ -1,7 +1,7 @@
 -- A release by a lock's holder is refused exactly where the holder has been joined.
 use Rattle.std.proofs.Common.{◌≡◌, ℕ, ◌<◌, List, [], ◌∷◌, Bool, true, false, Some, None, not}
 use Rattle.std.proofs.Common.{refl, sym, ap, subst, ◌∙◌, arith, take, length}
-use Rattle.std.proofs.lemmas.Bool.{eq-eqb, not-false}
+use Rattle.std.proofs.lemmas.Bool.{eq-eqb, ltb-true, not-false}
 use Rattle.std.proofs.lemmas.List.{take-append-drop}
 use Rattle.std.proofs.Math.ListN.{drop}
 use Rattle.std.proofs.Math.Seq.{take-length}
@@ -20,6 +20,15 @@ holder_opener : (log : List Event) (l : LockId) (u : ThreadId) → holder log l 
 holder_opener log l u h =
     opener log u l (length log) (omega arith)
     (subst (λ xs. 0 < depth xs u l) (sym (take-length log)) (holder_depth log l u h))
+
+-- a lock that is held is within the limit
+pub lock_within : (m : Limits) (log : List Event) (u : ThreadId) (l : LockId) → WellFormed m log
+    → 0 < depth log u l → l.0 < m.locks
+lock_within m log u l w up =
+    let o = opener log u l (length log) (omega arith)
+        (subst (λ xs. 0 < depth xs u l) (sym (take-length log)) up) in
+    let r = reasons_at m log o.index u (Acquire l) w o.opened.does in
+    ltb-true l.0 m.locks (not-false _ (when_none _ TargetRange r.on_table))
 
 -- who had started at an event has started at the log's end
 started_since : (m : Limits) (log : List Event) (i : ℕ) (u : ThreadId) → forked m.roots (take i log) u ≡ true

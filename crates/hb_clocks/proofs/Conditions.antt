@@ -26,12 +26,12 @@ use Rattle.event_core.proofs.Legality.{orderly, legal_reasons, when_none}
 use Rattle.event_core.proofs.Effects.{depth_same, depth_up}
 use Rattle.event_core.proofs.Pasts.{past_latest}
 use Rattle.hb_clocks.specs.State.{HbState, empty}
-use Rattle.hb_clocks.specs.Stands.{Stands, IsAlone, IsApart, AdmitsLegal, FewInLog}
-use Rattle.hb_clocks.specs.Marks.{IsLatest, Named, Names}
+use Rattle.hb_clocks.specs.Standing.{StandsFor, IsAlone, IsApart, AdmitsLegal, FewInLog}
+use Rattle.hb_clocks.specs.Marks.{IsLatest, MarkedEvent, Names}
 
 -- two threads with the lock would be one
 alone : (limits : Limits) (log : List Event) (e : Event) (s : HbState) → WellFormed limits (log ++ e ∷ [])
-    → Stands log s
+    → StandsFor log s
     → (l : LockId) → e.op ≡ Acquire l → (u : ThreadId) → u.0 ≢ e.thread.0 → s.depth u.0 l.0 ≡ 0
 alone limits log e s w st l o u other = st.depths u l ∙ go (cases_lt 0 (depth log u l))
   where
@@ -98,7 +98,7 @@ nothing P u = record {
       λ i o. absurd (let h : i < 0 = slice_get_within [] i o.event o.at in omega arith);
 }
 
-pub empty_stands : Stands [] empty
+pub empty_stands : StandsFor [] empty
 unfolding events_of depth
 empty_stands = record {
   po = λ t. nothing (Past [] (Po []) t);
@@ -148,11 +148,11 @@ latest_position log t j latest =
     by i o (inl lt) = absurd (latest.last i lt o)
     by i o (inr le) = events_rise log t i j le
 
-pub names_latest : (log : List Event) (t : ThreadId) (j : ℕ) (m : Named) (n : ℕ)
+pub names_latest : (log : List Event) (t : ThreadId) (j : ℕ) (m : MarkedEvent) (n : ℕ)
     → m ≡ record { thread = t.0; position = n } → n ≡ events_of log t
     → IsLatest log t j → Names log m t j
 names_latest log t j m n is own latest = record {
   of = latest.of;
-  thread = ap (λ (x : Named). x.thread) is;
-  position = ap (λ (x : Named). x.position) is ∙ own ∙ latest_position log t j latest;
+  thread = ap (λ (x : MarkedEvent). x.thread) is;
+  position = ap (λ (x : MarkedEvent). x.position) is ∙ own ∙ latest_position log t j latest;
 }

@@ -8,7 +8,7 @@ use Rattle.event_core.specs.Rows.{clock_after, depth_after, join, with_row, Rows
 use Rattle.event_core.specs.Effect.{Effect, Closes, Forks}
 use Rattle.event_core.specs.declared.events.Event.{Event}
 use Rattle.hb_clocks.specs.State.{HbState, empty, after, effect, without_locks}
-use Rattle.hb_clocks.specs.Stands.{IsAtMost}
+use Rattle.hb_clocks.specs.Standing.{IsAtMost}
 use Rattle.hb_clocks.proofs.TableSteps.{brought_few}
 
 -- a row that is written has few, where the row and the others do

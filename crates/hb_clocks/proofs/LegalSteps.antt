@@ -18,14 +18,14 @@ use Rattle.event_core.proofs.Legality.{orderly}
 use Rattle.event_core.proofs.Stable.{longer, back, hb_too}
 use Rattle.event_core.proofs.Effects.{Fits, fits}
 use Rattle.hb_clocks.specs.State.{HbState, effect, without_locks, po_row, hb_row, after}
-use Rattle.hb_clocks.specs.Stands.{Stands, StepStands}
+use Rattle.hb_clocks.specs.Standing.{StandsFor, StepStands}
 use Rattle.event_core.proofs.Brings.{clock_counted, own_row, forked_none}
 use Rattle.event_core.proofs.DepthSteps.{depths_stand}
 use Rattle.event_core.proofs.HbSteps.{hb_to, hb_from}
 use Rattle.hb_clocks.proofs.PoSteps.{NoLock, po_to, po_from, led_counts, other_counts}
 
 module _ (limits : Limits) (log : List Event) (e : Event) (w : WellFormed limits (log ++ e ∷ []))
-    (s : HbState) (st : Stands log s) where
+    (s : HbState) (st : StandsFor log s) where
   ord : Orderly (log ++ e ∷ [])
   ord = orderly limits (log ++ e ∷ []) w
 
@@ -88,7 +88,7 @@ module _ (limits : Limits) (log : List Event) (e : Event) (w : WellFormed limits
       go (inr n) = subst Goal (sym (other (po_row e s) s.po t n))
           (other_counts log e t (s.po t.0) n (st.po t))
 
-  pub grown_stands : Stands (log ++ e ∷ []) (after e s)
+  pub grown_stands : StandsFor (log ++ e ∷ []) (after e s)
   grown_stands = record {
     po = po_stands;
     hb = rows_stand limits log e w ord (Hb log) (Hb (log ++ e ∷ [])) same (λ i j h. hb_forward h)

@@ -13,7 +13,7 @@ use Rattle.event_core.proofs.Growing.{row_same, row_other}
 use Rattle.hb_clocks.specs.declared.holds.Hold.{Hold}
 use Rattle.hb_clocks.specs.Holds.{hold_at, holds_after, is_outer, effect_by, HasHold}
 use Rattle.hb_clocks.specs.State.{HbState, effect, without_locks, after}
-use Rattle.hb_clocks.specs.Stands.{IsFew, Admits, IsAlone}
+use Rattle.hb_clocks.specs.Standing.{IsFew, Admits, IsAlone}
 use Rattle.hb_clocks.specs.Tables.{Tables, hb_rows, state_from, HasThread, HasClocks, KeepsRoom, AreTables}
 use Rattle.hb_clocks.specs.Rows.{rows_of, widths_of}
 use Rattle.hb_clocks.proofs.HoldLaws.{AloneAt, of_holder, outer_effect, depths_after, holds_length}

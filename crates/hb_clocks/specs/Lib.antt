@@ -4,7 +4,7 @@ pub mod Marks
 pub mod Released
 pub mod Releases
 pub mod Rows
-pub mod Stands
+pub mod Standing
 pub mod State
 pub mod Tables
 pub mod Work

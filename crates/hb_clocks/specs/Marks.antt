@@ -8,18 +8,18 @@ use Rattle.event_core.specs.Count.{events_of}
 use Rattle.hb_clocks.specs.Counts.{counts_of}
 
 -- a thread and the position of one of its events, the first of which has position 1
-pub record Named : Type 0 where
+pub record MarkedEvent : Type 0 where
   pub thread : ℕ
   pub position : ℕ
 
 -- the clock counts the event
-abbrev pub Counts : List ℕ → Named → Type 0
+abbrev pub Counts : List ℕ → MarkedEvent → Type 0
 Counts clock m = m.position ≤ counts_of clock m.thread
 
-abbrev pub no_mark : Named
+abbrev pub no_mark : MarkedEvent
 no_mark = record { thread = 0; position = 0 }
 
-abbrev pub mark_at : List Named → ℕ → Named
+abbrev pub mark_at : List MarkedEvent → ℕ → MarkedEvent
 mark_at marks k = slice_index_or marks k no_mark
 
 -- event j is the thread's latest
@@ -28,7 +28,7 @@ pub record IsLatest (log : List Event) (t : ThreadId) (j : ℕ) : Type 0 where
   pub last : (k : ℕ) → j < k → Of log k t → ⊥
 
 -- the mark is of event j of the thread
-pub record Names (log : List Event) (mark : Named) (t : ThreadId) (j : ℕ) : Type 0 where
+pub record Names (log : List Event) (mark : MarkedEvent) (t : ThreadId) (j : ℕ) : Type 0 where
   pub of : Of log j t
   pub thread : mark.thread ≡ t.0
   pub position : mark.position ≡ events_of (take j log) t + 1

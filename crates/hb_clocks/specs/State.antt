@@ -2,7 +2,7 @@
 use Rattle.std.specs.Prelude.{ℕ}
 use Rattle.event_core.specs.declared.ids.ThreadId.{ThreadId}
 use Rattle.event_core.specs.declared.events.Event.{Event}
-use Rattle.hb_clocks.specs.Marks.{Named}
+use Rattle.hb_clocks.specs.Marks.{MarkedEvent}
 use Rattle.event_core.specs.Effect.{Effect, effect_of, Opens, Joins}
 use Rattle.event_core.specs.Rows.{no_clock, no_rows, with_row, Rows, to_child, rows_after, clock_after}
 use Rattle.event_core.specs.Rows.{depth_after}
@@ -48,5 +48,5 @@ joins_of (Joins u) = 2
 joins_of _ = 0
 
 -- the mark of a thread's latest event
-abbrev pub latest_mark : ThreadId → HbState → Named
+abbrev pub latest_mark : ThreadId → HbState → MarkedEvent
 latest_mark t s = record { thread = t.0; position = s.hb.thread t.0 t.0 }

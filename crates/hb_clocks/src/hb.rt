@@ -17,7 +17,7 @@ ghost use Rattle.hb_clocks.specs.Counts.{counts_of};
 ghost use Rattle.hb_clocks.specs.Marks.{IsLatest, Names};
 ghost use Rattle.hb_clocks.specs.Work.{more_joins};
 ghost use Rattle.hb_clocks.specs.State.{empty, after, effect, joins_of, latest_mark};
-ghost use Rattle.hb_clocks.specs.Stands.{Stands, Admits, IsFew};
+ghost use Rattle.hb_clocks.specs.Standing.{StandsFor, Admits, IsFew};
 ghost use Rattle.hb_clocks.specs.Tables.{no_tables, state_of, IsReady, KeepsRoom, IsWithin, HasThread};
 ghost use Rattle.hb_clocks.specs.Tables.{GrownFor, IsThreadFor, IsLockOf, threads_for, locks_for};
 ghost use Rattle.hb_clocks.specs.Rows.{IsMade};
@@ -78,7 +78,7 @@ impl HbClocks {
         ensures width { IfOk result (λ made. made.0.width ≡ limits.threads) }
         ensures unmade { IfOk result (λ made. made.0 ≡ no_tables limits.threads) }
         ensures empty { IfOk result (λ made. state_of made.0 ≡ empty) }
-        ensures stands { IfOk result (λ made. Stands [] (state_of made.0)) }
+        ensures stands { IfOk result (λ made. StandsFor [] (state_of made.0)) }
         ensures work { IfOk result (λ made. made.1 ≡ record { comparisons = 0; joins = 0 }) }
         ensures releases { IfOk result (λ made. made.2.numbers ≡ []) }
     {
@@ -152,7 +152,7 @@ impl HbClocks {
         requires work { work.old.joins < 2 ^ 62 }
         ensures exact { state_of self.new ≡ after event.now (state_of self.old) }
         ensures stands { (limits : Bounds) (log : List AnEvent) → WellFormed limits (log ++ event.now ∷ [])
-            → Stands log (state_of self.old) → Stands (log ++ event.now ∷ []) (state_of self.new) }
+            → StandsFor log (state_of self.old) → StandsFor (log ++ event.now ∷ []) (state_of self.new) }
         ensures kept { KeepsRoom self.old self.new }
         ensures width { self.new.width ≡ self.old.width }
         ensures work { work.new ≡ more_joins (joins_of (effect event.now (state_of self.old))) work.old }
@@ -173,7 +173,7 @@ impl HbClocks {
         ensures exact { counts_of result.now ≡ (state_of self.now).po thread.0 }
         ensures at { (u : ℕ) → counts_of result.now u ≡ (state_of self.now).po thread.0 u }
         ensures latest { (limits : Bounds) (log : List AnEvent) (j : ℕ) → WellFormed limits log
-            → Stands log (state_of self.now) → IsLatest log thread j
+            → StandsFor log (state_of self.now) → IsLatest log thread j
             → Counted log (λ i. Po log i j) (counts_of result.now) }
     {
         row_or(&self.po, thread.0 as usize, &self.zeros)
@@ -184,7 +184,7 @@ impl HbClocks {
         ensures width { length result.now ≡ self.now.width }
         ensures exact { counts_of result.now ≡ (state_of self.now).hb.thread thread.0 }
         ensures latest { (limits : Bounds) (log : List AnEvent) (j : ℕ) → WellFormed limits log
-            → Stands log (state_of self.now) → IsLatest log thread j
+            → StandsFor log (state_of self.now) → IsLatest log thread j
             → Counted log (λ i. Hb log i j) (counts_of result.now) }
     {
         row_or(&self.hb, thread.0 as usize, &self.zeros)
@@ -195,8 +195,8 @@ impl HbClocks {
         requires some { 0 < (state_of self.now).hb.thread thread.0 thread.0 }
         requires few { (state_of self.now).hb.thread thread.0 thread.0 ≤ 2 ^ 32 }
         ensures exact { result ≡ latest_mark thread (state_of self.now) }
-        ensures names { (log : List AnEvent) (j : ℕ) → Stands log (state_of self.now) → IsLatest log thread j
-            → Names log result thread j }
+        ensures names { (log : List AnEvent) (j : ℕ) → StandsFor log (state_of self.now)
+            → IsLatest log thread j → Names log result thread j }
     {
         let row = &self.hb[thread.0 as usize];
         Mark::new(thread, (row.at(thread) - 1) as u32)

@@ -1,5 +1,5 @@
 //! Laws of the clocks, each a contract of a function without a body.
-ghost use Rattle.hb_clocks.specs.Stands.{StepStands, AdmitsLegal, FewInLog};
+ghost use Rattle.hb_clocks.specs.Standing.{StepStands, AdmitsLegal, FewInLog};
 
 /// The step of a legal event keeps the meaning.
 pub fn step_stands()

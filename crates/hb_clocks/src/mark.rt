@@ -22,9 +22,9 @@ const _: () = prove!(size_of::<Mark>() == 8);
 
 impl Model for Mark {
     ghost use Rattle.std.specs.Prelude.{◌+◌, ◌-◌};
-    ghost use Rattle.hb_clocks.specs.Marks.{Named};
+    ghost use Rattle.hb_clocks.specs.Marks.{MarkedEvent};
 
-    ghost Value = { Named };
+    ghost Value = { MarkedEvent };
 
     ghost view = { λ m. record { thread = m.thread; position = m.before + 1 } };
 

@@ -5,7 +5,7 @@ ghost use Rattle.event_core.specs.Rows.{join, with_row, brought, to_child, to_lo
 ghost use Rattle.hb_clocks.specs.Holds.{effect_by, holds_after, HasHold};
 ghost use Rattle.hb_clocks.specs.State.{without_locks, joins_of, after, effect};
 ghost use Rattle.hb_clocks.specs.Work.{more_joins};
-ghost use Rattle.hb_clocks.specs.Stands.{Admits, IsApart, IsFew};
+ghost use Rattle.hb_clocks.specs.Standing.{Admits, IsApart, IsFew};
 ghost use Rattle.hb_clocks.specs.Tables.{hb_rows, state_from, HasThread, HasClocks};
 ghost use Rattle.hb_clocks.specs.Rows.{rows_of, widths_of};
 

@@ -28,7 +28,7 @@ use Rattle.event_core.proofs.SectionSteps.{number_most}
 use Rattle.lock_queues.specs.Sections.{closed_at, latest_counted}
 use Rattle.lock_queues.specs.Queues.{AllQueues, closed_of, opened_of, found_of}
 use Rattle.lock_queues.specs.Searched.{CountsEarlier}
-use Rattle.lock_queues.specs.Standing.{AreSections, AreOf, Stands, CountsEvent, CountsNone, IsLatest}
+use Rattle.lock_queues.specs.Standing.{AreSections, AreOf, StandsFor, CountsEvent, CountsNone, IsLatest}
 use Rattle.lock_queues.specs.Laws.{StrictClocksMayAsk, FindingKeepsThem, ReleasesAreAbove}
 use Rattle.lock_queues.proofs.Counting.{CountsAt, number_least, counted_first, none_counted}
 use Rattle.lock_queues.proofs.Counting.{IsLatestAt, latest_place}
@@ -102,7 +102,7 @@ record IsFound (log : List Event) (t : ThreadId) (l : LockId) (n : ℕ) : Type 0
 
 -- what is found by it keeps the meaning
 finds : (limits : Limits) (log : List Event) (v : AllQueues) (t : ThreadId) (l : LockId) (c : ℕ → ℕ)
-    → WellFormed limits log → Counted log (Past log (Strict log) t) c → 0 < depth log t l → Stands log v
+    → WellFormed limits log → Counted log (Past log (Strict log) t) c → 0 < depth log t l → StandsFor log v
     → AreOf log (closed_of v) (opened_of v)
     (with_row l.0 (with_row t.0 (number_counted c (closed_of v l.0)) (found_of v l.0)) (found_of v))
 finds limits log v t l c w counted up st = record {
@@ -160,7 +160,7 @@ releases_are_above limits log e v l c w is counted st q u h =
 
 -- no section has an acquire that the clock counts
 pub none_in_log : (limits : Limits) (log : List Event) (v : AllQueues) (l : LockId) (c : ℕ → ℕ)
-    → WellFormed limits log → Stands log v → latest_counted c (closed_of v l.0) ≡ None → CountsNone log l c
+    → WellFormed limits log → StandsFor log v → latest_counted c (closed_of v l.0) ≡ None → CountsNone log l c
 none_in_log limits log v l c w st none u a r s is =
     none_counted c (closed_of v l.0) none (number_of log l r - 1)
     (place_within log l (closed_of v l.0) (st.closed_are l) u a r s)
@@ -170,7 +170,7 @@ none_in_log limits log v l c w st none u a r s is =
 -- or the latest that has one is that of the entry
 pub latest_in_log : (limits : Limits) (log : List Event) (v : AllQueues) (l : LockId) (c : ℕ → ℕ)
     (u : ThreadId)
-    (clock : ℕ → ℕ) (q : Closed) → WellFormed limits log → Stands log v
+    (clock : ℕ → ℕ) (q : Closed) → WellFormed limits log → StandsFor log v
     → latest_counted c (closed_of v l.0) ≡ Some q → q.thread ≡ u.0 → q.release ≡ clock
     → IsLatest log l c u clock
 latest_in_log limits log v l c u clock q w st is thread release = record {
@@ -210,7 +210,7 @@ latest_in_log limits log v l c u clock q w st is thread release = record {
 
 -- the same of what is answered of the entry
 pub told_in_log : (limits : Limits) (log : List Event) (v : AllQueues) (l : LockId) (c : ℕ → ℕ) (u : ThreadId)
-    (clock : ℕ → ℕ) → WellFormed limits log → Stands log v
+    (clock : ℕ → ℕ) → WellFormed limits log → StandsFor log v
     → IsSomeAnd (latest_counted c (closed_of v l.0)) (λ q. (q.thread ≡ u.0) × (q.release ≡ clock))
     → IsLatest log l c u clock
 told_in_log limits log v l c u clock w st told = go (latest_counted c (closed_of v l.0)) refl told

@@ -29,9 +29,9 @@ use Rattle.event_core.proofs.OpenSections.{ends_at, open_by_depth}
 use Rattle.event_core.proofs.Pasts.{past_longer}
 use Rattle.event_core.proofs.SectionNumbers.{number_longer, number_last, ended_none, ended_snoc}
 use Rattle.event_core.proofs.SectionSteps.{each_section}
-use Rattle.hb_clocks.specs.Marks.{Named, Names}
+use Rattle.hb_clocks.specs.Marks.{MarkedEvent, Names}
 use Rattle.lock_queues.specs.Queues.{AllQueues, closed_of, opened_of, found_of}
-use Rattle.lock_queues.specs.Standing.{AreSections, AreOf, Stands, IsOther}
+use Rattle.lock_queues.specs.Standing.{AreSections, AreOf, StandsFor, IsOther}
 use Rattle.lock_queues.specs.Laws.{SameStand, OthersLeaveThem, HoldersHaveEntered}
 use Rattle.lock_queues.proofs.SectionLists.{sections_same, sections_more}
 
@@ -171,10 +171,11 @@ others_leave_them limits log e v w other st =
     others_leave log e (orderly limits (log ++ e ∷ []) w) other st
 
 pub enter_stands : {closed : ℕ → List Closed} {opened found : ℕ → ℕ → ℕ} (limits : Limits) (log : List Event)
-    (e : Event) (old : AllQueues) (t : ThreadId) (l : LockId) (mark : Named) → closed ≡ closed_of old
+    (e : Event) (old : AllQueues) (t : ThreadId) (l : LockId) (mark : MarkedEvent) → closed ≡ closed_of old
     → opened ≡ with_row t.0 (with_row l.0 mark.position (opened_of old t.0)) (opened_of old)
     → found ≡ found_of old → WellFormed limits (log ++ e ∷ []) → OpensSection log t l e
-    → Names (log ++ e ∷ []) mark t (length log) → Stands log old → AreOf (log ++ e ∷ []) closed opened found
+    → Names (log ++ e ∷ []) mark t (length log) → StandsFor log old
+    → AreOf (log ++ e ∷ []) closed opened found
 enter_stands limits log e old t l mark c o f w is names st =
     let number : mark.position ≡ events_of log t + 1
     = names.position ∙ ap (λ xs. events_of xs t + 1) (take-append_seam log (e ∷ [])) in
@@ -195,7 +196,7 @@ pub leave_stands : {closed : ℕ → List Closed} {opened found : ℕ → ℕ �
     → opened ≡ with_row t.0 (with_row l.0 0 (opened_of old t.0)) (opened_of old)
     → found ≡ found_of old → WellFormed limits (log ++ e ∷ []) → EndsSection log t l e
     → Counted (log ++ e ∷ []) (λ i. Hb (log ++ e ∷ []) i (length log)) clock
-    → Stands log old → AreOf (log ++ e ∷ []) closed opened found
+    → StandsFor log old → AreOf (log ++ e ∷ []) closed opened found
 leave_stands limits log e old t l clock c o f w is counted st =
     same_are c o f
     (subst (λ (u : ThreadId). AreOf (log ++ e ∷ [])

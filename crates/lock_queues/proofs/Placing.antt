@@ -5,7 +5,7 @@ use Rattle.std.specs.Prelude.{IfSome, IsSome}
 use Rattle.std.proofs.lemmas.Bool.{eq-eqb, ne_eqb}
 use Rattle.std.proofs.lemmas.List.{get_or_read}
 use Rattle.std.proofs.lemmas.List.Sums.{position_or_len_is}
-use Rattle.hb_clocks.specs.Marks.{Named}
+use Rattle.hb_clocks.specs.Marks.{MarkedEvent}
 use Rattle.lock_queues.specs.declared.slots.Slot.{Slot}
 use Rattle.lock_queues.specs.Slots.{is_of, has_slot, place_in, position_of, opened_at, opened_in, no_slot}
 use Rattle.lock_queues.specs.Slots.{slot_at, IsSlot, AreSlots}
@@ -57,11 +57,11 @@ slot_read {n = n} {slots = slots} {t = t} {i = i} x are p read =
     }
 
 -- the mark of an entered slot
-pub some_opened : (o : Option Named) → 0 < position_of o → IsSome o
+pub some_opened : (o : Option MarkedEvent) → 0 < position_of o → IsSome o
 some_opened None h = absurd (omega arith)
 some_opened (Some m) h = search rules
 
-pub mark_of : {n : ℕ} {slots : List Slot} {t : ℕ} {x : Slot} (m : Named) → IsOf n slots t x
+pub mark_of : {n : ℕ} {slots : List Slot} {t : ℕ} {x : Slot} (m : MarkedEvent) → IsOf n slots t x
     → x.opened ≡ Some m → m.thread ≡ t
 mark_of {x = x} m slot e =
-    subst (λ (o : Option Named). IfSome o (λ m. m.thread ≡ x.thread.0)) e slot.own ∙ sym slot.thread
+    subst (λ (o : Option MarkedEvent). IfSome o (λ m. m.thread ≡ x.thread.0)) e slot.own ∙ sym slot.thread

@@ -5,7 +5,7 @@ use Rattle.std.specs.Option.{option_or}
 use Rattle.std.specs.Simd.Lanes.{zip2}
 use Rattle.event_core.specs.Closed.{Closed, is_counted}
 use Rattle.hb_clocks.specs.Counts.{counts_of}
-use Rattle.hb_clocks.specs.Marks.{Named, Counts, no_mark}
+use Rattle.hb_clocks.specs.Marks.{MarkedEvent, Counts, no_mark}
 use Rattle.hb_clocks.specs.Releases.{Place, numbers_at, raised, IsReadable, IsAdded}
 use Rattle.lock_queues.specs.declared.sections.Entry.{Entry}
 
@@ -44,19 +44,20 @@ abbrev pub entry_at : List Entry → ℕ → Entry
 entry_at entries k = slice_index_or entries k no_entry
 
 -- the marks of their acquires
-abbrev pub acquires_of : List Entry → List Named
+abbrev pub acquires_of : List Entry → List MarkedEvent
 acquires_of entries = map (λ e. e.acquire) entries
 
-abbrev pub first_of : List Named → Option Named
+abbrev pub first_of : List MarkedEvent → Option MarkedEvent
 first_of [] = None
 first_of (m ∷ ms) = Some m
 
 -- the entries of such marks and places
-abbrev pub entries_of : List Named → List Place → List Entry
+abbrev pub entries_of : List MarkedEvent → List Place → List Entry
 entries_of marks places = zip2 (λ m p. record { acquire = m; place = p }) marks places
 
 -- they are of the same sections, of which the first has this mark
-pub record AreLists (first : Option Named) (marks : List Named) (places : List Place) : Type 0 where
+pub record AreLists (first : Option MarkedEvent) (marks : List MarkedEvent)
+    (places : List Place) : Type 0 where
   pub same : length marks ≡ length places
   pub begun : first ≡ first_of marks
 

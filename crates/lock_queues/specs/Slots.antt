@@ -2,7 +2,7 @@
 use Rattle.std.specs.Prelude.{ℕ, ◌≡◌, ◌<◌, List, nat_eq, Bool, Option, Some, None, IfSome, slice_index_or}
 use Rattle.std.specs.Option.{is_some}
 use Rattle.std.specs.List.{All, AllPairs, find, position_or_len}
-use Rattle.hb_clocks.specs.Marks.{Named}
+use Rattle.hb_clocks.specs.Marks.{MarkedEvent}
 use Rattle.lock_queues.specs.declared.slots.Slot.{Slot}
 
 -- the slot is the thread's
@@ -21,7 +21,7 @@ has_slot slots t = is_some (slot_of slots t)
 abbrev pub place_in : List Slot → ℕ → ℕ
 place_in slots t = position_or_len (is_of t) slots
 
-abbrev pub position_of : Option Named → ℕ
+abbrev pub position_of : Option MarkedEvent → ℕ
 position_of None = 0
 position_of (Some m) = m.position
 

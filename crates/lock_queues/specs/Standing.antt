@@ -32,8 +32,8 @@ pub record AreOf (log : List Event) (closed : ℕ → List Closed) (opened found
   pub most : (t : ThreadId) (l : LockId) → found l.0 t.0 ≤ ended log l
   pub none : (t : ThreadId) (l : LockId) → events_of log t ≡ 0 → found l.0 t.0 ≡ 0
 
-abbrev pub Stands : List Event → AllQueues → Type 0
-Stands log v = AreOf log (closed_of v) (opened_of v) (found_of v)
+abbrev pub StandsFor : List Event → AllQueues → Type 0
+StandsFor log v = AreOf log (closed_of v) (opened_of v) (found_of v)
 
 -- the event, which follows the log, neither opens nor ends a section
 pub record IsOther (log : List Event) (e : Event) : Type 0 where

@@ -76,7 +76,7 @@ impl Queues {
     ghost use Rattle.lock_queues.specs.Sections.{closed_at, latest_counted};
     ghost use Rattle.lock_queues.specs.Searched.{CountsEarlier, FindsCounted, IsAboveAll, IsLatestBefore};
     ghost use Rattle.lock_queues.specs.Searched.{IsSection};
-    ghost use Rattle.lock_queues.specs.Standing.{Stands, CountsNone, IsLatest};
+    ghost use Rattle.lock_queues.specs.Standing.{StandsFor, CountsNone, IsLatest};
     ghost use Rattle.lock_queues.specs.contracts.queues.Queues.{the_row};
 
     /// No sections, the clocks of whose releases are to be kept in the list. It takes no memory.
@@ -91,7 +91,7 @@ impl Queues {
         ensures closed { IfOk result (λ v. closed_of v ≡ (λ _. [])) }
         ensures opened { IfOk result (λ v. opened_of v ≡ (λ _ _. 0)) }
         ensures found { IfOk result (λ v. found_of v ≡ (λ _ _. 0)) }
-        ensures stands { IfOk result (λ v. Stands [] v) }
+        ensures stands { IfOk result (λ v. StandsFor [] v) }
         ensures ready { IfOk result (λ v. is_ready v ≡ (λ _ _. false)) }
     {
         Ok(Queues {
@@ -152,7 +152,7 @@ impl Queues {
         ensures stands { (limits : Bounds) (log : List AnEvent) (e : AnEvent)
             → WellFormed limits (log ++ e ∷ []) → OpensSection log thread lock e
             → Names (log ++ e ∷ []) mark thread (length log)
-            → Stands log self.old → Stands (log ++ e ∷ []) self.new }
+            → StandsFor log self.old → StandsFor (log ++ e ∷ []) self.new }
         ensures ready { is_ready self.new ≡ is_ready self.old }
         ensures limits { self.new.limits ≡ self.old.limits }
     {
@@ -188,8 +188,8 @@ impl Queues {
         ensures below { MatchOption result
             (below_closed (counts_of clock.now) (closed_of self.old lock.0) ≡ no_clock)
             (λ answer. clock_of answer ≡ below_closed (counts_of clock.now) (closed_of self.old lock.0)) }
-        ensures in_log { (limits : Bounds) (log : List AnEvent) → WellFormed limits log → Stands log self.old
-            → MatchOption result (CountsNone log lock (counts_of clock.now))
+        ensures in_log { (limits : Bounds) (log : List AnEvent) → WellFormed limits log
+            → StandsFor log self.old → MatchOption result (CountsNone log lock (counts_of clock.now))
             (λ answer. IsLatest log lock (counts_of clock.now) (thread_of answer) (clock_of answer)) }
         ensures width { IfSome result (λ answer. length (before_of answer) ≤ self.old.limits.threads) }
 
@@ -228,7 +228,7 @@ impl Queues {
         ensures stands { (limits : Bounds) (log : List AnEvent) (e : AnEvent)
             → WellFormed limits (log ++ e ∷ []) → EndsSection log thread lock e
             → Counted (log ++ e ∷ []) (λ i. Hb (log ++ e ∷ []) i (length log)) (counts_of clock.now)
-            → Stands log self.old → Stands (log ++ e ∷ []) self.new }
+            → StandsFor log self.old → StandsFor (log ++ e ∷ []) self.new }
         ensures ready { is_ready self.new
             ≡ with_row thread.0 (with_row lock.0 false (is_ready self.old thread.0)) (is_ready self.old) }
         ensures limits { self.new.limits ≡ self.old.limits }

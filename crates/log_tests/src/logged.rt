@@ -4,7 +4,7 @@ ghost use Rattle.event_core.specs.declared.events.Event.{Event as AnEvent};
 ghost use Rattle.event_core.specs.Refusal.{Legal};
 ghost use Rattle.event_core.specs.Steps.{forked_by, log_of};
 ghost use Rattle.event_core.specs.declared.bounds.Roots.TheVariants.{OnlyMain};
-ghost use Rattle.traced_mem.specs.OfLog.{StandsFor};
+ghost use Rattle.traced_mem.specs.Standing.{StandsFor};
 
 use event_core::{Call, Event, Limits, Op, Roots, SiteId, Step, ThreadId};
 use log_pass::{Keeper, Name, Pass, Published};
@@ -25,7 +25,7 @@ pub fn limits() -> Limits
 /// The memory before any event.
 pub fn memory(alloc: Global, limits: Limits) -> Memory
     ensures limits { result.limits ≡ limits }
-    ensures stands { StandsFor result [] }
+    ensures stands { StandsFor [] result }
 {
     let Ok(memory) = Memory::new(alloc, limits) else {
         unreachable!()
@@ -36,9 +36,9 @@ pub fn memory(alloc: Global, limits: Limits) -> Memory
 /// The event of the thread's call, which has to be permitted.
 pub fn make<R: Abort>(rt: &R, memory: &mut Memory, thread: ThreadId, op: Op, arg: u64) -> Event
     ensures limits { memory.new.limits ≡ memory.old.limits }
-    ensures legal { (log : List AnEvent) → StandsFor memory.old log → Legal memory.old.limits log result }
-    ensures stands { (log : List AnEvent) → StandsFor memory.old log
-        → StandsFor memory.new (log ++ result ∷ []) }
+    ensures legal { (log : List AnEvent) → StandsFor log memory.old → Legal memory.old.limits log result }
+    ensures stands { (log : List AnEvent) → StandsFor log memory.old
+        → StandsFor (log ++ result ∷ []) memory.new }
     ensures thread { result.thread ≡ thread }
     ensures op { result.op ≡ op }
     ensures site { result.site ≡ record { 0 = 0 } }
@@ -67,9 +67,9 @@ pub fn perform<N: Name, R: Abort>(
 ) -> Pass<N>
     requires no_fork { forked_by op ≡ None }
     requires limits { memory.old.limits ≡ N.limits }
-    requires stands { StandsFor memory.old (log_of keeper.old) }
+    requires stands { StandsFor (log_of keeper.old) memory.old }
     ensures limits { memory.new.limits ≡ N.limits }
-    ensures stands { StandsFor memory.new (log_of keeper.new) }
+    ensures stands { StandsFor (log_of keeper.new) memory.new }
 {
     let event = make(rt, memory, pass.thread(), op, arg);
     published.publish(keeper, pass, Step::One(event))
@@ -85,10 +85,10 @@ pub fn perform_fork<N: Name, R: Abort>(
     child: ThreadId,
 ) -> (Pass<N>, Pass<N>)
     requires limits { memory.old.limits ≡ N.limits }
-    requires stands { StandsFor memory.old (log_of keeper.old) }
+    requires stands { StandsFor (log_of keeper.old) memory.old }
     ensures child { result.1.thread ≡ child }
     ensures limits { memory.new.limits ≡ N.limits }
-    ensures stands { StandsFor memory.new (log_of keeper.new) }
+    ensures stands { StandsFor (log_of keeper.new) memory.new }
 {
     let event = make(rt, memory, pass.thread(), Op::Fork(child), 0);
     published.publish_fork(keeper, pass, event)

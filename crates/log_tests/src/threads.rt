@@ -1,7 +1,7 @@
 //! Passes of threads that run beside each other.
 ghost use Rattle.std.specs.Prelude.{◌≡◌, []};
 ghost use Rattle.event_core.specs.Steps.{log_of};
-ghost use Rattle.traced_mem.specs.OfLog.{StandsFor};
+ghost use Rattle.traced_mem.specs.Standing.{StandsFor};
 
 use super::expected::expect;
 use super::logged::{limits, memory, perform, perform_fork};
@@ -25,9 +25,9 @@ fn children<N: Name, R: Abort>(
     children: &mut Vec<Pass<N>>,
 ) -> Result<Pass<N>, AllocError>
     requires limits { memory.old.limits ≡ N.limits }
-    requires stands { StandsFor memory.old (log_of keeper.old) }
+    requires stands { StandsFor (log_of keeper.old) memory.old }
     ensures limits { memory.new.limits ≡ N.limits }
-    ensures stands { StandsFor memory.new (log_of keeper.new) }
+    ensures stands { StandsFor (log_of keeper.new) memory.new }
 {
     let mut pass = pass;
     for child in 1..9 {
@@ -50,7 +50,7 @@ fn stores<N: Name, R: Abort>(
     pass: Pass<N>,
 ) -> Pass<N>
     requires limits { memory.old.limits ≡ N.limits }
-    requires stands { StandsFor memory.old (log_of keeper.old) }
+    requires stands { StandsFor (log_of keeper.old) memory.old }
 {
     let mut pass = pass;
     for value in 0..100 {
@@ -113,7 +113,7 @@ fn look_beside_stores<N: Name + Send + Sync, R: Threads + Abort + Sync>(
     pass: Pass<N>,
 ) -> Result<(), AllocError>
     requires limits { memory.old.limits ≡ N.limits }
-    requires stands { StandsFor memory.old (log_of keeper.old) }
+    requires stands { StandsFor (log_of keeper.old) memory.old }
 {
     let mut others = Vec::new(alloc);
     let Ok(pass) = children(rt, published, keeper, memory, pass, &mut others) else {
@@ -146,7 +146,7 @@ fn eight_threads_look<N: Name + Send + Sync, R: Threads + Abort + Sync>(
     requires table { blank.table ≡ N.table }
     requires limits { blank.limits ≡ N.limits }
     requires memory_limits { memory.limits ≡ N.limits }
-    requires stands { StandsFor memory [] }
+    requires stands { StandsFor [] memory }
 {
     let mut memory = memory;
     let (published, mut keeper, pass) = blank.open::<N>();

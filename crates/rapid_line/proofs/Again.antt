@@ -8,7 +8,7 @@ use Rattle.std.proofs.lemmas.List.{length-append}
 use Rattle.rapid_line.specs.declared.words.Word.{Word}
 use Rattle.rapid_line.specs.declared.words.Word.TheVariants.{Load}
 use Rattle.rapid_line.specs.Cut.{has, Lacks, cut}
-use Rattle.rapid_line.specs.Grammar.{Named, IsNamed, IsWellFormed, spelling, operation, content_of}
+use Rattle.rapid_line.specs.Grammar.{NamedEvent, IsNamed, IsWellFormed, spelling, operation, content_of}
 use Rattle.rapid_line.specs.Causes.{HasFields}
 use Rattle.rapid_line.specs.Reading.{word_of, fields_of, operation_of, argument_of, line_of, ok_named}
 use Rattle.rapid_line.proofs.Cuts.{Lacks-append, cut_at, before_end_at}
@@ -51,7 +51,7 @@ Lacks-operation b w argument s p q a =
     (or_from (40 == b) (has b (argument ++ 41 ∷ [])) p
     (Lacks-append b argument (41 ∷ []) a (or_from (41 == b) false q refl)))
 
-fields_of_event : (e : Named) → IsWellFormed e
+fields_of_event : (e : NamedEvent) → IsWellFormed e
     → HasFields (content_of e) e.thread (operation e.word e.argument) e.location
 fields_of_event e h = record {
   is = refl;
@@ -60,14 +60,14 @@ fields_of_event e h = record {
   location_bar = h.location.bar;
 }
 
-content_no_cr : (e : Named) → IsWellFormed e → Lacks 13 (content_of e)
+content_no_cr : (e : NamedEvent) → IsWellFormed e → Lacks 13 (content_of e)
 content_no_cr e h =
     Lacks-append 13 e.thread (124 ∷ (operation e.word e.argument ++ 124 ∷ e.location)) h.thread.field.cr
     (Lacks-append 13 (operation e.word e.argument) (124 ∷ e.location)
     (Lacks-operation 13 e.word e.argument (spelling_plain e.word).1 refl refl h.argument.field.cr)
     h.location.cr)
 
-content_short : (e : Named) → IsWellFormed e → length (content_of e) ≤ 773
+content_short : (e : NamedEvent) → IsWellFormed e → length (content_of e) ≤ 773
 content_short e h =
     let sp : length (spelling e.word) ≤ 4 = (spelling_plain e.word).3 in
     let a = length-append e.argument (41 ∷ []) in
@@ -76,7 +76,7 @@ content_short e h =
     let c = length-append e.thread (124 ∷ (operation e.word e.argument ++ 124 ∷ e.location)) in
     omega (arith, a, o, r, c, h.thread.field.short, h.argument.field.short, h.location.short)
 
-pub read_again : (bytes : List ℕ) (e : Named) → IsNamed bytes e → line_of bytes ≡ ok_named e
+pub read_again : (bytes : List ℕ) (e : NamedEvent) → IsNamed bytes e → line_of bytes ≡ ok_named e
 unfolding line_of
 read_again bytes e h =
     let len = content_short e h.fits in
@@ -97,7 +97,7 @@ read_again bytes e h =
     (rw (operation_again e.word e.argument) (rw (some, long) refl))))
 
 -- two named events never share a content
-pub one_event : (d e : Named) → IsWellFormed d → IsWellFormed e → content_of d ≡ content_of e → d ≡ e
+pub one_event : (d e : NamedEvent) → IsWellFormed d → IsWellFormed e → content_of d ≡ content_of e → d ≡ e
 one_event d e p q same =
     let x = read_again (content_of d) d (record { fits = p; is = refl }) in
     let y = read_again (content_of e) e (record { fits = q; is = refl }) in

@@ -10,7 +10,7 @@ use Rattle.rapid_line.specs.declared.words.LineFault.TheVariants.{LineTooLong, S
 use Rattle.rapid_line.specs.declared.words.LineFault.TheVariants.{BadOp, EmptyName, LongName}
 use Rattle.rapid_line.specs.declared.lines.NamedLine.{NamedLine}
 use Rattle.rapid_line.specs.Cut.{has, Lacks}
-use Rattle.rapid_line.specs.Grammar.{Named, IsNamed, operation, content_of, spelling}
+use Rattle.rapid_line.specs.Grammar.{NamedEvent, IsNamed, operation, content_of, spelling}
 use Rattle.rapid_line.specs.Causes.{HasFields, HasParts, IsFirstCause, Applies, rank}
 use Rattle.rapid_line.specs.Reading.{unless, and_then, fields_of, operation_of, names_of, line_of, named_of}
 use Rattle.rapid_line.specs.Reading.{Gives, ok_named}
@@ -78,7 +78,7 @@ argument_lacks b w argument h =
     let r = Lacks-right b (spelling w) (40 ∷ (argument ++ 41 ∷ [])) h in
     Lacks-left b argument (41 ∷ []) (or_parts (40 == b) (has b (argument ++ 41 ∷ [])) r).1
 
-parts_lack : (b : ℕ) (d : Named) → Lacks b (content_of d)
+parts_lack : (b : ℕ) (d : NamedEvent) → Lacks b (content_of d)
     → Lacks b d.thread × Lacks b d.argument × Lacks b d.location
 parts_lack b d h =
     let r = (or_parts (124 == b) (has b (operation d.word d.argument ++ 124 ∷ d.location))
@@ -92,7 +92,7 @@ parts_lack b d h =
     )
 
 -- parts whose names have the lengths of names
-is_named : {bytes : List ℕ} {e : Named} → HasParts bytes e → Lacks 13 bytes → Lacks 10 bytes
+is_named : {bytes : List ℕ} {e : NamedEvent} → HasParts bytes e → Lacks 13 bytes → Lacks 10 bytes
     → (0 < length e.thread) × (0 < length e.argument)
     → (length e.thread ≤ 255) × (length e.argument ≤ 255) × (length e.location ≤ 255) → IsNamed bytes e
 is_named {e = e} p no_cr no_lf some short =
@@ -118,12 +118,12 @@ is_named {e = e} p no_cr no_lf some short =
 -- ---- the reading
 
 -- it has the named event and no cause applies to it, or the cause is the first
-abbrev Says : List ℕ → Result Named LineFault → Type 0
+abbrev Says : List ℕ → Result NamedEvent LineFault → Type 0
 Says bytes (Ok e) = ((g : LineFault) → Applies bytes g → ⊥) × (Lacks 10 bytes → IsNamed bytes e)
 Says bytes (Err f) = IsFirstCause bytes f
 
 -- a test of the next cause
-test : (bytes : List ℕ) (f : LineFault) (b : Bool) (next : Result Named LineFault) → Clear bytes (rank f)
+test : (bytes : List ℕ) (f : LineFault) (b : Bool) (next : Result NamedEvent LineFault) → Clear bytes (rank f)
     → (b ≡ true → Applies bytes f) → (b ≡ false → Applies bytes f → ⊥)
     → (b ≡ false → Clear bytes (rank f + 1) → Says bytes next) → Says bytes (unless f b next)
 test bytes f b next clear applies none go =
@@ -131,15 +131,15 @@ test bytes f b next clear applies none go =
     (λ fails. go fails (clear_more bytes f clear (none fails)))
 
 -- what the names of the parts come to
-names_say : (bytes : List ℕ) (e : Named) → HasParts bytes e → Lacks 13 bytes → Clear bytes 6
+names_say : (bytes : List ℕ) (e : NamedEvent) → HasParts bytes e → Lacks 13 bytes → Clear bytes 6
     → Says bytes (names_of e.thread e.location e.word e.argument)
 names_say bytes e parts no_cr clear =
     test bytes EmptyName (length e.thread == 0 || length e.argument == 0) _ clear
     (λ h. record { named = e; parts = parts; empty = none_of (length e.thread) (length e.argument) h })
     (λ h other.
     let some = some_of (length e.thread) (length e.argument) h in
-    elim (subst (λ (d : Named). (length d.thread ≡ 0) ⊎ (length d.argument ≡ 0)) (one_parts other.parts parts)
-    other.empty) [ inl z ↦ omega arith | inr z ↦ omega arith ]) (λ some none.
+    elim (subst (λ (d : NamedEvent). (length d.thread ≡ 0) ⊎ (length d.argument ≡ 0))
+    (one_parts other.parts parts) other.empty) [ inl z ↦ omega arith | inr z ↦ omega arith ]) (λ some none.
     test bytes LongName
     (nat_lt 255 (length e.thread) || nat_lt 255 (length e.argument) || nat_lt 255 (length e.location)) _ none
     (λ h. record {
@@ -149,7 +149,7 @@ names_say bytes e parts no_cr clear =
     })
     (λ h other.
     let short = short_of (length e.thread) (length e.argument) (length e.location) h in
-    elim (subst (λ (d : Named). (255 < length d.thread)
+    elim (subst (λ (d : NamedEvent). (255 < length d.thread)
     ⊎ ((255 < length d.argument) ⊎ (255 < length d.location))) (one_parts other.parts parts) other.long)
     [ inl a ↦ omega arith | inr b ↦ elim b [ inl c ↦ omega arith | inr d ↦ omega arith ] ]) (λ short all. (
       λ g. all g (ranked g).1,
@@ -201,19 +201,19 @@ says bytes =
 
 -- ---- what it answers
 
-pub read_found : (bytes : List ℕ) (e : Named) → Lacks 10 bytes → line_of bytes ≡ ok_named e
+pub read_found : (bytes : List ℕ) (e : NamedEvent) → Lacks 10 bytes → line_of bytes ≡ ok_named e
     → IsNamed bytes e
-read_found bytes e lf eq = (subst (λ (r : Result Named LineFault). Says bytes r) eq (says bytes)).1 lf
+read_found bytes e lf eq = (subst (λ (r : Result NamedEvent LineFault). Says bytes r) eq (says bytes)).1 lf
 
 pub read_first : (bytes : List ℕ) (f : LineFault) → line_of bytes ≡ Err f → IsFirstCause bytes f
-read_first bytes f eq = subst (λ (r : Result Named LineFault). Says bytes r) eq (says bytes)
+read_first bytes f eq = subst (λ (r : Result NamedEvent LineFault). Says bytes r) eq (says bytes)
 
 -- a first cause is answered
-answered_by : (bytes : List ℕ) (f : LineFault) (r : Result Named LineFault) → Says bytes r
+answered_by : (bytes : List ℕ) (f : LineFault) (r : Result NamedEvent LineFault) → Says bytes r
     → IsFirstCause bytes f → r ≡ Err f
 answered_by bytes f (Ok e) s h = absurd (s.0 f h.applies)
 answered_by bytes f (Err g) s h =
-    ap (λ (x : LineFault). let r : Result Named LineFault = Err x in r) (one_first s h)
+    ap (λ (x : LineFault). let r : Result NamedEvent LineFault = Err x in r) (one_first s h)
 
 pub first_answered : (bytes : List ℕ) (f : LineFault) → IsFirstCause bytes f → line_of bytes ≡ Err f
 first_answered bytes f h = answered_by bytes f (line_of bytes) (says bytes) h

@@ -11,7 +11,7 @@ use Rattle.rapid_line.specs.declared.words.Word.TheVariants.{Load, Store, Acquir
 use Rattle.rapid_line.specs.declared.words.LineFault.{LineFault}
 use Rattle.rapid_line.specs.declared.words.LineFault.TheVariants.{FewFields, ManyFields, BadOp}
 use Rattle.rapid_line.specs.Cut.{has, count, cut, before_end}
-use Rattle.rapid_line.specs.Grammar.{Named, spelling, operation}
+use Rattle.rapid_line.specs.Grammar.{NamedEvent, spelling, operation}
 use Rattle.rapid_line.specs.Causes.{HasFields, HasParts}
 use Rattle.rapid_line.specs.Reading.{word_of, fields_of, operation_of}
 use Rattle.rapid_line.proofs.Cuts.{cut_None, IsCut, IsCut-at, before_end-Some, count-append, count-Lacks}
@@ -112,7 +112,7 @@ operation_says field =
     ∙ ap (λ (t : List ℕ). t ++ 40 ∷ (argument ++ 41 ∷ [])) (word_found p.0 w spelled))))
 
 -- a content has one named event's parts at most
-pub one_parts : {bytes : List ℕ} {d e : Named} → HasParts bytes d → HasParts bytes e → d ≡ e
+pub one_parts : {bytes : List ℕ} {d e : NamedEvent} → HasParts bytes d → HasParts bytes e → d ≡ e
 one_parts {d = d} {e = e} p q =
     let f = one_split p.fields q.fields in
     let field : operation d.word d.argument ≡ operation e.word e.argument =

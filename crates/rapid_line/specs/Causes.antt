@@ -12,7 +12,7 @@ use Rattle.rapid_line.specs.declared.words.LineFault.TheVariants.{
   LongName,
 }
 use Rattle.rapid_line.specs.Cut.{has, count, Lacks}
-use Rattle.rapid_line.specs.Grammar.{Named, operation}
+use Rattle.rapid_line.specs.Grammar.{NamedEvent, operation}
 
 -- the content is three fields between two bars
 pub record HasFields (bytes thread op location : List ℕ) : Type 0 where
@@ -30,18 +30,18 @@ pub record HasBadOp (bytes : List ℕ) : Type 0 where
   pub bad : (w : Word) (argument : List ℕ) → op ≡ operation w argument → ⊥
 
 -- there are three fields, and the one between the bars is word(argument)
-pub record HasParts (bytes : List ℕ) (e : Named) : Type 0 where
+pub record HasParts (bytes : List ℕ) (e : NamedEvent) : Type 0 where
   pub fields : HasFields bytes e.thread (operation e.word e.argument) e.location
 
 -- and the thread or the argument is empty
 pub record HasEmptyName (bytes : List ℕ) : Type 0 where
-  pub named : Named
+  pub named : NamedEvent
   pub parts : HasParts bytes named
   pub empty : (length named.thread ≡ 0) ⊎ (length named.argument ≡ 0)
 
 -- and the thread, the argument or the location is too long
 pub record HasLongName (bytes : List ℕ) : Type 0 where
-  pub named : Named
+  pub named : NamedEvent
   pub parts : HasParts bytes named
   pub long : (255 < length named.thread) ⊎ ((255 < length named.argument) ⊎ (255 < length named.location))
 

@@ -5,7 +5,7 @@ use Rattle.rapid_line.specs.declared.words.Word.TheVariants.{Load, Store, Acquir
 use Rattle.rapid_line.specs.Cut.{Lacks}
 
 -- a named event
-pub record Named : Type 0 where
+pub record NamedEvent : Type 0 where
   pub thread : List ℕ
   pub word : Word
   pub argument : List ℕ
@@ -25,7 +25,7 @@ abbrev pub operation : Word → List ℕ → List ℕ
 operation w argument = spelling w ++ 40 ∷ (argument ++ 41 ∷ [])
 
 -- thread|word(argument)|location
-abbrev pub content_of : Named → List ℕ
+abbrev pub content_of : NamedEvent → List ℕ
 content_of e = e.thread ++ 124 ∷ (operation e.word e.argument ++ 124 ∷ e.location)
 
 -- the bytes of a field: any but |, LF and CR, and 255 of them at most
@@ -41,12 +41,12 @@ pub record IsName (bytes : List ℕ) : Type 0 where
   pub some : 0 < length bytes
 
 -- the thread and the argument are names, and the location may be empty
-pub record IsWellFormed (e : Named) : Type 0 where
+pub record IsWellFormed (e : NamedEvent) : Type 0 where
   pub thread : IsName e.thread
   pub argument : IsName e.argument
   pub location : IsField e.location
 
 -- the content has this named event
-pub record IsNamed (bytes : List ℕ) (e : Named) : Type 0 where
+pub record IsNamed (bytes : List ℕ) (e : NamedEvent) : Type 0 where
   pub fits : IsWellFormed e
   pub is : bytes ≡ content_of e

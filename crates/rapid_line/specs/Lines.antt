@@ -95,7 +95,7 @@ pub record IsTooLong (old : Lines) (piece : List ℕ) : Type 0 where
       × (to_come old (piece ++ more) ≡ line ∷ others) × (1025 < length line)
 
 -- the text ended, and this is its last line
-pub record Ends (old : Lines) (line : List ℕ) (new : Lines) : Type 0 where
+pub record IsLastLine (old : Lines) (line : List ℕ) (new : Lines) : Type 0 where
   pub law : to_come old [] ≡ line ∷ []
   pub whole : line ≡ old.kept
   pub lf : Lacks 10 line

@@ -10,7 +10,7 @@ use Rattle.rapid_line.specs.declared.words.LineFault.TheVariants.{LineTooLong, S
 use Rattle.rapid_line.specs.declared.words.LineFault.TheVariants.{BadOp, EmptyName, LongName}
 use Rattle.rapid_line.specs.declared.lines.NamedLine.{NamedLine}
 use Rattle.rapid_line.specs.Cut.{has, cut, before_end}
-use Rattle.rapid_line.specs.Grammar.{Named, spelling}
+use Rattle.rapid_line.specs.Grammar.{NamedEvent, spelling}
 
 -- the word that is spelled so
 unfoldable pub word_of : List ℕ → Option Word
@@ -54,7 +54,7 @@ operation_of field =
     or_fault BadOp (cut 40 field) (λ p. or_fault BadOp (word_of p.0) (λ w. argument_of w p.1))
 
 -- the named event, where its names have the lengths of names
-abbrev pub names_of : List ℕ → List ℕ → Word → List ℕ → Result Named LineFault
+abbrev pub names_of : List ℕ → List ℕ → Word → List ℕ → Result NamedEvent LineFault
 names_of thread location w argument =
     unless EmptyName (length thread == 0 || length argument == 0)
     (unless LongName (nat_lt 255 (length thread) || nat_lt 255 (length argument) || nat_lt 255
@@ -62,7 +62,7 @@ names_of thread location w argument =
     (Ok (record { thread = thread; word = w; argument = argument; location = location })))
 
 -- the named event of a content, or the first cause why it has none
-unfoldable pub line_of : List ℕ → Result Named LineFault
+unfoldable pub line_of : List ℕ → Result NamedEvent LineFault
 line_of bytes =
     unless LineTooLong (nat_lt 1024 (length bytes))
     (unless StrayCr (has 13 bytes)
@@ -73,7 +73,7 @@ line_of bytes =
 -- ---- what the code answers
 
 -- the named event of a line's parts
-abbrev pub named_of : NamedLine → Named
+abbrev pub named_of : NamedLine → NamedEvent
 named_of line =
     record {
       thread = line.thread.now;
@@ -88,5 +88,5 @@ abbrev pub Gives : {X Y E : Type 0} → (X → Y) → Result X E → Result Y E 
 Gives view (Ok x) read = read ≡ Ok (view x)
 Gives view (Err e) read = read ≡ Err e
 
-abbrev pub ok_named : Named → Result Named LineFault
+abbrev pub ok_named : NamedEvent → Result NamedEvent LineFault
 ok_named e = Ok e

@@ -11,7 +11,7 @@ ghost use Rattle.std.specs.Prelude.{IfOk, IfSome, IfNone, OnOk, OnErr};
 ghost use Rattle.rapid_line.specs.Cut.{Lacks, cut};
 ghost use Rattle.rapid_line.specs.Marks.{IsKnown};
 ghost use Rattle.rapid_line.specs.Lines.{Lines, no_bytes, most, text_of, whole_or, IsKnownCut, Cuts, Keeps};
-ghost use Rattle.rapid_line.specs.Lines.{Ends, IsTooLong};
+ghost use Rattle.rapid_line.specs.Lines.{IsLastLine, IsTooLong};
 
 use crate::bytes::cut_at;
 use crate::marks::{Line, first_line};
@@ -211,7 +211,7 @@ impl LineCutter {
     /// The last line of the text, where that ends without an LF; none, where nothing is kept.
     #[tactic(auto, using(crate::proofs::LineLaws::last_line))]
     pub fn last_line(&mut self) -> Option<CutLine<'static>>
-        ensures line { IfSome result (λ l. Ends self.old (text_of self.new l) self.new) }
+        ensures line { IfSome result (λ l. IsLastLine self.old (text_of self.new l) self.new) }
         ensures number { IfSome result (λ l. l.number ≡ self.old.unfinished) }
         ensures known { IfSome result IsKnownCut }
         ensures none { result ≡ None → (self.old.kept ≡ []) × (self.new ≡ self.old) }

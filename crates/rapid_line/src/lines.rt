@@ -3,7 +3,7 @@
 ghost use Rattle.std.specs.Prelude.{◌≡◌, ◌≢◌, ◌↔◌, ℕ, List, [], ◌∷◌, IfOk, IfErr, IfSome, Ok, Err, Some};
 ghost use Rattle.rapid_line.specs.declared.words.LineFault.{LineFault};
 ghost use Rattle.rapid_line.specs.Cut.{Lacks, cut};
-ghost use Rattle.rapid_line.specs.Grammar.{Named, IsWellFormed, content_of, IsNamed, spelling};
+ghost use Rattle.rapid_line.specs.Grammar.{NamedEvent, IsWellFormed, content_of, IsNamed, spelling};
 ghost use Rattle.rapid_line.specs.Causes.{IsFirstCause};
 ghost use Rattle.rapid_line.specs.Reading.{word_of, fields_of, operation_of, line_of, Gives, ok_named};
 ghost use Rattle.rapid_line.specs.Reading.{named_of, names_of, and_then, argument_of};
@@ -215,7 +215,7 @@ pub fn read_line(bytes: &[u8]) -> Result<NamedLine<'_>, LineFault>
     // What is read is the named event of the content.
     ensures found { IfOk result (λ line. IsNamed bytes.now (named_of line)) }
     // A content that has a named event is read as it, and as no other.
-    ensures only { (e : Named) → IsNamed bytes.now e → Gives named_of result (ok_named e) }
+    ensures only { (e : NamedEvent) → IsNamed bytes.now e → Gives named_of result (ok_named e) }
     // Which cause it is: the first in their order that applies.
     ensures first { IfErr result (IsFirstCause bytes.now) }
     // The same, as one value.
@@ -226,13 +226,13 @@ pub fn read_line(bytes: &[u8]) -> Result<NamedLine<'_>, LineFault>
 
 /// Two named events never share a content.
 pub fn one_content()
-    ensures { (d e : Named) → IsWellFormed d → IsWellFormed e → content_of d ≡ content_of e → d ≡ e }
+    ensures { (d e : NamedEvent) → IsWellFormed d → IsWellFormed e → content_of d ≡ content_of e → d ≡ e }
 {}
 
 /// The reading from left to right answers a named event exactly for its content, and a cause exactly
 /// where it is the first.
 pub fn one_reading()
-    ensures named { (bytes : List ℕ) (e : Named) → Lacks 10 bytes →
+    ensures named { (bytes : List ℕ) (e : NamedEvent) → Lacks 10 bytes →
         (line_of bytes ≡ Ok e) ↔ IsNamed bytes e }
     ensures cause { (bytes : List ℕ) (f : LineFault) → Lacks 10 bytes →
         (line_of bytes ≡ Err f) ↔ IsFirstCause bytes f }

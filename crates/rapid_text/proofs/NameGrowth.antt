@@ -7,7 +7,7 @@ use Rattle.std.proofs.lemmas.Option.{slice_get_within}
 use Rattle.event_core.specs.declared.events.Event.{Event}
 use Rattle.rapid_line.specs.declared.words.Word.{Word}
 use Rattle.rapid_line.specs.declared.words.Word.TheVariants as words
-use Rattle.rapid_line.specs.Grammar.{Named}
+use Rattle.rapid_line.specs.Grammar.{NamedEvent}
 use Rattle.rapid_line.proofs.Steps.{and_then_ok, ok_inj}
 use Rattle.rapid_text.specs.declared.causes.Kind.{Kind}
 use Rattle.rapid_text.specs.declared.causes.Kind.TheVariants as kinds
@@ -135,13 +135,13 @@ name_of : (u : Tables) (kind : Kind) (n : ℕ) (name : List ℕ) → slice_get (
 name_of u kind n name e = ap (λ (o : Option (List ℕ)). unwrap_or o []) e
 
 -- the event's numbers have the names of the named event, and names were only added
-pub record Named_event (t : Tables) (d : Named) (e : Event) (u : Tables) : Type 0 where
+pub record Named_event (t : Tables) (d : NamedEvent) (e : Event) (u : Tables) : Type 0 where
   pub named : named_by u e ≡ d
   pub has : HasNames u e
   pub value : e.value ≡ 0
   pub grows : TablesGrow t u
 
-made : (t u : Tables) (d : Named) (i j k : ℕ)
+made : (t u : Tables) (d : NamedEvent) (i j k : ℕ)
     → NumberedInOrder t (kind_of d.word) d.thread d.argument d.location i j k u
     → Named_event t d (event_of d.word i j k) u
 made t u d i j k n =
@@ -172,7 +172,7 @@ pub numbered_ok : (kind : Kind) (o : Option (ℕ × Tables)) (p : ℕ × Tables)
 numbered_ok kind None p e = absurd cc
 numbered_ok kind (Some q) p e = ap Some (ok_inj q p e)
 
-event_is : (t : Tables) (d : Named) (p q r : ℕ × Tables) (x : Event × Tables)
+event_is : (t : Tables) (d : NamedEvent) (p q r : ℕ × Tables) (x : Event × Tables)
     → number_in t kinds.Thread d.thread ≡ Some p → number_in p.1 (kind_of d.word) d.argument ≡ Some q
     → number_in q.1 kinds.Site d.location ≡ Some r → (event_of d.word p.0 q.0 r.0 ≡ x.0) × (r.1 ≡ x.1)
     → Named_event t d x.0 x.1
@@ -181,7 +181,7 @@ event_is t d p q r x one two three is =
     Named_event t d (event_of d.word p.0 q.0 r.0) u) is.1
     (made t r.1 d p.0 q.0 r.0 (in_order p q r one two three)))
 
-pub named_event_is : (t : Tables) (d : Named) (e : Event) (u : Tables) → named_event t d ≡ Ok (e, u)
+pub named_event_is : (t : Tables) (d : NamedEvent) (e : Event) (u : Tables) → named_event t d ≡ Ok (e, u)
     → Named_event t d e u
 unfolding named_event
 named_event_is t d e u eq =

@@ -6,7 +6,7 @@ use Rattle.std.proofs.lemmas.List.{length_push}
 use Rattle.event_core.specs.declared.events.Event.{Event}
 use Rattle.rapid_line.specs.declared.words.Word.{Word}
 use Rattle.rapid_line.specs.declared.words.Word.TheVariants as words
-use Rattle.rapid_line.specs.Grammar.{Named}
+use Rattle.rapid_line.specs.Grammar.{NamedEvent}
 use Rattle.rapid_line.specs.Reading.{and_then}
 use Rattle.rapid_text.specs.declared.causes.Kind.{Kind}
 use Rattle.rapid_text.specs.declared.causes.Kind.TheVariants as kinds
@@ -53,7 +53,7 @@ no_site : (w : Word) → kinds.Site ≢ kind_of w
 no_site words.Load bad = absurd cc
 no_site _ bad = absurd cc
 
-sites_kept : (t u v : Tables) (e : Named) (n k : ℕ) → number_in t kinds.Thread e.thread ≡ Some (n, u)
+sites_kept : (t u v : Tables) (e : NamedEvent) (n k : ℕ) → number_in t kinds.Thread e.thread ≡ Some (n, u)
     → number_in u (kind_of e.word) e.argument ≡ Some (k, v) → space v kinds.Site ≡ space t kinds.Site
 sites_kept t u v e n k first second =
     (spaces u (kind_of e.word) e.argument k v second).others kinds.Site (no_site e.word)
@@ -61,30 +61,31 @@ sites_kept t u v e n k first second =
 
 -- ---- the names of a line
 
-abbrev after_target : Named → ℕ → ℕ × Tables → Result (Event × Tables) Cause
+abbrev after_target : NamedEvent → ℕ → ℕ × Tables → Result (Event × Tables) Cause
 after_target e thread q =
     and_then (number_or_fault kinds.Site (number_in q.1 kinds.Site e.location))
     (λ r. Ok (event_of e.word thread q.0 r.0, r.1))
 
-abbrev after_first : Named → ℕ × Tables → Result (Event × Tables) Cause
+abbrev after_first : NamedEvent → ℕ × Tables → Result (Event × Tables) Cause
 after_first e p =
     and_then (number_or_fault (kind_of e.word) (number_in p.1 (kind_of e.word) e.argument))
     (after_target e p.0)
 
-named_by_first : (t : Tables) (e : Named) (o : Option (ℕ × Tables)) → number_in t kinds.Thread e.thread ≡ o
+named_by_first : (t : Tables) (e : NamedEvent) (o : Option (ℕ × Tables))
+    → number_in t kinds.Thread e.thread ≡ o
     → named_event t e ≡ and_then (number_or_fault kinds.Thread o) (after_first e)
 unfolding named_event
 named_by_first t e o is =
     ap (λ (x : Option (ℕ × Tables)). and_then (number_or_fault kinds.Thread x) (after_first e)) is
 
-named_by_second : (t u : Tables) (e : Named) (n : ℕ) (o : Option (ℕ × Tables))
+named_by_second : (t u : Tables) (e : NamedEvent) (n : ℕ) (o : Option (ℕ × Tables))
     → number_in t kinds.Thread e.thread ≡ Some (n, u) → number_in u (kind_of e.word) e.argument ≡ o
     → named_event t e ≡ and_then (number_or_fault (kind_of e.word) o) (after_target e n)
 named_by_second t u e n o first is =
     named_by_first t e (Some (n, u)) first
     ∙ ap (λ (x : Option (ℕ × Tables)). and_then (number_or_fault (kind_of e.word) x) (after_target e n)) is
 
-named_by_third : (t u v : Tables) (e : Named) (n k : ℕ) (o : Option (ℕ × Tables))
+named_by_third : (t u v : Tables) (e : NamedEvent) (n k : ℕ) (o : Option (ℕ × Tables))
     → number_in t kinds.Thread e.thread ≡ Some (n, u)
     → number_in u (kind_of e.word) e.argument ≡ Some (k, v) → number_in v kinds.Site e.location ≡ o
     → named_event t e ≡ and_then (number_or_fault kinds.Site o) (λ r. Ok (event_of e.word n k r.0, r.1))
@@ -109,14 +110,14 @@ within_limit t kind known more within new =
     let least : (space t kind).limit < length (space t kind).names + more → ⊥ = λ less. within (new, less) in
     omega arith
 
-pub thread_too_many : (t : Tables) (e : Named) (known : Known) → AreKnown t e known
+pub thread_too_many : (t : Tables) (e : NamedEvent) (known : Known) → AreKnown t e known
     → PassesLimit t kinds.Thread known.thread 1
     → named_event t e ≡ Err (causes.TooManyNames kinds.Thread)
 thread_too_many t e known are passes =
     named_by_first t e None (lacks t kinds.Thread e.thread (sym are.thread ∙ passes.0)
     (λ left. absurd (let over = passes.1 in omega (arith, left, over))))
 
-module _ (t : Tables) (e : Named) (known : Known) (m : ℕ) (are : AreKnown t e known)
+module _ (t : Tables) (e : NamedEvent) (known : Known) (m : ℕ) (are : AreKnown t e known)
     (two : AddsTwo e known → m ≡ 2) (one : (AddsTwo e known → ⊥) → m ≡ 1)
     (thread : PassesLimit t kinds.Thread known.thread 1 → ⊥)
   where
@@ -244,13 +245,13 @@ module _ (t : Tables) (e : Named) (known : Known) (m : ℕ) (are : AreKnown t e 
 -- ---- a line of which some names were numbered
 
 -- the first name, and the second, have their numbers again, so the line is read as before
-pub read_after_first : (t u : Tables) (e : Named) (n : ℕ) → number_in t kinds.Thread e.thread ≡ Some (n, u)
-    → named_event u e ≡ named_event t e
+pub read_after_first : (t u : Tables) (e : NamedEvent) (n : ℕ)
+    → number_in t kinds.Thread e.thread ≡ Some (n, u) → named_event u e ≡ named_event t e
 read_after_first t u e n first =
     named_by_first u e (Some (n, u)) (numbered_again t u kinds.Thread e.thread n first)
     ∙ sym (named_by_first t e (Some (n, u)) first)
 
-pub read_after_second : (t u v : Tables) (e : Named) (n k : ℕ)
+pub read_after_second : (t u v : Tables) (e : NamedEvent) (n k : ℕ)
     → number_in t kinds.Thread e.thread ≡ Some (n, u)
     → number_in u (kind_of e.word) e.argument ≡ Some (k, v) → named_event v e ≡ named_event t e
 read_after_second t u v e n k first second =

@@ -32,7 +32,7 @@ use Rattle.std.proofs.lemmas.List.{length-append, append-nil, take-append-le, dr
 use Rattle.event_core.specs.declared.events.Event.{Event}
 use Rattle.rapid_line.specs.declared.words.LineFault.TheVariants.{LineTooLong}
 use Rattle.rapid_line.specs.Cut.{count, Lacks, after_last}
-use Rattle.rapid_line.specs.Lines.{Lines, to_come, most, Cuts, Keeps, Ends, IsTooLong}
+use Rattle.rapid_line.specs.Lines.{Lines, to_come, most, Cuts, Keeps, IsLastLine, IsTooLong}
 use Rattle.rapid_line.proofs.Cuts.{IsCut-at, after_last-Lacks}
 use Rattle.rapid_line.proofs.LineLaws.{keeps_law, end_within}
 use Rattle.rapid_text.specs.Taking.{lines_place, place_of}
@@ -297,7 +297,7 @@ closes_by s n k h = h
 
 -- the fault of the last line
 pub closes_at : {lines next : Lines} {line : List ℕ} (names : Tables) (last n : ℕ) (k : Cause)
-    → n ≡ lines.unfinished → Ends lines line next → Fails k (reading names (content line))
+    → n ≡ lines.unfinished → IsLastLine lines line next → Fails k (reading names (content line))
     → (k ≡ causes.OutOfMemory → HasEvent (reading names (content line)))
     → ClosesAt (cutting_of names lines last) (record { line = n; cause = k }) k
 closes_at {lines} {next} {line} names last n k at e fails some =

@@ -15,7 +15,7 @@ use Rattle.rapid_text.specs.Texts.{FirstAt}
 use Rattle.rapid_text.proofs.Begins.{first_from}
 use Rattle.rapid_text.proofs.NameGrowth.{TablesGrow-trans}
 use Rattle.rapid_text.specs.Cutting.{Cutting, judged, most, Pushes, FailsAt, Closes, ClosesAt}
-use Rattle.rapid_text.specs.Pulling.{Pulling, pulling_of, to_judge, Follows, Ends, Answers, NoAnswer}
+use Rattle.rapid_text.specs.Pulling.{Pulling, pulling_of, to_judge, Follows, HasNoMore, Answers, NoAnswer}
 
 -- what is still to be judged of what a cutter keeps, what waits and what is left
 abbrev text_of : Cutting → List ℕ → Option (List ℕ) → Option Judgement
@@ -192,8 +192,9 @@ end_begins {start} {from} {d} {rest} {n} {names} e b =
     follows_last (BeginsAt n names) (to_judge start from) d rest e.same e.ended b
 
 -- after the end nothing is left
-pub ended_text : (p : Pulling) (left : Option (List ℕ)) → p.ended ≡ true → length p.came ≡ 0 → Ends p left p
+pub ended_text : (p : Pulling) (left : Option (List ℕ)) → p.ended ≡ true → length p.came ≡ 0
+    → HasNoMore p left p
 ended_text p left e n =
     let none = nil_from_length p.came n in
-    subst (λ (q : Pulling). Ends q left q) (λ i. record p { ended = sym e i; came = sym none i })
+    subst (λ (q : Pulling). HasNoMore q left q) (λ i. record p { ended = sym e i; came = sym none i })
     (record { text = refl; line = refl; ended = refl })

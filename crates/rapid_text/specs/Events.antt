@@ -28,7 +28,7 @@ use Rattle.rapid_text.specs.declared.causes.Cause.{Cause}
 use Rattle.rapid_text.specs.declared.causes.Cause.TheVariants as causes
 -- the content of a line: the line without the CR at its end
 pub use Rattle.rapid_line.specs.Cut.{content}
-use Rattle.rapid_line.specs.Grammar.{Named}
+use Rattle.rapid_line.specs.Grammar.{NamedEvent}
 use Rattle.rapid_line.specs.Reading.{line_of, and_then}
 use Rattle.rapid_text.specs.Tables.{Tables, space, number_in, name_at}
 
@@ -61,7 +61,7 @@ number_or_fault kind None = Err (causes.TooManyNames kind)
 number_or_fault kind (Some p) = Ok p
 
 -- the event of a named event, its names numbered in the order thread, argument, location
-unfoldable pub named_event : Tables → Named → Result (Event × Tables) Cause
+unfoldable pub named_event : Tables → NamedEvent → Result (Event × Tables) Cause
 named_event t e =
     and_then (number_or_fault kinds.Thread (number_in t kinds.Thread e.thread)) (λ p.
     and_then (number_or_fault (kind_of e.word) (number_in p.1 (kind_of e.word) e.argument)) (λ q.
@@ -72,7 +72,7 @@ abbrev pub some_event : Result (Event × Tables) Cause → Result (Option Event 
 some_event (Err f) = Err f
 some_event (Ok p) = Ok (Some p.0, p.1)
 
-abbrev pub event_or : Tables → Result Named LineFault → Result (Option Event × Tables) Cause
+abbrev pub event_or : Tables → Result NamedEvent LineFault → Result (Option Event × Tables) Cause
 event_or t (Err f) = Err (causes.Line f)
 event_or t (Ok e) = some_event (named_event t e)
 
@@ -113,7 +113,7 @@ target_of (ops.Fork u) = u.0
 target_of (ops.Join u) = u.0
 
 -- the named event that an event is, by the names with its numbers
-abbrev pub named_by : Tables → Event → Named
+abbrev pub named_by : Tables → Event → NamedEvent
 named_by t e = record {
   thread = name_at t kinds.Thread e.thread.0;
   word = word_of_op e.op;

@@ -77,14 +77,14 @@ pub record Tells (old : Pulling) (left : Option (List ℕ)) (new : Pulling) (res
   pub text : Follows (to_judge old left) (with_event new.line (Some event)) (to_judge new rest)
 
 -- the text had no event left, and no fault
-pub record Ends (old : Pulling) (left : Option (List ℕ)) (new : Pulling) : Type 0 where
+pub record HasNoMore (old : Pulling) (left : Option (List ℕ)) (new : Pulling) : Type 0 where
   pub text : IfSome (to_judge old left) (λ j. j ≡ ended new.names)
   pub line : new.line ≡ old.line
   pub ended : new.ended ≡ true
 
 abbrev pub Answers : Pulling → Option (List ℕ) → Pulling → Option (List ℕ) → Option Event → Type 0
 Answers old left new rest (Some event) = Tells old left new rest event
-Answers old left new rest None = Ends old left new
+Answers old left new rest None = HasNoMore old left new
 
 -- the text stops here with this fault
 abbrev pub StopsAt : Pulling → Option (List ℕ) → TextFault → Type 0

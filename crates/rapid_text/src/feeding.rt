@@ -38,7 +38,7 @@ pub enum Fed {
     /// The sink takes no more.
     Stopped,
     /// A read failed, or the turns are used up.
-    Cut,
+    Truncated,
 }
 
 /// Feeds what the input has left of its text to the sink, in pieces of up to 65,536 bytes. Each takes a turn.
@@ -50,17 +50,17 @@ pub fn feed_all<I: Input, S: Sink>(input: &mut I, sink: &mut S, turns: u64) -> F
     ensures stopped { result ≡ Fed.Stopped → Pulled (I.left input.old) (I.left input.new) turns
         (λ bytes. S.stops sink.old bytes sink.new) }
     // What was pulled was taken; a pull failed, or each of so many gave a byte at least.
-    ensures cut { result ≡ Fed.Cut → Pulled (I.left input.old) (I.left input.new) turns
+    ensures truncated { result ≡ Fed.Truncated → Pulled (I.left input.old) (I.left input.new) turns
         (λ bytes. S.takes sink.old bytes sink.new × ((I.failed input.new ≡ true) ⊎ (turns ≤ length bytes))) }
     // However it ends, no more than 65,536 bytes were pulled for each turn.
     ensures few { WithinTurns turns (I.left input.old) (I.left input.new) }
     // No failure of the input is passed over.
-    ensures healthy { result ≢ Fed.Cut → I.failed input.new ≡ I.failed input.old }
+    ensures healthy { result ≢ Fed.Truncated → I.failed input.new ≡ I.failed input.old }
 {
     let mut piece = [0; PIECE];
     'pulls: for _ in 0..turns {
         let Ok(count) = input.pull(&mut piece) else {
-            return Fed::Cut;
+            return Fed::Truncated;
         };
         if count == 0 {
             return Fed::Whole;
@@ -69,5 +69,5 @@ pub fn feed_all<I: Input, S: Sink>(input: &mut I, sink: &mut S, turns: u64) -> F
             return Fed::Stopped;
         }
     }
-    Fed::Cut
+    Fed::Truncated
 }

@@ -13,7 +13,8 @@ use Rattle.script_text.specs.declared.causes.ScriptCause.{ScriptCause}
 use Rattle.script_text.specs.declared.causes.ScriptCause.TheVariants as causes
 use Rattle.script_text.specs.declared.causes.ScriptFault.{ScriptFault}
 use Rattle.script_text.specs.Scripts.{Parsed, IsDraft, begun, script_of}
-use Rattle.script_text.specs.Readings.{Progress, unread, judged, Takes, Stops, EndStops, is_of_line, HasFault}
+use Rattle.script_text.specs.Readings.{Progress, unread, script_after, Takes, PieceFails}
+use Rattle.script_text.specs.Readings.{EndFails, is_of_line, HasFault}
 use Rattle.script_text.specs.Readings.{HasNoneBefore, Incomplete, IsFault, ReadFails}
 use Rattle.script_text.proofs.Steps.{judge_from}
 use Rattle.script_text.proofs.Legal.{draft_judged, draft_begun}
@@ -37,10 +38,10 @@ module _ (limits : Bounds) (left rest : Option (List ℕ)) (turns : ℕ) (failed
   fault_as : (k : ScriptCause) (f : ScriptFault) → (is_of_line k ≡ true → HasFault limits left f)
       → HasNoneBefore limits left f.line → k ≢ causes.Read → k ≢ causes.NoFork
       → IsFault limits left rest turns failed f k
-  fault_as causes.OutOfMemory f finds first read judged = first
-  fault_as causes.NoFork f finds first read judged = absurd (judged refl)
-  fault_as causes.Read f finds first read judged = absurd (read refl)
-  fault_as k f finds first read judged = finds refl
+  fault_as causes.OutOfMemory f finds first read of_line = first
+  fault_as causes.NoFork f finds first read of_line = absurd (of_line refl)
+  fault_as causes.Read f finds first read of_line = absurd (read refl)
+  fault_as k f finds first read of_line = finds refl
 
   -- memory ran out before the first line
   pub memory_fault : (f : ScriptFault) → f ≡ record { line = 1; cause = causes.OutOfMemory }
@@ -61,21 +62,21 @@ module _ (limits : Bounds) (left rest : Option (List ℕ)) (turns : ℕ) (failed
   incomplete_fault s f all (inl h) = memory_fault f h
   incomplete_fault s f all (inr h) =
       let here : IsFault limits left rest turns failed f causes.NoFork =
-      IfSome_then left all (λ text e. record { parsed = s; judged = e; first = h.1 }) in
+      IfSome_then left all (λ text e. record { parsed = s; reads = e; first = h.1 }) in
       subst (λ (k : ScriptCause). IsFault limits left rest turns failed f k) (sym h.0) here
 
   -- ---- a text that was pulled
 
   module _ (start : Progress) (is : start ≡ unread limits) where
     pub stopped_fault : (o : Option ScriptFault) (f : ScriptFault) → turns ≤ 17592186044416
-        → Pulled left rest turns (λ bytes. IsSomeAnd o (Stops start bytes)) → o ≡ Some f
+        → Pulled left rest turns (λ bytes. IsSomeAnd o (PieceFails start bytes)) → o ≡ Some f
         → IsFault limits left rest turns failed f f.cause
     stopped_fault o f few p some =
-        let stops = subst (λ (q : Progress). Stops q p.bytes f) is
-        (subst (λ (x : Option ScriptFault). IsSomeAnd x (Stops start p.bytes)) some p.so) in
+        let stops = subst (λ (q : Progress). PieceFails q p.bytes f) is
+        (subst (λ (x : Option ScriptFault). IsSomeAnd x (PieceFails start p.bytes)) some p.so) in
         fault_as f.cause f (λ own. known _ left rest p.bytes p.came (stops.at.finds own))
         (known _ left rest p.bytes p.came stops.at.first)
-        (λ e. let many = stops.read e in absurd (omega (arith, many, p.few, few))) stops.at.judged
+        (λ e. let many = stops.read e in absurd (omega (arith, many, p.few, few))) stops.at.of_line
 
     module _ (now : Progress) where
       abbrev IsRead : List ℕ → Type 0
@@ -84,7 +85,7 @@ module _ (limits : Bounds) (left rest : Option (List ℕ)) (turns : ℕ) (failed
       taken : (bytes : List ℕ) → IsRead bytes → Takes (unread limits) bytes [] now
       taken bytes h = subst (λ (q : Progress). Takes q bytes [] now) is h
 
-      pub end_fault : (f : ScriptFault) → Whole left rest turns IsRead → EndStops now f
+      pub end_fault : (f : ScriptFault) → Whole left rest turns IsRead → EndFails now f
           → IsFault limits left rest turns failed f f.cause
       end_fault f w stops =
           let p = w.pulled in
@@ -92,9 +93,9 @@ module _ (limits : Bounds) (left rest : Option (List ℕ)) (turns : ℕ) (failed
           fault_as f.cause f
           (λ own. known_whole _ left rest p.bytes p.came w.ended (law ∙ stops.at.finds own []))
           (known_whole _ left rest p.bytes p.came w.ended (λ g e. stops.at.first [] g (sym law ∙ e)))
-          stops.read stops.at.judged
+          stops.read stops.at.of_line
 
-      pub all_draft : (s : Parsed) → Whole left rest turns IsRead → judged now [] ≡ Ok s → IsDraft s
+      pub all_draft : (s : Parsed) → Whole left rest turns IsRead → script_after now [] ≡ Ok s → IsDraft s
       all_draft s w e =
           draft_judged (begun limits) 1 (lines_of (w.pulled.bytes ++ [])) s (draft_begun limits)
           ((taken w.pulled.bytes w.pulled.so).law [] ∙ e)

@@ -23,7 +23,7 @@ use Rattle.script_text.specs.declared.lines.ScriptLine.{ScriptLine}
 use Rattle.script_text.specs.declared.forms.Word.{Word}
 use Rattle.script_text.specs.declared.forms.Word.TheVariants.{One, Swap}
 use Rattle.rapid_line.specs.declared.words.Word.TheVariants as words
-use Rattle.script_text.specs.Forms.{Named, line_of}
+use Rattle.script_text.specs.Forms.{SpelledAct, line_of}
 use Rattle.script_text.specs.Lines.{thread_of, fork_of, join_of, forks, joins, is_thread}
 use Rattle.script_text.specs.Scripts.{Parsed, Once, AreLegal, IsDraft, judge, next_line, after_content}
 use Rattle.script_text.specs.Scripts.{with_line, number_or_cause, numbered_line, is_bad_fork, is_bad_join}
@@ -142,7 +142,7 @@ record IsNumbered (t : Tables) (l : ScriptLine) (u : Tables) : Type 0 where
   grows : TablesGrow t u
   first : t.threads.names ≡ [] → (thread_of l).0 ≡ 0
 
-numbered_is : (t : Tables) (n : ℕ) (said : Named) (l : ScriptLine) (u : Tables)
+numbered_is : (t : Tables) (n : ℕ) (said : SpelledAct) (l : ScriptLine) (u : Tables)
     → numbered_line t n said ≡ Ok (l, u)
     → IsNumbered t l u
 unfolding numbered_line

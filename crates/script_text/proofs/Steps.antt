@@ -12,7 +12,7 @@ use Rattle.script_text.specs.declared.causes.ScriptCause.TheVariants as causes
 use Rattle.script_text.specs.declared.causes.ScriptFault.{ScriptFault}
 use Rattle.script_text.specs.Forms.{Fails, line_of}
 use Rattle.script_text.specs.Scripts.{Parsed, judge, next_line, after_content}
-use Rattle.script_text.specs.Readings.{Progress, judged, Takes, StopsAt, Stops, is_of_line}
+use Rattle.script_text.specs.Readings.{Progress, script_after, Takes, FailsEach, PieceFails, is_of_line}
 
 -- ---- lines that are taken
 
@@ -83,7 +83,7 @@ line_has k r h line = h
 line_stops : (s : Parsed) (n : ℕ) (f : ScriptFault) (texts : List ℕ → Result Parsed ScriptFault)
     → ((more : List ℕ) → (line : List ℕ) × (others : List (List ℕ)) × (texts more ≡ judge s n (line ∷ others))
     × Fails f.cause (after_content s n (content line)))
-    → f.line ≡ n → StopsAt f texts
+    → f.line ≡ n → FailsEach f texts
 line_stops s n f texts begin at = record {
   finds = λ own more.
       let first = begin more in
@@ -94,7 +94,7 @@ line_stops s n f texts begin at = record {
       let first = begin more in
       let from = judge_from s n (first.0 ∷ first.1) g (sym first.2 ∙ e) in
       omega (arith, from, at);
-  judged = fails_as _ f.cause causes.NoFork (begin []).3;
+  of_line = fails_as _ f.cause causes.NoFork (begin []).3;
 }
 
 line_long : (bytes : List ℕ) → 1024 < length bytes → line_of bytes ≡ Err causes.LineTooLong
@@ -109,9 +109,9 @@ long_content s n bytes h = rw (ne_eqb (length bytes) 0 (λ z. omega arith), line
 -- a line that ended has a cause
 pub ended_stops : {p : Progress} {piece line rest : List ℕ} {f : ScriptFault} {new : Lines}
     → f.line ≡ p.cutter.unfinished → Cuts p.cutter piece line rest new
-    → Fails f.cause (after_content p.parsed p.cutter.unfinished (content line)) → Stops p piece f
+    → Fails f.cause (after_content p.parsed p.cutter.unfinished (content line)) → PieceFails p piece f
 ended_stops {p} {piece} {line} {rest} {f} {new} at c why = record {
-  at = line_stops p.parsed p.cutter.unfinished f (λ more. judged p (piece ++ more)) (λ more. (
+  at = line_stops p.parsed p.cutter.unfinished f (λ more. script_after p (piece ++ more)) (λ more. (
     line,
     to_come new (rest ++ more),
     ap (λ (ls : List (List ℕ)). judge p.parsed p.cutter.unfinished ls) (c.law more),
@@ -122,11 +122,11 @@ ended_stops {p} {piece} {line} {rest} {f} {new} at c why = record {
 
 -- a line is too long
 pub long_stops : {p : Progress} {piece : List ℕ} {f : ScriptFault} → f.line ≡ p.cutter.unfinished
-    → f.cause ≡ causes.LineTooLong → IsTooLong p.cutter piece → Stops p piece f
+    → f.cause ≡ causes.LineTooLong → IsTooLong p.cutter piece → PieceFails p piece f
 long_stops {p} {piece} {f} at is long =
     let n = p.cutter.unfinished in
     record {
-      at = line_stops p.parsed n f (λ more. judged p (piece ++ more)) (λ more.
+      at = line_stops p.parsed n f (λ more. script_after p (piece ++ more)) (λ more.
           let next = long.law more in (
             next.0,
             next.1,
@@ -140,15 +140,15 @@ long_stops {p} {piece} {f} at is long =
 -- more bytes came than a cutter takes
 pub no_room : (p : Progress) (piece : List ℕ) (f : ScriptFault)
     → f ≡ record { line = p.cutter.unfinished; cause = causes.Read }
-    → (p.cutter.taken + length piece ≤ most → ⊥) → Stops p piece f
+    → (p.cutter.taken + length piece ≤ most → ⊥) → PieceFails p piece f
 no_room p piece f is many =
-    let here : Stops p piece (record { line = p.cutter.unfinished; cause = causes.Read }) =
+    let here : PieceFails p piece (record { line = p.cutter.unfinished; cause = causes.Read }) =
     record {
       at = record {
         finds = λ own. absurd cc;
         first = λ more g e. judge_from p.parsed p.cutter.unfinished (to_come p.cutter (piece ++ more)) g e;
-        judged = λ e. absurd cc;
+        of_line = λ e. absurd cc;
       };
       read = λ e. omega (arith, many);
     } in
-    subst (λ (g : ScriptFault). Stops p piece g) (sym is) here
+    subst (λ (g : ScriptFault). PieceFails p piece g) (sym is) here

@@ -37,7 +37,7 @@ use Rattle.script_text.specs.declared.causes.ScriptCause.TheVariants.{LineTooLon
 use Rattle.script_text.specs.declared.causes.ScriptCause.TheVariants as causes
 
 -- what a line says; the number is 0 where the word takes none
-pub record Named : Type 0 where
+pub record SpelledAct : Type 0 where
   pub thread : List ℕ
   pub word : Word
   pub argument : List ℕ
@@ -64,30 +64,30 @@ abbrev pub is_name : List ℕ → Bool
 is_name bytes = nat_lt 0 (length bytes) && nat_lt (length bytes) 256 && list_all is_name_byte bytes
 
 -- the thread and the argument are names
-pub record AreNames (said : Named) : Type 0 where
+pub record AreNames (said : SpelledAct) : Type 0 where
   pub thread : IsName said.thread
   pub argument : IsName said.argument
 
 -- thread word argument
-abbrev pub plain : List ℕ → Word → List ℕ → Result Named ScriptCause
+abbrev pub plain : List ℕ → Word → List ℕ → Result SpelledAct ScriptCause
 plain thread w argument =
     unless BadLine (not (is_name thread) || not (is_name argument))
     (Ok (record { thread = thread; word = w; argument = argument; number = 0 }))
 
 -- thread word argument number; the argument ends at the first blank, and no other follows
-abbrev pub numbered : List ℕ → Word → List ℕ → Result Named ScriptCause
+abbrev pub numbered : List ℕ → Word → List ℕ → Result SpelledAct ScriptCause
 numbered thread w rest =
     or_fault BadLine (cut 32 rest) (λ p.
     unless BadLine (not (is_name thread) || not (is_name p.0) || has 32 p.1)
     (or_fault BadNumber (number_of p.1) (λ n.
     Ok (record { thread = thread; word = w; argument = p.0; number = n }))))
 
-abbrev pub form : List ℕ → Word → List ℕ → Result Named ScriptCause
+abbrev pub form : List ℕ → Word → List ℕ → Result SpelledAct ScriptCause
 form thread w rest = if takes_number w then numbered thread w rest else plain thread w rest
 
 -- what a content says, or the first cause why it has none of the forms; the thread ends at the first blank,
 -- and the word at the second
-unfoldable pub line_of : List ℕ → Result Named ScriptCause
+unfoldable pub line_of : List ℕ → Result SpelledAct ScriptCause
 line_of bytes =
     unless LineTooLong (nat_lt 1024 (length bytes))
     (unless BadLine (has 13 bytes)
@@ -98,8 +98,8 @@ line_of bytes =
 -- ---- what the code answers
 
 -- what a line's parts say
-abbrev pub named_of : NamedAct → Named
-named_of line =
+abbrev pub spelled_by : NamedAct → SpelledAct
+spelled_by line =
     record { thread = line.thread.now; word = line.word; argument = line.argument.now; number = line.number }
 
 -- the cause is the one that was read, unless memory ran out

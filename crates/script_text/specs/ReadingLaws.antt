@@ -5,7 +5,7 @@ use Rattle.std.specs.Prelude.{IsSomeAnd}
 use Rattle.rapid_text.specs.Taking.{lines_place}
 use Rattle.rapid_text.specs.TakingLaws.{advances_none, advances_more, advances_before}
 use Rattle.script_text.specs.declared.causes.ScriptFault.{ScriptFault}
-use Rattle.script_text.specs.Readings.{Progress, judged, Takes, Stops}
+use Rattle.script_text.specs.Readings.{Progress, script_after, Takes, PieceFails}
 
 pub takes_none : (p : Progress) (bytes : List ℕ) → Takes p bytes bytes p
 takes_none p bytes = record { law = λ more. refl; advances = advances_none (lines_place p.cutter) bytes }
@@ -22,7 +22,7 @@ takes_more {p} {q} {r} {bytes} {rest} {left} h k = record {
 takes_before : {p q : Progress} {front : List ℕ} (rest : List ℕ) → Takes p front [] q
     → Takes p (front ++ rest) rest q
 takes_before {p} {q} {front} rest h = record {
-  law = λ more. ap (λ (t : List ℕ). judged p t) (append_assoc front rest more) ∙ h.law (rest ++ more);
+  law = λ more. ap (λ (t : List ℕ). script_after p t) (append_assoc front rest more) ∙ h.law (rest ++ more);
   advances = advances_before (lines_place p.cutter) (lines_place q.cutter) front rest h.advances;
 }
 
@@ -31,17 +31,17 @@ pub takes_both : {p q r : Progress} {front rest : List ℕ} → Takes p front []
 takes_both {rest = rest} h k = takes_more (takes_before rest h) k
 
 pub stops_later : {p q : Progress} {bytes rest : List ℕ} {f : ScriptFault} → Takes p bytes rest q
-    → Stops q rest f → Stops p bytes f
+    → PieceFails q rest f → PieceFails p bytes f
 stops_later h k = record {
   at = record {
     finds = λ line more. h.law more ∙ k.at.finds line more;
     first = λ more g e. k.at.first more g (sym (h.law more) ∙ e);
-    judged = k.at.judged;
+    of_line = k.at.of_line;
   };
   read = λ e. let many = k.read e in omega (arith, many, h.advances.taken);
 }
 
 pub some_stops_after : {p q : Progress} {front : List ℕ} (rest : List ℕ) (o : Option ScriptFault)
-    → Takes p front [] q → IsSomeAnd o (Stops q rest) → IsSomeAnd o (Stops p (front ++ rest))
+    → Takes p front [] q → IsSomeAnd o (PieceFails q rest) → IsSomeAnd o (PieceFails p (front ++ rest))
 some_stops_after rest None h k = absurd k
 some_stops_after rest (Some f) h k = stops_later (takes_before rest h) k

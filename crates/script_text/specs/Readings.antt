@@ -24,14 +24,14 @@ abbrev pub unread : Bounds → Progress
 unread limits = record { parsed = begun limits; cutter = no_bytes }
 
 -- what the lines to come make of what was judged, if these bytes follow
-abbrev pub judged : Progress → List ℕ → Result Parsed ScriptFault
-judged p more = judge p.parsed p.cutter.unfinished (to_come p.cutter more)
+abbrev pub script_after : Progress → List ℕ → Result Parsed ScriptFault
+script_after p more = judge p.parsed p.cutter.unfinished (to_come p.cutter more)
 
 -- ---- a piece
 
 -- all bytes but the rest were taken, and what is still to be judged is the same
 pub record Takes (old : Progress) (bytes rest : List ℕ) (new : Progress) : Type 0 where
-  pub law : (more : List ℕ) → judged old (bytes ++ more) ≡ judged new (rest ++ more)
+  pub law : (more : List ℕ) → script_after old (bytes ++ more) ≡ script_after new (rest ++ more)
   pub advances : Advances (lines_place old.cutter) bytes rest (lines_place new.cutter)
 
 -- the cause is one that a line has
@@ -42,20 +42,20 @@ is_of_line causes.OutOfMemory = false
 is_of_line cause = true
 
 -- each of these texts has the fault, or memory ran out before a line with a cause
-pub record StopsAt (f : ScriptFault) (texts : List ℕ → Result Parsed ScriptFault) : Type 0 where
+pub record FailsEach (f : ScriptFault) (texts : List ℕ → Result Parsed ScriptFault) : Type 0 where
   pub finds : is_of_line f.cause ≡ true → (more : List ℕ) → texts more ≡ Err f
   pub first : (more : List ℕ) (g : ScriptFault) → texts more ≡ Err g → f.line ≤ g.line
-  pub judged : f.cause ≢ causes.NoFork
+  pub of_line : f.cause ≢ causes.NoFork
 
 -- so it is with each text that goes on after the bytes; it is a read fault only where more bytes came than a
 -- cutter takes
-pub record Stops (old : Progress) (bytes : List ℕ) (f : ScriptFault) : Type 0 where
-  pub at : StopsAt f (λ more. judged old (bytes ++ more))
+pub record PieceFails (old : Progress) (bytes : List ℕ) (f : ScriptFault) : Type 0 where
+  pub at : FailsEach f (λ more. script_after old (bytes ++ more))
   pub read : f.cause ≡ causes.Read → most < old.cutter.taken + length bytes
 
 -- so it is where nothing follows
-pub record EndStops (old : Progress) (f : ScriptFault) : Type 0 where
-  pub at : StopsAt f (λ more. judged old [])
+pub record EndFails (old : Progress) (f : ScriptFault) : Type 0 where
+  pub at : FailsEach f (λ more. script_after old [])
   pub read : f.cause ≢ causes.Read
 
 -- ---- why there is no script
@@ -69,7 +69,7 @@ ReadFails limits left rest turns failed n = StopsShort left rest turns failed n 
 -- no line has a cause, and line n is the first that names a thread which is not reached
 pub record IsUnforked (limits : Bounds) (text : List ℕ) (n : ℕ) : Type 0 where
   pub parsed : Parsed
-  pub judged : script_of limits text ≡ Ok parsed
+  pub reads : script_of limits text ≡ Ok parsed
   pub first : IsFirstUnreached parsed.lines n
 
 -- all lines were judged, but a thread is not reached, or memory ran out

@@ -45,7 +45,7 @@ use Rattle.script_text.specs.declared.causes.ScriptFault.{ScriptFault}
 use Rattle.script_text.specs.declared.forms.Word.{Word}
 use Rattle.script_text.specs.declared.forms.Word.TheVariants.{One, Swap}
 use Rattle.script_text.specs.declared.lines.ScriptLine.{ScriptLine}
-use Rattle.script_text.specs.Forms.{Named, line_of}
+use Rattle.script_text.specs.Forms.{SpelledAct, line_of}
 use Rattle.script_text.specs.Lines.{thread_of, fork_of, join_of, forks, joins, is_of, is_thread}
 
 -- what was read of a script: its names, and its lines in their order
@@ -80,7 +80,7 @@ number_or_cause None = Err TooManyNames
 number_or_cause (Some p) = Ok p
 
 -- line n with its names numbered, in the order thread, argument, location; the location is the line's number
-unfoldable pub numbered_line : Tables → ℕ → Named → Result (ScriptLine × Tables) ScriptCause
+unfoldable pub numbered_line : Tables → ℕ → SpelledAct → Result (ScriptLine × Tables) ScriptCause
 numbered_line t n said =
     and_then (number_or_cause (number_in t kinds.Thread said.thread)) (λ p.
     and_then (number_or_cause (number_in p.1 (kind_of said.word) said.argument)) (λ q.

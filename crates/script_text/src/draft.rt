@@ -2,7 +2,7 @@
 ghost use Rattle.std.specs.Prelude.{◌≡◌, ◌<◌, ◌^◌, ◌∷◌, [], ◌++◌, IfOk, IfErr, OnOk, Ok, Err, IsTrue};
 ghost use Rattle.std.specs.List.{list_any};
 ghost use Rattle.rapid_text.specs.Tables.{IsNameOf, number_in};
-ghost use Rattle.script_text.specs.Forms.{named_of, AreNames, Fails};
+ghost use Rattle.script_text.specs.Forms.{spelled_by, AreNames, Fails};
 ghost use Rattle.script_text.specs.Lines.{forks, joins, thread_of, fork_of, join_of};
 ghost use Rattle.script_text.specs.Scripts.{Parsed, kind_of, numbered_line, number_or_cause};
 ghost use Rattle.script_text.specs.Scripts.{is_bad_fork, is_bad_join, after_content};
@@ -40,9 +40,9 @@ fn number_of_name(names: &mut Names, kind: Kind, name: &[u8]) -> Result<u32, Scr
 /// What a line says, with its names numbered. After an `Err` some of its names may have been numbered.
 #[tactic(auto, unfolding(crate::specs::Scripts::numbered_line))]
 fn store_line(names: &mut Names, line: u64, said: &NamedAct<'_>) -> Result<StoredLine, ScriptCause>
-    requires { AreNames (named_of said.now) }
-    ensures ok { IfOk result (λ l. numbered_line names.old line (named_of said.now) ≡ Ok (l, names.new)) }
-    ensures fault { IfErr result (λ f. Fails f (numbered_line names.old line (named_of said.now))) }
+    requires { AreNames (spelled_by said.now) }
+    ensures ok { IfOk result (λ l. numbered_line names.old line (spelled_by said.now) ≡ Ok (l, names.new)) }
+    ensures fault { IfErr result (λ f. Fails f (numbered_line names.old line (spelled_by said.now))) }
 {
     let mut digits = itoa::Buffer::new();
     let thread = number_of_name(names, Kind::Thread, said.thread)?;

@@ -2,7 +2,7 @@
 ghost use Rattle.std.specs.Prelude.{◌≡◌, IfOk, IfErr, IsTrue};
 ghost use Rattle.std.specs.List.{list_all};
 ghost use Rattle.script_text.specs.Forms.{word_of, takes_number, is_name, is_name_byte, line_of, plain};
-ghost use Rattle.script_text.specs.Forms.{numbered, form, named_of, AreNames, Fails};
+ghost use Rattle.script_text.specs.Forms.{numbered, form, spelled_by, AreNames, Fails};
 ghost use Rattle.rapid_line.specs.Grammar.{IsName};
 ghost use Rattle.rapid_line.specs.Reading.{Gives};
 
@@ -72,8 +72,8 @@ fn plain_form<'a>(
     word: Word,
     argument: &'a [u8],
 ) -> Result<NamedAct<'a>, ScriptCause>
-    ensures is { Gives named_of result (plain thread.now word argument.now) }
-    ensures named { IfOk result (λ said. AreNames (named_of said)) }
+    ensures is { Gives spelled_by result (plain thread.now word argument.now) }
+    ensures named { IfOk result (λ said. AreNames (spelled_by said)) }
     ensures fault { IfErr result (λ f. Fails f (plain thread.now word argument.now)) }
 {
     if !is_name(thread) || !is_name(argument) {
@@ -93,8 +93,8 @@ fn numbered_form<'a>(
     word: Word,
     rest: &'a [u8],
 ) -> Result<NamedAct<'a>, ScriptCause>
-    ensures is { Gives named_of result (numbered thread.now word rest.now) }
-    ensures named { IfOk result (λ said. AreNames (named_of said)) }
+    ensures is { Gives spelled_by result (numbered thread.now word rest.now) }
+    ensures named { IfOk result (λ said. AreNames (spelled_by said)) }
     ensures fault { IfErr result (λ f. Fails f (numbered thread.now word rest.now)) }
 {
     let Some((argument, digits)) = cut_at(rest, b' ') else {
@@ -117,8 +117,8 @@ fn numbered_form<'a>(
 /// What a content says, which stands without its ending, or the first cause why it has none of the forms.
 #[tactic(auto, unfolding(crate::specs::Forms::line_of))]
 pub fn read_form(bytes: &[u8]) -> Result<NamedAct<'_>, ScriptCause>
-    ensures is { Gives named_of result (line_of bytes.now) }
-    ensures named { IfOk result (λ said. AreNames (named_of said)) }
+    ensures is { Gives spelled_by result (line_of bytes.now) }
+    ensures named { IfOk result (λ said. AreNames (spelled_by said)) }
     ensures fault { IfErr result (λ f. Fails f (line_of bytes.now)) }
 {
     if bytes.len() > 1024 {

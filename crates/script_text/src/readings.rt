@@ -3,7 +3,8 @@ ghost use Rattle.std.specs.Prelude.{◌≡◌, ◌≢◌, ◌≤◌, [], false, 
 ghost use Rattle.rapid_text.specs.Turns.{WithinTurns};
 ghost use Rattle.script_text.specs.Forms.{Fails};
 ghost use Rattle.script_text.specs.Scripts.{IsDraft, after_content, script_of};
-ghost use Rattle.script_text.specs.Readings.{progress, unread, judged, Takes, Stops, EndStops, IsFault};
+ghost use Rattle.script_text.specs.Readings.{progress, unread, script_after, Takes};
+ghost use Rattle.script_text.specs.Readings.{PieceFails, EndFails, IsFault};
 ghost use Rattle.rapid_line.specs.Cut.{content};
 
 use crate::causes::{ScriptCause, ScriptFault};
@@ -62,7 +63,7 @@ fn read_piece(
 ) -> Result<(), ScriptFault>
     ensures ok { OnOk result (Takes (progress names.old lines.old.items cutter.old) piece.now []
         (progress names.new lines.new.items cutter.new)) }
-    ensures fault { IfErr result (Stops (progress names.old lines.old.items cutter.old) piece.now) }
+    ensures fault { IfErr result (PieceFails (progress names.old lines.old.items cutter.old) piece.now) }
 {
     if !cutter.has_room(piece) {
         return Err(read_fault(cutter));
@@ -90,9 +91,9 @@ fn finish(
     lines: &mut Vec<StoredLine>,
     cutter: &mut LineCutter,
 ) -> Result<(), ScriptFault>
-    ensures ok { OnOk result (judged (progress names.old lines.old.items cutter.old) []
+    ensures ok { OnOk result (script_after (progress names.old lines.old.items cutter.old) []
         ≡ Ok (record { names = names.new; lines = lines.new.items })) }
-    ensures fault { IfErr result (EndStops (progress names.old lines.old.items cutter.old)) }
+    ensures fault { IfErr result (EndFails (progress names.old lines.old.items cutter.old)) }
 {
     let Some(line) = cutter.last_line() else {
         return Ok(());
@@ -102,13 +103,14 @@ fn finish(
 
 impl Sink for Reading {
     ghost use Rattle.std.specs.Prelude.{[], IsSomeAnd};
-    ghost use Rattle.script_text.specs.Readings.{progress, Takes, Stops};
+    ghost use Rattle.script_text.specs.Readings.{progress, Takes, PieceFails};
     ghost use Rattle.script_text.specs.ReadingLaws.{takes_none, takes_both, some_stops_after};
 
     ghost takes = { λ s bytes t. Takes (progress s.names s.lines.items s.cutter) bytes []
         (progress t.names t.lines.items t.cutter) };
 
-    ghost stops = { λ s bytes t. IsSomeAnd t.fault (Stops (progress s.names s.lines.items s.cutter) bytes) };
+    ghost stops = { λ s bytes t.
+        IsSomeAnd t.fault (PieceFails (progress s.names s.lines.items s.cutter) bytes) };
 
     fn feed(&mut self, piece: &[u8]) -> bool {
         if let Err(fault) = read_piece(&mut self.names, &mut self.lines, &mut self.cutter, piece) {
@@ -161,7 +163,7 @@ pub fn read_lines<I: Input>(
     match feed_all(reader, &mut reading, turns) {
         Fed::Whole => {}
         Fed::Stopped => return Err(reading.fault.unwrap()),
-        Fed::Cut => return Err(read_fault(&reading.cutter)),
+        Fed::Truncated => return Err(read_fault(&reading.cutter)),
     }
     if let Err(fault) = finish(&mut reading.names, &mut reading.lines, &mut reading.cutter) {
         return Err(fault);

@@ -10,7 +10,7 @@ use Rattle.section_sum.specs.Entries.{entries_of, SaysSame}
 use Rattle.section_sum.specs.Locks.{SaySame, HaveGrown}
 use Rattle.section_sum.specs.Sums.{Sums, said_of, is_held, is_ready, noted_of, others_of, GrownFor}
 use Rattle.section_sum.specs.Sums.{KeepsReady, SameNoted, SameOthers}
-use Rattle.section_sum.specs.Standing.{Stands}
+use Rattle.section_sum.specs.Standing.{StandsFor}
 use Rattle.event_core.specs.declared.events.Event.{Event}
 use Rattle.section_sum.proofs.Basics.{at_set}
 use Rattle.section_sum.proofs.Passing.{same_said, same_then, held_each, is_held_at, not_held}
@@ -99,7 +99,7 @@ pub record Prepared (held : List LockId) (var : ℕ) (old new : Sums) : Type 0 w
   pub grown : GrownFor old new held var
   pub noted : SameNoted old new
   pub others : SameOthers old new
-  pub stands : (log : List Event) → Stands log old → Stands log new
+  pub stands : (log : List Event) → StandsFor log old → StandsFor log new
 
 pub prepared : {held : List LockId} {var i : ℕ} {before : Sums} {cells : Stored} {locks : List LockSum}
     → Grown held var i before cells locks → Prepared held var before (sums cells locks)

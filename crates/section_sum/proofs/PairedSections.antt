@@ -28,7 +28,7 @@ use Rattle.event_core.proofs.Stable.{longer, back, section_too}
 use Rattle.section_sum.specs.Laws.{SourcesCount}
 use Rattle.section_sum.specs.Newest.{section}
 use Rattle.section_sum.specs.Paired.{Pairs, AreSources, AreReleaseClocks, joined, IsBelowPaired}
-use Rattle.section_sum.specs.Standing.{Stands, IsAccess}
+use Rattle.section_sum.specs.Standing.{StandsFor, IsAccess}
 use Rattle.section_sum.specs.Sums.{Sums, others_of, sources_of}
 
 module _ (log : List Event) (e : Event) where
@@ -120,7 +120,7 @@ has_kinds s l x Write t = record { from = from; has = has }
 
 -- what the summaries name to an access are the sources of the rule
 pub sources_stand : (log : List Event) (e : Event) (s : Sums) (l : LockId) (x : VarId) (k : AccessKind)
-    → Stands log s → e.op ≡ access_of x k → 0 < depth log e.thread l
+    → StandsFor log s → e.op ≡ access_of x k → 0 < depth log e.thread l
     → AreSources log e l (sources_of s l.0 x.0 k e.thread.0)
 sources_stand log e s l x k st o held = record {
   paired = λ n h. (let a = kinds.from n h in paired n a.0 a.1 a.2 a.3);
@@ -224,7 +224,7 @@ sources_count limits log e l numbers clocks w sources are =
 -- the same in the words of the contract
 pub sources_paired : (log : List Event) (e : Event) (s : Sums) (t : ThreadId) (l : LockId) (x : VarId)
     (k : AccessKind) (numbers : List ℕ) → numbers ≡ sources_of s l.0 x.0 k t.0 → IsAccess t x k e
-    → 0 < depth log t l → Stands log s → AreSources log e l numbers
+    → 0 < depth log t l → StandsFor log s → AreSources log e l numbers
 sources_paired log e s t l x k numbers exact is held st =
     subst (λ ns. AreSources log e l ns)
     (ap (λ (u : ThreadId). sources_of s l.0 x.0 k u.0) is.thread ∙ sym exact)

@@ -30,14 +30,14 @@ use Rattle.event_core.proofs.SectionSteps.{section_within}
 use Rattle.event_core.proofs.Tests.{not_both}
 use Rattle.section_sum.specs.Cell.{is_kind}
 use Rattle.section_sum.specs.Laws.{OthersLeaveThem, HoldersAreAlone}
-use Rattle.section_sum.specs.Standing.{Stands, IsNewest, IsAccess, AreHeld}
+use Rattle.section_sum.specs.Standing.{StandsFor, IsNewest, IsAccess, AreHeld}
 use Rattle.section_sum.specs.Sums.{Sums, said_of, noted_of, others_of, is_held, SameNoted, SameOthers}
 use Rattle.section_sum.specs.Locks.{HaveNoted, HaveClosed}
 use Rattle.section_sum.proofs.ClosedAccesses.{newest_same, newest_new}
 
 -- summaries that say nothing stand for the empty log
 pub nothing_stands : (s : Sums) → ((t l v : ℕ) (k : AccessKind) → noted_of s t l v k ≡ false)
-    → ((l v : ℕ) (k : AccessKind) (t : ℕ) → others_of s l v k t ≡ 0) → Stands [] s
+    → ((l v : ℕ) (k : AccessKind) (t : ℕ) → others_of s l v k t ≡ 0) → StandsFor [] s
 nothing_stands s noted others = record {
   noted = λ t l x k. (
     λ h. absurd (not_both h (noted t.0 l.0 x.0 k)),
@@ -51,7 +51,7 @@ nothing_stands s noted others = record {
 
 -- summaries that say the same stand for the same log
 pub same_stands : (log : List Event) (old new : Sums) → SameNoted old new → SameOthers old new
-    → Stands log old → Stands log new
+    → StandsFor log old → StandsFor log new
 same_stands log old new noted others st = record {
   noted = λ t l x k. subst (λ b. IsTrue b ↔ Noted log t l x k) (sym (noted t.0 l.0 x.0 k)) (st.noted t l x k);
   others = λ l x k t. subst (λ n. IsNewest log l x k t n) (sym (others l.0 x.0 k t.0)) (st.others l x k t);
@@ -88,7 +88,7 @@ kind_same Write Read h = absurd cc
 note_own : (limits : Limits) (log : List Event) (e : Event) (old new : Sums) (held : List LockId) (x : VarId)
     (k : AccessKind) → HaveNoted e.thread.0 held x.0 k (said_of old) (said_of new) → WellFormed limits
     (log ++ e ∷ [])
-    → e.op ≡ access_of x k → AreHeld log e.thread held → Stands log old → Stands (log ++ e ∷ []) new
+    → e.op ≡ access_of x k → AreHeld log e.thread held → StandsFor log old → StandsFor (log ++ e ∷ []) new
 unfolding noted_of others_of
 note_own limits log e old new held x k notes w o are st = record {
   noted = λ t l y j. subst (λ b. IsTrue b ↔ Noted (log ++ e ∷ []) t l y j)
@@ -105,8 +105,8 @@ note_own limits log e old new held x k notes w o are st = record {
 
 pub note_stands : (limits : Limits) (log : List Event) (e : Event) (old new : Sums) (t : ThreadId)
     (held : List LockId) (x : VarId) (k : AccessKind) → HaveNoted t.0 held x.0 k (said_of old) (said_of new)
-    → WellFormed limits (log ++ e ∷ []) → IsAccess t x k e → AreHeld log t held → Stands log old
-    → Stands (log ++ e ∷ []) new
+    → WellFormed limits (log ++ e ∷ []) → IsAccess t x k e → AreHeld log t held → StandsFor log old
+    → StandsFor (log ++ e ∷ []) new
 note_stands limits log e old new t held x k notes w is are st =
     note_own limits log e old new held x k
     (subst (λ (u : ThreadId). HaveNoted u.0 held x.0 k (said_of old) (said_of new))
@@ -117,7 +117,7 @@ note_stands limits log e old new t held x k notes w is are st =
 close_own : (limits : Limits) (log : List Event) (e : Event) (old new : Sums) (l : LockId) (n : ℕ)
     → HaveClosed e.thread.0 l.0 n (said_of old) (said_of new) → WellFormed limits (log ++ e ∷ []) → e.op
     ≡ Release l
-    → depth log e.thread l ≡ 1 → n ≡ ended log l + 1 → Stands log old → Stands (log ++ e ∷ []) new
+    → depth log e.thread l ≡ 1 → n ≡ ended log l + 1 → StandsFor log old → StandsFor (log ++ e ∷ []) new
 unfolding noted_of others_of
 close_own limits log e old new l n ends w o one number st = record {
   noted = λ t m x k. subst (λ b. IsTrue b ↔ Noted (log ++ e ∷ []) t m x k) (sym ((ends m.0).noted t.0 x.0 k))
@@ -149,7 +149,7 @@ close_own limits log e old new l n ends w o one number st = record {
 pub close_stands : (limits : Limits) (log : List Event) (e : Event) (old new : Sums) (t : ThreadId)
     (l : LockId) (n : ℕ) → HaveClosed t.0 l.0 n (said_of old) (said_of new) → WellFormed limits
     (log ++ e ∷ []) → EndsSection log t l e
-    → n ≡ ended log l + 1 → Stands log old → Stands (log ++ e ∷ []) new
+    → n ≡ ended log l + 1 → StandsFor log old → StandsFor (log ++ e ∷ []) new
 close_stands limits log e old new t l n ends w is number st =
     close_own limits log e old new l n
     (subst (λ (u : ThreadId). HaveClosed u.0 l.0 n (said_of old) (said_of new)) (sym is.thread) ends) w is.op

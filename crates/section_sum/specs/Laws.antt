@@ -7,18 +7,18 @@ use Rattle.event_core.specs.declared.bounds.Limits.{Limits}
 use Rattle.event_core.specs.Refusal.{WellFormed}
 use Rattle.event_core.specs.Rows.{Counted}
 use Rattle.section_sum.specs.Sums.{Sums, IsAlone}
-use Rattle.section_sum.specs.Standing.{Stands, AreHeld, IsOther}
+use Rattle.section_sum.specs.Standing.{StandsFor, AreHeld, IsOther}
 use Rattle.section_sum.specs.Paired.{AreSources, AreReleaseClocks, IsBelowPaired, joined}
 
 -- an event that is no access and ends no section leaves the summaries as they are
 abbrev pub OthersLeaveThem : Type 0
 OthersLeaveThem = (limits : Limits) (log : List Event) (e : Event) (s : Sums)
-    → WellFormed limits (log ++ e ∷ []) → IsOther log e → Stands log s → Stands (log ++ e ∷ []) s
+    → WellFormed limits (log ++ e ∷ []) → IsOther log e → StandsFor log s → StandsFor (log ++ e ∷ []) s
 
 -- no other thread has an open section on a lock that the thread holds
 abbrev pub HoldersAreAlone : Type 0
 HoldersAreAlone = (limits : Limits) (log : List Event) (s : Sums) (t : ThreadId) (held : List LockId)
-    → WellFormed limits log → AreHeld log t held → Stands log s → IsAlone s t.0 held
+    → WellFormed limits log → AreHeld log t held → StandsFor log s → IsAlone s t.0 held
 
 -- whatever clocks the releases have, those of the sources count together what happens before the releases
 -- that rule (a) pairs with the access

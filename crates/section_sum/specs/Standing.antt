@@ -19,7 +19,7 @@ pub record IsNewest (log : List Event) (l : LockId) (x : VarId) (k : AccessKind)
 
 -- each access in an open section is noted, and to each thread the newest of the others' closed sections with
 -- an access is named
-pub record Stands (log : List Event) (s : Sums) : Type 0 where
+pub record StandsFor (log : List Event) (s : Sums) : Type 0 where
   pub noted : (t : ThreadId) (l : LockId) (x : VarId) (k : AccessKind)
       → IsTrue (noted_of s t.0 l.0 x.0 k) ↔ Noted log t l x k
   pub others : (l : LockId) (x : VarId) (k : AccessKind) (t : ThreadId)

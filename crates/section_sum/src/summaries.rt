@@ -10,7 +10,7 @@ ghost use Rattle.event_core.specs.Closed.{EndsSection, ended};
 ghost use Rattle.section_sum.specs.Sums.{noted_of, others_of, sources_of, is_access, IsReady, IsAlone};
 ghost use Rattle.section_sum.specs.Sums.{SameNoted, SameOthers, KeepsReady, GrownFor};
 ghost use Rattle.section_sum.specs.Sources.{left, most_sources};
-ghost use Rattle.section_sum.specs.Standing.{Stands, IsAccess, AreHeld};
+ghost use Rattle.section_sum.specs.Standing.{StandsFor, IsAccess, AreHeld};
 ghost use Rattle.section_sum.specs.Paired.{AreSources};
 
 use crate::cells::Cells;
@@ -46,7 +46,7 @@ impl Summaries {
     pub fn new(alloc: Global) -> Summaries
         ensures nothing_noted { (t l v : ℕ) (k : Kind) → noted_of result t l v k ≡ false }
         ensures no_others { (l v : ℕ) (k : Kind) (t : ℕ) → others_of result l v k t ≡ 0 }
-        ensures stands { Stands [] result }
+        ensures stands { StandsFor [] result }
     {
         Summaries {
             alloc,
@@ -69,7 +69,7 @@ impl Summaries {
         // In any case the same is known.
         ensures noted { SameNoted self.old self.new }
         ensures others { SameOthers self.old self.new }
-        ensures stands { (log : List Event) → Stands log self.old → Stands log self.new }
+        ensures stands { (log : List Event) → StandsFor log self.old → StandsFor log self.new }
     {
         let alloc = self.alloc;
         for lock in held {
@@ -103,7 +103,7 @@ impl Summaries {
         ensures others { SameOthers self.old self.new }
         ensures stands { (limits : Limits) (log : List Event) (e : Event) → WellFormed limits (log ++ e ∷ [])
             → IsAccess thread var kind e → AreHeld log thread held.now
-            → Stands log self.old → Stands (log ++ e ∷ []) self.new }
+            → StandsFor log self.old → StandsFor (log ++ e ∷ []) self.new }
         ensures kept { KeepsReady self.old self.new }
     {
         note_held(&mut self.cells, &mut self.locks, thread, held, var, kind);
@@ -120,7 +120,7 @@ impl Summaries {
             number (others_of self.old l v k t) }
         ensures stands { (limits : Limits) (log : List Event) (e : Event) → WellFormed limits (log ++ e ∷ [])
             → EndsSection log thread lock e → number ≡ ended log lock + 1
-            → Stands log self.old → Stands (log ++ e ∷ []) self.new }
+            → StandsFor log self.old → StandsFor (log ++ e ∷ []) self.new }
         ensures kept { KeepsReady self.old self.new }
     {
         close_under(&mut self.cells, &mut self.locks, thread, lock, number);
@@ -133,7 +133,7 @@ impl Summaries {
         ensures exact { left result ≡ sources_of self.now lock.0 var.0 kind thread.0 }
         ensures at_most { length (left result) ≤ most_sources kind }
         ensures paired { (log : List Event) (e : Event) → IsAccess thread var kind e
-            → 0 < depth log thread lock → Stands log self.now → AreSources log e lock (left result) }
+            → 0 < depth log thread lock → StandsFor log self.now → AreSources log e lock (left result) }
     {
         sources_under(&self.cells, &self.locks, thread, lock, var, kind)
     }

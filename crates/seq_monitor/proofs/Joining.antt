@@ -1,29 +1,26 @@
 -- The joins of a log, one event longer.
 use Rattle.std.proofs.Common.{◌≡◌, ℕ, zero, suc, ◌+◌, ◌<◌, ◌≤◌, List, [], ◌∷◌, ◌++◌, length, Bool, true}
-use Rattle.std.proofs.Common.{false, cond, nat_eq, nat_lt, ◌||◌, take, append_assoc, append-nil, refl}
+use Rattle.std.proofs.Common.{false, cond, nat_eq, nat_lt, ◌||◌, append_assoc, append-nil, refl}
 use Rattle.std.proofs.Common.{sym, ap, subst, ◌∙◌, inl, inr, ◌⊎◌, arith}
 use Rattle.std.specs.Set.{is_member}
 use Rattle.std.proofs.lemmas.Cmp.{nat_eq_equiv}
-use Rattle.std.proofs.lemmas.Bool.{cases_eq, eqb-true, eq-eqb, ltb-true, lt-ltb, not-false, or_right}
+use Rattle.std.proofs.lemmas.Bool.{cases_eq, eqb-true, eq-eqb, lt-ltb, or_right}
 use Rattle.std.proofs.lemmas.Map.Made.{length-le_from_is_member}
-use Rattle.std.proofs.Math.Seq.{take-length}
 use Rattle.event_core.specs.declared.bounds.Limits.{Limits}
 use Rattle.event_core.specs.declared.events.Event.{Event}
 use Rattle.event_core.specs.declared.events.Op.{Op}
 use Rattle.event_core.specs.declared.events.Op.TheVariants.{Acquire, Release}
 use Rattle.event_core.specs.declared.ids.LockId.{LockId}
 use Rattle.event_core.specs.declared.ids.ThreadId.{ThreadId}
-use Rattle.event_core.specs.declared.replies.Refusal.TheVariants.{TargetRange}
 use Rattle.event_core.specs.Closed.{Has}
 use Rattle.event_core.specs.Log.{depth}
 use Rattle.event_core.specs.Refusal.{WellFormed, lock_at, sum_locks}
 use Rattle.event_core.specs.Effect.{Effect, Opens, Closes, Inner, effect_of}
-use Rattle.event_core.proofs.Depth.{opener}
-use Rattle.event_core.proofs.Legality.{reasons_at, when_none}
+use Rattle.event_core.proofs.HolderLaw.{lock_within}
 use Rattle.event_core.proofs.Members.{any_has}
 use Rattle.wcp_laws.specs.Step.{effect}
 use Rattle.wcp_clocks.specs.Parts.{Parts, state_of, work_of, most_joins}
-use Rattle.wcp_clocks.specs.StandsFor.{StandsFor}
+use Rattle.wcp_clocks.specs.Standing.{StandsFor}
 use Rattle.wcp_clocks.specs.WorkWithin.{IsWorkOf}
 use Rattle.seq_monitor.specs.Joins.{locks_held, joins_at, joins_from, joins_of}
 
@@ -57,15 +54,6 @@ passing_has p (suc n) q lt is = go (λ less. passing_has p n q less is) (p n) re
         or_right (nat_eq q n) (is_member nat_eq (passing p n) q)
         (rest (let no : q ≡ n → ⊥ = differs in omega arith))
     go rest false at (inr differs) = rest (let no : q ≡ n → ⊥ = differs in omega arith)
-
--- a lock that is held is within the limit
-lock_within : (m : Limits) (log : List Event) (t : ThreadId) (l : LockId) → WellFormed m log
-    → 0 < depth log t l → l.0 < m.locks
-lock_within m log t l w up =
-    let all : take (length log) log ≡ log = take-length log in
-    let o = opener log t l (length log) (omega arith) (subst (λ xs. 0 < depth xs t l) (sym all) up) in
-    let r = reasons_at m log o.index t (Acquire l) w o.opened.does in
-    ltb-true l.0 m.locks (not-false _ (when_none _ TargetRange r.on_table))
 
 -- the list of the locks that a thread holds is no longer than that
 held_few : (m : Limits) (log : List Event) (p : Parts) (t : ThreadId) → WellFormed m log → StandsFor log p

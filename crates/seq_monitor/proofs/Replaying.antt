@@ -27,18 +27,18 @@ use Rattle.hb_clocks.specs.Marks.{IsLatest}
 use Rattle.traced_mem.specs.Meaning.{Meaning}
 use Rattle.traced_mem.specs.Refusals.{refusal_at, reasons_at}
 use Rattle.traced_mem.specs.After.{after, holds_after}
-use Rattle.traced_mem.specs.OfLog.{StandsFor}
+use Rattle.traced_mem.specs.Standing.{StandsFor}
 use Rattle.traced_mem.specs.Tables.{meaning, Allows, Tables as MemoryTables}
 use Rattle.access_check.specs.Tables.{count_at, IsReady as AccessHasRoom}
-use Rattle.access_check.specs.Standing.{Stands as AccessesStand}
-use Rattle.hb_clocks.specs.Stands.{IsHeldRelease}
+use Rattle.access_check.specs.Standing.{StandsFor as AccessesStand}
+use Rattle.hb_clocks.specs.Standing.{IsHeldRelease}
 use Rattle.event_core.specs.Log.{depth}
 use Rattle.event_core.specs.declared.replies.Outcome.TheVariants.{Accepted}
 use Rattle.traced_mem.proofs.SameRefusals.{same_refusal}
 use Rattle.wcp_clocks.proofs.Conditions.{log_within}
 use Rattle.wcp_clocks.specs.Parts.{Parts as Clocks, hb_of, width_of, limits_of, Fits, NamesWithin, SameLimits}
 use Rattle.wcp_clocks.specs.Parts.{IsWithin as ClocksAreWithin}
-use Rattle.wcp_clocks.specs.StandsFor.{FitsWhereLegal, StandsFor as ClocksStandFor}
+use Rattle.wcp_clocks.specs.Standing.{FitsWhereLegal, StandsFor as ClocksStandFor}
 use Rattle.wcp_clocks.specs.WorkWithin.{IsWorkOf, WorkStep, LittleWork}
 use Rattle.seq_monitor.specs.declared.parts.Parts.{Parts}
 use Rattle.seq_monitor.specs.Grown.{IsKeptRelease}
@@ -168,8 +168,8 @@ position_fits {p = p} t r next =
     )
 
 -- how many acquires are to be released after the call
-pub opened_after : (log : List Event) (c : Call) (old new : MemoryTables) → StandsFor old log
-    → StandsFor new (log ++ event_of log c ∷ []) → meaning new ≡ after c.thread c.op c.arg (meaning old)
+pub opened_after : (log : List Event) (c : Call) (old new : MemoryTables) → StandsFor log old
+    → StandsFor (log ++ event_of log c ∷ []) new → meaning new ≡ after c.thread c.op c.arg (meaning old)
     → open_acquires (log ++ event_of log c ∷ []) ≡ holds_after c.op (open_acquires log)
 opened_after log c old new before longer means =
     sym (ap (λ (x : Meaning). x.holds) longer.means)
@@ -179,7 +179,7 @@ opened_after log c old new before longer means =
 pub record HasTaken (m : Limits) (old new : Parts) (c : Call) (e : Event) (v : Verdict) : Type 0 where
   pub memory : meaning new.memory ≡ after c.thread c.op c.arg (meaning old.memory)
   pub memory_limits : new.memory.limits ≡ old.memory.limits
-  pub memory_stands : StandsFor new.memory (old.log.events ++ event_of old.log.events c ∷ [])
+  pub memory_stands : StandsFor (old.log.events ++ event_of old.log.events c ∷ []) new.memory
   pub clocks : IsClocksReplay m (old.log.events ++ e ∷ []) new.clocks
   pub accesses : AccessesStand (old.log.events ++ e ∷ []) new.accesses
   pub access_limits : new.accesses.limits ≡ old.accesses.limits
@@ -222,7 +222,7 @@ clocks_ready fits little {m} {p} {e = e} r next =
 
 -- the parts before any event
 pub replay_empty : (m : Limits) (p : Parts) → AreBounded m.threads m.locks m.vars m.events
-    → StandsFor p.memory [] → p.memory.limits ≡ m → IsClocksReplay m [] p.clocks
+    → StandsFor [] p.memory → p.memory.limits ≡ m → IsClocksReplay m [] p.clocks
     → AccessesStand [] p.accesses → p.accesses.limits ≡ m → p.log.events ≡ [] → p.verdicts.verdicts ≡ []
     → IsReplay m p
 unfolding open_acquires

@@ -5,10 +5,10 @@ use Rattle.event_core.specs.declared.ids.LockId.{LockId}
 use Rattle.event_core.specs.declared.events.Event.{Event}
 use Rattle.event_core.specs.declared.events.Op.{Op}
 use Rattle.event_core.specs.declared.events.Op.TheVariants.{Release}
-use Rattle.hb_clocks.specs.Stands.{IsHeldRelease}
+use Rattle.hb_clocks.specs.Standing.{IsHeldRelease}
 use Rattle.traced_mem.specs.Tables.{meaning, Allows}
 use Rattle.traced_mem.specs.Room.{IsReady as MemoryIsReady}
-use Rattle.traced_mem.specs.OfLog.{StandsFor}
+use Rattle.traced_mem.specs.Standing.{StandsFor}
 use Rattle.access_check.specs.Tables.{Grown, IsReady as AccessHasRoom}
 use Rattle.wcp_clocks.specs.Parts.{hb_of, SameNumbers, SameLimits, KeepsReady}
 use Rattle.seq_monitor.specs.declared.parts.Parts.{Parts}
@@ -17,7 +17,7 @@ use Rattle.seq_monitor.specs.declared.parts.Parts.{Parts}
 pub record HasGrown (old new : Parts) : Type 0 where
   pub memory : meaning new.memory ≡ meaning old.memory
   pub memory_limits : new.memory.limits ≡ old.memory.limits
-  pub memory_stands : (past : List Event) → StandsFor old.memory past → StandsFor new.memory past
+  pub memory_stands : (past : List Event) → StandsFor past old.memory → StandsFor past new.memory
   pub memory_room : (t : ThreadId) (o : Op) → MemoryIsReady old.memory t o → MemoryIsReady new.memory t o
   pub numbers : SameNumbers old.clocks new.clocks
   pub clock_limits : SameLimits old.clocks new.clocks

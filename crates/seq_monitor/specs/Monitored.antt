@@ -12,12 +12,12 @@ use Rattle.event_core.specs.declared.replies.Verdict.{Verdict}
 use Rattle.event_core.specs.Refusal.{refusal, open_acquires}
 use Rattle.event_core.specs.Verdict.{IsVerdict}
 use Rattle.traced_mem.specs.Room.{IsReady as MemoryIsReady}
-use Rattle.traced_mem.specs.OfLog.{StandsFor}
+use Rattle.traced_mem.specs.Standing.{StandsFor}
 use Rattle.access_check.specs.Tables.{IsReady as AccessHasRoom}
-use Rattle.access_check.specs.Standing.{Stands as AccessesStand}
+use Rattle.access_check.specs.Standing.{StandsFor as AccessesStand}
 use Rattle.wcp_laws.specs.Found.{threads_in}
 use Rattle.wcp_clocks.specs.Parts.{Parts as Clocks, width_of, limits_of, work_of, IsReady as ClocksIsReady}
-use Rattle.wcp_clocks.specs.StandsFor.{StandsFor as ClocksStandFor}
+use Rattle.wcp_clocks.specs.Standing.{StandsFor as ClocksStandFor}
 use Rattle.wcp_clocks.specs.WorkWithin.{WorkWithin}
 use Rattle.seq_monitor.specs.Joins.{joins_of}
 use Rattle.seq_monitor.specs.declared.parts.Parts.{Parts}
@@ -90,7 +90,7 @@ pub record IsClocksReplay (limits : Limits) (log : List Event) (clocks : Clocks)
 -- the parts stand for their log, which is well formed, and the slots of all releases to come are kept
 pub record IsReplay (limits : Limits) (p : Parts) : Type 0 where
   pub bounds : AreBounded limits.threads limits.locks limits.vars limits.events
-  pub memory : StandsFor p.memory p.log.events
+  pub memory : StandsFor p.log.events p.memory
   pub memory_limits : p.memory.limits ≡ limits
   pub clocks : IsClocksReplay limits p.log.events p.clocks
   pub accesses : AccessesStand p.log.events p.accesses

@@ -1,9 +1,10 @@
 //! Runs: lists of calls, and lists of acts, one after another.
 ghost use Rattle.std.specs.Prelude.{◌≡◌, ◌-◌, OnOk, OnErr, IfOk, vec_capacity, vec_len};
+ghost use Rattle.event_core.specs.declared.events.Act.TheVariants.{One as OneAct};
 ghost use Rattle.event_core.specs.Verdict.{IsOutcome, IsRun, log_after};
 ghost use Rattle.event_core.specs.Acts.{IsActRun, IsDone, log_after_act};
 ghost use Rattle.seq_monitor.specs.Monitored.{HasBoundedWork};
-ghost use Rattle.seq_monitor.specs.RunAnswers.{Ran, RanSome, MayWantMemory, ActMayWantMemory};
+ghost use Rattle.seq_monitor.specs.RunAnswers.{Ran, RanSome, MayWantMemory};
 
 use crate::monitor::Monitor;
 use event_core::{Act, Call, Done, OutOfMemory, Outcome, Refusal};
@@ -16,8 +17,8 @@ impl Monitor {
     pub fn run(&mut self, calls: &[Call], outcomes: &mut Vec<Outcome>) -> Result<(), OutOfMemory>
         ensures all { OnOk result (Ran (IsRun self.old.limits self.old.log) calls.now
             outcomes.old.items outcomes.new.items self.new.log) }
-        ensures some { OnErr result (RanSome (IsRun self.old.limits self.old.log)
-            (MayWantMemory self.old.limits) calls.now (vec_capacity outcomes.old - vec_len outcomes.old)
+        ensures some { OnErr result (RanSome (IsRun self.old.limits self.old.log) self.old.limits OneAct
+            calls.now (vec_capacity outcomes.old - vec_len outcomes.old)
             outcomes.old.items outcomes.new.items self.new.log) }
         ensures limits { self.new.limits ≡ self.old.limits }
         ensures work { HasBoundedWork self.new }
@@ -38,7 +39,7 @@ impl Monitor {
     fn take(&mut self, call: Call) -> Result<Outcome, OutOfMemory>
         ensures outcome { IfOk result (λ outcome. IsOutcome self.old.limits self.old.log call outcome) }
         ensures log { IfOk result (λ outcome. self.new.log ≡ log_after self.old.log call outcome) }
-        ensures memory { OnErr result (MayWantMemory self.old.limits self.old.log call) }
+        ensures memory { OnErr result (MayWantMemory self.old.limits self.old.log (OneAct call)) }
         ensures same { OnErr result (self.new.log ≡ self.old.log) }
         ensures limits { self.new.limits ≡ self.old.limits }
         ensures work { HasBoundedWork self.new }
@@ -57,8 +58,8 @@ impl Monitor {
     pub fn run_acts(&mut self, acts: &[Act], answers: &mut Vec<Done>) -> Result<(), OutOfMemory>
         ensures all { OnOk result (Ran (IsActRun self.old.limits self.old.log) acts.now
             answers.old.items answers.new.items self.new.log) }
-        ensures some { OnErr result (RanSome (IsActRun self.old.limits self.old.log)
-            (ActMayWantMemory self.old.limits) acts.now (vec_capacity answers.old - vec_len answers.old)
+        ensures some { OnErr result (RanSome (IsActRun self.old.limits self.old.log) self.old.limits
+            (λ act. act) acts.now (vec_capacity answers.old - vec_len answers.old)
             answers.old.items answers.new.items self.new.log) }
         ensures limits { self.new.limits ≡ self.old.limits }
         ensures work { HasBoundedWork self.new }
@@ -79,7 +80,7 @@ impl Monitor {
     fn take_act(&mut self, act: Act) -> Result<Done, OutOfMemory>
         ensures done { IfOk result (λ done. IsDone self.old.limits self.old.log act done) }
         ensures log { IfOk result (λ done. self.new.log ≡ log_after_act self.old.log act done) }
-        ensures memory { OnErr result (ActMayWantMemory self.old.limits self.old.log act) }
+        ensures memory { OnErr result (MayWantMemory self.old.limits self.old.log act) }
         ensures same { OnErr result (self.new.log ≡ self.old.log) }
         ensures limits { self.new.limits ≡ self.old.limits }
         ensures work { HasBoundedWork self.new }

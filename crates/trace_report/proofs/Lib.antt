@@ -10,4 +10,4 @@ pub mod Feeds
 pub mod FedLaws
 pub mod Ending
 pub mod Whole
-pub mod CutTexts
+pub mod TruncatedTexts

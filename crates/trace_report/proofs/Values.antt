@@ -9,7 +9,7 @@ use Rattle.event_core.specs.declared.events.Op.TheVariants.{Load, Store, Acquire
 use Rattle.event_core.specs.declared.ids.VarId.{VarId}
 use Rattle.event_core.specs.Refusal.{event_of, value_of, last_value, last_value_from, op_stores}
 use Rattle.rapid_line.specs.declared.words.LineFault.{LineFault}
-use Rattle.rapid_line.specs.Grammar.{Named}
+use Rattle.rapid_line.specs.Grammar.{NamedEvent}
 use Rattle.rapid_line.specs.Reading.{line_of}
 use Rattle.rapid_text.specs.declared.causes.Cause.{Cause}
 use Rattle.rapid_text.specs.Tables.{Tables}
@@ -37,12 +37,12 @@ reads_nothing : (t : Tables) (bytes : List ℕ) → HasNothing (reading t bytes)
 unfolding reading
 reads_nothing t bytes = if_empty (length bytes == 0)
   where
-    of_named : (n : Named) (r : Result (Event × Tables) Cause) → named_event t n ≡ r
+    of_named : (n : NamedEvent) (r : Result (Event × Tables) Cause) → named_event t n ≡ r
         → HasNothing (some_event r)
     of_named n (Ok p) is = (named_event_is t n p.0 p.1 is).value
     of_named n (Err f) is = tt
 
-    of_line : (r : Result Named LineFault) → HasNothing (event_or t r)
+    of_line : (r : Result NamedEvent LineFault) → HasNothing (event_or t r)
     of_line (Ok n) = of_named n (named_event t n) refl
     of_line (Err f) = tt
 

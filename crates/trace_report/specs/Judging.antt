@@ -149,7 +149,7 @@ pub record FindsFault (m : Limits) (left : Option (List ℕ)) (f : TraceFault) :
 
 -- a read failed or the turns are used up: the fault is at the line whose end was not seen, and whatever
 -- follows what came, no line before it has a fault or an event that is refused
-pub record IsCutAt (m : Limits) (left rest : Option (List ℕ)) (turns : ℕ) (read_failed : Bool)
+pub record IsTruncatedAt (m : Limits) (left rest : Option (List ℕ)) (turns : ℕ) (read_failed : Bool)
     (f : TraceFault) : Type 0 where
   pub line : ℕ
   pub at : f ≡ Text (record { line = line; cause = causes.Read })
@@ -164,4 +164,4 @@ pub record HasRead {A : Type 0} (m : Limits) (left rest : Option (List ℕ)) (tu
   -- no failed read is passed over where there is a result
   pub whole : OnOk answer (read_failed ≡ false)
   -- a read fault is answered only where a read failed, or as many bytes came as there are turns
-  pub cut : IfFound answer (λ f. is_read_fault f ≡ true → IsCutAt m left rest turns read_failed f)
+  pub truncated : IfFound answer (λ f. is_read_fault f ≡ true → IsTruncatedAt m left rest turns read_failed f)

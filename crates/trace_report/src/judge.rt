@@ -48,9 +48,9 @@ impl Judge for Monitor {
 }
 
 impl Judge for Memory {
-    ghost use Rattle.traced_mem.specs.OfLog.{StandsFor};
+    ghost use Rattle.traced_mem.specs.Standing.{StandsFor};
 
-    ghost is_after = { λ memory m log. (memory.limits ≡ m) × StandsFor memory log };
+    ghost is_after = { λ memory m log. (memory.limits ≡ m) × StandsFor log memory };
 
     #[inline(always)]
     fn judge(&mut self, event: &Event) -> Result<(), Refusal> {

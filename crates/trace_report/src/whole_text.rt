@@ -1,7 +1,7 @@
 //! A text that is judged whole, from an input.
 ghost use Rattle.std.specs.Prelude.{◌≡◌, ◌≤◌, [], None, true, IfErr, IfOk, IfSome, OnOk};
 ghost use Rattle.rapid_text.specs.Turns.{WithinTurns};
-ghost use Rattle.trace_report.specs.Judging.{IsFed, FindsTrace, FindsFault, IsCutAt, is_read_fault};
+ghost use Rattle.trace_report.specs.Judging.{IsFed, FindsTrace, FindsFault, IsTruncatedAt, is_read_fault};
 
 use crate::faults::TraceFault;
 use crate::judge::Judge;
@@ -24,8 +24,8 @@ fn read_text<I: Input, J: Judge>(
     ensures fed { result.fault ≡ None
         → IsFed limits (I.left reader.old) (J.is_after result.judge limits) result.cutter }
     ensures fault { IfSome result.fault (FindsFault limits (I.left reader.old)) }
-    ensures cut { IfSome result.fault (λ f. is_read_fault f ≡ true
-        → IsCutAt limits (I.left reader.old) (I.left reader.new) turns (I.failed reader.new) f) }
+    ensures truncated { IfSome result.fault (λ f. is_read_fault f ≡ true
+        → IsTruncatedAt limits (I.left reader.old) (I.left reader.new) turns (I.failed reader.new) f) }
     ensures few { WithinTurns turns (I.left reader.old) (I.left reader.new) }
     ensures healthy { result.fault ≡ None → I.failed reader.new ≡ I.failed reader.old }
 {
@@ -33,7 +33,7 @@ fn read_text<I: Input, J: Judge>(
     match feed_all(reader, &mut text, turns) {
         Fed::Whole => return text,
         Fed::Stopped => return text,
-        Fed::Cut => text.read_failed(),
+        Fed::Truncated => text.read_failed(),
     }
     text
 }
@@ -55,8 +55,8 @@ pub fn judge_text<I: Input, J: Judge + Drop>(
     // The fault is what the text comes to, unless it could not be read to its end or a growth was refused,
     // which is at a line that is reached.
     ensures fault { IfErr result (FindsFault limits (I.left reader.old)) }
-    ensures cut { IfErr result (λ f. is_read_fault f ≡ true
-        → IsCutAt limits (I.left reader.old) (I.left reader.new) turns (I.failed reader.new) f) }
+    ensures truncated { IfErr result (λ f. is_read_fault f ≡ true
+        → IsTruncatedAt limits (I.left reader.old) (I.left reader.new) turns (I.failed reader.new) f) }
     ensures few { WithinTurns turns (I.left reader.old) (I.left reader.new) }
     ensures healthy { OnOk result (I.failed reader.new ≡ I.failed reader.old) }
 {

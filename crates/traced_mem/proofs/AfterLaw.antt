@@ -9,7 +9,7 @@ use Rattle.event_core.specs.Refusal.{refusal, lock_depth, holder, last_acquirer,
 use Rattle.event_core.specs.Refusal.{event_of, WellFormed}
 use Rattle.traced_mem.specs.Meaning.{nothing}
 use Rattle.traced_mem.specs.After.{after}
-use Rattle.traced_mem.specs.OfLog.{held_in, meaning_of}
+use Rattle.traced_mem.specs.Standing.{held_in, meaning_of}
 use Rattle.traced_mem.proofs.LocksAfter.{locks_law}
 use Rattle.traced_mem.proofs.CellsAfter.{cells_law}
 use Rattle.traced_mem.proofs.HoldsAfter.{holds_law}

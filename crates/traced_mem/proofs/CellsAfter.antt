@@ -9,7 +9,7 @@ use Rattle.event_core.specs.declared.events.Op.TheVariants.{Store}
 use Rattle.event_core.specs.Refusal.{refusal, op_stores, last_value, last_value_from, event_of, value_of}
 use Rattle.event_core.specs.Refusal.{WellFormed}
 use Rattle.traced_mem.specs.After.{cells_after}
-use Rattle.traced_mem.specs.OfLog.{var_id, meaning_of}
+use Rattle.traced_mem.specs.Standing.{var_id, meaning_of}
 use Rattle.traced_mem.proofs.Updates.{updated_if}
 use Rattle.traced_mem.proofs.OneMore.{value_snoc}
 

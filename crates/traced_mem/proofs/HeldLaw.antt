@@ -28,7 +28,7 @@ use Rattle.event_core.proofs.Members.{none_in, has_front, has_last}
 use Rattle.event_core.proofs.OpenSections.{its_effect, open_held, open_new, open_within}
 use Rattle.traced_mem.specs.After.{without}
 use Rattle.traced_mem.specs.Held.{InOrder, none, more, AreHeld}
-use Rattle.traced_mem.specs.OfLog.{held_after, held_from, held_in}
+use Rattle.traced_mem.specs.Standing.{held_after, held_from, held_in}
 use Rattle.traced_mem.proofs.Without.{without_here, without_next, has_without}
 
 -- the list, as depths say it

@@ -19,7 +19,7 @@ use Rattle.event_core.proofs.Legality.{acquirer_snoc, holder_is, holder_depth, o
 use Rattle.event_core.proofs.RunFacts.{allowed_legal}
 use Rattle.traced_mem.specs.Refusals.{not_holder_at}
 use Rattle.traced_mem.specs.After.{deeper, shallower, locks_after}
-use Rattle.traced_mem.specs.OfLog.{meaning_of}
+use Rattle.traced_mem.specs.Standing.{meaning_of}
 use Rattle.traced_mem.proofs.Allowed.{Allowed, allowed, release_holder}
 use Rattle.traced_mem.proofs.SameRefusals.{same_refusal}
 use Rattle.traced_mem.proofs.Updates.{eqb_refl, is_updated}

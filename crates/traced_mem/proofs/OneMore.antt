@@ -13,7 +13,7 @@ use Rattle.event_core.specs.Log.{depth, op_acquires, op_releases}
 use Rattle.event_core.specs.Refusal.{held, op_stores, holder, last_acquirer, last_value_from}
 use Rattle.event_core.proofs.Effects.{depth_same}
 use Rattle.event_core.proofs.Legality.{acquirer_snoc}
-use Rattle.traced_mem.specs.OfLog.{held_after, held_from}
+use Rattle.traced_mem.specs.Standing.{held_after, held_from}
 use Rattle.traced_mem.proofs.Updates.{eqb_refl}
 
 pub any_snoc : (p : Event → Bool) (xs : List Event) (e : Event)

@@ -20,7 +20,7 @@ use Rattle.event_core.proofs.Holds.{depths_are_open, full_by_open}
 use Rattle.traced_mem.specs.Refusals.{refusal_at, swap_refusal_at, forked_at, known_at, held_at}
 use Rattle.traced_mem.specs.Refusals.{not_holder_at, already_started_at, target_not_started_at, log_full_at}
 use Rattle.traced_mem.specs.After.{value_at}
-use Rattle.traced_mem.specs.OfLog.{meaning_of}
+use Rattle.traced_mem.specs.Standing.{meaning_of}
 
 same_forked : (r : Roots) (log : List Event) (u : ThreadId) → forked_at r (meaning_of log) u ≡ forked r log u
 same_forked OnlyMain log u = refl

@@ -18,7 +18,7 @@ use Rattle.traced_mem.specs.Meaning.{Thread}
 use Rattle.traced_mem.specs.Refusals.{held_at}
 use Rattle.traced_mem.specs.After.{updated, without, gains, loses, now_forked, now_joined, mentioned_again}
 use Rattle.traced_mem.specs.After.{threads_after}
-use Rattle.traced_mem.specs.OfLog.{thread_id, held_after, held_in, meaning_of}
+use Rattle.traced_mem.specs.Standing.{thread_id, held_after, held_in, meaning_of}
 use Rattle.traced_mem.proofs.LocksAfter.{may, holder_now}
 use Rattle.traced_mem.proofs.Updates.{updated_if}
 use Rattle.traced_mem.proofs.OneMore.{any_snoc, held_snoc}

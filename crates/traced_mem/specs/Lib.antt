@@ -3,5 +3,5 @@ pub mod Refusals
 pub mod After
 pub mod Tables
 pub mod Room
-pub mod OfLog
+pub mod Standing
 pub mod Held

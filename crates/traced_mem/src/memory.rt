@@ -8,7 +8,7 @@ ghost use Rattle.traced_mem.specs.Meaning.{nothing};
 ghost use Rattle.traced_mem.specs.After.{after, value_at, holds_after};
 ghost use Rattle.traced_mem.specs.Tables.{meaning, Allows};
 ghost use Rattle.traced_mem.specs.Room.{IsReady, GrownFor, HoldsFit, takes_place};
-ghost use Rattle.traced_mem.specs.OfLog.{StandsFor};
+ghost use Rattle.traced_mem.specs.Standing.{StandsFor};
 
 mod permission;
 mod queries;
@@ -78,7 +78,7 @@ impl Memory {
         ensures succeeds { IsOk result }
         ensures limits { IfOk result (λ memory. memory.limits ≡ limits) }
         ensures means { IfOk result (λ memory. meaning memory ≡ nothing) }
-        ensures stands { IfOk result (λ memory. StandsFor memory []) }
+        ensures stands { IfOk result (λ memory. StandsFor [] memory) }
     {
         Ok(Memory {
             alloc,
@@ -101,7 +101,7 @@ impl Memory {
         ensures again { IsReady self.old thread op → IsOk result }
         ensures kept { (u : Thread) (o : Operation) → IsReady self.old u o → IsReady self.new u o }
         ensures grown { GrownFor self.old self.new thread op }
-        ensures stands { (log : List Event) → StandsFor self.old log → StandsFor self.new log }
+        ensures stands { (log : List Event) → StandsFor log self.old → StandsFor log self.new }
     {
         if self.ready(thread, op) {
             return Ok(());
@@ -127,10 +127,10 @@ impl Memory {
         // an acquire may use up the place that was made for another one by its thread
         ensures kept { (u : Thread) (o : Operation) → takes_place call.now.thread call.now.op u o ≡ false
             → IsReady self.old u o → IsReady self.new u o }
-        ensures last { (log : List Event) → StandsFor self.old log
+        ensures last { (log : List Event) → StandsFor log self.old
             → result ≡ value_of log call.now.op call.now.arg }
-        ensures stands { (log : List Event) → StandsFor self.old log
-            → StandsFor self.new (log ++ event_of log call.now ∷ []) }
+        ensures stands { (log : List Event) → StandsFor log self.old
+            → StandsFor (log ++ event_of log call.now ∷ []) self.new }
     {
         // No log has more events than this, so the counts below are within their range.
         let _events = self.limits.events();

@@ -24,14 +24,14 @@ use Rattle.event_core.specs.Effect.{Closes}
 use Rattle.wcp_laws.specs.Found.{sum_below}
 use Rattle.wcp_laws.proofs.FoundLaws.{closes_after_first}
 use Rattle.wcp_laws.specs.State.{State}
-use Rattle.wcp_laws.specs.Standing.{Stands}
+use Rattle.wcp_laws.specs.Standing.{StandsFor as StateStandsFor}
 use Rattle.wcp_laws.specs.Step as wcp
 use Rattle.wcp_laws.proofs.LegalSteps as wcp_steps
 use Rattle.wcp_clocks.specs.Whole.{own_of}
 use Rattle.wcp_laws.proofs.Conditions.{sound_where_legal}
 use Rattle.wcp_clocks.specs.Parts.{Parts, hb_of, state_of}
 use Rattle.wcp_clocks.specs.HeldLists.{list_at, held_of}
-use Rattle.wcp_clocks.specs.StandsFor.{StandsFor, FitsWhereLegal}
+use Rattle.wcp_clocks.specs.Standing.{StandsFor, FitsWhereLegal}
 use Rattle.wcp_clocks.proofs.Growth.{held_numbers}
 
 -- a well-formed log has no more events than there may be
@@ -84,7 +84,7 @@ alone limits log p t w st l u v k is other = go (cases_Bool (noted_of p.sums u l
 
 -- no thread's own number falls
 own_grows : (limits : Limits) (log : List Event) (e : Event) (s : State) → WellFormed limits (log ++ e ∷ [])
-    → Stands log s → (u : ℕ) → own_of s u ≤ own_of (wcp.after e s) u
+    → StateStandsFor log s → (u : ℕ) → own_of s u ≤ own_of (wcp.after e s) u
 own_grows limits log e s w st u =
     let t : ThreadId = record { 0 = u } in
     let before : s.hb.thread u u ≡ events_of log t = st.own t in

@@ -1,33 +1,29 @@
 -- The lists of held locks: no lock stands twice in one, and none is longer than there are locks.
 use Rattle.std.proofs.Common.{◌≡◌, ℕ, ◌<◌, ◌≤◌, List, [], ◌∷◌, ◌++◌, length, Bool, true, false, cond, nat_eq}
-use Rattle.std.proofs.Common.{nat_lt, not, refl, sym, ap, subst, ◌∙◌, inl, inr, ◌⊎◌, arith, take}
+use Rattle.std.proofs.Common.{not, refl, sym, ap, subst, ◌∙◌, inl, inr, ◌⊎◌, arith}
 use Rattle.std.specs.List.{IsDistinct, AllByRecursion, list_any}
-use Rattle.std.proofs.lemmas.Bool.{cases_eq, cases_lt, eqb-true, le-ltb}
+use Rattle.std.proofs.lemmas.Bool.{cases_eq, eqb-true}
 use Rattle.std.proofs.lemmas.Map.Steps.{length-le_from_distinct_below}
-use Rattle.std.proofs.Math.Seq.{take-length}
 use Rattle.event_core.specs.declared.bounds.Limits.{Limits}
 use Rattle.event_core.specs.declared.events.Event.{Event}
-use Rattle.event_core.specs.declared.events.Op.TheVariants.{Acquire}
 use Rattle.event_core.specs.declared.ids.LockId.{LockId}
 use Rattle.event_core.specs.declared.ids.ThreadId.{ThreadId}
-use Rattle.event_core.specs.declared.replies.Refusal.TheVariants.{TargetRange}
 use Rattle.event_core.specs.Closed.{Has, first, later}
 use Rattle.event_core.specs.Log.{depth}
 use Rattle.event_core.specs.Refusal.{WellFormed}
 use Rattle.event_core.specs.Rows.{with_row}
 use Rattle.event_core.specs.Effect.{Effect, Opens, Closes}
 use Rattle.event_core.proofs.Counting.{nat_eq_other}
-use Rattle.event_core.proofs.Depth.{opener}
 use Rattle.event_core.proofs.Growing.{row_same, row_other}
-use Rattle.event_core.proofs.Legality.{reasons_at, when_none}
+use Rattle.event_core.proofs.HolderLaw.{lock_within}
 use Rattle.event_core.proofs.Members.{any_has}
 use Rattle.event_core.proofs.Effects.{Fits, opens}
 use Rattle.wcp_laws.specs.State.{State}
-use Rattle.wcp_laws.specs.Standing.{Stands}
+use Rattle.wcp_laws.specs.Standing.{StandsFor as StateStandsFor}
 use Rattle.wcp_laws.specs.Step.{effect, after, held_after, without}
 use Rattle.wcp_laws.proofs.Clocks.{effect_fits}
 use Rattle.wcp_clocks.specs.Parts.{state_of, Parts}
-use Rattle.wcp_clocks.specs.StandsFor.{AreDistinct, StandsFor}
+use Rattle.wcp_clocks.specs.Standing.{AreDistinct, StandsFor}
 
 -- a property of all but one number of a list
 all_without : (P : ℕ → Type 0) (n : ℕ) (xs : List ℕ) → AllByRecursion P xs → AllByRecursion P (without n xs)
@@ -91,7 +87,7 @@ opened_anew log e _ (opens m o zero) l is =
     let same : m ≡ l = cc in subst (λ (n : LockId). depth log e.thread n ≡ 0) same zero
 opened_anew log e _ _ l is = cc
 
-pub distinct_step : (log : List Event) (e : Event) (s : State) → Stands log s → AreDistinct s.held
+pub distinct_step : (log : List Event) (e : Event) (s : State) → StateStandsFor log s → AreDistinct s.held
     → AreDistinct (after e s).held
 distinct_step log e s st was =
     distinct_after e.thread (effect e s) s.held new was
@@ -102,22 +98,6 @@ distinct_step log e s st was =
         let none : depth log e.thread l ≡ 0
         = opened_anew log e (effect e s) (effect_fits log e s st) l is in
         omega arith
-
--- a lock that is held is within the limit
-lock_within : (limits : Limits) (log : List Event) (t : ThreadId) (l : LockId) → WellFormed limits log
-    → 0 < depth log t l → l.0 < limits.locks
-lock_within limits log t l w up =
-    let all : take (length log) log ≡ log = take-length log in
-    let o = opener log t l (length log) (omega arith) (subst (λ xs. 0 < depth xs t l) (sym all) up) in
-    let r = reasons_at limits log o.index t (Acquire l) w o.opened.does in
-    let out : not (nat_lt l.0 limits.locks) ≡ false = when_none _ TargetRange r.on_table in
-    by out (cases_lt l.0 limits.locks)
-  where
-    by : not (nat_lt l.0 limits.locks) ≡ false → (l.0 < limits.locks) ⊎ (limits.locks ≤ l.0)
-        → l.0 < limits.locks
-    by out (inl lt) = lt
-    by out (inr ge) =
-        absurd (let no : not (nat_lt l.0 limits.locks) ≡ true = ap not (le-ltb l.0 limits.locks ge) in cc)
 
 -- a thread holds no more locks than there may be
 pub held_within : (limits : Limits) (log : List Event) (p : Parts) (t : ThreadId)

@@ -10,7 +10,7 @@ use Rattle.hb_clocks.specs.Marks.{IsLatest}
 use Rattle.hb_clocks.proofs.Conditions.{po_latest}
 use Rattle.wcp_laws.proofs.Ordering.{below_is_latest}
 use Rattle.wcp_clocks.specs.Parts.{Parts, state_of, hb_of}
-use Rattle.wcp_clocks.specs.StandsFor.{StandsFor}
+use Rattle.wcp_clocks.specs.Standing.{StandsFor}
 
 pub below_latest : (limits : Limits) (log : List Event) (p : Parts) (t : ThreadId) (j : ℕ)
     → WellFormed limits log → StandsFor log p → IsLatest log t j

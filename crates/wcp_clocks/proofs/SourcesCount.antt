@@ -15,7 +15,7 @@ use Rattle.section_sum.specs.Sums.{sources_of}
 use Rattle.wcp_clocks.specs.Parts.{Parts}
 use Rattle.wcp_clocks.specs.Met.{joined_all, met_clocks, met_under}
 use Rattle.wcp_clocks.specs.SourcesCount.{IsBelowSource, SourcesCount}
-use Rattle.wcp_clocks.specs.StandsFor.{StandsFor}
+use Rattle.wcp_clocks.specs.Standing.{StandsFor}
 use Rattle.wcp_clocks.proofs.Taking.{sources_joined}
 
 -- the clock that an access takes under the lock

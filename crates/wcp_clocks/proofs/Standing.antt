@@ -5,28 +5,29 @@ use Rattle.event_core.specs.declared.bounds.Limits.{Limits}
 use Rattle.event_core.specs.declared.events.Event.{Event}
 use Rattle.event_core.specs.Refusal.{WellFormed}
 use Rattle.hb_clocks.specs.State as hb
-use Rattle.hb_clocks.specs.Stands as hb_stands
+use Rattle.hb_clocks.specs.Standing as hb_stands
 use Rattle.hb_clocks.proofs.Conditions as hb_conditions
 use Rattle.hb_clocks.proofs.LegalSteps as hb_steps
 use Rattle.wcp_laws.specs.State.{State, empty}
 use Rattle.wcp_laws.specs.Step.{effect, after}
-use Rattle.wcp_laws.specs.Standing.{Stands}
+use Rattle.wcp_laws.specs.Standing.{StandsFor as StateStandsFor}
 use Rattle.wcp_laws.specs.Conditions.{found_at}
 use Rattle.wcp_laws.specs.Found.{FoundFits}
 use Rattle.wcp_laws.proofs.Empty as laws_empty
 use Rattle.wcp_laws.proofs.LegalSteps as laws_steps
 use Rattle.wcp_laws.proofs.FoundLaws.{nothing_found_fits, found_step}
 use Rattle.wcp_clocks.specs.Parts.{Parts, hb_of, state_of, found_in}
-use Rattle.wcp_clocks.specs.StandsFor.{StandsFor, SameStand, AreDistinct}
+use Rattle.wcp_clocks.specs.Standing.{StandsFor, SameStand, AreDistinct}
 use Rattle.wcp_clocks.proofs.HeldLocks.{distinct_step}
 
 -- what a log's numbers are stands for it, by whichever name
 renamed : (log : List Event) (p : Parts) (h : hb.HbState) (s : State) (f : ℕ → ℕ → ℕ)
     → hb_of p ≡ h → state_of p ≡ s → found_in p ≡ f
-    → hb_stands.Stands log h → Stands log s → FoundFits log s f → AreDistinct s.held → StandsFor log p
+    → hb_stands.StandsFor log h → StateStandsFor log s → FoundFits log s f → AreDistinct s.held
+    → StandsFor log p
 renamed log p h s f is_h is_s is_f stands_h stands_s stands_f distinct = record {
-  hb = subst (hb_stands.Stands log) (sym is_h) stands_h;
-  strict = subst (Stands log) (sym is_s) stands_s;
+  hb = subst (hb_stands.StandsFor log) (sym is_h) stands_h;
+  strict = subst (StateStandsFor log) (sym is_s) stands_s;
   found = subst (λ (x : State). FoundFits log x (found_in p)) (sym is_s)
       (subst (FoundFits log s) (sym is_f) stands_f);
   distinct = subst (λ (x : State). AreDistinct x.held) (sym is_s) distinct;

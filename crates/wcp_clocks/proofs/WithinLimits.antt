@@ -16,7 +16,7 @@ use Rattle.event_core.proofs.Growth.{well_formed_last}
 use Rattle.event_core.proofs.Legality.{AllNone, all_none, legal_reasons, when_none}
 use Rattle.event_core.proofs.Effects.{Fits, closes}
 use Rattle.wcp_laws.specs.State.{State}
-use Rattle.wcp_laws.specs.Standing.{Stands}
+use Rattle.wcp_laws.specs.Standing.{StandsFor as StateStandsFor}
 use Rattle.wcp_laws.specs.Step.{effect}
 use Rattle.wcp_clocks.specs.Parts.{NamesWithin, width_of, limits_of, IsWithin, Parts}
 use Rattle.wcp_laws.proofs.Clocks.{effect_fits}
@@ -73,7 +73,7 @@ within_where_legal limits log e p w width same = (
 
 -- the lock that is closed
 pub closed_within : (limits : Limits) (log : List Event) (e : Event) (s : State)
-    → WellFormed limits (log ++ e ∷ []) → Stands log s
+    → WellFormed limits (log ++ e ∷ []) → StateStandsFor log s
     → (l : LockId) → effect e s ≡ Closes l → l.0 < limits.locks
 closed_within limits log e s w st l is =
     in_range_is l.0 limits.locks

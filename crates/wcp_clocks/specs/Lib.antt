@@ -3,7 +3,7 @@ pub mod HeldLists
 pub mod Met
 pub mod Parts
 pub mod SourcesCount
-pub mod StandsFor
+pub mod Standing
 pub mod Stepping
 pub mod StrictRows
 pub mod Whole

@@ -9,7 +9,7 @@ use Rattle.event_core.specs.declared.bounds.Limits.{Limits}
 use Rattle.event_core.specs.Closed.{Has}
 use Rattle.event_core.specs.Effect.{Effect, Accesses, Opens, Closes, Joins}
 use Rattle.hb_clocks.specs.State.{HbState}
-use Rattle.hb_clocks.specs.Stands.{Admits, IsFew}
+use Rattle.hb_clocks.specs.Standing.{Admits, IsFew}
 use Rattle.hb_clocks.specs.Tables as hb
 use Rattle.hb_clocks.specs.Tables.{Tables as Order}
 use Rattle.hb_clocks.specs.Work.{Done}

@@ -12,7 +12,7 @@ use Rattle.lock_queues.specs.Queues.{closed_of}
 use Rattle.section_sum.specs.Sums.{sources_of}
 use Rattle.wcp_clocks.specs.Parts.{Parts}
 use Rattle.wcp_clocks.specs.Met.{joined_all}
-use Rattle.wcp_clocks.specs.StandsFor.{StandsFor}
+use Rattle.wcp_clocks.specs.Standing.{StandsFor}
 
 -- i is below the release of another thread's section on the lock with an access in conflict with one of
 -- the kind

@@ -8,7 +8,7 @@ use Rattle.wcp_laws.specs.Conditions.{found_at}
 use Rattle.wcp_laws.specs.Found.{total_found, threads_in}
 use Rattle.wcp_clocks.specs.Parts.{Parts}
 use Rattle.wcp_clocks.specs.Parts.{state_of, work_of, found_in, most_joins, FewComparisons, SameNumbers}
-use Rattle.wcp_clocks.specs.StandsFor.{StandsFor, HasLittleWork, IsBounded}
+use Rattle.wcp_clocks.specs.Standing.{StandsFor, HasLittleWork, IsBounded}
 
 -- each event took two joins for each lock at most, or three; and each comparison found a closed section for
 -- a thread, or was the last one of its event

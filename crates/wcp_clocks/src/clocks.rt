@@ -18,7 +18,7 @@ ghost use Rattle.event_core.specs.Wcp.{Strict, Below};
 ghost use Rattle.hb_clocks.specs.Counts.{counts_of};
 ghost use Rattle.hb_clocks.specs.Marks.{IsLatest};
 ghost use Rattle.hb_clocks.specs.State.{after as hb_after};
-ghost use Rattle.hb_clocks.specs.Stands.{IsHeldRelease};
+ghost use Rattle.hb_clocks.specs.Standing.{IsHeldRelease};
 ghost use Rattle.wcp_laws.specs.State.{empty};
 ghost use Rattle.wcp_laws.specs.Step.{after, effect};
 ghost use Rattle.wcp_laws.specs.Conditions.{found_at};
@@ -26,7 +26,7 @@ ghost use Rattle.wcp_clocks.specs.Parts.{hb_of, state_of, width_of, limits_of, w
 ghost use Rattle.wcp_clocks.specs.Parts.{IsReady, Fits, KeepsReady, SameLimits, SameNumbers, most_joins};
 ghost use Rattle.wcp_clocks.specs.Parts.{joins_at, FewComparisons, NoFewer, IsWithin, IsAccess};
 ghost use Rattle.wcp_clocks.specs.Growth.{GrownFor, MadeFor, SameMade};
-ghost use Rattle.wcp_clocks.specs.StandsFor.{StandsFor};
+ghost use Rattle.wcp_clocks.specs.Standing.{StandsFor};
 
 mod effects;
 

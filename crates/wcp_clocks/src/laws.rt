@@ -1,5 +1,5 @@
 //! Laws of the clocks, each a contract of a function without a body.
-ghost use Rattle.wcp_clocks.specs.StandsFor.{SameStand, FitsWhereLegal};
+ghost use Rattle.wcp_clocks.specs.Standing.{SameStand, FitsWhereLegal};
 ghost use Rattle.wcp_clocks.specs.SourcesCount.{SourcesCount};
 ghost use Rattle.wcp_clocks.specs.WorkWithin.{NoWork, SameWork, WorkStep, LittleWork, FewComparisonsInAll};
 

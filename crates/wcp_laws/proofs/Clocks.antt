@@ -22,23 +22,23 @@ use Rattle.event_core.proofs.Stable.{longer, back, hb_too, strict_too}
 use Rattle.event_core.proofs.Effects.{Fits, fits}
 use Rattle.event_core.proofs.Brings.{Brings, counted_brings, clock_counted, own_row, forked_none}
 use Rattle.event_core.proofs.HbSteps.{hb_to, hb_from}
-use Rattle.wcp_laws.specs.Standing.{Stands}
+use Rattle.wcp_laws.specs.Standing.{StandsFor}
 use Rattle.wcp_laws.specs.State.{State}
 use Rattle.wcp_laws.specs.Step.{effect, extra, hb_row, strict_row}
 use Rattle.wcp_laws.proofs.ClosedSections.{counted_behind}
 use Rattle.wcp_laws.proofs.Sources.{counted_under}
 use Rattle.wcp_laws.proofs.StrictSteps.{Adds, strict_to, strict_from}
 
-pub effect_fits : (log : List Event) (e : Event) (s : State) → Stands log s → Fits log e (effect e s)
+pub effect_fits : (log : List Event) (e : Event) (s : State) → StandsFor log s → Fits log e (effect e s)
 effect_fits log e s st = fits log e (s.depth e.thread.0) (λ l. st.depths e.thread l)
 
-counted_brought : (log : List Event) (s : State) → Stands log s → (k : Effect)
+counted_brought : (log : List Event) (s : State) → StandsFor log s → (k : Effect)
     → Counted log (Brings log (Strict log) (LockPast log (Strict log)) k) (brought k s.strict)
 counted_brought log s st =
     counted_brings log (Strict log) (LockPast log (Strict log)) s.strict st.strict.thread st.strict.lock
 
 -- what an event adds to the strict clock of its thread is counted
-counted_adds : (log : List Event) (s : State) → Stands log s → (t : ThreadId) (k : Effect)
+counted_adds : (log : List Event) (s : State) → StandsFor log s → (t : ThreadId) (k : Effect)
     → Counted log (Adds log t k) (extra t k s)
 counted_adds log s st t (Accesses x k) = counted_under log s st x k t
 counted_adds log s st t (Closes l) = counted_behind log s st t l
@@ -47,7 +47,7 @@ counted_adds log s st t (Joins u) = counted_brought log s st (Joins u)
 counted_adds log s st t (Forks u) = counted_brought log s st (Forks u)
 counted_adds log s st t Inner = counted_brought log s st Inner
 
-module _ (log : List Event) (e : Event) (s : State) (st : Stands log s) where
+module _ (log : List Event) (e : Event) (s : State) (st : StandsFor log s) where
   fit : Fits log e (effect e s)
   fit = effect_fits log e s st
 
@@ -72,7 +72,7 @@ module _ (log : List Event) (e : Event) (s : State) (st : Stands log s) where
 
 module _ (limits : Limits) (log : List Event) (e : Event) (s : State)
     (w : WellFormed limits (log ++ e ∷ []))
-    (st : Stands log s) where
+    (st : StandsFor log s) where
   ord : Orderly (log ++ e ∷ [])
   ord = orderly limits (log ++ e ∷ []) w
 

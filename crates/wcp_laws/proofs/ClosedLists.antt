@@ -17,7 +17,7 @@ use Rattle.event_core.proofs.Members.{has_front, has_last, has_split}
 use Rattle.event_core.proofs.Effects.{Fits, accesses, opens, closes, forks, joins, again, inner, last_closes}
 use Rattle.event_core.proofs.OpenSections.{is_closes}
 use Rattle.event_core.proofs.SectionSteps.{each_section, closed_longer, closed_now}
-use Rattle.wcp_laws.specs.Standing.{Stands}
+use Rattle.wcp_laws.specs.Standing.{StandsFor}
 use Rattle.wcp_laws.specs.State.{State}
 use Rattle.wcp_laws.specs.Step.{closed_after}
 
@@ -73,7 +73,7 @@ module _ (log : List Event) (e : Event) (ord : Orderly (log ++ e ∷ [])) (l : L
 -- the lists have the closed sections
 pub closed_stand : (log : List Event) (e : Event) → Orderly (log ++ e ∷ []) → (k : Effect) → Fits log e k
     → (g : ℕ → ℕ) → Counted (log ++ e ∷ []) (λ i. Hb (log ++ e ∷ []) i (length log)) g → (s : State)
-    → Stands log s → (l : LockId) → ClosedStand (log ++ e ∷ []) l (closed_after e.thread.0 k g s l.0)
+    → StandsFor log s → (l : LockId) → ClosedStand (log ++ e ∷ []) l (closed_after e.thread.0 k g s l.0)
 closed_stand log e ord k fit g is s st l = go k fit
   where
     Goal : List Closed → Type 0

@@ -14,7 +14,7 @@ use Rattle.event_core.proofs.CountLaws.{counts_same}
 use Rattle.event_core.proofs.Counting.{counted_none, counted_join, counted_same}
 use Rattle.event_core.proofs.Members.{none_in}
 use Rattle.event_core.proofs.SectionSteps.{counted_is, is_counted_of}
-use Rattle.wcp_laws.specs.Standing.{Stands}
+use Rattle.wcp_laws.specs.Standing.{StandsFor}
 use Rattle.wcp_laws.specs.State.{State}
 use Rattle.wcp_laws.proofs.StrictSteps.{Behind}
 use Rattle.event_core.proofs.Tests.{not_both}
@@ -84,7 +84,7 @@ counted_listed log P c l (b ∷ bs) n sound =
     from i q (later b bs h) m = inr (q, h, m)
 
 -- what a closing release adds is counted
-pub counted_behind : (log : List Event) (s : State) → Stands log s → (t : ThreadId) (l : LockId)
+pub counted_behind : (log : List Event) (s : State) → StandsFor log s → (t : ThreadId) (l : LockId)
     → Counted log (Behind log t l) (below_closed (s.strict.thread t.0) (s.closed l.0))
 counted_behind log s st t l =
     let P : ℕ → Type 0 = Past log (Strict log) t in

@@ -9,7 +9,7 @@ use Rattle.event_core.specs.Refusal.{WellFormed}
 use Rattle.event_core.specs.Effect.{Closes}
 use Rattle.event_core.proofs.Growth.{well_formed_front}
 use Rattle.event_core.proofs.Legality.{orderly}
-use Rattle.wcp_laws.specs.Standing.{Stands}
+use Rattle.wcp_laws.specs.Standing.{StandsFor}
 use Rattle.wcp_laws.specs.State.{State}
 use Rattle.wcp_laws.specs.Step.{effect}
 use Rattle.wcp_laws.specs.Conditions.{IsSound}
@@ -19,7 +19,7 @@ use Rattle.wcp_laws.proofs.Ordering.{counted_earlier, releases_above}
 
 -- the section that an event closes was opened
 opened_before : (limits : Limits) (log : List Event) (e : Event) (s : State)
-    → WellFormed limits (log ++ e ∷ []) → Stands log s
+    → WellFormed limits (log ++ e ∷ []) → StandsFor log s
     → (l : LockId) → effect e s ≡ Closes l → 0 < s.opened e.thread.0 l.0
 opened_before limits log e s w st l is =
     let ord = orderly limits (log ++ e ∷ []) w in
@@ -32,7 +32,7 @@ opened_before limits log e s w st l is =
 
 -- at each legal event the numbers are so
 pub sound_where_legal : (limits : Limits) (log : List Event) (e : Event) (s : State)
-    → WellFormed limits (log ++ e ∷ []) → Stands log s → IsSound e s
+    → WellFormed limits (log ++ e ∷ []) → StandsFor log s → IsSound e s
 sound_where_legal limits log e s w st = record {
   above_closed = λ l q u is h. (releases_above limits log e s l w st is).0 q u h;
   above_met = λ l x k t u is. (releases_above limits log e s l w st is).1 x k t u;

@@ -13,7 +13,7 @@ use Rattle.event_core.specs.Effect.{Effect, Closes}
 use Rattle.event_core.proofs.Depth.{lock_cases, same_lock_id, same_thread_id}
 use Rattle.event_core.proofs.Growing.{row_same, row_other, cell_same, cell_other}
 use Rattle.wcp_laws.specs.Conditions.{CursorsStand, found_at}
-use Rattle.wcp_laws.specs.Standing.{Stands}
+use Rattle.wcp_laws.specs.Standing.{StandsFor}
 use Rattle.wcp_laws.specs.State.{State}
 use Rattle.wcp_laws.specs.Step.{effect, hb_row, after, closed_after}
 use Rattle.event_core.proofs.HeldDepths.{cell_cases}
@@ -101,7 +101,7 @@ found_stands t _ s f stand l u = stand l u
 
 -- what was found counted stays so
 pub cursors_step : (limits : Limits) (log : List Event) (e : Event) (s : State) (f : ℕ → ℕ → ℕ)
-    → WellFormed limits (log ++ e ∷ []) → Stands log s → CursorsStand s f
+    → WellFormed limits (log ++ e ∷ []) → StandsFor log s → CursorsStand s f
     → CursorsStand (after e s) (found_at e.thread (effect e s) s f)
 cursors_step limits log e s f w st stand l t =
     let found : found_at e.thread (effect e s) s f l.0 t.0

@@ -1,6 +1,6 @@
 -- The numbers of the empty log stand for it.
 use Rattle.std.proofs.Common.{◌≡◌, ℕ, List, [], Some, refl, arith, true, false, slice_get}
-use Rattle.wcp_laws.specs.Standing.{Stands}
+use Rattle.wcp_laws.specs.Standing.{StandsFor}
 use Rattle.wcp_laws.specs.State.{empty}
 use Rattle.event_core.specs.declared.events.Event.{Event}
 use Rattle.event_core.specs.Closed.{Others}
@@ -23,7 +23,7 @@ unfolding no_events
 counted P u = record { within = omega arith; first = λ i o. absurd (nothing i o.event o.at) }
 
 -- the numbers of the empty log stand for it
-pub empty_stands : Stands [] empty
+pub empty_stands : StandsFor [] empty
 unfolding events_of depth no_events
 empty_stands = record {
   hb = record { thread = λ t. counted (Past [] (Hb []) t); lock = λ l. counted (LockPast [] (Hb []) l) };

@@ -22,7 +22,7 @@ use Rattle.event_core.proofs.Growing.{row_same, row_other, cell_other}
 use Rattle.event_core.proofs.SectionSteps.{number_most}
 use Rattle.wcp_laws.specs.Conditions.{found_at}
 use Rattle.wcp_laws.specs.Found.{sum_below, total_found, total_closed, has_events, threads_in, FoundFits}
-use Rattle.wcp_laws.specs.Standing.{Stands}
+use Rattle.wcp_laws.specs.Standing.{StandsFor}
 use Rattle.wcp_laws.specs.State.{State, empty}
 use Rattle.wcp_laws.specs.Step.{effect, hb_row, closed_after, after}
 use Rattle.wcp_laws.proofs.Cursors.{cursors_step}
@@ -103,7 +103,7 @@ closes_none locks t (Closes l) g s n = absurd (n l refl)
 closes_none locks t _ g s n = refl
 
 -- nothing is held at first, so the first event is none
-first_closes_none : (e : Event) (s : State) → Stands [] s → (l : LockId) → effect e s ≡ Closes l → ⊥
+first_closes_none : (e : Event) (s : State) → StandsFor [] s → (l : LockId) → effect e s ≡ Closes l → ⊥
 unfolding depth
 first_closes_none e s st l = go e.op
   where
@@ -116,12 +116,12 @@ first_closes_none e s st l = go e.op
     go _ q = absurd (cc q)
 
 -- a closing release has an event before it
-pub closes_after_first : (log : List Event) (e : Event) (s : State) → Stands log s → (l : LockId)
+pub closes_after_first : (log : List Event) (e : Event) (s : State) → StandsFor log s → (l : LockId)
     → effect e s ≡ Closes l → 0 < length log
 closes_after_first [] e s st l told = absurd (first_closes_none e s st l told)
 closes_after_first (x ∷ xs) e s st l told = omega arith
 
-fewer_step : (locks : ℕ) (log : List Event) (e : Event) (s : State) → Stands log s
+fewer_step : (locks : ℕ) (log : List Event) (e : Event) (s : State) → StandsFor log s
     → (0 < length log → total_closed locks s.closed < length log) → total_closed locks s.closed ≤ length log
     → total_closed locks (closed_after e.thread.0 (effect e s) (hb_row e s) s) < length (log ++ e ∷ [])
 fewer_step locks [] e s st old few =
@@ -135,7 +135,7 @@ fewer_step locks (x ∷ xs) e s st old few =
 
 -- and each legal event leaves what fits
 pub found_step : (limits : Limits) (log : List Event) (e : Event) (s : State) (f : ℕ → ℕ → ℕ)
-    → WellFormed limits (log ++ e ∷ []) → Stands log s → FoundFits log s f
+    → WellFormed limits (log ++ e ∷ []) → StandsFor log s → FoundFits log s f
     → FoundFits (log ++ e ∷ []) (after e s) (found_at e.thread (effect e s) s f)
 found_step limits log e s f w st fits = record {
   counted = cursors_step limits log e s f w st fits.counted;

@@ -19,7 +19,7 @@ use Rattle.event_core.proofs.Pasts.{source_within, past_longer, past_latest}
 use Rattle.wcp_laws.specs.Conditions.{ReleasesAbove, CountedEarlier, StrictIsLatest, BelowIsLatest}
 use Rattle.wcp_laws.specs.Step.{effect, hb_row, after}
 use Rattle.wcp_laws.specs.State.{State}
-use Rattle.wcp_laws.specs.Standing.{Stands}
+use Rattle.wcp_laws.specs.Standing.{StandsFor}
 use Rattle.wcp_laws.proofs.Clocks.{effect_fits, hb_counted}
 use Rattle.wcp_laws.proofs.LegalSteps.{step_stands}
 use Rattle.event_core.proofs.OpenSections.{closes_at}
@@ -54,7 +54,7 @@ counted_earlier limits log s l t p q w st hp hq le is =
 
 -- a thread's strict clock never goes down
 pub strict_grows : (limits : Limits) (log : List Event) (e : Event) (s : State) (t u : ThreadId)
-    → WellFormed limits (log ++ e ∷ []) → Stands log s
+    → WellFormed limits (log ++ e ∷ []) → StandsFor log s
     → s.strict.thread t.0 u.0 ≤ (after e s).strict.thread t.0 u.0
 strict_grows limits log e s t u w st =
     counts_grow log e u (Past log (Strict log) t) (Past (log ++ e ∷ []) (Strict (log ++ e ∷ [])) t)

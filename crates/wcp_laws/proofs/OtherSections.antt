@@ -22,7 +22,7 @@ use Rattle.event_core.proofs.OtherSections.{Leaves, leaves_test, other_of, other
 use Rattle.event_core.proofs.OtherSections.{other_old, other_new, other_split}
 use Rattle.event_core.proofs.SectionSteps.{section_within, before_within}
 use Rattle.event_core.proofs.Tests.{not_both}
-use Rattle.wcp_laws.specs.Standing.{Stands}
+use Rattle.wcp_laws.specs.Standing.{StandsFor}
 use Rattle.wcp_laws.specs.State.{State}
 use Rattle.wcp_laws.specs.Step.{met_clock_after}
 
@@ -47,7 +47,7 @@ module _ (log : List Event) (e : Event) (ord : Orderly (log ++ e ∷ [])) where
 
   -- the tables of other threads' sections count them
   pub others_stand : (k : Effect) → Fits log e k → (g : ℕ → ℕ)
-      → Counted (log ++ e ∷ []) (λ i. Hb (log ++ e ∷ []) i (length log)) g → (s : State) → Stands log s
+      → Counted (log ++ e ∷ []) (λ i. Hb (log ++ e ∷ []) i (length log)) g → (s : State) → StandsFor log s
       → (l : LockId) (x : VarId) (j : AccessKind) (t : ThreadId)
       → Counted (log ++ e ∷ []) (Others (log ++ e ∷ []) l x j t)
       (met_clock_after e.thread.0 k g s l.0 x.0 j t.0)

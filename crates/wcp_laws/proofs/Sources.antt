@@ -13,13 +13,13 @@ use Rattle.event_core.specs.Rows.{join, Counted}
 use Rattle.event_core.proofs.Counting.{counted_none, counted_join, counted_same}
 use Rattle.event_core.proofs.Depth.{same_lock_id}
 use Rattle.event_core.proofs.Members.{none_in}
-use Rattle.wcp_laws.specs.Standing.{Stands}
+use Rattle.wcp_laws.specs.Standing.{StandsFor}
 use Rattle.wcp_laws.specs.State.{State}
 use Rattle.wcp_laws.specs.Step.{sources, join_all}
 use Rattle.wcp_laws.proofs.Accesses.{Met}
 
 -- under one lock
-counted_met : (log : List Event) (s : State) → Stands log s
+counted_met : (log : List Event) (s : State) → StandsFor log s
     → (x : VarId) (k : AccessKind) (t : ThreadId) (l : LockId)
     → Counted log (Met log x k t l) (sources s x k t l.0)
 counted_met log s st x Read t l = st.others l x Write t
@@ -32,7 +32,7 @@ abbrev Under : List Event → VarId → AccessKind → ThreadId → List ℕ →
 Under log x k t ls i = (l : LockId) × Has l.0 ls × Met log x k t l i
 
 -- the join over a list of locks
-counted_listed : (log : List Event) (s : State) → Stands log s
+counted_listed : (log : List Event) (s : State) → StandsFor log s
     → (x : VarId) (k : AccessKind) (t : ThreadId) (ls : List ℕ)
     → Counted log (Under log x k t ls) (join_all (sources s x k t) ls)
 counted_listed log s st x k t [] = counted_none log (Under log x k t []) (λ i p. none_in p.1)
@@ -57,7 +57,7 @@ counted_listed log s st x k t (b ∷ bs) =
     from i l (later b bs h) m = inr (l, h, m)
 
 -- the join over the locks that the thread holds
-pub counted_under : (log : List Event) (s : State) → Stands log s
+pub counted_under : (log : List Event) (s : State) → StandsFor log s
     → (x : VarId) (k : AccessKind) (t : ThreadId)
     → Counted log (λ i. (l : LockId) × (0 < depth log t l) × Met log x k t l i)
     (join_all (sources s x k t) (s.held t.0))

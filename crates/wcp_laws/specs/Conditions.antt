@@ -16,12 +16,12 @@ use Rattle.event_core.specs.Rows.{with_row}
 use Rattle.event_core.specs.Closed.{Closed, is_counted, Has, number_counted}
 use Rattle.wcp_laws.specs.State.{State}
 use Rattle.wcp_laws.specs.Step.{effect, hb_row}
-use Rattle.wcp_laws.specs.Standing.{Stands}
+use Rattle.wcp_laws.specs.Standing.{StandsFor}
 
 -- a closing release's clock is at or above those of the closed sections of its lock
 abbrev pub ReleasesAbove : Type 0
 ReleasesAbove = (limits : Limits) (log : List Event) (e : Event) (s : State) (l : LockId)
-    → WellFormed limits (log ++ e ∷ []) → Stands log s → effect e s ≡ Closes l
+    → WellFormed limits (log ++ e ∷ []) → StandsFor log s → effect e s ≡ Closes l
     → ((q : Closed) (u : ThreadId) → Has q (s.closed l.0) → q.release u.0 ≤ hb_row e s u.0)
     × ((x : VarId) (k : AccessKind) (t u : ThreadId) → s.met_clock l.0 x.0 k t.0 u.0 ≤ hb_row e s u.0)
 
@@ -29,20 +29,20 @@ ReleasesAbove = (limits : Limits) (log : List Event) (e : Event) (s : State) (l 
 -- clock that counts the later acquire counts the earlier
 abbrev pub CountedEarlier : Type 0
 CountedEarlier = (limits : Limits) (log : List Event) (s : State) (l : LockId) (t : ThreadId) (p q : Closed)
-    → WellFormed limits log → Stands log s
+    → WellFormed limits log → StandsFor log s
     → Has p (s.closed l.0) → Has q (s.closed l.0) → ((u : ThreadId) → p.release u.0 ≤ q.release u.0)
     → IsTrue (is_counted (s.strict.thread t.0) q) → IsTrue (is_counted (s.strict.thread t.0) p)
 
 -- a thread's strict clock counts what strictly precedes its latest event
 abbrev pub StrictIsLatest : Type 0
 StrictIsLatest = (limits : Limits) (log : List Event) (s : State) (j : ℕ) (t u : ThreadId)
-    → WellFormed limits log → Stands log s → Of log j t → ((k : ℕ) → j < k → Of log k t → ⊥)
+    → WellFormed limits log → StandsFor log s → Of log j t → ((k : ℕ) → j < k → Of log k t → ⊥)
     → Counts log u (λ i. Strict log i j) (s.strict.thread t.0 u.0)
 
 -- with the number of program order it counts what is below that event
 abbrev pub BelowIsLatest : Type 0
 BelowIsLatest = (limits : Limits) (log : List Event) (s : State) (j n : ℕ) (t u : ThreadId)
-    → WellFormed limits log → Stands log s → Of log j t → ((k : ℕ) → j < k → Of log k t → ⊥)
+    → WellFormed limits log → StandsFor log s → Of log j t → ((k : ℕ) → j < k → Of log k t → ⊥)
     → Counts log u (λ i. Po log i j) n → Counts log u (λ i. Below log i j) (max (s.strict.thread t.0 u.0) n)
 
 -- what is asked of the numbers at an event, with no log

@@ -17,7 +17,7 @@ use Rattle.event_core.specs.Closed.{Open, Noted, Others, Has, ClosedStand}
 use Rattle.wcp_laws.specs.State.{State}
 use Rattle.wcp_laws.specs.Step.{after}
 
-pub record Stands (log : List Event) (s : State) : Type 0 where
+pub record StandsFor (log : List Event) (s : State) : Type 0 where
   pub hb : RowsStand log (Hb log) s.hb
   pub strict : RowsStand log (Strict log) s.strict
   -- a thread's own number is that of its events
@@ -35,4 +35,4 @@ pub record Stands (log : List Event) (s : State) : Type 0 where
 -- an event that is legal after the log makes numbers that stand for the longer log
 abbrev pub StepStands : Type 0
 StepStands = (limits : Limits) (log : List Event) (e : Event) (s : State)
-    → WellFormed limits (log ++ e ∷ []) → Stands log s → Stands (log ++ e ∷ []) (after e s)
+    → WellFormed limits (log ++ e ∷ []) → StandsFor log s → StandsFor (log ++ e ∷ []) (after e s)

@@ -18,8 +18,8 @@ use Rattle.script_text.specs.Lines.{is_of}
 use Rattle.script_text.specs.Scripts.{act_event, IsScript, Parsed}
 use Rattle.trace_report.specs.Reports.{AreNamed}
 
-abbrev Named : Tables → List Event → Type 0
-Named names = AllByRecursion (HasNames names)
+abbrev AreAllNamed : Tables → List Event → Type 0
+AreAllNamed names = AllByRecursion (HasNames names)
 
 abbrev LineNamed : Tables → ScriptLine → Type 0
 LineNamed names l = HasNames names (act_event l.act)
@@ -29,43 +29,43 @@ front P [] ys all = tt
 front P (x ∷ xs) ys all = (All-head P x (xs ++ ys) all, front P xs ys (All-tail P x (xs ++ ys) all))
 
 -- the events that an act asks for, before others
-act_named : (names : Tables) (a : Act) (es : List Event) → HasNames names (act_event a) → Named names es
-    → Named names (asked_by a ++ es)
+act_named : (names : Tables) (a : Act) (es : List Event) → HasNames names (act_event a) → AreAllNamed names es
+    → AreAllNamed names (asked_by a ++ es)
 act_named names (One c) es h all = (record { thread = h.thread; target = h.target; site = h.site }, all)
 act_named names (Swap t x site arg) es h all =
     (record { thread = h.thread; target = h.target; site = h.site }, (h, all))
 
 asked_named : (names : Tables) (ls : List ScriptLine) → AllByRecursion (LineNamed names) ls
-    → Named names (asked ls)
+    → AreAllNamed names (asked ls)
 asked_named names [] all = tt
 asked_named names (l ∷ ls) all = act_named names l.act (asked ls) all.0 (asked_named names ls all.1)
 
-unread_named : (names : Tables) (es : List Event) → Named names (map unread es) → Named names es
+unread_named : (names : Tables) (es : List Event) → AreAllNamed names (map unread es) → AreAllNamed names es
 unread_named names [] all = tt
 unread_named names (e ∷ es) all =
     (record { thread = all.0.thread; target = all.0.target; site = all.0.site }, unread_named names es all.1)
 
 -- the events are named where each thread's are
-all_named : (names : Tables) (log : List Event) → ((t : ThreadId) → Named names (own_events t log))
-    → Named names log
+all_named : (names : Tables) (log : List Event) → ((t : ThreadId) → AreAllNamed names (own_events t log))
+    → AreAllNamed names log
 all_named names [] each = tt
 all_named names (e ∷ es) each = (
   first (nat_eq e.thread.0 e.thread.0) (nat_eq_same e.thread.0) (each e.thread),
   all_named names es (λ t. later t (nat_eq e.thread.0 t.0) (each t)),
 )
   where
-    first : (b : Bool) → b ≡ true → Named names (cond b (e ∷ own_events e.thread es) (own_events e.thread es))
-        → HasNames names e
+    first : (b : Bool) → b ≡ true
+        → AreAllNamed names (cond b (e ∷ own_events e.thread es) (own_events e.thread es)) → HasNames names e
     first true is all = all.0
     first false is all = absurd (cc is)
 
-    later : (t : ThreadId) (b : Bool) → Named names (cond b (e ∷ own_events t es) (own_events t es))
-        → Named names (own_events t es)
+    later : (t : ThreadId) (b : Bool) → AreAllNamed names (cond b (e ∷ own_events t es) (own_events t es))
+        → AreAllNamed names (own_events t es)
     later t true all = all.1
     later t false all = all
 
 own_named : (script : Parsed) → IsScript script → (t : ThreadId) (events : List Event)
-    → FollowsFirst events (lines_by t script.lines) → Named script.names events
+    → FollowsFirst events (lines_by t script.lines) → AreAllNamed script.names events
 own_named script is t events run =
     let names = script.names in
     let lines : All (LineNamed names) script.lines
@@ -74,7 +74,7 @@ own_named script is t events run =
     let some : All (LineNamed names) (run.first ++ run.begins.0)
     = subst (All (LineNamed names)) (sym run.begins.1) own in
     unread_named names events
-    (subst (Named names) (sym run.follows)
+    (subst (AreAllNamed names) (sym run.follows)
     (asked_named names run.first (front _ run.first run.begins.0 some)))
 
 pub run_named : (script : Parsed) (log : List Event) → IsScript script → IsRunOf script.lines log

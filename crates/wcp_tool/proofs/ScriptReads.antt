@@ -15,14 +15,15 @@ use Rattle.script_text.specs.declared.causes.ScriptFault.{ScriptFault}
 use Rattle.script_text.specs.declared.lines.ScriptLine.{ScriptLine}
 use Rattle.script_text.specs.Readings.{IsFault, ReadFails}
 use Rattle.trace_report.specs.Words.{refusal_word}
-use Rattle.wcp_tool.specs.Running.{CutsScript, PerformsRun}
+use Rattle.wcp_tool.specs.Running.{TruncatesScript, PerformsRun}
 use Rattle.wcp_tool.specs.ScriptRuns.{IsOfText, TellsFault, TellsRefusal, TellsRefused, TellsStop}
 use Rattle.wcp_tool.specs.ScriptRuns.{TellsStopped}
 
 -- a script with a read fault was not read to its end
-pub cuts_script : (m n : Limits) (left rest : Option (List ℕ)) (failed : Bool) (f : ScriptFault) → m ≡ n
-    → f.cause ≡ Read → IsFault m left rest 17592186044416 failed f f.cause → CutsScript n left rest failed
-cuts_script m n left rest failed f same read is = record {
+pub truncates_script : (m n : Limits) (left rest : Option (List ℕ)) (failed : Bool) (f : ScriptFault) → m ≡ n
+    → f.cause ≡ Read → IsFault m left rest 17592186044416 failed f f.cause
+    → TruncatesScript n left rest failed
+truncates_script m n left rest failed f same read is = record {
   line = f.line;
   fails = subst (λ (l : Limits). ReadFails l left rest 17592186044416 failed f.line) same
       (subst (λ (c : ScriptCause). IsFault m left rest 17592186044416 failed f c) read is);

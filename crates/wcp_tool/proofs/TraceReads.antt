@@ -4,17 +4,18 @@ use Rattle.std.specs.Prelude.{IsErrAnd}
 use Rattle.event_core.specs.declared.bounds.Limits.{Limits}
 use Rattle.trace_report.specs.declared.faults.ReplayFault.{ReplayFault}
 use Rattle.trace_report.specs.declared.faults.ReplayFault.TheVariants.{Found, Write}
-use Rattle.trace_report.specs.Judging.{HasRead, IsCutAt}
+use Rattle.trace_report.specs.Judging.{HasRead, IsTruncatedAt}
 use Rattle.wcp_tool.specs.Endings.{is_unread}
-use Rattle.wcp_tool.specs.Running.{CutsTrace}
+use Rattle.wcp_tool.specs.Running.{TruncatesTrace}
 
 -- an answer of a check or a replay that the text was not read to its end
 pub trace_cut : {A : Type 0} (m n : Limits) (left rest : Option (List ℕ)) (failed : Bool)
     (answer : Result A ReplayFault) → m ≡ n → HasRead m left rest 17592186044416 failed answer
-    → IsErrAnd answer (λ f. is_unread f ≡ true) → CutsTrace n left rest failed
+    → IsErrAnd answer (λ f. is_unread f ≡ true) → TruncatesTrace n left rest failed
 trace_cut m n left rest failed (Ok a) same reads unread = absurd unread
 trace_cut m n left rest failed (Err (Found f)) same reads unread = record {
   fault = f;
-  is = subst (λ (l : Limits). IsCutAt l left rest 17592186044416 failed f) same (reads.cut unread);
+  is = subst (λ (l : Limits). IsTruncatedAt l left rest 17592186044416 failed f) same
+      (reads.truncated unread);
 }
 trace_cut m n left rest failed (Err Write) same reads unread = absurd (cc)

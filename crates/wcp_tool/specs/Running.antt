@@ -12,7 +12,7 @@ use Rattle.trace_report.specs.declared.faults.TraceFault.{TraceFault}
 use Rattle.trace_report.specs.declared.summary.Summary.{Summary}
 use Rattle.trace_report.specs.declared.counts.Counts.{Counts}
 use Rattle.trace_report.specs.Checked.{ChecksText}
-use Rattle.trace_report.specs.Judging.{IsCutAt}
+use Rattle.trace_report.specs.Judging.{IsTruncatedAt}
 use Rattle.trace_report.specs.Replayed.{TellsText, answer_gives_up}
 use Rattle.wcp_tool.specs.declared.requests.UsageFault.{UsageFault}
 use Rattle.wcp_tool.specs.declared.requests.UsageFault.TheVariants as faults
@@ -77,31 +77,31 @@ Performs opens text (run path) threads left old new status =
 
 -- of a trace: a read failed or it has as many bytes as there are turns, and no line that came whole has a
 -- fault or an event that is refused
-pub record CutsTrace (m : Limits) (left rest : Option (List ℕ)) (failed : Bool) : Type 0 where
+pub record TruncatesTrace (m : Limits) (left rest : Option (List ℕ)) (failed : Bool) : Type 0 where
   pub fault : TraceFault
-  pub is : IsCutAt m left rest 17592186044416 failed fault
+  pub is : IsTruncatedAt m left rest 17592186044416 failed fault
 
 -- of a script: a read failed or it has as many bytes as there are turns, and no line that came whole has a
 -- cause
-pub record CutsScript (m : Limits) (left rest : Option (List ℕ)) (failed : Bool) : Type 0 where
+pub record TruncatesScript (m : Limits) (left rest : Option (List ℕ)) (failed : Bool) : Type 0 where
   pub line : ℕ
   pub fails : ReadFails m left rest 17592186044416 failed line
 
 -- of a script in a file that was opened
-pub record CutsFile {S : Type 0} (opened : Option S → Type 0) (left : S → Option (List ℕ)) (failed : S → Bool)
-    (m : Limits) : Type 0 where
+pub record TruncatesFile {S : Type 0} (opened : Option S → Type 0) (left : S → Option (List ℕ))
+    (failed : S → Bool) (m : Limits) : Type 0 where
   pub script : S
   pub after : S
   pub is : opened (Some script)
-  pub cuts : CutsScript m (left script) (left after) (failed after)
+  pub truncates : TruncatesScript m (left script) (left after) (failed after)
 
 -- the trace was not read to its end; or the script's file could not be opened, or not be read to its end
-abbrev pub IsCut : {S : Type 0} → (Text → Option S → Type 0) → (S → Option (List ℕ)) → (S → Bool) → Request
-    → ℕ → Option (List ℕ) → Option (List ℕ) → Bool → Type 0
-IsCut opens text fails (run path) threads left rest failed =
-    opens path None ⊎ CutsFile (opens path) text fails (limits_with threads OnlyMain)
-IsCut opens text fails request threads left rest failed =
-    CutsTrace (limits_with threads Free) left rest failed
+abbrev pub IsTruncated : {S : Type 0} → (Text → Option S → Type 0) → (S → Option (List ℕ)) → (S → Bool)
+    → Request → ℕ → Option (List ℕ) → Option (List ℕ) → Bool → Type 0
+IsTruncated opens text fails (run path) threads left rest failed =
+    opens path None ⊎ TruncatesFile (opens path) text fails (limits_with threads OnlyMain)
+IsTruncated opens text fails request threads left rest failed =
+    TruncatesTrace (limits_with threads Free) left rest failed
 
 -- ---- a run of the program
 
@@ -113,7 +113,7 @@ IsUnhindered status = (status ≢ 4) × (status ≢ 5)
 abbrev pub IsHindered : {S : Type 0} → (Text → Option S → Type 0) → (S → Option (List ℕ)) → (S → Bool)
     → List Text → Option (List ℕ) → Option (List ℕ) → Bool → Bool → Type 0
 IsHindered opens text fails words left rest read_failed write_failed = (write_failed ≡ true)
-    ⊎ IsSomeAnd (asked words) (λ a. IsCut opens text fails a.request a.threads left rest read_failed)
+    ⊎ IsSomeAnd (asked words) (λ a. IsTruncated opens text fails a.request a.threads left rest read_failed)
 
 -- a trace is read from standard input for this
 abbrev pub reads_trace : Request → Bool

@@ -4,7 +4,7 @@ ghost use Rattle.std.specs.Prelude.{map};
 ghost use Rattle.clap.specs.Words.{Text};
 ghost use Rattle.wcp_tool.specs.Endings.{HasEnded, is_write_fault, status_of};
 ghost use Rattle.wcp_tool.specs.CommandLine.{request_of};
-ghost use Rattle.wcp_tool.specs.Running.{Checks, Replays, Performs, IsCut, IsHindered, Runs};
+ghost use Rattle.wcp_tool.specs.Running.{Checks, Replays, Performs, IsTruncated, IsHindered, Runs};
 ghost use Rattle.wcp_tool.specs.Running.{EndsAs, LeavesInput, limits_with, reads_trace};
 ghost use Rattle.event_core.specs.declared.bounds.Roots.TheVariants.{Free};
 
@@ -40,7 +40,8 @@ fn run<R: AllocGlobal + ScriptFiles + Threads + Wait + Sync, I: Input, O: Output
         → Performs (R.open_gives rt.now) R.Script.left (request_of settings.command) settings.threads
         (I.left reader.old) (O.written writer.old) (O.written writer.new) (status_of result) }
     ensures ends { HasEnded (writer.new ≡ writer.old) (O.failed writer.new) result }
-    ensures cut { result ≡ Ending.ReadFault → IsCut (R.open_gives rt.now) R.Script.left R.Script.failed
+    ensures truncated { result ≡ Ending.ReadFault
+        → IsTruncated (R.open_gives rt.now) R.Script.left R.Script.failed
         (request_of settings.command) settings.threads (I.left reader.old) (I.left reader.new)
         (I.failed reader.new) }
     ensures untouched { reads_trace (request_of settings.command) ≡ false → reader.new ≡ reader.old }

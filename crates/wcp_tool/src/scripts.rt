@@ -5,7 +5,8 @@ ghost use Rattle.rapid_text.specs.Faults.{fault_line};
 ghost use Rattle.script_text.specs.declared.causes.ScriptFault.{ScriptFault as Why};
 ghost use Rattle.script_text.specs.Scripts.{script_of, IsScript};
 ghost use Rattle.wcp_tool.specs.Endings.{HasEnded, is_write_fault, status_of};
-ghost use Rattle.wcp_tool.specs.Running.{CutsFile, CutsScript, PerformsFile, PerformsRun, limits_with};
+ghost use Rattle.wcp_tool.specs.Running.{TruncatesFile, TruncatesScript, PerformsFile};
+ghost use Rattle.wcp_tool.specs.Running.{PerformsRun, limits_with};
 ghost use Rattle.trace_report.specs.Reports.{AreNamed};
 ghost use Rattle.wcp_tool.specs.ScriptRuns.{BreaksText, Ran, RefusesText, ReportsLog, RunsText};
 ghost use Rattle.wcp_tool.specs.ScriptRuns.{TellsFault, TellsRefusal, TellsRefused, TellsStop, TellsStopped};
@@ -46,7 +47,7 @@ fn explain_script<O: Output>(writer: &mut O, fault: &ScriptFault) -> Ending
     ensures tells { TellsFault fault.now (O.written writer.old) (O.written writer.new) (status_of result) }
     ensures hindered { (fault.now.cause ≡ ScriptCause.Read) ⊎ (fault.now.cause ≡ ScriptCause.OutOfMemory)
         → (status_of result ≡ 4) ⊎ (status_of result ≡ 5) }
-    ensures cut { result ≡ Ending.ReadFault → fault.now.cause ≡ ScriptCause.Read }
+    ensures truncated { result ≡ Ending.ReadFault → fault.now.cause ≡ ScriptCause.Read }
     ensures ends { HasEnded (writer.new ≡ writer.old) (O.failed writer.new) result }
 {
     match fault.cause {
@@ -143,7 +144,8 @@ fn run_lines<R: AllocGlobal + Threads + Wait + Sync, I: Input, O: Output>(
     ensures fault { IfSome (I.left script.old) (λ text. (f : Why)
         → script_of (limits_with threads OnlyMain) text ≡ Err f
         → TellsFault f (O.written writer.old) (O.written writer.new) (status_of result)) }
-    ensures cut { result ≡ Ending.ReadFault → CutsScript (limits_with threads OnlyMain) (I.left script.old)
+    ensures truncated { result ≡ Ending.ReadFault
+        → TruncatesScript (limits_with threads OnlyMain) (I.left script.old)
         (I.left script.new) (I.failed script.new) }
     ensures read { (result ≡ Ending.Done) ⊎ (result ≡ Ending.Races) → I.failed script.new ≡ false }
     ensures ends { HasEnded (writer.new ≡ writer.old) (O.failed writer.new) result }
@@ -204,7 +206,7 @@ pub fn run_script<R: AllocGlobal + Threads + Wait + Sync, I: Input, O: Output, E
     // since a read failed or it has as many bytes as there are turns, and then nothing is written. No line
     // that came whole has a cause then, and at most 1,025 bytes came of the line whose end was not seen.
     ensures devices { result ≡ 4 → (O.failed writer.new ≡ true)
-        ⊎ ((writer.new ≡ writer.old) × CutsScript (limits_with settings.now.threads OnlyMain)
+        ⊎ ((writer.new ≡ writer.old) × TruncatesScript (limits_with settings.now.threads OnlyMain)
         (I.left script.old) (I.left script.new) (I.failed script.new)) }
     // It ends with 0 or 1 only where no read failed.
     ensures read { (result ≡ 0) ⊎ (result ≡ 1) → I.failed script.new ≡ false }
@@ -227,8 +229,8 @@ pub(crate) fn run_file<R: AllocGlobal + ScriptFiles + Threads + Wait + Sync, O: 
     requires writes { O.failed writer.old ≡ false }
     ensures performs { result ≢ Ending.ReadFault → PerformsFile (R.open_gives rt.now path.now) R.Script.left
         (limits_with threads OnlyMain) (O.written writer.old) (O.written writer.new) (status_of result) }
-    ensures cut { result ≡ Ending.ReadFault → R.open_gives rt.now path.now None
-        ⊎ CutsFile (R.open_gives rt.now path.now) R.Script.left R.Script.failed
+    ensures truncated { result ≡ Ending.ReadFault → R.open_gives rt.now path.now None
+        ⊎ TruncatesFile (R.open_gives rt.now path.now) R.Script.left R.Script.failed
         (limits_with threads OnlyMain) }
     ensures ends { HasEnded (writer.new ≡ writer.old) (O.failed writer.new) result }
 {

@@ -17,7 +17,7 @@ ghost use Rattle.traced_mem.specs.Refusals.{
   answer,
 };
 ghost use Rattle.traced_mem.specs.Tables.{meaning, Allows, AllowsSwap};
-ghost use Rattle.traced_mem.specs.OfLog.{StandsFor};
+ghost use Rattle.traced_mem.specs.Standing.{StandsFor};
 
 use crate::memory::Memory;
 use event_core::{Call, Op, Refusal, Roots, ThreadId, VarId};
@@ -29,7 +29,7 @@ impl Memory {
         ensures means { result
             ≡ answer (refusal_at self.now.limits (meaning self.now) call.now.thread call.now.op) }
         ensures allowed { OnOk result (Allows self.now call.now.thread call.now.op) }
-        ensures refusal { (log : List Event) → StandsFor self.now log
+        ensures refusal { (log : List Event) → StandsFor log self.now
             → result ≡ answer (refusal self.now.limits log call.now) }
     {
         self.decide(call.thread, call.op)
@@ -45,7 +45,7 @@ impl Memory {
             (refusal_at self.now.limits (after thread (Operation.Load var) 0 (meaning self.now)) thread
             (Operation.Store var)
             ≡ None) }
-        ensures refusal { (log : List Event) → StandsFor self.now log
+        ensures refusal { (log : List Event) → StandsFor log self.now
             → result ≡ answer (swap_refusal self.now.limits log thread var) }
     {
         self.decide_swap(thread, var)

@@ -6,7 +6,7 @@ ghost use Rattle.event_core.specs.declared.ids.LockId.{LockId as Lock};
 ghost use Rattle.event_core.specs.Refusal.{last_value, lock_depth, open_acquires, holder as holder_of};
 ghost use Rattle.traced_mem.specs.Tables.{meaning, Allows};
 ghost use Rattle.traced_mem.specs.Room.{HasRoom, IsReady};
-ghost use Rattle.traced_mem.specs.OfLog.{StandsFor};
+ghost use Rattle.traced_mem.specs.Standing.{StandsFor};
 ghost use Rattle.traced_mem.specs.Held.{AreHeld};
 
 use crate::memory::Memory;
@@ -16,7 +16,7 @@ impl Memory {
     /// How many events there were.
     pub fn len(&self) -> u64
         ensures means { result ≡ (meaning self.now).length }
-        ensures count { (log : List Event) → StandsFor self.now log → result ≡ length log }
+        ensures count { (log : List Event) → StandsFor log self.now → result ≡ length log }
     {
         self.length
     }
@@ -25,7 +25,7 @@ impl Memory {
     #[inline(always)]
     pub fn value(&self, var: VarId) -> u64
         ensures means { result ≡ (meaning self.now).cell var.0 }
-        ensures last { (log : List Event) → StandsFor self.now log → result ≡ last_value log var }
+        ensures last { (log : List Event) → StandsFor log self.now → result ≡ last_value log var }
     {
         self.find_value(var)
     }
@@ -33,7 +33,7 @@ impl Memory {
     /// Who holds the lock, if anyone does.
     pub fn holder(&self, lock: LockId) -> Option<ThreadId>
         ensures means { result ≡ ((meaning self.now).lock lock.0).holder }
-        ensures holds { (log : List Event) → StandsFor self.now log → result ≡ holder_of log lock }
+        ensures holds { (log : List Event) → StandsFor log self.now → result ≡ holder_of log lock }
     {
         self.find_holder(lock)
     }
@@ -41,7 +41,7 @@ impl Memory {
     /// How many times its holder has acquired the lock and not released it: 0 where nobody holds it.
     pub fn depth(&self, lock: LockId) -> u64
         ensures means { result ≡ ((meaning self.now).lock lock.0).depth }
-        ensures depth { (log : List Event) → StandsFor self.now log → result ≡ lock_depth log lock }
+        ensures depth { (log : List Event) → StandsFor log self.now → result ≡ lock_depth log lock }
     {
         self.find_depth(lock)
     }
@@ -51,7 +51,7 @@ impl Memory {
     pub fn holds(&self) -> u64
         ensures means { result ≡ (meaning self.now).holds }
         ensures few { result ≤ self.now.limits.events }
-        ensures open { (log : List Event) → StandsFor self.now log → result ≡ open_acquires log }
+        ensures open { (log : List Event) → StandsFor log self.now → result ≡ open_acquires log }
     {
         self.holds
     }
@@ -59,7 +59,7 @@ impl Memory {
     /// The locks that the thread holds, in the order of their outer acquires.
     pub fn held(&self, thread: ThreadId) -> &[LockId]
         ensures means { result.now ≡ ((meaning self.now).thread thread.0).held }
-        ensures held { (log : List Event) → StandsFor self.now log → AreHeld log thread result.now }
+        ensures held { (log : List Event) → StandsFor log self.now → AreHeld log thread result.now }
     {
         self.find_held(thread)
     }

@@ -1,10 +1,10 @@
 use Rattle.std.proofs.Common.{◌≡◌}
 use Rattle.event_core.specs.Steps.{log_of}
-use Rattle.traced_mem.specs.OfLog.{StandsFor}
+use Rattle.traced_mem.specs.Standing.{StandsFor}
 use Rattle.log_tests.proofs.threads.children.Given as goal
 
 abbrev pub invariant-loop-child : goal.invariant-loop-child
 invariant-loop-child g l = record {
   limits : l.memory.limits ≡ g.N.Name.limits;
-  stands : StandsFor l.memory (log_of l.keeper);
+  stands : StandsFor (log_of l.keeper) l.memory;
 }

@@ -1,10 +1,10 @@
 use Rattle.std.proofs.Common.{◌≡◌}
 use Rattle.event_core.specs.Steps.{log_of}
-use Rattle.traced_mem.specs.OfLog.{StandsFor}
+use Rattle.traced_mem.specs.Standing.{StandsFor}
 use Rattle.log_tests.proofs.threads.stores.Given as goal
 
 abbrev pub invariant-loop-value : goal.invariant-loop-value
 invariant-loop-value g l = record {
   limits : l.memory.limits ≡ g.N.Name.limits;
-  stands : StandsFor l.memory (log_of l.keeper);
+  stands : StandsFor (log_of l.keeper) l.memory;
 }

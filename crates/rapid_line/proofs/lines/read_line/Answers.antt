@@ -1,6 +1,6 @@
 use Rattle.std.proofs.Common.{subst, Result}
 use Rattle.rapid_line.specs.declared.words.LineFault.{LineFault}
-use Rattle.rapid_line.specs.Grammar.{Named}
+use Rattle.rapid_line.specs.Grammar.{NamedEvent}
 use Rattle.rapid_line.specs.Reading.{named_of, Gives}
 use Rattle.rapid_line.proofs.Again.{read_again}
 use Rattle.rapid_line.proofs.First.{found_of, first_of}
@@ -11,7 +11,7 @@ returns-clause-found c = found_of c.args.bytes.now c.parts.result c.requires c.p
 
 pub returns-clause-only : goal.returns-clause-only
 returns-clause-only c =
-    λ e h. subst (λ (r : Result Named LineFault). Gives named_of c.parts.result r)
+    λ e h. subst (λ (r : Result NamedEvent LineFault). Gives named_of c.parts.result r)
     (read_again c.args.bytes.now e h) c.parts.ensures
 
 pub returns-clause-first : goal.returns-clause-first

@@ -20,8 +20,8 @@ pulls-init g c =
 pub returns-clause-whole : goal.returns-clause-whole
 returns-clause-whole g c is = absurd cc
 
-pub returns-then-not-feed-clause-cut : goal.returns-then-not-feed-clause-cut
-returns-then-not-feed-clause-cut g c is = absurd cc
+pub returns-then-not-feed-clause-truncated : goal.returns-then-not-feed-clause-truncated
+returns-then-not-feed-clause-truncated g c is = absurd cc
 
 pub returns-then-not-feed-clause-stopped : goal.returns-then-not-feed-clause-stopped
 returns-then-not-feed-clause-stopped g c is =

@@ -12,8 +12,8 @@ returns-in-Stopped-clause-fault g c =
     c.new-reading.ensures c.feed_all.new.sink.fault c.unwrap.result c.requires.turns
     (c.in-Stopped.ensures.stopped refl) c.unwrap.ensures
 
-pub returns-in-Cut-clause-fault : goal.returns-in-Cut-clause-fault
-returns-in-Cut-clause-fault g c =
+pub returns-in-Truncated-clause-fault : goal.returns-in-Truncated-clause-fault
+returns-in-Truncated-clause-fault g c =
     let left = g.I.Input.left c.args.reader.now in
     let rest = g.I.Input.left c.feed_all.new.input in
     let failed = g.I.Input.failed c.feed_all.new.input in
@@ -22,7 +22,7 @@ returns-in-Cut-clause-fault g c =
     subst (λ (f : ScriptFault). IsFault c.args.limits left rest c.args.turns failed f f.cause)
     (sym c.read_fault.ensures)
     (read_fault c.args.limits left rest c.args.turns failed _ c.new-reading.ensures now now.cutter.unfinished
-    (c.in-Cut.ensures.cut refl) refl)
+    (c.in-Truncated.ensures.truncated refl) refl)
 
 pub returns-in-Err-clause-fault : goal.returns-in-Err-clause-fault
 returns-in-Err-clause-fault g c =

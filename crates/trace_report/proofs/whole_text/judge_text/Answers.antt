@@ -6,9 +6,9 @@ returns-in-Err-clause-fault g c =
     end_is_found c.read_text-text.result.fault c.read_text-text.ensures.fed c.read_text-text.ensures.fault
     (λ none log. c.in-Err.ensures.fault none c.args.limits log) c.in-Err.ensures.answered
 
-pub returns-in-Err-clause-cut : goal.returns-in-Err-clause-cut
-returns-in-Err-clause-cut g c fault =
-    (rw (c.in-Err.ensures.whole fault) at c.read_text-text.ensures.cut) fault
+pub returns-in-Err-clause-truncated : goal.returns-in-Err-clause-truncated
+returns-in-Err-clause-truncated g c fault =
+    (rw (c.in-Err.ensures.whole fault) at c.read_text-text.ensures.truncated) fault
 
 pub returns-clause-trace : goal.returns-clause-trace
 returns-clause-trace g c =

@@ -1,6 +1,6 @@
 use Rattle.std.proofs.Common.{[], sym, subst}
 use Rattle.trace_report.proofs.Whole.{cut_says_nothing, stop_found, taken_whole}
-use Rattle.trace_report.proofs.CutTexts.{cut_text}
+use Rattle.trace_report.proofs.TruncatedTexts.{truncated_text}
 use Rattle.trace_report.proofs.whole_text.read_text.Goals as goal
 
 pub returns-in-Whole-clause-fed : goal.returns-in-Whole-clause-fed
@@ -18,13 +18,13 @@ returns-in-Stopped-clause-fault g c =
 
 pub returns-clause-fault : goal.returns-clause-fault
 returns-clause-fault g c =
-    let pulled = c.feed_all.ensures.cut c.in-Cut.is in
+    let pulled = c.feed_all.ensures.truncated c.in-Truncated.is in
     rw (c.read_failed.ensures.fault (pulled.so.0 c.new-text.ensures.fault).0) (cut_says_nothing pulled)
 
-pub returns-clause-cut : goal.returns-clause-cut
-returns-clause-cut g c =
-    let pulled = c.feed_all.ensures.cut c.in-Cut.is in
+pub returns-clause-truncated : goal.returns-clause-truncated
+returns-clause-truncated g c =
+    let pulled = c.feed_all.ensures.truncated c.in-Truncated.is in
     let takes = pulled.so.0 c.new-text.ensures.fault in
     rw (c.read_failed.ensures.fault takes.0) (λ _.
-    cut_text c.new-text.ensures.cutter pulled takes.1
+    truncated_text c.new-text.ensures.cutter pulled takes.1
     (subst (λ j. g.J.Judge.is_after j c.args.limits []) (sym c.new-text.ensures.judge) c.requires.begins))

@@ -2,7 +2,7 @@ use Rattle.std.proofs.Common.{subst, inr}
 use Rattle.event_core.specs.declared.bounds.Limits.{Limits}
 use Rattle.wcp_tool.specs.Endings.{status_of}
 use Rattle.wcp_tool.specs.Running.{PerformsRun}
-use Rattle.wcp_tool.proofs.ScriptReads.{cuts_script, fault_told}
+use Rattle.wcp_tool.proofs.ScriptReads.{truncates_script, fault_told}
 use Rattle.wcp_tool.proofs.scripts.run_lines.Goals as goal
 
 pub returns-in-Ok-clause-performs : goal.returns-in-Ok-clause-performs
@@ -33,6 +33,7 @@ returns-in-Err-clause-performs g c =
     c.limits_of-limits.ensures
     (fault_told _ _ _ _ _ _ _ _ _ told.tells told.hindered c.in-Err.ensures.fault)
 
-pub returns-in-Err-clause-cut : goal.returns-in-Err-clause-cut
-returns-in-Err-clause-cut g c h =
-    cuts_script _ _ _ _ _ _ c.limits_of-limits.ensures (c.explain_script.ensures.cut h) c.in-Err.ensures.fault
+pub returns-in-Err-clause-truncated : goal.returns-in-Err-clause-truncated
+returns-in-Err-clause-truncated g c h =
+    truncates_script _ _ _ _ _ _ c.limits_of-limits.ensures
+        (c.explain_script.ensures.truncated h) c.in-Err.ensures.fault

@@ -1,7 +1,7 @@
 use Rattle.std.proofs.Common.{◌≡◌, List, sym, ap, subst, ◌∙◌}
 use Rattle.hb_clocks.specs.declared.holds.Hold.{Hold}
 use Rattle.hb_clocks.specs.Holds.{Alone}
-use Rattle.hb_clocks.specs.Stands.{Admits}
+use Rattle.hb_clocks.specs.Standing.{Admits}
 use Rattle.hb_clocks.specs.Tables.{Tables, state_of}
 use Rattle.hb_clocks.proofs.hb.HbClocks.admits.Goals as goal
 

@@ -4,7 +4,7 @@ use Rattle.std.proofs.lemmas.List.{with_items_is}
 use Rattle.std.specs.Vec.{with_items}
 use Rattle.hb_clocks.specs.declared.holds.Hold.{Hold}
 use Rattle.hb_clocks.specs.Holds.{holds_after}
-use Rattle.hb_clocks.specs.Stands.{Stands}
+use Rattle.hb_clocks.specs.Standing.{StandsFor}
 use Rattle.hb_clocks.specs.Tables.{Tables, state_of, IsReady}
 use Rattle.hb_clocks.proofs.MadeRows.{written_widths}
 use Rattle.hb_clocks.proofs.LegalSteps.{step_stands}
@@ -16,7 +16,7 @@ returns-clause-exact c = grind (arith, common_steps)
 
 pub returns-clause-stands : goal.returns-clause-stands
 returns-clause-stands c limits log w st =
-    subst (Stands (log ++ c.args.event.now ∷ [])) (sym (returns-clause-exact c))
+    subst (StandsFor (log ++ c.args.event.now ∷ [])) (sym (returns-clause-exact c))
     (step_stands limits log c.args.event.now (state_of c.args.self.now) w st)
 
 -- the tables as the step finds and as it leaves them

@@ -3,7 +3,7 @@ use Rattle.std.specs.Prelude.{IfSome}
 use Rattle.std.specs.Option.{is_some}
 use Rattle.event_core.specs.declared.ids.ThreadId.{ThreadId}
 use Rattle.event_core.specs.Rows.{with_row}
-use Rattle.hb_clocks.specs.Marks.{Named}
+use Rattle.hb_clocks.specs.Marks.{MarkedEvent}
 use Rattle.lock_queues.specs.Slots.{slot_of, has_slot, position_of, opened_at, opened_in}
 use Rattle.lock_queues.specs.Queue.{OneQueue}
 use Rattle.lock_queues.proofs.Lookup.{Placed, said, row_kept, slot_set}
@@ -31,14 +31,14 @@ own c =
 pub invariant_of-self : goal.invariant_of-self
 invariant_of-self c =
     kept_entered _ c.self.invariant (place c) (own c)
-    (subst (λ (o : Option Named). IfSome o (λ m. m.thread ≡ c.enter.new.self.thread.0))
+    (subst (λ (o : Option MarkedEvent). IfSome o (λ m. m.thread ≡ c.enter.new.self.thread.0))
     (sym c.enter.ensures.opened) (c.requires.own ∙ own c))
 
 pub returns-clause-opened : goal.returns-clause-opened
 returns-clause-opened c =
     said opened_at c.args.thread.0 (Some c.enter.new.self) (slot_of c.self.inside.slots.items)
     (slot_set _ (place c) (own c))
-    ∙ ap (λ (o : Option Named). with_row c.args.thread.0 (position_of o)
+    ∙ ap (λ (o : Option MarkedEvent). with_row c.args.thread.0 (position_of o)
     (opened_in c.self.inside.slots.items))
     c.enter.ensures.opened
     ∙ ap (λ (k : OneQueue). with_row c.args.thread.0 c.args.mark.position (opened_in k.slots)) c.self.view_is

@@ -2,7 +2,7 @@ use Rattle.std.proofs.Common.{ap, sym, subst, ◌∙◌, arith, length, ◌<◌}
 use Rattle.std.specs.Prelude.{slice_index}
 use Rattle.std.proofs.lemmas.List.{get_or_read}
 use Rattle.event_core.specs.Rows.{with_row}
-use Rattle.hb_clocks.specs.Marks.{Named, Counts}
+use Rattle.hb_clocks.specs.Marks.{MarkedEvent, Counts}
 use Rattle.lock_queues.specs.Sections.{acquires_of}
 use Rattle.lock_queues.specs.Queue.{OneQueue}
 use Rattle.lock_queues.proofs.Listing.{mark_seen, count_seen}
@@ -45,7 +45,7 @@ search_from-more-requires-clause-widths c k small =
     let wide = c.self.invariant.wide k lt in
     let width = ap (λ (q : OneQueue). q.width) c.self.view_is in
     let clock = c.requires.width in
-    let is = ap (λ (m : Named). m.thread) (mark_seen _ c.acquires-acquires.ensures k) in
+    let is = ap (λ (m : MarkedEvent). m.thread) (mark_seen _ c.acquires-acquires.ensures k) in
     omega arith
 
 pub returns-clause-counted : goal.returns-clause-counted

@@ -1,6 +1,6 @@
 use Rattle.std.proofs.Common.{◌≡◌, ◌++◌, length, subst, arith}
 use Rattle.std.proofs.lemmas.List.{length-append}
-use Rattle.rapid_text.specs.Pulling.{Ends, pulling_of}
+use Rattle.rapid_text.specs.Pulling.{HasNoMore, pulling_of}
 use Rattle.rapid_text.specs.Reading.{Reading}
 use Rattle.rapid_text.proofs.Pulls.{ended_text}
 use Rattle.rapid_text.proofs.reader.Reader.next.Goals as goal
@@ -11,6 +11,6 @@ returns-then-self-clause-ok g c =
     let both = c.self.invariant.1 c.if-self.true in
     let parts = length-append inside.cutter.kept inside.window in
     let none : length (inside.cutter.kept ++ inside.window) ≡ 0 = omega (arith, both, parts) in
-    subst (λ (r : Reading). Ends r.text r.left r.text) c.self.view_is
+    subst (λ (r : Reading). HasNoMore r.text r.left r.text) c.self.view_is
     (ended_text (pulling_of inside.cutter inside.window inside.turns inside.ended)
     (g.I.Input.left inside.input) c.if-self.true none)

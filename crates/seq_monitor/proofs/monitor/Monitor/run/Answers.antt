@@ -1,8 +1,8 @@
 use Rattle.std.proofs.Common.{sym, ◌∙◌, refl, arith}
 use Rattle.std.proofs.lemmas.List.{take_more}
 use Rattle.std.proofs.lemmas.Option.{slice_get-get_or}
+use Rattle.event_core.specs.declared.events.Act.TheVariants.{One}
 use Rattle.event_core.specs.Verdict.{IsOutcome, IsRun, log_after}
-use Rattle.seq_monitor.specs.RunAnswers.{MayWantMemory}
 use Rattle.seq_monitor.proofs.RunMore.{run_more, ran_more, where_err, no_room, ran_none, ran_some, ran_all}
 use Rattle.seq_monitor.proofs.monitor.Monitor.run.Goals as goal
 
@@ -15,14 +15,14 @@ loop-call-preserved c =
 
 pub returns-then-is_err-clause-some : goal.returns-then-is_err-clause-some
 returns-then-is_err-clause-some c =
-    ran_none _ _ c.args.calls.now refl
+    ran_none _ _ _ c.args.calls.now refl
     (no_room c.reserve.result _ _ _ c.args.outcomes.now.ok.1 c.reserve.ensures.full
     (sym c.is_err.ensures.value ∙ c.if-is_err.true)) c.reserve.ensures.items
 
 pub returns-in_err-outcome-clause-some : goal.returns-in_err-outcome-clause-some
 returns-in_err-outcome-clause-some c =
     where_err c.from_residual.result
-    (ran_some IsRun MayWantMemory _ c.loop-call.invariant
+    (ran_some IsRun One _ c.loop-call.invariant
     (slice_get-get_or c.args.calls.now c.loop-call.call-index _ c.loop-call-test.true)
     c.in_err-outcome.ensures.memory c.in_err-outcome.ensures.same)
 

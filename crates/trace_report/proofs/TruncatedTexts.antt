@@ -19,7 +19,7 @@ use Rattle.rapid_text.specs.Texts.{after_line, judge, lines_of}
 use Rattle.trace_report.specs.declared.faults.TraceFault.{TraceFault}
 use Rattle.trace_report.specs.declared.faults.TraceFault.TheVariants.{Text}
 use Rattle.trace_report.specs.Findings.{Trace, call_of, finding, finding_after, refused_or}
-use Rattle.trace_report.specs.Judging.{IsCutAt, Takes, line_of}
+use Rattle.trace_report.specs.Judging.{IsTruncatedAt, Takes, line_of}
 use Rattle.rapid_text.proofs.Taken.{stops_short}
 use Rattle.trace_report.proofs.Playing.{with_line}
 
@@ -53,13 +53,14 @@ from_line m log (l ∷ ls) t n =
     go (Ok (Some e, u)) later = refused e u (refusal m log (call_of e)) later
 
 -- a text of which some bytes came and were taken, where the reading stopped
-pub cut_text : {m : Limits} {A B : Limits → List Event → Type 0} {left rest : Option (List ℕ)} {turns : ℕ}
-    {failed : Bool} {So : List ℕ → Type 0} {s t : Cutting} → s ≡ begun m
+pub truncated_text : {m : Limits} {A B : Limits → List Event → Type 0} {left rest : Option (List ℕ)}
+    {turns : ℕ} {failed : Bool} {So : List ℕ → Type 0} {s t : Cutting} → s ≡ begun m
     → (p : Pulled left rest turns (λ bytes. So bytes × ((failed ≡ true) ⊎ (turns ≤ length bytes))))
     → Takes A B s p.bytes [] t → A m []
-    → IsCutAt m left rest turns failed (Text (record { line = t.unfinished; cause = Read }))
+    → IsTruncatedAt m left rest turns failed (Text (record { line = t.unfinished; cause = Read }))
 unfolding finding
-cut_text {m} {left = left} {rest = rest} {turns = turns} {failed = failed} {s = s} {t = t} is p takes first =
+truncated_text {m} {left = left} {rest = rest} {turns = turns} {failed = failed} {s = s}
+    {t = t} is p takes first =
     let on = takes.goes_on m [] first in
     record {
       line = t.unfinished;

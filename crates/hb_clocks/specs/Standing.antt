@@ -14,7 +14,7 @@ use Rattle.event_core.specs.Rows.{Counted, RowsStand}
 use Rattle.hb_clocks.specs.State.{HbState, after}
 
 -- each clock counts what is below its thread's latest event or fork, or its lock's latest outer release
-pub record Stands (log : List Event) (s : HbState) : Type 0 where
+pub record StandsFor (log : List Event) (s : HbState) : Type 0 where
   pub po : (t : ThreadId) → Counted log (Past log (Po log) t) (s.po t.0)
   pub hb : RowsStand log (Hb log) s.hb
   -- a thread's own number is that of its events
@@ -57,13 +57,13 @@ IsFew s = IsAtMost 4294967296 s
 -- the step keeps the meaning
 abbrev pub StepStands : Type 0
 StepStands = (limits : Limits) (log : List Event) (e : Event) (s : HbState)
-    → WellFormed limits (log ++ e ∷ []) → Stands log s → Stands (log ++ e ∷ []) (after e s)
+    → WellFormed limits (log ++ e ∷ []) → StandsFor log s → StandsFor (log ++ e ∷ []) (after e s)
 
 -- a legal event is admitted
 abbrev pub AdmitsLegal : Type 0
 AdmitsLegal = (limits : Limits) (log : List Event) (e : Event) (s : HbState)
-    → WellFormed limits (log ++ e ∷ []) → Stands log s → Admits s e.thread e.op
+    → WellFormed limits (log ++ e ∷ []) → StandsFor log s → Admits s e.thread e.op
 
 -- a log within the greatest number of events has few
 abbrev pub FewInLog : Type 0
-FewInLog = (log : List Event) (s : HbState) → length log ≤ 4294967296 → Stands log s → IsFew s
+FewInLog = (log : List Event) (s : HbState) → length log ≤ 4294967296 → StandsFor log s → IsFew s

@@ -52,6 +52,6 @@ meaning_of log = record {
 }
 
 -- the memory is as after the log, which is well formed under its limits
-pub record StandsFor (t : Tables) (log : List Event) : Type 0 where
+pub record StandsFor (log : List Event) (t : Tables) : Type 0 where
   pub well_formed : WellFormed t.limits log
   pub means : meaning t ≡ meaning_of log

@@ -7,8 +7,8 @@ use Rattle.event_core.specs.declared.events.Event.{Event}
 use Rattle.event_core.specs.declared.bounds.Limits.{Limits}
 use Rattle.event_core.specs.Bounds.{AreBounded}
 use Rattle.event_core.specs.Refusal.{WellFormed}
-use Rattle.hb_clocks.specs.Stands as hb_stands
-use Rattle.wcp_laws.specs.Standing.{Stands}
+use Rattle.hb_clocks.specs.Standing as hb_stands
+use Rattle.wcp_laws.specs.Standing.{StandsFor as StateStandsFor}
 use Rattle.wcp_laws.specs.Found.{FoundFits}
 use Rattle.wcp_clocks.specs.Parts.{Parts, hb_of, state_of, work_of, found_in, Fits, SameNumbers}
 
@@ -19,8 +19,8 @@ AreDistinct held = (t : ThreadId) → IsDistinct nat_eq (held t.0)
 -- the numbers of program order and of happens-before, those of the strict relation, and what was found of
 -- the closed sections
 pub record StandsFor (log : List Event) (p : Parts) : Type 0 where
-  pub hb : hb_stands.Stands log (hb_of p)
-  pub strict : Stands log (state_of p)
+  pub hb : hb_stands.StandsFor log (hb_of p)
+  pub strict : StateStandsFor log (state_of p)
   pub found : FoundFits log (state_of p) (found_in p)
   pub distinct : AreDistinct (state_of p).held
 
