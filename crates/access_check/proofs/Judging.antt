@@ -31,8 +31,8 @@ use Rattle.access_check.specs.declared.last_accesses.LastAccess.{LastAccess}
 use Rattle.access_check.specs.declared.variable_accesses.VariableAccesses.{VariableAccesses}
 use Rattle.access_check.specs.LastAccesses.{racing}
 use Rattle.access_check.specs.VariableAccesses.{kept, latest_racing}
-use Rattle.access_check.specs.Tables.{Tables, accesses_at, verdict_at, verdict_of}
-use Rattle.access_check.specs.Standing.{IsAccess, HasLast, IsCovered, VariableStands, StandsFor}
+use Rattle.access_check.specs.Tables.{AccessTables, accesses_at, verdict_at, verdict_of}
+use Rattle.access_check.specs.Standing.{IsOfLog, HasLast, IsCovered, VariableStands, StandsFor}
 use Rattle.access_check.proofs.Latest.{AtLeast, lower, Clashes, write_read, read_write, write_write}
 use Rattle.access_check.proofs.Latest.{write_clashes, ReadFrom, found_racing, latest_above, latest_from}
 use Rattle.access_check.proofs.Latest.{fold_member}
@@ -64,7 +64,7 @@ module _ (log : List Event) (e : Event) (x : VarId) (k : AccessKind) (op : e.op 
   pub races : (i : ℕ) → ReadFrom e.thread k c ts i → Races (log ++ e ∷ []) i (length log)
   races i r =
       let p = r.last in
-      let a : IsAccess log x r.kind p = s.sound r.kind p r.member in
+      let a : IsOfLog log x r.kind p = s.sound r.kind p r.member in
       let within : p.access.index < length log
       = slice_get_within log p.access.index a.does.event a.does.at in
       let d : Does (log ++ e ∷ []) p.access.index p.thread (access_of x r.kind)
@@ -102,7 +102,7 @@ module _ (log : List Event) (e : Event) (x : VarId) (k : AccessKind) (op : e.op 
       (fold_member (racing e.thread c) None p.access.index p (kept m ts) member
       (found_racing e.thread c p other (above (cases_lt (c p.thread.0) p.access.position))))
     where
-      a : IsAccess log x m p
+      a : IsOfLog log x m p
       a = s.sound m p member
 
       within : p.access.index < length log
@@ -150,7 +150,7 @@ module _ (log : List Event) (e : Event) (x : VarId) (k : AccessKind) (op : e.op 
       of_longer : (m : AccessKind) (p : LastAccess) → Has p (kept m ts)
           → (p.access.index < length log) × Of (log ++ e ∷ []) p.access.index p.thread
       of_longer m p member =
-          let a : IsAccess log x m p = s.sound m p member in
+          let a : IsOfLog log x m p = s.sound m p member in
           let within : p.access.index < length log
           = slice_get_within log p.access.index a.does.event a.does.at in
           (within, of_does (does (longer log (e ∷ [])) within a.does))
@@ -204,7 +204,7 @@ clear log e none i r =
     let a = conflict_access r.conflict.first r.conflict.second r.conflict.ops in
     none (subst IsOne (sym (does_op (last_does log e) r.conflict.does_second ∙ a.2)) (is_one a.0 a.1))
 
-pub verdict_stands : (log : List Event) (e : Event) (t : Tables) (c : ℕ → ℕ) → StandsFor log t
+pub verdict_stands : (log : List Event) (e : Event) (t : AccessTables) (c : ℕ → ℕ) → StandsFor log t
     → Counted (log ++ e ∷ []) (λ i. Below (log ++ e ∷ []) i (length log)) c
     → IsVerdict (log ++ e ∷ []) (length log) (verdict_of t.vars e.thread e.op c)
 verdict_stands log e t c s counted = go e.op refl

@@ -31,7 +31,7 @@ use Rattle.access_check.specs.declared.variable_accesses.VariableAccesses.{Varia
 use Rattle.access_check.specs.LastAccesses.{put}
 use Rattle.access_check.specs.VariableAccesses.{kept}
 use Rattle.access_check.specs.Tables.{last_of as its_last}
-use Rattle.access_check.specs.Standing.{IsAccess, HasLast, IsCovered, VariableStands}
+use Rattle.access_check.specs.Standing.{IsOfLog, HasLast, IsCovered, VariableStands}
 use Rattle.access_check.proofs.Latest.{Clashes, read_write, write_write}
 use Rattle.access_check.proofs.Judging.{clash_conflicts}
 use Rattle.access_check.proofs.Putting.{has_put, put_has, put_new}
@@ -58,8 +58,8 @@ below_po (inr q) p = inr (chain_trans q p)
 
 module _ (log : List Event) (e : Event) where
   -- what stands for the log stands for it with the event
-  access_kept : (x : VarId) (k : AccessKind) (p : LastAccess) → IsAccess log x k p
-      → IsAccess (log ++ e ∷ []) x k p
+  access_kept : (x : VarId) (k : AccessKind) (p : LastAccess) → IsOfLog log x k p
+      → IsOfLog (log ++ e ∷ []) x k p
   access_kept x k p a =
       let within : p.access.index < length log
       = slice_get_within log p.access.index a.does.event a.does.at in
@@ -70,10 +70,10 @@ module _ (log : List Event) (e : Event) where
       }
 
   covered_kept : (x : VarId) (stores : List LastAccess) (j : ℕ)
-      → ((p : LastAccess) → Has p stores → IsAccess log x Write p) → IsCovered log stores j
+      → ((p : LastAccess) → Has p stores → IsOfLog log x Write p) → IsCovered log stores j
       → IsCovered (log ++ e ∷ []) stores j
   covered_kept x stores j sound h =
-      let a : IsAccess log x Write h.store = sound h.store h.member in
+      let a : IsOfLog log x Write h.store = sound h.store h.member in
       let within : h.store.access.index < length log
       = slice_get_within log h.store.access.index a.does.event a.does.at in
       record {
@@ -111,7 +111,7 @@ module _ (log : List Event) (e : Event) where
     new = its_last e.thread a
 
     -- the event as an access of the log
-    pub new_access : IsAccess (log ++ e ∷ []) x k new
+    pub new_access : IsOfLog (log ++ e ∷ []) x k new
     new_access = record {
       does = subst (λ j. Does (log ++ e ∷ []) j e.thread (access_of x k)) (sym at)
           (subst (λ o. Does (log ++ e ∷ []) (length log) e.thread o) op (last_does log e));
@@ -128,11 +128,11 @@ module _ (log : List Event) (e : Event) where
 
     -- what is covered by a store that is taken out is covered by the store that is put in
     covered_put : (stores : List LastAccess) (j : ℕ) → k ≡ Write
-        → ((p : LastAccess) → Has p stores → IsAccess log x Write p) → IsCovered log stores j
+        → ((p : LastAccess) → Has p stores → IsOfLog log x Write p) → IsCovered log stores j
         → IsCovered (log ++ e ∷ []) (put new stores) j
     covered_put stores j is sound h = go (put_has h.store new stores h.member)
       where
-        old : IsAccess log x Write h.store
+        old : IsOfLog log x Write h.store
         old = sound h.store h.member
 
         within : h.store.access.index < length log
@@ -171,12 +171,12 @@ module _ (log : List Event) (e : Event) where
         new_member : Has new (kept k ts)
         new_member = subst (Has new) (sym is) (put_new new (kept k old))
 
-        put_sound : (p : LastAccess) → Has p (kept k ts) → IsAccess (log ++ e ∷ []) x k p
+        put_sound : (p : LastAccess) → Has p (kept k ts) → IsOfLog (log ++ e ∷ []) x k p
         put_sound p h = go (has_put p new (kept k old) (subst (Has p) is h))
           where
-            go : Has p (kept k old) ⊎ (p ≡ new) → IsAccess (log ++ e ∷ []) x k p
+            go : Has p (kept k old) ⊎ (p ≡ new) → IsOfLog (log ++ e ∷ []) x k p
             go (inl h) = access_kept x k p (s.sound k p h)
-            go (inr same) = subst (IsAccess (log ++ e ∷ []) x k) (sym same) new_access
+            go (inr same) = subst (IsOfLog (log ++ e ∷ []) x k) (sym same) new_access
 
         last_put : (u : ThreadId) (j : ℕ) → j < length log → HasLast (kept k old) u j
             → HasLast (kept k ts) u j
@@ -219,9 +219,9 @@ module _ (log : List Event) (e : Event) where
         }
           where
             sound : (m : AccessKind) (p : LastAccess) → (k ≡ m) ⊎ (k ≡ m → ⊥) → Has p (kept m ts)
-                → IsAccess (log ++ e ∷ []) x m p
+                → IsOfLog (log ++ e ∷ []) x m p
             sound m p (inl same) h =
-                subst (λ n. Has p (kept n ts) → IsAccess (log ++ e ∷ []) x n p) same (put_sound p) h
+                subst (λ n. Has p (kept n ts) → IsOfLog (log ++ e ∷ []) x n p) same (put_sound p) h
             sound m p (inr ne) h = access_kept x m p (s.sound m p (subst (Has p) (others m ne) h))
 
             earlier : (j : ℕ) (u : ThreadId) (m : AccessKind) → j < length log
@@ -281,11 +281,11 @@ module _ (log : List Event) (e : Event) where
           complete = λ j u m d. complete j u m d (is_last log e j u (of_does d));
         }
           where
-            sound : (m : AccessKind) (p : LastAccess) → Has p (kept m ts) → IsAccess (log ++ e ∷ []) x m p
+            sound : (m : AccessKind) (p : LastAccess) → Has p (kept m ts) → IsOfLog (log ++ e ∷ []) x m p
             sound Read p h = absurd (none_in (subst (Has p) loads h))
             sound Write p h =
-                subst (λ q. IsAccess (log ++ e ∷ []) x Write q) (sym (has_one p new (subst (Has p) stores h)))
-                (subst (λ n. IsAccess (log ++ e ∷ []) x n new) is new_access)
+                subst (λ q. IsOfLog (log ++ e ∷ []) x Write q) (sym (has_one p new (subst (Has p) stores h)))
+                (subst (λ n. IsOfLog (log ++ e ∷ []) x n new) is new_access)
 
             complete : (j : ℕ) (u : ThreadId) (m : AccessKind) → Does (log ++ e ∷ []) j u (access_of x m)
                 → (j < length log) ⊎ (j ≡ length log)

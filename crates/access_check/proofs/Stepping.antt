@@ -23,7 +23,7 @@ use Rattle.event_core.proofs.Depth.{thread_cases, same_thread_id}
 use Rattle.access_check.specs.declared.last_accesses.Access.{Access}
 use Rattle.access_check.specs.declared.variable_accesses.VariableAccesses.{VariableAccesses}
 use Rattle.access_check.specs.VariableAccesses.{kept, kept_after}
-use Rattle.access_check.specs.Tables.{Tables, count_at, last_of as its_last, touched_after, Notes}
+use Rattle.access_check.specs.Tables.{AccessTables, count_at, last_of as its_last, touched_after, Notes}
 use Rattle.access_check.specs.Standing.{VariableStands, StandsFor}
 use Rattle.access_check.proofs.Judging.{IsOne, is_one}
 use Rattle.access_check.proofs.Keeping.{untouched, put_stands, alone_stands}
@@ -98,7 +98,7 @@ counts_stand log e u n m is own = go (thread_cases e.thread u)
         (same_thread_id (sym q))))
         ∙ (is ∙ sym (events_other log e u other))
 
-pub note_stands : (before after : Tables) (log : List Event) (e : Event) (index : ℕ) (v : Verdict)
+pub note_stands : (before after : AccessTables) (log : List Event) (e : Event) (index : ℕ) (v : Verdict)
     → Notes before after e index v → StandsFor log before → index ≡ length log
     → WellFormed before.limits (log ++ e ∷ []) → IsVerdict (log ++ e ∷ []) (length log) v
     → StandsFor (log ++ e ∷ []) after

@@ -16,10 +16,10 @@ use Rattle.event_core.specs.Wcp.{Below}
 use Rattle.access_check.specs.declared.last_accesses.LastAccess.{LastAccess}
 use Rattle.access_check.specs.declared.variable_accesses.VariableAccesses.{VariableAccesses}
 use Rattle.access_check.specs.VariableAccesses.{kept}
-use Rattle.access_check.specs.Tables.{Tables, count_at, accesses_at}
+use Rattle.access_check.specs.Tables.{AccessTables, count_at, accesses_at}
 
 -- it is such an access of the log, and its position is that among its thread's events, from 1
-pub record IsAccess (log : List Event) (x : VarId) (k : AccessKind) (p : LastAccess) : Type 0 where
+pub record IsOfLog (log : List Event) (x : VarId) (k : AccessKind) (p : LastAccess) : Type 0 where
   pub does : Does log p.access.index p.thread (access_of x k)
   pub position : p.access.position ≡ events_of (take p.access.index log) p.thread + 1
 
@@ -40,12 +40,12 @@ pub record IsCovered (log : List Event) (stores : List LastAccess) (j : ℕ) : T
 -- what is kept are accesses of the log, and of each access of the log a later one of its thread and kind is
 -- kept, or a store that covers it
 pub record VariableStands (log : List Event) (x : VarId) (ts : VariableAccesses) : Type 0 where
-  pub sound : (k : AccessKind) (p : LastAccess) → Has p (kept k ts) → IsAccess log x k p
+  pub sound : (k : AccessKind) (p : LastAccess) → Has p (kept k ts) → IsOfLog log x k p
   pub complete : (j : ℕ) (u : ThreadId) (k : AccessKind) → Does log j u (access_of x k)
       → HasLast (kept k ts) u j ⊎ IsCovered log (kept Write ts) j
 
 -- the tables stand for the log
-pub record StandsFor (log : List Event) (t : Tables) : Type 0 where
+pub record StandsFor (log : List Event) (t : AccessTables) : Type 0 where
   pub well_formed : WellFormed t.limits log
   pub counts : (u : ThreadId) → count_at t.counts u.0 ≡ events_of log u
   pub accesses : (x : VarId) → VariableStands log x (accesses_at t.vars x.0)

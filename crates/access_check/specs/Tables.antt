@@ -16,7 +16,7 @@ use Rattle.access_check.specs.declared.variable_accesses.VariableAccesses.{Varia
 use Rattle.access_check.specs.LastAccesses.{is_ready, AreNarrow}
 use Rattle.access_check.specs.VariableAccesses.{no_accesses, of_kind, kept, latest_racing, kept_after}
 
-pub record Tables : Type 0 where
+pub record AccessTables : Type 0 where
   pub limits : Limits
   -- of each thread how many events it has
   pub counts : List ℕ
@@ -55,12 +55,12 @@ IsReadyFor vars t (Store x) = IsReadyAt vars t x.0 Write
 IsReadyFor vars t _ = Unit {0}
 
 -- there is room for an event of the thread with the operation
-pub record IsReady (tables : Tables) (t : ThreadId) (o : Op) : Type 0 where
+pub record IsReady (tables : AccessTables) (t : ThreadId) (o : Op) : Type 0 where
   pub thread : t.0 < length tables.counts
   pub access : IsReadyFor tables.vars t o
 
 -- what the thread had room for it still has room for
-abbrev pub KeepsReady : Tables → Tables → ThreadId → Type 0
+abbrev pub KeepsReady : AccessTables → AccessTables → ThreadId → Type 0
 KeepsReady old new t = (o : Op) → IsReady old t o → IsReady new t o
 
 abbrev pub last_of : ThreadId → Access → LastAccess
@@ -74,7 +74,7 @@ touched_after v t (Store y) a x m ts = cond (nat_eq x y.0) (kept_after v Write (
 touched_after v t _ a x m ts = kept m ts
 
 -- the event is noted at the index, with the verdict on it
-pub record Notes (old new : Tables) (e : Event) (index : ℕ) (v : Verdict) : Type 0 where
+pub record Notes (old new : AccessTables) (e : Event) (index : ℕ) (v : Verdict) : Type 0 where
   pub limits : new.limits ≡ old.limits
   pub counts : (u : ℕ) → count_at new.counts u
       ≡ cond (nat_eq u e.thread.0) (count_at old.counts u + 1) (count_at old.counts u)
@@ -84,7 +84,7 @@ pub record Notes (old new : Tables) (e : Event) (index : ℕ) (v : Verdict) : Ty
       x m (accesses_at old.vars x)
 
 -- the same meaning, and at least the room
-pub record Grown (old new : Tables) : Type 0 where
+pub record Grown (old new : AccessTables) : Type 0 where
   pub limits : new.limits ≡ old.limits
   pub counts : (u : ℕ) → count_at new.counts u ≡ count_at old.counts u
   pub accesses : (x : ℕ) (m : AccessKind) → kept m (accesses_at new.vars x) ≡ kept m (accesses_at old.vars x)
@@ -110,7 +110,7 @@ LastsFor (Store x) old new = LastsAt x.0 old new
 LastsFor _ old new = new ≡ old
 
 -- no table has grown further than that, and none has memory for more than twice as many, or had it before
-pub record GrownFor (old new : Tables) (t : ThreadId) (o : Op) : Type 0 where
+pub record GrownFor (old new : AccessTables) (t : ThreadId) (o : Op) : Type 0 where
   pub counts : length new.counts ≤ max (length old.counts) (t.0 + 1)
   pub vars : length new.vars ≤ max (length old.vars) (vars_for o)
   pub count_room : new.count_room ≤ max old.count_room (2 * (t.0 + 1))
@@ -118,7 +118,7 @@ pub record GrownFor (old new : Tables) (t : ThreadId) (o : Op) : Type 0 where
   pub lasts : LastsFor o old.vars new.vars
 
 -- before any event
-abbrev pub no_tables : Limits → Tables
+abbrev pub no_tables : Limits → AccessTables
 no_tables m = record { limits = m; counts = []; vars = []; count_room = 0; var_room = 0 }
 
 -- what the fields keep: each thread's number is below the limit

@@ -18,9 +18,9 @@ pub struct Accesses {
 
 impl Model for Accesses {
     ghost use Rattle.std.specs.Prelude.{length, vec_capacity};
-    ghost use Rattle.access_check.specs.Tables.{Tables, AreTables};
+    ghost use Rattle.access_check.specs.Tables.{AccessTables, AreTables};
 
-    ghost Value = { Tables };
+    ghost Value = { AccessTables };
 
     ghost view = { λ a. record {
       limits = a.limits;

@@ -4,7 +4,7 @@ use Rattle.event_core.specs.declared.bounds.Limits.{Limits}
 use Rattle.event_core.specs.declared.events.Event.{Event}
 use Rattle.event_core.specs.declared.events.Call.{Call}
 use Rattle.event_core.specs.Refusal.{WellFormed, event_of, value_of}
-use Rattle.traced_mem.specs.Tables.{Tables}
+use Rattle.traced_mem.specs.Tables.{MemoryTables}
 use Rattle.traced_mem.specs.Standing.{StandsFor as MemoryStandsFor}
 use Rattle.wcp_clocks.specs.Parts.{Parts}
 use Rattle.wcp_clocks.specs.Parts.{Fits, IsWithin, SameLimits, SameNumbers, width_of, limits_of, work_of}
@@ -28,7 +28,7 @@ bounded = record {
   most_events = omega arith;
 }
 
-pub no_events : (m : Tables) (p : Parts) → MemoryStandsFor [] m → m.limits ≡ small → StandsFor [] p
+pub no_events : (m : MemoryTables) (p : Parts) → MemoryStandsFor [] m → m.limits ≡ small → StandsFor [] p
     → work_of p ≡ record { comparisons = 0; joins = 0 } → width_of p ≡ small.threads → limits_of p ≡ small
     → StandForOneLog m p
 no_events m p memory memory_limits clocks none width clock_limits = record {
@@ -51,11 +51,11 @@ is_event log c v e is value =
     value
 
 -- the memory after the next event of the log
-pub record IsNext (log : List Event) (e : Event) (m : Tables) : Type 0 where
+pub record IsNext (log : List Event) (e : Event) (m : MemoryTables) : Type 0 where
   pub stands : MemoryStandsFor (log ++ e ∷ []) m
   pub limits : m.limits ≡ small
 
-next_event : (log : List Event) (c : Call) (e : Event) (m : Tables)
+next_event : (log : List Event) (c : Call) (e : Event) (m : MemoryTables)
     → MemoryStandsFor (log ++ event_of log c ∷ []) m → m.limits ≡ small → e ≡ event_of log c → IsNext log e m
 next_event log c e m stands limits is = record {
   stands = subst (λ (f : Event). MemoryStandsFor (log ++ f ∷ []) m) (sym is) stands;
@@ -63,7 +63,8 @@ next_event log c e m stands limits is = record {
 }
 
 -- a memory that permits a call performs it
-pub next_call : (old mid new : Tables) (p : Parts) (c : Call) (v : ℕ) (e : Event) (r : StandForOneLog old p)
+pub next_call : (old mid new : MemoryTables) (p : Parts) (c : Call) (v : ℕ) (e : Event)
+    (r : StandForOneLog old p)
     → ((log : List Event) → MemoryStandsFor log old → MemoryStandsFor log mid) → mid.limits ≡ old.limits
     → ((log : List Event) → MemoryStandsFor log mid → v ≡ value_of log c.op c.arg)
     → ((log : List Event) → MemoryStandsFor log mid → MemoryStandsFor (log ++ event_of log c ∷ []) new)
@@ -75,18 +76,18 @@ next_call old mid new p c v e r permitted kept value performed same is =
     (is_event r.log c v e is (value r.log stands))
 
 -- its event is legal
-legal : (log : List Event) (e : Event) (m : Tables) → IsNext log e m → WellFormed small (log ++ e ∷ [])
+legal : (log : List Event) (e : Event) (m : MemoryTables) → IsNext log e m → WellFormed small (log ++ e ∷ [])
 legal log e m next = subst (λ (k : Limits). WellFormed k (log ++ e ∷ [])) next.limits next.stands.well_formed
 
 -- room can be made for it in the clocks
-pub next_within : (old new : Tables) (p : Parts) (e : Event) (r : StandForOneLog old p) → IsNext r.log e new
-    → IsWithin p e.thread e.op
+pub next_within : (old new : MemoryTables) (p : Parts) (e : Event) (r : StandForOneLog old p)
+    → IsNext r.log e new → IsWithin p e.thread e.op
 next_within old new p e r next =
     within_where_legal small r.log e p (legal r.log e new next) r.width r.clock_limits
 
 -- the clocks can take it, once there is room
-pub next_fits : (old new : Tables) (p q : Parts) (e : Event) (r : StandForOneLog old p) → IsNext r.log e new
-    → SameNumbers p q → Fits e q
+pub next_fits : (old new : MemoryTables) (p q : Parts) (e : Event) (r : StandForOneLog old p)
+    → IsNext r.log e new → SameNumbers p q → Fits e q
 next_fits old new p q e r next same =
     let is_legal = legal r.log e new next in
     let stands = same_stand r.log p q same r.clocks in
@@ -94,7 +95,7 @@ next_fits old new p q e r next same =
     (little_work small r.log e q bounded is_legal stands (same_work small r.log p q same r.work))
 
 -- and then both stand for the longer log
-pub stand_after : (old new : Tables) (p q after : Parts) (e : Event) (r : StandForOneLog old p)
+pub stand_after : (old new : MemoryTables) (p q after : Parts) (e : Event) (r : StandForOneLog old p)
     → IsNext r.log e new → SameNumbers p q → SameLimits p q
     → ((m : Limits) (log : List Event) → WellFormed m (log ++ e ∷ []) → StandsFor log q
     → StandsFor (log ++ e ∷ []) after)

@@ -7,7 +7,7 @@ use Rattle.event_core.specs.declared.ids.LockId.{LockId}
 use Rattle.event_core.specs.declared.events.Op.{Op}
 use Rattle.event_core.specs.declared.events.Op.TheVariants.{Load, Acquire, Release, Fork, Join}
 use Rattle.event_core.specs.declared.replies.OutOfMemory.{OutOfMemory}
-use Rattle.hb_clocks.specs.Tables.{Tables, HasThread, IsReady, KeepsRoom}
+use Rattle.hb_clocks.specs.Tables.{ClockTables, HasThread, IsReady, KeepsRoom}
 use Rattle.hb_clocks.specs.Tables.{HasGrown, GrownFor, IsThreadFor, IsLockOf, threads_for, locks_for}
 use Rattle.hb_clocks.specs.Rows.{widths_of, IsMade}
 
@@ -21,19 +21,19 @@ on_both (Ok x) P Q R f p q = f p q
 on_both (Err e) P Q R f p q = tt
 
 -- a thread's room stays
-pub thread_stays : (old new : Tables) (t : ThreadId) → KeepsRoom old new
+pub thread_stays : (old new : ClockTables) (t : ThreadId) → KeepsRoom old new
     → HasThread old.width old.po old.hb t.0 → HasThread new.width new.po new.hb t.0
 thread_stays old new t keeps has =
     (keeps t (Load (record { 0 = 0 })) (record { thread = has; clocks = tt; hold = tt })).thread
 
-pub ready_lock : (c : Tables) (t : ThreadId) (op : Op) (l : LockId) → (op ≡ Acquire l) ⊎ (op ≡ Release l)
+pub ready_lock : (c : ClockTables) (t : ThreadId) (op : Op) (l : LockId) → (op ≡ Acquire l) ⊎ (op ≡ Release l)
     → HasThread c.width c.po c.hb t.0 → IsMade c.width c.lock l.0 → l.0 < length c.holds → IsReady c t op
 ready_lock c t op l (inl is) has made hold =
     subst (IsReady c t) (sym is) (record { thread = has; clocks = made; hold = hold })
 ready_lock c t op l (inr is) has made hold =
     subst (IsReady c t) (sym is) (record { thread = has; clocks = made; hold = hold })
 
-pub ready_thread : (c : Tables) (t : ThreadId) (op : Op) (u : ThreadId) → (op ≡ Fork u) ⊎ (op ≡ Join u)
+pub ready_thread : (c : ClockTables) (t : ThreadId) (op : Op) (u : ThreadId) → (op ≡ Fork u) ⊎ (op ≡ Join u)
     → HasThread c.width c.po c.hb t.0 → HasThread c.width c.po c.hb u.0 → IsReady c t op
 ready_thread c t op u (inl is) has other =
     subst (IsReady c t) (sym is) (record { thread = has; clocks = other; hold = tt })
@@ -60,7 +60,7 @@ more_grown p q = record {
   others = λ u away. q.others u away ∙ p.others u away;
 }
 
-pub grown_then : (a b c : Tables) (t : ThreadId) (op : Op) → GrownFor a b t op → GrownFor b c t op
+pub grown_then : (a b c : ClockTables) (t : ThreadId) (op : Op) → GrownFor a b t op → GrownFor b c t op
     → GrownFor a c t op
 grown_then a b c t op p q = record {
   po = more_grown p.po q.po;
@@ -72,7 +72,7 @@ grown_then a b c t op p q = record {
 }
 
 -- for a lock or a thread that the operation names
-pub lock_grown : (old new : Tables) (t : ThreadId) (op : Op) (l : LockId)
+pub lock_grown : (old new : ClockTables) (t : ThreadId) (op : Op) (l : LockId)
     → (op ≡ Acquire l) ⊎ (op ≡ Release l)
     → ((o : Op) → l.0 < locks_for o → IsLockOf o l.0 → GrownFor old new t o) → GrownFor old new t op
 lock_grown old new t op l (inl is) grown =
@@ -80,7 +80,7 @@ lock_grown old new t op l (inl is) grown =
 lock_grown old new t op l (inr is) grown =
     subst (GrownFor old new t) (sym is) (grown (Release l) (omega arith) refl)
 
-pub thread_grown : (old new : Tables) (t : ThreadId) (op : Op) (u : ThreadId)
+pub thread_grown : (old new : ClockTables) (t : ThreadId) (op : Op) (u : ThreadId)
     → (op ≡ Fork u) ⊎ (op ≡ Join u)
     → ((o : Op) → u.0 < threads_for t o → IsThreadFor t o u.0 → GrownFor old new t o)
     → GrownFor old new t op

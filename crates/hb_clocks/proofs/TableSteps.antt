@@ -14,7 +14,8 @@ use Rattle.hb_clocks.specs.declared.holds.Hold.{Hold}
 use Rattle.hb_clocks.specs.Holds.{hold_at, holds_after, is_outer, effect_by, HasHold}
 use Rattle.hb_clocks.specs.State.{HbState, effect, without_locks, after}
 use Rattle.hb_clocks.specs.Standing.{IsFew, Admits, IsAlone}
-use Rattle.hb_clocks.specs.Tables.{Tables, hb_rows, state_from, HasThread, HasClocks, KeepsRoom, AreTables}
+use Rattle.hb_clocks.specs.Tables.{ClockTables, hb_rows, state_from, HasThread}
+use Rattle.hb_clocks.specs.Tables.{HasClocks, KeepsRoom, AreTables}
 use Rattle.hb_clocks.specs.Rows.{rows_of, widths_of}
 use Rattle.hb_clocks.proofs.HoldLaws.{AloneAt, of_holder, outer_effect, depths_after, holds_length}
 use Rattle.hb_clocks.proofs.MadeRows.{made_kept, wide_kept}
@@ -144,11 +145,12 @@ hold_kept m n (Release l) le h = omega arith
 hold_kept m n _ le h = tt
 
 -- what the step keeps of tables and their room
-pub record IsStepped (zeros : List ℕ) (old new : Tables) : Type 0 where
+pub record IsStepped (zeros : List ℕ) (old new : ClockTables) : Type 0 where
   pub tables : AreTables new.width zeros new.po new.hb new.lock
   pub kept : KeepsRoom old new
 
-pub stepped : (zeros : List ℕ) (old : Tables) (po hb lock : List (List ℕ)) (holds : List Hold) (t : ThreadId)
+pub stepped : (zeros : List ℕ) (old : ClockTables) (po hb lock : List (List ℕ)) (holds : List Hold)
+    (t : ThreadId)
     (op : Op) → widths_of po ≡ widths_of old.po → widths_of hb ≡ widths_of old.hb
     → widths_of lock ≡ widths_of old.lock → holds ≡ holds_after t.0 op old.holds
     → AreTables old.width zeros old.po old.hb old.lock

@@ -10,7 +10,7 @@ use Rattle.hb_clocks.specs.Holds.{depths_of, HasHold}
 use Rattle.hb_clocks.specs.declared.holds.Hold.{Hold}
 
 -- the clocks of threads and of locks, none of numbers where none was made, and who holds each lock
-pub record Tables : Type 0 where
+pub record ClockTables : Type 0 where
   pub width : ℕ
   pub po : List (List ℕ)
   pub hb : List (List ℕ)
@@ -21,7 +21,7 @@ pub record Tables : Type 0 where
   pub lock_room : ℕ
 
 -- those of the empty log
-abbrev pub no_tables : ℕ → Tables
+abbrev pub no_tables : ℕ → ClockTables
 no_tables width = record {
   width = width;
   po = [];
@@ -43,7 +43,7 @@ state_from po hb lock holds = record {
 }
 
 -- what the tables mean
-abbrev pub state_of : Tables → HbState
+abbrev pub state_of : ClockTables → HbState
 state_of t = state_from t.po t.hb t.lock t.holds
 
 -- the thread is below the width, and both of its clocks were made
@@ -61,13 +61,13 @@ HasClocks w po hb lock (Release l) = IsMade w lock l.0
 HasClocks w po hb lock _ = Unit {0}
 
 -- there is room for the thread's operation
-pub record IsReady (c : Tables) (t : ThreadId) (op : Op) : Type 0 where
+pub record IsReady (c : ClockTables) (t : ThreadId) (op : Op) : Type 0 where
   pub thread : HasThread c.width c.po c.hb t.0
   pub clocks : HasClocks c.width c.po c.hb c.lock op
   pub hold : HasHold (length c.holds) op
 
 -- what was ready stays so
-abbrev pub KeepsRoom : Tables → Tables → Type 0
+abbrev pub KeepsRoom : ClockTables → ClockTables → Type 0
 KeepsRoom old new = (t : ThreadId) (op : Op) → IsReady old t op → IsReady new t op
 
 -- the operation names the thread, or the lock
@@ -106,7 +106,7 @@ pub record HasGrown (rows : ℕ) (IsNamed : ℕ → Type 0) (old new : List (Lis
 
 -- no table has grown beyond the numbers that the operation names, clocks were made of these alone, and none
 -- has memory for more than twice as many rows, or had it before
-pub record GrownFor (old new : Tables) (t : ThreadId) (op : Op) : Type 0 where
+pub record GrownFor (old new : ClockTables) (t : ThreadId) (op : Op) : Type 0 where
   pub po : HasGrown (threads_for t op) (IsThreadFor t op) old.po new.po
   pub hb : HasGrown (threads_for t op) (IsThreadFor t op) old.hb new.hb
   pub lock : HasGrown (locks_for op) (IsLockOf op) old.lock new.lock

@@ -51,9 +51,9 @@ pub struct HbClocks {
 
 impl Model for HbClocks {
     ghost use Rattle.std.specs.Prelude.{max, vec_capacity};
-    ghost use Rattle.hb_clocks.specs.Tables.{Tables, AreTables};
+    ghost use Rattle.hb_clocks.specs.Tables.{ClockTables, AreTables};
 
-    ghost Value = { Tables };
+    ghost Value = { ClockTables };
 
     ghost view = { λ c. record {
       width = c.width;

@@ -35,7 +35,7 @@ use Rattle.rapid_line.specs.Cut.{count, Lacks, after_last}
 use Rattle.rapid_line.specs.Lines.{Lines, to_come, most, Cuts, Keeps, IsLastLine, IsTooLong}
 use Rattle.rapid_line.proofs.Cuts.{IsCut-at, after_last-Lacks}
 use Rattle.rapid_line.proofs.LineLaws.{keeps_law, end_within}
-use Rattle.rapid_text.specs.Taking.{lines_place, place_of}
+use Rattle.rapid_text.specs.Taking.{lines_place, cutter_place}
 use Rattle.rapid_text.proofs.Taken.{Took, cuts_took, keeps_took, took_more}
 use Rattle.rapid_text.specs.declared.causes.Cause.{Cause}
 use Rattle.rapid_text.specs.declared.causes.Cause.TheVariants as causes
@@ -85,7 +85,7 @@ pub record Went (start : Cutting) (piece : List ℕ) (make : Judgement → Judge
   pub sound : (more : List ℕ) → judged start (piece ++ more) ≡ make (judged_lines names lines (rest ++ more))
   pub front : List ℕ
   pub is : piece ≡ front ++ rest
-  pub took : Took (place_of start) front (lines_place lines)
+  pub took : Took (cutter_place start) front (lines_place lines)
   pub room : lines.taken + length rest ≤ most
   pub grows : TablesGrow start.names names
 

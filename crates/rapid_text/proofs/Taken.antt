@@ -9,7 +9,7 @@ use Rattle.rapid_line.proofs.Cuts.{after_last-append, after_last-end, after_last
 use Rattle.rapid_line.proofs.Cuts.{count-Lacks, IsCut-at}
 use Rattle.event_core.specs.declared.events.Event.{Event}
 use Rattle.rapid_text.specs.Cutting.{Cutting, Pushes}
-use Rattle.rapid_text.specs.Taking.{Place, lines_place, place_of, start, AreUnended, Advances, StopsShort}
+use Rattle.rapid_text.specs.Taking.{Place, lines_place, cutter_place, start, AreUnended, Advances, StopsShort}
 
 -- all these bytes were taken: each LF ended a line, and what follows the last one is kept
 pub record Took (old : Place) (bytes : List ℕ) (new : Place) : Type 0 where
@@ -84,12 +84,12 @@ keeps_advance s t piece k few =
 
 -- a push
 pub push_advances : (s t : Cutting) (piece : List ℕ) (used : ℕ) (o : Option Event) → Pushes s t piece used o
-    → AreUnended t.kept → Advances (place_of s) piece (drop used piece) (place_of t)
+    → AreUnended t.kept → Advances (cutter_place s) piece (drop used piece) (cutter_place t)
 push_advances s t piece used o p few =
     let long = length-take-le used piece p.used_within in
-    let took : Took (place_of s) (take used piece) (place_of t) =
+    let took : Took (cutter_place s) (take used piece) (cutter_place t) =
     record { lines = p.lines; kept = p.kept; taken = omega (arith, p.taken, long) } in
-    subst (λ (b : List ℕ). Advances (place_of s) b (drop used piece) (place_of t))
+    subst (λ (b : List ℕ). Advances (cutter_place s) b (drop used piece) (cutter_place t))
     (take-append-drop used piece) (took_advances (drop used piece) took few)
 
 -- a text of which these bytes came and were taken, where the reading stopped

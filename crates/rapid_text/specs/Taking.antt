@@ -14,8 +14,8 @@ pub record Place : Type 0 where
 abbrev pub lines_place : Lines → Place
 lines_place s = record { unfinished = s.unfinished; kept = s.kept; taken = s.taken }
 
-abbrev pub place_of : Cutting → Place
-place_of s = record { unfinished = s.unfinished; kept = s.kept; taken = s.taken }
+abbrev pub cutter_place : Cutting → Place
+cutter_place s = record { unfinished = s.unfinished; kept = s.kept; taken = s.taken }
 
 -- before the first byte
 abbrev pub start : Place

@@ -12,7 +12,7 @@ use Rattle.section_sum.specs.declared.cell.Cell.{Cell}
 use Rattle.section_sum.specs.declared.cells.Place.{Place}
 use Rattle.section_sum.specs.declared.lock.Sought.{Sought}
 use Rattle.section_sum.specs.Cell.{no_cell, cell_at, is_noted, marked, marked_as}
-use Rattle.section_sum.specs.Cells.{Stored, place_of, place, lock_at, with_place, count_to}
+use Rattle.section_sum.specs.Cells.{Stored, cell_place, place, lock_at, with_place, count_to}
 use Rattle.section_sum.specs.LockSums.{
   LockSum,
   no_kept,
@@ -170,7 +170,7 @@ kept_more s l v m k n kept = record {
 }
 
 -- a cell of the lock joins, and was sought
-pub kept_new : (s : Stored) (l v at : ℕ) (k : LockSum) (most : ℕ) → place_of s.places l v ≡ length s.places
+pub kept_new : (s : Stored) (l v at : ℕ) (k : LockSum) (most : ℕ) → cell_place s.places l v ≡ length s.places
     → at ≡ length s.places → k.count + 1 ≤ most → most ≤ 2 * (k.count + 2) → IsKept l s k
     → IsKept l (with_place s l v)
     (record k { count = k.count + 1; most = most; sought = Some (record { var = v; at = at }) })
@@ -207,10 +207,10 @@ kept_as s l k xs most e more memory kept =
 
 -- where a cell of the lock has no access yet, there is room in the list
 pub spare : (s : Stored) (l v : ℕ) (k : LockSum) → IsKept l s k
-    → place_of s.places l v < length s.places → is_noted (cell_at s.cells (place_of s.places l v)) ≡ false
+    → cell_place s.places l v < length s.places → is_noted (cell_at s.cells (cell_place s.places l v)) ≡ false
     → length k.listed < k.most
 spare s l v k kept h off =
-    let at = place_of s.places l v in
+    let at = cell_place s.places l v in
     let own : is_own l s at ≡ true = eq-eqb _ _ (own_place s.places l v h) in
     let less = count_less (is_marked l s) (is_own l s) (length s.places) at h
     (ap (λ b. is_own l s at && b) off ∙ and_right (is_own l s at) false refl) own
@@ -302,11 +302,11 @@ kept_again l at by kind old new k own noted m kept =
 
 -- a lock with a cell is one of the list
 pub has_lock : (s : Stored) (locks : List LockSum) (l v : ℕ) → AreKept s locks
-    → place_of s.places l v < length s.places → l < length locks
+    → cell_place s.places l v < length s.places → l < length locks
 has_lock s locks l v kept h = elim (cases_lt l (length locks)) [
   | inl less ↦ less
   | inr past ↦
-      let some = count_some (is_own l s) (length s.places) (place_of s.places l v) h
+      let some = count_some (is_own l s) (length s.places) (cell_place s.places l v) h
       (eq-eqb _ _ (own_place s.places l v h)) in
       let none : (kept_at locks l).count ≡ 0 =
       ap (λ (k : LockSum). k.count) (get_or_past locks l no_kept past) in
@@ -315,18 +315,18 @@ has_lock s locks l v kept h = elim (cases_lt l (length locks)) [
 ]
 
 -- there is room for what has joined
-pub has_place : (old new : Stored) (l v : ℕ) → place_of old.places l v ≡ length old.places
-    → new ≡ with_place old l v → nat_lt (place_of new.places l v) (length new.places) ≡ true
+pub has_place : (old new : Stored) (l v : ℕ) → cell_place old.places l v ≡ length old.places
+    → new ≡ with_place old l v → nat_lt (cell_place new.places l v) (length new.places) ≡ true
 has_place old new l v e q =
     let there = place_new old.places l v e in
     let long = length_push old.places (place l v) in
-    subst (λ (s : Stored). nat_lt (place_of s.places l v) (length s.places) ≡ true) (sym q)
+    subst (λ (s : Stored). nat_lt (cell_place s.places l v) (length s.places) ≡ true) (sym q)
     (lt-ltb _ _ (omega (arith, there, long)))
 
 -- and none where nothing is kept of the lock
 pub no_lock : (s : Stored) (locks : List LockSum) (l v : ℕ) → AreKept s locks → length locks ≤ l
-    → length s.places ≤ place_of s.places l v
-no_lock s locks l v kept past = elim (cases_lt (place_of s.places l v) (length s.places)) [
+    → length s.places ≤ cell_place s.places l v
+no_lock s locks l v kept past = elim (cases_lt (cell_place s.places l v) (length s.places)) [
   | inl h ↦ let less = has_lock s locks l v kept h in absurd (omega (arith, past, less))
   | inr g ↦ g
 ]

@@ -28,7 +28,7 @@ use Rattle.event_core.proofs.Stable.{longer, back, section_too}
 use Rattle.section_sum.specs.Laws.{SourcesCount}
 use Rattle.section_sum.specs.Newest.{section}
 use Rattle.section_sum.specs.Paired.{Pairs, AreSources, AreReleaseClocks, joined, IsBelowPaired}
-use Rattle.section_sum.specs.Standing.{StandsFor, IsAccess}
+use Rattle.section_sum.specs.Standing.{StandsFor, IsAccessBy}
 use Rattle.section_sum.specs.Sums.{Sums, others_of, sources_of}
 
 module _ (log : List Event) (e : Event) where
@@ -223,7 +223,7 @@ sources_count limits log e l numbers clocks w sources are =
 
 -- the same in the words of the contract
 pub sources_paired : (log : List Event) (e : Event) (s : Sums) (t : ThreadId) (l : LockId) (x : VarId)
-    (k : AccessKind) (numbers : List ℕ) → numbers ≡ sources_of s l.0 x.0 k t.0 → IsAccess t x k e
+    (k : AccessKind) (numbers : List ℕ) → numbers ≡ sources_of s l.0 x.0 k t.0 → IsAccessBy t x k e
     → 0 < depth log t l → StandsFor log s → AreSources log e l numbers
 sources_paired log e s t l x k numbers exact is held st =
     subst (λ ns. AreSources log e l ns)

@@ -11,7 +11,7 @@ use Rattle.event_core.specs.declared.events.AccessKind.TheVariants.{Read, Write}
 use Rattle.section_sum.specs.declared.cells.Place.{Place}
 use Rattle.section_sum.specs.Newest.{section}
 use Rattle.section_sum.specs.Cell.{no_cell, cell_at, closed_as, marked_as, sources_in}
-use Rattle.section_sum.specs.Cells.{Stored, is_place, place_of, has_cell, place, lock_at, with_place}
+use Rattle.section_sum.specs.Cells.{Stored, is_place, cell_place, has_cell, place, lock_at, with_place}
 use Rattle.section_sum.specs.Cells.{HasGrown}
 use Rattle.section_sum.specs.LockSums.{LockSum, no_kept, kept_at, IsKept, AreKept}
 use Rattle.section_sum.specs.Entries.{Entries, entries_of, IsAlone, SaysSame, HasNoted, HasClosed}
@@ -42,27 +42,27 @@ kept_back l s locks k h kept e = kept_set l s locks k h (kept_read l s locks k h
 pub says_other : (l m : ℕ) (old new : Stored) (locks : List LockSum) (k : LockSum) → (m ≡ l → ⊥)
     → Changed l old new → SaysSame (entries_of old locks m) (entries_of new (set locks l k) m)
 says_other l m old new locks k n c = says_same (entries_of old locks m) (entries_of new (set locks l k) m)
-    (λ v. ap (λ (ps : List Place). cell_at new.cells (place_of ps m v)) c.places
-    ∙ at v (cases_lt (place_of old.places m v) (length old.places)))
+    (λ v. ap (λ (ps : List Place). cell_at new.cells (cell_place ps m v)) c.places
+    ∙ at v (cases_lt (cell_place old.places m v) (length old.places)))
     (ap (λ (q : LockSum). q.by) (get_or-set_other locks l m k no_kept n))
-    (λ v h. subst (λ (ps : List Place). nat_lt (place_of ps m v) (length ps) ≡ true) (sym c.places) h)
+    (λ v h. subst (λ (ps : List Place). nat_lt (cell_place ps m v) (length ps) ≡ true) (sym c.places) h)
   where
     at : (v : ℕ)
-        → (place_of old.places m v < length old.places) ⊎ (length old.places ≤ place_of old.places m v)
-        → cell_at new.cells (place_of old.places m v) ≡ cell_at old.cells (place_of old.places m v)
+        → (cell_place old.places m v < length old.places) ⊎ (length old.places ≤ cell_place old.places m v)
+        → cell_at new.cells (cell_place old.places m v) ≡ cell_at old.cells (cell_place old.places m v)
     at v (inl h) =
-        c.others (place_of old.places m v)
-        (not_own l m old (place_of old.places m v) n (eq-eqb _ _ (own_place old.places m v h)))
+        c.others (cell_place old.places m v)
+        (not_own l m old (cell_place old.places m v) n (eq-eqb _ _ (own_place old.places m v h)))
     at v (inr g) =
         let size : length new.places ≡ length old.places = ap (λ (ps : List Place). length ps) c.places in
         let was = c.was in
         let same = c.same in
-        get_or_past new.cells (place_of old.places m v) no_cell (omega (arith, g, size, same))
-        ∙ sym (get_or_past old.cells (place_of old.places m v) no_cell (omega (arith, g, was)))
+        get_or_past new.cells (cell_place old.places m v) no_cell (omega (arith, g, size, same))
+        ∙ sym (get_or_past old.cells (cell_place old.places m v) no_cell (omega (arith, g, was)))
 
 -- under a lock of the list the variable has a cell, and something is kept of the lock
 pub record Here (s : Stored) (locks : List LockSum) (l var : ℕ) : Type 0 where
-  pub place : place_of s.places l var < length s.places
+  pub place : cell_place s.places l var < length s.places
   pub within : l < length locks
 
 pub here_at : {s : Stored} {locks : List LockSum} (thread var : ℕ) (kind : AccessKind) (held : List LockId)
@@ -72,27 +72,27 @@ pub here_at : {s : Stored} {locks : List LockSum} (thread var : ℕ) (kind : Acc
     → Here s locks (get_or held i m).0 var
 here_at {s = s} {locks = locks} thread var kind held i m before h kept noted ready =
     let l : ℕ = (get_or held i m).0 in
-    let place : place_of s.places l var < length s.places
+    let place : cell_place s.places l var < length s.places
     = ltb-true _ _ ((noted l).ready var (ready l (is_held_at held i m h))) in
     record { place = place; within = has_lock s locks l var kept place }
 
 -- what is said of the lock of an access
 pub says_marked : (l thread var : ℕ) (kind : AccessKind) (old new : Stored) (locks : List LockSum)
     (k : LockSum)
-    → l < length locks → place_of old.places l var < length old.places → k.by ≡ thread
+    → l < length locks → cell_place old.places l var < length old.places → k.by ≡ thread
     → new.places ≡ old.places
     → ((i : ℕ) → cell_at new.cells i
-    ≡ marked_as (nat_eq i (place_of old.places l var)) kind (cell_at old.cells i))
+    ≡ marked_as (nat_eq i (cell_place old.places l var)) kind (cell_at old.cells i))
     → IsAlone (entries_of old locks l) thread
     → HasNoted thread var kind true (entries_of old locks l) (entries_of new (set locks l k) l)
 says_marked l thread var kind old new locks k h ready by places exact alone =
     says_noted thread var kind (entries_of old locks l) (entries_of new (set locks l k) l) alone
-    (λ v. ap (λ (ps : List Place). cell_at new.cells (place_of ps l v)) places
-    ∙ exact (place_of old.places l v)
-    ∙ ap (λ b. marked_as b kind (cell_at old.cells (place_of old.places l v)))
+    (λ v. ap (λ (ps : List Place). cell_at new.cells (cell_place ps l v)) places
+    ∙ exact (cell_place old.places l v)
+    ∙ ap (λ b. marked_as b kind (cell_at old.cells (cell_place old.places l v)))
     (same_place old.places l var v ready))
     (ap (λ (q : LockSum). q.by) (get_or-set_same locks l k no_kept h) ∙ by)
-    (λ v r. subst (λ (ps : List Place). nat_lt (place_of ps l v) (length ps) ≡ true) (sym places) r)
+    (λ v r. subst (λ (ps : List Place). nat_lt (cell_place ps l v) (length ps) ≡ true) (sym places) r)
 
 -- what is said of the lock of a section that ended
 pub says_ended : (l thread number : ℕ) (old new : Stored) (locks : List LockSum) (k : LockSum)
@@ -103,27 +103,27 @@ pub says_ended : (l thread number : ℕ) (old new : Stored) (locks : List LockSu
     → HasClosed thread number true (entries_of old locks l) (entries_of new (set locks l k) l)
 says_ended l thread number old new locks k h by own was places exact =
     says_closed thread number (entries_of old locks l) (entries_of new (set locks l k) l)
-    (λ v. ap (λ (ps : List Place). cell_at new.cells (place_of ps l v)) places
-    ∙ exact (place_of old.places l v)
-    ∙ at v (cases_lt (place_of old.places l v) (length old.places)))
+    (λ v. ap (λ (ps : List Place). cell_at new.cells (cell_place ps l v)) places
+    ∙ exact (cell_place old.places l v)
+    ∙ at v (cases_lt (cell_place old.places l v) (length old.places)))
     (ap (λ (q : LockSum). q.by) (get_or-set_same locks l k no_kept h) ∙ by)
-    (λ v r. subst (λ (ps : List Place). nat_lt (place_of ps l v) (length ps) ≡ true) (sym places) r)
+    (λ v r. subst (λ (ps : List Place). nat_lt (cell_place ps l v) (length ps) ≡ true) (sym places) r)
     own
   where
     at : (v : ℕ)
-        → (place_of old.places l v < length old.places) ⊎ (length old.places ≤ place_of old.places l v)
-        → closed_as (nat_eq (lock_at old.places (place_of old.places l v)) l) (kept_at locks l).by number
-        (cell_at old.cells (place_of old.places l v))
-        ≡ closed_as true (kept_at locks l).by number (cell_at old.cells (place_of old.places l v))
+        → (cell_place old.places l v < length old.places) ⊎ (length old.places ≤ cell_place old.places l v)
+        → closed_as (nat_eq (lock_at old.places (cell_place old.places l v)) l) (kept_at locks l).by number
+        (cell_at old.cells (cell_place old.places l v))
+        ≡ closed_as true (kept_at locks l).by number (cell_at old.cells (cell_place old.places l v))
     at v (inl g) =
-        ap (λ b. closed_as b (kept_at locks l).by number (cell_at old.cells (place_of old.places l v)))
+        ap (λ b. closed_as b (kept_at locks l).by number (cell_at old.cells (cell_place old.places l v)))
         (eq-eqb _ _ (own_place old.places l v g))
     at v (inr g) =
-        let past = get_or_past old.cells (place_of old.places l v) no_cell (omega (arith, g, was)) in
+        let past = get_or_past old.cells (cell_place old.places l v) no_cell (omega (arith, g, was)) in
         ap
-        (closed_as (nat_eq (lock_at old.places (place_of old.places l v)) l) (kept_at locks l).by number)
+        (closed_as (nat_eq (lock_at old.places (cell_place old.places l v)) l) (kept_at locks l).by number)
         past
-        ∙ same (nat_eq (lock_at old.places (place_of old.places l v)) l)
+        ∙ same (nat_eq (lock_at old.places (cell_place old.places l v)) l)
         ∙ sym (ap (closed_as true (kept_at locks l).by number) past)
       where
         same : (b : Bool) → closed_as b (kept_at locks l).by number no_cell
@@ -132,7 +132,7 @@ says_ended l thread number old new locks k h by own was places exact =
         same false = refl
 
 -- what had a cell has it still
-cell_stays : (s : Stored) (l v m x : ℕ) → place_of s.places m x < length s.places
+cell_stays : (s : Stored) (l v m x : ℕ) → cell_place s.places m x < length s.places
     → has_cell (with_place s l v) m x ≡ true
 cell_stays s l v m x h =
     let left = place_left s.places (place l v) m x h in
@@ -142,7 +142,7 @@ cell_stays s l v m x h =
 -- and no other pair of a lock and a variable got one
 pub no_more : (s : Stored) (l v m x : ℕ) → (nat_eq m l && nat_eq x v) ≡ false
     → has_cell (with_place s l v) m x ≡ has_cell s m x
-no_more s l v m x off = elim (cases_lt (place_of s.places m x) (length s.places)) [
+no_more s l v m x off = elim (cases_lt (cell_place s.places m x) (length s.places)) [
   | inl h ↦ cell_stays s l v m x h ∙ sym (lt-ltb _ _ h)
   | inr g ↦
       let end = place_end s.places (place l v) m x (place_high s.places m x g) in
@@ -157,12 +157,12 @@ pub says_more : (l v m : ℕ) (old new : Stored) (locks after : List LockSum)
     → (kept_at after m).by ≡ (kept_at locks m).by → SaysSame (entries_of old locks m) (entries_of new after m)
 says_more l v m old new locks after same (inl e) by =
     says_same (entries_of old locks m) (entries_of new after m)
-    (λ x. ap (λ (s : Stored). cell_at s.cells (place_of s.places m x)) e) by
-    (λ x r. subst (λ (s : Stored). nat_lt (place_of s.places m x) (length s.places) ≡ true) (sym e) r)
+    (λ x. ap (λ (s : Stored). cell_at s.cells (cell_place s.places m x)) e) by
+    (λ x r. subst (λ (s : Stored). nat_lt (cell_place s.places m x) (length s.places) ≡ true) (sym e) r)
 says_more l v m old new locks after same (inr (n, e)) by =
     says_same (entries_of old locks m) (entries_of new after m)
-    (λ x. ap (λ (s : Stored). cell_at s.cells (place_of s.places m x)) e ∙ joined old l v same m x) by
-    (λ x r. subst (λ (s : Stored). nat_lt (place_of s.places m x) (length s.places) ≡ true) (sym e)
+    (λ x. ap (λ (s : Stored). cell_at s.cells (cell_place s.places m x)) e ∙ joined old l v same m x) by
+    (λ x r. subst (λ (s : Stored). nat_lt (cell_place s.places m x) (length s.places) ≡ true) (sym e)
     (cell_stays old l v m x (ltb-true _ _ r)))
 
 pub kept_grown : (l v m : ℕ) (old new : Stored) (k : LockSum) → (m ≡ l → ⊥) → HasGrown l v old new
@@ -186,8 +186,8 @@ ended_changed l by number old new was same places exact = record {
 
 -- a variable without a cell under a lock
 pub none_there : (s : Stored) (l v : ℕ) → length s.cells ≡ length s.places
-    → length s.places ≤ place_of s.places l v → cell_at s.cells (place_of s.places l v) ≡ no_cell
-none_there s l v same past = get_or_past s.cells (place_of s.places l v) no_cell (omega (arith, same, past))
+    → length s.places ≤ cell_place s.places l v → cell_at s.cells (cell_place s.places l v) ≡ no_cell
+none_there s l v same past = get_or_past s.cells (cell_place s.places l v) no_cell (omega (arith, same, past))
 
 pub none_met : (k : AccessKind) (t : ℕ) → sources_in no_cell k t ≡ []
 none_met Read t = by (nat_eq t 0)

@@ -30,7 +30,7 @@ use Rattle.event_core.proofs.SectionSteps.{section_within}
 use Rattle.event_core.proofs.Tests.{not_both}
 use Rattle.section_sum.specs.Cell.{is_kind}
 use Rattle.section_sum.specs.Laws.{OthersLeaveThem, HoldersAreAlone}
-use Rattle.section_sum.specs.Standing.{StandsFor, IsNewest, IsAccess, AreHeld}
+use Rattle.section_sum.specs.Standing.{StandsFor, IsNewest, IsAccessBy, AreHeld}
 use Rattle.section_sum.specs.Sums.{Sums, said_of, noted_of, others_of, is_held, SameNoted, SameOthers}
 use Rattle.section_sum.specs.Locks.{HaveNoted, HaveClosed}
 use Rattle.section_sum.proofs.ClosedAccesses.{newest_same, newest_new}
@@ -105,7 +105,7 @@ note_own limits log e old new held x k notes w o are st = record {
 
 pub note_stands : (limits : Limits) (log : List Event) (e : Event) (old new : Sums) (t : ThreadId)
     (held : List LockId) (x : VarId) (k : AccessKind) → HaveNoted t.0 held x.0 k (said_of old) (said_of new)
-    → WellFormed limits (log ++ e ∷ []) → IsAccess t x k e → AreHeld log t held → StandsFor log old
+    → WellFormed limits (log ++ e ∷ []) → IsAccessBy t x k e → AreHeld log t held → StandsFor log old
     → StandsFor (log ++ e ∷ []) new
 note_stands limits log e old new t held x k notes w is are st =
     note_own limits log e old new held x k

@@ -34,12 +34,12 @@ no_cells = record { places = []; cells = [] }
 abbrev pub is_place : ℕ → ℕ → Place → Bool
 is_place l v p = nat_eq l p.lock.0 && nat_eq v p.var.0
 
-abbrev pub place_of : List Place → ℕ → ℕ → ℕ
-place_of places l v = position_or_len (is_place l v) places
+abbrev pub cell_place : List Place → ℕ → ℕ → ℕ
+cell_place places l v = position_or_len (is_place l v) places
 
 -- the variable has a cell under the lock
 abbrev pub has_cell : Stored → ℕ → ℕ → Bool
-has_cell s l v = nat_lt (place_of s.places l v) (length s.places)
+has_cell s l v = nat_lt (cell_place s.places l v) (length s.places)
 
 abbrev pub place : ℕ → ℕ → Place
 place l v = record { lock = record { 0 = l }; var = record { 0 = v } }
@@ -57,7 +57,7 @@ with_place s l v = record {
 -- the variable got a cell under the lock, or had one, or there was no memory for it
 abbrev pub HasGrown : ℕ → ℕ → Stored → Stored → Type 0
 HasGrown l v old new = (new ≡ old)
-    ⊎ ((place_of old.places l v ≡ length old.places) × (new ≡ with_place old l v))
+    ⊎ ((cell_place old.places l v ≡ length old.places) × (new ≡ with_place old l v))
 
 -- how many of the numbers below n pass
 abbrev pub count_to : (ℕ → Bool) → ℕ → ℕ

@@ -2,7 +2,7 @@
 use Rattle.std.specs.Prelude.{ℕ, ◌≡◌, Bool, true, false, not, ◌&&◌, ◌||◌, cond, List, nat_eq}
 use Rattle.section_sum.specs.Newest.{others_at}
 use Rattle.section_sum.specs.Cell.{cell_at, side, is_kind, sources_in}
-use Rattle.section_sum.specs.Cells.{Stored, place_of, has_cell}
+use Rattle.section_sum.specs.Cells.{Stored, cell_place, has_cell}
 use Rattle.section_sum.specs.LockSums.{LockSum, kept_at}
 use Rattle.section_sum.specs.declared.cell.Cell.{Cell}
 use Rattle.event_core.specs.declared.events.AccessKind.{AccessKind}
@@ -15,7 +15,7 @@ pub record Entries : Type 0 where
 
 abbrev pub entries_of : Stored → List LockSum → ℕ → Entries
 entries_of s locks l = record {
-  cell = λ v. cell_at s.cells (place_of s.places l v);
+  cell = λ v. cell_at s.cells (cell_place s.places l v);
   ready = has_cell s l;
   by = (kept_at locks l).by;
 }

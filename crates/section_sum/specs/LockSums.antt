@@ -22,7 +22,7 @@ use Rattle.std.specs.Prelude.{
 }
 use Rattle.std.specs.List.{list_any}
 use Rattle.section_sum.specs.Cell.{cell_at, is_noted}
-use Rattle.section_sum.specs.Cells.{Stored, place_of, lock_at, count_to}
+use Rattle.section_sum.specs.Cells.{Stored, cell_place, lock_at, count_to}
 use Rattle.section_sum.specs.declared.cells.Place.{Place}
 use Rattle.section_sum.specs.declared.lock.Sought.{Sought}
 
@@ -51,7 +51,7 @@ is_marked l s i = is_own l s i && is_noted (cell_at s.cells i)
 
 -- what was sought stands there
 abbrev pub IsSought : ℕ → List Place → Option Sought → Type 0
-IsSought l places sought = IfSome sought (λ s. (s.at ≡ place_of places l s.var) × (s.at < length places))
+IsSought l places sought = IfSome sought (λ s. (s.at ≡ cell_place places l s.var) × (s.at < length places))
 
 -- a list of a lock's cells: all with an access in the open section, and no others' cells
 pub record AreListed (l : ℕ) (s : Stored) (listed : List ℕ) : Type 0 where

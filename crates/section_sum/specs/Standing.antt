@@ -26,7 +26,7 @@ pub record StandsFor (log : List Event) (s : Sums) : Type 0 where
       → IsNewest log l x k t (others_of s l.0 x.0 k t.0)
 
 -- the event is such an access of the thread
-pub record IsAccess (t : ThreadId) (x : VarId) (k : AccessKind) (e : Event) : Type 0 where
+pub record IsAccessBy (t : ThreadId) (x : VarId) (k : AccessKind) (e : Event) : Type 0 where
   pub thread : e.thread ≡ t
   pub op : e.op ≡ access_of x k
 

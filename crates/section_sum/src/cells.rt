@@ -3,7 +3,7 @@
 //! A cell's number is its place among those pairs of a lock and a variable. It is found by one hash.
 ghost use Rattle.std.specs.Prelude.{◌≡◌, ℕ, ◌<◌, ◌≤◌, length, not, nat_eq, MatchOption, MatchResult};
 ghost use Rattle.section_sum.specs.Cell.{cell_at, closed_as, marked_as, is_noted};
-ghost use Rattle.section_sum.specs.Cells.{place_of, no_cells, with_place};
+ghost use Rattle.section_sum.specs.Cells.{cell_place, no_cells, with_place};
 
 use crate::cell::{Cell, close_cell, mark_cell, new_cell};
 use event_core::{AccessKind, LockId, OutOfMemory, ThreadId, VarId, reserve};
@@ -50,15 +50,15 @@ impl Cells {
 
     /// Where the variable's cell under the lock stands.
     pub fn find(&self, lock: LockId, var: VarId) -> Option<usize>
-        ensures { MatchOption result (length self.now.places ≤ place_of self.now.places lock.0 var.0)
-            (λ i. (i ≡ place_of self.now.places lock.0 var.0) × (i < length self.now.places)) }
+        ensures { MatchOption result (length self.now.places ≤ cell_place self.now.places lock.0 var.0)
+            (λ i. (i ≡ cell_place self.now.places lock.0 var.0) × (i < length self.now.places)) }
     {
         self.places.get_index_of(&Place { lock, var })
     }
 
     /// A variable without a cell under the lock gets one. Answers its number.
     pub fn add(&mut self, lock: LockId, var: VarId) -> Result<usize, OutOfMemory>
-        requires new { place_of self.old.places lock.0 var.0 ≡ length self.old.places }
+        requires new { cell_place self.old.places lock.0 var.0 ≡ length self.old.places }
         ensures { MatchResult result
             (λ at. (at ≡ length self.old.places) × (self.new ≡ with_place self.old lock.0 var.0))
             (λ _. self.new ≡ self.old) }

@@ -4,7 +4,7 @@
 //! allocates nothing: a list never has more cells than the lock has, and room for all is made with each cell.
 ghost use Rattle.std.specs.Prelude.{◌≡◌, ℕ, ◌<◌, ◌≤◌, length, nat_eq, nat_lt, true, is_ok, MatchOption};
 ghost use Rattle.section_sum.specs.Cell.{cell_at, closed_as, marked_as};
-ghost use Rattle.section_sum.specs.Cells.{place_of, lock_at, HasGrown};
+ghost use Rattle.section_sum.specs.Cells.{cell_place, lock_at, HasGrown};
 ghost use Rattle.section_sum.specs.LockSums.{no_kept, IsSought, IsKept};
 
 use crate::cells::Cells;
@@ -69,8 +69,8 @@ impl Lock {
     #[inline(always)]
     pub fn find(&self, cells: &Cells, lock: LockId, var: VarId) -> Option<usize>
         requires sought { IsSought lock.0 cells.now.places self.now.sought }
-        ensures { MatchOption result (length cells.now.places ≤ place_of cells.now.places lock.0 var.0)
-            (λ i. (i ≡ place_of cells.now.places lock.0 var.0) × (i < length cells.now.places)) }
+        ensures { MatchOption result (length cells.now.places ≤ cell_place cells.now.places lock.0 var.0)
+            (λ i. (i ≡ cell_place cells.now.places lock.0 var.0) × (i < length cells.now.places)) }
     {
         if let Some(known) = self.sought {
             if known.var == var.0 {
@@ -94,7 +94,7 @@ impl Lock {
         ensures by { self.new.by ≡ self.old.by }
         ensures grown { HasGrown lock.0 var.0 cells.old cells.new }
         ensures ready { is_ok result
-            ≡ nat_lt (place_of cells.new.places lock.0 var.0) (length cells.new.places) }
+            ≡ nat_lt (cell_place cells.new.places lock.0 var.0) (length cells.new.places) }
     {
         if let Some(known) = self.sought {
             if known.var == var.0 {
@@ -124,12 +124,13 @@ impl Lock {
         kind: AccessKind,
     )
         requires kept { IsKept lock.0 cells.old self.old }
-        requires ready { place_of cells.old.places lock.0 var.0 < length cells.old.places }
+        requires ready { cell_place cells.old.places lock.0 var.0 < length cells.old.places }
         ensures kept { IsKept lock.0 cells.new self.new }
         ensures by { self.new.by ≡ thread.0 }
         ensures places { cells.new.places ≡ cells.old.places }
         ensures exact { (i : ℕ) → cell_at cells.new.cells i
-            ≡ marked_as (nat_eq i (place_of cells.old.places lock.0 var.0)) kind (cell_at cells.old.cells i) }
+            ≡ marked_as (nat_eq i (cell_place cells.old.places lock.0 var.0)) kind
+                (cell_at cells.old.cells i) }
     {
         self.by = thread;
         if let Some(at) = self.find(cells, lock, var) {

@@ -10,7 +10,7 @@ ghost use Rattle.event_core.specs.Closed.{EndsSection, ended};
 ghost use Rattle.section_sum.specs.Sums.{noted_of, others_of, sources_of, is_access, IsReady, IsAlone};
 ghost use Rattle.section_sum.specs.Sums.{SameNoted, SameOthers, KeepsReady, GrownFor};
 ghost use Rattle.section_sum.specs.Sources.{left, most_sources};
-ghost use Rattle.section_sum.specs.Standing.{StandsFor, IsAccess, AreHeld};
+ghost use Rattle.section_sum.specs.Standing.{StandsFor, IsAccessBy, AreHeld};
 ghost use Rattle.section_sum.specs.Paired.{AreSources};
 
 use crate::cells::Cells;
@@ -102,7 +102,7 @@ impl Summaries {
             ≡ (noted_of self.old t l v k || is_access thread.0 held.now var.0 kind t l v k) }
         ensures others { SameOthers self.old self.new }
         ensures stands { (limits : Limits) (log : List Event) (e : Event) → WellFormed limits (log ++ e ∷ [])
-            → IsAccess thread var kind e → AreHeld log thread held.now
+            → IsAccessBy thread var kind e → AreHeld log thread held.now
             → StandsFor log self.old → StandsFor (log ++ e ∷ []) self.new }
         ensures kept { KeepsReady self.old self.new }
     {
@@ -132,7 +132,7 @@ impl Summaries {
     pub fn sources(&self, thread: ThreadId, lock: LockId, var: VarId, kind: AccessKind) -> Sources
         ensures exact { left result ≡ sources_of self.now lock.0 var.0 kind thread.0 }
         ensures at_most { length (left result) ≤ most_sources kind }
-        ensures paired { (log : List Event) (e : Event) → IsAccess thread var kind e
+        ensures paired { (log : List Event) (e : Event) → IsAccessBy thread var kind e
             → 0 < depth log thread lock → StandsFor log self.now → AreSources log e lock (left result) }
     {
         sources_under(&self.cells, &self.locks, thread, lock, var, kind)

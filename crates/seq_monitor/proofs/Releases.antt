@@ -20,7 +20,7 @@ use Rattle.event_core.proofs.RunFacts.{allowed_legal}
 use Rattle.event_core.proofs.Holds.{depths_are_open, split_count}
 use Rattle.traced_mem.proofs.Allowed.{holder_here}
 use Rattle.traced_mem.proofs.Depths.{depth_if_held}
-use Rattle.access_check.specs.Tables.{Tables}
+use Rattle.access_check.specs.Tables.{AccessTables}
 use Rattle.access_check.specs.Standing.{StandsFor}
 
 reasons : (m : Limits) (log : List Event) (c : Call) (l : LockId) → refusal m log c ≡ None → c.op ≡ Release l
@@ -74,7 +74,7 @@ holder_has_events log u l held =
     each false b = refl
 
 -- so its events are counted
-pub release_counted : (m : Limits) (log : List Event) (c : Call) (l : LockId) (t : Tables)
+pub release_counted : (m : Limits) (log : List Event) (c : Call) (l : LockId) (t : AccessTables)
     → refusal m log c ≡ None → c.op ≡ Release l → StandsFor log t → c.thread.0 < length t.counts
 release_counted m log c l t allowed is stands = elim (cases_lt c.thread.0 (length t.counts)) [
   | inl less ↦ less

@@ -28,7 +28,7 @@ use Rattle.traced_mem.specs.Meaning.{Meaning}
 use Rattle.traced_mem.specs.Refusals.{refusal_at, reasons_at}
 use Rattle.traced_mem.specs.After.{after, holds_after}
 use Rattle.traced_mem.specs.Standing.{StandsFor}
-use Rattle.traced_mem.specs.Tables.{meaning, Allows, Tables as MemoryTables}
+use Rattle.traced_mem.specs.Tables.{meaning, Allows, MemoryTables}
 use Rattle.access_check.specs.Tables.{count_at, IsReady as AccessHasRoom}
 use Rattle.access_check.specs.Standing.{StandsFor as AccessesStand}
 use Rattle.hb_clocks.specs.Standing.{IsHeldRelease}

@@ -11,7 +11,7 @@ use Rattle.event_core.specs.Refusal.{refusal}
 use Rattle.rapid_text.specs.declared.causes.Cause.{Cause}
 use Rattle.rapid_text.specs.declared.causes.TextFault.{TextFault}
 use Rattle.rapid_text.specs.Tables.{TablesGrow}
-use Rattle.rapid_text.specs.Taking.{AreUnended, Advances, place_of}
+use Rattle.rapid_text.specs.Taking.{AreUnended, Advances, cutter_place}
 use Rattle.rapid_text.specs.Events.{IsOfNames}
 use Rattle.rapid_text.specs.Cutting.{Cutting, judged, Pushes, FailsAt}
 use Rattle.rapid_text.specs.Texts.{Judgement}
@@ -50,7 +50,7 @@ pub takes_rest : (A : Limits → List Event → Type 0) {s t : Cutting} {piece :
     → Takes A A s piece [] t
 takes_rest A {s = s} {t = t} {piece = piece} {used = used} {o = o} p few is grows = record {
   live = p.live.1;
-  advances = subst (λ (rest : List ℕ). Advances (place_of s) piece rest (place_of t))
+  advances = subst (λ (rest : List ℕ). Advances (cutter_place s) piece rest (cutter_place t))
       (ap (λ (n : ℕ). drop n piece) (p.all_used is) ∙ drop-length piece)
       (push_advances s t piece used o p few);
   goes_on = λ m log a. record {

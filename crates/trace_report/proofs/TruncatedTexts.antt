@@ -14,7 +14,7 @@ use Rattle.rapid_text.specs.Cutting.{Cutting, begun, judged}
 use Rattle.rapid_text.specs.Events.{reading}
 use Rattle.rapid_text.specs.Tables.{Tables}
 use Rattle.rapid_text.specs.Feeding.{Pulled}
-use Rattle.rapid_text.specs.Taking.{Advances, place_of}
+use Rattle.rapid_text.specs.Taking.{Advances, cutter_place}
 use Rattle.rapid_text.specs.Texts.{after_line, judge, lines_of}
 use Rattle.trace_report.specs.declared.faults.TraceFault.{TraceFault}
 use Rattle.trace_report.specs.declared.faults.TraceFault.TheVariants.{Text}
@@ -65,8 +65,8 @@ truncated_text {m} {left = left} {rest = rest} {turns = turns} {failed = failed}
     record {
       line = t.unfinished;
       at = refl;
-      stops = stops_short left rest turns failed (place_of t) _ p.bytes p.came p.so.1
-          (subst (λ (c : Cutting). Advances (place_of c) p.bytes [] (place_of t)) is takes.advances)
+      stops = stops_short left rest turns failed (cutter_place t) _ p.bytes p.came p.so.1
+          (subst (λ (c : Cutting). Advances (cutter_place c) p.bytes [] (cutter_place t)) is takes.advances)
           (λ more. subst (λ (found : Result Trace TraceFault). IsFrom t.unfinished found)
           (sym (ap (λ (c : Cutting). finding_after m [] (judged c (p.bytes ++ more))) (sym is)
           ∙ on.same more))

@@ -33,7 +33,7 @@ use Rattle.rapid_text.specs.declared.causes.Cause.{Cause}
 use Rattle.rapid_text.specs.declared.causes.Cause.TheVariants as causes
 use Rattle.rapid_text.specs.Cutting.{Cutting, judged, most}
 use Rattle.rapid_text.specs.Tables.{Tables, no_names}
-use Rattle.rapid_text.specs.Taking.{Advances, StopsShort, place_of}
+use Rattle.rapid_text.specs.Taking.{Advances, StopsShort, cutter_place}
 use Rattle.rapid_text.specs.Texts.{Judgement, judgement}
 use Rattle.rapid_text.specs.Turns.{WithinTurns}
 use Rattle.trace_report.specs.declared.faults.ReplayFault.{ReplayFault}
@@ -89,7 +89,7 @@ pub record GoesOn (m : Limits) (After : List Event → Type 0) (old : Cutting) (
 pub record Takes (Before After : Limits → List Event → Type 0) (old : Cutting) (bytes rest : List ℕ)
     (new : Cutting) : Type 0 where
   pub live : new.failed ≡ None
-  pub advances : Advances (place_of old) bytes rest (place_of new)
+  pub advances : Advances (cutter_place old) bytes rest (cutter_place new)
   pub goes_on : (m : Limits) (log : List Event) → Before m log → GoesOn m (After m) old log bytes rest new
 
 -- the text stops with this fault, whatever follows the bytes

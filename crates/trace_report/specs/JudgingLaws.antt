@@ -6,7 +6,7 @@ use Rattle.std.specs.Prelude.{IsSomeAnd}
 use Rattle.event_core.specs.declared.bounds.Limits.{Limits}
 use Rattle.event_core.specs.declared.events.Event.{Event}
 use Rattle.rapid_text.specs.Cutting.{Cutting, judged, most}
-use Rattle.rapid_text.specs.Taking.{place_of}
+use Rattle.rapid_text.specs.Taking.{cutter_place}
 use Rattle.rapid_text.specs.TakingLaws.{advances_none, advances_more, advances_before}
 use Rattle.trace_report.specs.declared.faults.TraceFault.{TraceFault}
 use Rattle.trace_report.specs.Findings.{finding_after, IsReached}
@@ -16,7 +16,7 @@ pub takes_none : (A : Limits → List Event → Type 0) (s : Cutting) (bytes : L
     → Takes A A s bytes bytes s
 takes_none A s bytes live = record {
   live = live;
-  advances = advances_none (place_of s) bytes;
+  advances = advances_none (cutter_place s) bytes;
   goes_on = λ m log a.
       record { longer = log; after = a; named = λ h. h; same = λ more. refl; reached = λ more f h. h };
 }
@@ -25,7 +25,8 @@ pub takes_more : {A B C : Limits → List Event → Type 0} {s t u : Cutting} {b
     → Takes A B s bytes rest t → Takes B C t rest left u → Takes A C s bytes left u
 takes_more {s = s} {t = t} {u = u} {bytes = bytes} {rest = rest} {left = left} p q = record {
   live = q.live;
-  advances = advances_more (place_of s) (place_of t) (place_of u) bytes rest left p.advances q.advances;
+  advances = advances_more (cutter_place s) (cutter_place t)
+      (cutter_place u) bytes rest left p.advances q.advances;
   goes_on = λ m log a.
       let front = p.goes_on m log a in
       let back = q.goes_on m front.longer front.after in
@@ -43,7 +44,7 @@ pub fed_before : {A B : Limits → List Event → Type 0} {s t : Cutting} {front
     → Takes A B s front [] t → Takes A B s (front ++ rest) rest t
 fed_before {s = s} {t = t} {front = front} rest p = record {
   live = p.live;
-  advances = advances_before (place_of s) (place_of t) front rest p.advances;
+  advances = advances_before (cutter_place s) (cutter_place t) front rest p.advances;
   goes_on = λ m log a.
       let on = p.goes_on m log a in
       record {

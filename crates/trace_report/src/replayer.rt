@@ -2,7 +2,7 @@
 ghost use Rattle.std.specs.Prelude.{◌≡◌, ◌≢◌, ◌⊎◌, ℕ, ◌+◌, ◌↔◌, ◌++◌, [], List, length, Err, None, Some};
 ghost use Rattle.std.specs.Prelude.{true, false, IfOk, IfErr, IfSome, IsTrue, ◌<◌};
 ghost use Rattle.rapid_text.specs.Cutting.{most};
-ghost use Rattle.rapid_text.specs.Taking.{Advances, place_of};
+ghost use Rattle.rapid_text.specs.Taking.{Advances, cutter_place};
 ghost use Rattle.rapid_text.specs.declared.causes.Cause.TheVariants.{Read};
 ghost use Rattle.trace_report.specs.Replayed.{fault_gives_up, answer_gives_up, IfFound, Told};
 ghost use Rattle.trace_report.specs.Replaying.{unfed, after, ReachesIn};
@@ -67,7 +67,7 @@ impl Replayer {
         ensures memory { self.old.fault ≡ None → IfSome self.new.fault (λ f. RanOut f
             → (more : List ℕ) → ReachesIn self.old (piece.now ++ more) f) }
         ensures advances { self.new.fault ≡ None
-            → Advances (place_of self.old.text) piece.now [] (place_of self.new.text) }
+            → Advances (cutter_place self.old.text) piece.now [] (cutter_place self.new.text) }
     {
         self.text.feed_piece(piece)
     }

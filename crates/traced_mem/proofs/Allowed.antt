@@ -19,7 +19,8 @@ use Rattle.traced_mem.specs.declared.rows.LockRow.{LockRow}
 use Rattle.traced_mem.specs.Meaning.{Meaning}
 use Rattle.traced_mem.specs.Refusals.{refusal_at, reasons_at, held_at, not_holder_at, log_full_at}
 use Rattle.traced_mem.specs.After.{holds_after}
-use Rattle.traced_mem.specs.Tables.{Tables, AreTables, Allows, lock_of, lock_at, blank_lock, total, meaning}
+use Rattle.traced_mem.specs.Tables.{MemoryTables, AreTables, Allows, lock_of, lock_at}
+use Rattle.traced_mem.specs.Tables.{blank_lock, total, meaning}
 use Rattle.traced_mem.specs.Room.{DepthFits, HoldsFit, IsReady}
 
 pub record Allowed (k : Limits) (m : Meaning) (u : ThreadId) (o : Op) : Type 0 where
@@ -78,12 +79,12 @@ held_within locks l d = elim (cases_lt l (length locks)) [
 ]
 
 -- what a step needs, of tables that are given by their fields
-pub record StepFits (t : Tables) (o : Op) : Type 0 where
+pub record StepFits (t : MemoryTables) (o : Op) : Type 0 where
   pub depth : DepthFits t.locks o
   pub fits_holds : HoldsFit t.holds o
   pub kept : t.length + 1 + holds_after o t.holds ≤ t.limits.events
 
-pub fits_inside : {t s : Tables} (u : ThreadId) (o : Op) → t ≡ s
+pub fits_inside : {t s : MemoryTables} (u : ThreadId) (o : Op) → t ≡ s
     → AreTables t.limits t.length t.holds t.threads t.locks → t.limits.events ≤ 4294967296
     → Allows s u o → StepFits t o
 fits_inside {t = t} u o same inv small h = record {
@@ -94,7 +95,7 @@ fits_inside {t = t} u o same inv small h = record {
 }
   where
     a : Allowed t.limits (meaning t) u o
-    a = allowed t.limits (meaning t) u o (subst (λ (x : Tables). Allows x u o) (sym same) h)
+    a = allowed t.limits (meaning t) u o (subst (λ (x : MemoryTables). Allows x u o) (sym same) h)
 
     deep : (l : LockId) → not_holder_at (meaning t) u (Release l) ≡ None → 0 < (lock_at t.locks l.0).depth
     deep l n = (holder_of (lock_at t.locks l.0) u (release_holder (meaning t) u l n)).0
@@ -114,14 +115,14 @@ fits_inside {t = t} u o same inv small h = record {
     holds_fit _ a = tt
 
 -- a release that is allowed has room
-pub release_room : (t s : Tables) (u : ThreadId) (o : Op) (l : LockId) → t ≡ s
+pub release_room : (t s : MemoryTables) (u : ThreadId) (o : Op) (l : LockId) → t ≡ s
     → AreTables t.limits t.length t.holds t.threads t.locks → o ≡ Release l → Allows s u o → IsReady s u o
 release_room t s u o l same inv e h =
-    let a = allowed t.limits (meaning t) u o (subst (λ (x : Tables). Allows x u o) (sym same) h) in
+    let a = allowed t.limits (meaning t) u o (subst (λ (x : MemoryTables). Allows x u o) (sym same) h) in
     let n : not_holder_at (meaning t) u (Release l) ≡ None
     = subst (λ p. not_holder_at (meaning t) u p ≡ None) e a.holds in
     let p = holder_of (lock_at t.locks l.0) u (release_holder (meaning t) u l n) in
-    subst (λ (x : Tables). IsReady x u o) same (subst (IsReady t u) (sym e) (record {
+    subst (λ (x : MemoryTables). IsReady x u o) same (subst (IsReady t u) (sym e) (record {
       caller = subst (λ (v : ThreadId). v.0 < length t.threads) p.1 (inv.held l.0 p.0);
       room = held_within t.locks l.0 p.0;
     }))

@@ -7,7 +7,7 @@ use Rattle.event_core.specs.declared.events.Op.{Op}
 use Rattle.event_core.specs.declared.events.Op.TheVariants.{Load, Acquire}
 use Rattle.traced_mem.specs.declared.rows.LockRow.{LockRow}
 use Rattle.traced_mem.specs.Meaning.{Thread}
-use Rattle.traced_mem.specs.Tables.{Tables, lock_at, HeldBelow, thread_at}
+use Rattle.traced_mem.specs.Tables.{MemoryTables, lock_at, HeldBelow, thread_at}
 use Rattle.traced_mem.specs.Room.{HasRoom, IsReady, Grown}
 
 pub grown_none : (xs : List ThreadRow) → Grown xs xs
@@ -29,8 +29,8 @@ below_grown {n = n} old new le same h l d =
     let e : (lock_at new l).by.0 ≡ (lock_at old l).by.0 = ap (λ (x : LockRow). x.by.0) here in
     omega arith
 
-pub ready_grown : {old new : Tables} → Grown old.threads new.threads → length old.locks ≤ length new.locks
-    → old.room ≤ new.room
+pub ready_grown : {old new : MemoryTables} → Grown old.threads new.threads
+    → length old.locks ≤ length new.locks → old.room ≤ new.room
     → (u : ThreadId) (o : Op) → IsReady old u o → IsReady new u o
 ready_grown {old = old} {new = new} g ls cs u o r =
     record { caller = (let a = r.caller in omega arith); room = room o r.room }

@@ -15,7 +15,7 @@ use Rattle.traced_mem.specs.declared.rows.LockRow.{LockRow}
 use Rattle.traced_mem.specs.Meaning.{Thread, Lock}
 use Rattle.traced_mem.specs.After.{updated, mentioned_again, now_forked, now_joined, gains, loses, without}
 use Rattle.traced_mem.specs.After.{without_at, threads_after}
-use Rattle.traced_mem.specs.Tables.{Tables, thread_at, threads_of}
+use Rattle.traced_mem.specs.Tables.{MemoryTables, thread_at, threads_of}
 use Rattle.traced_mem.specs.Room.{IsReady, HasRoom, takes_place}
 use Rattle.traced_mem.proofs.Updates.{updated_same, updated_other}
 
@@ -81,7 +81,7 @@ pub threads_by : (u : ThreadId) (locks : ℕ → Lock) {p o : Op} {before now th
 threads_by u locks is by was = by ∙ (λ i. threads_after u (sym is i) locks (was i))
 
 -- what stays ready over a step
-pub still_ready : {old new : Tables} (locks : ℕ → Lock) (c : ThreadId) (p : Op) (u : ThreadId) (o : Op)
+pub still_ready : {old new : MemoryTables} (locks : ℕ → Lock) (c : ThreadId) (p : Op) (u : ThreadId) (o : Op)
     → takes_place c p u o ≡ false
     → length new.threads ≡ length old.threads → length new.locks ≡ length old.locks
     → new.room ≡ old.room
@@ -112,6 +112,6 @@ still_ready {old = old} {new = new} locks c p u o free ts ls cs caps rows r =
     room _ free h = omega arith
 
 -- tables of which two are lent
-pub lent_whole : {t s : Tables} {threads : List ThreadRow} {locks : List LockRow} → t ≡ s
+pub lent_whole : {t s : MemoryTables} {threads : List ThreadRow} {locks : List LockRow} → t ≡ s
     → threads ≡ t.threads → locks ≡ t.locks → record t { threads = threads; locks = locks } ≡ s
 lent_whole {t = t} same a b = (λ i. record t { threads = a i; locks = b i }) ∙ same

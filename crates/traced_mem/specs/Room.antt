@@ -6,7 +6,7 @@ use Rattle.event_core.specs.declared.events.Op.{Op}
 use Rattle.event_core.specs.declared.events.Op.TheVariants.{Load, Store, Acquire, Release, Fork, Join}
 use Rattle.traced_mem.specs.declared.rows.ThreadRow.{ThreadRow}
 use Rattle.traced_mem.specs.declared.rows.LockRow.{LockRow}
-use Rattle.traced_mem.specs.Tables.{Tables, thread_at, lock_at, threads_of}
+use Rattle.traced_mem.specs.Tables.{MemoryTables, thread_at, lock_at, threads_of}
 
 -- there are rows for what the operation names, or memory for its cell, and place for a lock that is acquired
 abbrev pub HasRoom : List ThreadRow → ℕ → ℕ → ThreadId → Op → Type 0
@@ -18,7 +18,7 @@ HasRoom threads locks cells u (Fork v) = v.0 < length threads
 HasRoom threads locks cells u (Join v) = v.0 < length threads
 
 -- there is room for the thread's operation
-pub record IsReady (t : Tables) (u : ThreadId) (o : Op) : Type 0 where
+pub record IsReady (t : MemoryTables) (u : ThreadId) (o : Op) : Type 0 where
   pub caller : u.0 < length t.threads
   pub room : HasRoom t.threads (length t.locks) t.room u o
 
@@ -54,7 +54,7 @@ HeldFor old new u o = (v : ℕ) → (thread_at new v).held.capacity
 
 -- no table has grown beyond the numbers that the operation names, and none has memory for more than twice as
 -- many, or had it before
-pub record GrownFor (old new : Tables) (u : ThreadId) (o : Op) : Type 0 where
+pub record GrownFor (old new : MemoryTables) (u : ThreadId) (o : Op) : Type 0 where
   pub threads : length new.threads ≤ max (length old.threads) (threads_for u o)
   pub locks : length new.locks ≤ max (length old.locks) (locks_for o)
   pub cells : length new.cells ≤ max (length old.cells) (cells_for o)

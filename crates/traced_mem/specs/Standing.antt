@@ -12,7 +12,7 @@ use Rattle.event_core.specs.Refusal.{forks, joins, mentions, holder, lock_depth,
 use Rattle.event_core.specs.Refusal.{lock_at, WellFormed}
 use Rattle.traced_mem.specs.Meaning.{Meaning}
 use Rattle.traced_mem.specs.After.{without}
-use Rattle.traced_mem.specs.Tables.{Tables, meaning}
+use Rattle.traced_mem.specs.Tables.{MemoryTables, meaning}
 
 abbrev pub thread_id : ℕ → ThreadId
 thread_id n = record { 0 = n }
@@ -52,6 +52,6 @@ meaning_of log = record {
 }
 
 -- the memory is as after the log, which is well formed under its limits
-pub record StandsFor (log : List Event) (t : Tables) : Type 0 where
+pub record StandsFor (log : List Event) (t : MemoryTables) : Type 0 where
   pub well_formed : WellFormed t.limits log
   pub means : meaning t ≡ meaning_of log

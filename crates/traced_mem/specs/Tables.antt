@@ -11,7 +11,7 @@ use Rattle.traced_mem.specs.declared.rows.LockRow.{LockRow}
 use Rattle.traced_mem.specs.Meaning.{Meaning, Thread, Lock}
 use Rattle.traced_mem.specs.Refusals.{refusal_at, swap_refusal_at}
 
-pub record Tables : Type 0 where
+pub record MemoryTables : Type 0 where
   pub limits : Limits
   pub length : ℕ
   pub holds : ℕ
@@ -58,7 +58,7 @@ locks_of rows l = lock_of (lock_at rows l)
 abbrev pub cells_of : List ℕ → ℕ → ℕ
 cells_of rows x = slice_index rows x
 
-abbrev pub meaning : Tables → Meaning
+abbrev pub meaning : MemoryTables → Meaning
 meaning t = record {
   length = t.length;
   holds = t.holds;
@@ -68,11 +68,11 @@ meaning t = record {
 }
 
 -- the thread is not refused the operation
-abbrev pub Allows : Tables → ThreadId → Op → Type 0
+abbrev pub Allows : MemoryTables → ThreadId → Op → Type 0
 Allows t u o = refusal_at t.limits (meaning t) u o ≡ None
 
 -- the thread is not refused a swap of the variable
-abbrev pub AllowsSwap : Tables → ThreadId → VarId → Type 0
+abbrev pub AllowsSwap : MemoryTables → ThreadId → VarId → Type 0
 AllowsSwap t u x = swap_refusal_at t.limits (meaning t) u x ≡ None
 
 -- how often all locks together are held

@@ -52,9 +52,9 @@ impl Drop for Memory {
 
 impl Model for Memory {
     ghost use Rattle.std.specs.Prelude.{vec_capacity};
-    ghost use Rattle.traced_mem.specs.Tables.{Tables, AreTables};
+    ghost use Rattle.traced_mem.specs.Tables.{MemoryTables, AreTables};
 
-    ghost Value = { Tables };
+    ghost Value = { MemoryTables };
 
     ghost view = { λ a. record {
       limits = a.limits;

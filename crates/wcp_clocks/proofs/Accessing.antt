@@ -28,8 +28,8 @@ use Rattle.wcp_clocks.proofs.Passing.{joins_told}
 use Rattle.wcp_clocks.proofs.EffectWords.{same_sources, same_noted, same_clocks, same_numbers}
 
 -- what was ready stays so
-access_keeps : (old : Parts) (rows : StrictTables) (tables : hb_tables.Tables) (sums : Sums) (work : Done)
-    → hb_tables.KeepsRoom old.hb tables → SameRoom old.rows rows → sum_rooms old.sums sums
+access_keeps : (old : Parts) (rows : StrictTables) (tables : hb_tables.ClockTables) (sums : Sums)
+    (work : Done) → hb_tables.KeepsRoom old.hb tables → SameRoom old.rows rows → sum_rooms old.sums sums
     → KeepsReady old (record {
       hb = tables;
       rows = rows;
@@ -57,7 +57,7 @@ module _ (e : Event) (x : VarId) (k : AccessKind) (old : Parts)
   abbrev t : ℕ
   t = e.thread.0
 
-  pub access_step : (locks : List LockId) (taken : StrictTables) (tables : hb_tables.Tables)
+  pub access_step : (locks : List LockId) (taken : StrictTables) (tables : hb_tables.ClockTables)
       (sums : Sums)
       (joined work : Done) → locks ≡ (list_at old.held t).locks
       → (strict_of taken).thread ≡ with_row t

@@ -45,7 +45,7 @@ pub held_same : (held : List HeldList) → HoldsHaveGrown held held
 held_same held = record { same = refl; room = λ t r. r }
 
 -- the clocks of happens-before have grown, and the strict ones stay
-pub order_grown : (old new : hb.Tables) (rows : StrictTables) → hb.state_of new ≡ hb.state_of old
+pub order_grown : (old new : hb.ClockTables) (rows : StrictTables) → hb.state_of new ≡ hb.state_of old
     → new.width ≡ old.width → hb.KeepsRoom old new → ClocksHaveGrown old new rows rows
 order_grown old new rows same width kept = record {
   order = same;
@@ -56,11 +56,11 @@ order_grown old new rows same width kept = record {
   ordered = ordered_more rows old new kept;
 }
 
-pub clocks_same : (order : hb.Tables) (rows : StrictTables) → ClocksHaveGrown order order rows rows
+pub clocks_same : (order : hb.ClockTables) (rows : StrictTables) → ClocksHaveGrown order order rows rows
 clocks_same order rows = order_grown order order rows refl refl (λ t op r. r)
 
 -- and then the strict ones have grown too, for an operation for which the others have room
-pub rows_grown : {old new : hb.Tables} {was is : StrictTables} (t : ThreadId) (op : Op)
+pub rows_grown : {old new : hb.ClockTables} {was is : StrictTables} (t : ThreadId) (op : Op)
     → ClocksHaveGrown old new was was → SameClocks was is → KeepsRoom was is → hb.IsReady new t op
     → GrownFor was is t op → ClocksHaveGrown old new was is
 rows_grown {new = new} {was = was} {is = is} t op g same kept ready grown = record {
@@ -73,7 +73,7 @@ rows_grown {new = new} {was = was} {is = is} t op g same kept ready grown = reco
 }
 
 -- parts that have grown each
-pub all_grown : {order more : hb.Tables} {was is : StrictTables} {s t : Sums} {q r : Queues}
+pub all_grown : {order more : hb.ClockTables} {was is : StrictTables} {s t : Sums} {q r : Queues}
     {h g : List HeldList} {work : Done} → ClocksHaveGrown order more was is → SumsHaveGrown s t
     → QueuesHaveGrown q r → HoldsHaveGrown h g
     → HasGrown (parts_of order was s q h work) (parts_of more is t r g work)

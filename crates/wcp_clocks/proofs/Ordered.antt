@@ -13,15 +13,15 @@ use Rattle.wcp_clocks.specs.StrictRows.{StrictTables, HasThread, HasLock, HasNam
 use Rattle.wcp_clocks.specs.StrictRows.{IsReady as RowsAreReady}
 
 -- more room in the clocks of happens-before
-pub ordered_more : (rows : StrictTables) (old new : hb.Tables) → hb.KeepsRoom old new → AreOrdered rows old
-    → AreOrdered rows new
+pub ordered_more : (rows : StrictTables) (old new : hb.ClockTables) → hb.KeepsRoom old new
+    → AreOrdered rows old → AreOrdered rows new
 ordered_more rows old new keeps o = record {
   thread = λ t has. thread_stays old new t keeps (o.thread t has);
   lock = λ l has. (let r = o.lock l has in (r.0, keeps r.0 (Release l) r.1));
 }
 
 -- no other strict clocks
-pub ordered_same : (old new : StrictTables) (order : hb.Tables)
+pub ordered_same : (old new : StrictTables) (order : hb.ClockTables)
     → ((t : ℕ) → HasThread new t → HasThread old t) → ((l : ℕ) → HasLock new l → HasLock old l)
     → AreOrdered old order → AreOrdered new order
 ordered_same old new order threads locks o = record {
@@ -54,7 +54,7 @@ lock_of (Release m) l = cases_eq l m.0
 lock_of _ l = inr (λ named. named)
 
 -- what is named has its clocks of happens-before where the operation is ready in them
-thread_ready : (order : hb.Tables) (t : ThreadId) (op : Op) (u : ℕ) → hb.IsReady order t op
+thread_ready : (order : hb.ClockTables) (t : ThreadId) (op : Op) (u : ℕ) → hb.IsReady order t op
     → hb.IsThreadFor t op u → hb.HasThread order.width order.po order.hb u
 thread_ready order t op u ready (inl q) =
     subst (hb.HasThread order.width order.po order.hb) (sym q) ready.thread
@@ -64,7 +64,7 @@ thread_ready order t (Join v) u ready (inr q) =
     subst (hb.HasThread order.width order.po order.hb) (sym q) ready.clocks
 thread_ready order t _ u ready (inr q) = absurd q
 
-lock_ready : (order : hb.Tables) (t : ThreadId) (op : Op) (l : LockId) → hb.IsReady order t op
+lock_ready : (order : hb.ClockTables) (t : ThreadId) (op : Op) (l : LockId) → hb.IsReady order t op
     → hb.IsLockOf op l.0 → hb.IsReady order t (Release l)
 lock_ready order t (Acquire m) l ready q = record {
   thread = ready.thread;
@@ -79,7 +79,7 @@ lock_ready order t (Release m) l ready q = record {
 lock_ready order t _ l ready q = absurd q
 
 -- so strict clocks may be made for such an operation
-pub ordered_grown : (old new : StrictTables) (order : hb.Tables) (t : ThreadId) (op : Op)
+pub ordered_grown : (old new : StrictTables) (order : hb.ClockTables) (t : ThreadId) (op : Op)
     → hb.IsReady order t op → GrownFor old new t op → AreOrdered old order → AreOrdered new order
 ordered_grown old new order t op ready grown o = record {
   thread = λ u has. thread u has (thread_for t op u.0);
@@ -98,8 +98,8 @@ ordered_grown old new order t op ready grown o = record {
     lock l has (inr away) = o.lock l (grown.lock l.0 away has)
 
 -- there is room in the clocks of happens-before where there are strict clocks
-pub order_ready : (rows : StrictTables) (order : hb.Tables) (t : ThreadId) (op : Op) → AreOrdered rows order
-    → RowsAreReady rows t op → hb.IsReady order t op
+pub order_ready : (rows : StrictTables) (order : hb.ClockTables) (t : ThreadId) (op : Op)
+    → AreOrdered rows order → RowsAreReady rows t op → hb.IsReady order t op
 order_ready rows order t op o has = go op has.named
   where
     mine : hb.HasThread order.width order.po order.hb t.0

@@ -4,7 +4,7 @@ use Rattle.event_core.specs.declared.ids.ThreadId.{ThreadId}
 use Rattle.event_core.specs.declared.ids.LockId.{LockId}
 use Rattle.event_core.specs.declared.events.Op.{Op}
 use Rattle.event_core.specs.declared.events.Op.TheVariants.{Load, Store, Acquire}
-use Rattle.hb_clocks.specs.Tables.{Tables as Order, state_of as order_of, KeepsRoom as KeepsOrder}
+use Rattle.hb_clocks.specs.Tables.{ClockTables, state_of as order_of, KeepsRoom as KeepsOrder}
 use Rattle.hb_clocks.specs.Tables.{GrownFor as OrderGrownFor}
 use Rattle.section_sum.specs.Sums.{Sums, SameNoted, SameOthers, KeepsReady as KeepsSums, is_held}
 use Rattle.section_sum.specs.Sums.{is_ready as has_cell}
@@ -14,7 +14,7 @@ use Rattle.wcp_clocks.specs.HeldLists.{HeldList, HaveGrownFor, list_at, held_of,
 use Rattle.wcp_clocks.specs.StrictRows.{StrictTables, SameClocks, KeepsRoom, GrownFor as RowsGrownFor}
 
 -- the clocks have as much room as before, or more, and their numbers are as they were
-pub record ClocksHaveGrown (old new : Order) (was is : StrictTables) : Type 0 where
+pub record ClocksHaveGrown (old new : ClockTables) (was is : StrictTables) : Type 0 where
   pub order : order_of new ≡ order_of old
   pub width : new.width ≡ old.width
   pub order_room : KeepsOrder old new

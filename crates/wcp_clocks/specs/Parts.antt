@@ -11,7 +11,7 @@ use Rattle.event_core.specs.Effect.{Effect, Accesses, Opens, Closes, Joins}
 use Rattle.hb_clocks.specs.State.{HbState}
 use Rattle.hb_clocks.specs.Standing.{Admits, IsFew}
 use Rattle.hb_clocks.specs.Tables as hb
-use Rattle.hb_clocks.specs.Tables.{Tables as Order}
+use Rattle.hb_clocks.specs.Tables.{ClockTables}
 use Rattle.hb_clocks.specs.Work.{Done}
 use Rattle.section_sum.specs.Sums.{Sums, noted_of, IsReady as SumsAreReady, IsAlone}
 use Rattle.lock_queues.specs.Sections.{latest_counted}
@@ -27,14 +27,14 @@ use Rattle.wcp_clocks.specs.Whole.{AreWhole, own_of}
 -- the clocks of program order and happens-before, those of the strict relation, what closed sections saw,
 -- who holds what, and the work that was done
 pub record Parts : Type 0 where
-  pub hb : Order
+  pub hb : ClockTables
   pub rows : StrictTables
   pub sums : Sums
   pub queues : Queues
   pub held : List HeldList
   pub work : Done
 
-abbrev pub parts_of : Order → StrictTables → Sums → Queues → List HeldList → Done → Parts
+abbrev pub parts_of : ClockTables → StrictTables → Sums → Queues → List HeldList → Done → Parts
 parts_of order rows sums queues held work = record {
   hb = order;
   rows = rows;
@@ -79,7 +79,7 @@ found_in p = found_of p.queues
 
 -- what has a strict clock has those of happens-before: a thread has both, and a lock is ready for the release
 -- of some thread
-pub record AreOrdered (rows : StrictTables) (order : hb.Tables) : Type 0 where
+pub record AreOrdered (rows : StrictTables) (order : hb.ClockTables) : Type 0 where
   pub thread : (t : ThreadId) → HasThread rows t.0 → hb.HasThread order.width order.po order.hb t.0
   pub lock : (l : LockId) → HasLock rows l.0 → (t : ThreadId) × hb.IsReady order t (Release l)
 

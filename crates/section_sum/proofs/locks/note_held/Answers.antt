@@ -1,7 +1,7 @@
 use Rattle.std.proofs.Common.{rules, length-set, get_or, arith}
 use Rattle.std.proofs.lemmas.Bool.{eq-eqb}
 use Rattle.event_core.specs.declared.ids.LockId.{LockId}
-use Rattle.section_sum.specs.Cells.{place_of}
+use Rattle.section_sum.specs.Cells.{cell_place}
 use Rattle.section_sum.specs.Entries.{entries_of}
 use Rattle.section_sum.proofs.Standing.{own_place}
 use Rattle.section_sum.proofs.Keeping.{marks_changed, kept_other}
@@ -35,7 +35,7 @@ loop-lock-preserved c =
     let here = here_at c.args.thread.0 c.args.var.0 c.args.kind c.args.held.now c.loop-lock.lock-index
     (record { 0 = 0 }) before c.loop-lock-test.true
     c.loop-lock.invariant.kept c.loop-lock.invariant.noted c.requires.ready in
-    let changed = marks_changed l.0 (place_of c.loop-lock.cells.places l.0 c.args.var.0) c.args.kind
+    let changed = marks_changed l.0 (cell_place c.loop-lock.cells.places l.0 c.args.var.0) c.args.kind
     c.loop-lock.cells c.note.new.cells (c.loop-lock.invariant.kept 0).same
     (eq-eqb _ _ (own_place c.loop-lock.cells.places l.0 c.args.var.0 here.place))
     (record {

@@ -4,7 +4,7 @@ use Rattle.std.proofs.Math.Seq.{take-append_seam}
 use Rattle.access_check.specs.declared.variable_accesses.VariableAccesses.{VariableAccesses}
 use Rattle.access_check.specs.LastAccesses.{AreNarrow}
 use Rattle.access_check.specs.VariableAccesses.{kept}
-use Rattle.access_check.specs.Tables.{Tables, IsReadyFor, accesses_at, count_at, touched_after}
+use Rattle.access_check.specs.Tables.{AccessTables, IsReadyFor, accesses_at, count_at, touched_after}
 use Rattle.access_check.proofs.Stepping.{note_stands}
 use Rattle.access_check.proofs.accesses.Accesses.note.Goals as goal
 
@@ -20,7 +20,7 @@ invariant_of-self c =
     let vars = written c.self.inside.vars.len c.note_access.new.vars c.self.inside.vars.items (omega arith) in
     let few : length c.self.inside.counts.items ≤ c.self.inside.limits.threads = c.self.invariant.few in
     let same : length c.self.inside.counts.items ≡ length c.args.self.now.counts
-    = ap (λ (t : Tables). length t.counts) c.self.view_is in
+    = ap (λ (t : AccessTables). length t.counts) c.self.view_is in
     let within : c.args.event.now.thread.0 < length c.args.self.now.counts = c.requires.room.thread in
     rw (counts, vars) (record {
       few = omega arith;
@@ -36,18 +36,18 @@ returns-clause-exact c =
     let counts = written c.self.inside.counts.len c.count_event-position.new.counts c.self.inside.counts.items
     (omega arith) in
     let vars = written c.self.inside.vars.len c.note_access.new.vars c.self.inside.vars.items (omega arith) in
-    let had = c.deref_mut.ensures.value ∙ ap (λ (v : Tables). v.counts) c.self.view_is in
+    let had = c.deref_mut.ensures.value ∙ ap (λ (v : AccessTables). v.counts) c.self.view_is in
     let position = c.count_event-position.ensures.position
     ∙ ap (λ (ns : List ℕ). count_at ns t.0 + 1) had in
     record {
-      limits = ap (λ (v : Tables). v.limits) c.self.view_is;
+      limits = ap (λ (v : AccessTables). v.limits) c.self.view_is;
       counts = λ u. ap (λ (ns : List ℕ). count_at ns u) counts ∙ c.count_event-position.ensures.counts u
           ∙ ap (λ (ns : List ℕ). cond (nat_eq u t.0) (count_at ns u + 1) (count_at ns u)) had;
       accesses = λ x m. ap (λ (vs : List VariableAccesses). kept m (accesses_at vs x)) vars
           ∙ c.note_access.ensures.accesses x m
           ∙ ap₂ (λ (n : ℕ) (vs : List VariableAccesses). touched_after c.args.verdict t c.args.event.now.op
           (record { index = c.args.index; position = n }) x m (accesses_at vs x)) position
-          (c.deref_mut-2.ensures.value ∙ ap (λ (v : Tables). v.vars) c.self.view_is);
+          (c.deref_mut-2.ensures.value ∙ ap (λ (v : AccessTables). v.vars) c.self.view_is);
     }
 
 pub returns-clause-kept : goal.returns-clause-kept
@@ -57,8 +57,8 @@ returns-clause-kept c o room =
     (omega arith) in
     let vars = written c.self.inside.vars.len c.note_access.new.vars c.self.inside.vars.items (omega arith) in
     let had = ap (λ (ns : List ℕ). length ns) c.deref_mut.ensures.value
-    ∙ ap (λ (v : Tables). length v.counts) c.self.view_is in
-    let were = c.deref_mut-2.ensures.value ∙ ap (λ (v : Tables). v.vars) c.self.view_is in
+    ∙ ap (λ (v : AccessTables). length v.counts) c.self.view_is in
+    let were = c.deref_mut-2.ensures.value ∙ ap (λ (v : AccessTables). v.vars) c.self.view_is in
     record {
       thread = subst (λ (ns : List ℕ). t.0 < length ns) (sym counts) (omega (arith, room.thread, had));
       access = subst (λ (vs : List VariableAccesses). IsReadyFor vs t o) (sym vars)

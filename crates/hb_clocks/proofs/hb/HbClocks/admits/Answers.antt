@@ -2,7 +2,7 @@ use Rattle.std.proofs.Common.{◌≡◌, List, sym, ap, subst, ◌∙◌}
 use Rattle.hb_clocks.specs.declared.holds.Hold.{Hold}
 use Rattle.hb_clocks.specs.Holds.{Alone}
 use Rattle.hb_clocks.specs.Standing.{Admits}
-use Rattle.hb_clocks.specs.Tables.{Tables, state_of}
+use Rattle.hb_clocks.specs.Tables.{ClockTables, state_of}
 use Rattle.hb_clocks.proofs.hb.HbClocks.admits.Goals as goal
 
 pub returns-in-Acquire : goal.returns-in-Acquire
@@ -11,7 +11,7 @@ returns-in-Acquire c =
     let l = c.in-Acquire.lock in
     let holds : List Hold = c.args.self.now.holds in
     let same : c.deref.result.now ≡ holds = c.deref.ensures.value
-    ∙ ap (λ (v : Tables). v.holds) c.self.view_is in (
+    ∙ ap (λ (v : ClockTables). v.holds) c.self.view_is in (
       λ is. (let alone : Alone holds t.0 l.0 =
           subst (λ (hs : List Hold). Alone hs t.0 l.0) same (c.may_enter.ensures.0 is) in
           subst (Admits (state_of c.args.self.now) t) (sym c.in-Acquire.is)

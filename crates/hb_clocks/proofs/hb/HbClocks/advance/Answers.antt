@@ -5,7 +5,7 @@ use Rattle.std.specs.Vec.{with_items}
 use Rattle.hb_clocks.specs.declared.holds.Hold.{Hold}
 use Rattle.hb_clocks.specs.Holds.{holds_after}
 use Rattle.hb_clocks.specs.Standing.{StandsFor}
-use Rattle.hb_clocks.specs.Tables.{Tables, state_of, IsReady}
+use Rattle.hb_clocks.specs.Tables.{ClockTables, state_of, IsReady}
 use Rattle.hb_clocks.proofs.MadeRows.{written_widths}
 use Rattle.hb_clocks.proofs.LegalSteps.{step_stands}
 use Rattle.hb_clocks.proofs.TableSteps.{IsStepped, stepped}
@@ -20,7 +20,7 @@ returns-clause-stands c limits log w st =
     (step_stands limits log c.args.event.now (state_of c.args.self.now) w st)
 
 -- the tables as the step finds and as it leaves them
-abbrev found : goal.After-self-4-1 → Tables
+abbrev found : goal.After-self-4-1 → ClockTables
 found c = record {
   width = c.self.inside.width;
   po = c.self.inside.po.items;
@@ -31,8 +31,8 @@ found c = record {
   lock_room = max (vec_capacity c.self.inside.locks) (vec_capacity c.self.inside.holds);
 }
 
-abbrev left : goal.After-self-4-1 → Tables
-left c = let f : Tables = found c in record f {
+abbrev left : goal.After-self-4-1 → ClockTables
+left c = let f : ClockTables = found c in record f {
   po = (with_items c.self.inside.po c.advance_tables.new.po).items;
   hb = (with_items c.self.inside.hb c.advance_tables.new.hb).items;
   lock = (with_items c.self.inside.locks c.advance_tables.new.locks).items;
@@ -61,4 +61,4 @@ invariant_of-self c = (step c).tables
 
 pub returns-clause-kept : goal.returns-clause-kept
 returns-clause-kept c t op ready =
-    (step c).kept t op (subst (λ (v : Tables). IsReady v t op) (sym c.self.view_is) ready)
+    (step c).kept t op (subst (λ (v : ClockTables). IsReady v t op) (sym c.self.view_is) ready)

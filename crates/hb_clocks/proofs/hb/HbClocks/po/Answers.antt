@@ -1,7 +1,7 @@
 use Rattle.std.proofs.Common.{ℕ, ap, sym, subst, ◌∙◌}
 use Rattle.event_core.specs.Order.{Po}
 use Rattle.event_core.specs.Rows.{Counted}
-use Rattle.hb_clocks.specs.Tables.{Tables}
+use Rattle.hb_clocks.specs.Tables.{ClockTables}
 use Rattle.hb_clocks.specs.Rows.{rows_of}
 use Rattle.hb_clocks.proofs.Conditions.{po_latest}
 use Rattle.hb_clocks.proofs.RowsWithin.{wide_by}
@@ -15,7 +15,7 @@ row_or-requires-clause-wide c =
 pub returns-clause-exact : goal.returns-clause-exact
 returns-clause-exact c =
     c.row_or.ensures.counts ∙ ap (λ xs. rows_of xs c.args.thread.0) c.deref.ensures.value
-    ∙ ap (λ (v : Tables). rows_of v.po c.args.thread.0) c.self.view_is
+    ∙ ap (λ (v : ClockTables). rows_of v.po c.args.thread.0) c.self.view_is
 
 pub returns-clause-at : goal.returns-clause-at
 returns-clause-at c u = ap (λ (f : ℕ → ℕ). f u) (returns-clause-exact c)

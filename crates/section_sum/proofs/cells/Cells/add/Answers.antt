@@ -1,6 +1,6 @@
 use Rattle.std.proofs.Common.{rules, ◌≡◌, ◌++◌, ◌∷◌, [], length, sym, ap, ◌∙◌, arith, if◌then◌else◌}
 use Rattle.std.proofs.lemmas.List.{length_push}
-use Rattle.section_sum.specs.Cells.{Stored, place, place_of}
+use Rattle.section_sum.specs.Cells.{Stored, place, cell_place}
 use Rattle.section_sum.proofs.Standing.{absent}
 use Rattle.section_sum.proofs.cells.Cells.add.Goals as goal
 
@@ -9,7 +9,7 @@ invariant_of-self-2 c =
     let keys = c.self.inside.places.keys in
     let new = place c.args.lock.0 c.args.var.0 in
     let none = absent keys c.args.lock.0 c.args.var.0
-    (ap (λ (s : Stored). place_of s.places c.args.lock.0 c.args.var.0) c.self.view_is ∙ c.requires.new
+    (ap (λ (s : Stored). cell_place s.places c.args.lock.0 c.args.var.0) c.self.view_is ∙ c.requires.new
     ∙ sym (ap (λ (s : Stored). length s.places) c.self.view_is)) in
     let grew : c.insert.new.self.keys ≡ keys ++ new ∷ []
     = c.in_ok-insert.ensures.keys ∙ ap (λ b. if b then keys else keys ++ new ∷ []) none in
@@ -26,7 +26,7 @@ returns c =
     let keys = c.self.inside.places.keys in
     let new = place c.args.lock.0 c.args.var.0 in
     let none = absent keys c.args.lock.0 c.args.var.0
-    (ap (λ (s : Stored). place_of s.places c.args.lock.0 c.args.var.0) c.self.view_is ∙ c.requires.new
+    (ap (λ (s : Stored). cell_place s.places c.args.lock.0 c.args.var.0) c.self.view_is ∙ c.requires.new
     ∙ sym (ap (λ (s : Stored). length s.places) c.self.view_is)) in
     let grew : c.insert.new.self.keys ≡ keys ++ new ∷ []
     = c.in_ok-insert.ensures.keys ∙ ap (λ b. if b then keys else keys ++ new ∷ []) none in

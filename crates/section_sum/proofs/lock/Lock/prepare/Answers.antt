@@ -1,5 +1,5 @@
 use Rattle.std.proofs.Common.{rules, ◌≡◌, ◌≤◌, ◌+◌, ◌*◌, length, sym, subst, inr, vec_capacity, Some, arith}
-use Rattle.section_sum.specs.Cells.{Stored, place_of}
+use Rattle.section_sum.specs.Cells.{Stored, cell_place}
 use Rattle.section_sum.specs.LockSums.{LockSum, IsKept}
 use Rattle.section_sum.proofs.Standing.{place_high}
 use Rattle.section_sum.proofs.Keeping.{kept_as, kept_new, has_place}
@@ -11,7 +11,7 @@ add-requires c = record { new = place_high _ _ _ c.in_default-find.ensures }
 pub returns-clause-kept : goal.returns-clause-kept
 returns-clause-kept c =
     let places = c.args.cells.now.places in
-    let none : place_of places c.args.lock.0 c.args.var.0 ≡ length places
+    let none : cell_place places c.args.lock.0 c.args.var.0 ≡ length places
     = place_high _ _ _ c.in_default-find.ensures in
     let kept = subst (λ (k : LockSum). IsKept c.args.lock.0 c.args.cells.now k) (sym c.self.view_is)
     c.requires.kept in

@@ -5,7 +5,7 @@ use Rattle.event_core.proofs.Growth.{well_formed_grown}
 use Rattle.traced_mem.specs.Meaning.{Meaning}
 use Rattle.traced_mem.specs.Refusals.{refusal_at}
 use Rattle.traced_mem.specs.After.{holds_after, after, value_at}
-use Rattle.traced_mem.specs.Tables.{Tables, total, locks_of, threads_of, meaning}
+use Rattle.traced_mem.specs.Tables.{MemoryTables, total, locks_of, threads_of, meaning}
 use Rattle.traced_mem.specs.Room.{HoldsFit, IsReady}
 use Rattle.traced_mem.proofs.AfterLaw.{after_law}
 use Rattle.traced_mem.proofs.Allowed.{fits_inside}
@@ -16,7 +16,7 @@ use Rattle.traced_mem.proofs.memory.Memory.apply.Goals.{in-Load, in-Store, in_de
 
 pub count_holds-holds-requires : goal.count_holds-holds-requires
 count_holds-holds-requires c =
-    subst (λ (s : Tables). HoldsFit s.holds c.args.call.now.op) c.self.view_is
+    subst (λ (s : MemoryTables). HoldsFit s.holds c.args.call.now.op) c.self.view_is
     (fits_inside _ _ c.self.view_is c.self.invariant (omega arith) c.requires.allowed).fits_holds
 
 pub apply_rows-requires-clause-fits : goal.apply_rows-requires-clause-fits
@@ -33,7 +33,7 @@ invariant_of-self c =
     c.apply_rows.ensures.same_locks in
     let holds : c.count_holds-holds.result ≡ holds_after c.args.call.now.op c.self.inside.holds
     = c.count_holds-holds.ensures
-    ∙ ap (λ (s : Tables). holds_after c.args.call.now.op s.holds) (sym c.self.view_is) in
+    ∙ ap (λ (s : MemoryTables). holds_after c.args.call.now.op s.holds) (sym c.self.view_is) in
     rw (threads, locks) (record {
       kept = omega (arith, fits.kept);
       sum = holds
@@ -62,12 +62,12 @@ returns-clause-means c =
     (λ i. record {
       length = c.self.inside.length + 1;
       holds = (c.count_holds-holds.ensures
-          ∙ ap (λ (s : Tables). holds_after call.op s.holds) (sym c.self.view_is)) i;
+          ∙ ap (λ (s : MemoryTables). holds_after call.op s.holds) (sym c.self.view_is)) i;
       thread = (ap threads_of threads ∙ c.apply_rows.ensures.threads) i;
       lock = (ap locks_of locks ∙ c.apply_rows.ensures.locks) i;
       cell = c.apply_rows.ensures.cells i;
     })
-    ∙ ap (λ (s : Tables). after call.thread call.op call.arg (meaning s))
+    ∙ ap (λ (s : MemoryTables). after call.thread call.op call.arg (meaning s))
     (lent_whole c.self.view_is c.deref_mut.ensures.value c.deref_mut-2.ensures.value)
 
 pub returns-clause-kept : goal.returns-clause-kept
@@ -80,7 +80,7 @@ returns-clause-kept c u o free r =
     (still_ready _ c.args.call.now.thread c.args.call.now.op u o free
     c.apply_rows.ensures.same_threads c.apply_rows.ensures.same_locks c.apply_rows.ensures.same_cells
     c.apply_rows.ensures.same_room c.apply_rows.ensures.threads
-    (subst (λ (s : Tables). IsReady s u o)
+    (subst (λ (s : MemoryTables). IsReady s u o)
     (sym (lent_whole c.self.view_is c.deref_mut.ensures.value c.deref_mut-2.ensures.value)) r))
 
 pub returns-clause-last : goal.returns-clause-last
@@ -98,7 +98,7 @@ returns-clause-stands c log s =
     ∙ ap (λ (m : Meaning). refusal_at k m call.thread call.op) (sym s.means) ∙ c.requires.allowed in
     record {
       well_formed = subst (λ (l : Limits). WellFormed l (log ++ event_of log call ∷ []))
-          (ap (λ (t : Tables). t.limits) (sym c.self.view_is))
+          (ap (λ (t : MemoryTables). t.limits) (sym c.self.view_is))
           (well_formed_grown k log (event_of log call) s.well_formed
           (record { call = call; allowed = none; is = refl }));
       means = returns-clause-means c ∙ ap (after call.thread call.op call.arg) s.means

@@ -1,7 +1,7 @@
 use Rattle.std.proofs.Common.{ap, sym, subst, ◌∙◌}
 use Rattle.event_core.specs.declared.bounds.Limits.{Limits}
 use Rattle.event_core.specs.Refusal.{WellFormed}
-use Rattle.traced_mem.specs.Tables.{meaning, cells_of, lock_of, Tables}
+use Rattle.traced_mem.specs.Tables.{meaning, cells_of, lock_of, MemoryTables}
 use Rattle.traced_mem.specs.Room.{IsReady}
 use Rattle.traced_mem.proofs.Growing.{below_grown, ready_grown}
 use Rattle.traced_mem.proofs.memory.Memory.prepare.Goals as goal
@@ -27,11 +27,12 @@ returns-clause-same c =
 pub returns-clause-kept : goal.returns-clause-kept
 returns-clause-kept c u o r =
     ready_grown c.grow.ensures.threads c.grow.ensures.more_locks c.grow.ensures.more_cells u o
-    (subst (λ (s : Tables). IsReady s u o) (sym c.self.view_is) r)
+    (subst (λ (s : MemoryTables). IsReady s u o) (sym c.self.view_is) r)
 
 pub returns-clause-stands : goal.returns-clause-stands
 returns-clause-stands c log s = record {
-  well_formed = subst (λ (k : Limits). WellFormed k log) (ap (λ (t : Tables). t.limits) (sym c.self.view_is))
+  well_formed = subst (λ (k : Limits). WellFormed k log) (ap (λ (t : MemoryTables). t.limits)
+      (sym c.self.view_is))
       s.well_formed;
   means = returns-clause-same c ∙ s.means;
 }

@@ -1,5 +1,5 @@
 use Rattle.std.proofs.Common.{length, ap, arith}
-use Rattle.traced_mem.specs.Tables.{Tables}
+use Rattle.traced_mem.specs.Tables.{MemoryTables}
 use Rattle.traced_mem.proofs.Allowed.{release_room}
 use Rattle.traced_mem.proofs.memory.Memory.ready.Goals as goal
 
@@ -10,7 +10,7 @@ returns-then-thread-len-clause-release c lock e h =
 pub returns-else-thread-len-clause-release : goal.returns-else-thread-len-clause-release
 returns-else-thread-len-clause-release c lock e h =
     let within = (release_room _ _ _ _ lock c.self.view_is c.self.invariant e h).caller in
-    let seen = ap (λ (t : Tables). length t.threads) c.self.view_is in
+    let seen = ap (λ (t : MemoryTables). length t.threads) c.self.view_is in
     let len = c.len.ensures in
     let past = c.if-thread-len.false in
     absurd (omega arith)
