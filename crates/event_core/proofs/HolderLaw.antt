@@ -26,7 +26,7 @@ pub lock_within : (m : Limits) (log : List Event) (u : ThreadId) (l : LockId) �
     → 0 < depth log u l → l.0 < m.locks
 lock_within m log u l w up =
     let o = opener log u l (length log) (omega arith)
-        (subst (λ xs. 0 < depth xs u l) (sym (take-length log)) up) in
+    (subst (λ xs. 0 < depth xs u l) (sym (take-length log)) up) in
     let r = reasons_at m log o.index u (Acquire l) w o.opened.does in
     ltb-true l.0 m.locks (not-false _ (when_none _ TargetRange r.on_table))
 

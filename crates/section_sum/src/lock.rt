@@ -130,7 +130,7 @@ impl Lock {
         ensures places { cells.new.places ≡ cells.old.places }
         ensures exact { (i : ℕ) → cell_at cells.new.cells i
             ≡ marked_as (nat_eq i (cell_place cells.old.places lock.0 var.0)) kind
-                (cell_at cells.old.cells i) }
+            (cell_at cells.old.cells i) }
     {
         self.by = thread;
         if let Some(at) = self.find(cells, lock, var) {

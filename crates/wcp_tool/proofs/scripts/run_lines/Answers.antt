@@ -36,4 +36,4 @@ returns-in-Err-clause-performs g c =
 pub returns-in-Err-clause-truncated : goal.returns-in-Err-clause-truncated
 returns-in-Err-clause-truncated g c h =
     truncates_script _ _ _ _ _ _ c.limits_of-limits.ensures
-        (c.explain_script.ensures.truncated h) c.in-Err.ensures.fault
+    (c.explain_script.ensures.truncated h) c.in-Err.ensures.fault
