@@ -6,8 +6,8 @@ use Rattle.std.specs.List.{list_any, position}
 use Rattle.event_core.specs.declared.ids.ThreadId.{ThreadId}
 use Rattle.access_check.specs.declared.last_accesses.LastAccess.{LastAccess}
 
--- an access of a log that has at most 2^32 events
-pub record IsShort (p : LastAccess) : Type 0 where
+-- an access of a log that has at most 2^32 events, so its numbers fit 32 bits
+pub record IsPackable (p : LastAccess) : Type 0 where
   pub index : p.access.index < 4294967296
   pub some : 0 < p.access.position
   pub position : p.access.position ≤ 4294967296

@@ -150,7 +150,7 @@ impl LastAccesses {
     ghost use Rattle.event_core.specs.declared.ids.ThreadId.{ThreadId as Thread};
     ghost use Rattle.hb_clocks.specs.Counts.{counts_of};
     ghost use Rattle.access_check.specs.LastAccesses.{latest, put, is_ready, no_last_accesses};
-    ghost use Rattle.access_check.specs.LastAccesses.{AreNarrow, IsShort};
+    ghost use Rattle.access_check.specs.LastAccesses.{AreNarrow, IsPackable};
 
     /// There was no access. There is room for one thread.
     pub fn new(alloc: Global) -> LastAccesses
@@ -190,7 +190,7 @@ impl LastAccesses {
     /// The access is its thread's last one. There is room for the thread's next one.
     #[inline(always)]
     pub fn note(&mut self, last: LastAccess)
-        requires short { IsShort last }
+        requires packable { IsPackable last }
         requires room { IsTrue (is_ready last.thread self.old) }
         ensures items { self.new.items ≡ put last self.old.items }
         ensures room { IsTrue (is_ready last.thread self.new) }

@@ -1,6 +1,6 @@
 //! A last access in twelve bytes.
 ghost use Rattle.std.specs.Prelude.{◌≡◌, ◌+◌};
-ghost use Rattle.access_check.specs.LastAccesses.{IsShort};
+ghost use Rattle.access_check.specs.LastAccesses.{IsPackable};
 
 use crate::last_accesses::LastAccess;
 use event_core::ThreadId;
@@ -39,7 +39,7 @@ impl Model for PackedAccess {
 
 impl PackedAccess {
     pub(crate) fn new(last: LastAccess) -> PackedAccess
-        requires { IsShort last }
+        requires { IsPackable last }
         ensures { result ≡ last }
     {
         PackedAccess {

@@ -5,7 +5,7 @@ ghost use Rattle.event_core.specs.declared.ids.ThreadId.{ThreadId as Thread};
 ghost use Rattle.event_core.specs.declared.events.AccessKind.{AccessKind as Kind};
 ghost use Rattle.event_core.specs.declared.events.Op.{Op as Operation};
 ghost use Rattle.hb_clocks.specs.Counts.{counts_of};
-ghost use Rattle.access_check.specs.LastAccesses.{AreNarrow, IsShort};
+ghost use Rattle.access_check.specs.LastAccesses.{AreNarrow, IsPackable};
 ghost use Rattle.access_check.specs.VariableAccesses.{kept, latest_racing, kept_after};
 ghost use Rattle.access_check.specs.Tables.{last_of, count_at, accesses_at, touched_after, verdict_at};
 ghost use Rattle.access_check.specs.Tables.{IsReadyAt, IsReadyFor, LastsAt};
@@ -26,7 +26,7 @@ pub(crate) fn grow_counts(counts: &mut Vec<u64>, threads: usize) -> Result<(), O
     ensures most { length counts.new.items ≤ max (length counts.old.items) threads }
     ensures room { vec_capacity counts.new ≤ max (vec_capacity counts.old) (2 * threads) }
     ensures ok { OnOk result (threads ≤ length counts.new.items) }
-    ensures short { OnErr result (length counts.old.items < threads) }
+    ensures lacks { OnErr result (length counts.old.items < threads) }
 {
     grow_to(counts, threads, || 0)
 }
@@ -98,7 +98,7 @@ fn note_at(
     last: LastAccess,
     verdict: Verdict,
 )
-    requires short { IsShort last }
+    requires packable { IsPackable last }
     requires room { IsReadyAt vars.old last.thread var kind }
     ensures room { (x : ℕ) (k : Kind) → IsReadyAt vars.old last.thread x k
         → IsReadyAt vars.new last.thread x k }
@@ -156,7 +156,7 @@ pub(crate) fn note_access(
     access: Access,
     verdict: Verdict,
 )
-    requires short { IsShort (last_of event.now.thread access) }
+    requires packable { IsPackable (last_of event.now.thread access) }
     requires room { IsReadyFor vars.old event.now.thread event.now.op }
     ensures accesses { (x : ℕ) (k : Kind) → kept k (accesses_at vars.new x)
         ≡ touched_after verdict event.now.thread event.now.op access x k (accesses_at vars.old x) }

@@ -21,7 +21,7 @@ impl VariableAccesses {
     ghost use Rattle.event_core.specs.declared.ids.ThreadId.{ThreadId as Thread};
     ghost use Rattle.event_core.specs.declared.events.AccessKind.{AccessKind as Kind};
     ghost use Rattle.hb_clocks.specs.Counts.{counts_of};
-    ghost use Rattle.access_check.specs.LastAccesses.{is_ready, AreNarrow, IsShort};
+    ghost use Rattle.access_check.specs.LastAccesses.{is_ready, AreNarrow, IsPackable};
     ghost use Rattle.access_check.specs.VariableAccesses.{no_accesses, of_kind, kept, latest_racing};
     ghost use Rattle.access_check.specs.VariableAccesses.{kept_after};
 
@@ -66,7 +66,7 @@ impl VariableAccesses {
     /// accesses are ordered before it, and are forgotten. No room is taken but that of its kind.
     #[inline(always)]
     pub fn note(&mut self, kind: AccessKind, last: LastAccess, verdict: Verdict)
-        requires short { IsShort last }
+        requires packable { IsPackable last }
         requires room { IsTrue (is_ready last.thread (of_kind kind self.old)) }
         ensures accesses { (k : Kind) → kept k self.new ≡ kept_after verdict kind last k self.old }
         ensures room { (k : Kind) → IsTrue (is_ready last.thread (of_kind k self.old))

@@ -9,7 +9,7 @@ use Rattle.rapid_line.proofs.Cuts.{after_last-append, after_last-end, after_last
 use Rattle.rapid_line.proofs.Cuts.{count-Lacks, IsCut-at}
 use Rattle.event_core.specs.declared.events.Event.{Event}
 use Rattle.rapid_text.specs.Cutting.{Cutting, Pushes}
-use Rattle.rapid_text.specs.Taking.{Place, lines_place, cutter_place, start, AreUnended, Advances, StopsShort}
+use Rattle.rapid_text.specs.Taking.{Place, lines_place, cutter_place, start, AreUnended, Advances, Truncates}
 
 -- all these bytes were taken: each LF ended a line, and what follows the last one is kept
 pub record Took (old : Place) (bytes : List ℕ) (new : Place) : Type 0 where
@@ -93,11 +93,11 @@ push_advances s t piece used o p few =
     (take-append-drop used piece) (took_advances (drop used piece) took few)
 
 -- a text of which these bytes came and were taken, where the reading stopped
-pub stops_short : (left rest : Option (List ℕ)) (turns : ℕ) (failed : Bool) (now : Place)
+pub truncates : (left rest : Option (List ℕ)) (turns : ℕ) (failed : Bool) (now : Place)
     (So : List ℕ → Type 0) (came : List ℕ) → Consumes left rest came
     → (failed ≡ true) ⊎ (turns ≤ length came) → Advances start came [] now → So came
-    → StopsShort left rest turns failed now.unfinished So
-stops_short left rest turns failed now So came bytes why took so =
+    → Truncates left rest turns failed now.unfinished So
+truncates left rest turns failed now So came bytes why took so =
     let unended = took.unended (refl, omega arith) in
     let kept : now.kept ≡ after_last 10 came =
     sym (after_last-Lacks 10 now.kept unended.0)

@@ -36,7 +36,7 @@ pub record Advances (old : Place) (bytes rest : List ℕ) (new : Place) : Type 0
 
 -- these bytes came of the text. Then a read failed, or there were as many as turns at least, and line n is
 -- the one whose end was not seen.
-pub record StopsShort (left rest : Option (List ℕ)) (turns : ℕ) (read_failed : Bool) (n : ℕ)
+pub record Truncates (left rest : Option (List ℕ)) (turns : ℕ) (read_failed : Bool) (n : ℕ)
     (So : List ℕ → Type 0) : Type 0 where
   pub came : List ℕ
   pub bytes : Consumes left rest came

@@ -8,7 +8,7 @@ use Rattle.event_core.specs.Bounds.{Bounds}
 use Rattle.rapid_line.specs.Lines.{lines_of}
 use Rattle.rapid_text.specs.Feeding.{Pulled, Whole}
 use Rattle.rapid_text.specs.Taking.{lines_place}
-use Rattle.rapid_text.proofs.Taken.{stops_short}
+use Rattle.rapid_text.proofs.Taken.{truncates}
 use Rattle.script_text.specs.declared.causes.ScriptCause.{ScriptCause}
 use Rattle.script_text.specs.declared.causes.ScriptCause.TheVariants as causes
 use Rattle.script_text.specs.declared.causes.ScriptFault.{ScriptFault}
@@ -107,6 +107,6 @@ module _ (limits : Bounds) (left rest : Option (List ℕ)) (turns : ℕ) (failed
       read_fault n p at =
           let t = taken p.bytes p.so.0 in
           subst (λ (m : ℕ). ReadFails limits left rest turns failed m) (sym at)
-          (stops_short left rest turns failed (lines_place now.cutter) _ p.bytes p.came p.so.1 t.advances
+          (truncates left rest turns failed (lines_place now.cutter) _ p.bytes p.came p.so.1 t.advances
           (λ more g e. judge_from now.parsed now.cutter.unfinished (lines_of (now.cutter.kept ++ more)) g
           (sym (t.law more) ∙ e)))

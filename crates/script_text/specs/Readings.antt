@@ -4,7 +4,7 @@ use Rattle.std.specs.Prelude.{IfSome, Option, Result, Ok, Err}
 use Rattle.event_core.specs.Bounds.{Bounds}
 use Rattle.rapid_line.specs.Lines.{Lines, no_bytes, most, to_come}
 use Rattle.rapid_text.specs.Tables.{Tables}
-use Rattle.rapid_text.specs.Taking.{Advances, StopsShort, lines_place}
+use Rattle.rapid_text.specs.Taking.{Advances, Truncates, lines_place}
 use Rattle.script_text.specs.declared.lines.ScriptLine.{ScriptLine}
 use Rattle.script_text.specs.declared.causes.ScriptCause.{ScriptCause}
 use Rattle.script_text.specs.declared.causes.ScriptCause.TheVariants as causes
@@ -63,7 +63,7 @@ pub record EndFails (old : Progress) (f : ScriptFault) : Type 0 where
 -- a read failed, or the turns are used up. Line n is the one whose end was not seen, and whatever follows, no
 -- line that came whole has a cause.
 abbrev pub ReadFails : Bounds → Option (List ℕ) → Option (List ℕ) → ℕ → Bool → ℕ → Type 0
-ReadFails limits left rest turns failed n = StopsShort left rest turns failed n (λ came.
+ReadFails limits left rest turns failed n = Truncates left rest turns failed n (λ came.
     (more : List ℕ) (g : ScriptFault) → script_of limits (came ++ more) ≡ Err g → n ≤ g.line)
 
 -- no line has a cause, and line n is the first that names a thread which is not reached

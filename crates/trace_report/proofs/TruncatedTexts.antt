@@ -20,7 +20,7 @@ use Rattle.trace_report.specs.declared.faults.TraceFault.{TraceFault}
 use Rattle.trace_report.specs.declared.faults.TraceFault.TheVariants.{Text}
 use Rattle.trace_report.specs.Findings.{Trace, call_of, finding, finding_after, refused_or}
 use Rattle.trace_report.specs.Judging.{IsTruncatedAt, Takes, line_of}
-use Rattle.rapid_text.proofs.Taken.{stops_short}
+use Rattle.rapid_text.proofs.Taken.{truncates}
 use Rattle.trace_report.proofs.Playing.{with_line}
 
 -- no fault before line n
@@ -65,7 +65,7 @@ truncated_text {m} {left = left} {rest = rest} {turns = turns} {failed = failed}
     record {
       line = t.unfinished;
       at = refl;
-      stops = stops_short left rest turns failed (cutter_place t) _ p.bytes p.came p.so.1
+      stops = truncates left rest turns failed (cutter_place t) _ p.bytes p.came p.so.1
           (subst (λ (c : Cutting). Advances (cutter_place c) p.bytes [] (cutter_place t)) is takes.advances)
           (λ more. subst (λ (found : Result Trace TraceFault). IsFrom t.unfinished found)
           (sym (ap (λ (c : Cutting). finding_after m [] (judged c (p.bytes ++ more))) (sym is)

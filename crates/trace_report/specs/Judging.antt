@@ -33,7 +33,7 @@ use Rattle.rapid_text.specs.declared.causes.Cause.{Cause}
 use Rattle.rapid_text.specs.declared.causes.Cause.TheVariants as causes
 use Rattle.rapid_text.specs.Cutting.{Cutting, judged, most}
 use Rattle.rapid_text.specs.Tables.{Tables, no_names}
-use Rattle.rapid_text.specs.Taking.{Advances, StopsShort, cutter_place}
+use Rattle.rapid_text.specs.Taking.{Advances, Truncates, cutter_place}
 use Rattle.rapid_text.specs.Texts.{Judgement, judgement}
 use Rattle.rapid_text.specs.Turns.{WithinTurns}
 use Rattle.trace_report.specs.declared.faults.ReplayFault.{ReplayFault}
@@ -153,7 +153,7 @@ pub record IsTruncatedAt (m : Limits) (left rest : Option (List ℕ)) (turns : �
     (f : TraceFault) : Type 0 where
   pub line : ℕ
   pub at : f ≡ Text (record { line = line; cause = causes.Read })
-  pub stops : StopsShort left rest turns read_failed line
+  pub stops : Truncates left rest turns read_failed line
       (λ came. (more : List ℕ) → IfErr (finding m (came ++ more)) (λ g. line ≤ line_of g))
 
 -- how much of a text was read for an answer, in so many turns

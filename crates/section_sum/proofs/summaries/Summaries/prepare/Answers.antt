@@ -78,7 +78,7 @@ returns-in_err-grow_to c =
     let g = more_locks c.loop-lock.invariant.grown c.grow_to.new.list.items
     (λ m. c.grow_to.ensures.same no_kept (λ lock given. search rules) m) in
     let past : length c.grow_to.new.list.items ≤ l.0
-    = omega (arith, c.in_err-grow_to.ensures.short, ap length c.in_err-grow_to.ensures.refused) in
+    = omega (arith, c.in_err-grow_to.ensures.lacks, ap length c.in_err-grow_to.ensures.refused) in
     let off : has_cell c.loop-lock.self-inside.cells l.0 c.args.var.0 ≡ false
     = le-ltb _ _ (no_lock c.loop-lock.self-inside.cells c.grow_to.new.list.items l.0 c.args.var.0 g.kept past)
     in
