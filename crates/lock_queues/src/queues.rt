@@ -112,7 +112,7 @@ impl Queues {
         ensures ok { OnOk result (is_ready self.new
             ≡ with_row thread.0 (with_row lock.0 true (is_ready self.old thread.0)) (is_ready self.old)) }
         ensures err { OnErr result (is_ready self.new ≡ is_ready self.old) }
-        ensures again { IsTrue (is_ready self.old thread.0 lock.0) → IsOk result }
+        ensures again { IsTrue (is_ready self.old thread.0 lock.0) → IsOk result × (self.new ≡ self.old) }
         ensures grown { GrownFor self.old self.new thread.0 lock.0 }
     {
         if self.ready(thread, lock) {

@@ -1,5 +1,5 @@
 //! What is made of the parts of a monitor.
-ghost use Rattle.std.specs.Prelude.{◌≡◌, ◌+◌, ◌≤◌, ◌↔◌, List, [], ◌∷◌, ◌++◌, length, IsOk, IsTrue, OnOk};
+ghost use Rattle.std.specs.Prelude.{◌≡◌, ◌+◌, ◌<◌, ◌≤◌, ◌↔◌, List, [], ◌∷◌, ◌++◌, length, IsOk, IsTrue, OnOk};
 ghost use Rattle.event_core.specs.declared.bounds.Limits.{Limits as Bounds};
 ghost use Rattle.event_core.specs.declared.events.Event.{Event as AnEvent};
 ghost use Rattle.event_core.specs.Refusal.{WellFormed};
@@ -116,7 +116,7 @@ fn others_ready(parts: &Parts, thread: ThreadId, op: Op, slots: usize) -> bool
 }
 
 /// Makes room in all parts for the thread's operation, and in the lists for so many events. Nothing else
-/// changes. Where there is room no call is made, and the clocks keep what they find, for the event.
+/// changes. Where there is room no memory is taken.
 #[inline(always)]
 pub(crate) fn prepare(
     parts: &mut Parts,
@@ -131,22 +131,27 @@ pub(crate) fn prepare(
     ensures again { HasRoomFor parts.old thread op slots → IsOk result }
     ensures release { IsKeptRelease parts.old thread op slots → IsOk result }
 {
-    if parts.clocks.make_ready(thread, op) && others_ready(parts, thread, op, slots) {
+    parts.clocks.prepare(thread, op)?;
+    if others_ready(parts, thread, op, slots) {
         return Ok(());
     }
-    grow(parts, thread, op, slots)
+    grow_others(parts, thread, op, slots)
 }
 
-// Makes the room, where some part has none.
+// Makes the room of each part but the clocks, where one has none.
 #[inline(never)]
-fn grow(parts: &mut Parts, thread: ThreadId, op: Op, slots: usize) -> Result<(), OutOfMemory>
-    requires clocks { ClocksAreWithin parts.old.clocks thread op }
-    requires width { width_of parts.old.clocks ≡ parts.old.accesses.limits.threads }
+fn grow_others(
+    parts: &mut Parts,
+    thread: ThreadId,
+    op: Op,
+    slots: usize,
+) -> Result<(), OutOfMemory>
+    requires { thread.0 < parts.old.accesses.limits.threads }
     ensures grown { HasGrown parts.old parts.new }
-    ensures ready { OnOk result (HasRoomFor parts.new thread op slots) }
+    ensures clocks { parts.new.clocks ≡ parts.old.clocks }
+    ensures ready { OnOk result (HasOtherRoom parts.new thread op slots) }
 {
     parts.memory.prepare(thread, op)?;
-    parts.clocks.prepare(thread, op)?;
     parts.accesses.prepare(thread, op)?;
     parts.log.reserve(slots)?;
     parts.verdicts.reserve(slots)

@@ -1,7 +1,6 @@
 -- What a legal event names is within the limits.
-use Rattle.std.proofs.Common.{◌≡◌, ℕ, ◌<◌, ◌≤◌, List, [], ◌∷◌, ◌++◌, true, false, nat_le, nat_lt, not, ap}
-use Rattle.std.proofs.Common.{subst, sym, inl, inr, ◌⊎◌}
-use Rattle.std.proofs.lemmas.Bool.{cases_lt, le-ltb, le-leb}
+use Rattle.std.proofs.Common.{◌≡◌, ℕ, ◌<◌, List, [], ◌∷◌, ◌++◌, true, false, nat_le, ap, subst, sym}
+use Rattle.std.proofs.lemmas.Bool.{ltb-true, leb-false, not-false}
 use Rattle.event_core.specs.declared.bounds.Limits.{Limits}
 use Rattle.event_core.specs.declared.events.Event.{Event}
 use Rattle.event_core.specs.declared.events.Op.{Op}
@@ -30,27 +29,14 @@ thread_within limits log e w =
     = all_none (reasons limits log legal.call) legal.allowed in
     let out : nat_le limits.threads legal.call.thread.0 ≡ false = when_none _ ThreadRange all.0 in
     subst (λ (x : Event). x.thread.0 < limits.threads) (sym legal.is)
-    (by legal.call.thread out (cases_lt legal.call.thread.0 limits.threads))
-  where
-    by : (t : ThreadId) → nat_le limits.threads t.0 ≡ false
-        → (t.0 < limits.threads) ⊎ (limits.threads ≤ t.0) → t.0 < limits.threads
-    by t out (inl lt) = lt
-    by t out (inr ge) =
-        absurd (let beyond : nat_le limits.threads t.0 ≡ true = le-leb limits.threads t.0 ge in cc)
+    (leb-false limits.threads legal.call.thread.0 out)
 
--- a number whose test is not failed
-in_range_is : (n most : ℕ) → not (nat_lt n most) ≡ false → n < most
-in_range_is n most out = by out (cases_lt n most)
-  where
-    by : not (nat_lt n most) ≡ false → (n < most) ⊎ (most ≤ n) → n < most
-    by out (inl lt) = lt
-    by out (inr ge) = absurd (let beyond : not (nat_lt n most) ≡ true = ap not (le-ltb n most ge) in cc)
-
--- the target of a legal event
+-- so is what a legal event names
 target_in_range : (limits : Limits) (log : List Event) (e : Event) → WellFormed limits (log ++ e ∷ [])
-    → not (in_range limits e.op) ≡ false
+    → in_range limits e.op ≡ true
 target_in_range limits log e w =
-    when_none _ TargetRange (legal_reasons limits log e (well_formed_last limits log e w)).on_table
+    not-false _ (when_none _ TargetRange
+    (legal_reasons limits log e (well_formed_last limits log e w)).on_table)
 
 -- a legal event names numbers within the limits of the clocks
 pub within_where_legal : (limits : Limits) (log : List Event) (e : Event) (p : Parts)
@@ -64,20 +50,20 @@ within_where_legal limits log e p w width same = (
     locks : p.queues.limits.locks ≡ limits.locks
     locks = ap (λ (b : Bounds). b.locks) same
 
-    named : (o : Op) → not (in_range limits o) ≡ false → NamesWithin p o
-    named (Acquire l) out = subst (λ n. l.0 < n) (sym locks) (in_range_is l.0 limits.locks out)
-    named (Release l) out = subst (λ n. l.0 < n) (sym locks) (in_range_is l.0 limits.locks out)
-    named (Fork u) out = subst (λ n. u.0 < n) (sym width) (in_range_is u.0 limits.threads out)
-    named (Join u) out = subst (λ n. u.0 < n) (sym width) (in_range_is u.0 limits.threads out)
-    named _ out = tt
+    named : (o : Op) → in_range limits o ≡ true → NamesWithin p o
+    named (Acquire l) is = subst (λ n. l.0 < n) (sym locks) (ltb-true l.0 limits.locks is)
+    named (Release l) is = subst (λ n. l.0 < n) (sym locks) (ltb-true l.0 limits.locks is)
+    named (Fork u) is = subst (λ n. u.0 < n) (sym width) (ltb-true u.0 limits.threads is)
+    named (Join u) is = subst (λ n. u.0 < n) (sym width) (ltb-true u.0 limits.threads is)
+    named _ is = tt
 
 -- the lock that is closed
 pub closed_within : (limits : Limits) (log : List Event) (e : Event) (s : State)
     → WellFormed limits (log ++ e ∷ []) → StateStandsFor log s
     → (l : LockId) → effect e s ≡ Closes l → l.0 < limits.locks
 closed_within limits log e s w st l is =
-    in_range_is l.0 limits.locks
-    (subst (λ (o : Op). not (in_range limits o) ≡ false) (releases (effect e s) (effect_fits log e s st) is)
+    ltb-true l.0 limits.locks
+    (subst (λ (o : Op). in_range limits o ≡ true) (releases (effect e s) (effect_fits log e s st) is)
     (target_in_range limits log e w))
   where
     releases : (k : Effect) → Fits log e k → k ≡ Closes l → e.op ≡ Release l

@@ -25,13 +25,13 @@ ghost use Rattle.wcp_laws.specs.Conditions.{found_at};
 ghost use Rattle.wcp_clocks.specs.Parts.{hb_of, state_of, width_of, limits_of, work_of, found_in};
 ghost use Rattle.wcp_clocks.specs.Parts.{IsReady, Fits, KeepsReady, SameLimits, SameNumbers, most_joins};
 ghost use Rattle.wcp_clocks.specs.Parts.{joins_at, FewComparisons, NoFewer, IsWithin, IsAccess};
-ghost use Rattle.wcp_clocks.specs.Growth.{GrownFor, MadeFor, SameMade};
+ghost use Rattle.wcp_clocks.specs.Growth.{GrownFor, MadeFor, SameParts};
 ghost use Rattle.wcp_clocks.specs.Standing.{StandsFor};
 
 mod effects;
 
 use crate::holdings::Holdings;
-use crate::room::{has_places, make_clocks, make_places, make_places_ready};
+use crate::room::{places_ready, prepare_clocks, prepare_places};
 use crate::strict::StrictRows;
 use event_core::{Event, Limits, Op, OutOfMemory, ThreadId};
 use hb_clocks::{HbClocks, JoinedClocks, Work};
@@ -42,7 +42,7 @@ use std::marker::Model;
 
 /// The clocks of the strict relation, and of all that it stands on.
 ///
-/// Each call but `new`, `prepare` and `make_ready` takes no memory.
+/// Each call but `new` and `prepare` takes no memory.
 #[derive(Drop)]
 pub struct WcpClocks {
     // Those of program order and of happens-before.
@@ -89,23 +89,23 @@ impl WcpClocks {
     }
 
     /// Makes room for the thread's operation, whose numbers are within the limits. No number changes, whether
-    /// there is memory or not. Where there is room nothing changes, and none is needed. A load and a store of
-    /// a variable need the same room.
+    /// there is memory or not. Where there is room no memory is taken, and it is not refused; so it is for each
+    /// release by a holder. A load and a store of a variable need the same room. An `advance` that comes next
+    /// does not search again for the places of an access.
+    #[inline(always)]
     pub fn prepare(&mut self, thread: ThreadId, op: Op) -> Result<(), OutOfMemory>
         requires { IsWithin self.old thread op }
         ensures same { SameNumbers self.old self.new }
         ensures ready { OnOk result (IsReady self.new thread op) }
-        ensures again { IsReady self.old thread op → IsOk result × (self.new ≡ self.old) }
+        ensures again { IsReady self.old thread op → IsOk result × SameParts self.old self.new }
+        ensures releases { IsHeldRelease (hb_of self.old) thread op → IsOk result }
         ensures kept { KeepsReady self.old self.new }
         ensures grown { GrownFor self.old self.new thread op }
         ensures made { MadeFor self.old self.new thread op }
         ensures limits { SameLimits self.old self.new }
     {
-        if self.ready(thread, op) {
-            return Ok(());
-        }
-        make_clocks(&mut self.hb, &mut self.rows, thread, op)?;
-        make_places(&mut self.sums, &mut self.queues, &mut self.held, thread, op)
+        prepare_clocks(&mut self.hb, &mut self.rows, thread, op)?;
+        prepare_places(&mut self.sums, &mut self.queues, &mut self.held, thread, op)
     }
 
     /// Whether there is room for the operation. There is for each release by a holder.
@@ -114,24 +114,7 @@ impl WcpClocks {
         ensures ready { IsTrue result ↔ IsReady self.now thread op }
         ensures releases { IsHeldRelease (hb_of self.now) thread op → IsTrue result }
     {
-        self.rows.ready(thread, op) && has_places(&self.sums, &self.queues, &self.held, thread, op)
-    }
-
-    /// Whether there is room for the operation, as `ready` tells, once room is made for an access, or for a
-    /// section in its lock's queue. A growth that is refused is answered `false`. Where there is room, an
-    /// `advance` that comes next does not search again for the places of an access.
-    #[inline(always)]
-    pub fn make_ready(&mut self, thread: ThreadId, op: Op) -> bool
-        ensures ready { IsTrue result ↔ IsReady self.new thread op }
-        ensures releases { IsHeldRelease (hb_of self.old) thread op → IsTrue result }
-        ensures same { SameNumbers self.old self.new }
-        ensures kept { KeepsReady self.old self.new }
-        ensures grown { GrownFor self.old self.new thread op }
-        ensures made { SameMade self.old self.new }
-        ensures limits { SameLimits self.old self.new }
-    {
-        self.rows.ready(thread, op)
-            && make_places_ready(&mut self.sums, &mut self.queues, &self.held, thread, op)
+        self.rows.ready(thread, op) && places_ready(&self.sums, &self.queues, &self.held, thread, op)
     }
 
     /// The event joins the log that the clocks stand for.

@@ -1,6 +1,6 @@
 //! The locks that each thread holds, in the order of their outer acquires.
 ghost use Rattle.std.specs.Prelude.{◌≡◌, ℕ, ◌+◌, ◌-◌, ◌<◌, ◌≤◌, ◌↔◌, ◌∷◌, ◌++◌, [], length, OnOk, IsTrue};
-ghost use Rattle.std.specs.Prelude.{◌≢◌, ◌*◌, max, vec_capacity, vec_len};
+ghost use Rattle.std.specs.Prelude.{◌≢◌, ◌*◌, max, vec_capacity, vec_len, IsOk};
 ghost use Rattle.event_core.specs.Rows.{with_row};
 ghost use Rattle.wcp_laws.specs.Step.{without};
 ghost use Rattle.wcp_clocks.specs.HeldLists.{list_at, held_of, room_at, numbers_of, without_lock};
@@ -126,7 +126,23 @@ impl Holdings {
     }
 
     // Makes room for one lock more of the thread.
+    #[inline(always)]
     pub(crate) fn prepare(&mut self, thread: ThreadId) -> Result<(), OutOfMemory>
+        ensures same { held_of self.new ≡ held_of self.old }
+        ensures kept { KeepsPlaces self.old self.new }
+        ensures room { OnOk result (0 < room_at self.new thread.0) }
+        ensures grown { HaveGrownFor self.old self.new thread.0 }
+        ensures again { 0 < room_at self.old thread.0 → IsOk result × (self.new ≡ self.old) }
+    {
+        if self.ready(thread) {
+            return Ok(());
+        }
+        self.grow(thread)
+    }
+
+    // The same, where there is none.
+    #[inline(never)]
+    fn grow(&mut self, thread: ThreadId) -> Result<(), OutOfMemory>
         ensures same { held_of self.new ≡ held_of self.old }
         ensures kept { KeepsPlaces self.old self.new }
         ensures room { OnOk result (0 < room_at self.new thread.0) }

@@ -1,13 +1,13 @@
-use Rattle.std.proofs.Common.{sym, subst}
+use Rattle.std.proofs.Common.{refl, sym, subst}
 use Rattle.wcp_clocks.specs.Parts.{Parts, IsWithin}
-use Rattle.wcp_clocks.proofs.Growth.{all_grown, grown_parts, seen_ready, seen_numbers}
+use Rattle.wcp_clocks.proofs.Growth.{all_grown, grown_parts, seen_ready, seen_numbers, same_cells}
 use Rattle.wcp_clocks.proofs.Growth.{sums_same, queues_same, held_same}
 use Rattle.wcp_clocks.proofs.Ordered.{order_within}
 use Rattle.wcp_clocks.proofs.Within.{within}
 use Rattle.wcp_clocks.proofs.clocks.WcpClocks.prepare.Goals as goal
 
-pub make_clocks-requires : goal.make_clocks-requires
-make_clocks-requires c =
+pub prepare_clocks-requires : goal.prepare_clocks-requires
+prepare_clocks-requires c =
     let t = c.args.thread in
     let op = c.args.op in
     order_within (within c.self.inside) t op
@@ -15,25 +15,44 @@ make_clocks-requires c =
 
 pub invariant_of-self : goal.invariant_of-self
 invariant_of-self c =
-    let clocks = c.make_clocks.ensures.grown in
+    let clocks = c.prepare_clocks.ensures.grown in
     grown_parts (all_grown clocks (sums_same _) (queues_same _) (held_same _)) c.self.invariant
 
 pub invariant_of-self-2 : goal.invariant_of-self-2
 invariant_of-self-2 c =
-    let more = c.make_places.ensures in
-    grown_parts (all_grown c.make_clocks.ensures.grown more.sums more.queues more.held) c.self.invariant
+    let more = c.prepare_places.ensures in
+    grown_parts (all_grown c.prepare_clocks.ensures.grown more.sums more.queues more.held) c.self.invariant
 
 pub returns-clause-same : goal.returns-clause-same
 returns-clause-same c =
-    let more = c.make_places.ensures in
-    seen_numbers c.self.view_is (all_grown c.make_clocks.ensures.grown more.sums more.queues more.held)
+    let more = c.prepare_places.ensures in
+    seen_numbers c.self.view_is (all_grown c.prepare_clocks.ensures.grown more.sums more.queues more.held)
 
 pub returns-clause-kept : goal.returns-clause-kept
 returns-clause-kept c =
-    let more = c.make_places.ensures in
-    seen_ready c.self.view_is (all_grown c.make_clocks.ensures.grown more.sums more.queues more.held)
+    let more = c.prepare_places.ensures in
+    seen_ready c.self.view_is (all_grown c.prepare_clocks.ensures.grown more.sums more.queues more.held)
 
-pub returns-in_err-make_clocks-clause-kept : goal.returns-in_err-make_clocks-clause-kept
-returns-in_err-make_clocks-clause-kept c =
-    let clocks = c.make_clocks.ensures.grown in
+pub returns-in_err-prepare_clocks-clause-kept : goal.returns-in_err-prepare_clocks-clause-kept
+returns-in_err-prepare_clocks-clause-kept c =
+    let clocks = c.prepare_clocks.ensures.grown in
     seen_ready c.self.view_is (all_grown clocks (sums_same _) (queues_same _) (held_same _))
+
+pub returns-clause-again : goal.returns-clause-again
+returns-clause-again c = rw (← c.self.view_is) (λ ready.
+    let clocks = c.prepare_clocks.ensures.again ready.rows in
+    let more = c.prepare_places.ensures in
+    let places = more.again ready.places in (
+      places.0,
+      record {
+        hb = clocks.1;
+        rows = clocks.2;
+        noted = more.sums.noted;
+        others = more.sums.others;
+        cells = same_cells _ _ c.self.inside.queues c.self.inside.held c.args.thread c.args.op more.sums
+            more.accesses ready.places;
+        queues = places.1;
+        held = places.2;
+        work = refl;
+      },
+    ))

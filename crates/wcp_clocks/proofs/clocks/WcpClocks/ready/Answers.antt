@@ -7,6 +7,6 @@ returns-then-ready-clause-ready c =
     let rows = c.ready.ensures.0 c.if-ready.true in
     rw (← c.self.view_is) (
       λ yes. ready_of (within c.self.inside) c.args.thread c.args.op c.self.invariant.ordered rows
-          (c.has_places.ensures.0 yes),
-      λ ready. c.has_places.ensures.1 ready.places,
+          (c.places_ready.ensures.0 yes),
+      λ ready. c.places_ready.ensures.1 ready.places,
     )

@@ -1,7 +1,7 @@
 use Rattle.std.proofs.Common.{rules, ℕ, ◌<◌, List, sym, ap, subst, ◌∙◌}
 use Rattle.std.proofs.lemmas.List.{with_items_is}
 use Rattle.wcp_clocks.specs.HeldLists.{HeldList, nothing_held, numbers_of, held_of, room_at}
-use Rattle.wcp_clocks.proofs.holdings.Holdings.prepare.Goals as goal
+use Rattle.wcp_clocks.proofs.holdings.Holdings.grow.Goals as goal
 
 pub returns-clause-same : goal.returns-clause-same
 returns-clause-same c =
