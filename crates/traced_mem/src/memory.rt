@@ -139,9 +139,8 @@ impl Memory {
             Op::Store(_) => call.arg,
             _ => 0,
         };
-        let holds = self.count_holds(call.op);
+        self.holds = self.count_holds(call.op);
         apply_rows(&mut self.threads, &mut self.locks, &mut self.cells, call);
-        self.holds = holds;
         self.length += 1;
         value
     }

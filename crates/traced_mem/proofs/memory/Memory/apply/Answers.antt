@@ -14,8 +14,8 @@ use Rattle.traced_mem.proofs.Stepping.{given_back, still_ready, lent_whole}
 use Rattle.traced_mem.proofs.memory.Memory.apply.Goals as goal
 use Rattle.traced_mem.proofs.memory.Memory.apply.Goals.{in-Load, in-Store, in_default}
 
-pub count_holds-holds-requires : goal.count_holds-holds-requires
-count_holds-holds-requires c =
+pub count_holds-self-inside-requires : goal.count_holds-self-inside-requires
+count_holds-self-inside-requires c =
     subst (λ (s : MemoryTables). HoldsFit s.holds c.args.call.now.op) c.self.view_is
     (fits_inside _ _ c.self.view_is c.self.invariant (omega arith) c.requires.allowed).fits_holds
 
@@ -31,8 +31,8 @@ invariant_of-self c =
     c.apply_rows.ensures.same_threads in
     let locks = given_back c.apply_rows.new.locks c.deref_mut-2.ensures.value c.deref_mut-2.ensures.len
     c.apply_rows.ensures.same_locks in
-    let holds : c.count_holds-holds.result ≡ holds_after c.args.call.now.op c.self.inside.holds
-    = c.count_holds-holds.ensures
+    let holds : c.count_holds-self-inside.result ≡ holds_after c.args.call.now.op c.self.inside.holds
+    = c.count_holds-self-inside.ensures
     ∙ ap (λ (s : MemoryTables). holds_after c.args.call.now.op s.holds) (sym c.self.view_is) in
     rw (threads, locks) (record {
       kept = omega (arith, fits.kept);
@@ -61,7 +61,7 @@ returns-clause-means c =
     let call = c.args.call.now in
     (λ i. record {
       length = c.self.inside.length + 1;
-      holds = (c.count_holds-holds.ensures
+      holds = (c.count_holds-self-inside.ensures
           ∙ ap (λ (s : MemoryTables). holds_after call.op s.holds) (sym c.self.view_is)) i;
       thread = (ap threads_of threads ∙ c.apply_rows.ensures.threads) i;
       lock = (ap locks_of locks ∙ c.apply_rows.ensures.locks) i;
