@@ -139,6 +139,7 @@ pub(crate) fn prepare(
 }
 
 // Makes the room of each part but the clocks, where one has none.
+#[cold]
 #[inline(never)]
 fn grow_others(
     parts: &mut Parts,

@@ -1,7 +1,6 @@
 -- Parts that have more room are as before in all else.
 use Rattle.std.proofs.Common.{◌≡◌, ℕ, ◌<◌, List, [], ◌∷◌, length, Bool, true, false, ◌||◌, ◌&&◌, nat_eq, refl}
 use Rattle.std.proofs.Common.{sym, ap, ap₂, subst, ◌∙◌, IsTrue, arith, inl, inr, ◌⊎◌, Result, Ok, Err, OnOk, OnErr}
-use Rattle.std.specs.Prelude.{is_ok, IsOk}
 use Rattle.std.proofs.lemmas.Bool.{cases_eq, cases_Bool, and_parts, eqb-true, false≢true}
 use Rattle.event_core.specs.declared.replies.OutOfMemory.{OutOfMemory}
 use Rattle.event_core.proofs.Growing.{cell_same, cell_other}

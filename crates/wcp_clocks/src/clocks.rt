@@ -104,6 +104,24 @@ impl WcpClocks {
         ensures made { MadeFor self.old self.new thread op }
         ensures limits { SameLimits self.old self.new }
     {
+        if self.rows.ready(thread, op) {
+            return prepare_places(&mut self.sums, &mut self.queues, &mut self.held, thread, op);
+        }
+        self.grow(thread, op)
+    }
+
+    // The same, where a clock is to be made.
+    #[cold]
+    #[inline(never)]
+    fn grow(&mut self, thread: ThreadId, op: Op) -> Result<(), OutOfMemory>
+        requires { IsWithin self.old thread op }
+        ensures same { SameNumbers self.old self.new }
+        ensures ready { OnOk result (IsReady self.new thread op) }
+        ensures kept { KeepsReady self.old self.new }
+        ensures grown { GrownFor self.old self.new thread op }
+        ensures made { MadeFor self.old self.new thread op }
+        ensures limits { SameLimits self.old self.new }
+    {
         prepare_clocks(&mut self.hb, &mut self.rows, thread, op)?;
         prepare_places(&mut self.sums, &mut self.queues, &mut self.held, thread, op)
     }

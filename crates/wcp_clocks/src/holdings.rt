@@ -141,6 +141,7 @@ impl Holdings {
     }
 
     // The same, where there is none.
+    #[cold]
     #[inline(never)]
     fn grow(&mut self, thread: ThreadId) -> Result<(), OutOfMemory>
         ensures same { held_of self.new ≡ held_of self.old }

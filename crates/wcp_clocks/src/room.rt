@@ -14,9 +14,7 @@ use hb_clocks::HbClocks;
 use lock_queues::Queues;
 use section_sum::Summaries;
 
-// Makes the clocks of the thread and of what the operation names. Those of happens-before are made first, so
-// the strict ones alone tell whether there are all.
-#[inline(always)]
+// Makes the clocks of the thread and of what the operation names, those of happens-before first.
 pub(crate) fn prepare_clocks(
     order: &mut HbClocks,
     rows: &mut StrictRows,
@@ -28,12 +26,7 @@ pub(crate) fn prepare_clocks(
     ensures order { hb.GrownFor order.old order.new thread op }
     ensures rows { RowsGrownFor rows.old rows.new thread op }
     ensures ready { OnOk result (IsReady rows.new thread op) }
-    ensures again { IsReady rows.old thread op
-        → IsOk result × (order.new ≡ order.old) × (rows.new ≡ rows.old) }
 {
-    if rows.ready(thread, op) {
-        return Ok(());
-    }
     order.prepare(thread, op)?;
     rows.prepare(thread, op)
 }

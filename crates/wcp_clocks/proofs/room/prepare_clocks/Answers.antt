@@ -1,8 +1,5 @@
-use Rattle.wcp_clocks.proofs.Growth.{order_grown, rows_grown, clocks_same}
+use Rattle.wcp_clocks.proofs.Growth.{order_grown, rows_grown}
 use Rattle.wcp_clocks.proofs.room.prepare_clocks.Goals as goal
-
-pub returns-then-ready-clause-grown : goal.returns-then-ready-clause-grown
-returns-then-ready-clause-grown c = clocks_same c.args.order.now c.args.rows.now
 
 pub returns-in_err-prepare-clause-grown : goal.returns-in_err-prepare-clause-grown
 returns-in_err-prepare-clause-grown c =

@@ -1,52 +1,30 @@
-use Rattle.std.proofs.Common.{refl, sym, subst}
-use Rattle.wcp_clocks.specs.Parts.{Parts, IsWithin}
-use Rattle.wcp_clocks.proofs.Growth.{all_grown, grown_parts, seen_ready, seen_numbers, same_cells}
-use Rattle.wcp_clocks.proofs.Growth.{sums_same, queues_same, held_same}
-use Rattle.wcp_clocks.proofs.Ordered.{order_within}
-use Rattle.wcp_clocks.proofs.Within.{within}
+use Rattle.std.proofs.Common.{refl}
+use Rattle.wcp_clocks.proofs.Growth.{all_grown, grown_parts, seen_ready, seen_numbers, clocks_same, same_cells}
 use Rattle.wcp_clocks.proofs.clocks.WcpClocks.prepare.Goals as goal
-
-pub prepare_clocks-requires : goal.prepare_clocks-requires
-prepare_clocks-requires c =
-    let t = c.args.thread in
-    let op = c.args.op in
-    order_within (within c.self.inside) t op
-    (subst (λ (p : Parts). IsWithin p t op) (sym c.self.view_is) c.requires)
 
 pub invariant_of-self : goal.invariant_of-self
 invariant_of-self c =
-    let clocks = c.prepare_clocks.ensures.grown in
-    grown_parts (all_grown clocks (sums_same _) (queues_same _) (held_same _)) c.self.invariant
-
-pub invariant_of-self-2 : goal.invariant_of-self-2
-invariant_of-self-2 c =
     let more = c.prepare_places.ensures in
-    grown_parts (all_grown c.prepare_clocks.ensures.grown more.sums more.queues more.held) c.self.invariant
+    grown_parts (all_grown (clocks_same _ _) more.sums more.queues more.held) c.self.invariant
 
-pub returns-clause-same : goal.returns-clause-same
-returns-clause-same c =
+pub returns-then-ready-clause-same : goal.returns-then-ready-clause-same
+returns-then-ready-clause-same c =
     let more = c.prepare_places.ensures in
-    seen_numbers c.self.view_is (all_grown c.prepare_clocks.ensures.grown more.sums more.queues more.held)
+    seen_numbers c.self.view_is (all_grown (clocks_same _ _) more.sums more.queues more.held)
 
-pub returns-clause-kept : goal.returns-clause-kept
-returns-clause-kept c =
+pub returns-then-ready-clause-kept : goal.returns-then-ready-clause-kept
+returns-then-ready-clause-kept c =
     let more = c.prepare_places.ensures in
-    seen_ready c.self.view_is (all_grown c.prepare_clocks.ensures.grown more.sums more.queues more.held)
+    seen_ready c.self.view_is (all_grown (clocks_same _ _) more.sums more.queues more.held)
 
-pub returns-in_err-prepare_clocks-clause-kept : goal.returns-in_err-prepare_clocks-clause-kept
-returns-in_err-prepare_clocks-clause-kept c =
-    let clocks = c.prepare_clocks.ensures.grown in
-    seen_ready c.self.view_is (all_grown clocks (sums_same _) (queues_same _) (held_same _))
-
-pub returns-clause-again : goal.returns-clause-again
-returns-clause-again c = rw (← c.self.view_is) (λ ready.
-    let clocks = c.prepare_clocks.ensures.again ready.rows in
+pub returns-then-ready-clause-again : goal.returns-then-ready-clause-again
+returns-then-ready-clause-again c = rw (← c.self.view_is) (λ ready.
     let more = c.prepare_places.ensures in
     let places = more.again ready.places in (
       places.0,
       record {
-        hb = clocks.1;
-        rows = clocks.2;
+        hb = refl;
+        rows = refl;
         noted = more.sums.noted;
         others = more.sums.others;
         cells = same_cells _ _ c.self.inside.queues c.self.inside.held c.args.thread c.args.op more.sums
