@@ -1,5 +1,5 @@
 -- In a run of the script a thread that made all its lines joined those whom they join.
-use Rattle.std.proofs.Common.{◌≡◌, List, [], ◌∷◌, ◌++◌, Bool, true, false, cond, refl, sym, ap, ◌∙◌, map, ◌⊎◌}
+use Rattle.std.proofs.Common.{◌≡◌, List, [], ◌∷◌, Bool, true, false, cond, refl, sym, ap, ◌∙◌, map, ◌⊎◌}
 use Rattle.std.proofs.Common.{filter, nat_eq, ◌||◌}
 use Rattle.std.specs.List.{list_any}
 use Rattle.std.proofs.lemmas.Bool.{or_cases, or_left, or_right}
@@ -9,7 +9,7 @@ use Rattle.event_core.specs.declared.events.Act.{Act}
 use Rattle.event_core.specs.declared.events.Act.TheVariants.{One, Swap}
 use Rattle.event_core.specs.declared.events.Event.{Event}
 use Rattle.event_core.specs.declared.events.Op.{Op}
-use Rattle.event_core.specs.declared.events.Op.TheVariants.{Load, Store, Acquire, Release, Fork, Join}
+use Rattle.event_core.specs.declared.events.Op.TheVariants.{Join}
 use Rattle.event_core.specs.Refusal.{joins, op_joins}
 use Rattle.event_core.specs.Steps.{own_events}
 use Rattle.event_core.proofs.StepLaws.{any_back, any_front}

@@ -73,12 +73,13 @@ own_none t u (e ∷ es) other by =
 -- ---- the events that a line asks for are added
 
 module _ (script : List ScriptLine) (l : ScriptLine) (p : PassView) (next : IsNext script l p)
-    (thread : thread_of l ≡ p.thread) (log es : List Event) (own : HasOwn p log) (run : IsRunOf script log)
-    (by : AreBy p.thread es) (asks : map unread es ≡ asked_by l.act)
+    (log es : List Event) (own : HasOwn p log) (run : IsRunOf script log) (by : AreBy p.thread es)
+    (asks : map unread es ≡ asked_by l.act)
     (ends : (u : ThreadId) → list_any (joins u) es ≡ true
     → Follows (own_events u (log ++ es)) (lines_by u script)) where
   place : lines_by p.thread script ≡ next.before ++ l ∷ next.later
-  place = subst (λ (t : ThreadId). lines_by t script ≡ next.before ++ l ∷ next.later) thread next.place
+  place = subst (λ (t : ThreadId). lines_by t script ≡ next.before ++ l ∷ next.later)
+      (sym next.done.thread) next.place
 
   made : Follows (own_events p.thread log) next.before
   made = subst (λ (r : List Event). Follows r next.before) own next.done.follows
@@ -184,13 +185,15 @@ joined_all script log u v child done its test =
     left true e = refl
     left false e = e
 
-module _ {script : List ScriptLine} {l : ScriptLine} {p : PassView} (next : IsNext script l p)
-    (thread : thread_of l ≡ p.thread) where
+module _ {script : List ScriptLine} {l : ScriptLine} {p : PassView} (next : IsNext script l p) where
+  thread : thread_of l ≡ p.thread
+  thread = sym next.done.thread
+
   pub may_add : {call : Call} {op : Op} (arg : ℕ) → l.act ≡ One call → call.op ≡ op
       → given op call.arg ≡ given op arg → ((u : ThreadId) → op_joins u op ≡ false)
       → MayAdd (IsRunOf script) p (call_by p.thread op call.site arg)
   may_add {call} {op} arg act is same none log own run =
-      run_more script l p next thread log (event_of log (call_by p.thread op call.site arg) ∷ []) own run
+      run_more script l p next log (event_of log (call_by p.thread op call.site arg) ∷ []) own run
       (refl, tt) (event_asked log l call p.thread op arg act thread is same)
       (λ u test. absurd (not_both _ test (ap (λ (b : Bool). b || false) (none u))))
 
@@ -200,7 +203,7 @@ module _ {script : List ScriptLine} {l : ScriptLine} {p : PassView} (next : IsNe
       let asks : asked_by (Swap p.thread x site arg) ≡ asked_by l.act
       = ap (λ (u : ThreadId). asked_by (Swap u x site arg)) (sym thread ∙ ap act_thread act)
       ∙ sym (ap asked_by act) in
-      run_more script l p next thread log
+      run_more script l p next log
       (swap_load log p.thread x site ∷ swap_store p.thread x site arg ∷ []) own run (refl, (refl, tt)) asks
       (λ u test. absurd (cc test))
 
@@ -208,22 +211,22 @@ module _ {script : List ScriptLine} {l : ScriptLine} {p : PassView} (next : IsNe
       → Done script u child → MayJoin (IsRunOf script) p child (join_by p.thread child.thread call.site)
   may_join {call} {u} {child} act op done log own its run =
       let e = event_of log (join_by p.thread child.thread call.site) in
-      run_more script l p next thread log (e ∷ []) own run (refl, tt)
+      run_more script l p next log (e ∷ []) own run (refl, tt)
       (event_asked log l call p.thread (Join child.thread) 0 act thread (op ∙ ap Join (sym done.thread)) refl)
       (λ v test. joined_all script (log ++ e ∷ []) u v child done its test)
 
--- a pass whose line's call was accepted did the line
-pub call_does : {m : Limits} {l : ScriptLine} {call : Call} {op : Op} {p q : PassView} {reply : Reply}
-    (arg : ℕ) → l.act ≡ One call → call.op ≡ op → given op call.arg ≡ given op arg → thread_of l ≡ p.thread
-    → HasComeTo m p q → Accepted m (call_by p.thread op call.site arg) p q reply → Does l p q
-call_does {l = l} {call = call} {op = op} {p = p} arg act is same thread later did =
-    let made = call_by p.thread op call.site arg in
-    let log = log_of did.steps in record {
-      thread = later.same_thread;
-      begins = later.begins;
-      mine = ap (λ ds. map unread (log_of ds)) did.mine
-          ∙ (ap (map unread) (log_of-snoc p.mine (OneStep (event_of log made)))
-          ∙ (map-append unread (log_of p.mine) (event_of log made ∷ [])
-          ∙ ap (λ es. map unread (log_of p.mine) ++ es)
-          (event_asked log l call p.thread op arg act thread is same)));
-    }
+  -- a pass whose line's call was accepted did the line
+  pub call_does : {m : Limits} {call : Call} {op : Op} {q : PassView} {reply : Reply} (arg : ℕ)
+      → l.act ≡ One call → call.op ≡ op → given op call.arg ≡ given op arg → HasComeTo m p q
+      → Accepted m (call_by p.thread op call.site arg) p q reply → Does l p q
+  call_does {call = call} {op = op} arg act is same later did =
+      let made = call_by p.thread op call.site arg in
+      let log = log_of did.steps in record {
+        thread = later.same_thread;
+        begins = later.begins;
+        mine = ap (λ ds. map unread (log_of ds)) did.mine
+            ∙ (ap (map unread) (log_of-snoc p.mine (OneStep (event_of log made)))
+            ∙ (map-append unread (log_of p.mine) (event_of log made ∷ [])
+            ∙ ap (λ es. map unread (log_of p.mine) ++ es)
+            (event_asked log l call p.thread op arg act thread is same)));
+      }

@@ -85,17 +85,17 @@ same_refusal m log c d thread op = λ i.
 
 -- so is a line's, whose call its worker makes
 pub line_refusal : (m : Limits) (l : ScriptLine) {call : Call} {op : Op} {t : ThreadId} (site : SiteId)
-    (arg : ℕ) → l.act ≡ One call → call.op ≡ op → thread_of l ≡ t → (log : List Event)
+    (arg : ℕ) → l.act ≡ One call → call.op ≡ op → t ≡ thread_of l → (log : List Event)
     → act_refusal m log l.act ≡ refusal m log (call_by t op site arg)
 line_refusal m l {call} {op} {t} site arg act is thread log = ap (act_refusal m log) act
-    ∙ same_refusal m log call (call_by t op site arg) (sym (ap act_thread act) ∙ thread) is
+    ∙ same_refusal m log call (call_by t op site arg) (sym (thread ∙ ap act_thread act)) is
 
 -- and whose swap
 pub swap_refusal_of : (m : Limits) (l : ScriptLine) {t u : ThreadId} {x : VarId} {site : SiteId} {arg : ℕ}
-    → l.act ≡ Swap t x site arg → thread_of l ≡ u → (log : List Event)
+    → l.act ≡ Swap t x site arg → u ≡ thread_of l → (log : List Event)
     → act_refusal m log l.act ≡ swap_refusal m log u x
 swap_refusal_of m l {x = x} act thread log = ap (act_refusal m log) act
-    ∙ ap (λ (u : ThreadId). swap_refusal m log u x) (sym (ap act_thread act) ∙ thread)
+    ∙ ap (λ (u : ThreadId). swap_refusal m log u x) (sym (thread ∙ ap act_thread act))
 
 module _ {m : Limits} {script : List ScriptLine} {l : ScriptLine} {p q : PassView} (next : IsNext script l p)
     (later : HasComeTo m p q) (run : IsRunOf script (log_of q.seen)) where
@@ -146,10 +146,9 @@ module _ {m : Limits} {script : List ScriptLine} {l : ScriptLine} {p q : PassVie
 
   -- the lock that an acquire was refused is then held
   pub held_back : {call : Call} {lock : LockId} {answer : Result Reply Refusal} → l.act ≡ One call
-      → call.op ≡ Acquire lock → thread_of l ≡ p.thread
-      → IfErr answer (Declined m (call_by p.thread (Acquire lock) call.site 0) p q)
+      → call.op ≡ Acquire lock → IfErr answer (Declined m (call_by p.thread (Acquire lock) call.site 0) p q)
       → (by : ThreadId) × (answer ≡ Err (Held by)) → IsHeldBack m script l
-  held_back {call} {lock} act is thread declined held =
+  held_back {call} {lock} act is declined held =
       let acquire : Call = call_by p.thread (Acquire lock) call.site 0 in
       let refused : Declined m acquire p q (Held (held.0))
       = subst (λ a. IfErr a (Declined m acquire p q)) held.1 declined in (
@@ -157,7 +156,7 @@ module _ {m : Limits} {script : List ScriptLine} {l : ScriptLine} {p q : PassVie
         record {
           log = log_of q.seen;
           due = due refused.mine;
-          refused = line_refusal m l call.site 0 act is thread (log_of q.seen)
+          refused = line_refusal m l call.site 0 act is next.done.thread (log_of q.seen)
               ∙ (elim (refused.why) as (λ _. refusal m (log_of q.seen) acquire ≡ Some (Held (held.0))) [
                 | inl why ↦ why
                 | inr memory ↦ absurd (cc (memory.0))

@@ -1,5 +1,4 @@
 pub mod Faults
 pub mod Lines
 pub mod Runs
-pub mod Texts
 pub mod Workers

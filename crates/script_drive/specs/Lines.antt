@@ -4,7 +4,7 @@ use Rattle.std.specs.List.{flat_map, list_any}
 use Rattle.event_core.specs.declared.ids.ThreadId.{ThreadId}
 use Rattle.event_core.specs.declared.events.Event.{Event}
 use Rattle.event_core.specs.declared.events.Op.{Op}
-use Rattle.event_core.specs.declared.events.Op.TheVariants.{Load, Store, Acquire, Release, Fork, Join}
+use Rattle.event_core.specs.declared.events.Op.TheVariants.{Load, Store}
 use Rattle.event_core.specs.declared.events.Act.{Act}
 use Rattle.event_core.specs.declared.events.Act.TheVariants.{One, Swap}
 use Rattle.script_text.specs.declared.lines.ScriptLine.{ScriptLine}

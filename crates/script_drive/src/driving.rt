@@ -31,7 +31,7 @@ use std::thread::{JoinHandle, Scope, Threads};
 struct OwnFault<S: Text> {
     fault: DriveFault,
     script: PhantomData<S>,
-    ghost fits: { IsFaultOf S.limits S.ahead S.script.lines fault },
+    ghost fits: { IsFaultOf S.limits S.ahead S.lines fault },
 }
 
 // Waits for the thread's pass, makes the calls of its lines, and sends the pass to who joins the thread. A
@@ -75,7 +75,7 @@ fn start_workers<'s, 'e, S: Text + Send + Sync, G: Gate + Sync, R: Threads + Wai
     alloc: Global,
     workers: Vec<Worker<S>>,
 ) -> Result<Vec<JoinHandle<Option<OwnFault<S>>>>, DriveFault>
-    ensures { IfErr result (IsFaultOf S.limits S.ahead S.script.lines) }
+    ensures { IfErr result (IsFaultOf S.limits S.ahead S.lines) }
 {
     let mut started = Vec::new(alloc);
     for worker in workers {
@@ -96,7 +96,7 @@ fn own_faults<S: Text, R: Threads>(
     alloc: Global,
     workers: Vec<JoinHandle<Option<OwnFault<S>>>>,
 ) -> Result<Vec<DriveFault>, AllocError>
-    ensures { IfOk result (λ faults. All (IsFaultOf S.limits S.ahead S.script.lines) faults.items) }
+    ensures { IfOk result (λ faults. All (IsFaultOf S.limits S.ahead S.lines) faults.items) }
 {
     let mut faults = Vec::new(alloc);
     for worker in workers {
@@ -113,12 +113,12 @@ fn outcome<S: Text>(
     main: Result<Pass<S>, Halt>,
     faults: &[DriveFault],
 ) -> Result<Pass<S>, DriveFault>
-    requires halt { IfErr main (IsHaltOf S.limits S.ahead S.script.lines) }
-    requires faults { All (IsFaultOf S.limits S.ahead S.script.lines) faults.now }
+    requires halt { IfErr main (IsHaltOf S.limits S.ahead S.lines) }
+    requires faults { All (IsFaultOf S.limits S.ahead S.lines) faults.now }
     ensures last { IfOk result (λ last. main ≡ Ok last) }
     ensures none { OnOk result (faults.now ≡ []) }
     ensures first { IfErr result (IsAnswered main faults.now) }
-    ensures fault { IfErr result (IsFaultOf S.limits S.ahead S.script.lines) }
+    ensures fault { IfErr result (IsFaultOf S.limits S.ahead S.lines) }
 {
     match (main, first_fault(faults)) {
         (Ok(last), None) => Ok(last),
@@ -137,18 +137,18 @@ fn run_all<S: Text + Send + Sync, G: Gate + Sync, R: Threads + Wait + Sync>(
     workers: Vec<Worker<S>>,
 ) -> Result<Pass<S>, DriveFault>
     requires pass { pass ≡ new_pass main [] }
-    requires serves { Serves links (lines_by main S.script.lines) }
-    ensures done { IfOk result (Done S.script.lines main) }
-    ensures fault { IfErr result (IsFaultOf S.limits S.ahead S.script.lines) }
+    requires serves { Serves links (lines_by main S.lines) }
+    ensures done { IfOk result (Done S.lines main) }
+    ensures fault { IfErr result (IsFaultOf S.limits S.ahead S.lines) }
 {
     thread::scope(
         thread::scope_env(),
         drive.rt,
         move |scope| -> Result<Pass<S>, DriveFault>
             requires pass { pass ≡ new_pass main [] }
-            requires serves { Serves links (lines_by main S.script.lines) }
-            ensures done { IfOk result (Done S.script.lines main) }
-            ensures fault { IfErr result (IsFaultOf S.limits S.ahead S.script.lines) }
+            requires serves { Serves links (lines_by main S.lines) }
+            ensures done { IfOk result (Done S.lines main) }
+            ensures fault { IfErr result (IsFaultOf S.limits S.ahead S.lines) }
         {
             let started = start_workers(scope, drive, alloc, workers)?;
             let mut links = links;
@@ -174,18 +174,18 @@ fn drive_in<S: Text + Send + Sync, G: Gate + Sync, R: Threads + Wait + Sync>(
 ) -> Result<Closed, DriveFault>
     requires table { unnamed.table ≡ S.table }
     requires limits { unnamed.limits ≡ S.limits }
-    requires script { script.now ≡ S.script }
+    requires lines { script.now.lines ≡ S.lines }
     requires patience { patience ≡ S.patience }
     requires ahead { S.ahead ≡ goes_ahead G.free S.patience }
-    ensures limits { IfOk result (λ closed. closed.limits ≡ unnamed.limits) }
-    ensures well_formed { IfOk result (λ closed. WellFormed unnamed.limits closed.log) }
+    ensures limits { IfOk result (λ closed. closed.limits ≡ S.limits) }
+    ensures well_formed { IfOk result (λ closed. WellFormed S.limits closed.log) }
     ensures main { IfOk result
-        (λ closed. Follows (own_events main closed.log) (lines_by main script.now.lines)) }
+        (λ closed. Follows (own_events main closed.log) (lines_by main S.lines)) }
     ensures joined { IfOk result (λ closed. (u : Thread)
-        → IsJoinedFrom script.now.lines main u
-        → Follows (own_events u closed.log) (lines_by u script.now.lines)) }
-    ensures run { IfOk result (λ closed. IsRunOf script.now.lines closed.log) }
-    ensures fault { IfErr result (IsFaultOf unnamed.limits S.ahead script.now.lines) }
+        → IsJoinedFrom S.lines main u
+        → Follows (own_events u closed.log) (lines_by u S.lines)) }
+    ensures run { IfOk result (λ closed. IsRunOf S.lines closed.log) }
+    ensures fault { IfErr result (IsFaultOf S.limits S.ahead S.lines) }
 {
     let (shared, pass) = start_under::<S, RunsScript<S>>(unnamed);
     let Ok((links, workers)) = all_workers::<S>(alloc, script) else {

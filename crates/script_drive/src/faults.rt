@@ -102,15 +102,15 @@ pub(crate) enum Halt {
 impl Halt {
     /// The line was tried as often as patience allows, as its tries show.
     pub(crate) fn stuck<S: Text>(line: &ScriptLine, tries: &Tries) -> Halt
-        requires line { Contains S.script.lines line.now }
+        requires line { Contains S.lines line.now }
         requires patience { tries.now.most ≡ S.patience }
         requires used_up { AreUsedUp tries.now }
         requires waits { S.ahead ≡ true → waits line.now ≡ true }
         requires held { S.ahead ≡ true
             → acquires line.now ≡ true
-            → IsHeldBack S.limits S.script.lines line.now }
+            → IsHeldBack S.limits S.lines line.now }
         ensures stuck { result ≡ Halt.Fault (stuck_at line.now) }
-        ensures halt { IsHaltOf S.limits S.ahead S.script.lines result }
+        ensures halt { IsHaltOf S.limits S.ahead S.lines result }
     {
         Halt::Fault(DriveFault::Stuck {
             thread: line.thread(),

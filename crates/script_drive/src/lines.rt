@@ -4,7 +4,7 @@ ghost use Rattle.std.specs.Prelude.{IfErr, IfOk, IsErrAnd, IsFalse, IsOk, IsSome
 ghost use Rattle.event_core.specs.declared.ids.ThreadId.{ThreadId as Thread};
 ghost use Rattle.event_core.specs.declared.replies.Refusal.TheVariants.{Held};
 ghost use Rattle.script_text.specs.declared.lines.ScriptLine.{ScriptLine as Line};
-ghost use Rattle.script_text.specs.Lines.{join_of, thread_of};
+ghost use Rattle.script_text.specs.Lines.{join_of};
 ghost use Rattle.script_drive.specs.Faults.{goes_ahead, is_told, refused_at, IsHaltOf, IsNext};
 ghost use Rattle.script_drive.specs.Lines.{lines_by};
 ghost use Rattle.script_drive.specs.Workers.{Does, Done, IsFirst, Serves};
@@ -28,26 +28,17 @@ pub(crate) struct Drive<'a, S: Text, G: Gate, R> {
     pub script: &'a Script,
     pub gate: &'a G,
     pub patience: u32,
-    ghost of: { script.now ≡ S.script },
+    ghost of: { script.now.lines ≡ S.lines },
     ghost patient: { patience ≡ S.patience },
     ghost ahead: { S.ahead ≡ goes_ahead G.free S.patience },
 }
 
-impl<S: Text, G: Gate, R> Drive<'_, S, G, R> {
-    // The tries that patience allows, of which none was made.
-    fn tries(&self) -> Tries
-        ensures { result ≡ record { most = S.patience; made = 0 } }
-    {
-        Tries::of(self.patience)
-    }
-}
-
 // Asks the gate for the line, as often as patience allows.
 fn enter<S: Text, G: Gate, R>(drive: &Drive<'_, S, G, R>, line: &ScriptLine) -> Result<(), Halt>
-    requires line { Contains S.script.lines line.now }
-    ensures halt { IfErr result (IsHaltOf S.limits S.ahead S.script.lines) }
+    requires line { Contains S.lines line.now }
+    ensures halt { IfErr result (IsHaltOf S.limits S.ahead S.lines) }
 {
-    let mut tries = drive.tries();
+    let mut tries = Tries::of(drive.patience);
     'tries: while tries.another() {
         if drive.gate.enter(line.thread(), line.line) {
             return Ok(());
@@ -63,13 +54,13 @@ fn await_end<S: Text, G: Gate, R: Wait>(
     receiver: PassReceiver<S, LastPasses<S>>,
     line: &ScriptLine,
 ) -> Result<Pass<S>, Halt>
-    requires line { Contains S.script.lines line.now }
+    requires line { Contains S.lines line.now }
     requires joins { IsSome (join_of line.now) }
-    ensures done { IfOk result (Done S.script.lines receiver.to) }
-    ensures halt { IfErr result (IsHaltOf S.limits S.ahead S.script.lines) }
+    ensures done { IfOk result (Done S.lines receiver.to) }
+    ensures halt { IfErr result (IsHaltOf S.limits S.ahead S.lines) }
 {
     let mut receiver = receiver;
-    let mut looks = drive.tries();
+    let mut looks = Tries::of(drive.patience);
     'looks: while looks.another() {
         match receiver.look(drive.rt) {
             Ok(pass) => return Ok(pass),
@@ -111,13 +102,12 @@ fn make_call<S: Text, G: Gate, R: Wait>(
     line: &ScriptLine,
     links: &mut Links<S>,
 ) -> Result<Pass<S>, Halt>
-    requires thread { thread_of line.now ≡ pass.thread }
-    requires next { IsNext S.script.lines line.now pass }
+    requires next { IsNext S.lines line.now pass }
     requires serves { (later : List Line) × Serves links.old (line.now ∷ later) }
     ensures does { IfOk result (Does line.now pass) }
     ensures serves { (later : List Line) → Serves links.old (line.now ∷ later)
         → OnOk result (Serves links.new later) }
-    ensures halt { IfErr result (IsHaltOf S.limits S.ahead S.script.lines) }
+    ensures halt { IfErr result (IsHaltOf S.limits S.ahead S.lines) }
 {
     let Drive { rt, shared, .. } = *drive;
     match line.act {
@@ -125,7 +115,7 @@ fn make_call<S: Text, G: Gate, R: Wait>(
             Op::Load(var) => answered(line, shared.load(rt, pass, var, call.site)),
             Op::Store(var) => answered(line, shared.store(rt, pass, var, call.arg, call.site)),
             Op::Acquire(lock) => {
-                let mut tries = drive.tries();
+                let mut tries = Tries::of(drive.patience);
                 let (pass, answer) = shared.acquire_within(rt, pass, lock, call.site, &mut tries);
                 if is_held(&answer) {
                     return Err(Halt::stuck::<S>(line, &tries));
@@ -165,9 +155,9 @@ pub(crate) fn run_lines<S: Text, G: Gate, R: Wait>(
     links: &mut Links<S>,
 ) -> Result<Pass<S>, Halt>
     requires first { IsFirst pass.thread pass }
-    requires serves { Serves links.old (lines_by pass.thread S.script.lines) }
-    ensures done { IfOk result (Done S.script.lines pass.thread) }
-    ensures halt { IfErr result (IsHaltOf S.limits S.ahead S.script.lines) }
+    requires serves { Serves links.old (lines_by pass.thread S.lines) }
+    ensures done { IfOk result (Done S.lines pass.thread) }
+    ensures halt { IfErr result (IsHaltOf S.limits S.ahead S.lines) }
 {
     let thread = pass.thread();
     let mut pass = pass;

@@ -4,13 +4,13 @@ use log_pass::Name;
 use pass_channel::Terms;
 use std::marker::{Brand, PhantomData};
 
-/// One script, with the table of the monitor over which it runs, and the patience with its lines. Each drive
-/// picks them.
+/// The lines of one script, with the table of the monitor over which it runs, and the patience with its
+/// lines. Each drive picks them.
 pub(crate) trait Text: Name {
-    ghost use Rattle.std.specs.Prelude.{ℕ, Bool};
-    ghost use Rattle.script_text.specs.Scripts.{Parsed};
+    ghost use Rattle.std.specs.Prelude.{ℕ, Bool, List};
+    ghost use Rattle.script_text.specs.declared.lines.ScriptLine.{ScriptLine};
 
-    ghost script: { Parsed };
+    ghost lines: { List ScriptLine };
 
     ghost patience: { ℕ };
 
@@ -19,10 +19,9 @@ pub(crate) trait Text: Name {
 }
 
 impl Text for Brand {
-    ghost use Rattle.std.specs.Prelude.{false};
-    ghost use Rattle.script_drive.specs.Texts.{no_script};
+    ghost use Rattle.std.specs.Prelude.{[], false};
 
-    ghost script = { no_script };
+    ghost lines = { [] };
 
     ghost patience = { 0 };
 
@@ -37,7 +36,7 @@ pub(crate) struct RunsScript<S: Text> {
 impl<S: Text> LogRule for RunsScript<S> {
     ghost use Rattle.script_drive.specs.Runs.{IsRunOf};
 
-    ghost keeps = { IsRunOf S.script.lines };
+    ghost keeps = { IsRunOf S.lines };
 }
 
 /// The first pass of a thread, which its fork gives.
@@ -59,5 +58,5 @@ pub(crate) struct LastPasses<S: Text> {
 impl<S: Text> Terms for LastPasses<S> {
     ghost use Rattle.script_drive.specs.Workers.{Done};
 
-    ghost good = { Done S.script.lines };
+    ghost good = { Done S.lines };
 }

@@ -31,7 +31,7 @@ impl<S: Text> Model for OwnLinks<S> {
 
     ghost view = { λ own. record { thread = own.thread; reach = own.links } };
 
-    ghost invariant = { λ own. Serves own.links (lines_by own.thread S.script.lines) };
+    ghost invariant = { λ own. Serves own.links (lines_by own.thread S.lines) };
 }
 
 /// The number of a line of the script that forks a thread.
@@ -39,7 +39,7 @@ impl<S: Text> Model for OwnLinks<S> {
 pub(crate) struct ForkLine<S: Text> {
     pub number: u64,
     script: PhantomData<S>,
-    ghost forks: { IsForkLine S.script.lines number },
+    ghost forks: { IsForkLine S.lines number },
 }
 
 /// Where a worker's first pass comes from, and the line that forks its thread.
@@ -88,7 +88,7 @@ impl<S: Text> UnclaimedEnds<S> {
         line: &ScriptLine,
         links: &mut Links<S>,
     ) -> Result<(), AllocError>
-        requires { Contains S.script.lines line.now }
+        requires { Contains S.lines line.now }
         ensures forks { OnOk result (links.new.forks ≡ links.old.forks ++ forked (line.now ∷ [])) }
         ensures joins { links.new.joins ≡ links.old.joins }
     {
@@ -130,8 +130,8 @@ impl<S: Text> UnclaimedEnds<S> {
         lines: &[ScriptLine],
         thread: ThreadId,
     ) -> Result<Links<S>, AllocError>
-        requires { lines.now ≡ filter is_link S.script.lines }
-        ensures { IfOk result (λ links. Serves links (lines_by thread S.script.lines)) }
+        requires { lines.now ≡ filter is_link S.lines }
+        ensures { IfOk result (λ links. Serves links (lines_by thread S.lines)) }
     {
         let mut links = Links::new(alloc);
         for line in lines {
@@ -191,7 +191,7 @@ fn other_links<S: Text>(
     lines: &[ScriptLine],
     unclaimed: &mut UnclaimedEnds<S>,
 ) -> Result<Vec<OwnLinks<S>>, AllocError>
-    requires { lines.now ≡ filter is_link S.script.lines }
+    requires { lines.now ≡ filter is_link S.lines }
 {
     let mut others = Vec::new(alloc);
     for number in 1..threads {
@@ -207,8 +207,8 @@ pub(crate) fn all_workers<S: Text>(
     alloc: Global,
     script: &Script,
 ) -> Result<(Links<S>, Vec<Worker<S>>), AllocError>
-    requires script { script.now ≡ S.script }
-    ensures main { IfOk result (λ made. Serves made.0 (lines_by main S.script.lines)) }
+    requires lines { script.now.lines ≡ S.lines }
+    ensures main { IfOk result (λ made. Serves made.0 (lines_by main S.lines)) }
 {
     let mut unclaimed = UnclaimedEnds {
         starts: Vec::new(alloc),

@@ -6,7 +6,7 @@ ghosts-drive_in-S-Name g a = record { table = a.unnamed.table; limits = a.unname
 
 abbrev pub ghosts-drive_in-S-Text : goal.ghosts-drive_in-S-Text
 ghosts-drive_in-S-Text g a = record {
-  script = a.script.now;
+  lines = a.script.now.lines;
   patience = a.patience;
   ahead = goes_ahead g.G.Gate.free a.patience;
 }

@@ -1,20 +1,16 @@
-use Rattle.std.proofs.Common.{rules, ◌≡◌, sym, subst, ◌∙◌}
+use Rattle.std.proofs.Common.{rules}
 use Rattle.log_pass.specs.Passes.{main}
 use Rattle.event_core.specs.Steps.{own_events}
-use Rattle.script_text.specs.Scripts.{Parsed}
 use Rattle.script_drive.specs.Lines.{Follows, lines_by}
-use Rattle.script_drive.specs.Runs.{IsRunOf}
 use Rattle.script_drive.proofs.Joins.{joined_made}
 use Rattle.script_drive.proofs.driving.drive_in.Goals as goal
 
 pub returns-in-Ok-run_all-clause-joined : goal.returns-in-Ok-run_all-clause-joined
 returns-in-Ok-run_all-clause-joined g c =
-    let script = c.args.script.now in
+    let script = g.S.Text.lines in
     let log = c.close.result.log in
-    let run : IsRunOf script.lines log
-    = subst (λ (s : Parsed). IsRunOf s.lines log) (sym c.requires.script) c.close.ensures.keeps in
-    let made : Follows (own_events main log) (lines_by main script.lines) = search rules in
-    λ u from. joined_made script.lines log run main u made from
+    let made : Follows (own_events main log) (lines_by main script) = search rules in
+    λ u from. joined_made script log c.close.ensures.keeps main u made from
 
 -- want of memory is a fault of each script
 pub returns-in_default-clause-fault : goal.returns-in_default-clause-fault

@@ -12,42 +12,42 @@ use Rattle.script_drive.proofs.lines.make_call.Goals as goal
 -- what a line's call adds to a run of the script makes it a longer one
 pub load-requires : goal.load-requires
 load-requires g c = record {
-  keeps = may_add c.requires.next c.requires.thread 0 c.in-One.is c.in-Load.is refl (λ u. refl);
+  keeps = may_add c.requires.next 0 c.in-One.is c.in-Load.is refl (λ u. refl);
 }
 
 pub store-requires : goal.store-requires
 store-requires g c = record {
-  keeps = may_add c.requires.next c.requires.thread _ c.in-One.is c.in-Store.is refl (λ u. refl);
+  keeps = may_add c.requires.next _ c.in-One.is c.in-Store.is refl (λ u. refl);
 }
 
 pub acquire_within-pass-requires : goal.acquire_within-pass-requires
 acquire_within-pass-requires g c = record {
-  keeps = may_add c.requires.next c.requires.thread 0 c.in-One.is c.in-Acquire.is refl (λ u. refl);
+  keeps = may_add c.requires.next 0 c.in-One.is c.in-Acquire.is refl (λ u. refl);
 }
 
 pub release-requires : goal.release-requires
 release-requires g c = record {
-  keeps = may_add c.requires.next c.requires.thread 0 c.in-One.is c.in-Release.is refl (λ u. refl);
+  keeps = may_add c.requires.next 0 c.in-One.is c.in-Release.is refl (λ u. refl);
 }
 
 pub swap-requires : goal.swap-requires
-swap-requires g c = record { keeps = may_swap c.requires.next c.requires.thread c.in-Swap.is }
+swap-requires g c = record { keeps = may_swap c.requires.next c.in-Swap.is }
 
 pub fork-requires : goal.fork-requires
 fork-requires g c =
     let is = next_forked c.in-One.is c.in-Fork.is c.requires.serves.1 c.next_fork-sender.ensures.forks in
     record {
-      keeps = may_add c.requires.next c.requires.thread 0 c.in-One.is (c.in-Fork.is ∙ ap Fork (sym is)) refl
+      keeps = may_add c.requires.next 0 c.in-One.is (c.in-Fork.is ∙ ap Fork (sym is)) refl
           (λ u. refl);
     }
 
 pub join-requires : goal.join-requires
 join-requires g c =
     let is = next_joined c.in-One.is c.in-Join.is c.requires.serves.1 c.next_join-receiver.ensures.joins in
-    let done : Done g.S.Text.script.lines c.in-Join.field-0 c.in_ok-child-in-Join.child
-    = subst (λ t. Done g.S.Text.script.lines t c.in_ok-child-in-Join.child) is
+    let done : Done g.S.Text.lines c.in-Join.field-0 c.in_ok-child-in-Join.child
+    = subst (λ t. Done g.S.Text.lines t c.in_ok-child-in-Join.child) is
     c.in_ok-child-in-Join.ensures.done in
-    record { keeps = may_join c.requires.next c.requires.thread c.in-One.is c.in-Join.is done }
+    record { keeps = may_join c.requires.next c.in-One.is c.in-Join.is done }
 
 -- an act that is declined is so by the definition
 pub returns-in-Load-clause-halt : goal.returns-in-Load-clause-halt
@@ -55,7 +55,7 @@ returns-in-Load-clause-halt g c =
     let did = c.load.ensures in
     act_halts c.requires.next did.later did.keeps g.S.Text.ahead _ c.load.result.1
     c.answered.result did.declined
-    (line_refusal _ c.args.line.now _ _ c.in-One.is c.in-Load.is c.requires.thread)
+    (line_refusal _ c.args.line.now _ _ c.in-One.is c.in-Load.is c.requires.next.done.thread)
     c.answered.ensures.refused (λ is. absurd (false≢true is))
 
 pub returns-in-Store-clause-halt : goal.returns-in-Store-clause-halt
@@ -63,13 +63,13 @@ returns-in-Store-clause-halt g c =
     let did = c.store.ensures in
     act_halts c.requires.next did.later did.keeps g.S.Text.ahead _ c.store.result.1
     c.answered-in-Store.result did.declined
-    (line_refusal _ c.args.line.now _ _ c.in-One.is c.in-Store.is c.requires.thread)
+    (line_refusal _ c.args.line.now _ _ c.in-One.is c.in-Store.is c.requires.next.done.thread)
     c.answered-in-Store.ensures.refused (λ is. absurd (false≢true is))
 
 pub stuck-requires-clause-held : goal.stuck-requires-clause-held
 stuck-requires-clause-held g c = λ _ _.
     let did = c.acquire_within-pass.ensures in
-    held_back c.requires.next did.later did.keeps c.in-One.is c.in-Acquire.is c.requires.thread did.declined
+    held_back c.requires.next did.later did.keeps c.in-One.is c.in-Acquire.is did.declined
     (c.is_held.ensures.held c.if-is_held.true)
 
 pub stuck-requires-clause-used_up : goal.stuck-requires-clause-used_up
@@ -82,7 +82,7 @@ returns-else-is_held-clause-halt g c =
     let did = c.acquire_within-pass.ensures in
     act_halts c.requires.next did.later did.keeps g.S.Text.ahead _ c.acquire_within-pass.result.1
     c.answered-in-Acquire.result did.declined
-    (line_refusal _ c.args.line.now _ _ c.in-One.is c.in-Acquire.is c.requires.thread)
+    (line_refusal _ c.args.line.now _ _ c.in-One.is c.in-Acquire.is c.requires.next.done.thread)
     c.answered-in-Acquire.ensures.refused (λ _. c.is_held.ensures.told c.if-is_held.false)
 
 pub returns-in-Release-clause-halt : goal.returns-in-Release-clause-halt
@@ -90,27 +90,29 @@ returns-in-Release-clause-halt g c =
     let did = c.release.ensures in
     act_halts c.requires.next did.later did.keeps g.S.Text.ahead _ c.release.result.1
     c.answered-in-Release.result did.declined
-    (line_refusal _ c.args.line.now _ _ c.in-One.is c.in-Release.is c.requires.thread)
+    (line_refusal _ c.args.line.now _ _ c.in-One.is c.in-Release.is c.requires.next.done.thread)
     c.answered-in-Release.ensures.refused (λ is. absurd (false≢true is))
 
 pub returns-in_default-Err-clause-halt : goal.returns-in_default-Err-clause-halt
 returns-in_default-Err-clause-halt g c =
     let is = next_forked c.in-One.is c.in-Fork.is c.requires.serves.1 c.next_fork-sender.ensures.forks in
-    subst (IsFaultOf g.S.Name.limits g.S.Text.ahead g.S.Text.script.lines) (sym c.refused.ensures)
+    subst (IsFaultOf g.S.Name.limits g.S.Text.ahead g.S.Text.lines) (sym c.refused.ensures)
     (act_fits c.requires.next c.fork.ensures.later c.fork.ensures.keeps g.S.Text.ahead
     (rw c.in_default-Err.is-1 at c.fork.ensures.declined)
-    (line_refusal _ c.args.line.now _ _ c.in-One.is (c.in-Fork.is ∙ ap Fork (sym is)) c.requires.thread)
+    (line_refusal _ c.args.line.now _ _ c.in-One.is (c.in-Fork.is ∙ ap Fork (sym is))
+    c.requires.next.done.thread)
     (λ is. absurd (false≢true is)))
 
 pub returns-in_default-Err-join-clause-halt : goal.returns-in_default-Err-join-clause-halt
 returns-in_default-Err-join-clause-halt g c =
     let is = next_joined c.in-One.is c.in-Join.is c.requires.serves.1 c.next_join-receiver.ensures.joins in
-    subst (IsFaultOf g.S.Name.limits g.S.Text.ahead g.S.Text.script.lines)
+    subst (IsFaultOf g.S.Name.limits g.S.Text.ahead g.S.Text.lines)
     (sym c.refused-in_default-Err-join.ensures)
     (act_fits c.requires.next c.join.ensures.later c.join.ensures.keeps g.S.Text.ahead
     (rw c.in_default-Err-join.is-1 at c.join.ensures.declined)
     (line_refusal _ c.args.line.now _ _ c.in-One.is
-    (c.in-Join.is ∙ ap Join (sym (c.in_ok-child-in-Join.ensures.done.thread ∙ is))) c.requires.thread)
+    (c.in-Join.is ∙ ap Join (sym (c.in_ok-child-in-Join.ensures.done.thread ∙ is)))
+    c.requires.next.done.thread)
     (λ is. absurd (false≢true is)))
 
 pub returns-in-Swap-clause-halt : goal.returns-in-Swap-clause-halt
@@ -118,18 +120,19 @@ returns-in-Swap-clause-halt g c =
     let did = c.swap.ensures in
     act_halts c.requires.next did.later did.keeps g.S.Text.ahead _ c.swap.result.1
     c.answered-in-Swap.result did.declined
-    (swap_refusal_of _ c.args.line.now c.in-Swap.is c.requires.thread)
+    (swap_refusal_of _ c.args.line.now c.in-Swap.is c.requires.next.done.thread)
     c.answered-in-Swap.ensures.refused (λ is. absurd (false≢true is))
 
 -- and one that is accepted does the line
 pub returns-in_default-Ok-clause-does : goal.returns-in_default-Ok-clause-does
 returns-in_default-Ok-clause-does g c =
     let is = next_forked c.in-One.is c.in-Fork.is c.requires.serves.1 c.next_fork-sender.ensures.forks in
-    call_does 0 c.in-One.is (c.in-Fork.is ∙ ap Fork (sym is)) refl c.requires.thread c.fork.ensures.later
+    call_does c.requires.next 0 c.in-One.is (c.in-Fork.is ∙ ap Fork (sym is)) refl c.fork.ensures.later
     (rw c.in_default-Ok.is-1 at c.fork.ensures.accepted)
 
 pub returns-in_default-Ok-join-clause-does : goal.returns-in_default-Ok-join-clause-does
 returns-in_default-Ok-join-clause-does g c =
     let is = next_joined c.in-One.is c.in-Join.is c.requires.serves.1 c.next_join-receiver.ensures.joins in
-    call_does 0 c.in-One.is (c.in-Join.is ∙ ap Join (sym (c.in_ok-child-in-Join.ensures.done.thread ∙ is)))
-    refl c.requires.thread c.join.ensures.later (rw c.in_default-Ok-join.is-1 at c.join.ensures.accepted)
+    call_does c.requires.next 0 c.in-One.is
+    (c.in-Join.is ∙ ap Join (sym (c.in_ok-child-in-Join.ensures.done.thread ∙ is))) refl c.join.ensures.later
+    (rw c.in_default-Ok-join.is-1 at c.join.ensures.accepted)

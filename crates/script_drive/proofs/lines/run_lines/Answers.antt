@@ -1,8 +1,8 @@
-use Rattle.std.proofs.Common.{rules, ◌≡◌, ◌+◌, sym, ◌∙◌, subst, drop}
+use Rattle.std.proofs.Common.{rules, ◌≡◌, ◌+◌, sym, subst, drop}
 use Rattle.script_drive.specs.Lines.{lines_by}
 use Rattle.script_drive.specs.Workers.{HasDone, Serves}
 use Rattle.script_drive.proofs.Progress.{all_done, done_at, first_done, next_line, other_left}
-use Rattle.script_drive.proofs.Progress.{other_taken, own_thread}
+use Rattle.script_drive.proofs.Progress.{other_taken}
 use Rattle.script_drive.proofs.ScriptFaults.{line_at, next_at}
 use Rattle.script_drive.proofs.lines.run_lines.Goals as goal
 
@@ -12,16 +12,10 @@ loop-line-init g c = (
   subst (λ ls. Serves c.args.links.now (lines_by c.args.pass.thread ls)) (search rules) c.requires.serves,
 )
 
-pub make_call-requires-clause-thread : goal.make_call-requires-clause-thread
-make_call-requires-clause-thread g c =
-    own_thread c.args.pass.thread c.lines-line-items.result.now c.loop-line.line-index c.get-line.result
-    (search rules) (search rules) (search rules)
-    ∙ sym c.loop-line.invariant.0.thread
-
 pub make_call-requires-clause-next : goal.make_call-requires-clause-next
 make_call-requires-clause-next g c =
-    let same : c.lines-line-items.result.now ≡ g.S.Text.script.lines = cc in
-    next_at g.S.Text.script.lines c.lines-line-items.result.now c.args.pass.thread c.loop-line.pass
+    let same : c.lines-line-items.result.now ≡ g.S.Text.lines = cc in
+    next_at g.S.Text.lines c.lines-line-items.result.now c.args.pass.thread c.loop-line.pass
     c.loop-line.line-index c.get-line.result (search rules) same (search rules) (search rules)
     c.loop-line.invariant.0
 
@@ -37,7 +31,7 @@ make_call-requires-clause-serves g c =
 
 pub enter-requires : goal.enter-requires
 enter-requires g c =
-    let script = g.S.Text.script.lines in
+    let script = g.S.Text.lines in
     let lines = c.lines-line-items.result.now in
     let same : lines ≡ script = cc in record {
       line = line_at script lines c.loop-line.line-index c.get-line.result (search rules) same (search rules);
@@ -72,7 +66,7 @@ loop-line-preserved-then-not-is_of g c =
 
 pub returns-clause-done : goal.returns-clause-done
 returns-clause-done g c =
-    let script = g.S.Text.script.lines in
+    let script = g.S.Text.lines in
     let lines = c.lines-line-items.result.now in
     let same : lines ≡ script = cc in
     all_done script lines c.args.pass.thread c.loop-line.pass c.loop-line.line-index same (search rules)
