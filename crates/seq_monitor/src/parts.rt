@@ -141,12 +141,7 @@ pub(crate) fn prepare(
 // Makes the room of each part but the clocks, where one has none.
 #[cold]
 #[inline(never)]
-fn grow_others(
-    parts: &mut Parts,
-    thread: ThreadId,
-    op: Op,
-    slots: usize,
-) -> Result<(), OutOfMemory>
+fn grow_others(parts: &mut Parts, thread: ThreadId, op: Op, slots: usize) -> Result<(), OutOfMemory>
     requires { thread.0 < parts.old.accesses.limits.threads }
     ensures grown { HasGrown parts.old parts.new }
     ensures clocks { parts.new.clocks ≡ parts.old.clocks }

@@ -132,7 +132,8 @@ impl WcpClocks {
         ensures ready { IsTrue result ↔ IsReady self.now thread op }
         ensures releases { IsHeldRelease (hb_of self.now) thread op → IsTrue result }
     {
-        self.rows.ready(thread, op) && places_ready(&self.sums, &self.queues, &self.held, thread, op)
+        self.rows.ready(thread, op)
+            && places_ready(&self.sums, &self.queues, &self.held, thread, op)
     }
 
     /// The event joins the log that the clocks stand for.

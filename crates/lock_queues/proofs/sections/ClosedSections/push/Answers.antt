@@ -1,6 +1,6 @@
-use Rattle.std.proofs.Common.{◌∷◌, ◌++◌, [], ap, ap₂, ◌∙◌, length, arith}
+use Rattle.std.proofs.Common.{◌∷◌, ◌++◌, [], ap, ap₂, ◌∙◌, arith}
 use Rattle.lock_queues.specs.Sections.{Listed, entries_of}
-use Rattle.lock_queues.proofs.Listing.{count_listed, listed_push}
+use Rattle.lock_queues.proofs.Listing.{listed_push}
 use Rattle.lock_queues.proofs.sections.ClosedSections.push.Goals as goal
 
 pub returns-clause-entries : goal.returns-clause-entries

@@ -1,9 +1,9 @@
-use Rattle.std.proofs.Common.{rules, ◌≡◌, ◌<◌, ◌≤◌, false, length, length-set, get_or, sym, ap, subst, ◌∙◌}
+use Rattle.std.proofs.Common.{rules, ◌≡◌, ◌≤◌, false, length, length-set, get_or, sym, ap, subst, ◌∙◌}
 use Rattle.std.proofs.Common.{arith, List}
 use Rattle.std.proofs.lemmas.Bool.{false≢true, le-ltb}
-use Rattle.std.proofs.lemmas.List.{take_all, get_or_default}
+use Rattle.std.proofs.lemmas.List.{take_all}
 use Rattle.event_core.specs.declared.ids.LockId.{LockId}
-use Rattle.section_sum.specs.LockSums.{LockSum, no_kept}
+use Rattle.section_sum.specs.LockSums.{no_kept}
 use Rattle.section_sum.specs.Cells.{has_cell}
 use Rattle.section_sum.specs.Sums.{Sums, is_held, is_ready}
 use Rattle.section_sum.proofs.Basics.{refused}
