@@ -1,6 +1,7 @@
 -- Parts that have more room are as before in all else.
 use Rattle.std.proofs.Common.{◌≡◌, ℕ, ◌<◌, List, [], ◌∷◌, length, Bool, true, false, ◌||◌, ◌&&◌, nat_eq, refl}
-use Rattle.std.proofs.Common.{sym, ap, ap₂, subst, ◌∙◌, IsTrue, arith, inl, inr, ◌⊎◌, Result, Ok, Err, OnOk, OnErr}
+use Rattle.std.proofs.Common.{sym, ap, ap₂, subst, ◌∙◌, IsTrue, arith, inl, inr, ◌⊎◌, Result, Ok, Err, OnOk}
+use Rattle.std.proofs.Common.{OnErr}
 use Rattle.std.proofs.lemmas.Bool.{cases_eq, cases_Bool, and_parts, eqb-true, false≢true}
 use Rattle.event_core.specs.declared.replies.OutOfMemory.{OutOfMemory}
 use Rattle.event_core.proofs.Growing.{cell_same, cell_other}
@@ -15,7 +16,8 @@ use Rattle.event_core.specs.Rows.{with_row, no_rows}
 use Rattle.hb_clocks.specs.State.{HbState, empty as hb_empty}
 use Rattle.hb_clocks.specs.Tables as hb
 use Rattle.hb_clocks.specs.Work.{Done}
-use Rattle.section_sum.specs.Sums.{Sums, IsReady as SumsAreReady, is_ready as has_cell, is_held, noted_of, others_of}
+use Rattle.section_sum.specs.Sums.{Sums, IsReady as SumsAreReady, is_held, noted_of, others_of}
+use Rattle.section_sum.specs.Sums.{is_ready as has_cell}
 use Rattle.lock_queues.specs.Queues.{AllQueues as Queues, SameMeaning, closed_of, opened_of, is_ready}
 use Rattle.wcp_laws.specs.State.{State, empty}
 use Rattle.wcp_clocks.specs.Parts.{Parts, parts_of, hb_of, state_of, HasPlaces, KeepsReady, SameNumbers}
@@ -196,7 +198,8 @@ queue_made old new t l is = ap (λ (f : ℕ → ℕ → Bool). f t l) is ∙ cel
 pub same_cells : (old new : Sums) (queues : Queues) (held : List HeldList) (t : ThreadId) (op : Op)
     → SumsHaveGrown old new → AccessesGrownFor old new (list_at held t.0).locks op
     → HasPlaces old queues held t op → (l x : ℕ) → has_cell new l x ≡ has_cell old l x
-same_cells old new queues held t op grown only has l x = go (cases_Bool (is_held locks l && is_access_to op x))
+same_cells old new queues held t op grown only has l x =
+    go (cases_Bool (is_held locks l && is_access_to op x))
   where
     locks : List LockId
     locks = (list_at held t.0).locks

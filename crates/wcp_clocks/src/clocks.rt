@@ -90,8 +90,8 @@ impl WcpClocks {
 
     /// Makes room for the thread's operation, whose numbers are within the limits. No number changes, whether
     /// there is memory or not. Where there is room, as for each release by a holder, it is not refused, and
-    /// nothing changes except what the summaries know of where they stand: an `advance` that comes next does not
-    /// search again for the places of an access. A load and a store of a variable need the same room.
+    /// nothing changes except what the summaries know of where they stand: an `advance` that comes next does
+    /// not search again for the places of an access. A load and a store of a variable need the same room.
     #[inline(always)]
     pub fn prepare(&mut self, thread: ThreadId, op: Op) -> Result<(), OutOfMemory>
         requires { IsWithin self.old thread op }

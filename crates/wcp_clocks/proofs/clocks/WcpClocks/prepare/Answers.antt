@@ -1,5 +1,6 @@
 use Rattle.std.proofs.Common.{refl}
-use Rattle.wcp_clocks.proofs.Growth.{all_grown, grown_parts, seen_ready, seen_numbers, clocks_same, same_cells}
+use Rattle.wcp_clocks.proofs.Growth.{all_grown, grown_parts, seen_ready, seen_numbers, clocks_same}
+use Rattle.wcp_clocks.proofs.Growth.{same_cells}
 use Rattle.wcp_clocks.proofs.clocks.WcpClocks.prepare.Goals as goal
 
 pub invariant_of-self : goal.invariant_of-self
