@@ -32,7 +32,7 @@ fn small_limits(rt: &impl Abort) -> Limits
 }
 
 // Makes room for the event.
-fn make_room(rt: &impl Abort, clocks: &mut WcpClocks, event: &Event)
+fn prepare(rt: &impl Abort, clocks: &mut WcpClocks, event: &Event)
     requires { IsWithin clocks.old event.now.thread event.now.op }
     ensures same { SameNumbers clocks.old clocks.new }
     ensures limits { SameLimits clocks.old clocks.new }
@@ -94,7 +94,7 @@ fn take(rt: &impl Abort, memory: &mut Memory, clocks: &mut WcpClocks, thread: Th
     };
     permit(rt, memory, &call);
     let event = call.event_with(memory.apply(&call));
-    make_room(rt, clocks, &event);
+    prepare(rt, clocks, &event);
     clocks.advance(&event);
 }
 

@@ -1,10 +1,11 @@
 -- Small facts about truth values and lists.
-use Rattle.std.proofs.Common.{◌≡◌, ℕ, ◌<◌, Bool, true, false, inl, inr, ◌||◌, ◌&&◌, List, [], ◌∷◌, ◌++◌}
-use Rattle.std.proofs.Common.{length, nat_eq, Result, Ok, Err, get_or, set, refl, sym, ap, subst, ◌∙◌}
+use Rattle.std.proofs.Common.{◌≡◌, ℕ, ◌+◌, ◌<◌, ◌≤◌, Bool, true, false, inl, inr, ◌||◌, ◌&&◌, List, []}
+use Rattle.std.proofs.Common.{◌∷◌, ◌++◌, length, nat_eq, Result, Ok, Err, get_or, set, refl, sym, ap, subst}
+use Rattle.std.proofs.Common.{◌∙◌, arith}
 use Rattle.std.specs.List.{list_any}
-use Rattle.std.specs.Prelude.{OnErr}
+use Rattle.std.specs.Prelude.{OnErr, max}
 use Rattle.std.proofs.lemmas.Bool.{cases_eq, eq-eqb, ne_eqb, or_left, or_right}
-use Rattle.std.proofs.lemmas.List.{get_or-set_same, get_or-set_other}
+use Rattle.std.proofs.lemmas.List.{get_or-set_same, get_or-set_other, ext_get_or}
 use Rattle.std.proofs.lemmas.List.Folds.{list_any-append}
 
 -- what holds in any case holds of a refusal
@@ -29,6 +30,12 @@ at_set d P xs at x h p i q = elim (cases_eq i at) [
       (subst (P at) (sym (get_or-set_same xs at x d h)) p)
   | inr n ↦ subst (P i) (sym (get_or-set_other xs at i x d n)) (q n)
 ]
+
+-- a list that was long enough, and that reads as it did, is the same
+pub long_enough : {A : Type 0} (d : A) (old new : List A) (n : ℕ) → n < length old → length old ≤ length new
+    → length new ≤ max (length old) (n + 1) → ((i : ℕ) → get_or new i d ≡ get_or old i d) → new ≡ old
+long_enough d old new n below more most same =
+    ext_get_or d new old (omega (arith, below, more, most)) (λ i lt. same i)
 
 -- what is in a list with one more at its end
 pub any_left : (xs : List ℕ) (at i : ℕ) → list_any (nat_eq i) (xs ++ at ∷ []) ≡ true → (i ≡ at → ⊥)

@@ -1,51 +1,70 @@
 -- What is so of all locks while cells join for one lock after another.
 use Rattle.std.proofs.Common.{◌≡◌, ℕ, ◌<◌, true, List, length, get_or, set, take, refl, sym, ap, subst, ◌∙◌}
-use Rattle.std.proofs.Common.{◌+◌, inl, inr, nat_eq, ◌&&◌, false}
+use Rattle.std.proofs.Common.{◌+◌, ◌≤◌, inl, inr, nat_eq, ◌&&◌, false, length-set, arith}
+use Rattle.std.specs.Prelude.{max}
 use Rattle.event_core.specs.declared.ids.LockId.{LockId}
-use Rattle.std.proofs.lemmas.Bool.{false≢true}
-use Rattle.std.proofs.lemmas.List.{get_or_default}
+use Rattle.std.proofs.lemmas.Bool.{false≢true, ltb-true}
+use Rattle.std.proofs.lemmas.List.{get_or_default, ext_get_or, length-map}
 use Rattle.section_sum.specs.Cells.{Stored, has_cell, HasGrown}
-use Rattle.section_sum.specs.LockSums.{LockSum, no_kept, kept_at, IsKept, AreKept}
+use Rattle.section_sum.specs.LockSums.{LockSum, no_kept, kept_at, threads_of, IsKept, AreKept}
 use Rattle.section_sum.specs.Entries.{entries_of, SaysSame}
 use Rattle.section_sum.specs.Locks.{SaySame, HaveGrown}
 use Rattle.section_sum.specs.Sums.{Sums, said_of, is_held, is_ready, noted_of, others_of, GrownFor}
-use Rattle.section_sum.specs.Sums.{KeepsReady, SameNoted, SameOthers}
+use Rattle.section_sum.specs.Sums.{KeepsReady, SameNoted, SameOthers, IsReady}
 use Rattle.section_sum.specs.Standing.{StandsFor}
 use Rattle.event_core.specs.declared.events.Event.{Event}
-use Rattle.section_sum.proofs.Basics.{at_set}
+use Rattle.section_sum.proofs.Basics.{at_set, long_enough}
+use Rattle.section_sum.proofs.Keeping.{has_lock}
 use Rattle.section_sum.proofs.Passing.{same_said, same_then, held_each, is_held_at, not_held}
 use Rattle.section_sum.proofs.Sayings.{kept_set, kept_grown, says_more, no_more}
-use Rattle.section_sum.proofs.Meaning.{sums}
+use Rattle.section_sum.proofs.Meaning.{sums, said_as, thread_at}
 use Rattle.section_sum.proofs.Steps.{same_stands}
 
--- the variable has cells under the first so many of the locks, and no other cell joined
+-- the variable has cells under each of the locks
+abbrev HasAll : List LockId → ℕ → Stored → Type 0
+HasAll held var s = (l : ℕ) → is_held held l ≡ true → has_cell s l var ≡ true
+
+-- the variable has cells under the first so many of the locks, and no other cell joined. Where it had one
+-- under each, all is the same.
 pub record Grown (held : List LockId) (var i : ℕ) (before : Sums) (cells : Stored) (locks : List LockSum)
     : Type 0 where
   pub kept : AreKept cells locks
   pub same : SaySame (said_of before) (entries_of cells locks)
   pub ready : (l : ℕ) → is_held (take i held) l ≡ true → has_cell cells l var ≡ true
   pub grown : HaveGrown held var before.cells cells
+  pub again : HasAll held var before.cells → (cells ≡ before.cells) × (threads_of locks ≡ before.threads)
 
 pub none_grown : (held : List LockId) (var : ℕ) (cells : Stored) (locks : List LockSum) → AreKept cells locks
     → Grown held var 0 (sums cells locks) cells locks
 none_grown held var cells locks kept = record {
   kept = kept;
-  same = same_said (entries_of cells locks);
+  same = subst (λ f. SaySame f (entries_of cells locks)) (sym (said_as cells locks))
+      (same_said (entries_of cells locks));
   ready = λ l on. absurd (false≢true on);
   grown = λ l v off. refl;
+  again = λ all. (refl, refl);
 }
 
 module _ {held : List LockId} {var i : ℕ} {before : Sums} {cells : Stored} {locks : List LockSum}
     (g : Grown held var i before cells locks) where
-  -- locks join of which nothing is kept
-  pub more_locks : (after : List LockSum) → ((m : ℕ) → kept_at after m ≡ kept_at locks m)
-      → Grown held var i before cells after
-  more_locks after alike = record {
+  -- where it had a cell under each lock, it still has it
+  still : (l : ℕ) → is_held held l ≡ true → HasAll held var before.cells → has_cell cells l var ≡ true
+  still l on all = ap (λ (s : Stored). has_cell s l var) (g.again all).0 ∙ all l on
+
+  -- locks join of which nothing is kept, up to one of those
+  pub more_locks : (after : List LockSum) (l : ℕ) → is_held held l ≡ true
+      → ((m : ℕ) → kept_at after m ≡ kept_at locks m) → length locks ≤ length after
+      → length after ≤ max (length locks) (l + 1) → Grown held var i before cells after
+  more_locks after l on alike more most = record {
     kept = λ m. subst (IsKept m cells) (sym (alike m)) (g.kept m);
     same = λ m. subst (λ (k : LockSum). SaysSame (said_of before m)
         (record (entries_of cells locks m) { by = k.by })) (sym (alike m)) (g.same m);
     ready = g.ready;
     grown = g.grown;
+    again = λ all.
+        let below = has_lock cells locks l var g.kept (ltb-true _ _ (still l on all)) in
+        let was = g.again all in
+        (was.0, ap threads_of (long_enough no_kept locks after l below more most alike) ∙ was.1);
   }
 
   -- a cell joins for one of the locks, or none
@@ -58,12 +77,28 @@ module _ {held : List LockId} {var i : ℕ} {before : Sums} {cells : Stored} {lo
     same = same_then (said_of before) (entries_of cells locks) (entries_of new (set locks l k)) g.same says;
     ready = λ m e. (says m).ready var (g.ready m e);
     grown = λ m v off. joins grown m v (not_held held l on m _ off) ∙ g.grown m v off;
+    again = λ all.
+        let was = g.again all in (none_joins grown (still l on all) ∙ was.0, same_threads ∙ was.1);
   }
     where
+      by_each : (m : ℕ) → (kept_at (set locks l k) m).by ≡ (kept_at locks m).by
+      by_each m =
+          at_set no_kept (λ (j : ℕ) (q : LockSum). q.by ≡ (kept_at locks j).by) locks l k h by m (λ _. refl)
+
       says : SaySame (entries_of cells locks) (entries_of new (set locks l k))
-      says m =
-          says_more l var m cells new locks (set locks l k) (g.kept 0).same grown
-          (at_set no_kept (λ (j : ℕ) (q : LockSum). q.by ≡ (kept_at locks j).by) locks l k h by m (λ _. refl))
+      says m = says_more l var m cells new locks (set locks l k) (g.kept 0).same grown (by_each m)
+
+      same_threads : threads_of (set locks l k) ≡ threads_of locks
+      same_threads =
+          let after = length-map (set locks l k) (λ (q : LockSum). q.by) in
+          let before = length-map locks (λ (q : LockSum). q.by) in
+          let long = length-set locks l k in
+          ext_get_or 0 (threads_of (set locks l k)) (threads_of locks) (omega (arith, after, before, long))
+          (λ m lt. thread_at (set locks l k) m ∙ by_each m ∙ sym (thread_at locks m))
+
+      none_joins : HasGrown l var cells new → has_cell cells l var ≡ true → new ≡ cells
+      none_joins (inl e) there = e
+      none_joins (inr (n, e)) there = let less = ltb-true _ _ there in absurd (omega (arith, n, less))
 
       joins : HasGrown l var cells new → (m v : ℕ) → (nat_eq m l && nat_eq v var) ≡ false
           → has_cell new m v ≡ has_cell cells m v
@@ -79,22 +114,28 @@ module _ {held : List LockId} {var i : ℕ} {before : Sums} {cells : Stored} {lo
     same = g.same;
     ready = held_each (λ l. has_cell cells l var ≡ true) held i m h g.ready there;
     grown = g.grown;
+    again = g.again;
   }
 
 -- the lock at hand has grown, once locks have joined
 pub at_grown : {held : List LockId} {var i : ℕ} {before : Sums} {cells : Stored} {locks : List LockSum}
     → Grown held var i before cells locks → (more : List LockSum) (new : Stored) (m : LockId)
     (was k : LockSum)
-    → ((j : ℕ) → kept_at more j ≡ kept_at locks j) → i < length held → (get_or held i m).0 < length more
+    → ((j : ℕ) → kept_at more j ≡ kept_at locks j) → length locks ≤ length more
+    → length more ≤ max (length locks) ((get_or held i m).0 + 1) → i < length held
+    → (get_or held i m).0 < length more
     → was ≡ get_or more (get_or held i m).0 was → HasGrown (get_or held i m).0 var cells new
     → IsKept (get_or held i m).0 new k → k.by ≡ was.by
     → Grown held var i before new (set more (get_or held i m).0 k)
-at_grown {held = held} {i = i} g more new m was k alike h there read grown own by =
-    one_grown (more_locks g more alike) new (get_or held i m).0 k there (is_held_at held i m h) grown own
+at_grown {held = held} {i = i} g more new m was k alike long most h there read grown own by =
+    let on = is_held_at held i m h in
+    one_grown (more_locks g more (get_or held i m).0 on alike long most) new (get_or held i m).0 k there on
+    grown own
     (by ∙ ap (λ (q : LockSum). q.by) (read ∙ get_or_default more (get_or held i m).0 was no_kept there))
 
 -- so what they mean is the same
 pub record Prepared (held : List LockId) (var : ℕ) (old new : Sums) : Type 0 where
+  pub again : IsReady old held var → new ≡ old
   pub kept : KeepsReady old new
   pub grown : GrownFor old new held var
   pub noted : SameNoted old new
@@ -104,11 +145,14 @@ pub record Prepared (held : List LockId) (var : ℕ) (old new : Sums) : Type 0 w
 pub prepared : {held : List LockId} {var i : ℕ} {before : Sums} {cells : Stored} {locks : List LockSum}
     → Grown held var i before cells locks → Prepared held var before (sums cells locks)
 unfolding noted_of others_of is_ready
-prepared g = record {
-  kept = λ l v. (g.same l).ready v;
-  grown = g.grown;
-  noted = λ t l v k. (g.same l).noted t v k;
-  others = λ l v k t. (g.same l).others v k t;
-  stands = λ log. same_stands log _ _ (λ t l v k. (g.same l).noted t v k)
-      (λ l v k t. (g.same l).others v k t);
-}
+prepared {before = before} {cells = cells} {locks = locks} g =
+    let same = subst (SaySame (said_of before)) (sym (said_as cells locks)) g.same in
+    record {
+      again = λ ready i. record { cells = (g.again ready).0 i; threads = (g.again ready).1 i };
+      kept = λ l v. (same l).ready v;
+      grown = g.grown;
+      noted = λ t l v k. (same l).noted t v k;
+      others = λ l v k t. (same l).others v k t;
+      stands = λ log. same_stands log _ _ (λ t l v k. (same l).noted t v k)
+          (λ l v k t. (same l).others v k t);
+    }

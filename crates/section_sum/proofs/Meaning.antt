@@ -1,17 +1,35 @@
 -- The sections that an access meets, in the words that callers see.
 use Rattle.std.proofs.Common.{◌≡◌, ℕ, ◌≤◌, Bool, true, false, cond, List, nat_eq}
-use Rattle.std.proofs.Common.{[], ◌∷◌, length, length-append, refl, arith}
+use Rattle.std.proofs.Common.{[], ◌∷◌, length, length-append, refl, sym, subst, arith}
+use Rattle.std.specs.Prelude.{zero, suc, slice_index_or}
 use Rattle.event_core.specs.declared.events.AccessKind.{AccessKind}
 use Rattle.event_core.specs.declared.events.AccessKind.TheVariants.{Read, Write}
 use Rattle.section_sum.specs.Newest.{section}
 use Rattle.section_sum.specs.Cells.{Stored}
-use Rattle.section_sum.specs.LockSums.{LockSum}
-use Rattle.section_sum.specs.Entries.{sources_on}
+use Rattle.section_sum.specs.LockSums.{LockSum, kept_at, threads_of}
+use Rattle.section_sum.specs.Entries.{Entries, entries_by, entries_of, sources_on}
 use Rattle.section_sum.specs.Sums.{Sums, said_of, others_of, sources_of}
 use Rattle.section_sum.specs.Sources.{most_sources}
 
 abbrev pub sums : Stored → List LockSum → Sums
-sums cells locks = record { cells = cells; locks = locks }
+sums cells locks = record { cells = cells; threads = threads_of locks }
+
+pub thread_at : (locks : List LockSum) (l : ℕ) → slice_index_or (threads_of locks) l 0 ≡ (kept_at locks l).by
+thread_at [] l = refl
+thread_at (k ∷ ks) zero = refl
+thread_at (k ∷ ks) (suc l) = thread_at ks l
+
+-- what callers see said of each lock is what is said within
+pub said_as : (cells : Stored) (locks : List LockSum) → said_of (sums cells locks) ≡ entries_of cells locks
+said_as cells locks i l = entries_by cells (thread_at locks l i) l
+
+pub seen : (P : (ℕ → Entries) → (ℕ → Entries) → Type 0) {now : Sums} (cells new : Stored)
+    (locks more : List LockSum) → sums cells locks ≡ now → P (entries_of cells locks) (entries_of new more)
+    → P (said_of now) (said_of (sums new more))
+seen P cells new locks more is h =
+    subst (λ (s : Sums). P (said_of s) (said_of (sums new more))) is
+    (subst (P (said_of (sums cells locks))) (sym (said_as new more))
+    (subst (λ f. P f (entries_of new more)) (sym (said_as cells locks)) h))
 
 -- the sections that an access meets
 pub meets : (s : Sums) (l v : ℕ) (k : AccessKind) (t : ℕ)

@@ -12,6 +12,7 @@ use Rattle.std.specs.Prelude.{
   List,
   [],
   length,
+  map,
   nat_eq,
   slice_index_or,
   Option,
@@ -40,6 +41,10 @@ no_kept = record { by = 0; count = 0; listed = []; most = 0; sought = None }
 
 abbrev pub kept_at : List LockSum → ℕ → LockSum
 kept_at locks l = slice_index_or locks l no_kept
+
+-- the thread of each lock's open section
+abbrev pub threads_of : List LockSum → List ℕ
+threads_of = map (λ (k : LockSum). k.by)
 
 -- the cell with the number is one of the lock
 abbrev pub is_own : ℕ → Stored → ℕ → Bool

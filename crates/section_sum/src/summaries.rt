@@ -1,6 +1,6 @@
 //! The summaries of all locks.
 ghost use Rattle.std.specs.Prelude.{◌≡◌, ℕ, ◌+◌, ◌<◌, ◌≤◌, ◌↔◌, ◌||◌, ◌&&◌, List, [], ◌∷◌, ◌++◌, length};
-ghost use Rattle.std.specs.Prelude.{nat_eq, cond, not, false, OnOk, OnErr, IsTrue};
+ghost use Rattle.std.specs.Prelude.{nat_eq, cond, not, false, IsOk, OnOk, OnErr, IsTrue};
 ghost use Rattle.event_core.specs.declared.events.AccessKind.{AccessKind as Kind};
 ghost use Rattle.event_core.specs.declared.events.Event.{Event};
 ghost use Rattle.event_core.specs.declared.bounds.Limits.{Limits};
@@ -32,11 +32,11 @@ pub struct Summaries {
 
 impl Model for Summaries {
     ghost use Rattle.section_sum.specs.Sums.{Sums};
-    ghost use Rattle.section_sum.specs.LockSums.{AreKept, IsFitted};
+    ghost use Rattle.section_sum.specs.LockSums.{AreKept, IsFitted, threads_of};
 
     ghost Value = { Sums };
 
-    ghost view = { λ a. record { cells = a.cells; locks = a.locks.items } };
+    ghost view = { λ a. record { cells = a.cells; threads = threads_of a.locks.items } };
 
     ghost invariant = { λ a. AreKept a.cells a.locks.items × IsFitted a.locks };
 }
@@ -56,13 +56,14 @@ impl Summaries {
     }
 
     /// Makes room for accesses to the variable in sections on the locks, and for those sections' ends.
-    /// Where there is room it takes no memory. The next calls of `sources` and `note` for the variable under
-    /// these locks take no hash. A refused growth is answered by `OutOfMemory`, and the same call can be made
-    /// again.
+    /// Where there is room it takes no memory, and nothing changes that a caller can tell. The next calls of
+    /// `sources` and `note` for the variable under these locks take no hash. A refused growth is answered by
+    /// `OutOfMemory`, and the same call can be made again.
     #[inline(never)]
     pub fn prepare(&mut self, held: &[LockId], var: VarId) -> Result<(), OutOfMemory>
         ensures ready { OnOk result (IsReady self.new held.now var.0) }
         ensures refused { OnErr result (IsReady self.new held.now var.0 → ⊥) }
+        ensures again { IsReady self.old held.now var.0 → IsOk result × (self.new ≡ self.old) }
         ensures kept { KeepsReady self.old self.new }
         ensures grown { GrownFor self.old self.new held.now var.0 }
 

@@ -1,8 +1,8 @@
 -- Parts that have more room are as before in all else.
-use Rattle.std.proofs.Common.{◌≡◌, ℕ, ◌<◌, List, [], ◌∷◌, length, Bool, true, false, ◌||◌, ◌&&◌, nat_eq, refl}
+use Rattle.std.proofs.Common.{◌≡◌, ℕ, ◌<◌, List, [], ◌∷◌, length, Bool, true, false, ◌||◌, nat_eq, refl}
 use Rattle.std.proofs.Common.{sym, ap, ap₂, subst, ◌∙◌, IsTrue, arith, inl, inr, ◌⊎◌, Result, Ok, Err, OnOk}
 use Rattle.std.proofs.Common.{OnErr}
-use Rattle.std.proofs.lemmas.Bool.{cases_eq, cases_Bool, and_parts, eqb-true, false≢true}
+use Rattle.std.proofs.lemmas.Bool.{cases_eq}
 use Rattle.event_core.specs.declared.replies.OutOfMemory.{OutOfMemory}
 use Rattle.event_core.proofs.Growing.{cell_same, cell_other}
 use Rattle.std.specs.List.{list_any}
@@ -17,7 +17,6 @@ use Rattle.hb_clocks.specs.State.{HbState, empty as hb_empty}
 use Rattle.hb_clocks.specs.Tables as hb
 use Rattle.hb_clocks.specs.Work.{Done}
 use Rattle.section_sum.specs.Sums.{Sums, IsReady as SumsAreReady, is_held, noted_of, others_of}
-use Rattle.section_sum.specs.Sums.{is_ready as has_cell}
 use Rattle.lock_queues.specs.Queues.{AllQueues as Queues, SameMeaning, closed_of, opened_of, is_ready}
 use Rattle.wcp_laws.specs.State.{State, empty}
 use Rattle.wcp_clocks.specs.Parts.{Parts, parts_of, hb_of, state_of, HasPlaces, KeepsReady, SameNumbers}
@@ -30,7 +29,6 @@ use Rattle.wcp_clocks.specs.Met.{release_at}
 use Rattle.wcp_clocks.specs.Whole.{AreWhole}
 use Rattle.wcp_clocks.proofs.Wholeness.{empty_whole}
 use Rattle.wcp_clocks.specs.Growth.{ClocksHaveGrown, SumsHaveGrown, QueuesHaveGrown, HoldsHaveGrown, HasGrown}
-use Rattle.wcp_clocks.specs.Growth.{AccessesGrownFor, is_access_to}
 use Rattle.wcp_clocks.proofs.Ordered.{ordered_more, ordered_grown}
 
 -- a part that stays
@@ -193,31 +191,6 @@ queues_grown {old} {new} r t l same ok err = record { same = same; room = λ u m
 pub queue_made : (old new : ℕ → ℕ → Bool) (t l : ℕ) → new ≡ with_row t (with_row l true (old t)) old
     → IsTrue (new t l)
 queue_made old new t l is = ap (λ (f : ℕ → ℕ → Bool). f t l) is ∙ cell_same t l true old
-
--- where there was room, the same pairs of a lock and a variable have cells
-pub same_cells : (old new : Sums) (queues : Queues) (held : List HeldList) (t : ThreadId) (op : Op)
-    → SumsHaveGrown old new → AccessesGrownFor old new (list_at held t.0).locks op
-    → HasPlaces old queues held t op → (l x : ℕ) → has_cell new l x ≡ has_cell old l x
-same_cells old new queues held t op grown only has l x =
-    go (cases_Bool (is_held locks l && is_access_to op x))
-  where
-    locks : List LockId
-    locks = (list_at held t.0).locks
-
-    there : (op : Op) → HasPlaces old queues held t op → (is_held locks l && is_access_to op x) ≡ true
-        → has_cell old l x ≡ true
-    there (Load y) has both =
-        let p = and_parts _ _ both in
-        subst (λ n. has_cell old l n ≡ true) (sym (eqb-true x y.0 p.1)) (has l p.0)
-    there (Store y) has both =
-        let p = and_parts _ _ both in
-        subst (λ n. has_cell old l n ≡ true) (sym (eqb-true x y.0 p.1)) (has l p.0)
-    there _ has both = absurd (false≢true (and_parts (is_held locks l) false both).1)
-
-    go : ((is_held locks l && is_access_to op x) ≡ true) ⊎ ((is_held locks l && is_access_to op x) ≡ false)
-        → has_cell new l x ≡ has_cell old l x
-    go (inl both) = let was = there op has both in grown.room l x was ∙ sym was
-    go (inr other) = only l x other
 
 -- parts without numbers
 pub empty_numbers : (p : Parts) → hb_of p ≡ hb_empty → strict_of p.rows ≡ no_rows

@@ -75,14 +75,3 @@ pub record GrownFor (old new : Parts) (t : ThreadId) (op : Op) : Type 0 where
 pub record MadeFor (old new : Parts) (t : ThreadId) (op : Op) : Type 0 where
   pub order : OrderGrownFor old.hb new.hb t op
   pub rows : RowsGrownFor old.rows new.rows t op
-
--- all is as it was, except what the summaries know of where they stand
-pub record SameParts (old new : Parts) : Type 0 where
-  pub hb : new.hb ≡ old.hb
-  pub rows : new.rows ≡ old.rows
-  pub noted : SameNoted old.sums new.sums
-  pub others : SameOthers old.sums new.sums
-  pub cells : (l x : ℕ) → has_cell new.sums l x ≡ has_cell old.sums l x
-  pub queues : new.queues ≡ old.queues
-  pub held : new.held ≡ old.held
-  pub work : new.work ≡ old.work

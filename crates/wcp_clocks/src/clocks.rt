@@ -25,7 +25,7 @@ ghost use Rattle.wcp_laws.specs.Conditions.{found_at};
 ghost use Rattle.wcp_clocks.specs.Parts.{hb_of, state_of, width_of, limits_of, work_of, found_in};
 ghost use Rattle.wcp_clocks.specs.Parts.{IsReady, Fits, KeepsReady, SameLimits, SameNumbers, most_joins};
 ghost use Rattle.wcp_clocks.specs.Parts.{joins_at, FewComparisons, NoFewer, IsWithin, IsAccess};
-ghost use Rattle.wcp_clocks.specs.Growth.{GrownFor, MadeFor, SameParts};
+ghost use Rattle.wcp_clocks.specs.Growth.{GrownFor, MadeFor};
 ghost use Rattle.wcp_clocks.specs.Standing.{StandsFor};
 
 mod effects;
@@ -89,15 +89,15 @@ impl WcpClocks {
     }
 
     /// Makes room for the thread's operation, whose numbers are within the limits. No number changes, whether
-    /// there is memory or not. Where there is room, as for each release by a holder, it is not refused, and
-    /// nothing changes except what the summaries know of where they stand: an `advance` that comes next does
-    /// not search again for the places of an access. A load and a store of a variable need the same room.
+    /// there is memory or not. Where there is room, as for each release by a holder, it is not refused. Then
+    /// nothing changes that a caller can tell: an `advance` that comes next does not search again for the
+    /// places of an access. A load and a store of a variable need the same room.
     #[inline(always)]
     pub fn prepare(&mut self, thread: ThreadId, op: Op) -> Result<(), OutOfMemory>
         requires { IsWithin self.old thread op }
         ensures same { SameNumbers self.old self.new }
         ensures ready { OnOk result (IsReady self.new thread op) }
-        ensures again { IsReady self.old thread op → IsOk result × SameParts self.old self.new }
+        ensures again { IsReady self.old thread op → IsOk result × (self.new ≡ self.old) }
         ensures releases { IsHeldRelease (hb_of self.old) thread op → IsOk result }
         ensures kept { KeepsReady self.old self.new }
         ensures grown { GrownFor self.old self.new thread op }

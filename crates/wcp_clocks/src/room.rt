@@ -48,7 +48,7 @@ pub(crate) fn prepare_places(
     ensures holds { HoldsGrownFor held.old held.new thread op }
     ensures ready { OnOk result (HasPlaces sums.new queues.new held.new thread op) }
     ensures again { HasPlaces sums.old queues.old held.old thread op
-        → IsOk result × (queues.new ≡ queues.old) × (held.new ≡ held.old) }
+        → IsOk result × (sums.new ≡ sums.old) × (queues.new ≡ queues.old) × (held.new ≡ held.old) }
 {
     match op {
         Op::Load(var) | Op::Store(var) => {

@@ -1,16 +1,14 @@
-use Rattle.std.proofs.Common.{subst}
-use Rattle.section_sum.specs.Entries.{entries_of}
 use Rattle.section_sum.specs.Locks.{HaveClosed}
-use Rattle.section_sum.specs.Sums.{Sums, said_of, noted_of, others_of, is_ready}
+use Rattle.section_sum.specs.Sums.{noted_of, others_of, is_ready}
+use Rattle.section_sum.proofs.Meaning.{seen}
 use Rattle.section_sum.proofs.Steps.{close_stands}
 use Rattle.section_sum.proofs.summaries.Summaries.close.Goals as goal
 
 pub returns : goal.returns
 unfolding noted_of others_of is_ready
 returns c =
-    let ends =
-    subst (λ (s : Sums). HaveClosed c.args.thread.0 c.args.lock.0 c.args.number (said_of s)
-    (entries_of c.close_under.new.cells c.close_under.new.locks.items)) c.self.view_is
+    let ends = seen (HaveClosed c.args.thread.0 c.args.lock.0 c.args.number) c.self.inside.cells
+    c.close_under.new.cells c.self.inside.locks.items c.close_under.new.locks.items c.self.view_is
     c.close_under.ensures.closed in
     record {
       noted = λ t l v k. (ends l).noted t v k;

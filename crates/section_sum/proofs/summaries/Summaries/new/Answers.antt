@@ -1,7 +1,8 @@
 use Rattle.std.proofs.Common.{◌≡◌, false, refl, sym, subst}
 use Rattle.section_sum.specs.Cells.{Stored, no_cells}
-use Rattle.section_sum.specs.Entries.{entries_of, noted_at, others_on}
-use Rattle.section_sum.specs.Sums.{noted_of, others_of}
+use Rattle.section_sum.specs.Entries.{noted_at, others_on}
+use Rattle.section_sum.specs.Sums.{said_of, noted_of, others_of}
+use Rattle.section_sum.proofs.Meaning.{sums}
 use Rattle.section_sum.proofs.Says.{none_noted, none_others}
 use Rattle.section_sum.proofs.Steps.{nothing_stands}
 use Rattle.section_sum.proofs.summaries.Summaries.new.Goals as goal
@@ -9,14 +10,15 @@ use Rattle.section_sum.proofs.summaries.Summaries.new.Goals as goal
 pub returns-clause-nothing_noted : goal.returns-clause-nothing_noted
 unfolding noted_of
 returns-clause-nothing_noted c = λ t l v k.
-    subst (λ (s : Stored). noted_at (entries_of s c.new-2.result.items l) t v k ≡ false) (sym c.new.ensures)
-    (none_noted (entries_of no_cells c.new-2.result.items l) (λ x. refl) t v k)
+    subst (λ (s : Stored). noted_at (said_of (sums s c.new-2.result.items) l) t v k ≡ false)
+    (sym c.new.ensures)
+    (none_noted (said_of (sums no_cells c.new-2.result.items) l) (λ x. refl) t v k)
 
 pub returns-clause-no_others : goal.returns-clause-no_others
 unfolding others_of
 returns-clause-no_others c = λ l v k t.
-    subst (λ (s : Stored). others_on (entries_of s c.new-2.result.items l) v k t ≡ 0) (sym c.new.ensures)
-    (none_others (entries_of no_cells c.new-2.result.items l) (λ x. refl) v k t)
+    subst (λ (s : Stored). others_on (said_of (sums s c.new-2.result.items) l) v k t ≡ 0) (sym c.new.ensures)
+    (none_others (said_of (sums no_cells c.new-2.result.items) l) (λ x. refl) v k t)
 
 pub returns-clause-stands : goal.returns-clause-stands
 returns-clause-stands c =

@@ -1,13 +1,14 @@
-use Rattle.std.proofs.Common.{rules, ◌≡◌, ◌≤◌, false, length, length-set, get_or, sym, ap, subst, ◌∙◌}
+use Rattle.std.proofs.Common.{rules, ◌≡◌, ◌≤◌, false, length, length-set, get_or, set, sym, ap, subst, ◌∙◌}
 use Rattle.std.proofs.Common.{arith, List}
 use Rattle.std.proofs.lemmas.Bool.{false≢true, le-ltb}
 use Rattle.std.proofs.lemmas.List.{take_all}
 use Rattle.event_core.specs.declared.ids.LockId.{LockId}
 use Rattle.section_sum.specs.LockSums.{no_kept}
 use Rattle.section_sum.specs.Cells.{has_cell}
-use Rattle.section_sum.specs.Sums.{Sums, is_held, is_ready}
+use Rattle.section_sum.specs.Sums.{Sums, is_held, is_ready, IsReady}
 use Rattle.section_sum.proofs.Basics.{refused}
 use Rattle.section_sum.proofs.Keeping.{no_lock}
+use Rattle.section_sum.proofs.Meaning.{sums}
 use Rattle.section_sum.proofs.Passing.{is_held_at}
 use Rattle.section_sum.proofs.Sayings.{kept_read}
 use Rattle.section_sum.proofs.Growing.{Grown, none_grown, more_locks, at_grown, next_grown, prepared}
@@ -24,8 +25,11 @@ loop-lock-init c = record {
 
 pub prepare-requires : goal.prepare-requires
 prepare-requires c =
-    let g = more_locks c.loop-lock.invariant.grown c.grow_to.new.list.items
-    (λ m. c.grow_to.ensures.same no_kept (λ lock given. search rules) m) in
+    let l : LockId = get_or c.args.held.now c.loop-lock.lock-index (record { 0 = 0 }) in
+    let g = more_locks c.loop-lock.invariant.grown c.grow_to.new.list.items l.0
+    (is_held_at c.args.held.now c.loop-lock.lock-index _ c.loop-lock-test.true)
+    (λ m. c.grow_to.ensures.same no_kept (λ lock given. search rules) m) c.grow_to.ensures.more
+    c.grow_to.ensures.most in
     let there = c.in_ok-grow_to.ensures.ok in
     record {
       kept = kept_read _ _ c.grow_to.new.list.items c.index_mut-kept.result.now (omega arith) g.kept
@@ -38,7 +42,8 @@ loop-lock-preserved c =
     let ok = c.in_ok-grow_to.ensures.ok in
     let after = at_grown c.loop-lock.invariant.grown c.grow_to.new.list.items c.prepare.new.cells
     (record { 0 = 0 }) c.index_mut-kept.result.now c.prepare.new.self
-    (λ m. c.grow_to.ensures.same no_kept (λ lock given. search rules) m) c.loop-lock-test.true (omega arith)
+    (λ m. c.grow_to.ensures.same no_kept (λ lock given. search rules) m) c.grow_to.ensures.more
+    c.grow_to.ensures.most c.loop-lock-test.true (omega arith)
     c.index_mut-kept.ensures.value c.prepare.ensures.grown c.prepare.ensures.kept c.prepare.ensures.by in
     record {
       grown = next_grown after (record { 0 = 0 }) c.loop-lock-test.true (sym c.in_ok-prepare.ensures.ready);
@@ -58,7 +63,8 @@ invariant_of-self-in_err-prepare c =
     let ok = c.in_ok-grow_to.ensures.ok in
     let after = at_grown c.loop-lock.invariant.grown c.grow_to.new.list.items c.prepare.new.cells
     (record { 0 = 0 }) c.index_mut-kept.result.now c.prepare.new.self
-    (λ m. c.grow_to.ensures.same no_kept (λ lock given. search rules) m) c.loop-lock-test.true (omega arith)
+    (λ m. c.grow_to.ensures.same no_kept (λ lock given. search rules) m) c.grow_to.ensures.more
+    c.grow_to.ensures.most c.loop-lock-test.true (omega arith)
     c.index_mut-kept.ensures.value c.prepare.ensures.grown c.prepare.ensures.kept c.prepare.ensures.by in (
       after.kept,
       omega (
@@ -75,18 +81,23 @@ pub returns-in_err-grow_to : goal.returns-in_err-grow_to
 unfolding is_ready
 returns-in_err-grow_to c =
     let l : LockId = get_or c.args.held.now c.loop-lock.lock-index (record { 0 = 0 }) in
-    let g = more_locks c.loop-lock.invariant.grown c.grow_to.new.list.items
-    (λ m. c.grow_to.ensures.same no_kept (λ lock given. search rules) m) in
+    let on = is_held_at c.args.held.now c.loop-lock.lock-index _ c.loop-lock-test.true in
+    let g = more_locks c.loop-lock.invariant.grown c.grow_to.new.list.items l.0 on
+    (λ m. c.grow_to.ensures.same no_kept (λ lock given. search rules) m) c.grow_to.ensures.more
+    c.grow_to.ensures.most in
     let past : length c.grow_to.new.list.items ≤ l.0
     = omega (arith, c.in_err-grow_to.ensures.lacks, ap length c.in_err-grow_to.ensures.refused) in
     let off : has_cell c.loop-lock.self-inside.cells l.0 c.args.var.0 ≡ false
     = le-ltb _ _ (no_lock c.loop-lock.self-inside.cells c.grow_to.new.list.items l.0 c.args.var.0 g.kept past)
     in
     let means = prepared g in
+    let lacks : IsReady (sums c.loop-lock.self-inside.cells c.grow_to.new.list.items) c.args.held.now
+    c.args.var.0 → ⊥
+    = λ all. absurd (false≢true (sym off ∙ all l.0 on)) in
     record {
       ready = search rules;
-      refused = refused c.from_residual.result _ (λ all. absurd (false≢true (sym off ∙ all l.0
-          (is_held_at c.args.held.now c.loop-lock.lock-index _ c.loop-lock-test.true))));
+      refused = refused c.from_residual.result _ lacks;
+      again = λ was. absurd (lacks (λ m on. means.kept m c.args.var.0 (was m on)));
       kept = means.kept;
       grown = means.grown;
       noted = means.noted;
@@ -101,14 +112,18 @@ returns-in_err-prepare c =
     let ok = c.in_ok-grow_to.ensures.ok in
     let after = at_grown c.loop-lock.invariant.grown c.grow_to.new.list.items c.prepare.new.cells
     (record { 0 = 0 }) c.index_mut-kept.result.now c.prepare.new.self
-    (λ m. c.grow_to.ensures.same no_kept (λ lock given. search rules) m) c.loop-lock-test.true (omega arith)
+    (λ m. c.grow_to.ensures.same no_kept (λ lock given. search rules) m) c.grow_to.ensures.more
+    c.grow_to.ensures.most c.loop-lock-test.true (omega arith)
     c.index_mut-kept.ensures.value c.prepare.ensures.grown c.prepare.ensures.kept c.prepare.ensures.by in
     let means = prepared after in
+    let lacks : IsReady (sums c.prepare.new.cells (set c.grow_to.new.list.items l.0 c.prepare.new.self))
+    c.args.held.now c.args.var.0 → ⊥
+    = λ all. absurd (false≢true (c.in_err-prepare.ensures.ready ∙ all l.0
+    (is_held_at c.args.held.now c.loop-lock.lock-index _ c.loop-lock-test.true))) in
     record {
       ready = search rules;
-      refused = refused c.from_residual-in_err-prepare.result _
-          (λ all. absurd (false≢true (c.in_err-prepare.ensures.ready ∙ all l.0
-          (is_held_at c.args.held.now c.loop-lock.lock-index _ c.loop-lock-test.true))));
+      refused = refused c.from_residual-in_err-prepare.result _ lacks;
+      again = λ was. absurd (lacks (λ m on. means.kept m c.args.var.0 (was m on)));
       kept = means.kept;
       grown = means.grown;
       noted = means.noted;
@@ -125,6 +140,7 @@ returns c =
           (ap (λ (held : List LockId). is_held held l) (take_all c.loop-lock.lock-index c.args.held.now
           c.loop-lock-test.false) ∙ on);
       refused = search rules;
+      again = λ was. (search rules, means.again was);
       kept = means.kept;
       grown = means.grown;
       noted = means.noted;

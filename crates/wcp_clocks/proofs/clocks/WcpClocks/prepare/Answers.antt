@@ -1,6 +1,5 @@
-use Rattle.std.proofs.Common.{refl}
 use Rattle.wcp_clocks.proofs.Growth.{all_grown, grown_parts, seen_ready, seen_numbers, clocks_same}
-use Rattle.wcp_clocks.proofs.Growth.{same_cells}
+use Rattle.wcp_clocks.specs.Parts.{parts_of}
 use Rattle.wcp_clocks.proofs.clocks.WcpClocks.prepare.Goals as goal
 
 pub invariant_of-self : goal.invariant_of-self
@@ -23,15 +22,6 @@ returns-then-ready-clause-again c = rw (← c.self.view_is) (λ ready.
     let more = c.prepare_places.ensures in
     let places = more.again ready.places in (
       places.0,
-      record {
-        hb = refl;
-        rows = refl;
-        noted = more.sums.noted;
-        others = more.sums.others;
-        cells = same_cells _ _ c.self.inside.queues c.self.inside.held c.args.thread c.args.op more.sums
-            more.accesses ready.places;
-        queues = places.1;
-        held = places.2;
-        work = refl;
-      },
+      λ i. parts_of c.self.inside.hb c.self.inside.rows (places.1 i) (places.2 i) (places.3 i)
+          c.self.inside.work,
     ))
