@@ -36,7 +36,7 @@ use Rattle.rapid_line.specs.Lines.{Lines, to_come, most, Cuts, Keeps, IsLastLine
 use Rattle.rapid_line.proofs.Cuts.{IsCut-at, after_last-Lacks}
 use Rattle.rapid_line.proofs.LineLaws.{keeps_law, end_within}
 use Rattle.rapid_text.specs.Taking.{lines_place, cutter_place}
-use Rattle.rapid_text.proofs.Taken.{Took, cuts_took, keeps_took, took_more}
+use Rattle.rapid_text.proofs.Taking.{Took, cuts_took, keeps_took, took_more}
 use Rattle.rapid_text.specs.declared.causes.Cause.{Cause}
 use Rattle.rapid_text.specs.declared.causes.Cause.TheVariants as causes
 use Rattle.rapid_text.specs.Tables.{Tables, TablesGrow}

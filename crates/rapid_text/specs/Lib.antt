@@ -8,7 +8,6 @@ pub mod Events
 pub mod KnownNames
 pub mod Texts
 pub mod Cutting
-pub mod Turns
 pub mod Pushing
 pub mod Pulling
 pub mod Reading

@@ -1,8 +1,8 @@
--- What notes say of names.
+-- What entries say of names.
 use Rattle.std.specs.Prelude.{◌≡◌, ℕ, ◌<◌, ◌≤◌, ◌-◌, ◌/◌, List, [], ◌∷◌, length, slice_get, slice_index, Some}
 use Rattle.std.specs.Prelude.{if◌then◌else◌, nat_lt, take, drop}
 use Rattle.std.specs.Int.{to_le_bytes, w64}
-use Rattle.rapid_text.specs.declared.number_cache.Note.{Note}
+use Rattle.rapid_text.specs.declared.number_cache.Entry.{Entry}
 use Rattle.rapid_text.specs.declared.number_cache.Words.{Words}
 
 -- the bytes at the ends of a name of so many bytes: the first four and the last four, and of fewer than four
@@ -25,38 +25,38 @@ pub record Tell (words : Words) (name : List ℕ) : Type 0 where
   pub first : 8 < length name → to_le_bytes w64 words.first ≡ take 8 name
   pub last : 8 < length name → to_le_bytes w64 words.last ≡ drop (length name - 8) name
 
--- the note is one of the list
-abbrev pub IsOneOf : List Note → Note → Type 0
-IsOneOf notes note = (i : ℕ) × (slice_get notes i ≡ Some note)
+-- the entry is one of the list
+abbrev pub IsOneOf : List Entry → Entry → Type 0
+IsOneOf entries entry = (i : ℕ) × (slice_get entries i ≡ Some entry)
 
--- the note holds no name
-abbrev pub HoldsNone : Note → Type 0
-HoldsNone note = note.length ≡ 0
+-- the entry holds no name
+abbrev pub HoldsNone : Entry → Type 0
+HoldsNone entry = entry.length ≡ 0
 
--- the note has the length and the words of the short name
-pub record Holds (name : List ℕ) (note : Note) : Type 0 where
-  pub length_is : note.length ≡ length name
+-- the entry has the length and the words of the short name
+pub record Holds (name : List ℕ) (entry : Entry) : Type 0 where
+  pub length_is : entry.length ≡ length name
   pub some : 0 < length name
   pub short : length name ≤ 16
-  pub words_tell : Tell note.words name
+  pub words_tell : Tell entry.words name
 
--- the note is of the name with the number
-pub record IsNoteOf (number : ℕ) (name : List ℕ) (note : Note) : Type 0 where
-  pub number_is : note.number ≡ number
-  pub held : Holds name note
+-- the entry is of the name with the number
+pub record IsEntryOf (number : ℕ) (name : List ℕ) (entry : Entry) : Type 0 where
+  pub number_is : entry.number ≡ number
+  pub held : Holds name entry
 
--- one of the notes holds the name with the number
-pub record IsFound (notes : List Note) (number : ℕ) (name : List ℕ) : Type 0 where
-  pub note : Note
-  pub one : IsOneOf notes note
-  pub number_is : note.number ≡ number
-  pub held : Holds name note
+-- one of the entries holds the name with the number
+pub record IsFound (entries : List Entry) (number : ℕ) (name : List ℕ) : Type 0 where
+  pub entry : Entry
+  pub one : IsOneOf entries entry
+  pub number_is : entry.number ≡ number
+  pub held : Holds name entry
 
--- what the note holds is the name with its number
-abbrev pub IsRight : List (List ℕ) → Note → Type 0
-IsRight names note = 0 < note.length
-    → (name : List ℕ) × (slice_get names note.number ≡ Some name) × Holds name note
+-- what the entry holds is the name with its number
+abbrev pub IsRight : List (List ℕ) → Entry → Type 0
+IsRight names entry = 0 < entry.length
+    → (name : List ℕ) × (slice_get names entry.number ≡ Some name) × Holds name entry
 
--- and so it is of each note
-abbrev pub AreRight : List (List ℕ) → List Note → Type 0
-AreRight names notes = (note : Note) → IsOneOf notes note → IsRight names note
+-- and so it is of each entry
+abbrev pub AreRight : List (List ℕ) → List Entry → Type 0
+AreRight names entries = (entry : Entry) → IsOneOf entries entry → IsRight names entry

@@ -1,22 +1,6 @@
 -- A text that is pulled from an input: what is still to be judged, and what the next answer says of it.
-use Rattle.std.specs.Prelude.{
-  ◌≡◌,
-  ℕ,
-  ◌≤◌,
-  List,
-  [],
-  ◌++◌,
-  Option,
-  Some,
-  None,
-  Bool,
-  true,
-  false,
-  length,
-  option_map,
-  IfSome,
-  ◌⊎◌,
-}
+use Rattle.std.specs.Prelude.{◌≡◌, ℕ, ◌+◌, ◌*◌, ◌≤◌, List, [], ◌++◌, Option, Some, None, Bool, true, false}
+use Rattle.std.specs.Prelude.{length, option_map, IfSome, ◌⊎◌}
 use Rattle.event_core.specs.declared.events.Event.{Event}
 use Rattle.event_core.specs.Bounds.{Bounds}
 use Rattle.rapid_text.specs.declared.causes.Cause.{Cause}
@@ -112,3 +96,15 @@ NoAnswer old left new rest read_failed f causes.OutOfMemory = GrowthFails old le
 NoAnswer old left new rest read_failed f causes.Read = ReadFails old left new rest read_failed f
 NoAnswer old left new rest read_failed f causes.Failed = old.failed ≡ Some f.line
 NoAnswer old left new rest read_failed f cause = StopsAt old left f
+
+-- where the bytes that are left are known, they became fewer by one for each turn at least
+abbrev pub TakeBytes : ℕ → Option (List ℕ) → ℕ → Option (List ℕ) → Type 0
+TakeBytes old None new rest = Unit {0}
+TakeBytes old (Some left) new None = ⊥
+TakeBytes old (Some left) new (Some rest) = old + length rest ≤ new + length left
+
+-- where the bytes that are left are known, they became fewer by no more than 4,096 for each turn
+abbrev pub TakeFew : ℕ → Option (List ℕ) → ℕ → Option (List ℕ) → Type 0
+TakeFew old None new rest = Unit {0}
+TakeFew old (Some left) new None = ⊥
+TakeFew old (Some left) new (Some rest) = length left + 4096 * new ≤ length rest + 4096 * old

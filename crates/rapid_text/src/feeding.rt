@@ -1,7 +1,6 @@
 //! A text that is pulled from an input and fed to what takes it, piece by piece.
 ghost use Rattle.std.specs.Prelude.{◌≡◌, ◌≢◌, ◌⊎◌, ℕ, ◌≤◌, List, [], ◌++◌, true, false, length};
-ghost use Rattle.rapid_text.specs.Feeding.{Pulled, Whole};
-ghost use Rattle.rapid_text.specs.Turns.{WithinTurns};
+ghost use Rattle.rapid_text.specs.Feeding.{Pulled, Whole, WithinTurns};
 
 use crate::input::Input;
 

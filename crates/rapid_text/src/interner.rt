@@ -11,19 +11,19 @@ use indexmap::IndexSet;
 use std::alloc::{AllocError, Global};
 use std::marker::Model;
 
-/// Makes room for the note of one more name. New places are empty, so all names are noted again.
-fn make_room(cache: &mut NumberCache, alloc: Global, names: &[StoredName]) -> Result<(), AllocError>
+/// Makes room for the entry of one more name. New places are empty, so all names are put in again.
+fn prepare(cache: &mut NumberCache, alloc: Global, names: &[StoredName]) -> Result<(), AllocError>
     requires right { AreRight names.now cache.old }
     requires few { length names.now + 1 < 2 ^ 32 }
     ensures { AreRight names.now cache.new }
 {
     let count = names.len();
-    if cache.have_room(count + 1) {
+    if cache.has_room(count + 1) {
         return Ok(());
     }
-    cache.make_room(alloc, count as u32 + 1)?;
+    cache.reset(alloc, count as u32 + 1)?;
     for number in 0..count {
-        cache.note(names[number].as_slice(), number as u32);
+        cache.put(names[number].as_slice(), number as u32);
     }
     Ok(())
 }
@@ -94,7 +94,7 @@ impl Interner {
         ensures same { self.new ≡ self.old }
     {
         let i = self.names.get_index_of(SoughtName { bytes: name })?;
-        self.cache.note(name, i as u32);
+        self.cache.put(name, i as u32);
         Some(i as u32)
     }
 
@@ -113,7 +113,7 @@ impl Interner {
         ensures err { OnErr result (self.new ≡ self.old) }
     {
         let count = self.names.len();
-        if make_room(&mut self.cache, self.alloc, self.names.as_slice()).is_err() {
+        if prepare(&mut self.cache, self.alloc, self.names.as_slice()).is_err() {
             return Err(OutOfMemory);
         }
         let Ok(stored) = StoredName::new(self.alloc, name) else {
@@ -122,7 +122,7 @@ impl Interner {
         let Ok(_) = self.names.insert(stored) else {
             return Err(OutOfMemory);
         };
-        self.cache.note(name, count as u32);
+        self.cache.put(name, count as u32);
         Ok(count as u32)
     }
 

@@ -76,7 +76,7 @@ impl Names {
         }
     }
 
-    // The number of a name that no note holds, in the space of its kind.
+    // The number of a name that the cache may lack, in the space of its kind.
     fn search(&mut self, kind: Kind, name: &[u8]) -> Option<u32>
         ensures is { result ≡ found_number (space self.old kind) name.now }
         ensures same { self.new ≡ self.old }
@@ -124,7 +124,7 @@ impl Names {
         }
     }
 
-    // The number of a name that no note holds: the next one, where the name is new.
+    // The number of a name that the cache may lack: the next one, where the name is new.
     #[inline(never)]
     fn search_or_add(&mut self, kind: Kind, name: &[u8]) -> Result<u32, NameFault>
         requires { IsNameOf kind name.now }
@@ -147,23 +147,6 @@ impl Names {
         }
     }
 
-    // The number of the name in the space of its kind.
-    #[inline(always)]
-    fn number_in_space(&mut self, kind: Kind, name: &[u8]) -> Result<u32, NameFault>
-        requires { IsNameOf kind name.now }
-        ensures ok { IfOk result (λ n. number_in self.old kind name.now ≡ Some (n, self.new)) }
-        ensures too_many { IsErrOf result NameFault.TooMany → number_in self.old kind name.now ≡ None }
-        ensures room { IsErrOf result NameFault.OutOfMemory →
-            length (space self.old kind).names < (space self.old kind).limit }
-        ensures err { OnErr result (self.new ≡ self.old) }
-        ensures new_only { OnErr result (found_number (space self.old kind) name.now ≡ None) }
-    {
-        if let Some(number) = self.space(kind).find(name) {
-            return Ok(number);
-        }
-        self.search_or_add(kind, name)
-    }
-
     /// The number of the name, which is the next one where the name is new. `TooMany` where that passes the
     /// limit of its kind, `OutOfMemory` where memory is refused. An `Err` changes nothing.
     #[inline(always)]
@@ -178,7 +161,10 @@ impl Names {
         ensures named { IfOk result (λ n. slice_get (space self.new kind).names n ≡ Some name.now) }
         ensures grows { TablesGrow self.old self.new }
     {
-        self.number_in_space(kind, name)
+        if let Some(number) = self.space(kind).find(name) {
+            return Ok(number);
+        }
+        self.search_or_add(kind, name)
     }
 
     /// The name of a number that is below the count of its kind, in the bytes that it had.

@@ -2,14 +2,14 @@
 //!
 //! The set of names is searched by a hash of all the bytes and a comparison of them, through a table of its
 //! own. The length and two words identify a name of up to sixteen bytes. So here it has a place by its
-//! words, and at each place stands a note of one name: most names are found by one read of memory. Where two
-//! names have one place, the second goes to a place beside it; where all those are taken, the note of an
-//! earlier name goes. A longer name has no note.
+//! words, and each place has the entry of one name: most names are found by one read of memory. Where two
+//! names have one place, the second goes to a place beside it; where all those are taken, the entry of an
+//! earlier name goes. A longer name has no entry.
 ghost use Rattle.std.specs.Prelude.{◌≡◌, ◌↔◌, ◌<◌, ◌≤◌, ◌⊎◌, ◌++◌, ◌-◌, ◌/◌, List, [], length};
 ghost use Rattle.std.specs.Prelude.{take, drop, IfSome, IsTrue, OnOk};
 ghost use Rattle.std.specs.Int.{to_le_bytes, w32, w64};
-ghost use Rattle.rapid_text.specs.NumberCache.{IsOneOf, IsNoteOf, IsFound, HoldsNone, Tell, ends_of};
-ghost use Rattle.rapid_text.specs.declared.number_cache.Note.{Note as ANote};
+ghost use Rattle.rapid_text.specs.NumberCache.{IsOneOf, IsEntryOf, IsFound, HoldsNone, Tell, ends_of};
+ghost use Rattle.rapid_text.specs.declared.number_cache.Entry.{Entry as AnEntry};
 
 use std::alloc::{AllocError, Global};
 use std::marker::Model;
@@ -17,7 +17,7 @@ use std::marker::Model;
 /// How many places there are for the first names.
 const FEWEST_PLACES: usize = 256;
 
-/// The most places. Their notes take 1.5 MB.
+/// The most places. Their entries take 1.5 MB.
 const MOST_PLACES: usize = 65536;
 
 /// How many places a name may have, which lie side by side.
@@ -32,9 +32,9 @@ const WORD: usize = 8;
 /// The weight of a word's last four bytes.
 const HALF: u64 = 4294967296;
 
-/// Whether a name has notes, where those of up to so many bytes have.
+/// Whether a name may have an entry, where those of up to so many bytes may.
 #[inline(always)]
-fn is_noted(name: &[u8], most: usize) -> bool
+fn fits_entry(name: &[u8], most: usize) -> bool
     ensures { IsTrue result ↔ (0 < length name.now) × (length name.now ≤ most) }
 {
     // One test: for an empty name the left side is the greatest number.
@@ -143,18 +143,18 @@ fn beside(place: usize, step: usize, mask: usize) -> usize
 
 /// A short name's number, its length and its words. Where there is no name, the length is 0.
 #[derive(Clone, Copy)]
-pub struct Note {
+pub struct Entry {
     pub(crate) words: Words,
     pub(crate) number: u32,
     pub(crate) length: u8,
 }
 
-impl Note {
-    /// A note of no name.
-    fn none() -> Note
+impl Entry {
+    /// An entry of no name.
+    fn none() -> Entry
         ensures { result.length ≡ 0 }
     {
-        Note {
+        Entry {
             words: Words { first: 0, last: 0 },
             number: 0,
             length: 0,
@@ -174,24 +174,24 @@ impl Note {
     }
 }
 
-/// The number of the name, if a note of it is found. A note may be missed.
+/// The number of the name, if an entry of it is found. An entry may be missed.
 #[inline(always)]
-fn find_among<const LONG: bool>(notes: &[Note], mask: usize, name: &[u8]) -> Option<u32>
-    requires places { mask < length notes.now }
+fn find_among<const LONG: bool>(entries: &[Entry], mask: usize, name: &[u8]) -> Option<u32>
+    requires places { mask < length entries.now }
     requires some { 0 < length name.now }
     requires short { length name.now ≤ 16 }
     requires long { 8 < length name.now → IsTrue LONG }
-    ensures { IfSome result (λ number. IsFound notes.now number name.now) }
+    ensures { IfSome result (λ number. IsFound entries.now number name.now) }
 {
     let (words, mixed) = Words::of(name);
     let place = place_by(mixed, mask);
     for step in 0..STEPS {
-        let note = &notes[beside(place, step, mask)];
-        if note.is_of::<LONG>(words, name.len() as u8) {
-            return Some(note.number);
+        let entry = &entries[beside(place, step, mask)];
+        if entry.is_of::<LONG>(words, name.len() as u8) {
+            return Some(entry.number);
         }
-        // A note goes to the first empty place, so there is none further on.
-        if note.length == 0 {
+        // An entry goes to the first empty place, so there is none further on.
+        if entry.length == 0 {
             return None;
         }
     }
@@ -201,42 +201,42 @@ fn find_among<const LONG: bool>(notes: &[Note], mask: usize, name: &[u8]) -> Opt
 /// The same for a name of more than eight bytes. It is a function by itself, so that the path of a line
 /// stays small enough to be inlined.
 #[inline(never)]
-fn find_long(notes: &[Note], mask: usize, name: &[u8]) -> Option<u32>
-    requires places { mask < length notes.now }
+fn find_long(entries: &[Entry], mask: usize, name: &[u8]) -> Option<u32>
+    requires places { mask < length entries.now }
     requires some { 0 < length name.now }
     requires short { length name.now ≤ 16 }
-    ensures { IfSome result (λ number. IsFound notes.now number name.now) }
+    ensures { IfSome result (λ number. IsFound entries.now number name.now) }
 {
-    find_among::<true>(notes, mask, name)
+    find_among::<true>(entries, mask, name)
 }
 
-/// Where a note with the words goes: to the first empty one of their places, or else to the first.
-fn place_to_note(notes: &[Note], mask: usize, mixed: u64) -> usize
-    requires { mask < length notes.now }
-    ensures { result < length notes.now }
+/// Where an entry with the words goes: to the first empty one of their places, or else to the first.
+fn place_for(entries: &[Entry], mask: usize, mixed: u64) -> usize
+    requires { mask < length entries.now }
+    ensures { result < length entries.now }
 {
     let place = place_by(mixed, mask);
     for step in 0..STEPS {
         let other = beside(place, step, mask);
-        if notes[other].length == 0 {
+        if entries[other].length == 0 {
             return other;
         }
     }
     place
 }
 
-/// The notes of names by their places, those that were made last.
+/// The entries of names by their places, those that were made last.
 #[derive(Drop)]
 pub struct NumberCache {
-    list: Vec<Note>,
+    list: Vec<Entry>,
     /// One less than the number of places.
     mask: usize,
-    /// Names of up to so many bytes have notes: none has one, while there are no places.
+    /// Names of up to so many bytes may have entries: none has one, while there are no places.
     most: usize,
 }
 
 impl Model for NumberCache {
-    ghost Value = { List ANote };
+    ghost Value = { List AnEntry };
 
     ghost view = { λ n. n.list.items };
 
@@ -255,12 +255,12 @@ impl NumberCache {
         }
     }
 
-    /// The number of the name, if a note of it is found. A note may be missed.
+    /// The number of the name, if an entry of it is found. An entry may be missed.
     #[inline(always)]
     pub fn find(&self, name: &[u8]) -> Option<u32>
         ensures { IfSome result (λ number. IsFound self.now number name.now) }
     {
-        if !is_noted(name, self.most) {
+        if !fits_entry(name, self.most) {
             return None;
         }
         if name.len() <= WORD {
@@ -270,17 +270,17 @@ impl NumberCache {
         }
     }
 
-    /// Notes the number of the name, if that is short. The note may be left out.
-    pub fn note(&mut self, name: &[u8], number: u32)
-        ensures { (note : ANote) → IsOneOf self.new note
-            → IsOneOf self.old note ⊎ IsNoteOf number name.now note }
+    /// Keeps the number of the name, if the name is short. An earlier entry may go for it.
+    pub fn put(&mut self, name: &[u8], number: u32)
+        ensures { (entry : AnEntry) → IsOneOf self.new entry
+            → IsOneOf self.old entry ⊎ IsEntryOf number name.now entry }
     {
-        if !is_noted(name, self.most) {
+        if !fits_entry(name, self.most) {
             return;
         }
         let (words, mixed) = Words::of(name);
-        let place = place_to_note(&self.list, self.mask, mixed);
-        self.list[place] = Note {
+        let place = place_for(&self.list, self.mask, mixed);
+        self.list[place] = Entry {
             words,
             number,
             length: name.len() as u8,
@@ -288,22 +288,22 @@ impl NumberCache {
     }
 
     /// Whether there are two places or more for each of so many names, or as many as there may be.
-    pub fn have_room(&self, names: usize) -> bool
+    pub fn has_room(&self, names: usize) -> bool
         ensures { IsTrue result ↔ (65536 ≤ length self.now) ⊎ (names ≤ length self.now / 2) }
     {
         self.list.len() >= MOST_PLACES || self.list.len() / 2 >= names
     }
 
-    /// Makes two places or more for each of so many names, and forgets what was noted.
-    pub fn make_room(&mut self, alloc: Global, names: u32) -> Result<(), AllocError>
+    /// Makes two places or more for each of so many names, all of them empty.
+    pub fn reset(&mut self, alloc: Global, names: u32) -> Result<(), AllocError>
         ensures room { OnOk result (names ≤ length self.new / 2) }
-        ensures none { (note : ANote) → IsOneOf self.new note → HoldsNone note }
+        ensures none { (entry : AnEntry) → IsOneOf self.new entry → HoldsNone entry }
     {
         let places = (names as usize * 4).next_power_of_two().max(FEWEST_PLACES);
         self.most = 0;
         // The old places go first, so that both are never there at once.
         self.list = Vec::new(alloc);
-        self.list = vec![in alloc; Note::none(); places]?;
+        self.list = vec![in alloc; Entry::none(); places]?;
         self.mask = places - 1;
         self.most = MOST_HELD;
         Ok(())

@@ -9,8 +9,8 @@ ghost use Rattle.std.specs.Result.{IsErrOf};
 ghost use Rattle.rapid_text.specs.Cutting.{most, failed_at};
 ghost use Rattle.rapid_text.specs.Tables.{TablesGrow};
 ghost use Rattle.rapid_text.specs.Events.{IsOfNames};
-ghost use Rattle.rapid_text.specs.Turns.{TakeBytes, TakeFew};
 ghost use Rattle.rapid_text.specs.Pulling.{unpulled, Answers, NoAnswer, pulling_of, to_judge};
+ghost use Rattle.rapid_text.specs.Pulling.{TakeBytes, TakeFew};
 ghost use Rattle.rapid_text.specs.Texts.{BeginsAt};
 ghost use Rattle.rapid_text.specs.Reading.{Reading};
 

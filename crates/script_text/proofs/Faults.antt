@@ -8,7 +8,7 @@ use Rattle.event_core.specs.Bounds.{Bounds}
 use Rattle.rapid_line.specs.Lines.{lines_of}
 use Rattle.rapid_text.specs.Feeding.{Pulled, Whole}
 use Rattle.rapid_text.specs.Taking.{lines_place}
-use Rattle.rapid_text.proofs.Taken.{truncates}
+use Rattle.rapid_text.proofs.Taking.{truncates}
 use Rattle.script_text.specs.declared.causes.ScriptCause.{ScriptCause}
 use Rattle.script_text.specs.declared.causes.ScriptCause.TheVariants as causes
 use Rattle.script_text.specs.declared.causes.ScriptFault.{ScriptFault}

@@ -6,7 +6,7 @@ use Rattle.rapid_line.specs.Cut.{Lacks, content}
 use Rattle.rapid_line.specs.Lines.{Lines, to_come, most, Cuts, Keeps, IsTooLong}
 use Rattle.rapid_line.proofs.LineLaws.{keeps_law}
 use Rattle.rapid_text.proofs.LongLines.{content_long}
-use Rattle.rapid_text.proofs.Taken.{cuts_advance, keeps_advance}
+use Rattle.rapid_text.proofs.Taking.{cuts_advance, keeps_advance}
 use Rattle.script_text.specs.declared.causes.ScriptCause.{ScriptCause}
 use Rattle.script_text.specs.declared.causes.ScriptCause.TheVariants as causes
 use Rattle.script_text.specs.declared.causes.ScriptFault.{ScriptFault}

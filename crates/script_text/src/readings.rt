@@ -1,6 +1,6 @@
 //! A script that is read in pieces, however it is cut.
 ghost use Rattle.std.specs.Prelude.{◌≡◌, ◌≢◌, ◌≤◌, [], false, length, Ok, IfErr, IfOk, IfSome, OnOk};
-ghost use Rattle.rapid_text.specs.Turns.{WithinTurns};
+ghost use Rattle.rapid_text.specs.Feeding.{WithinTurns};
 ghost use Rattle.script_text.specs.Forms.{Fails};
 ghost use Rattle.script_text.specs.Scripts.{IsDraft, after_content, script_of};
 ghost use Rattle.script_text.specs.Readings.{progress, unread, script_after, Takes};

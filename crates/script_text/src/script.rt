@@ -1,6 +1,6 @@
 //! Scripts that were read.
 ghost use Rattle.std.specs.Prelude.{◌≡◌, ◌≢◌, ℕ, ◌≤◌, length, IfOk, IfErr, IfSome, OnOk, Ok, false};
-ghost use Rattle.rapid_text.specs.Turns.{WithinTurns};
+ghost use Rattle.rapid_text.specs.Feeding.{WithinTurns};
 ghost use Rattle.script_text.specs.Scripts.{Parsed, IsScript, IsFirstUnreached, IsDraft, script_of};
 ghost use Rattle.script_text.specs.Readings.{IsFault, Incomplete};
 

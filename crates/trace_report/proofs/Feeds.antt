@@ -18,7 +18,7 @@ use Rattle.rapid_text.specs.Texts.{Judgement}
 use Rattle.trace_report.specs.declared.faults.TraceFault.TheVariants.{Text, Refused}
 use Rattle.trace_report.specs.Findings.{call_of, finding_after, IsReached}
 use Rattle.trace_report.specs.Judging.{Declines, Takes, MeetsFault}
-use Rattle.rapid_text.proofs.Taken.{push_advances}
+use Rattle.rapid_text.proofs.Taking.{push_advances}
 use Rattle.trace_report.proofs.Naming.{named_kept, named_line}
 use Rattle.trace_report.proofs.Playing.{with_line, goes_on, event_pushed, nothing_pushed, declined}
 use Rattle.trace_report.proofs.Playing.{push_stops, push_read, first_reached}

@@ -20,7 +20,7 @@ use Rattle.trace_report.specs.declared.faults.TraceFault.{TraceFault}
 use Rattle.trace_report.specs.declared.faults.TraceFault.TheVariants.{Text}
 use Rattle.trace_report.specs.Findings.{Trace, call_of, finding, finding_after, refused_or}
 use Rattle.trace_report.specs.Judging.{IsTruncatedAt, Takes, line_of}
-use Rattle.rapid_text.proofs.Taken.{truncates}
+use Rattle.rapid_text.proofs.Taking.{truncates}
 use Rattle.trace_report.proofs.Playing.{with_line}
 
 -- no fault before line n

@@ -35,7 +35,7 @@ use Rattle.rapid_text.specs.Cutting.{Cutting, judged, most}
 use Rattle.rapid_text.specs.Tables.{Tables, no_names}
 use Rattle.rapid_text.specs.Taking.{Advances, Truncates, cutter_place}
 use Rattle.rapid_text.specs.Texts.{Judgement, judgement}
-use Rattle.rapid_text.specs.Turns.{WithinTurns}
+use Rattle.rapid_text.specs.Feeding.{WithinTurns}
 use Rattle.trace_report.specs.declared.faults.ReplayFault.{ReplayFault}
 use Rattle.trace_report.specs.declared.faults.TraceFault.{TraceFault}
 use Rattle.trace_report.specs.declared.faults.TraceFault.TheVariants.{Text, Refused}

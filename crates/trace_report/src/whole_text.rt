@@ -1,6 +1,6 @@
 //! A text that is judged whole, from an input.
 ghost use Rattle.std.specs.Prelude.{◌≡◌, ◌≤◌, [], None, true, IfErr, IfOk, IfSome, OnOk};
-ghost use Rattle.rapid_text.specs.Turns.{WithinTurns};
+ghost use Rattle.rapid_text.specs.Feeding.{WithinTurns};
 ghost use Rattle.trace_report.specs.Judging.{IsFed, FindsTrace, FindsFault, IsTruncatedAt, is_read_fault};
 
 use crate::faults::TraceFault;

@@ -1,6 +1,6 @@
 -- The steps of a loop of pulls.
 use Rattle.std.proofs.Common.{◌≡◌, ℕ, ◌+◌, ◌*◌, ◌-◌, ◌<◌, ◌≤◌, List, [], ◌++◌, length, drop, Option, Some}
-use Rattle.std.proofs.Common.{None, Bool, true, false, refl, sym, ap, ap₂, subst, ◌∙◌, arith}
+use Rattle.std.proofs.Common.{None, Bool, true, false, length-append, refl, sym, ap, ap₂, subst, ◌∙◌, arith}
 use Rattle.std.specs.Prelude.{option_map, IfSome, Result, Ok, Err, is_some}
 use Rattle.std.specs.Result.{IsErrAnd}
 use Rattle.std.proofs.lemmas.List.{drop_all, nil_from_length}
@@ -16,6 +16,7 @@ use Rattle.rapid_text.proofs.Begins.{first_from}
 use Rattle.rapid_text.proofs.NameGrowth.{TablesGrow-trans}
 use Rattle.rapid_text.specs.Cutting.{Cutting, judged, most, Pushes, FailsAt, Closes, ClosesAt}
 use Rattle.rapid_text.specs.Pulling.{Pulling, pulling_of, to_judge, Follows, HasNoMore, Answers, NoAnswer}
+use Rattle.rapid_text.specs.Pulling.{TakeBytes, TakeFew}
 
 -- what is still to be judged of what a cutter keeps, what waits and what is left
 abbrev text_of : Cutting → List ℕ → Option (List ℕ) → Option Judgement
@@ -198,3 +199,15 @@ ended_text p left e n =
     let none = nil_from_length p.came n in
     subst (λ (q : Pulling). HasNoMore q left q) (λ i. record p { ended = sym e i; came = sym none i })
     (record { text = refl; line = refl; ended = refl })
+
+-- one more turn, which took bytes, and no more than a turn may take
+pub takes_more : (old new : ℕ) (left rest more : Option (List ℕ)) (v : List ℕ)
+    → TakeBytes old left new rest × TakeFew old left new rest → Consumes rest more v → 0 < length v
+    → length v ≤ 4096 → 0 < new → TakeBytes old left (new - 1) more × TakeFew old left (new - 1) more
+takes_more old new None rest more v t c some few turn = (tt, tt)
+takes_more old new (Some l) None more v t c some few turn = absurd t.0
+takes_more old new (Some l) (Some r) None v t c some few turn = absurd c
+takes_more old new (Some l) (Some r) (Some m) v t c some few turn =
+    let long = length-append v m in
+    let parts = ap (λ (x : List ℕ). length x) c in
+    (omega arith, omega arith)
