@@ -14,7 +14,7 @@ use Rattle.access_check.specs.declared.last_accesses.LastAccess.{LastAccess}
 use Rattle.access_check.specs.declared.variable_accesses.VariableAccesses.{VariableAccesses}
 use Rattle.access_check.specs.LastAccesses.{is_of, put_at, put, AreNarrow}
 use Rattle.access_check.specs.VariableAccesses.{kept, kept_after}
-use Rattle.access_check.specs.Tables.{last_of, touched_after}
+use Rattle.access_check.specs.Tables.{last_of, accesses_after}
 
 narrow_put : (width : ℕ) (p : LastAccess) (ps : List LastAccess) → p.thread.0 < width → AreNarrow width ps
     → AreNarrow width (put p ps)
@@ -42,7 +42,7 @@ narrow_kept width (Racy i) Write p Write ts lt all = narrow_put width p (kept Wr
 -- noting an event keeps them below it
 pub narrow_after : (width : ℕ) (v : Verdict) (t : ThreadId) (op : Op) (a : Access) (x : ℕ) (m : AccessKind)
     (ts : VariableAccesses) → t.0 < width → ((n : AccessKind) → AreNarrow width (kept n ts))
-    → AreNarrow width (touched_after v t op a x m ts)
+    → AreNarrow width (accesses_after v t op a x m ts)
 narrow_after width v t (Load y) a x m ts lt all = go (nat_eq x y.0)
   where
     go : (b : Bool) → AreNarrow width (cond b (kept_after v Read (last_of t a) m ts) (kept m ts))

@@ -23,7 +23,7 @@ use Rattle.event_core.proofs.Depth.{thread_cases, same_thread_id}
 use Rattle.access_check.specs.declared.last_accesses.Access.{Access}
 use Rattle.access_check.specs.declared.variable_accesses.VariableAccesses.{VariableAccesses}
 use Rattle.access_check.specs.VariableAccesses.{kept, kept_after}
-use Rattle.access_check.specs.Tables.{AccessTables, count_at, last_of as its_last, touched_after, Notes}
+use Rattle.access_check.specs.Tables.{AccessTables, count_at, last_of as its_last, accesses_after, Notes}
 use Rattle.access_check.specs.Standing.{VariableStands, StandsFor}
 use Rattle.access_check.proofs.Judging.{IsOne, is_one}
 use Rattle.access_check.proofs.Keeping.{untouched, put_stands, alone_stands}
@@ -53,7 +53,7 @@ touched log e x Write Clear a op at position old ts is verdict s =
 -- each variable's accesses after the event
 accesses_stand : (log : List Event) (e : Event) (o : Op) (v : Verdict) (a : Access) (x : VarId)
     (old ts : VariableAccesses) → e.op ≡ o → a.index ≡ length log → a.position ≡ events_of log e.thread + 1
-    → ((m : AccessKind) → kept m ts ≡ touched_after v e.thread o a x.0 m old)
+    → ((m : AccessKind) → kept m ts ≡ accesses_after v e.thread o a x.0 m old)
     → IsVerdict (log ++ e ∷ []) (length log) v → VariableStands log x old
     → VariableStands (log ++ e ∷ []) x ts
 accesses_stand log e o v a x old ts op at position is verdict s = go o op is
@@ -76,7 +76,7 @@ accesses_stand log e o v a x old ts op at position is verdict s = go o op is
             = ap (λ (z : VarId). nat_eq x.0 z.0) y_is_x ∙ nat_eq_same x.0 in
             let clash : true ≡ false = sym there ∙ same in cc
 
-    go : (o : Op) → e.op ≡ o → ((m : AccessKind) → kept m ts ≡ touched_after v e.thread o a x.0 m old)
+    go : (o : Op) → e.op ≡ o → ((m : AccessKind) → kept m ts ≡ accesses_after v e.thread o a x.0 m old)
         → VariableStands (log ++ e ∷ []) x ts
     go (Load y) q is = by_var Read y q (nat_eq x.0 y.0) refl is
     go (Store y) q is = by_var Write y q (nat_eq x.0 y.0) refl is

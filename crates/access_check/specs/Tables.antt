@@ -67,11 +67,12 @@ abbrev pub last_of : ThreadId → Access → LastAccess
 last_of t a = record { thread = t; access = a }
 
 -- what is kept of a variable's accesses of kind m after an event, on which there was that verdict
-abbrev pub touched_after : Verdict → ThreadId → Op → Access → ℕ → AccessKind → VariableAccesses
+abbrev pub accesses_after : Verdict → ThreadId → Op → Access → ℕ → AccessKind → VariableAccesses
     → List LastAccess
-touched_after v t (Load y) a x m ts = cond (nat_eq x y.0) (kept_after v Read (last_of t a) m ts) (kept m ts)
-touched_after v t (Store y) a x m ts = cond (nat_eq x y.0) (kept_after v Write (last_of t a) m ts) (kept m ts)
-touched_after v t _ a x m ts = kept m ts
+accesses_after v t (Load y) a x m ts = cond (nat_eq x y.0) (kept_after v Read (last_of t a) m ts) (kept m ts)
+accesses_after v t (Store y) a x m ts =
+    cond (nat_eq x y.0) (kept_after v Write (last_of t a) m ts) (kept m ts)
+accesses_after v t _ a x m ts = kept m ts
 
 -- the event is noted at the index, with the verdict on it
 pub record Notes (old new : AccessTables) (e : Event) (index : ℕ) (v : Verdict) : Type 0 where
@@ -79,7 +80,7 @@ pub record Notes (old new : AccessTables) (e : Event) (index : ℕ) (v : Verdict
   pub counts : (u : ℕ) → count_at new.counts u
       ≡ cond (nat_eq u e.thread.0) (count_at old.counts u + 1) (count_at old.counts u)
   pub accesses : (x : ℕ) (m : AccessKind) → kept m (accesses_at new.vars x)
-      ≡ touched_after v e.thread e.op
+      ≡ accesses_after v e.thread e.op
       (record { index = index; position = count_at old.counts e.thread.0 + 1 })
       x m (accesses_at old.vars x)
 

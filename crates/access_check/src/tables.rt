@@ -7,7 +7,7 @@ ghost use Rattle.event_core.specs.declared.events.Op.{Op as Operation};
 ghost use Rattle.hb_clocks.specs.Counts.{counts_of};
 ghost use Rattle.access_check.specs.LastAccesses.{AreNarrow, IsPackable};
 ghost use Rattle.access_check.specs.VariableAccesses.{kept, latest_racing, kept_after};
-ghost use Rattle.access_check.specs.Tables.{last_of, count_at, accesses_at, touched_after, verdict_at};
+ghost use Rattle.access_check.specs.Tables.{last_of, count_at, accesses_at, accesses_after, verdict_at};
 ghost use Rattle.access_check.specs.Tables.{IsReadyAt, IsReadyFor, LastsAt};
 
 use crate::last_accesses::{Access, LastAccess};
@@ -159,7 +159,7 @@ pub(crate) fn note_access(
     requires packable { IsPackable (last_of event.now.thread access) }
     requires room { IsReadyFor vars.old event.now.thread event.now.op }
     ensures accesses { (x : ℕ) (k : Kind) → kept k (accesses_at vars.new x)
-        ≡ touched_after verdict event.now.thread event.now.op access x k (accesses_at vars.old x) }
+        ≡ accesses_after verdict event.now.thread event.now.op access x k (accesses_at vars.old x) }
     ensures narrow { (width : ℕ) → event.now.thread.0 < width
         → ((x : ℕ) (k : Kind) → AreNarrow width (kept k (accesses_at vars.old x)))
         → (x : ℕ) (k : Kind) → AreNarrow width (kept k (accesses_at vars.new x)) }

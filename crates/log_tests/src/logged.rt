@@ -55,7 +55,7 @@ pub fn make<R: Abort>(rt: &R, memory: &mut Memory, thread: ThreadId, op: Op, arg
     call.event_with(value)
 }
 
-/// The pass after a call of its thread, as under a lock, but for a fork.
+/// The pass after a call of its thread, as under a lock, except a fork.
 pub fn perform<N: Name, R: Abort>(
     rt: &R,
     published: &Published<N>,

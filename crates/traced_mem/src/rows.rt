@@ -119,13 +119,13 @@ fn remove_lock(held: &mut SmallVec<LockId, 4>, lock: LockId)
     ensures items { held.new.items ≡ without lock held.old.items }
     ensures capacity { held.new.capacity ≡ held.old.capacity }
 {
-    if let Some(at) = place_of(held.as_slice(), lock) {
+    if let Some(at) = position_of(held.as_slice(), lock) {
         let _ = held.remove(at);
     }
 }
 
 /// Where the lock stands first.
-fn place_of(held: &[LockId], lock: LockId) -> Option<usize>
+fn position_of(held: &[LockId], lock: LockId) -> Option<usize>
     ensures { result ≡ position (λ (other : Lock). nat_eq other.0 lock.0) held.now }
 {
     held.iter().position(|other| other.0 == lock.0)

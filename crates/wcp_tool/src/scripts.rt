@@ -128,7 +128,7 @@ fn run_threads<R: AllocGlobal + Threads + Wait + Sync, O: Output>(
 }
 
 /// Runs the script that the reader gives, and reports what its threads did.
-fn run_lines<R: AllocGlobal + Threads + Wait + Sync, I: Input, O: Output>(
+fn run_text<R: AllocGlobal + Threads + Wait + Sync, I: Input, O: Output>(
     rt: &R,
     script: &mut I,
     writer: &mut O,
@@ -212,7 +212,7 @@ pub fn run_script<R: AllocGlobal + Threads + Wait + Sync, I: Input, O: Output, E
     ensures read { (result ≡ 0) ⊎ (result ≡ 1) → I.failed script.new ≡ false }
     ensures written { result ≢ 4 → O.failed writer.new ≡ false }
 {
-    let ending = run_lines(rt, script, writer, settings.threads, settings.patience);
+    let ending = run_text(rt, script, writer, settings.threads, settings.patience);
     finish(ending, errors)
 }
 
@@ -237,7 +237,7 @@ pub(crate) fn run_file<R: AllocGlobal + ScriptFiles + Threads + Wait + Sync, O: 
     let Some(mut script) = rt.open_script(path) else {
         return Ending::ReadFault;
     };
-    let ending = run_lines(rt, &mut script, writer, threads, patience);
+    let ending = run_text(rt, &mut script, writer, threads, patience);
     drop(script);
     ending
 }

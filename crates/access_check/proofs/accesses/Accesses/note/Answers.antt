@@ -4,7 +4,7 @@ use Rattle.std.proofs.Math.Seq.{take-append_seam}
 use Rattle.access_check.specs.declared.variable_accesses.VariableAccesses.{VariableAccesses}
 use Rattle.access_check.specs.LastAccesses.{AreNarrow}
 use Rattle.access_check.specs.VariableAccesses.{kept}
-use Rattle.access_check.specs.Tables.{AccessTables, IsReadyFor, accesses_at, count_at, touched_after}
+use Rattle.access_check.specs.Tables.{AccessTables, IsReadyFor, accesses_at, count_at, accesses_after}
 use Rattle.access_check.proofs.Stepping.{note_stands}
 use Rattle.access_check.proofs.accesses.Accesses.note.Goals as goal
 
@@ -45,7 +45,7 @@ returns-clause-exact c =
           ∙ ap (λ (ns : List ℕ). cond (nat_eq u t.0) (count_at ns u + 1) (count_at ns u)) had;
       accesses = λ x m. ap (λ (vs : List VariableAccesses). kept m (accesses_at vs x)) vars
           ∙ c.note_access.ensures.accesses x m
-          ∙ ap₂ (λ (n : ℕ) (vs : List VariableAccesses). touched_after c.args.verdict t c.args.event.now.op
+          ∙ ap₂ (λ (n : ℕ) (vs : List VariableAccesses). accesses_after c.args.verdict t c.args.event.now.op
           (record { index = c.args.index; position = n }) x m (accesses_at vs x)) position
           (c.deref_mut-2.ensures.value ∙ ap (λ (v : AccessTables). v.vars) c.self.view_is);
     }

@@ -3,7 +3,7 @@ use Rattle.event_core.specs.declared.bounds.Limits.{Limits}
 use Rattle.wcp_tool.specs.Endings.{status_of}
 use Rattle.wcp_tool.specs.Running.{PerformsRun}
 use Rattle.wcp_tool.proofs.ScriptReads.{truncates_script, fault_told}
-use Rattle.wcp_tool.proofs.scripts.run_lines.Goals as goal
+use Rattle.wcp_tool.proofs.scripts.run_text.Goals as goal
 
 pub returns-in-Ok-clause-performs : goal.returns-in-Ok-clause-performs
 returns-in-Ok-clause-performs g c =
