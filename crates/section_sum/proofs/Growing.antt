@@ -6,7 +6,7 @@ use Rattle.event_core.specs.declared.ids.LockId.{LockId}
 use Rattle.std.proofs.lemmas.Bool.{false≢true, ltb-true}
 use Rattle.std.proofs.lemmas.List.{get_or_default, ext_get_or, length-map}
 use Rattle.section_sum.specs.Cells.{Stored, has_cell, HasGrown}
-use Rattle.section_sum.specs.LockSums.{LockSum, no_kept, kept_at, threads_of, IsKept, AreKept}
+use Rattle.section_sum.specs.LockSums.{LockSum, no_kept, kept_at, shown, all_shown, IsKept, AreKept}
 use Rattle.section_sum.specs.Entries.{entries_of, SaysSame}
 use Rattle.section_sum.specs.Locks.{SaySame, HaveGrown}
 use Rattle.section_sum.specs.Sums.{Sums, said_of, is_held, is_ready, noted_of, others_of, GrownFor}
@@ -17,7 +17,7 @@ use Rattle.section_sum.proofs.Basics.{at_set, long_enough}
 use Rattle.section_sum.proofs.Keeping.{has_lock}
 use Rattle.section_sum.proofs.Passing.{same_said, same_then, held_each, is_held_at, not_held}
 use Rattle.section_sum.proofs.Sayings.{kept_set, kept_grown, says_more, no_more}
-use Rattle.section_sum.proofs.Meaning.{sums, said_as, thread_at}
+use Rattle.section_sum.proofs.Meaning.{sums, said_as, shown_at}
 use Rattle.section_sum.proofs.Steps.{same_stands}
 
 -- the variable has cells under each of the locks
@@ -32,7 +32,7 @@ pub record Grown (held : List LockId) (var i : ℕ) (before : Sums) (cells : Sto
   pub same : SaySame (said_of before) (entries_of cells locks)
   pub ready : (l : ℕ) → is_held (take i held) l ≡ true → has_cell cells l var ≡ true
   pub grown : HaveGrown held var before.cells cells
-  pub again : HasAll held var before.cells → (cells ≡ before.cells) × (threads_of locks ≡ before.threads)
+  pub again : HasAll held var before.cells → (cells ≡ before.cells) × (all_shown locks ≡ before.locks)
 
 pub none_grown : (held : List LockId) (var : ℕ) (cells : Stored) (locks : List LockSum) → AreKept cells locks
     → Grown held var 0 (sums cells locks) cells locks
@@ -64,21 +64,23 @@ module _ {held : List LockId} {var i : ℕ} {before : Sums} {cells : Stored} {lo
     again = λ all.
         let below = has_lock cells locks l var g.kept (ltb-true _ _ (still l on all)) in
         let was = g.again all in
-        (was.0, ap threads_of (long_enough no_kept locks after l below more most alike) ∙ was.1);
+        (was.0, ap all_shown (long_enough no_kept locks after l below more most alike) ∙ was.1);
   }
 
   -- a cell joins for one of the locks, or none
   pub one_grown : (new : Stored) (l : ℕ) (k : LockSum) → l < length locks → is_held held l ≡ true
       → HasGrown l var cells new → IsKept l new k → k.by ≡ (kept_at locks l).by
+      → (has_cell cells l var ≡ true → shown k ≡ shown (kept_at locks l))
       → Grown held var i before new (set locks l k)
-  one_grown new l k h on grown own by = record {
+  one_grown new l k h on grown own by same = record {
     kept = kept_set l new locks k h own
         (λ m n. kept_grown l var m cells new (kept_at locks m) n grown (g.kept m));
     same = same_then (said_of before) (entries_of cells locks) (entries_of new (set locks l k)) g.same says;
     ready = λ m e. (says m).ready var (g.ready m e);
     grown = λ m v off. joins grown m v (not_held held l on m _ off) ∙ g.grown m v off;
     again = λ all.
-        let was = g.again all in (none_joins grown (still l on all) ∙ was.0, same_threads ∙ was.1);
+        let there = still l on all in
+        let was = g.again all in (none_joins grown there ∙ was.0, same_shown there ∙ was.1);
   }
     where
       by_each : (m : ℕ) → (kept_at (set locks l k) m).by ≡ (kept_at locks m).by
@@ -88,13 +90,15 @@ module _ {held : List LockId} {var i : ℕ} {before : Sums} {cells : Stored} {lo
       says : SaySame (entries_of cells locks) (entries_of new (set locks l k))
       says m = says_more l var m cells new locks (set locks l k) (g.kept 0).same grown (by_each m)
 
-      same_threads : threads_of (set locks l k) ≡ threads_of locks
-      same_threads =
-          let after = length-map (set locks l k) (λ (q : LockSum). q.by) in
-          let before = length-map locks (λ (q : LockSum). q.by) in
+      same_shown : has_cell cells l var ≡ true → all_shown (set locks l k) ≡ all_shown locks
+      same_shown there =
+          let after = length-map (set locks l k) shown in
+          let before = length-map locks shown in
           let long = length-set locks l k in
-          ext_get_or 0 (threads_of (set locks l k)) (threads_of locks) (omega (arith, after, before, long))
-          (λ m lt. thread_at (set locks l k) m ∙ by_each m ∙ sym (thread_at locks m))
+          ext_get_or no_kept (all_shown (set locks l k)) (all_shown locks) (omega (arith, after, before, long))
+          (λ m lt. shown_at (set locks l k) m ∙ at_set no_kept
+          (λ (j : ℕ) (q : LockSum). shown q ≡ shown (kept_at locks j)) locks l k h (same there) m (λ _. refl)
+          ∙ sym (shown_at locks m))
 
       none_joins : HasGrown l var cells new → has_cell cells l var ≡ true → new ≡ cells
       none_joins (inl e) there = e
@@ -126,12 +130,13 @@ pub at_grown : {held : List LockId} {var i : ℕ} {before : Sums} {cells : Store
     → (get_or held i m).0 < length more
     → was ≡ get_or more (get_or held i m).0 was → HasGrown (get_or held i m).0 var cells new
     → IsKept (get_or held i m).0 new k → k.by ≡ was.by
+    → (has_cell cells (get_or held i m).0 var ≡ true → shown k ≡ shown was)
     → Grown held var i before new (set more (get_or held i m).0 k)
-at_grown {held = held} {i = i} g more new m was k alike long most h there read grown own by =
+at_grown {held = held} {i = i} g more new m was k alike long most h there read grown own by same =
     let on = is_held_at held i m h in
+    let old = read ∙ get_or_default more (get_or held i m).0 was no_kept there in
     one_grown (more_locks g more (get_or held i m).0 on alike long most) new (get_or held i m).0 k there on
-    grown own
-    (by ∙ ap (λ (q : LockSum). q.by) (read ∙ get_or_default more (get_or held i m).0 was no_kept there))
+    grown own (by ∙ ap (λ (q : LockSum). q.by) old) (λ has. same has ∙ ap shown old)
 
 -- so what they mean is the same
 pub record Prepared (held : List LockId) (var : ℕ) (old new : Sums) : Type 0 where
@@ -148,7 +153,7 @@ unfolding noted_of others_of is_ready
 prepared {before = before} {cells = cells} {locks = locks} g =
     let same = subst (SaySame (said_of before)) (sym (said_as cells locks)) g.same in
     record {
-      again = λ ready i. record { cells = (g.again ready).0 i; threads = (g.again ready).1 i };
+      again = λ ready i. record { cells = (g.again ready).0 i; locks = (g.again ready).1 i };
       kept = λ l v. (same l).ready v;
       grown = g.grown;
       noted = λ t l v k. (same l).noted t v k;

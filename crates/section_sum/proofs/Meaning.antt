@@ -1,27 +1,27 @@
 -- The sections that an access meets, in the words that callers see.
 use Rattle.std.proofs.Common.{◌≡◌, ℕ, ◌≤◌, Bool, true, false, cond, List, nat_eq}
 use Rattle.std.proofs.Common.{[], ◌∷◌, length, length-append, refl, sym, subst, arith}
-use Rattle.std.specs.Prelude.{zero, suc, slice_index_or}
+use Rattle.std.specs.Prelude.{zero, suc}
 use Rattle.event_core.specs.declared.events.AccessKind.{AccessKind}
 use Rattle.event_core.specs.declared.events.AccessKind.TheVariants.{Read, Write}
 use Rattle.section_sum.specs.Newest.{section}
 use Rattle.section_sum.specs.Cells.{Stored}
-use Rattle.section_sum.specs.LockSums.{LockSum, kept_at, threads_of}
-use Rattle.section_sum.specs.Entries.{Entries, entries_by, entries_of, sources_on}
+use Rattle.section_sum.specs.LockSums.{LockSum, kept_at, shown, all_shown}
+use Rattle.section_sum.specs.Entries.{Entries, entries_of, sources_on}
 use Rattle.section_sum.specs.Sums.{Sums, said_of, others_of, sources_of}
 use Rattle.section_sum.specs.Sources.{most_sources}
 
 abbrev pub sums : Stored → List LockSum → Sums
-sums cells locks = record { cells = cells; threads = threads_of locks }
+sums cells locks = record { cells = cells; locks = all_shown locks }
 
-pub thread_at : (locks : List LockSum) (l : ℕ) → slice_index_or (threads_of locks) l 0 ≡ (kept_at locks l).by
-thread_at [] l = refl
-thread_at (k ∷ ks) zero = refl
-thread_at (k ∷ ks) (suc l) = thread_at ks l
+pub shown_at : (locks : List LockSum) (l : ℕ) → kept_at (all_shown locks) l ≡ shown (kept_at locks l)
+shown_at [] l = refl
+shown_at (k ∷ ks) zero = refl
+shown_at (k ∷ ks) (suc l) = shown_at ks l
 
 -- what callers see said of each lock is what is said within
 pub said_as : (cells : Stored) (locks : List LockSum) → said_of (sums cells locks) ≡ entries_of cells locks
-said_as cells locks i l = entries_by cells (thread_at locks l i) l
+said_as cells locks i l = record (entries_of cells locks l) { by = (shown_at locks l i).by }
 
 pub seen : (P : (ℕ → Entries) → (ℕ → Entries) → Type 0) {now : Sums} (cells new : Stored)
     (locks more : List LockSum) → sums cells locks ≡ now → P (entries_of cells locks) (entries_of new more)

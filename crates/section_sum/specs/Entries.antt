@@ -13,15 +13,12 @@ pub record Entries : Type 0 where
   pub ready : ℕ → Bool
   pub by : ℕ
 
-abbrev pub entries_by : Stored → ℕ → ℕ → Entries
-entries_by s thread l = record {
+abbrev pub entries_of : Stored → List LockSum → ℕ → Entries
+entries_of s locks l = record {
   cell = λ v. cell_at s.cells (cell_place s.places l v);
   ready = has_cell s l;
-  by = thread;
+  by = (kept_at locks l).by;
 }
-
-abbrev pub entries_of : Stored → List LockSum → ℕ → Entries
-entries_of s locks l = entries_by s (kept_at locks l).by l
 
 -- the thread's open section has such an access
 abbrev pub noted_at : Entries → ℕ → ℕ → AccessKind → Bool

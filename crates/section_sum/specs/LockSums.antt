@@ -42,9 +42,12 @@ no_kept = record { by = 0; count = 0; listed = []; most = 0; sought = None }
 abbrev pub kept_at : List LockSum → ℕ → LockSum
 kept_at locks l = slice_index_or locks l no_kept
 
--- the thread of each lock's open section
-abbrev pub threads_of : List LockSum → List ℕ
-threads_of = map (λ (k : LockSum). k.by)
+-- what contracts see of it: all except what was sought
+abbrev pub shown : LockSum → LockSum
+shown k = record { by = k.by; count = k.count; listed = k.listed; most = k.most; sought = None }
+
+abbrev pub all_shown : List LockSum → List LockSum
+all_shown = map shown
 
 -- the cell with the number is one of the lock
 abbrev pub is_own : ℕ → Stored → ℕ → Bool

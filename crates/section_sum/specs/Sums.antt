@@ -1,6 +1,5 @@
 -- What is kept of all locks, in numbers.
 use Rattle.std.specs.Prelude.{ℕ, ◌≡◌, Bool, true, false, ◌&&◌, ◌++◌, List, nat_eq}
-use Rattle.std.specs.Prelude.{slice_index_or}
 use Rattle.std.specs.List.{list_any}
 use Rattle.event_core.specs.declared.ids.LockId.{LockId}
 use Rattle.event_core.specs.declared.events.AccessKind.{AccessKind}
@@ -8,17 +7,17 @@ use Rattle.event_core.specs.declared.events.AccessKind.TheVariants.{Read, Write}
 use Rattle.section_sum.specs.Newest.{section}
 use Rattle.section_sum.specs.Cell.{is_kind}
 use Rattle.section_sum.specs.Cells.{Stored}
-use Rattle.section_sum.specs.Entries.{Entries, entries_by, noted_at, others_on}
+use Rattle.section_sum.specs.LockSums.{LockSum}
+use Rattle.section_sum.specs.Entries.{Entries, entries_of, noted_at, others_on}
 
--- the cells of all locks, and the thread of each lock's open section. Where a cell was sought last is no
--- part of it.
+-- the cells of all locks, and what is kept of each lock beside them, except which cell was sought last
 pub record Sums : Type 0 where
   pub cells : Stored
-  pub threads : List ℕ
+  pub locks : List LockSum
 
 -- what is said of the lock
 abbrev pub said_of : Sums → ℕ → Entries
-said_of s l = entries_by s.cells (slice_index_or s.threads l 0) l
+said_of s = entries_of s.cells s.locks
 
 -- the thread's open section on the lock has such an access to the variable
 unfoldable pub noted_of : Sums → ℕ → ℕ → ℕ → AccessKind → Bool

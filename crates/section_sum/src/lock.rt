@@ -2,10 +2,10 @@
 //!
 //! The cells with an access in the open section are listed, so that its end goes over them alone and
 //! allocates nothing: a list never has more cells than the lock has, and room for all is made with each cell.
-ghost use Rattle.std.specs.Prelude.{◌≡◌, ℕ, ◌<◌, ◌≤◌, length, nat_eq, nat_lt, true, is_ok, MatchOption};
+ghost use Rattle.std.specs.Prelude.{◌≡◌, ℕ, ◌<◌, ◌≤◌, length, nat_eq, true, is_ok, MatchOption};
 ghost use Rattle.section_sum.specs.Cell.{cell_at, closed_as, marked_as};
-ghost use Rattle.section_sum.specs.Cells.{cell_place, lock_at, HasGrown};
-ghost use Rattle.section_sum.specs.LockSums.{no_kept, IsSought, IsKept};
+ghost use Rattle.section_sum.specs.Cells.{cell_place, lock_at, has_cell, HasGrown};
+ghost use Rattle.section_sum.specs.LockSums.{no_kept, shown, IsSought, IsKept};
 
 use crate::cells::Cells;
 use event_core::{AccessKind, LockId, OutOfMemory, ThreadId, VarId, reserve_to};
@@ -93,8 +93,8 @@ impl Lock {
         ensures kept { IsKept lock.0 cells.new self.new }
         ensures by { self.new.by ≡ self.old.by }
         ensures grown { HasGrown lock.0 var.0 cells.old cells.new }
-        ensures ready { is_ok result
-            ≡ nat_lt (cell_place cells.new.places lock.0 var.0) (length cells.new.places) }
+        ensures ready { is_ok result ≡ has_cell cells.new lock.0 var.0 }
+        ensures again { has_cell cells.old lock.0 var.0 ≡ true → shown self.new ≡ shown self.old }
     {
         if let Some(known) = self.sought {
             if known.var == var.0 {

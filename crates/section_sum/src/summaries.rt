@@ -32,11 +32,11 @@ pub struct Summaries {
 
 impl Model for Summaries {
     ghost use Rattle.section_sum.specs.Sums.{Sums};
-    ghost use Rattle.section_sum.specs.LockSums.{AreKept, IsFitted, threads_of};
+    ghost use Rattle.section_sum.specs.LockSums.{AreKept, IsFitted, all_shown};
 
     ghost Value = { Sums };
 
-    ghost view = { λ a. record { cells = a.cells; threads = threads_of a.locks.items } };
+    ghost view = { λ a. record { cells = a.cells; locks = all_shown a.locks.items } };
 
     ghost invariant = { λ a. AreKept a.cells a.locks.items × IsFitted a.locks };
 }

@@ -44,7 +44,8 @@ loop-lock-preserved c =
     (record { 0 = 0 }) c.index_mut-kept.result.now c.prepare.new.self
     (λ m. c.grow_to.ensures.same no_kept (λ lock given. search rules) m) c.grow_to.ensures.more
     c.grow_to.ensures.most c.loop-lock-test.true (omega arith)
-    c.index_mut-kept.ensures.value c.prepare.ensures.grown c.prepare.ensures.kept c.prepare.ensures.by in
+    c.index_mut-kept.ensures.value c.prepare.ensures.grown c.prepare.ensures.kept c.prepare.ensures.by
+    c.prepare.ensures.again in
     record {
       grown = next_grown after (record { 0 = 0 }) c.loop-lock-test.true (sym c.in_ok-prepare.ensures.ready);
       fitted = omega (
@@ -65,7 +66,8 @@ invariant_of-self-in_err-prepare c =
     (record { 0 = 0 }) c.index_mut-kept.result.now c.prepare.new.self
     (λ m. c.grow_to.ensures.same no_kept (λ lock given. search rules) m) c.grow_to.ensures.more
     c.grow_to.ensures.most c.loop-lock-test.true (omega arith)
-    c.index_mut-kept.ensures.value c.prepare.ensures.grown c.prepare.ensures.kept c.prepare.ensures.by in (
+    c.index_mut-kept.ensures.value c.prepare.ensures.grown c.prepare.ensures.kept c.prepare.ensures.by
+    c.prepare.ensures.again in (
       after.kept,
       omega (
         arith,
@@ -114,7 +116,8 @@ returns-in_err-prepare c =
     (record { 0 = 0 }) c.index_mut-kept.result.now c.prepare.new.self
     (λ m. c.grow_to.ensures.same no_kept (λ lock given. search rules) m) c.grow_to.ensures.more
     c.grow_to.ensures.most c.loop-lock-test.true (omega arith)
-    c.index_mut-kept.ensures.value c.prepare.ensures.grown c.prepare.ensures.kept c.prepare.ensures.by in
+    c.index_mut-kept.ensures.value c.prepare.ensures.grown c.prepare.ensures.kept c.prepare.ensures.by
+    c.prepare.ensures.again in
     let means = prepared after in
     let lacks : IsReady (sums c.prepare.new.cells (set c.grow_to.new.list.items l.0 c.prepare.new.self))
     c.args.held.now c.args.var.0 → ⊥
