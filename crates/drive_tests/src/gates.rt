@@ -133,7 +133,7 @@ fn a_gate_decides_which_section_comes_first(rt: HostRuntime) {
     }
 }
 
-/// What a gate is told.
+/// What a gate hears.
 #[derive(Clone, Copy, PartialEq, Eq)]
 enum Notice {
     /// The line is asked for, and may go ahead.
@@ -147,7 +147,7 @@ const MAIN: ThreadId = ThreadId(0);
 
 const CHILD: ThreadId = ThreadId(1);
 
-/// Lets a line go ahead once all was told that comes before it in the list.
+/// Lets a line go ahead once it has heard all that comes before that line in the list.
 #[derive(Drop)]
 struct Listener {
     expected: &'static [Notice],
@@ -156,7 +156,7 @@ struct Listener {
 }
 
 impl Listener {
-    // Whether this is told next.
+    // Whether this notice is the next of the list.
     fn hears(&self, notice: Notice) -> bool {
         let next = self.heard.load(Ordering::SeqCst);
         if next < self.expected.len() && self.expected[next] == notice {

@@ -1,4 +1,4 @@
--- The definitions of the race that is told, and the laws over them. "The paper" is Kini, Mathur and
+-- The definitions of the race that is reported, and the laws over them. "The paper" is Kini, Mathur and
 -- Viswanathan, "Dynamic Race Prediction in Linear Time" (PLDI 2017); what is not said to be the paper's is
 -- this project's own.
 

@@ -63,7 +63,7 @@ ActRunsKeepLogsWellFormed =
     (m : Limits) (log : List Event) (acts : List Act) (ds : List Done) (end : List Event)
     → WellFormed m log → IsActRun m log acts ds end → WellFormed m end
 
--- but for a full log, a swap is refused exactly as its load would be
+-- except for a full log, a swap is refused exactly as its load would be
 abbrev pub SwapIsRefusedAsItsLoad : Type 0
 SwapIsRefusedAsItsLoad =
     (m : Limits) (log : List Event) (u : ThreadId) (x : VarId) (site : SiteId) (r : Refusal)

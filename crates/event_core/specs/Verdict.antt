@@ -1,7 +1,7 @@
 -- Verdicts: what an access is answered. And the outcome of a call, and the run of a list of calls.
 --
 -- A race is a pair of conflicting accesses that weak causal precedence leaves unordered, as in the paper.
--- Which of an access's races is told, and the replies, are this project's own.
+-- Which of an access's races is reported, and the replies, are this project's own.
 use Rattle.std.specs.Prelude.{◌≡◌, ℕ, ◌<◌, List, [], ◌∷◌, ◌++◌, Some, None, length}
 use Rattle.event_core.specs.declared.events.Event.{Event}
 use Rattle.event_core.specs.declared.events.Call.{Call}

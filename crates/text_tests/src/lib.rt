@@ -4,7 +4,7 @@
 //! The lines are those of `rapid_line` and of `script_text`.
 //!
 //! The crate has tests alone, and they see no more of those crates than any caller does. They expect ample
-//! memory, but for those whose names say that memory is refused.
+//! memory, except for those whose names say that memory is refused.
 #![tactic(auto)]
 
 #[cfg(test)]

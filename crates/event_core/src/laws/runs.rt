@@ -55,7 +55,7 @@ pub fn act_runs_keep_logs_well_formed()
     ensures { ActRunsKeepLogsWellFormed }
 {}
 
-/// But for a full log, a swap is refused exactly as its load would be.
+/// Except for a full log, a swap is refused exactly as its load would be.
 pub fn swap_is_refused_as_its_load()
     ensures { SwapIsRefusedAsItsLoad }
 {}
