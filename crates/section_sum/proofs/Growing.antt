@@ -95,8 +95,8 @@ module _ {held : List LockId} {var i : ℕ} {before : Sums} {cells : Stored} {lo
           let after = length-map (set locks l k) shown in
           let before = length-map locks shown in
           let long = length-set locks l k in
-          ext_get_or no_kept (all_shown (set locks l k)) (all_shown locks) (omega (arith, after, before, long))
-          (λ m lt. shown_at (set locks l k) m ∙ at_set no_kept
+          ext_get_or no_kept (all_shown (set locks l k)) (all_shown locks)
+          (omega (arith, after, before, long)) (λ m lt. shown_at (set locks l k) m ∙ at_set no_kept
           (λ (j : ℕ) (q : LockSum). shown q ≡ shown (kept_at locks j)) locks l k h (same there) m (λ _. refl)
           ∙ sym (shown_at locks m))
 
