@@ -1,5 +1,5 @@
 //! A line with a name too many, of which another name is new: want of memory is never its answer, whatever
-//! is refused (`bench/refuse`).
+//! is refused (`tests/refuse`).
 use super::expected::expect;
 use event_core::{Limits, Roots};
 use rapid_text::{Cause, Cutter, Kind, TextFault};
