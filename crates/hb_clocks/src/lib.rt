@@ -13,6 +13,7 @@ mod release;
 pub mod rows;
 mod search;
 mod step;
+mod vector_time;
 mod work;
 
 pub use clock::Clock;
@@ -21,4 +22,5 @@ pub use joined::JoinedClocks;
 pub use mark::Mark;
 pub use release::{ReleaseClock, ReleaseClocks, ReleasePlace};
 pub use search::search_marks;
+pub use vector_time::VectorTime;
 pub use work::Work;
