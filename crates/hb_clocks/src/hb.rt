@@ -36,7 +36,7 @@ use std::marker::Model;
 /// The clocks of all threads and locks.
 ///
 /// Its tables grow with the threads and locks that are named, and a clock is made when `prepare`
-/// first names it. Each call but `new` and `prepare` takes no memory.
+/// first names it. Each call but `new`, `prepare` and `prepare_for` takes no memory.
 #[derive(Drop)]
 pub struct HbClocks {
     width: usize,
@@ -96,9 +96,32 @@ impl HbClocks {
         Ok((clocks, Work::new(), ReleaseClocks::new(alloc)))
     }
 
-    /// Makes room for the thread's operation, whose threads are below the width. No number changes, whether
-    /// there is memory or not. Where there is room nothing changes, and none is needed.
-    pub fn prepare(&mut self, thread: ThreadId, op: Op) -> Result<(), OutOfMemory>
+    /// Makes room for the event, whose threads are below the width. No number changes, whether there is memory
+    /// or not. Where there is room nothing changes, and none is needed.
+    #[inline]
+    pub fn prepare(&mut self, event: &Event) -> Result<(), OutOfMemory>
+        requires { IsWithin self.old.width event.now.thread event.now.op }
+        ensures same { state_of self.new ≡ state_of self.old }
+        ensures ready { OnOk result (IsReady self.new event.now.thread event.now.op) }
+        ensures again { IsReady self.old event.now.thread event.now.op
+            → IsOk result × (self.new ≡ self.old) }
+        ensures kept { KeepsRoom self.old self.new }
+        ensures grown { GrownFor self.old self.new event.now.thread event.now.op }
+        ensures width { self.new.width ≡ self.old.width }
+    {
+        self.prepare_for(event.thread, event.op)
+    }
+
+    /// Whether there is room for the event. What is ready for an acquire is ready for its release too.
+    #[inline]
+    pub fn ready(&self, event: &Event) -> bool
+        ensures { IsTrue result ↔ IsReady self.now event.now.thread event.now.op }
+    {
+        self.ready_for(event.thread, event.op)
+    }
+
+    /// As `prepare`, for an event of the thread with the operation. Room depends on no more of an event.
+    pub fn prepare_for(&mut self, thread: ThreadId, op: Op) -> Result<(), OutOfMemory>
         requires { IsWithin self.old.width thread op }
         ensures same { state_of self.new ≡ state_of self.old }
         ensures ready { OnOk result (IsReady self.new thread op) }
@@ -107,7 +130,7 @@ impl HbClocks {
         ensures grown { GrownFor self.old self.new thread op }
         ensures width { self.new.width ≡ self.old.width }
     {
-        if self.ready(thread, op) {
+        if self.ready_for(thread, op) {
             return Ok(());
         }
         self.make_thread(thread)?;
@@ -118,8 +141,8 @@ impl HbClocks {
         }
     }
 
-    /// Whether there is room for the operation. What is ready for an acquire is ready for its release too.
-    pub fn ready(&self, thread: ThreadId, op: Op) -> bool
+    /// As `ready`, for an event of the thread with the operation.
+    pub fn ready_for(&self, thread: ThreadId, op: Op) -> bool
         ensures { IsTrue result ↔ IsReady self.now thread op }
     {
         self.has_thread(thread)

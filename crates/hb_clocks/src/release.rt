@@ -61,7 +61,7 @@ pub struct ReleaseClock<'a> {
 }
 
 impl ReleaseClocks {
-    ghost use Rattle.std.specs.Prelude.{◌≡◌, ℕ, ◌+◌, ◌*◌, ◌<◌, ◌≤◌, ◌^◌, ◌↔◌, [], length, max, OnOk, IsTrue};
+    ghost use Rattle.std.specs.Prelude.{◌≡◌, ℕ, ◌+◌, ◌*◌, ◌<◌, ◌≤◌, ◌^◌, [], length, max, OnOk};
     ghost use Rattle.std.specs.Prelude.{IsOk};
     ghost use Rattle.hb_clocks.specs.Counts.{counts_of};
     ghost use Rattle.hb_clocks.specs.Released.{thread_of, before_of};
@@ -76,34 +76,24 @@ impl ReleaseClocks {
         }
     }
 
-    /// Makes room for so many clocks more of the width, where there is none. A refused growth is answered by
-    /// `OutOfMemory`.
-    pub fn prepare(&mut self, more: usize, width: usize) -> Result<(), OutOfMemory>
+    /// Makes room for so many numbers more, where there is none. A clock has a number for each thread up to its
+    /// width at most. A refused growth is answered by `OutOfMemory`.
+    pub fn prepare(&mut self, more: usize) -> Result<(), OutOfMemory>
         ensures same { self.new.numbers ≡ self.old.numbers }
         ensures larger { self.old.most ≤ self.new.most }
-        ensures ok { OnOk result (length self.new.numbers + more * width ≤ self.new.most) }
-        ensures most { self.new.most
-            ≤ max self.old.most (2 * (length self.old.numbers + more * width)) }
-        ensures again { length self.old.numbers + more * width ≤ self.old.most → IsOk result }
+        ensures ok { OnOk result (length self.new.numbers + more ≤ self.new.most) }
+        ensures most { self.new.most ≤ max self.old.most (2 * (length self.old.numbers + more)) }
+        ensures again { length self.old.numbers + more ≤ self.old.most → IsOk result }
     {
-        if self.ready(more, width) {
-            return Ok(());
-        }
-        let Some(count) = more.checked_mul(width) else {
-            return Err(OutOfMemory);
-        };
-        reserve(&mut self.numbers, count)
+        reserve(&mut self.numbers, more)
     }
 
-    /// Whether there is room for so many clocks more of the width.
-    pub fn ready(&self, more: usize, width: usize) -> bool
-        ensures { IsTrue result ↔ (length self.now.numbers + more * width ≤ self.now.most) }
+    /// How many numbers there is memory for.
+    pub fn capacity(&self) -> usize
+        ensures exact { result ≡ self.now.most }
+        ensures bounded { result < 2 ^ 63 }
     {
-        let spare = self.numbers.capacity() - self.numbers.len();
-        let Some(count) = more.checked_mul(width) else {
-            return false;
-        };
-        count <= spare
+        self.numbers.capacity()
     }
 
     /// Keeps the clock of a release by the thread, which it counts, and tells where. Just before it no thread

@@ -8,7 +8,7 @@ ghost use Rattle.lock_queues.specs.Laws.{
   ReleasesAreAbove,
 };
 
-/// Queues that hold the same stand for the same log, as before and after `prepare`.
+/// Queues that hold the same stand for the same log, as before and after `make_room`.
 pub fn same_stand()
     ensures { SameStand }
 {}

@@ -29,7 +29,7 @@ use std::marker::Model;
 pub struct Queues {
     alloc: Global,
     limits: Limits,
-    // By the number of the lock, as far as `prepare` went.
+    // By the number of the lock, as far as `make_room` went.
     queues: Vec<Queue>,
     // Of all closed sections. There is memory for those of one more of each slot.
     releases: ReleaseClocks,
@@ -107,7 +107,7 @@ impl Queues {
     /// to leave it. Where there is room already, nothing changes.
     ///
     /// After a refusal all is as it was, and the call can be made again.
-    pub fn prepare(&mut self, thread: ThreadId, lock: LockId) -> Result<(), OutOfMemory>
+    pub fn make_room(&mut self, thread: ThreadId, lock: LockId) -> Result<(), OutOfMemory>
         ensures same { SameMeaning self.old self.new }
         ensures ok { OnOk result (is_ready self.new
             ≡ with_row thread.0 (with_row lock.0 true (is_ready self.old thread.0)) (is_ready self.old)) }
@@ -120,10 +120,11 @@ impl Queues {
         }
         let at = lock.0 as usize;
         let width = self.limits.threads() as usize;
-        let Some(slots) = self.slots.checked_add(1) else {
-            return Err(OutOfMemory);
-        };
-        self.releases.prepare(slots, width)?;
+        // Asked for its clause alone: there is memory for each slot's numbers, so those of one more can be
+        // counted.
+        let _capacity = self.releases.capacity();
+        let slots = self.slots + 1;
+        self.releases.prepare(slots * width)?;
         grow(&mut self.queues, self.alloc, width, at + 1)?;
         let queue = &mut self.queues[at];
         queue.prepare(thread)?;

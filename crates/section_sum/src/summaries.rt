@@ -1,9 +1,9 @@
 //! The summaries of all locks.
 ghost use Rattle.std.specs.Prelude.{◌≡◌, ℕ, ◌+◌, ◌<◌, ◌≤◌, ◌↔◌, ◌||◌, ◌&&◌, List, [], ◌∷◌, ◌++◌, length};
-ghost use Rattle.std.specs.Prelude.{nat_eq, cond, not, false, IsOk, OnOk, OnErr, IsTrue};
+ghost use Rattle.std.specs.Prelude.{nat_eq, cond, not, false, IfOk, IsOk, OnOk, OnErr, IsTrue};
 ghost use Rattle.event_core.specs.declared.events.AccessKind.{AccessKind as Kind};
 ghost use Rattle.event_core.specs.declared.events.Event.{Event};
-ghost use Rattle.event_core.specs.declared.bounds.Limits.{Limits};
+ghost use Rattle.event_core.specs.declared.bounds.Limits.{Limits as Bounds};
 ghost use Rattle.event_core.specs.Log.{depth};
 ghost use Rattle.event_core.specs.Refusal.{WellFormed};
 ghost use Rattle.event_core.specs.Closed.{EndsSection, ended};
@@ -17,7 +17,7 @@ use crate::cells::Cells;
 use crate::lock::Lock;
 use crate::locks::{close_under, note_held, ready_under, sources_under};
 use crate::sources::Sources;
-use event_core::{AccessKind, LockId, OutOfMemory, ThreadId, VarId, grow_to};
+use event_core::{AccessKind, Limits, LockId, OutOfMemory, ThreadId, VarId, grow_to};
 use std::alloc::Global;
 use std::marker::Model;
 
@@ -42,25 +42,50 @@ impl Model for Summaries {
 }
 
 impl Summaries {
-    /// No sections. Takes no memory.
-    pub fn new(alloc: Global) -> Summaries
-        ensures nothing_noted { (t l v : ℕ) (k : Kind) → noted_of result t l v k ≡ false }
-        ensures no_others { (l v : ℕ) (k : Kind) (t : ℕ) → others_of result l v k t ≡ 0 }
-        ensures stands { StandsFor [] result }
+    /// No sections. Takes no memory: the tables grow with the numbers that are used, within any limits.
+    pub fn new(alloc: Global, limits: Limits) -> Result<Summaries, OutOfMemory>
+        ensures made { IsOk result }
+        ensures nothing_noted { IfOk result (λ s. (t l v : ℕ) (k : Kind) → noted_of s t l v k ≡ false) }
+        ensures no_others { IfOk result (λ s. (l v : ℕ) (k : Kind) (t : ℕ) → others_of s l v k t ≡ 0) }
+        ensures stands { IfOk result (λ s. StandsFor [] s) }
     {
-        Summaries {
+        Ok(Summaries {
             alloc,
             cells: Cells::new(alloc),
             locks: Vec::new(alloc),
-        }
+        })
     }
 
-    /// Makes room for accesses to the variable in sections on the locks, and for those sections' ends.
-    /// Where there is room it takes no memory, and nothing changes that a caller can tell. The next calls of
-    /// `sources` and `note` for the variable under these locks take no hash. A refused growth is answered by
-    /// `OutOfMemory`, and the same call can be made again.
+    /// Makes room for an access of the thread to the variable in its sections on the locks, and for those
+    /// sections' ends. The room serves each thread and both kinds of access. Where there is room it takes no
+    /// memory, and nothing changes that a caller can tell. The next calls of `sources` and `note` for the
+    /// variable under these locks take no hash. A refused growth is answered by `OutOfMemory`, and the same
+    /// call can be made again.
+    #[inline]
+    pub fn make_room(
+        &mut self,
+        thread: ThreadId,
+        held: &[LockId],
+        var: VarId,
+        kind: AccessKind,
+    ) -> Result<(), OutOfMemory>
+        ensures ready { OnOk result (IsReady self.new held.now var.0) }
+        ensures refused { OnErr result (IsReady self.new held.now var.0 → ⊥) }
+        ensures again { IsReady self.old held.now var.0 → IsOk result × (self.new ≡ self.old) }
+        ensures kept { KeepsReady self.old self.new }
+        ensures grown { GrownFor self.old self.new held.now var.0 }
+
+        // In any case the same is known.
+        ensures noted { SameNoted self.old self.new }
+        ensures others { SameOthers self.old self.new }
+        ensures stands { (log : List Event) → StandsFor log self.old → StandsFor log self.new }
+    {
+        self.make_room_for(held, var)
+    }
+
+    /// As `make_room`, by what the room depends on.
     #[inline(never)]
-    pub fn prepare(&mut self, held: &[LockId], var: VarId) -> Result<(), OutOfMemory>
+    pub fn make_room_for(&mut self, held: &[LockId], var: VarId) -> Result<(), OutOfMemory>
         ensures ready { OnOk result (IsReady self.new held.now var.0) }
         ensures refused { OnErr result (IsReady self.new held.now var.0 → ⊥) }
         ensures again { IsReady self.old held.now var.0 → IsOk result × (self.new ≡ self.old) }
@@ -102,7 +127,7 @@ impl Summaries {
         ensures noted { (t l v : ℕ) (k : Kind) → noted_of self.new t l v k
             ≡ (noted_of self.old t l v k || is_access thread.0 held.now var.0 kind t l v k) }
         ensures others { SameOthers self.old self.new }
-        ensures stands { (limits : Limits) (log : List Event) (e : Event) → WellFormed limits (log ++ e ∷ [])
+        ensures stands { (limits : Bounds) (log : List Event) (e : Event) → WellFormed limits (log ++ e ∷ [])
             → IsAccessBy thread var kind e → AreHeld log thread held.now
             → StandsFor log self.old → StandsFor (log ++ e ∷ []) self.new }
         ensures kept { KeepsReady self.old self.new }
@@ -119,7 +144,7 @@ impl Summaries {
         ensures others { (l v : ℕ) (k : Kind) (t : ℕ) → others_of self.new l v k t
             ≡ cond (nat_eq l lock.0 && (not (nat_eq t thread.0) && noted_of self.old thread.0 l v k))
             number (others_of self.old l v k t) }
-        ensures stands { (limits : Limits) (log : List Event) (e : Event) → WellFormed limits (log ++ e ∷ [])
+        ensures stands { (limits : Bounds) (log : List Event) (e : Event) → WellFormed limits (log ++ e ∷ [])
             → EndsSection log thread lock e → number ≡ ended log lock + 1
             → StandsFor log self.old → StandsFor (log ++ e ∷ []) self.new }
         ensures kept { KeepsReady self.old self.new }

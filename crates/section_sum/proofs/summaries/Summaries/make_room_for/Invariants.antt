@@ -1,6 +1,6 @@
 use Rattle.section_sum.specs.LockSums.{IsFitted}
 use Rattle.section_sum.proofs.Growing.{Grown}
-use Rattle.section_sum.proofs.summaries.Summaries.prepare.Given as goal
+use Rattle.section_sum.proofs.summaries.Summaries.make_room_for.Given as goal
 
 abbrev pub invariant-loop-lock : goal.invariant-loop-lock
 invariant-loop-lock l = record {

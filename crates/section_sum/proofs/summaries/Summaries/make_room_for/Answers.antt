@@ -12,7 +12,7 @@ use Rattle.section_sum.proofs.Meaning.{sums}
 use Rattle.section_sum.proofs.Passing.{is_held_at}
 use Rattle.section_sum.proofs.Sayings.{kept_read}
 use Rattle.section_sum.proofs.Growing.{Grown, none_grown, more_locks, at_grown, next_grown, prepared}
-use Rattle.section_sum.proofs.summaries.Summaries.prepare.Goals as goal
+use Rattle.section_sum.proofs.summaries.Summaries.make_room_for.Goals as goal
 
 pub loop-lock-init : goal.loop-lock-init
 loop-lock-init c = record {

@@ -1,9 +1,9 @@
-use Rattle.std.proofs.Common.{◌*◌, ◌<◌, length, refl, sym, ap, ◌∙◌, arith}
+use Rattle.std.proofs.Common.{◌+◌, ◌*◌, ◌<◌, length, refl, sym, ap, ◌∙◌, arith}
 use Rattle.lock_queues.proofs.Answering.{where_err}
 use Rattle.lock_queues.proofs.Sameness.{found_at, same_tables, slot_made, slots_same, grown_tables}
 use Rattle.lock_queues.proofs.Sameness.{grown_queues}
 use Rattle.lock_queues.proofs.KeepingAll.{kept_larger, kept_alike, kept_set, numbers_fit}
-use Rattle.lock_queues.proofs.queues.Queues.prepare.Goals as goal
+use Rattle.lock_queues.proofs.queues.Queues.make_room.Goals as goal
 
 pub grow-requires : goal.grow-requires
 grow-requires c = record {
@@ -39,11 +39,10 @@ invariant_of-self-2 c =
     c.grow.ensures.same c.threads-width.ensures.is c.grow.ensures.wide c.grow.ensures.slots in
     let same = c.prepare-2.ensures.same in
     let one = c.in_ok-prepare-2.ensures.more in
-    let next = c.in-Some.ensures.1 in
     let spare = c.in_ok-prepare.ensures.ok in
-    let times = ap (λ w. c.in-Some.slots * w) c.threads-width.ensures.is in
+    let times = ap (λ w. (c.self.inside.slots + 1) * w) c.threads-width.ensures.is in
     kept_set l c.prepare-2.new.self _ grown lt c.index_mut-queue.ensures.value same.width same.entries
-    (omega (arith, next)) (omega (arith, spare, times))
+    (omega arith) (omega (arith, spare, times))
 
 pub returns-in_err-prepare-2-clause-same : goal.returns-in_err-prepare-2-clause-same
 returns-in_err-prepare-2-clause-same c =
@@ -82,7 +81,7 @@ returns-in_err-prepare-clause-grown c =
     (λ m. (refl, refl, refl, refl)) c.prepare.ensures.same (omega arith) (omega arith)
     (numbers_fit c.self.inside.queues.items
     (length c.self.inside.releases.numbers) c.self.inside.releases.most c.self.invariant.slots
-    (omega (arith, c.in-Some.ensures.1)) c.threads-width.ensures.is c.prepare.ensures.most))
+    refl c.threads-width.ensures.is c.prepare.ensures.most))
 
 pub returns-in_err-grow-clause-grown : goal.returns-in_err-grow-clause-grown
 returns-in_err-grow-clause-grown c =
@@ -90,7 +89,7 @@ returns-in_err-grow-clause-grown c =
     c.grow.ensures.same c.prepare.ensures.same c.grow.ensures.most c.grow.ensures.room
     (numbers_fit c.self.inside.queues.items
     (length c.self.inside.releases.numbers) c.self.inside.releases.most c.self.invariant.slots
-    (omega (arith, c.in-Some.ensures.1)) c.threads-width.ensures.is c.prepare.ensures.most))
+    refl c.threads-width.ensures.is c.prepare.ensures.most))
 
 pub returns-in_err-prepare-2-clause-grown : goal.returns-in_err-prepare-2-clause-grown
 returns-in_err-prepare-2-clause-grown c =
@@ -101,7 +100,7 @@ returns-in_err-prepare-2-clause-grown c =
     c.prepare.ensures.same c.grow.ensures.most c.prepare-2.ensures.most c.grow.ensures.room
     (numbers_fit c.self.inside.queues.items
     (length c.self.inside.releases.numbers) c.self.inside.releases.most c.self.invariant.slots
-    (omega (arith, c.in-Some.ensures.1)) c.threads-width.ensures.is c.prepare.ensures.most)
+    refl c.threads-width.ensures.is c.prepare.ensures.most)
     c.prepare-2.ensures.places)
 
 pub returns-clause-grown : goal.returns-clause-grown
@@ -113,5 +112,5 @@ returns-clause-grown c =
     c.prepare.ensures.same c.grow.ensures.most c.prepare-2.ensures.most c.grow.ensures.room
     (numbers_fit c.self.inside.queues.items
     (length c.self.inside.releases.numbers) c.self.inside.releases.most c.self.invariant.slots
-    (omega (arith, c.in-Some.ensures.1)) c.threads-width.ensures.is c.prepare.ensures.most)
+    refl c.threads-width.ensures.is c.prepare.ensures.most)
     c.prepare-2.ensures.places)
