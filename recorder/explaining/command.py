@@ -53,17 +53,21 @@ def say(text):
 
 
 class Found:
-    """The entries of all traces, by their places, with what they count."""
+    """The entries of all traces, by their places, with the runs in which they were met."""
 
     def __init__(self):
-        self.by_places, self.status, self.notes = {}, 0, []
+        self.by_places, self.runs, self.status, self.notes = {}, {}, 0, []
 
-    def add(self, places, entry, runs):
-        entry.update(number=len(self.by_places) + 1, runs=1, of_runs=runs)
-        self.by_places[places] = entry
+    def meet(self, pairs, run):
+        """Counts the pairs that were met before; answers the others."""
+        for places, pair in pairs.items():
+            self.runs.setdefault(places, set()).add(run)
+            if places in self.by_places:
+                self.by_places[places]['events'] += pair.count
+        return [(places, pair) for places, pair in pairs.items() if places not in self.by_places]
 
 
-def explain_trace(path, options, found, runs):
+def explain_trace(path, options, found, run):
     """Adds the entries of a trace. Prints what `wcp` says of one that is refused."""
     try:
         size = os.path.getsize(path)
@@ -81,18 +85,14 @@ def explain_trace(path, options, found, runs):
         say(f'{path} has no report by wcp, so nothing is explained')
         return
     note_what_is_missing(path, trace, info, found)
-    new = [(places, pair) for places, pair in pairs.items() if places not in found.by_places]
-    for places, pair in pairs.items():
-        if places in found.by_places:
-            found.by_places[places]['runs'] += 1
-            found.by_places[places]['events'] += pair.count
+    new = found.meet(pairs, run)
     if not new:
         return
     symbols = Symbols(info)
     try:
         maker = Maker(trace, [pair for _, pair in new], lambda forks: Naming(info, symbols, forks))
         for (places, _), entry in zip(new, maker.entries()):
-            found.add(places, entry, runs)
+            found.by_places[places] = entry
     except OtherTrace as other:
         raise Stop(USAGE, f'the report is not of {path}: event {other} is another there')
     finally:
@@ -146,11 +146,14 @@ def chosen(found, options):
     return entries, suppressed, seen
 
 
-def explain(paths, options, out=sys.stdout):
-    """Explains these traces, which are runs of one program; answers the exit status."""
+def explain(runs, options, out=sys.stdout):
+    """Explains runs of one program, each a list of traces, one of a process; answers the exit status."""
     found = Found()
-    for path in paths:
-        explain_trace(path, options, found, len(paths))
+    for run, paths in enumerate(runs):
+        for path in paths:
+            explain_trace(path, options, found, run)
+    for places, entry in found.by_places.items():
+        entry.update(runs=len(found.runs[places]), of_runs=len(runs))
     entries, suppressed, seen = chosen(found, options)
     for number, entry in enumerate(entries, 1):
         entry['number'] = number
@@ -159,15 +162,15 @@ def explain(paths, options, out=sys.stdout):
         print_json(out, printed)
     else:
         print_text(Printer(out, is_colored(options.color, out)), printed, len(entries))
-        print_sum(out, len(entries), len(printed), suppressed, seen)
+        print_sum(out, len(runs), len(entries), len(printed), suppressed, seen)
     out.flush()
     for note in found.notes:
         say(note)
     return found.status or (RACE if entries else 0)
 
 
-def print_sum(out, races, printed, suppressed, seen):
-    text = f'{races or "no"} race{"s" * (races != 1)}'
+def print_sum(out, runs, races, printed, suppressed, seen):
+    text = f'{races or "no"} race{"s" * (races != 1)}' + (f' in {runs} runs' if runs > 1 else '')
     notes = [f'the first {printed} printed'] * (printed < races)
     notes += [f'{suppressed} suppressed'] * (suppressed > 0) + [f'{seen} known'] * (seen > 0)
     out.write(', '.join([text, *notes]) + '\n')
@@ -215,4 +218,4 @@ def main():
     options = parser.parse_args()
     if options.report and len(options.trace) > 1:
         parser.error('--report takes one trace')
-    return guarded(lambda: explain(options.trace, options))
+    return guarded(lambda: explain([[path] for path in options.trace], options))
