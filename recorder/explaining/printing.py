@@ -1,0 +1,173 @@
+"""Prints entries as text: the race, its two accesses with their stacks, what hid it, and where its threads
+were started. Each text that comes from the program is printed by `shown`."""
+import json
+import textwrap
+
+from .grouping import grouped
+from .names import shown, source
+from .naming import thread_text, where
+
+WIDTH = 108
+LONGEST = 90
+COLORS = {'race': '1;31', 'heading': '1', 'warning': '33', 'none': ''}
+
+
+class Printer:
+    """Writes lines to a stream, some in color."""
+
+    def __init__(self, stream, is_colored):
+        self.stream, self.is_colored = stream, is_colored
+
+    def line(self, text='', color='none'):
+        text = shown(text)
+        if self.is_colored and COLORS[color]:
+            text = f'\x1b[{COLORS[color]}m{text}\x1b[0m'
+        self.stream.write(text + '\n')
+
+    def paragraph(self, text, indent=2, color='none'):
+        for number, part in enumerate(textwrap.wrap(shown(text), WIDTH - indent - 2, break_long_words=False,
+                                                    break_on_hyphens=False)):
+            self.line(' ' * (indent + 2 * (number > 0)) + part, color)
+
+
+def print_text(printer, entries, total):
+    """All entries, those that share a side under one heading. `total` is how many there are in all."""
+    for side, group in grouped(entries):
+        if side is not None:
+            printer.line(f'{len(group)} races have {cut(side)} on one side: they may have one cause', 'heading')
+            printer.line()
+        for entry in group:
+            print_entry(printer, entry, total)
+            printer.line()
+
+
+def print_entry(printer, entry, total):
+    events = f'{entry["events"]} event{"s" * (entry["events"] != 1)}'
+    runs = f' in {entry["runs"]} of {entry["of_runs"]} runs' if entry['of_runs'] > 1 else ''
+    printer.line(f'race {entry["number"]} of {total}: {about(entry)}, {events}{runs}', 'race')
+    if entry['number'] > 1:
+        printer.line('  comes after race 1, and may be its consequence: look at that first')
+    print_access(printer, entry, entry['first'])
+    print_access(printer, entry, entry['second'])
+    if entry['stacks'] > 1:
+        printer.line(f'  reached by {entry["stacks"]} pairs of stacks, of which this is the first')
+    if entry['is_hidden']:
+        print_path(printer, entry)
+    else:
+        printer.paragraph('also a race by happens-before: no lock, start or join orders the two in this run')
+    print_block(printer, entry['variable']['block'])
+    print_starts(printer, entry)
+
+
+def about(entry):
+    variable = entry['variable']
+    notes = []
+    if variable['kind'] == 'global':
+        notes = ['global', f'{variable["size"]} bytes']
+    if variable['declared']:
+        notes.append(source(variable['declared']['file'], variable['declared']['line']))
+    if variable['part'].startswith('@'):
+        notes.append('one side is an atomic operation')
+    text = variable['text'] + (f' ({", ".join(notes)})' if notes else '')
+    others = entry['other_variables']
+    return text + (f' and {others} more variable{"s" * (others > 1)}' if others else '')
+
+
+def print_access(printer, entry, access):
+    held = 'holding ' + ', '.join(f'{lock_text(lock)} ({where(lock["at"])})' for lock in access['locks'])
+    printer.paragraph(f'{access["operation"]} by {thread_text(access["thread"])}, event {access["event"]}, '
+                      + (held if access['locks'] else 'holding no lock'))
+    print_frames(printer, access['frames'])
+
+
+def print_frames(printer, frames):
+    """Frames of the system below the first one of the program are left out."""
+    rows, own = [], False
+    for number, frame in enumerate(frames):
+        if not (own and frame['is_system']):
+            function = cut(frame['function']) if frame['function'] else ''
+            rows.append((f'#{number} {function}'.rstrip(), where(frame), frame['text'] or ''))
+        own = own or not frame['is_system']
+    first = min(max(len(shown(row[0])) for row in rows), 40)
+    second = min(max(len(shown(row[1])) for row in rows), 40)
+    for function, place, text in rows:
+        gap = '  ' if first > 3 else ' '
+        printer.line(f'    {shown(function):<{first}}{gap}{shown(place):<{second}}  {cut(text)}'.rstrip())
+
+
+def print_path(printer, entry):
+    """What orders the two accesses in the trace, step by step."""
+    texts = [step_text(entry, number) for number in range(len(entry['steps']))]
+    locks = [step for step in entry['steps'] if step['kind'] == 'lock']
+    later = [step for step in locks if step['conflict_is_later']]
+    refuted = [step for step in locks if step['conflict'] is not None and not step['conflict_is_later']]
+    end = ''
+    if len(texts) == 1 and not refuted:
+        end = (f' Up to that {entry["second"]["operation"]} their' if later else ' Their') + \
+            ' sections have no conflicting accesses, so they may come in the other order.'
+    elif not refuted:
+        end = 'No two of these sections have conflicting accesses' + (
+            ' before the path leaves them' if later else '') + ', so they may come in the other order.'
+    detector = 'A detector by happens-before does not report this race.'
+    if len(texts) == 1:
+        printer.paragraph(f'hidden by the schedule: {texts[0]}.{end} {detector}')
+    else:
+        printer.line('  hidden by the schedule, in this order:')
+        for text in texts:
+            printer.paragraph(text, 4)
+        printer.paragraph(f'{end} {detector}')
+    for step in locks:
+        print_warning(printer, step)
+
+
+def step_text(entry, number):
+    step = entry['steps'][number]
+    is_first, is_last = number == 0, number == len(entry['steps']) - 1
+    after = f', after its {entry["first"]["operation"]}' if is_first else ''
+    before = f', before its {entry["second"]["operation"]}' if is_last else ''
+    giver, taker = step['giver']['name'], step['taker']['name']
+    if step['kind'] == 'fork':
+        return f'{giver} started {taker} ({where(step["at"])}) at event {step["event"]}{after}{before}'
+    if step['kind'] == 'join':
+        return f'{taker} joined {giver} ({where(step["at"])}) at event {step["event"]}{before}'
+    released, acquired = step['released'], step['acquired']
+    return (f'{giver} released {lock_text(step["lock"])} ({where(released["at"])}) at event '
+            f'{released["event"]}{after}; {taker} acquired it ({where(acquired["at"])}) at event '
+            f'{acquired["event"]}{before}')
+
+
+def print_warning(printer, step):
+    if step['empty']:
+        both = 'the sections of ' + ' and '.join(step['empty']) if len(step['empty']) > 1 else \
+            f'the section of {step["empty"][0]}'
+        printer.paragraph(
+            f'warning: {both} on {lock_text(step["lock"])} has no access in the trace. Accesses in code that is '
+            'not instrumented may order the two, and then this is no race.', color='warning')
+
+
+def print_block(printer, block):
+    if block and block['frames']:
+        by = f' by {block["thread"]}' if block['thread'] else ''
+        printer.line(f'  the block of {block["size"]} bytes was allocated{by}:')
+        print_frames(printer, block['frames'])
+
+
+def print_starts(printer, entry):
+    threads = {entry[which]['thread']['name']: entry[which]['thread'] for which in ('first', 'second')}
+    starts = [f'{thread["name"]} was started by {thread["started_by"]} at {where(thread["started_at"])}'
+              for thread in threads.values() if thread['started_by']]
+    if starts:
+        printer.paragraph(', '.join(starts))
+
+
+def lock_text(lock):
+    return lock['text'] if lock['kind'] != 'heap' or not lock['block'] else f'the lock at {lock["text"]}'
+
+
+def cut(text):
+    return text if len(text) <= LONGEST else text[:LONGEST - 3] + '...'
+
+
+def print_json(stream, entries):
+    for entry in entries:
+        stream.write(json.dumps(entry) + '\n')
