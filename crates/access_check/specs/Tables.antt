@@ -59,6 +59,11 @@ pub record IsReady (tables : AccessTables) (t : ThreadId) (o : Op) : Type 0 wher
   pub thread : t.0 < length tables.counts
   pub access : IsReadyFor tables.vars t o
 
+-- there is room for both events of a swap
+abbrev pub IsReadyToSwap : AccessTables → Event → Event → Type 0
+IsReadyToSwap tables load store =
+    IsReady tables load.thread load.op × IsReady tables store.thread store.op
+
 -- what the thread had room for it still has room for
 abbrev pub KeepsReady : AccessTables → AccessTables → ThreadId → Type 0
 KeepsReady old new t = (o : Op) → IsReady old t o → IsReady new t o

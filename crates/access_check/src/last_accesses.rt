@@ -8,7 +8,7 @@ ghost use Rattle.access_check.specs.LastAccesses.{is_of, later, racing, latest_f
 
 use crate::packed::PackedAccess;
 use event_core::{OutOfMemory, ThreadId, reserve};
-use hb_clocks::JoinedClocks;
+use hb_clocks::VectorTime;
 use std::alloc::Global;
 use std::marker::Model;
 
@@ -39,9 +39,9 @@ pub fn greater(first: Option<u64>, second: Option<u64>) -> Option<u64>
 
 // The access's index, where it is of another thread, and the clock does not count it.
 #[inline(always)]
-fn racing_index(last: &PackedAccess, thread: ThreadId, clock: &JoinedClocks) -> Option<u64>
-    requires { last.now.thread.0 < length clock.now }
-    ensures { result ≡ racing thread (counts_of clock.now) last.now }
+fn racing_index<T: VectorTime>(last: &PackedAccess, thread: ThreadId, clock: &T) -> Option<u64>
+    requires { last.now.thread.0 < length (T.numbers clock.now) }
+    ensures { result ≡ racing thread (counts_of (T.numbers clock.now)) last.now }
 {
     if last.thread() == thread {
         return None;
@@ -54,14 +54,14 @@ fn racing_index(last: &PackedAccess, thread: ThreadId, clock: &JoinedClocks) -> 
 
 // The greater of the index that was found before and that of the access, where it races.
 #[tactic(auto, using(crate::proofs::Latest::later_none))]
-fn with_racing(
+fn with_racing<T: VectorTime>(
     found: Option<u64>,
     last: &PackedAccess,
     thread: ThreadId,
-    clock: &JoinedClocks,
+    clock: &T,
 ) -> Option<u64>
-    requires { last.now.thread.0 < length clock.now }
-    ensures { result ≡ later found (racing thread (counts_of clock.now) last.now) }
+    requires { last.now.thread.0 < length (T.numbers clock.now) }
+    ensures { result ≡ later found (racing thread (counts_of (T.numbers clock.now)) last.now) }
 {
     // Mostly none races.
     match racing_index(last, thread, clock) {
@@ -72,14 +72,14 @@ fn with_racing(
 
 // The latest racing access of all, and of the one that was found before.
 #[inline(never)]
-fn latest_racing(
+fn latest_racing<T: VectorTime>(
     before: Option<u64>,
     lasts: &[PackedAccess],
     thread: ThreadId,
-    clock: &JoinedClocks,
+    clock: &T,
 ) -> Option<u64>
-    requires { AreNarrow (length clock.now) lasts.now }
-    ensures { result ≡ latest_from before thread (counts_of clock.now) lasts.now }
+    requires { AreNarrow (length (T.numbers clock.now)) lasts.now }
+    ensures { result ≡ latest_from before thread (counts_of (T.numbers clock.now)) lasts.now }
 {
     let mut found = before;
     for last in lasts {
@@ -221,9 +221,9 @@ impl LastAccesses {
 
     /// The greatest index of an access that races with one by the thread.
     #[inline(always)]
-    pub fn latest_racing(&self, thread: ThreadId, clock: &JoinedClocks) -> Option<u64>
-        requires { AreNarrow (length clock.now) self.now.items }
-        ensures { result ≡ latest thread (counts_of clock.now) self.now.items }
+    pub fn latest_racing<T: VectorTime>(&self, thread: ThreadId, clock: &T) -> Option<u64>
+        requires { AreNarrow (length (T.numbers clock.now)) self.now.items }
+        ensures { result ≡ latest thread (counts_of (T.numbers clock.now)) self.now.items }
     {
         let Some(first) = &self.first else {
             return None;

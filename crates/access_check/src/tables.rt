@@ -13,7 +13,7 @@ ghost use Rattle.access_check.specs.Tables.{IsReadyAt, IsReadyFor, LastsAt};
 use crate::last_accesses::{Access, LastAccess};
 use crate::variable_accesses::VariableAccesses;
 use event_core::{AccessKind, Event, Op, OutOfMemory, ThreadId, Verdict, grow_to};
-use hb_clocks::JoinedClocks;
+use hb_clocks::VectorTime;
 use std::alloc::Global;
 
 // So many variables get a table at once.
@@ -112,16 +112,17 @@ fn note_at(
 
 /// The verdict on the thread's access of that kind.
 #[inline(always)]
-pub(crate) fn verdict_at_var(
+pub(crate) fn verdict_at_var<T: VectorTime>(
     vars: &[VariableAccesses],
     var: usize,
     thread: ThreadId,
     kind: AccessKind,
-    clock: &JoinedClocks,
+    clock: &T,
 ) -> Verdict
-    requires { (x : ℕ) (k : Kind) → AreNarrow (length clock.now) (kept k (accesses_at vars.now x)) }
-    ensures { result
-        ≡ verdict_at (latest_racing thread kind (counts_of clock.now) (accesses_at vars.now var)) }
+    requires { (x : ℕ) (k : Kind)
+        → AreNarrow (length (T.numbers clock.now)) (kept k (accesses_at vars.now x)) }
+    ensures { result ≡ verdict_at
+        (latest_racing thread kind (counts_of (T.numbers clock.now)) (accesses_at vars.now var)) }
 {
     if vars.len() <= var {
         return Verdict::Clear;

@@ -2,7 +2,7 @@
 //! does not race nothing that was before it.
 use crate::last_accesses::{LastAccess, LastAccesses, greater};
 use event_core::{AccessKind, OutOfMemory, ThreadId, Verdict};
-use hb_clocks::JoinedClocks;
+use hb_clocks::VectorTime;
 use std::alloc::Global;
 use std::mem::size_of;
 
@@ -85,15 +85,15 @@ impl VariableAccesses {
 
     /// The greatest index of an access that races with one of that kind by the thread.
     #[inline(always)]
-    pub fn latest_racing(
+    pub fn latest_racing<T: VectorTime>(
         &self,
         thread: ThreadId,
         kind: AccessKind,
-        clock: &JoinedClocks,
+        clock: &T,
     ) -> Option<u64>
-        requires loads { AreNarrow (length clock.now) (kept AccessKind.Read self.now) }
-        requires stores { AreNarrow (length clock.now) (kept AccessKind.Write self.now) }
-        ensures { result ≡ latest_racing thread kind (counts_of clock.now) self.now }
+        requires loads { AreNarrow (length (T.numbers clock.now)) (kept AccessKind.Read self.now) }
+        requires stores { AreNarrow (length (T.numbers clock.now)) (kept AccessKind.Write self.now) }
+        ensures { result ≡ latest_racing thread kind (counts_of (T.numbers clock.now)) self.now }
     {
         let stores = self.stores.latest_racing(thread, clock);
         match kind {

@@ -50,7 +50,7 @@ pub fn make<R: Abort>(rt: &R, memory: &mut Memory, thread: ThreadId, op: Op, arg
         arg,
     };
     memory.permit(&call).expect(rt, "permitted");
-    memory.prepare(thread, op).expect(rt, "memory");
+    memory.prepare(&call).expect(rt, "memory");
     let value = memory.apply(&call);
     call.event_with(value)
 }

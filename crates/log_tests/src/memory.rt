@@ -3,8 +3,8 @@ mod cases;
 
 use crate::expected::{Place, expect};
 use cases::Row::{Called, Held, Holder, Swapped, Value};
-use cases::{Answer, CASES, Case, LOAD, Row, STORE};
-use event_core::{Call, Limits, LockId, Op, Refusal, SiteId, ThreadId, VarId};
+use cases::{ACQUIRE, Answer, CASES, Case, LOAD, RELEASE, Row, STORE};
+use event_core::{Call, Limits, LockId, Op, Refusal, Roots, SiteId, ThreadId, VarId};
 use std::alloc::Global;
 use std::process::Abort;
 use traced_mem::Memory;
@@ -20,7 +20,7 @@ fn call(thread: u32, op: Op, arg: u64) -> Call {
 
 fn make_once(memory: &mut Memory, call: &Call) -> Answer {
     memory.permit(call)?;
-    if memory.prepare(call.thread, call.op).is_err() {
+    if memory.prepare(call).is_err() {
         return Err(Refusal::OutOfMemory);
     }
     Ok(memory.apply(call))
@@ -34,18 +34,17 @@ fn make(memory: &mut Memory, call: &Call, asks_again: bool) -> Answer {
     }
 }
 
-/// What a swap is answered: its load's value.
+/// What a swap is answered: its load's value. Room for both events is made before the first.
 fn swap_once(memory: &mut Memory, thread: u32, arg: u64) -> Answer {
-    memory.permit_swap(ThreadId(thread), VarId(0))?;
-    if memory.prepare(ThreadId(thread), LOAD).is_err()
-        || memory.prepare(ThreadId(thread), STORE).is_err()
-        || !memory.ready(ThreadId(thread), LOAD)
-        || !memory.ready(ThreadId(thread), STORE)
-    {
+    let load = call(thread, LOAD, 0);
+    let store = call(thread, STORE, arg);
+    let events = (load.event_with(0), store.event_with(arg));
+    memory.permit_swap(load.thread, VarId(0))?;
+    if memory.prepare_swap(&events.0, &events.1).is_err() {
         return Err(Refusal::OutOfMemory);
     }
-    let value = make_once(memory, &call(thread, LOAD, 0))?;
-    make_once(memory, &call(thread, STORE, arg))?;
+    let value = make_once(memory, &load)?;
+    make_once(memory, &store)?;
     Ok(value)
 }
 
@@ -88,6 +87,37 @@ fn expect_case(rt: &impl Abort, alloc: Global, case: &Case, asks_again: bool) {
         };
         expect_row(rt, place, &mut memory, row, asks_again);
     }
+    drop(memory);
+}
+
+/// The room is there once it was made, and a release finds its own.
+#[test]
+fn room_that_was_made_is_there(rt: HostRuntime) {
+    let limits = Limits::new(2, 1, 1, 8, Roots::Free).expect(&rt, "small limits");
+    let mut memory = Memory::new(rt.alloc(), limits).expect(&rt, "no memory is taken");
+    let acquire = call(1, ACQUIRE, 0);
+    expect(&rt, "prepare", memory.prepare(&acquire).is_ok(), true);
+    expect(&rt, "ready", memory.ready(&acquire), true);
+    expect(&rt, "made", make_once(&mut memory, &acquire), Ok(0));
+    expect(&rt, "release", memory.ready(&call(1, RELEASE, 0)), true);
+    let load = call(1, LOAD, 0).event_with(0);
+    let store = call(1, STORE, 5).event_with(5);
+    expect(
+        &rt,
+        "swap",
+        memory.prepare_swap(&load, &store).is_ok(),
+        true,
+    );
+    expect(&rt, "both", memory.ready_swap(&load, &store), true);
+    expect(&rt, "store", memory.ready(&call(1, STORE, 5)), true);
+    let forked = memory.prepare_for(ThreadId(1), Op::Fork(ThreadId(0)));
+    expect(&rt, "fork", forked.is_ok(), true);
+    expect(
+        &rt,
+        "row",
+        memory.ready_for(ThreadId(1), Op::Fork(ThreadId(0))),
+        true,
+    );
     drop(memory);
 }
 

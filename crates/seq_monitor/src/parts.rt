@@ -103,10 +103,10 @@ fn others_ready(parts: &Parts, thread: ThreadId, op: Op, slots: usize) -> bool
     ensures ready { IsTrue result ↔ HasOtherRoom parts.now thread op slots }
     ensures release { IsKeptRelease parts.now thread op slots → IsTrue result }
 {
-    if !parts.memory.ready(thread, op) {
+    if !parts.memory.ready_for(thread, op) {
         return false;
     }
-    if !parts.accesses.ready(thread, op) {
+    if !parts.accesses.ready_for(thread, op) {
         return false;
     }
     if !parts.log.has_room(slots) {
@@ -147,8 +147,8 @@ fn grow_others(parts: &mut Parts, thread: ThreadId, op: Op, slots: usize) -> Res
     ensures clocks { parts.new.clocks ≡ parts.old.clocks }
     ensures ready { OnOk result (HasOtherRoom parts.new thread op slots) }
 {
-    parts.memory.prepare(thread, op)?;
-    parts.accesses.prepare(thread, op)?;
+    parts.memory.prepare_for(thread, op)?;
+    parts.accesses.make_room_for(thread, op)?;
     parts.log.reserve(slots)?;
     parts.verdicts.reserve(slots)
 }

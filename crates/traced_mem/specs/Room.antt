@@ -2,6 +2,7 @@
 use Rattle.std.specs.Prelude.{◌≡◌, ℕ, ◌+◌, ◌*◌, ◌^◌, ◌<◌, ◌≤◌, Bool, false, List, length, max, nat_eq, cond}
 use Rattle.smallvec.specs.SmallVec.{HasRoomFor}
 use Rattle.event_core.specs.declared.ids.ThreadId.{ThreadId}
+use Rattle.event_core.specs.declared.events.Event.{Event}
 use Rattle.event_core.specs.declared.events.Op.{Op}
 use Rattle.event_core.specs.declared.events.Op.TheVariants.{Load, Store, Acquire, Release, Fork, Join}
 use Rattle.traced_mem.specs.declared.rows.ThreadRow.{ThreadRow}
@@ -21,6 +22,10 @@ HasRoom threads locks cells u (Join v) = v.0 < length threads
 pub record IsReady (t : MemoryTables) (u : ThreadId) (o : Op) : Type 0 where
   pub caller : u.0 < length t.threads
   pub room : HasRoom t.threads (length t.locks) t.room u o
+
+-- there is room for both events of a swap
+abbrev pub IsReadyToSwap : MemoryTables → Event → Event → Type 0
+IsReadyToSwap t load store = IsReady t load.thread load.op × IsReady t store.thread store.op
 
 -- an acquire may use up the place that was made for another one by its thread
 abbrev pub takes_place : ThreadId → Op → ThreadId → Op → Bool

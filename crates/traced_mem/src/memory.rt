@@ -1,5 +1,5 @@
 //! The state of a traced program. Contracts see what it means, and for which calls there is room.
-ghost use Rattle.std.specs.Prelude.{◌≡◌, ℕ, ◌<◌, ◌≤◌, [], ◌∷◌, ◌++◌, false, IsOk, IfOk, OnOk, List};
+ghost use Rattle.std.specs.Prelude.{◌≡◌, [], ◌∷◌, ◌++◌, false, IsOk, IfOk, List};
 ghost use Rattle.event_core.specs.declared.events.Event.{Event};
 ghost use Rattle.event_core.specs.declared.events.Op.{Op as Operation};
 ghost use Rattle.event_core.specs.declared.ids.ThreadId.{ThreadId as Thread};
@@ -7,16 +7,16 @@ ghost use Rattle.event_core.specs.Refusal.{value_of, event_of};
 ghost use Rattle.traced_mem.specs.Meaning.{nothing};
 ghost use Rattle.traced_mem.specs.After.{after, value_at, holds_after};
 ghost use Rattle.traced_mem.specs.Tables.{meaning, Allows};
-ghost use Rattle.traced_mem.specs.Room.{IsReady, GrownFor, HoldsFit, takes_place};
+ghost use Rattle.traced_mem.specs.Room.{IsReady, HoldsFit, takes_place};
 ghost use Rattle.traced_mem.specs.Standing.{StandsFor};
 
 mod permission;
 mod queries;
+mod room;
 
-use crate::growth::grow;
 use crate::rows::{LockRow, ThreadRow};
 use crate::step::apply_rows;
-use event_core::{Call, Limits, Op, OutOfMemory, ThreadId};
+use event_core::{Call, Limits, Op, OutOfMemory};
 use std::alloc::Global;
 use std::marker::Model;
 
@@ -89,31 +89,6 @@ impl Memory {
             locks: Vec::new(alloc),
             cells: Vec::new(alloc),
         })
-    }
-
-    /// Makes room for the thread's operation, or answers `OutOfMemory`. Nothing else changes, and what was
-    /// ready stays so. A table that grows has memory for at most twice what the operation needs. A swap needs
-    /// the room of its load and that of its store.
-    pub fn prepare(&mut self, thread: ThreadId, op: Op) -> Result<(), OutOfMemory>
-        ensures same { meaning self.new ≡ meaning self.old }
-        ensures limits { self.new.limits ≡ self.old.limits }
-        ensures ready { OnOk result (IsReady self.new thread op) }
-        ensures again { IsReady self.old thread op → IsOk result }
-        ensures kept { (u : Thread) (o : Operation) → IsReady self.old u o → IsReady self.new u o }
-        ensures grown { GrownFor self.old self.new thread op }
-        ensures stands { (log : List Event) → StandsFor log self.old → StandsFor log self.new }
-    {
-        if self.ready(thread, op) {
-            return Ok(());
-        }
-        grow(
-            &mut self.threads,
-            &mut self.locks,
-            &mut self.cells,
-            self.alloc,
-            thread,
-            op,
-        )
     }
 
     /// Performs a call that is allowed and ready, and answers its event's value. It takes no memory.

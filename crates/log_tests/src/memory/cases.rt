@@ -33,9 +33,9 @@ pub const LOAD: Op = Op::Load(VarId(0));
 
 pub const STORE: Op = Op::Store(VarId(0));
 
-const ACQUIRE: Op = Op::Acquire(LockId(0));
+pub const ACQUIRE: Op = Op::Acquire(LockId(0));
 
-const RELEASE: Op = Op::Release(LockId(0));
+pub const RELEASE: Op = Op::Release(LockId(0));
 
 pub const CASES: &[Case] = &[
     Case {

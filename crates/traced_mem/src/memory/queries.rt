@@ -1,16 +1,13 @@
-//! What is asked of a memory: values, holders, depths, the locks of a thread, and room.
-ghost use Rattle.std.specs.Prelude.{◌≡◌, ℕ, ◌<◌, ◌≤◌, ◌↔◌, IsTrue, List, length};
+//! What is asked of a memory: values, holders, depths, and the locks of a thread.
+ghost use Rattle.std.specs.Prelude.{◌≡◌, ◌≤◌, List, length};
 ghost use Rattle.event_core.specs.declared.events.Event.{Event};
-ghost use Rattle.event_core.specs.declared.events.Op.{Op as Operation};
-ghost use Rattle.event_core.specs.declared.ids.LockId.{LockId as Lock};
 ghost use Rattle.event_core.specs.Refusal.{last_value, lock_depth, open_acquires, holder as holder_of};
-ghost use Rattle.traced_mem.specs.Tables.{meaning, Allows};
-ghost use Rattle.traced_mem.specs.Room.{HasRoom, IsReady};
+ghost use Rattle.traced_mem.specs.Tables.{meaning};
 ghost use Rattle.traced_mem.specs.Standing.{StandsFor};
 ghost use Rattle.traced_mem.specs.Held.{AreHeld};
 
 use crate::memory::Memory;
-use event_core::{LockId, Op, ThreadId, VarId};
+use event_core::{LockId, ThreadId, VarId};
 
 impl Memory {
     /// How many events there were.
@@ -62,36 +59,6 @@ impl Memory {
         ensures held { (log : List Event) → StandsFor log self.now → AreHeld log thread result.now }
     {
         self.find_held(thread)
-    }
-
-    /// Whether there is room for the thread's operation. There is for each release that is allowed.
-    #[inline(always)]
-    pub fn ready(&self, thread: ThreadId, op: Op) -> bool
-        ensures room { IsTrue result ↔ IsReady self.now thread op }
-        ensures release { (lock : Lock) → op ≡ Operation.Release lock
-            → Allows self.now thread op → IsTrue result }
-    {
-        (thread.0 as usize) < self.threads.len() && self.has_room_for(thread, op)
-    }
-
-    // Whether the tables have room for what the operation names; the thread has a row.
-    #[inline(always)]
-    fn has_room_for(&self, thread: ThreadId, op: Op) -> bool
-        requires { thread.0 < length self.now.threads }
-        ensures { IsTrue result
-            ↔ HasRoom self.now.threads (length self.now.locks) self.now.room thread op }
-    {
-        match op {
-            Op::Load(_) => true,
-            Op::Store(var) => (var.0 as usize) < self.cells.capacity(),
-            Op::Acquire(lock) => (lock.0 as usize) < self.locks.len()
-                && {
-                    let held = &self.threads[thread.0 as usize].held;
-                    held.len() < held.capacity()
-                },
-            Op::Release(lock) => (lock.0 as usize) < self.locks.len(),
-            Op::Fork(child) | Op::Join(child) => (child.0 as usize) < self.threads.len(),
-        }
     }
 
     #[inline(always)]

@@ -18,11 +18,11 @@ narrow_at vars x width ts d is lt narrow k =
     (sym (is ∙ get_or_default vars x d no_accesses lt)) (narrow x k)
 
 pub latest_racing-requires-clause-loads : goal.latest_racing-requires-clause-loads
-latest_racing-requires-clause-loads c =
-    narrow_at c.args.vars.now c.args.var (length c.args.clock.now) c.index-vars-var.result _
+latest_racing-requires-clause-loads g c =
+    narrow_at c.args.vars.now c.args.var (length (g.T.VectorTime.numbers c.args.clock.now)) c.index-vars-var.result _
     c.index-vars-var.is c.if-vars-var.false c.requires Read
 
 pub latest_racing-requires-clause-stores : goal.latest_racing-requires-clause-stores
-latest_racing-requires-clause-stores c =
-    narrow_at c.args.vars.now c.args.var (length c.args.clock.now) c.index-vars-var.result _
+latest_racing-requires-clause-stores g c =
+    narrow_at c.args.vars.now c.args.var (length (g.T.VectorTime.numbers c.args.clock.now)) c.index-vars-var.result _
     c.index-vars-var.is c.if-vars-var.false c.requires Write

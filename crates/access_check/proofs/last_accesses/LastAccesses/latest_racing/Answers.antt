@@ -5,10 +5,11 @@ use Rattle.access_check.specs.LastAccesses.{LastList, AreNarrow, items_of}
 use Rattle.access_check.proofs.last_accesses.LastAccesses.latest_racing.Goals as goal
 
 pub latest_racing-requires : goal.latest_racing-requires
-latest_racing-requires c =
+latest_racing-requires g c =
     let rest : List LastAccess = c.self.inside.rest.items in
     let items : c.args.self.now.items ≡ c.in-Some.first ∷ rest
     = sym (ap (λ (s : LastList). s.items) c.self.view_is) ∙ ap (λ f. items_of f rest) c.in-Some.is in
-    subst (AreNarrow (length c.args.clock.now)) (sym c.deref.ensures.value)
-    (All-tail (λ (p : LastAccess). p.thread.0 < length c.args.clock.now) c.in-Some.first rest
-    (subst (AreNarrow (length c.args.clock.now)) items c.requires))
+    let width = length (g.T.VectorTime.numbers c.args.clock.now) in
+    subst (AreNarrow width) (sym c.deref.ensures.value)
+    (All-tail (λ (p : LastAccess). p.thread.0 < width) c.in-Some.first rest
+    (subst (AreNarrow width) items c.requires))

@@ -1,7 +1,7 @@
 use Rattle.std.proofs.Common.{length, ap, arith}
 use Rattle.traced_mem.specs.Tables.{MemoryTables}
 use Rattle.traced_mem.proofs.Allowed.{release_room}
-use Rattle.traced_mem.proofs.memory.Memory.ready.Goals as goal
+use Rattle.traced_mem.proofs.memory.Memory.ready_for.Goals as goal
 
 pub returns-then-thread-len-clause-release : goal.returns-then-thread-len-clause-release
 returns-then-thread-len-clause-release c lock e h =
