@@ -66,10 +66,12 @@ pub fn perform<N: Name, R: Abort>(
     arg: u64,
 ) -> Pass<N>
     requires no_fork { forked_by op ≡ None }
+    requires holds_none { keeper.old.held ≡ None }
     requires limits { memory.old.limits ≡ N.limits }
-    requires stands { StandsFor (log_of keeper.old) memory.old }
+    requires stands { StandsFor (log_of keeper.old.steps) memory.old }
+    ensures holds_none { keeper.new.held ≡ None }
     ensures limits { memory.new.limits ≡ N.limits }
-    ensures stands { StandsFor (log_of keeper.new) memory.new }
+    ensures stands { StandsFor (log_of keeper.new.steps) memory.new }
 {
     let event = make(rt, memory, pass.thread(), op, arg);
     published.publish(keeper, pass, Step::One(event))
@@ -84,11 +86,13 @@ pub fn perform_fork<N: Name, R: Abort>(
     pass: Pass<N>,
     child: ThreadId,
 ) -> (Pass<N>, Pass<N>)
+    requires holds_none { keeper.old.held ≡ None }
     requires limits { memory.old.limits ≡ N.limits }
-    requires stands { StandsFor (log_of keeper.old) memory.old }
+    requires stands { StandsFor (log_of keeper.old.steps) memory.old }
     ensures child { result.1.thread ≡ child }
+    ensures holds_none { keeper.new.held ≡ None }
     ensures limits { memory.new.limits ≡ N.limits }
-    ensures stands { StandsFor (log_of keeper.new) memory.new }
+    ensures stands { StandsFor (log_of keeper.new.steps) memory.new }
 {
     let event = make(rt, memory, pass.thread(), Op::Fork(child), 0);
     published.publish_fork(keeper, pass, event)

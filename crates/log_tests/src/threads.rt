@@ -1,5 +1,5 @@
 //! Passes of threads that run beside each other.
-ghost use Rattle.std.specs.Prelude.{◌≡◌, []};
+ghost use Rattle.std.specs.Prelude.{◌≡◌, [], None};
 ghost use Rattle.event_core.specs.Steps.{log_of};
 ghost use Rattle.traced_mem.specs.Standing.{StandsFor};
 
@@ -24,10 +24,12 @@ fn children<N: Name, R: Abort>(
     pass: Pass<N>,
     children: &mut Vec<Pass<N>>,
 ) -> Result<Pass<N>, AllocError>
+    requires holds_none { keeper.old.held ≡ None }
     requires limits { memory.old.limits ≡ N.limits }
-    requires stands { StandsFor (log_of keeper.old) memory.old }
+    requires stands { StandsFor (log_of keeper.old.steps) memory.old }
+    ensures holds_none { keeper.new.held ≡ None }
     ensures limits { memory.new.limits ≡ N.limits }
-    ensures stands { StandsFor (log_of keeper.new) memory.new }
+    ensures stands { StandsFor (log_of keeper.new.steps) memory.new }
 {
     let mut pass = pass;
     for child in 1..9 {
@@ -49,8 +51,9 @@ fn stores<N: Name, R: Abort>(
     memory: &mut Memory,
     pass: Pass<N>,
 ) -> Pass<N>
+    requires holds_none { keeper.old.held ≡ None }
     requires limits { memory.old.limits ≡ N.limits }
-    requires stands { StandsFor (log_of keeper.old) memory.old }
+    requires stands { StandsFor (log_of keeper.old.steps) memory.old }
 {
     let mut pass = pass;
     for value in 0..100 {
@@ -112,8 +115,9 @@ fn look_beside_stores<N: Name + Send + Sync, R: Threads + Abort + Sync>(
     memory: &mut Memory,
     pass: Pass<N>,
 ) -> Result<(), AllocError>
+    requires holds_none { keeper.old.held ≡ None }
     requires limits { memory.old.limits ≡ N.limits }
-    requires stands { StandsFor (log_of keeper.old) memory.old }
+    requires stands { StandsFor (log_of keeper.old.steps) memory.old }
 {
     let mut others = Vec::new(alloc);
     let Ok(pass) = children(rt, published, keeper, memory, pass, &mut others) else {
