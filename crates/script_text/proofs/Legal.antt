@@ -9,6 +9,7 @@ use Rattle.std.proofs.lemmas.Option.{IfSome_then}
 use Rattle.event_core.specs.declared.ids.ThreadId.{ThreadId}
 use Rattle.event_core.specs.Bounds.{Bounds}
 use Rattle.event_core.proofs.Places.{front_or_last, each_push}
+use Rattle.rapid_text.specs.declared.causes.Kind.{Kind}
 use Rattle.rapid_text.specs.declared.causes.Kind.TheVariants as kinds
 use Rattle.rapid_text.specs.Tables.{Tables, TablesGrow, number_in}
 use Rattle.rapid_line.specs.Cut.{content}
@@ -31,9 +32,9 @@ use Rattle.script_text.specs.Scripts.{act_event, act_of, kind_of, begun}
 
 -- ---- what an Ok says
 
-number_ok : (o : Option (ℕ × Tables)) (p : ℕ × Tables) → number_or_cause o ≡ Ok p → o ≡ Some p
-number_ok None p e = absurd cc
-number_ok (Some q) p e = ap Some (ok_inj q p e)
+number_ok : (k : Kind) (o : Option (ℕ × Tables)) (p : ℕ × Tables) → number_or_cause k o ≡ Ok p → o ≡ Some p
+number_ok k None p e = absurd cc
+number_ok k (Some q) p e = ap Some (ok_inj q p e)
 
 -- ---- one line more
 
@@ -148,12 +149,14 @@ numbered_is : (t : Tables) (n : ℕ) (said : SpelledAct) (l : ScriptLine) (u : T
 unfolding numbered_line
 numbered_is t n said l u e =
     let a = number_in t kinds.Thread said.thread in
-    let p = and_then_ok (number_or_cause a) _ (l, u) e in
-    let b = number_in p.0.1 (kind_of said.word) said.argument in
-    let q = and_then_ok (number_or_cause b) _ (l, u) p.2 in
+    let p = and_then_ok (number_or_cause kinds.Thread a) _ (l, u) e in
+    let kind = kind_of said.word in
+    let b = number_in p.0.1 kind said.argument in
+    let q = and_then_ok (number_or_cause kind b) _ (l, u) p.2 in
     let c = number_in q.0.1 kinds.Site (decimal n) in
-    let r = and_then_ok (number_or_cause c) _ (l, u) q.2 in
-    let order = in_order p.0 q.0 r.0 (number_ok a p.0 p.1) (number_ok b q.0 q.1) (number_ok c r.0 r.1) in
+    let r = and_then_ok (number_or_cause kinds.Site c) _ (l, u) q.2 in
+    let order = in_order p.0 q.0 r.0 (number_ok kinds.Thread a p.0 p.1) (number_ok kind b q.0 q.1)
+    (number_ok kinds.Site c r.0 r.1) in
     let last : ScriptLine × Tables =
     (record { act = act_of said.word p.0.0 q.0.0 r.0.0 said.number; line = n }, r.0.1) in
     let here : IsNumbered t last.0 last.1 = record {

@@ -17,7 +17,7 @@ abbrev pub cause_word : ScriptCause → List ℕ
 cause_word LineTooLong = codes "LineTooLong"
 cause_word BadLine = codes "BadLine"
 cause_word BadNumber = codes "BadNumber"
-cause_word TooManyNames = codes "TooManyNames"
+cause_word (TooManyNames kind) = codes "TooManyNames"
 cause_word BadFork = codes "BadFork"
 cause_word BadJoin = codes "BadJoin"
 cause_word NoFork = codes "NoFork"

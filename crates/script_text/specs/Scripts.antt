@@ -75,16 +75,16 @@ act_of Swap thread n site number =
     acts.Swap (record { 0 = thread }) (record { 0 = n }) (record { 0 = site }) number
 
 -- the number of a name, or that there are too many of its kind
-abbrev pub number_or_cause : Option (ℕ × Tables) → Result (ℕ × Tables) ScriptCause
-number_or_cause None = Err TooManyNames
-number_or_cause (Some p) = Ok p
+abbrev pub number_or_cause : Kind → Option (ℕ × Tables) → Result (ℕ × Tables) ScriptCause
+number_or_cause kind None = Err (TooManyNames kind)
+number_or_cause kind (Some p) = Ok p
 
 -- line n with its names numbered, in the order thread, argument, location; the location is the line's number
 unfoldable pub numbered_line : Tables → ℕ → SpelledAct → Result (ScriptLine × Tables) ScriptCause
 numbered_line t n said =
-    and_then (number_or_cause (number_in t kinds.Thread said.thread)) (λ p.
-    and_then (number_or_cause (number_in p.1 (kind_of said.word) said.argument)) (λ q.
-    and_then (number_or_cause (number_in q.1 kinds.Site (decimal n))) (λ r.
+    and_then (number_or_cause kinds.Thread (number_in t kinds.Thread said.thread)) (λ p.
+    and_then (number_or_cause (kind_of said.word) (number_in p.1 (kind_of said.word) said.argument)) (λ q.
+    and_then (number_or_cause kinds.Site (number_in q.1 kinds.Site (decimal n))) (λ r.
     Ok (record { act = act_of said.word p.0 q.0 r.0 said.number; line = n }, r.1))))
 
 -- a fork of thread 0, or of a thread that a line before forks

@@ -2,6 +2,7 @@
 ghost use Rattle.std.specs.Prelude.{◌≡◌};
 ghost use Rattle.script_text.specs.Faults.{cause_word};
 
+use rapid_text::Kind;
 use thiserror::Error;
 
 /// Why a script has a fault. Each cause has a number, which its comment begins with. Of several at the
@@ -15,7 +16,7 @@ pub enum ScriptCause {
     /// 3: the number is not 1 to 20 digits, or above the greatest that a u64 holds.
     BadNumber,
     /// 4: the line has a new name, and its kind has as many names as its limit.
-    TooManyNames,
+    TooManyNames(Kind),
     /// 5: the line forks thread 0, or a thread that a line before it forks.
     BadFork,
     /// 6: the line joins thread 0, its own thread, or a thread that a line before it joins.
@@ -38,7 +39,7 @@ impl ScriptCause {
             ScriptCause::LineTooLong => "LineTooLong",
             ScriptCause::BadLine => "BadLine",
             ScriptCause::BadNumber => "BadNumber",
-            ScriptCause::TooManyNames => "TooManyNames",
+            ScriptCause::TooManyNames(_) => "TooManyNames",
             ScriptCause::BadFork => "BadFork",
             ScriptCause::BadJoin => "BadJoin",
             ScriptCause::NoFork => "NoFork",

@@ -28,11 +28,11 @@ fn kind_of(word: Word) -> Kind
 fn number_of_name(names: &mut Names, kind: Kind, name: &[u8]) -> Result<u32, ScriptCause>
     requires { IsNameOf kind name.now }
     ensures ok { IfOk result (λ n. number_in names.old kind name.now ≡ Some (n, names.new)) }
-    ensures fault { IfErr result (λ f. Fails f (number_or_cause (number_in names.old kind name.now))) }
+    ensures fault { IfErr result (λ f. Fails f (number_or_cause kind (number_in names.old kind name.now))) }
 {
     match names.number(kind, name) {
         Ok(number) => Ok(number),
-        Err(NameFault::TooMany) => Err(ScriptCause::TooManyNames),
+        Err(NameFault::TooMany) => Err(ScriptCause::TooManyNames(kind)),
         Err(NameFault::OutOfMemory) => Err(ScriptCause::OutOfMemory),
     }
 }

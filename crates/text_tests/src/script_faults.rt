@@ -3,6 +3,7 @@ use super::doubles::{Pieces, byte_by_byte, that_fails, whole};
 use super::expected::expect;
 use super::faults::letters_and;
 use super::script_readings::{Wanted, expect_read};
+use rapid_text::Kind;
 use script_text::{ScriptCause, ScriptFault};
 use std::alloc::Global;
 use std::process::Abort;
@@ -30,9 +31,21 @@ const FAULTS: &[Faulty] = &[
     ("m\rr x", 1, ScriptCause::BadLine),
     ("m r x|y", 1, ScriptCause::BadLine),
     ("m begin x", 1, ScriptCause::BadLine),
-    ("m fork a\nm fork b\nm fork c", 3, ScriptCause::TooManyNames),
-    ("m acq a\nm rel b\nm acq c", 3, ScriptCause::TooManyNames),
-    ("m r a\nm w b 1\nm swap c 1", 3, ScriptCause::TooManyNames),
+    (
+        "m fork a\nm fork b\nm fork c",
+        3,
+        ScriptCause::TooManyNames(Kind::Thread),
+    ),
+    (
+        "m acq a\nm rel b\nm acq c",
+        3,
+        ScriptCause::TooManyNames(Kind::Lock),
+    ),
+    (
+        "m r a\nm w b 1\nm swap c 1",
+        3,
+        ScriptCause::TooManyNames(Kind::Variable),
+    ),
 ];
 
 /// A failed read is reported where it failed. Whole lines that came before the failure are judged first. The
@@ -114,7 +127,10 @@ const WORDS: &[(ScriptCause, &str)] = &[
     (ScriptCause::LineTooLong, "LineTooLong"),
     (ScriptCause::BadLine, "BadLine"),
     (ScriptCause::BadNumber, "BadNumber"),
-    (ScriptCause::TooManyNames, "TooManyNames"),
+    (ScriptCause::TooManyNames(Kind::Thread), "TooManyNames"),
+    (ScriptCause::TooManyNames(Kind::Lock), "TooManyNames"),
+    (ScriptCause::TooManyNames(Kind::Variable), "TooManyNames"),
+    (ScriptCause::TooManyNames(Kind::Site), "TooManyNames"),
     (ScriptCause::BadFork, "BadFork"),
     (ScriptCause::BadJoin, "BadJoin"),
     (ScriptCause::NoFork, "NoFork"),
