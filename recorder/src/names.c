@@ -78,7 +78,7 @@ char *name_address(char *to, uint64_t address, uint32_t number) {
     if (address == 0) return name_words(to, "fence");
     if (address >= SIGNALS && address < ADDRESSES)
         return name_number(name_words(to, "signal"), 10, address - SIGNALS);
-    if (address < SIGNALS) return name_number(name_words(to, "fd"), 10, address - DESCRIPTORS);
+    if (address < SIGNALS) return name_number(name_words(to, "channel"), 10, address - DESCRIPTORS);
     if (number && block->kind == STACK) {
         to = name_number(name_words(to, "stack"), 10, block->thread);
         return name_number(name_words(to, "-0x"), 16, block->start + block->size - address);

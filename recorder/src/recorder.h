@@ -34,9 +34,9 @@ enum kind {
     WRITE_LOCK,
     READ_WRITE_UNLOCK,
     FRESH,        /* a lock is initialised or destroyed */
-    WAIT,         /* for the latest signal of the object */
-    POST,         /* a wait, and then a new signal */
-    SIGNAL,       /* a new signal */
+    WAIT,         /* for the signals of the object */
+    POST,         /* a signal beside those of other threads */
+    SIGNAL,       /* a signal in the place of all before */
     BARRIER,      /* size is the number of threads of a round */
     ARRIVE,
     LEAVE,
@@ -134,6 +134,9 @@ void record_block(enum kind kind, const volatile void *at, uint64_t size, uintpt
 void record_range(enum kind kind, const volatile void *at, uint64_t size, uintptr_t place);
 void record_freed(void *at, uint64_t size, uintptr_t place);
 void take_back(struct event *event);
+
+/* heap.c */
+void *allocate(size_t size, uintptr_t place);
 
 /* clock.c */
 struct stripe {

@@ -50,9 +50,16 @@ struct object {
     struct hold writer;      /* of a mutex or of a writer */
     uint32_t readers;        /* the first hold of a reader */
     struct signal given;     /* the latest release */
-    struct signal latest;    /* the latest signal */
+    struct signal latest;    /* the latest signal that took the place of others */
+    uint32_t posts;          /* the first of the signals since */
     uint32_t count, arrived, round; /* of a barrier */
     uint8_t is_given_by_signal, is_named;
+};
+
+/* A signal of the object, beside those of other threads. */
+struct post {
+    struct signal signal;
+    uint32_t next;
 };
 
 struct counts {
@@ -67,6 +74,7 @@ extern uint32_t sync_number;
 extern struct counts counts;
 
 /* merge.c */
+void stop_threads(void);
 void walk(void (*visit)(const struct event *event, uint32_t thread));
 uint64_t event_count(void);
 
@@ -92,6 +100,8 @@ void again_objects(void);
 struct object *object_of(uint64_t address);
 struct hold *reader_of(struct object *object, uint32_t thread);
 struct hold *hold_number(uint32_t number);
+struct post *post_number(uint32_t number);
+struct post *new_post(struct object *object);
 void all_held_by(uint32_t thread, void (*found)(struct object *object, struct hold *hold));
 
 /* holders.c */
