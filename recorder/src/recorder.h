@@ -182,7 +182,11 @@ void close_files(void);
 void name_now(void);
 void keep_name(void);
 int is_own_file(int file);
+unsigned next_own_file(unsigned first);
+void move_own_file(int file);
 int trace_file(void);
+void read_program(void);
+extern char program_path[4096];
 int info_file(void);
 void leave_no_file(void);
 void tell_status(const char *status, const uint64_t *numbers);
@@ -194,6 +198,7 @@ void start_recording(int is_child);
 void finish(const char *why);
 void again_ends(void);
 void follow_process(void);
+void leave_to_child(void) __attribute__((noreturn));
 void catch_signals(void);
 
 #pragma GCC visibility pop

@@ -55,6 +55,7 @@ static void go_on_in_child(void) {
 
 __attribute__((constructor(101))) static void start(void) {
     if (!getenv("WCP_TRACE")) return;
+    read_program();
     start_recording(0);
     catch_signals();
     pthread_atfork(NULL, NULL, go_on_in_child);
