@@ -38,7 +38,7 @@ static inline void record_access(enum kind kind, uintptr_t address, uint64_t siz
         thread = own_thread();
         if (!thread) return;
     }
-    if (__builtin_expect(thread->ignored, 0)) return;
+    if (__builtin_expect(thread->ignored || !recording, 0)) return;
     uint32_t stack = stack_now(thread);
     if (!options.keeps_all && is_repeated(thread, kind, address, size, place, stack)) return;
     if (__builtin_expect(thread->next >= thread->limit, 0)) {

@@ -15,6 +15,13 @@ void again_ends(void) {
 /* The child of daemon() is the process from now on. */
 void follow_process(void) { process = getpid(); }
 
+/* The parent of daemon() ends: what it recorded is its child's. */
+void leave_to_child(void) {
+    static const uint64_t nothing[5];
+    if (recording) tell_status("whole", nothing);
+    for (;;) syscall(SYS_exit_group, 0);
+}
+
 static void tell(const char *why) {
     char status[256] = "whole";
     char words[512];
@@ -50,6 +57,10 @@ void finish(const char *why) {
     if (cut_because) why = cut_because;
     const char *failed = write_trace(trace_file());
     if (failed) counts.events = 0;
+    if (why && strcmp(why, "exec") == 0 && counts.threads < 2) {
+        why = NULL;
+        counts = (struct counts){ 0 };
+    }
     tell(failed ? failed : why);
     close_files();
     is_finished = 1;

@@ -81,9 +81,15 @@ static uint64_t next_time(struct thread *thread, struct stripe *stripe) {
     return time;
 }
 
+/* The running thread where it is recorded. */
+static struct thread *running(void) {
+    if (!recording) return NULL;
+    return self ? self : own_thread();
+}
+
 /* Records an event that orders threads, on the object at the address; NULL where it was not recorded. */
 struct event *record_sync(enum kind kind, uintptr_t address, uint64_t size, uintptr_t place) {
-    struct thread *thread = self ? self : own_thread();
+    struct thread *thread = running();
     if (!thread) return NULL;
     thread->others++;
     struct stripe *stripe = address ? stripe_of(address) : NULL;
@@ -95,7 +101,7 @@ struct event *record_sync(enum kind kind, uintptr_t address, uint64_t size, uint
 
 /* Memory was given out: it is recorded after it was got. All maps have one stripe, since they may overlap. */
 void record_block(enum kind kind, const volatile void *at, uint64_t size, uintptr_t place) {
-    struct thread *thread = self ? self : own_thread();
+    struct thread *thread = running();
     if (!thread || !at) return;
     struct stripe *stripe = stripe_of(kind == BLOCK ? (uintptr_t)at : 0);
     thread->others++;
@@ -105,7 +111,7 @@ void record_block(enum kind kind, const volatile void *at, uint64_t size, uintpt
 
 /* Memory is about to be given back, which is a store to it. */
 void record_freed(void *at, uint64_t size, uintptr_t place) {
-    struct thread *thread = self ? self : own_thread();
+    struct thread *thread = running();
     if (!thread || !at) return;
     struct stripe *stripe = stripe_of((uintptr_t)at);
     uint64_t time = next_time(thread, NULL);
@@ -116,7 +122,7 @@ void record_freed(void *at, uint64_t size, uintptr_t place) {
 
 /* An access of any size. */
 void record_range(enum kind kind, const volatile void *at, uint64_t size, uintptr_t place) {
-    struct thread *thread = self ? self : own_thread();
+    struct thread *thread = running();
     if (!thread || size == 0) return;
     if (size < LONG) {
         record_access(kind, (uintptr_t)at, size, place);
@@ -131,5 +137,5 @@ void record_range(enum kind kind, const volatile void *at, uint64_t size, uintpt
 
 /* What was recorded of a call that then failed is no event. */
 void take_back(struct event *event) {
-    if (event) event->words[2] &= ~((uint64_t)63 << 48);
+    if (event && recording) event->words[2] &= ~((uint64_t)63 << 48);
 }

@@ -11,9 +11,35 @@ static char path[PATH], part[PATH + 8], info[PATH + 8], info_part[PATH + 16];
 static int trace = -1, beside = -1, summary = -1, folder = -1;
 static int is_direct, is_named;
 
+/* The path of the executable: it is read at the start, since chroot hides it. */
+char program_path[4096];
+void read_program(void) {
+    ssize_t length = readlink("/proc/self/exe", program_path, sizeof program_path - 1);
+    program_path[length > 0 ? length : 0] = 0;
+}
+
 int is_own_file(int file) {
     return file >= 0 && (file == trace || file == beside || file == summary || file == folder);
 }
+
+/* The least of the recorder's files from this number on. */
+unsigned next_own_file(unsigned first) {
+    int own[] = { trace, beside, summary, folder };
+    unsigned least = UINT32_MAX;
+    for (int i = 0; i < 4; i++) {
+        if (own[i] >= 0 && (unsigned)own[i] >= first && (unsigned)own[i] < least) least = (unsigned)own[i];
+    }
+    return least;
+}
+
+/* The program takes this number for a file of its own. */
+void move_own_file(int file) {
+    int *own[] = { &trace, &beside, &summary, &folder };
+    for (int i = 0; i < 4; i++) {
+        if (file >= 0 && *own[i] == file) *own[i] = fcntl(file, F_DUPFD_CLOEXEC, file + 1);
+    }
+}
+
 int trace_file(void) { return trace; }
 int info_file(void) { return beside; }
 

@@ -19,6 +19,8 @@ static void give_back(void *at, uintptr_t place) {
     __libc_free(at);
 }
 
+void *allocate(size_t size, uintptr_t place) { return given(__libc_malloc(size), place); }
+
 void *malloc(size_t size) { return given(__libc_malloc(size), PLACE); }
 void *calloc(size_t count, size_t size) { return given(__libc_calloc(count, size), PLACE); }
 void *memalign(size_t to, size_t size) { return given(__libc_memalign(to, size), PLACE); }

@@ -9,11 +9,25 @@ struct source {
 static struct source heap[THREADS];
 static uint32_t sources;
 
+/* Where each thread's events end. A thread that was stopped within an event may fill its place any time. */
+static const struct event *ends[THREADS];
+void stop_threads(void) {
+    uint32_t count = thread_count < THREADS ? thread_count : THREADS;
+    for (uint32_t i = 0; i < count; i++) {
+        if (!threads[i] || !threads[i]->events) continue;
+        struct event *end = threads[i]->next;
+        struct event *start = threads[i]->events;
+        while (end > start && end[-1].words[2] == 0) end--;
+        if (end - start > 1 && end[-2].words[2] == 0) end -= 2;
+        ends[i] = end;
+    }
+}
+
 uint64_t event_count(void) {
     uint64_t all = 0;
     uint32_t count = thread_count < THREADS ? thread_count : THREADS;
     for (uint32_t i = 0; i < count; i++) {
-        if (threads[i]) all += (uint64_t)(threads[i]->next - threads[i]->events);
+        if (ends[i]) all += (uint64_t)(ends[i] - threads[i]->events);
     }
     return all;
 }
@@ -51,20 +65,31 @@ static void fill_heap(void) {
     uint32_t count = thread_count < THREADS ? thread_count : THREADS;
     sources = 0;
     for (uint32_t i = 0; i < count; i++) {
-        if (!threads[i] || !threads[i]->events) continue;
-        heap[sources] = (struct source){ threads[i]->events, threads[i]->next, 0, i };
+        if (!ends[i]) continue;
+        heap[sources] = (struct source){ threads[i]->events, ends[i], 0, i };
         if (settle(&heap[sources])) sources++;
     }
     for (uint32_t i = sources; i-- > 0;) sink(i);
 }
 
+/* The source whose turn comes after the first. */
+static const struct source *second(void) {
+    if (sources < 2) return NULL;
+    return sources > 2 && is_before(&heap[2], &heap[1]) ? &heap[2] : &heap[1];
+}
+
 void walk(void (*visit)(const struct event *event, uint32_t thread)) {
     fill_heap();
     while (sources > 0) {
-        struct source *top = &heap[0];
-        visit(top->next, top->thread);
-        top->next++;
-        if (!settle(top)) {
+        struct source *first = &heap[0];
+        const struct source *later = second();
+        int has_more = 1;
+        while (has_more && (!later || is_before(first, later))) {
+            visit(first->next, first->thread);
+            first->next++;
+            has_more = settle(first);
+        }
+        if (!has_more) {
             sources--;
             heap[0] = heap[sources];
         }

@@ -15,11 +15,8 @@ static struct known *known;
 static struct link_map *files[FILES];
 static const unsigned char *starts[FILES];
 static uint32_t file_count;
-static char program[4096];
 
 void start_names(void) {
-    ssize_t length = readlink("/proc/self/exe", program, sizeof program - 1);
-    program[length > 0 ? length : 0] = 0;
     known = pages(sizeof *known * PLACES);
 }
 
@@ -40,7 +37,7 @@ char *name_words(char *to, const char *words) {
 }
 
 static const char *path_of(const struct link_map *map) {
-    return *map->l_name ? map->l_name : program;
+    return *map->l_name ? map->l_name : program_path;
 }
 
 /* The last part of the path, without what a trace's line cannot hold. */
@@ -78,7 +75,7 @@ char *name_address(char *to, uint64_t address, uint32_t number) {
     if (address == 0) return name_words(to, "fence");
     if (address >= SIGNALS && address < ADDRESSES)
         return name_number(name_words(to, "signal"), 10, address - SIGNALS);
-    if (address < SIGNALS) return name_number(name_words(to, "fd"), 10, address - DESCRIPTORS);
+    if (address < SIGNALS) return name_number(name_words(to, "channel"), 10, address - DESCRIPTORS);
     if (number && block->kind == STACK) {
         to = name_number(name_words(to, "stack"), 10, block->thread);
         return name_number(name_words(to, "-0x"), 16, block->start + block->size - address);
@@ -135,7 +132,7 @@ void put_files(void) {
     put("process\t");
     put_number((uint64_t)getpid());
     put("\t");
-    put_field(program);
+    put_field(program_path);
     put("\n");
     for (uint32_t i = 0; i < file_count; i++) {
         *name_file(name, files[i]) = 0;

@@ -6,13 +6,15 @@ enum { OBJECTS = 1 << 26, CHAINS = 1 << 20 };
 static struct object *objects;
 static struct hold *holds;
 static uint32_t *chains;
-static uint32_t object_count, hold_count;
+static struct post *posts;
+static uint32_t object_count, hold_count, post_count;
 
 int start_objects(void) {
     objects = pages(sizeof *objects * OBJECTS);
     holds = pages(sizeof *holds * OBJECTS);
     chains = pages(sizeof *chains * CHAINS);
-    return objects && holds && chains;
+    posts = pages(sizeof *posts * OBJECTS);
+    return objects && holds && chains && posts;
 }
 
 static void forget_hold(struct hold *hold) {
@@ -27,11 +29,13 @@ void again_objects(void) {
         forget_hold(&object->writer);
         object->given = (struct signal){ 0 };
         object->latest = (struct signal){ 0 };
+        object->posts = 0;
         object->count = 0;
         object->arrived = 0;
         object->round = 0;
         object->is_given_by_signal = 0;
     }
+    post_count = 0;
     for (uint32_t i = 1; i <= hold_count; i++) forget_hold(&holds[i]);
 }
 
@@ -64,6 +68,16 @@ struct hold *reader_of(struct object *object, uint32_t thread) {
     hold->next = object->readers;
     object->readers = hold_count;
     return hold;
+}
+
+struct post *post_number(uint32_t number) { return number ? &posts[number] : NULL; }
+
+struct post *new_post(struct object *object) {
+    if (post_count + 1 == OBJECTS) fail("memory is full");
+    struct post *post = &posts[++post_count];
+    post->next = object->posts;
+    object->posts = post_count;
+    return post;
 }
 
 /* Every hold of the thread. */

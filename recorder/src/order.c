@@ -64,6 +64,22 @@ static struct signal new_signal(struct object *object, uint32_t thread) {
     return (struct signal){ object->address, object->block, sync_number, thread, 0 };
 }
 
+/* Waits for the latest signal and all posts since. */
+static void await_all(const struct object *object, const struct event *event, uint32_t thread) {
+    await(&object->latest, event, thread);
+    struct post *post = post_number(object->posts);
+    for (; post; post = post_number(post->next)) await(&post->signal, event, thread);
+}
+
+/* A signal beside those of others, in the place of the thread's own. */
+static void add_post(struct object *object, const struct event *event, uint32_t thread) {
+    struct post *post = post_number(object->posts);
+    while (post && post->signal.thread != thread) post = post_number(post->next);
+    if (!post) post = new_post(object);
+    post->signal = new_signal(object, thread);
+    signal_at(&post->signal, event, thread);
+}
+
 static void see_barrier(const struct event *event, uint32_t thread, struct object *object) {
     struct signal signal = new_signal(object, thread);
     if (kind_of(event) == BARRIER) {
@@ -72,6 +88,10 @@ static void see_barrier(const struct event *event, uint32_t thread, struct objec
         return;
     }
     if (kind_of(event) == ARRIVE) {
+        if (size_of(event) && size_of(event) != object->count) {
+            object->count = size_of(event);
+            object->arrived = 0;
+        }
         if (object->count && object->arrived++ % object->count == 0) {
             object->round = sync_number;
             if (is_writing) counts.locks++;
@@ -79,13 +99,12 @@ static void see_barrier(const struct event *event, uint32_t thread, struct objec
         }
         rounds[thread] = object->count ? object->round : 0;
         if (!object->count) {
-            await(&object->latest, event, thread);
-            object->latest = signal;
-            signal_at(&signal, event, thread);
+            add_post(object, event, thread);
+            return;
         }
     }
     signal.number = rounds[thread];
-    if (!rounds[thread]) await(&object->latest, event, thread);
+    if (!rounds[thread]) await_all(object, event, thread);
     else if (is_writing) section(event, thread, kind_of(event) == ARRIVE ? "|w(" : "|r(", &signal);
 }
 
@@ -138,6 +157,19 @@ static void see_operation(const struct event *event, uint32_t thread, struct obj
     signal_at(&object->latest, event, thread);
 }
 
+static void see_plain(const struct event *event, uint32_t thread, struct object *object) {
+    enum kind kind = kind_of(event);
+    if (kind == WAIT) {
+        await_all(object, event, thread);
+    } else if (kind == POST) {
+        add_post(object, event, thread);
+    } else {
+        object->posts = 0;
+        object->latest = new_signal(object, thread);
+        signal_at(&object->latest, event, thread);
+    }
+}
+
 void see_signal(const struct event *event, uint32_t thread) {
     enum kind kind = kind_of(event);
     if (kind == FENCE) {
@@ -150,9 +182,6 @@ void see_signal(const struct event *event, uint32_t thread) {
     } else if (kind >= BARRIER) {
         see_barrier(event, thread, object);
     } else {
-        if (kind != SIGNAL) await(&object->latest, event, thread);
-        if (kind == WAIT) return;
-        object->latest = new_signal(object, thread);
-        signal_at(&object->latest, event, thread);
+        see_plain(event, thread, object);
     }
 }

@@ -1,8 +1,5 @@
 /* Calls that make another process or program of this one, and calls after which the trace could not be named. */
 #include <fcntl.h>
-#include <grp.h>
-#include <sys/stat.h>
-#include <sys/syscall.h>
 #include <stdarg.h>
 #include "recorder.h"
 
@@ -18,9 +15,7 @@ int daemon(int keeps_folder, int keeps_files) {
     pid_t child = fork();
     fork_goes_on = 0;
     if (child < 0) return -1;
-    if (child > 0) {
-        for (;;) syscall(SYS_exit_group, 0);
-    }
+    if (child > 0) leave_to_child();
     follow_process();
     if (recording) tell_status("started", nothing);
     if (setsid() < 0) return -1;

@@ -34,9 +34,9 @@ enum kind {
     WRITE_LOCK,
     READ_WRITE_UNLOCK,
     FRESH,        /* a lock is initialised or destroyed */
-    WAIT,         /* for the latest signal of the object */
-    POST,         /* a wait, and then a new signal */
-    SIGNAL,       /* a new signal */
+    WAIT,         /* for the signals of the object */
+    POST,         /* a signal beside those of other threads */
+    SIGNAL,       /* a signal in the place of all before */
     BARRIER,      /* size is the number of threads of a round */
     ARRIVE,
     LEAVE,
@@ -135,6 +135,9 @@ void record_range(enum kind kind, const volatile void *at, uint64_t size, uintpt
 void record_freed(void *at, uint64_t size, uintptr_t place);
 void take_back(struct event *event);
 
+/* heap.c */
+void *allocate(size_t size, uintptr_t place);
+
 /* clock.c */
 struct stripe {
     volatile uint64_t time;
@@ -179,7 +182,11 @@ void close_files(void);
 void name_now(void);
 void keep_name(void);
 int is_own_file(int file);
+unsigned next_own_file(unsigned first);
+void move_own_file(int file);
 int trace_file(void);
+void read_program(void);
+extern char program_path[4096];
 int info_file(void);
 void leave_no_file(void);
 void tell_status(const char *status, const uint64_t *numbers);
@@ -191,6 +198,7 @@ void start_recording(int is_child);
 void finish(const char *why);
 void again_ends(void);
 void follow_process(void);
+void leave_to_child(void) __attribute__((noreturn));
 void catch_signals(void);
 
 #pragma GCC visibility pop

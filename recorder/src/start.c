@@ -1,5 +1,5 @@
 /* The start of recording: in the first process, and in children of fork. */
-#include "recorder.h"
+#include "channels.h"
 
 volatile int fork_goes_on;
 static const uint64_t nothing[5];
@@ -43,6 +43,7 @@ static void go_on_in_child(void) {
     recording = 0;
     self = NULL;
     again_clock();
+    again_channels();
     again_events();
     close_files();
     start_recording(1);
@@ -54,6 +55,7 @@ static void go_on_in_child(void) {
 
 __attribute__((constructor(101))) static void start(void) {
     if (!getenv("WCP_TRACE")) return;
+    read_program();
     start_recording(0);
     catch_signals();
     pthread_atfork(NULL, NULL, go_on_in_child);

@@ -37,6 +37,7 @@ static void see(const struct event *event, uint32_t thread) {
 /* Writes the trace, and answers why it could not be written, NULL where it was. */
 const char *write_trace(int file) {
     if (setjmp(broken)) return broken_by;
+    stop_threads();
     start_names();
     if (!start_blocks() || !start_objects() || !start_order() || !start_holders() || !start_lines(file))
         return "memory is full";

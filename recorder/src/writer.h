@@ -15,13 +15,14 @@ struct block {
     uint8_t is_named;
 };
 
-/* Sixteen bytes of a block: at which bytes accesses begin or end, which bytes were accessed plainly and which by
- * atomic operations, and by whom: OWNER + thread, or SHARED. `users` are threads with atomic operations. */
+/* Sixteen bytes of a block: at which bytes accesses begin, or end before (bit 16 is the end of the sixteen), which
+ * bytes were accessed plainly and which by atomic operations, and of each byte by whom: the thread's number and 1,
+ * or SHARED. `users` are threads with atomic operations. */
 struct cell {
-    uint32_t block, users;
-    uint16_t cuts, plain, atomic, named;
+    uint32_t block, users, cuts;
+    uint16_t plain, atomic, named;
     uint16_t owner[16];
-};
+} __attribute__((aligned(64)));
 enum { SHARED = 0xffff };
 struct user {
     uint32_t next;
@@ -50,9 +51,16 @@ struct object {
     struct hold writer;      /* of a mutex or of a writer */
     uint32_t readers;        /* the first hold of a reader */
     struct signal given;     /* the latest release */
-    struct signal latest;    /* the latest signal */
+    struct signal latest;    /* the latest signal that took the place of others */
+    uint32_t posts;          /* the first of the signals since */
     uint32_t count, arrived, round; /* of a barrier */
     uint8_t is_given_by_signal, is_named;
+};
+
+/* A signal of the object, beside those of other threads. */
+struct post {
+    struct signal signal;
+    uint32_t next;
 };
 
 struct counts {
@@ -67,6 +75,7 @@ extern uint32_t sync_number;
 extern struct counts counts;
 
 /* merge.c */
+void stop_threads(void);
 void walk(void (*visit)(const struct event *event, uint32_t thread));
 uint64_t event_count(void);
 
@@ -92,6 +101,8 @@ void again_objects(void);
 struct object *object_of(uint64_t address);
 struct hold *reader_of(struct object *object, uint32_t thread);
 struct hold *hold_number(uint32_t number);
+struct post *post_number(uint32_t number);
+struct post *new_post(struct object *object);
 void all_held_by(uint32_t thread, void (*found)(struct object *object, struct hold *hold));
 
 /* holders.c */
