@@ -7,10 +7,11 @@ from .names import source, text_of
 from .replay import place_of
 from .symbols import PLACE, is_system
 
-IN_BLOCK = re.compile(rb'(heap\d+)\+0x([0-9a-f]+)(.*)\Z', re.S)
-ON_STACK = re.compile(rb'stack(\d+)-0x([0-9a-f]+)(.*)\Z', re.S)
-# Behind the name of a variable or lock stands what sets apart the signals and the threads of one object.
-PART = re.compile(rb'(.*?)([.@][T0-9.@]+)?\Z', re.S)
+IN_BLOCK = re.compile(rb'((?:heap|map)\d+)\+0x([0-9a-f]+)\Z')
+ON_STACK = re.compile(rb'stack(\d+)-0x([0-9a-f]+)\Z')
+# Behind the recorder's name of an object: `.17` for a signal of it, `.T2` for T2's part of a reader-writer lock,
+# `@T2` for atomic operations of T2.
+PART = re.compile(rb'(.*[+-]0x[0-9a-f]+|0x[0-9a-f]+)(\.\d+|\.T\d+|@T\d+)\Z', re.S)
 
 
 class Naming:
@@ -63,9 +64,10 @@ class Naming:
 
     def variable(self, name):
         """A variable or a lock: what kind of memory it is, and which."""
-        whole, part = PART.match(name).groups()
+        match = PART.match(name)
+        whole, part = match.groups() if match else (name, b'')
         made = {'name': text_of(name), 'kind': 'other', 'text': f'`{text_of(whole)}`',
-                'part': text_of(part or b''), 'symbol': None, 'offset': None, 'size': None, 'declared': None,
+                'part': text_of(part), 'symbol': None, 'offset': None, 'size': None, 'declared': None,
                 'thread': None, 'block': None}
         in_block, on_stack, in_file = IN_BLOCK.match(whole), ON_STACK.match(whole), PLACE.match(whole)
         if in_block:
@@ -80,14 +82,15 @@ class Naming:
 
     def _add_block(self, made, name, offset):
         block = self.info.block(name)
-        made.update(kind='heap', offset=offset, text=f'byte {offset} of `{text_of(name)}`')
+        what = 'heap' if name.startswith(b'heap') else 'mapped'
+        made.update(kind=what, offset=offset, text=f'byte {offset} of `{text_of(name)}`')
         if block is None:
             return
         frames = self.frames(block.place, block.stack) if block.place else []
         made.update(size=block.size, block={
             'name': text_of(name), 'size': block.size, 'frames': frames,
             'thread': self.thread(block.thread)['name'] if block.thread else None})
-        made['text'] = f'byte {offset} of a heap block of {block.size} bytes'
+        made['text'] = f'byte {offset} of a {what} block of {block.size} bytes'
 
     def _add_symbol(self, made, file, offset):
         symbol = self.symbols.variable(file, offset)

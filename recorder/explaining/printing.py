@@ -66,8 +66,6 @@ def about(entry):
         notes = ['global', f'{variable["size"]} bytes']
     if variable['declared']:
         notes.append(source(variable['declared']['file'], variable['declared']['line']))
-    if variable['part'].startswith('@'):
-        notes.append('one side is an atomic operation')
     text = variable['text'] + (f' ({", ".join(notes)})' if notes else '')
     others = entry['other_variables']
     return text + (f' and {others} more variable{"s" * (others > 1)}' if others else '')
@@ -75,7 +73,8 @@ def about(entry):
 
 def print_access(printer, entry, access):
     held = 'holding ' + ', '.join(f'{lock_text(lock)} ({where(lock["at"])})' for lock in access['locks'])
-    printer.paragraph(f'{access["operation"]} by {thread_text(access["thread"])}, event {access["event"]}, '
+    operation = 'atomic ' * access['is_atomic'] + access['operation']
+    printer.paragraph(f'{operation} by {thread_text(access["thread"])}, event {access["event"]}, '
                       + (held if access['locks'] else 'holding no lock'))
     print_frames(printer, access['frames'])
 
@@ -131,9 +130,10 @@ def step_text(entry, number):
     if step['kind'] == 'join':
         return f'{taker} joined {giver} ({where(step["at"])}) at event {step["event"]}{before}'
     released, acquired = step['released'], step['acquired']
-    return (f'{giver} released {lock_text(step["lock"])} ({where(released["at"])}) at event '
-            f'{released["event"]}{after}; {taker} acquired it ({where(acquired["at"])}) at event '
-            f'{acquired["event"]}{before}')
+    is_signal = step['lock']['part'][1:].isdigit()
+    gave, took = ('waited for', 'waited for it too') if is_signal else ('released', 'acquired it')
+    return (f'{giver} {gave} {lock_text(step["lock"])} ({where(released["at"])}) at event {released["event"]}'
+            f'{after}; {taker} {took} ({where(acquired["at"])}) at event {acquired["event"]}{before}')
 
 
 def print_warning(printer, step):
@@ -161,7 +161,8 @@ def print_starts(printer, entry):
 
 
 def lock_text(lock):
-    return lock['text'] if lock['kind'] != 'heap' or not lock['block'] else f'the lock at {lock["text"]}'
+    text = lock['text'] if lock['text'].startswith('`') else f'the lock at {lock["text"]}'
+    return f'a signal of {text}' if lock['part'][1:].isdigit() else text
 
 
 def cut(text):
