@@ -1,0 +1,53 @@
+/* The path of an access, which each load and store of the program takes. */
+#ifndef ACCESS_H
+#define ACCESS_H
+#include <x86intrin.h>
+#include "recorder.h"
+
+/* Takes a place for an event. One instruction, so that a signal's handler takes another place. */
+static inline struct event *take_place(struct thread *thread) {
+    uint64_t step = sizeof(struct event);
+    __asm__ volatile("xaddq %0, %1" : "+r"(step), "+m"(thread->next) : : "cc", "memory");
+    return (struct event *)step;
+}
+
+static inline void fill(struct event *event, enum kind kind, uint64_t address, uint64_t size, uint64_t place,
+                        uint32_t stack, uint64_t time) {
+    event->words[0] = (address & 0xffffffffffff) | (uint64_t)(stack & 0xffff) << 48;
+    event->words[1] = (place & 0xffffffffffff) | (uint64_t)(stack >> 16) << 48;
+    __atomic_store_n(&event->words[2], (time & 0xffffffffffff) | (uint64_t)kind << 48 | size << 54,
+                     __ATOMIC_RELEASE);
+}
+
+/* Whether the thread made this access, at this place, since its last event that is no access. */
+static inline int is_repeated(struct thread *thread, enum kind kind, uint64_t address, uint64_t size,
+                              uint64_t place, uint32_t stack) {
+    uint64_t access = (address << 2 | kind) * 0x9e3779b97f4a7c15;
+    access ^= (place ^ (uint64_t)stack << 40) * 0xc2b2ae3d27d4eb4f;
+    access = (access ^ access >> 29) + (thread->others << 11 | size) * 0xff51afd7ed558ccd;
+    access |= 1;
+    uint64_t *kept = &thread->recent[access >> 51];
+    uint64_t before = *kept;
+    *kept = access;
+    return before == access;
+}
+
+static inline void record_access(enum kind kind, uintptr_t address, uint64_t size, uintptr_t place) {
+    struct thread *thread = self;
+    if (__builtin_expect(!thread, 0)) {
+        thread = own_thread();
+        if (!thread) return;
+    }
+    if (__builtin_expect(thread->ignored || !recording, 0)) return;
+    uint32_t stack = stack_now(thread);
+    if (!options.keeps_all && is_repeated(thread, kind, address, size, place, stack)) return;
+    if (__builtin_expect(thread->next >= thread->limit, 0)) {
+        refill(thread);
+        if (!recording) return;
+    }
+    uint64_t time = clock_now();
+    if (time < thread->time) time = thread->time;
+    thread->time = time;
+    fill(take_place(thread), kind, address, size, place, stack, time);
+}
+#endif
