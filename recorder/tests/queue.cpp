@@ -1,4 +1,5 @@
-// No race: a queue with a condition variable hands on what was stored before each push.
+// Races: none
+// A queue with a condition variable hands on what was stored before each push.
 #include <condition_variable>
 #include <cstdio>
 #include <memory>

@@ -1,4 +1,5 @@
-// No race: an atomic flag hands the message on.
+// Races: none
+// An atomic flag hands the message on.
 #include <atomic>
 #include <cstdio>
 #include <thread>

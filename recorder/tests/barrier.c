@@ -1,4 +1,5 @@
-/* No race: a barrier parts what each thread stores from what its neighbour loads, twice. */
+/* Races: none
+ * A barrier parts what each thread stores from what its neighbour loads, twice. */
 #include <pthread.h>
 #include <stdio.h>
 

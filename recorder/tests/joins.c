@@ -1,4 +1,5 @@
-/* No race: main loads what each thread stored once it has joined it, by tries, within a time, by a clock. */
+/* Races: none
+ * Main loads what each thread stored once it has joined it, by tries, within a time, by a clock. */
 #define _GNU_SOURCE
 #include <pthread.h>
 #include <sched.h>

@@ -1,5 +1,6 @@
-// One race and not two: both threads store into `shared`. Each also stores into a block of its own, without
-// a lock, and the second gets the memory that the first freed.
+// Races: heap
+// Both threads store into `shared`. Each also stores into a block of its own, without a lock, and the second
+// gets the memory that the first freed: those do not race.
 #include <chrono>
 #include <cstdio>
 #include <cstdlib>

@@ -1,0 +1,30 @@
+/* Races: heap
+ * One thread uses two blocks; another stores into the first by snprintf, and frees the second. */
+#include <pthread.h>
+#include <stdio.h>
+#include <stdlib.h>
+#include <string.h>
+#include <unistd.h>
+
+static char *text;
+static int *number;
+
+static void *work(void *unused)
+{
+    printf("%zu %d\n", strlen(text), *number);
+    return unused;
+}
+
+int main(void)
+{
+    pthread_t thread;
+    text = strdup("hello");
+    number = malloc(sizeof *number);
+    *number = 1;
+    pthread_create(&thread, NULL, work, NULL);
+    usleep(100000);
+    snprintf(text, 6, "%s", "bye");
+    free(number);
+    pthread_join(thread, NULL);
+    return 0;
+}

@@ -1,0 +1,47 @@
+// Races: racy
+// Flags: -std=c++17
+// Readers and writers by std::shared_mutex and std::shared_timed_mutex; `racy` is stored by readers.
+#include <chrono>
+#include <cstdio>
+#include <mutex>
+#include <shared_mutex>
+#include <thread>
+#include <vector>
+
+static std::shared_mutex mutex;
+static std::shared_timed_mutex timed;
+static int kept, timed_kept, racy;
+
+static int read_both(int i)
+{
+    std::shared_lock<std::shared_mutex> held(mutex);
+    std::shared_lock<std::shared_timed_mutex> timed_held(timed, std::chrono::seconds(60));
+    racy = i;
+    return kept + timed_kept;
+}
+
+static void write_both()
+{
+    std::unique_lock<std::shared_mutex> held(mutex);
+    std::unique_lock<std::shared_timed_mutex> timed_held(timed, std::chrono::seconds(60));
+    kept++;
+    timed_kept++;
+}
+
+int main()
+{
+    std::vector<std::thread> threads;
+    int sums[2] = { 0, 0 };
+    for (int reader = 0; reader < 2; reader++)
+        threads.emplace_back([&sums, reader] {
+            for (int i = 0; i < 10; i++)
+                sums[reader] += read_both(i);
+        });
+    threads.emplace_back([] {
+        for (int i = 0; i < 10; i++)
+            write_both();
+    });
+    for (auto &thread : threads)
+        thread.join();
+    std::printf("%d\n", kept + timed_kept);
+}
