@@ -5,7 +5,7 @@ import re
 
 from .names import source, text_of
 from .replay import place_of
-from .symbols import PLACE, is_system
+from .symbols import PLACE
 
 IN_BLOCK = re.compile(rb'((?:heap|map)\d+)\+0x([0-9a-f]+)\Z')
 ON_STACK = re.compile(rb'stack(\d+)-0x([0-9a-f]+)\Z')
@@ -34,7 +34,7 @@ class Naming:
     def _frame(self, frame):
         return {'function': frame.function, 'file': frame.file, 'line': frame.line,
                 'text': self.symbols.text(frame.file, frame.line), 'place': frame.place,
-                'is_system': is_system(frame)}
+                'is_system': frame.is_system}
 
     def thread(self, name):
         """A thread: its name in the trace, what the program called it, its start function, and its start."""
@@ -43,18 +43,19 @@ class Naming:
         return self._threads[name]
 
     def _thread(self, name):
-        known, first = self.info.threads.get(name), self.info.threads.get(b'T0')
+        known = self.info.threads.get(name)
         made = {'name': text_of(name), 'called': None, 'start': None, 'started_by': None, 'started_at': None}
         if name in self.forks:
             by, location = self.forks[name]
             made['started_by'], made['started_at'] = text_of(by), main_frame(self.stack(location))
         if known is None:
             return made
-        if known.name and (first is None or first.name != known.name):
+        # A thread that was given no name has that of the program, cut as the system does.
+        if known.name and known.name != (self.info.program or b'').rsplit(b'/', 1)[-1][:15]:
             made['called'] = text_of(known.name)
         if known.start:
             frame = self.symbols.frames(known.start)[-1]
-            made['start'] = None if is_system(frame) else frame.function
+            made['start'] = None if frame.is_system else frame.function
         if known.creator and known.place:
             made['started_by'] = text_of(known.creator)
             made['started_at'] = main_frame(self.frames(known.place, known.stack))
@@ -115,6 +116,4 @@ def thread_text(thread):
 
 def where(frame):
     """The source line of a frame, or else its place as it stands in the trace."""
-    if frame is None:
-        return 'a place that is not known'
     return source(frame['file'], frame['line']) if frame['file'] else frame['place']

@@ -63,7 +63,7 @@ def about(entry):
     variable = entry['variable']
     notes = []
     if variable['kind'] == 'global':
-        notes = ['global', f'{variable["size"]} bytes']
+        notes = ['global', f'{variable["size"]} byte{"s" * (variable["size"] != 1)}']
     if variable['declared']:
         notes.append(source(variable['declared']['file'], variable['declared']['line']))
     text = variable['text'] + (f' ({", ".join(notes)})' if notes else '')
@@ -80,7 +80,7 @@ def print_access(printer, entry, access):
 
 
 def print_frames(printer, frames):
-    """Frames of the system below the first one of the program are left out."""
+    """Below the first frame of the program, those of the system and the recorder are left out."""
     rows, own = [], False
     for number, frame in enumerate(frames):
         if not (own and frame['is_system']):
@@ -138,11 +138,13 @@ def step_text(entry, number):
 
 def print_warning(printer, step):
     if step['empty']:
-        both = 'the sections of ' + ' and '.join(step['empty']) if len(step['empty']) > 1 else \
-            f'the section of {step["empty"][0]}'
+        which = f'section of {step["empty"][0]} on {lock_text(step["lock"])} has'
+        if len(step['empty']) > 1:
+            which = f'sections of {" and ".join(step["empty"])} on {lock_text(step["lock"])} have'
         printer.paragraph(
-            f'warning: {both} on {lock_text(step["lock"])} has no access in the trace. Accesses in code that is '
-            'not instrumented may order the two, and then this is no race.', color='warning')
+            f'warning: the {which} no access in the trace. Where code that is not instrumented works in it, that '
+            'may order the two accesses, and then this is no race. (The recorder leaves out what one thread '
+            'alone accesses; WCP_ALL=1 keeps it.)', color='warning')
 
 
 def print_block(printer, block):
