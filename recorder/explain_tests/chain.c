@@ -2,7 +2,7 @@
 #include "turns.h"
 
 static pthread_mutex_t near = PTHREAD_MUTEX_INITIALIZER, far = PTHREAD_MUTEX_INITIALIZER;
-static int shared, one, two, three, four;
+int shared, one, two, three, four;
 
 static void *first(void *unused)
 {
@@ -43,5 +43,5 @@ int main(void)
     pthread_t threads[3];
     for (int i = 0; i < 3; i++) pthread_create(&threads[i], NULL, work[i], NULL);
     for (int i = 0; i < 3; i++) pthread_join(threads[i], NULL);
-    return one + two + three + four != 4;
+    return one + two + three + four + shared != 6;
 }

@@ -2,7 +2,7 @@
 #include "turns.h"
 
 static pthread_mutex_t guard = PTHREAD_MUTEX_INITIALIZER;
-static int shared, unseen;
+int shared, unseen;
 
 __attribute__((no_sanitize("thread"), noinline)) static void work_unseen(void)
 {
@@ -36,4 +36,5 @@ int main(void)
     pthread_create(&other, NULL, second, NULL);
     pthread_join(one, NULL);
     pthread_join(other, NULL);
+    return shared != 2;
 }

@@ -1,7 +1,7 @@
 /* One function races with three others: its entries stand under one heading, the other race apart. */
 #include "turns.h"
 
-static int x, y, z, other;
+int x, y, z, other;
 
 __attribute__((noinline)) static void reset(void)
 {

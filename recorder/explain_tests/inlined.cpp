@@ -1,7 +1,6 @@
-// A member that is inlined into its callers, by threads and locks of C++.
+// A member that is inlined into its callers, with locks of C++.
 #include "turns.h"
 #include <mutex>
-#include <thread>
 
 class Account {
 public:
@@ -15,29 +14,35 @@ __attribute__((always_inline)) inline void Account::credit(long amount)
 }
 
 static std::mutex guard;
-static Account account;
-static long first_done, second_done;
+Account account;
+long first_done, second_done;
 
-__attribute__((noinline)) static void pay_in()
+__attribute__((noinline)) static void *pay_in(void *unused)
 {
     account.credit(5);
-    std::lock_guard<std::mutex> held(guard);
+    guard.lock();
     first_done = 1;
+    guard.unlock();
+    pass(1);
+    return unused;
 }
 
-__attribute__((noinline)) static void pay_out()
+__attribute__((noinline)) static void *pay_out(void *unused)
 {
-    {
-        std::lock_guard<std::mutex> held(guard);
-        second_done = 1;
-    }
+    await(1);
+    guard.lock();
+    second_done = 1;
+    guard.unlock();
     account.credit(7);
+    return unused;
 }
 
 int main()
 {
-    std::thread first([] { pay_in(); pass(1); });
-    std::thread second([] { await(1); pay_out(); });
-    first.join();
-    second.join();
+    pthread_t first, second;
+    pthread_create(&first, NULL, pay_in, NULL);
+    pthread_create(&second, NULL, pay_out, NULL);
+    pthread_join(first, NULL);
+    pthread_join(second, NULL);
+    return first_done + second_done != 2;
 }

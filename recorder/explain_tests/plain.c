@@ -2,7 +2,7 @@
 #include "turns.h"
 
 static pthread_mutex_t of_first = PTHREAD_MUTEX_INITIALIZER, of_second = PTHREAD_MUTEX_INITIALIZER;
-static long table[8];
+long table[8];
 
 __attribute__((noinline)) static void add(long number)
 {
@@ -37,4 +37,5 @@ int main(void)
     pthread_create(&other, NULL, second, NULL);
     pthread_join(one, NULL);
     pthread_join(other, NULL);
+    return table[3] != 2;
 }

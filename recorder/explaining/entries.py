@@ -62,8 +62,10 @@ class Maker:
     def _access(self, event, held):
         variable = self.naming.variable(event.variable)
         return {
-            'event': event.number, 'operation': WORDS[event.operation], 'location': text_of(event.location),
-            'variable': variable['name'], 'thread': self.naming.thread(event.thread),
+            'event': event.number, 'operation': WORDS[event.operation],
+            'is_atomic': variable['part'] == '@' + text_of(event.thread),
+            'location': text_of(event.location), 'variable': variable['name'],
+            'thread': self.naming.thread(event.thread),
             'frames': self.naming.stack(event.location),
             'locks': [self._lock(lock, acquire) for lock, acquire in held],
         }

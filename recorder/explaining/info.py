@@ -1,5 +1,6 @@
 """Reads TRACE.info, which the recorder writes beside a trace: the files that were loaded, the threads, the
 stacks, and the blocks of the heap. recorder/README.md describes its lines."""
+import os
 import re
 from collections import namedtuple
 
@@ -18,7 +19,7 @@ class Info:
     """What is known beside the trace. Without a file nothing is."""
 
     def __init__(self):
-        self.is_there, self.status = False, None
+        self.is_there, self.status, self.program, self.time = False, None, None, 0
         self.files, self.threads, self.blocks = {}, {}, {}
         self._parents, self._places = {}, {}
 
@@ -29,6 +30,7 @@ class Info:
         except FileNotFoundError:
             return self
         with file:
+            self.time = os.fstat(file.fileno()).st_mtime
             self.is_there = file.readline().split(b'\t')[0] == b'wcp-info'
             for line in file if self.is_there else ():
                 word, *fields = line.rstrip(b'\n').split(b'\t')
@@ -50,6 +52,8 @@ class Info:
             self.threads[_plain(fields[0])] = Thread(name, start, creator, place, int(stack or 0))
         elif word == b'file':
             self.files[_plain(fields[0])] = File(_plain(fields[1]), _plain(fields[2]))
+        elif word == b'process':
+            self.program = _plain(fields[1])
         elif word == b'end':
             self.status = _plain(fields[0])
 

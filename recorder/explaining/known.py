@@ -28,8 +28,8 @@ def _variable(variable):
     if variable['symbol']:
         return variable['symbol']
     if variable['block'] and variable['block']['frames']:
-        return f'heap block of {_place(main_frame(variable["block"]["frames"]))}'
-    return variable['kind'] if variable['kind'] in ('heap', 'stack') else variable['name']
+        return f'{variable["kind"]} block of {_place(main_frame(variable["block"]["frames"]))}'
+    return variable['kind'] if variable['kind'] in ('heap', 'mapped', 'stack') else variable['name']
 
 
 def read_known(path):

@@ -5,12 +5,13 @@ import re
 
 from .names import source, text_of
 from .replay import place_of
-from .symbols import PLACE, is_system
+from .symbols import PLACE
 
-IN_BLOCK = re.compile(rb'(heap\d+)\+0x([0-9a-f]+)(.*)\Z', re.S)
-ON_STACK = re.compile(rb'stack(\d+)-0x([0-9a-f]+)(.*)\Z', re.S)
-# Behind the name of a variable or lock stands what sets apart the signals and the threads of one object.
-PART = re.compile(rb'(.*?)([.@][T0-9.@]+)?\Z', re.S)
+IN_BLOCK = re.compile(rb'((?:heap|map)\d+)\+0x([0-9a-f]+)\Z')
+ON_STACK = re.compile(rb'stack(\d+)-0x([0-9a-f]+)\Z')
+# Behind the recorder's name of an object: `.17` for a signal of it, `.T2` for T2's part of a reader-writer lock,
+# `@T2` for atomic operations of T2.
+PART = re.compile(rb'(.*[+-]0x[0-9a-f]+|0x[0-9a-f]+)(\.\d+|\.T\d+|@T\d+)\Z', re.S)
 
 
 class Naming:
@@ -33,7 +34,7 @@ class Naming:
     def _frame(self, frame):
         return {'function': frame.function, 'file': frame.file, 'line': frame.line,
                 'text': self.symbols.text(frame.file, frame.line), 'place': frame.place,
-                'is_system': is_system(frame)}
+                'is_system': frame.is_system}
 
     def thread(self, name):
         """A thread: its name in the trace, what the program called it, its start function, and its start."""
@@ -42,18 +43,19 @@ class Naming:
         return self._threads[name]
 
     def _thread(self, name):
-        known, first = self.info.threads.get(name), self.info.threads.get(b'T0')
+        known = self.info.threads.get(name)
         made = {'name': text_of(name), 'called': None, 'start': None, 'started_by': None, 'started_at': None}
         if name in self.forks:
             by, location = self.forks[name]
             made['started_by'], made['started_at'] = text_of(by), main_frame(self.stack(location))
         if known is None:
             return made
-        if known.name and (first is None or first.name != known.name):
+        # A thread that was given no name has that of the program, cut as the system does.
+        if known.name and known.name != (self.info.program or b'').rsplit(b'/', 1)[-1][:15]:
             made['called'] = text_of(known.name)
         if known.start:
             frame = self.symbols.frames(known.start)[-1]
-            made['start'] = None if is_system(frame) else frame.function
+            made['start'] = None if frame.is_system else frame.function
         if known.creator and known.place:
             made['started_by'] = text_of(known.creator)
             made['started_at'] = main_frame(self.frames(known.place, known.stack))
@@ -63,9 +65,10 @@ class Naming:
 
     def variable(self, name):
         """A variable or a lock: what kind of memory it is, and which."""
-        whole, part = PART.match(name).groups()
+        match = PART.match(name)
+        whole, part = match.groups() if match else (name, b'')
         made = {'name': text_of(name), 'kind': 'other', 'text': f'`{text_of(whole)}`',
-                'part': text_of(part or b''), 'symbol': None, 'offset': None, 'size': None, 'declared': None,
+                'part': text_of(part), 'symbol': None, 'offset': None, 'size': None, 'declared': None,
                 'thread': None, 'block': None}
         in_block, on_stack, in_file = IN_BLOCK.match(whole), ON_STACK.match(whole), PLACE.match(whole)
         if in_block:
@@ -80,14 +83,15 @@ class Naming:
 
     def _add_block(self, made, name, offset):
         block = self.info.block(name)
-        made.update(kind='heap', offset=offset, text=f'byte {offset} of `{text_of(name)}`')
+        what = 'heap' if name.startswith(b'heap') else 'mapped'
+        made.update(kind=what, offset=offset, text=f'byte {offset} of `{text_of(name)}`')
         if block is None:
             return
         frames = self.frames(block.place, block.stack) if block.place else []
         made.update(size=block.size, block={
             'name': text_of(name), 'size': block.size, 'frames': frames,
             'thread': self.thread(block.thread)['name'] if block.thread else None})
-        made['text'] = f'byte {offset} of a heap block of {block.size} bytes'
+        made['text'] = f'byte {offset} of a {what} block of {block.size} bytes'
 
     def _add_symbol(self, made, file, offset):
         symbol = self.symbols.variable(file, offset)
@@ -112,6 +116,4 @@ def thread_text(thread):
 
 def where(frame):
     """The source line of a frame, or else its place as it stands in the trace."""
-    if frame is None:
-        return 'a place that is not known'
     return source(frame['file'], frame['line']) if frame['file'] else frame['place']

@@ -63,11 +63,9 @@ def about(entry):
     variable = entry['variable']
     notes = []
     if variable['kind'] == 'global':
-        notes = ['global', f'{variable["size"]} bytes']
+        notes = ['global', f'{variable["size"]} byte{"s" * (variable["size"] != 1)}']
     if variable['declared']:
         notes.append(source(variable['declared']['file'], variable['declared']['line']))
-    if variable['part'].startswith('@'):
-        notes.append('one side is an atomic operation')
     text = variable['text'] + (f' ({", ".join(notes)})' if notes else '')
     others = entry['other_variables']
     return text + (f' and {others} more variable{"s" * (others > 1)}' if others else '')
@@ -75,13 +73,14 @@ def about(entry):
 
 def print_access(printer, entry, access):
     held = 'holding ' + ', '.join(f'{lock_text(lock)} ({where(lock["at"])})' for lock in access['locks'])
-    printer.paragraph(f'{access["operation"]} by {thread_text(access["thread"])}, event {access["event"]}, '
+    operation = 'atomic ' * access['is_atomic'] + access['operation']
+    printer.paragraph(f'{operation} by {thread_text(access["thread"])}, event {access["event"]}, '
                       + (held if access['locks'] else 'holding no lock'))
     print_frames(printer, access['frames'])
 
 
 def print_frames(printer, frames):
-    """Frames of the system below the first one of the program are left out."""
+    """Below the first frame of the program, those of the system and the recorder are left out."""
     rows, own = [], False
     for number, frame in enumerate(frames):
         if not (own and frame['is_system']):
@@ -131,18 +130,21 @@ def step_text(entry, number):
     if step['kind'] == 'join':
         return f'{taker} joined {giver} ({where(step["at"])}) at event {step["event"]}{before}'
     released, acquired = step['released'], step['acquired']
-    return (f'{giver} released {lock_text(step["lock"])} ({where(released["at"])}) at event '
-            f'{released["event"]}{after}; {taker} acquired it ({where(acquired["at"])}) at event '
-            f'{acquired["event"]}{before}')
+    is_signal = step['lock']['part'][1:].isdigit()
+    gave, took = ('waited for', 'waited for it too') if is_signal else ('released', 'acquired it')
+    return (f'{giver} {gave} {lock_text(step["lock"])} ({where(released["at"])}) at event {released["event"]}'
+            f'{after}; {taker} {took} ({where(acquired["at"])}) at event {acquired["event"]}{before}')
 
 
 def print_warning(printer, step):
     if step['empty']:
-        both = 'the sections of ' + ' and '.join(step['empty']) if len(step['empty']) > 1 else \
-            f'the section of {step["empty"][0]}'
+        which = f'section of {step["empty"][0]} on {lock_text(step["lock"])} has'
+        if len(step['empty']) > 1:
+            which = f'sections of {" and ".join(step["empty"])} on {lock_text(step["lock"])} have'
         printer.paragraph(
-            f'warning: {both} on {lock_text(step["lock"])} has no access in the trace. Accesses in code that is '
-            'not instrumented may order the two, and then this is no race.', color='warning')
+            f'warning: the {which} no access in the trace. Where code that is not instrumented works in it, that '
+            'may order the two accesses, and then this is no race. (The recorder leaves out what one thread '
+            'alone accesses; WCP_ALL=1 keeps it.)', color='warning')
 
 
 def print_block(printer, block):
@@ -161,7 +163,8 @@ def print_starts(printer, entry):
 
 
 def lock_text(lock):
-    return lock['text'] if lock['kind'] != 'heap' or not lock['block'] else f'the lock at {lock["text"]}'
+    text = lock['text'] if lock['text'].startswith('`') else f'the lock at {lock["text"]}'
+    return f'a signal of {text}' if lock['part'][1:].isdigit() else text
 
 
 def cut(text):

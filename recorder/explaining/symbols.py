@@ -13,17 +13,21 @@ from .names import text_of
 PLACE = re.compile(rb'(.+)\+0x([0-9a-f]{1,16})\Z', re.S)
 LINE = re.compile(r'(.*):(\d+)(?: \(discriminator \d+\))?\Z', re.S)
 END = 'ffffffffffffffff'
-SYSTEM = ('/usr/include/', '/usr/lib/', '/usr/local/include/', '/lib/')
+# Headers and libraries of the system, and the recorder's own files.
+HEADERS = ('/usr/include/', '/usr/lib/', '/usr/local/include/')
+LIBRARIES = ('/lib/', '/lib64/', '/usr/lib/', '/usr/lib64/')
+RECORDER = re.compile(r'.*\blib(tsan|clang_rt\.tsan[\w-]*)\.so[.\d]*\Z|.*\brecorder/src/\w+\.[ch]\Z')
 
-# A frame of a stack: `function`, `file` and `line` are None where they are not known; `place` is its location.
-Frame = namedtuple('Frame', 'function file line place')
+# A frame of a stack: `function`, `file` and `line` are None where they are not known; `place` is its location;
+# `is_system`: whether it is of the system or the recorder, and not of the program.
+Frame = namedtuple('Frame', 'function file line place is_system')
 # A global variable: `offset` is how far behind its beginning; `declared` is its source line, or None.
 Symbol = namedtuple('Symbol', 'name offset size declared')
 
 
 class Symbols:
     def __init__(self, info):
-        self.info, self.notes = info, []
+        self.info, self.notes, self._program = info, [], info.program and os.fsdecode(info.program)
         self._paths, self._servers, self._tables, self._sources, self._frames = {}, {}, {}, {}, {}
 
     def close(self):
@@ -52,12 +56,16 @@ class Symbols:
             return None, f'{text_of(file.path)} cannot be read ({error.strerror}), so no lines are named'
         if file.build is not None and build != file.build.decode('ascii', 'replace'):
             return None, f'{text_of(file.path)} is another build than was recorded, so no lines are named'
+        if file.build is None and os.path.getmtime(path) > self.info.time:
+            return None, (f'{text_of(file.path)} has no build-id and is newer than the trace, so no lines are '
+                          'named')
         return path, None
 
     def frames(self, place):
         """What stands at a place, the innermost inlined call first. At least one frame."""
         if place not in self._frames:
-            self._frames[place] = self._ask(place) or [Frame(None, None, None, text_of(place))]
+            self._frames[place] = self._ask(place) or [
+                Frame(None, None, None, text_of(place), self._is_library(PLACE.match(place)))]
         return self._frames[place]
 
     def _ask(self, place):
@@ -68,6 +76,7 @@ class Symbols:
             return None
         server.stdin.write(f'0x{match[2].decode()}\n0x{END}\n')
         server.stdin.flush()
+        is_library = self._is_library(match)
         said = []
         while (line := server.stdout.readline()) and END not in line:
             said.append(line.rstrip('\n'))
@@ -76,9 +85,15 @@ class Symbols:
         for function, where in zip(said[1::2], said[2::2]):
             found = LINE.match(where)
             file = os.path.normpath(found[1]) if found and found[1] != '??' else None
-            frames.append(Frame(None if function == '??' else function, file,
-                                int(found[2]) if file else None, text_of(place)))
+            frames.append(Frame(None if function == '??' else function, file, int(found[2]) if file else None,
+                                text_of(place), is_library or _is_system(function, file)))
         return frames if frames and (frames[0].function or frames[0].file) else None
+
+    def _is_library(self, place):
+        """Whether the file of a place is of the system or the recorder, wherever it is."""
+        file = self.info.files.get(place[1]) if place else None
+        path = os.fsdecode(file.path) if file and file.path else ''
+        return path != self._program and (path.startswith(LIBRARIES) or bool(RECORDER.match(path)))
 
     def _server(self, path):
         """A running addr2line, which answers one address after another; None without the tool."""
@@ -142,9 +157,7 @@ def _table_of(path):
     return [], []
 
 
-def is_system(frame):
-    """Whether a frame is of the system's headers or libraries, and not of the program."""
-    if frame.file is None or frame.file.startswith(SYSTEM):
-        return True
-    return (frame.function or '').startswith(('std::', '__gnu_cxx::'))
+def _is_system(function, file):
+    is_own = file is None or not (file.startswith(HEADERS) or RECORDER.match(file))
+    return not is_own or function.startswith(('std::', '__gnu_cxx::'))
 
