@@ -43,7 +43,8 @@ module _ (log : List Event) (e : Event) where
       )
 
   -- it has an access of the variable that conflicts, and is another thread's
-  pub paired_other : (l : LockId) (x : VarId) (k : AccessKind) (r : ℕ) → e.op ≡ access_of x k → Pairs log e l r
+  pub paired_other : (l : LockId) (x : VarId) (k : AccessKind) (r : ℕ) → e.op ≡ access_of x k
+      → Pairs log e l r
       → (j : AccessKind) × OpsConflict (access_of x j) (access_of x k) × OtherSection log l x j e.thread r
   paired_other l x k r o p =
       let q = meets_other log e x k r o p.meets in

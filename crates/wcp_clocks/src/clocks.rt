@@ -124,10 +124,10 @@ impl WcpClocks {
     }
 
     /// The clocks of the releases that an access of the thread meets under the lock: of the newest section by
-    /// another thread with a store, and for a store also of the newest with a load. Where the thread holds the
-    /// lock, they count together exactly what happens before the releases of other threads that rule (a) of
-    /// weak causal precedence pairs with the access (Kini, Mathur and Viswanathan, "Dynamic Race Prediction in
-    /// Linear Time", PLDI 2017). It takes no memory.
+    /// another thread with a store, and for a store also of the newest with a load. Where the thread holds
+    /// the lock, they count together exactly what happens before the releases of other threads that rule (a)
+    /// of weak causal precedence pairs with the access (Kini, Mathur and Viswanathan, "Dynamic Race
+    /// Prediction in Linear Time", PLDI 2017). It takes no memory.
     #[inline]
     pub fn sources(
         &self,
