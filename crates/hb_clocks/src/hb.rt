@@ -96,8 +96,8 @@ impl HbClocks {
         Ok((clocks, Work::new(), ReleaseClocks::new(alloc)))
     }
 
-    /// Makes room for the event, whose threads are below the width. No number changes, whether there is memory
-    /// or not. Where there is room nothing changes, and none is needed.
+    /// Makes room for the event, whose threads are below the width. No number changes, whether there is
+    /// memory or not. Where there is room nothing changes, and none is needed.
     #[inline]
     pub fn prepare(&mut self, event: &Event) -> Result<(), OutOfMemory>
         requires { IsWithin self.old.width event.now.thread event.now.op }

@@ -76,8 +76,8 @@ impl ReleaseClocks {
         }
     }
 
-    /// Makes room for so many numbers more, where there is none. A clock has a number for each thread up to its
-    /// width at most. A refused growth is answered by `OutOfMemory`.
+    /// Makes room for so many numbers more, where there is none. A clock has a number for each thread up to
+    /// its width at most. A refused growth is answered by `OutOfMemory`.
     pub fn prepare(&mut self, more: usize) -> Result<(), OutOfMemory>
         ensures same { self.new.numbers ≡ self.old.numbers }
         ensures larger { self.old.most ≤ self.new.most }

@@ -10,5 +10,5 @@ mod Sayings
 mod Meaning
 mod ClosedAccesses
 mod Steps
-mod PairedSections
+pub mod PairedSections
 mod Growing

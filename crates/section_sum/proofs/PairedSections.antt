@@ -43,14 +43,15 @@ module _ (log : List Event) (e : Event) where
       )
 
   -- it has an access of the variable that conflicts, and is another thread's
-  paired_other : (l : LockId) (x : VarId) (k : AccessKind) (r : ℕ) → e.op ≡ access_of x k → Pairs log e l r
+  pub paired_other : (l : LockId) (x : VarId) (k : AccessKind) (r : ℕ) → e.op ≡ access_of x k
+      → Pairs log e l r
       → (j : AccessKind) × OpsConflict (access_of x j) (access_of x k) × OtherSection log l x j e.thread r
   paired_other l x k r o p =
       let q = meets_other log e x k r o p.meets in
       (q.0, q.1, subst (λ y. OtherSection log y x q.0 e.thread r) p.lock q.2)
 
   -- and the rule pairs the release of each such section
-  other_paired : (l : LockId) (x : VarId) (k j : AccessKind) (r : ℕ) → e.op ≡ access_of x k
+  pub other_paired : (l : LockId) (x : VarId) (k j : AccessKind) (r : ℕ) → e.op ≡ access_of x k
       → 0 < depth log e.thread l → OpsConflict (access_of x j) (access_of x k)
       → OtherSection log l x j e.thread r → Pairs log e l r
   other_paired l x k j r o held c q =

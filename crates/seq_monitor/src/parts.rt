@@ -94,7 +94,7 @@ pub(crate) fn ready(parts: &Parts, thread: ThreadId, op: Op, slots: usize) -> bo
     ensures ready { IsTrue result ↔ HasRoomFor parts.now thread op slots }
     ensures release { IsKeptRelease parts.now thread op slots → IsTrue result }
 {
-    parts.clocks.ready(thread, op) && others_ready(parts, thread, op, slots)
+    parts.clocks.ready_for(thread, op) && others_ready(parts, thread, op, slots)
 }
 
 // The same of each part but the clocks.
@@ -131,7 +131,7 @@ pub(crate) fn prepare(
     ensures again { HasRoomFor parts.old thread op slots → IsOk result }
     ensures release { IsKeptRelease parts.old thread op slots → IsOk result }
 {
-    parts.clocks.prepare(thread, op)?;
+    parts.clocks.prepare_for(thread, op)?;
     if others_ready(parts, thread, op, slots) {
         return Ok(());
     }

@@ -12,9 +12,11 @@ pub mod Releasing
 mod Rows
 mod RowsGrown
 mod RowsKept
-mod SourcesCount
+mod MetNumbers
+mod MetReleases
 pub mod Standing
 pub mod Stepped
+mod Swaps
 mod Taking
 mod Wholeness
 mod Within

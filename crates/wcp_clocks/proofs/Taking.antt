@@ -1,6 +1,6 @@
 -- A thread's strict clock takes one clock after another.
-use Rattle.std.proofs.Common.{◌≡◌, ℕ, zero, suc, ◌+◌, ◌-◌, ◌*◌, ◌<◌, ◌≤◌, List, [], ◌∷◌, ◌++◌, length, cond}
-use Rattle.std.proofs.Common.{All, max, true, false, nat_le, refl, sym, ap, ap₂, subst, ◌∙◌, arith}
+use Rattle.std.proofs.Common.{◌≡◌, ℕ, zero, suc, ◌+◌, ◌*◌, ◌<◌, ◌≤◌, List, [], ◌∷◌, ◌++◌, length, map, cond}
+use Rattle.std.proofs.Common.{All, max, true, false, refl, sym, ap, ap₂, subst, ◌∙◌, arith}
 use Rattle.std.proofs.lemmas.List.{length_push, append-nil}
 use Rattle.std.proofs.lemmas.List.Elements.{All-head, All-tail, All-nil, All-cons, All-append}
 use Rattle.std.proofs.lemmas.Bool.{ne_eqb, leb-true}
@@ -16,6 +16,7 @@ use Rattle.section_sum.specs.Newest.{section}
 use Rattle.section_sum.specs.Sums.{Sums, others_of, sources_of}
 use Rattle.wcp_clocks.specs.Met.{release_at, thread_at, met_clocks, met_under, joined_all, counts_release}
 use Rattle.wcp_clocks.specs.Met.{joins_for, joins_under, AreNumbers, AreWholeIn}
+use Rattle.wcp_clocks.specs.MetReleases.{Released, released_at}
 use Rattle.wcp_clocks.specs.Whole.{IsWhole}
 use Rattle.wcp_clocks.proofs.Wholeness.{whole_join}
 use Rattle.wcp_laws.specs.Step.{join_all}
@@ -29,20 +30,6 @@ pub record IsMet (s : Sums) (l x t n : ℕ) : Type 0 where
   pub some : 0 < n
   pub kind : AccessKind
   pub number : n ≡ others_of s l x kind t
-
--- the section with a number that is not 0
-pub release_is : (qs : List Closed) (n : ℕ) → 0 < n → (closed_at qs (n - 1)).release ≡ release_at qs n
-release_is qs zero some = absurd (omega (arith, some))
-release_is qs (suc n) some = let less : suc n - 1 ≡ n = omega arith in ap (λ k. (closed_at qs k).release) less
-
--- and whether its release, with the clock g and by this thread, is counted
-pub counts_is : (qs : List Closed) (f g : ℕ → ℕ) (by n : ℕ) → 0 < n → g ≡ release_at qs n
-    → by ≡ (closed_at qs (n - 1)).thread → counts_release qs f n ≡ nat_le (g by) (f by)
-counts_is qs f g by zero some release thread = absurd (omega (arith, some))
-counts_is qs f g by (suc n) some release thread =
-    let less : suc n - 1 ≡ n = omega arith in
-    ap₂ (λ (a : ℕ → ℕ) (u : ℕ). nat_le (a u) (f u)) (sym release)
-    (sym (thread ∙ ap (λ k. (closed_at qs k).thread) less))
 
 has_closed : (qs : List Closed) (n : ℕ) → n < length qs → Has (closed_at qs n) qs
 has_closed [] n lt = absurd (omega arith)
@@ -90,6 +77,61 @@ pub record IsTaking (s : Sums) (closed : ℕ → List Closed) (l x t : ℕ) (k :
       ≡ before.joins + joins_for (closed l) (rows_of old.thread t) (sources_of s l x k t)
   pub comparisons : after.comparisons ≡ before.comparisons
 
+-- the same, where the sections are left as releases, whose clocks have numbers of so many threads at most
+pub record IsTakingAll (s : Sums) (closed : ℕ → List Closed) (l x t : ℕ) (k : AccessKind)
+    (old now : StrictTables) (before after : Done) (rest : List Released) (most width : ℕ) : Type 0 where
+  pub numbers : List ℕ
+  pub are : map (released_at (closed l)) numbers ≡ rest
+  pub taking : IsTaking s closed l x t k old now before after numbers
+  pub threads : most ≡ width
+
+-- one of them is next
+pub record IsTakingNext (s : Sums) (closed : ℕ → List Closed) (l x t : ℕ) (k : AccessKind)
+    (old now : StrictTables) (before after : Done) (next : Released) (rest : List Released) : Type 0 where
+  pub number : ℕ
+  pub others : List ℕ
+  pub taking : IsTaking s closed l x t k old now before after (number ∷ others)
+  pub here : released_at (closed l) number ≡ next
+  pub there : map (released_at (closed l)) others ≡ rest
+
+head_or : Released → List Released → Released
+head_or r [] = r
+head_or r (q ∷ qs) = q
+
+tail_of : List Released → List Released
+tail_of [] = []
+tail_of (q ∷ qs) = qs
+
+module _ {s : Sums} {closed : ℕ → List Closed} {l x t : ℕ} {k : AccessKind} {old now : StrictTables}
+    {before after : Done} {rest : List Released} {most width : ℕ} where
+  pub taking_next : (q : Released) (qs : List Released)
+      → IsTakingAll s closed l x t k old now before after rest most width → rest ≡ q ∷ qs
+      → IsTakingNext s closed l x t k old now before after q qs
+  unfolding head_or tail_of
+  taking_next q qs is more = go is.numbers (is.are ∙ more) is.taking
+    where
+      go : (ns : List ℕ) → map (released_at (closed l)) ns ≡ q ∷ qs
+          → IsTaking s closed l x t k old now before after ns
+          → IsTakingNext s closed l x t k old now before after q qs
+      go [] e taking = let short = ap length e in absurd (omega arith)
+      go (n ∷ ns) e taking = record {
+        number = n;
+        others = ns;
+        taking = taking;
+        here = ap (head_or q) e;
+        there = ap tail_of e;
+      }
+
+  pub taking_ends : IsTakingAll s closed l x t k old now before after rest most width → rest ≡ []
+      → IsTaking s closed l x t k old now before after []
+  taking_ends is none = go is.numbers (is.are ∙ none) is.taking
+    where
+      go : (ns : List ℕ) → map (released_at (closed l)) ns ≡ []
+          → IsTaking s closed l x t k old now before after ns
+          → IsTaking s closed l x t k old now before after []
+      go [] e taking = taking
+      go (n ∷ ns) e taking = let long = ap length e in absurd (omega arith)
+
 -- the sections that an access meets, joined
 section_joined : (qs : List Closed) (f : ℕ → ℕ) (n : ℕ) (ns : List ℕ)
     → joined_all qs f (section n ++ ns) ≡ joined_all qs (join f (release_at qs n)) ns
@@ -130,7 +172,7 @@ section_met s l x t k (suc n) is =
     (All-cons (IsMet s l x t) (suc n) [] (record { some = omega arith; kind = k; number = is })
     (All-nil (IsMet s l x t)))
 
-sources_met : (s : Sums) (l x t : ℕ) (k : AccessKind) → All (IsMet s l x t) (sources_of s l x k t)
+pub sources_met : (s : Sums) (l x t : ℕ) (k : AccessKind) → All (IsMet s l x t) (sources_of s l x k t)
 unfolding sources_of
 sources_met s l x t Read = section_met s l x t Write (others_of s l x Write t) refl
 sources_met s l x t Write =

@@ -2,7 +2,7 @@ pub mod Growth
 pub mod HeldLists
 pub mod Met
 pub mod Parts
-pub mod SourcesCount
+pub mod MetReleases
 pub mod Standing
 pub mod Stepping
 pub mod StrictRows

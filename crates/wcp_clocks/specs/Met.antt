@@ -1,6 +1,7 @@
 -- The closed sections that an access meets, by their numbers on a lock, and their clocks.
-use Rattle.std.specs.Prelude.{ℕ, zero, suc, ◌+◌, ◌≤◌, List, [], ◌∷◌, length, Bool, cond, nat_le}
+use Rattle.std.specs.Prelude.{ℕ, zero, suc, ◌+◌, ◌<◌, ◌≤◌, List, [], ◌∷◌, length, Bool, cond, nat_le}
 use Rattle.std.specs.Prelude.{Option, Some, None}
+use Rattle.std.specs.List.{All}
 use Rattle.event_core.specs.declared.events.AccessKind.{AccessKind}
 use Rattle.event_core.specs.declared.events.AccessKind.TheVariants.{Read, Write}
 use Rattle.event_core.specs.Closed.{Closed}
@@ -30,6 +31,10 @@ met_clocks s closed l x k t = release_at (closed l) (others_of s l x k t)
 -- each number is 0 or that of a closed section on its lock
 abbrev pub AreNumbers : Sums → (ℕ → List Closed) → Type 0
 AreNumbers s closed = (l x : ℕ) (k : AccessKind) (t : ℕ) → others_of s l x k t ≤ length (closed l)
+
+-- the numbers are of closed sections
+abbrev pub AreClosed : List Closed → List ℕ → Type 0
+AreClosed qs ns = All (λ n. (0 < n) × (n ≤ length qs)) ns
 
 -- each of those clocks counts with a release all that is below it
 abbrev pub AreWholeIn : Sums → (ℕ → List Closed) → Type 0

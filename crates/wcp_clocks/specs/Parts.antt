@@ -96,6 +96,10 @@ pub record IsReady (p : Parts) (t : ThreadId) (op : Op) : Type 0 where
   pub rows : RowsAreReady p.rows t op
   pub places : HasPlaces p.sums p.queues p.held t op
 
+-- there is room for both events of a swap
+abbrev pub IsReadyToSwap : Parts → Event → Event → Type 0
+IsReadyToSwap p load store = IsReady p load.thread load.op × IsReady p store.thread store.op
+
 -- what is asked of the numbers at the event, with no log
 pub record Fits (e : Event) (p : Parts) : Type 0 where
   pub admits : Admits (hb_of p) e.thread e.op

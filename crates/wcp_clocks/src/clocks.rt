@@ -6,11 +6,10 @@
 //! under each lock that its thread holds. A release takes, by rule (b), that of the latest section on
 //! its lock whose acquire is strictly below it. All else is handed on as happens-before is: by forks and
 //! joins, and from a release to a later acquire. The log itself is not kept.
-ghost use Rattle.std.specs.Prelude.{◌≡◌, ℕ, ◌<◌, ◌≤◌, ◌+◌, ◌↔◌, List, [], ◌∷◌, ◌++◌, length, max, IfOk};
-ghost use Rattle.std.specs.Prelude.{IsOk, OnOk, IsTrue};
+ghost use Rattle.std.specs.Prelude.{◌≡◌, ℕ, ◌<◌, ◌≤◌, ◌+◌, List, [], ◌∷◌, ◌++◌, length, max, IfOk};
 ghost use Rattle.event_core.specs.declared.events.Event.{Event as AnEvent};
-ghost use Rattle.event_core.specs.declared.ids.ThreadId.{ThreadId as AThread};
 ghost use Rattle.event_core.specs.declared.bounds.Limits.{Limits as Bounds};
+ghost use Rattle.event_core.specs.Log.{depth};
 ghost use Rattle.event_core.specs.Refusal.{WellFormed};
 ghost use Rattle.event_core.specs.Count.{Counts};
 ghost use Rattle.event_core.specs.Rows.{Counted, join};
@@ -18,22 +17,26 @@ ghost use Rattle.event_core.specs.Wcp.{Strict, Below};
 ghost use Rattle.hb_clocks.specs.Counts.{counts_of};
 ghost use Rattle.hb_clocks.specs.Marks.{IsLatest};
 ghost use Rattle.hb_clocks.specs.State.{after as hb_after};
-ghost use Rattle.hb_clocks.specs.Standing.{IsHeldRelease};
+ghost use Rattle.section_sum.specs.Paired.{IsBelowPaired};
+ghost use Rattle.section_sum.specs.Sources.{most_sources};
+ghost use Rattle.section_sum.specs.Standing.{IsAccessBy};
 ghost use Rattle.wcp_laws.specs.State.{empty};
 ghost use Rattle.wcp_laws.specs.Step.{after, effect};
 ghost use Rattle.wcp_laws.specs.Conditions.{found_at};
 ghost use Rattle.wcp_clocks.specs.Parts.{hb_of, state_of, width_of, limits_of, work_of, found_in};
-ghost use Rattle.wcp_clocks.specs.Parts.{IsReady, Fits, KeepsReady, SameLimits, SameNumbers, most_joins};
-ghost use Rattle.wcp_clocks.specs.Parts.{joins_at, FewComparisons, NoFewer, IsWithin, IsAccess};
-ghost use Rattle.wcp_clocks.specs.Growth.{GrownFor, MadeFor};
+ghost use Rattle.wcp_clocks.specs.Parts.{IsReady, Fits, KeepsReady, SameLimits, most_joins};
+ghost use Rattle.wcp_clocks.specs.Parts.{joins_at, FewComparisons, NoFewer, IsAccess};
+ghost use Rattle.wcp_clocks.specs.MetReleases.{rest, most_threads, together, IsBelowSource};
 ghost use Rattle.wcp_clocks.specs.Standing.{StandsFor};
 
 mod effects;
+mod room;
 
 use crate::holdings::Holdings;
-use crate::room::{places_ready, prepare_clocks, prepare_places};
+use crate::source_clocks::SourceClocks;
+use crate::sources::sources_under;
 use crate::strict::StrictRows;
-use event_core::{Event, Limits, Op, OutOfMemory, ThreadId};
+use event_core::{AccessKind, Event, Limits, LockId, OutOfMemory, ThreadId, VarId};
 use hb_clocks::{HbClocks, JoinedClocks, Work};
 use lock_queues::Queues;
 use section_sum::Summaries;
@@ -42,7 +45,7 @@ use std::marker::Model;
 
 /// The clocks of the strict relation, and of all that it stands on.
 ///
-/// Each call but `new` and `prepare` takes no memory.
+/// Each call but `new`, `prepare`, `prepare_swap` and `prepare_for` takes no memory.
 #[derive(Drop)]
 pub struct WcpClocks {
     // Those of program order and of happens-before.
@@ -78,62 +81,15 @@ impl WcpClocks {
         let rows = StrictRows::new(alloc, limits.threads() as usize)?;
         let (hb, work, releases) = HbClocks::new(alloc, limits)?;
         let queues = Queues::new(alloc, limits, releases)?;
+        let sums = Summaries::new(alloc, limits)?;
         Ok(WcpClocks {
             hb,
             rows,
-            sums: Summaries::new(alloc),
+            sums,
             queues,
             held: Holdings::new(alloc),
             work,
         })
-    }
-
-    /// Makes room for the thread's operation, whose numbers are within the limits. No number changes, whether
-    /// there is memory or not. Where there is room, as for each release by a holder, it is not refused. Then
-    /// nothing changes that a caller can tell: an `advance` that comes next does not search again for the
-    /// places of an access. A load and a store of a variable need the same room.
-    #[inline(always)]
-    pub fn prepare(&mut self, thread: ThreadId, op: Op) -> Result<(), OutOfMemory>
-        requires { IsWithin self.old thread op }
-        ensures same { SameNumbers self.old self.new }
-        ensures ready { OnOk result (IsReady self.new thread op) }
-        ensures again { IsReady self.old thread op → IsOk result × (self.new ≡ self.old) }
-        ensures releases { IsHeldRelease (hb_of self.old) thread op → IsOk result }
-        ensures kept { KeepsReady self.old self.new }
-        ensures grown { GrownFor self.old self.new thread op }
-        ensures made { MadeFor self.old self.new thread op }
-        ensures limits { SameLimits self.old self.new }
-    {
-        if self.rows.ready(thread, op) {
-            return prepare_places(&mut self.sums, &mut self.queues, &mut self.held, thread, op);
-        }
-        self.grow(thread, op)
-    }
-
-    // The same, where a clock is to be made.
-    #[cold]
-    #[inline(never)]
-    fn grow(&mut self, thread: ThreadId, op: Op) -> Result<(), OutOfMemory>
-        requires { IsWithin self.old thread op }
-        ensures same { SameNumbers self.old self.new }
-        ensures ready { OnOk result (IsReady self.new thread op) }
-        ensures kept { KeepsReady self.old self.new }
-        ensures grown { GrownFor self.old self.new thread op }
-        ensures made { MadeFor self.old self.new thread op }
-        ensures limits { SameLimits self.old self.new }
-    {
-        prepare_clocks(&mut self.hb, &mut self.rows, thread, op)?;
-        prepare_places(&mut self.sums, &mut self.queues, &mut self.held, thread, op)
-    }
-
-    /// Whether there is room for the operation. There is for each release by a holder.
-    #[inline(always)]
-    pub fn ready(&self, thread: ThreadId, op: Op) -> bool
-        ensures ready { IsTrue result ↔ IsReady self.now thread op }
-        ensures releases { IsHeldRelease (hb_of self.now) thread op → IsTrue result }
-    {
-        self.rows.ready(thread, op)
-            && places_ready(&self.sums, &self.queues, &self.held, thread, op)
     }
 
     /// The event joins the log that the clocks stand for.
@@ -165,6 +121,30 @@ impl WcpClocks {
         ensures limits { SameLimits self.old self.new }
     {
         self.step(event);
+    }
+
+    /// The clocks of the releases that an access of the thread meets under the lock: of the newest section by
+    /// another thread with a store, and for a store also of the newest with a load. Where the thread holds
+    /// the lock, they count together exactly what happens before the releases of other threads that rule (a)
+    /// of weak causal precedence pairs with the access (Kini, Mathur and Viswanathan, "Dynamic Race
+    /// Prediction in Linear Time", PLDI 2017). It takes no memory.
+    #[inline]
+    pub fn sources(
+        &self,
+        thread: ThreadId,
+        lock: LockId,
+        var: VarId,
+        kind: AccessKind,
+    ) -> SourceClocks<'_>
+        ensures paired { (log : List AnEvent) (e : AnEvent) → IsAccessBy thread var kind e
+            → 0 < depth log thread lock → StandsFor log self.now
+            → Counted log (IsBelowPaired log e lock) (together (rest result)) }
+        ensures counted { (log : List AnEvent) → StandsFor log self.now
+            → Counted log (IsBelowSource log lock var kind thread) (together (rest result)) }
+        ensures at_most { length (rest result) ≤ most_sources kind }
+        ensures threads { most_threads result ≡ width_of self.now }
+    {
+        sources_under(&self.sums, &self.queues, thread, lock, var, kind)
     }
 
     /// How many events of `other` strictly precede the thread's latest event.

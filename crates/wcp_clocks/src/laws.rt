@@ -1,6 +1,5 @@
 //! Laws of the clocks, each a contract of a function without a body.
 ghost use Rattle.wcp_clocks.specs.Standing.{SameStand, FitsWhereLegal};
-ghost use Rattle.wcp_clocks.specs.SourcesCount.{SourcesCount};
 ghost use Rattle.wcp_clocks.specs.WorkWithin.{NoWork, SameWork, WorkStep, LittleWork, FewComparisonsInAll};
 
 /// Clocks with the same numbers stand for the same log.
@@ -12,13 +11,6 @@ pub fn same_stand()
 /// A legal event finds the numbers as `advance` asks.
 pub fn fits_where_legal()
     ensures { FitsWhereLegal }
-{}
-
-/// The sections that the summaries name to an access under a lock count together exactly what happens
-/// before the releases of other threads that rule (a) of weak causal precedence pairs with it (Kini, Mathur
-/// and Viswanathan, "Dynamic Race Prediction in Linear Time", PLDI 2017).
-pub fn sources_count()
-    ensures { SourcesCount }
 {}
 
 /// Clocks that have done no work are within the bounds of the empty log.

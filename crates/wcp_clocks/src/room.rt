@@ -27,7 +27,7 @@ pub(crate) fn prepare_clocks(
     ensures rows { RowsGrownFor rows.old rows.new thread op }
     ensures ready { OnOk result (IsReady rows.new thread op) }
 {
-    order.prepare(thread, op)?;
+    order.prepare_for(thread, op)?;
     rows.prepare(thread, op)
 }
 
@@ -56,11 +56,11 @@ pub(crate) fn prepare_places(
             if locks.is_empty() {
                 return Ok(());
             }
-            sums.prepare(locks, var)
+            sums.make_room_for(locks, var)
         }
         Op::Acquire(lock) => {
             held.prepare(thread)?;
-            queues.prepare(thread, lock)
+            queues.make_room(thread, lock)
         }
         Op::Release(_) | Op::Fork(_) | Op::Join(_) => Ok(()),
     }

@@ -1,21 +1,43 @@
 //! Rule (a) of weak causal precedence at an access: under each lock that its thread holds, the releases
 //! of other threads' sections with an access in conflict strictly precede it (Kini, Mathur and
 //! Viswanathan, "Dynamic Race Prediction in Linear Time", PLDI 2017).
-ghost use Rattle.std.specs.Prelude.{◌≡◌, ℕ, ◌+◌, ◌*◌, ◌<◌, ◌≤◌, ◌^◌, length};
+ghost use Rattle.std.specs.Prelude.{◌≡◌, ℕ, ◌+◌, ◌*◌, ◌<◌, ◌≤◌, ◌^◌, length, map};
 ghost use Rattle.event_core.specs.Rows.{join, with_row};
 ghost use Rattle.lock_queues.specs.Queues.{closed_of};
+ghost use Rattle.section_sum.specs.Sources.{most_sources};
 ghost use Rattle.section_sum.specs.Sums.{sources_of};
 ghost use Rattle.wcp_laws.specs.Step.{join_all};
 ghost use Rattle.wcp_clocks.specs.HeldLists.{numbers_of};
 ghost use Rattle.wcp_clocks.specs.Met.{met_clocks, met_under, joins_for, joins_under, AreNumbers, AreWholeIn};
+ghost use Rattle.wcp_clocks.specs.MetReleases.{rest, most_threads, released_at};
 ghost use Rattle.wcp_clocks.specs.Whole.{IsWhole};
 ghost use Rattle.wcp_clocks.specs.StrictRows.{strict_of, HasThread, SameRoom};
 
+use crate::source_clocks::SourceClocks;
 use crate::strict::StrictRows;
 use event_core::{AccessKind, LockId, ThreadId, VarId};
 use hb_clocks::Work;
 use lock_queues::Queues;
 use section_sum::Summaries;
+
+// The releases that the thread's access meets under the lock.
+#[inline(always)]
+pub(crate) fn sources_under<'a>(
+    sums: &Summaries,
+    queues: &'a Queues,
+    thread: ThreadId,
+    lock: LockId,
+    var: VarId,
+    kind: AccessKind,
+) -> SourceClocks<'a>
+    requires { AreNumbers sums.now (closed_of queues.now) }
+    ensures rest { rest result ≡ map (released_at (closed_of queues.now lock.0))
+        (sources_of sums.now lock.0 var.0 kind thread.0) }
+    ensures at_most { length (rest result) ≤ most_sources kind }
+    ensures threads { most_threads result ≡ queues.now.limits.threads }
+{
+    SourceClocks::new(queues, lock, sums.sources(thread, lock, var, kind))
+}
 
 // The thread's strict clock takes what its access meets under the lock, at most two clocks. A clock that
 // counts a release counts all that is below it, so a release that is counted already brings nothing.
@@ -48,8 +70,7 @@ fn take_under(
         (sources_of sums.now lock.0 var.0 kind thread.0) }
     ensures comparisons { work.new.comparisons ≡ work.old.comparisons }
 {
-    for number in sums.sources(thread, lock, var, kind) {
-        let section = queues.section(lock, number);
+    for section in sources_under(sums, queues, thread, lock, var, kind) {
         if !rows.counts(thread, &section) {
             rows.take_release(thread, &section, work);
         }

@@ -5,7 +5,7 @@ returns-then-others_ready-clause-ready c =
     let room = c.others_ready.ensures.ready.0 c.if-others_ready.true in
     record {
       memory = room.memory;
-      clocks = c.in_ok-prepare.ensures.ready;
+      clocks = c.in_ok-prepare_for.ensures.ready;
       accesses = room.accesses;
       events = room.events;
       verdicts = room.verdicts;

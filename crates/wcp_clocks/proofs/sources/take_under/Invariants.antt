@@ -1,8 +1,9 @@
 use Rattle.lock_queues.specs.Queues.{closed_of}
-use Rattle.section_sum.specs.Sources.{left}
-use Rattle.wcp_clocks.proofs.Taking.{IsTaking}
+use Rattle.wcp_clocks.specs.MetReleases.{rest, most_threads}
+use Rattle.wcp_clocks.proofs.Taking.{IsTakingAll}
 use Rattle.wcp_clocks.proofs.sources.take_under.Given as goal
 
-abbrev pub invariant-loop-number : goal.invariant-loop-number
-invariant-loop-number l = IsTaking l.sums (closed_of l.queues) l.lock.0 l.fn.var.0 l.thread.0 l.fn.kind
-    l.fn.rows l.rows l.fn.work l.work (left l.number-iterator)
+abbrev pub invariant-loop-section : goal.invariant-loop-section
+invariant-loop-section l = IsTakingAll l.sums (closed_of l.queues) l.fn.lock.0 l.fn.var.0 l.thread.0 l.fn.kind
+    l.fn.rows l.rows l.fn.work l.work (rest l.section-iterator) (most_threads l.section-iterator)
+    l.queues.limits.threads

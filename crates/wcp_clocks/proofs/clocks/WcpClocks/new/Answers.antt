@@ -10,7 +10,7 @@ abbrev parts : goal.After-new-5 → Parts
 parts c = record {
   hb = c.in_ok-hb.hb;
   rows = c.in_ok-rows.rows;
-  sums = c.new-4.result;
+  sums = c.in_ok-sums.sums;
   queues = c.in_ok-queues.queues;
   held = c.new-5.result;
   work = c.in_ok-hb.work;
@@ -20,14 +20,14 @@ pub returns-clause-empty : goal.returns-clause-empty
 returns-clause-empty c =
     empty_numbers (parts c) c.in_ok-hb.ensures.empty c.in_ok-rows.ensures.strict c.in_ok-queues.ensures.opened
     (ap held_of c.new-5.ensures)
-    c.new-4.ensures.nothing_noted c.new-4.ensures.no_others c.in_ok-queues.ensures.closed
+    c.in_ok-sums.ensures.nothing_noted c.in_ok-sums.ensures.no_others c.in_ok-queues.ensures.closed
 
 pub invariant_of-result : goal.invariant_of-result
 invariant_of-result c =
     are_parts (parts c) (returns-clause-empty c)
     (c.in_ok-rows.ensures.width ∙ c.threads.ensures.is ∙ sym c.in_ok-hb.ensures.width)
     (ap (λ (b : Bounds). b.threads) c.in_ok-queues.ensures.limits ∙ sym c.in_ok-hb.ensures.width)
-    c.new-4.ensures.no_others c.in_ok-rows.ensures.no_thread c.in_ok-rows.ensures.no_lock
+    c.in_ok-sums.ensures.no_others c.in_ok-rows.ensures.no_thread c.in_ok-rows.ensures.no_lock
 
 pub returns-clause-stands : goal.returns-clause-stands
 returns-clause-stands c =

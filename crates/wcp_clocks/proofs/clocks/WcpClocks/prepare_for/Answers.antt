@@ -1,6 +1,6 @@
 use Rattle.wcp_clocks.proofs.Growth.{all_grown, grown_parts, seen_ready, seen_numbers, clocks_same}
 use Rattle.wcp_clocks.specs.Parts.{parts_of}
-use Rattle.wcp_clocks.proofs.clocks.WcpClocks.prepare.Goals as goal
+use Rattle.wcp_clocks.proofs.clocks.WcpClocks.prepare_for.Goals as goal
 
 pub invariant_of-self : goal.invariant_of-self
 invariant_of-self c =

@@ -1,6 +1,6 @@
 use Rattle.wcp_clocks.proofs.Ordered.{ready_of}
 use Rattle.wcp_clocks.proofs.Within.{within}
-use Rattle.wcp_clocks.proofs.clocks.WcpClocks.ready.Goals as goal
+use Rattle.wcp_clocks.proofs.clocks.WcpClocks.ready_for.Goals as goal
 
 pub returns-then-ready-clause-ready : goal.returns-then-ready-clause-ready
 returns-then-ready-clause-ready c =
