@@ -6,7 +6,7 @@ use crate::clocks::{Run, event};
 use crate::expected::expect;
 use access_check::Accesses;
 use event_core::{Event, Limits, LockId, Op, Roots, ThreadId, VarId, Verdict};
-use hb_clocks::JoinedClocks;
+use hb_clocks::{Clock, JoinedClocks};
 use std::alloc::Global;
 use std::process::Abort;
 
@@ -94,21 +94,22 @@ impl Log {
         }
     }
 
-    // The verdict on the event, where the clock counts what is ordered before it.
-    fn step(&mut self, rt: &impl Abort, event: &Event, clock: &JoinedClocks) -> Verdict
+    // The verdict on the event, where the clock counts what is ordered before it: by the clock, and by it and
+    // itself read as one.
+    fn step(&mut self, rt: &impl Abort, event: &Event, clock: &Clock) -> [Verdict; 2]
         requires { length clock.now ≡ 3 }
     {
         assert!(rt; event.thread.0 < self.limits.threads());
-        assert!(rt;
-            self.accesses.prepare(event.thread, event.op).is_ok(),
-            "memory"
-        );
-        assert!(rt; self.accesses.ready(event.thread, event.op));
+        assert!(rt; self.accesses.make_room(event).is_ok(), "memory");
+        assert!(rt; self.accesses.ready_for(event.thread, event.op));
         assert!(rt; self.length < 64);
+        let joined = self
+            .accesses
+            .verdict(event, &JoinedClocks::new(clock, clock));
         let verdict = self.accesses.verdict(event, clock);
         self.accesses.note(event, self.length, verdict);
         self.length += 1;
-        verdict
+        [verdict, joined]
     }
 }
 
@@ -125,9 +126,8 @@ fn expect_verdicts(rt: &impl Abort, alloc: Global, rows: &[Judged]) {
     let mut log = Log::new(rt, alloc);
     for (row, (thread, op, count, wanted)) in rows.iter().enumerate() {
         let run = clocks_of(rt, alloc, *count);
-        let clock = JoinedClocks::new(run.clocks.po(T0), run.clocks.po(T1));
-        let verdict = log.step(rt, &event(*thread, *op), &clock);
-        expect(rt, row, verdict, *wanted);
+        let verdicts = log.step(rt, &event(*thread, *op), run.clocks.po(T0));
+        expect(rt, row, verdicts, [*wanted, *wanted]);
         drop(run);
     }
     drop(log);
@@ -161,9 +161,13 @@ fn accesses_of_one_thread_do_not_conflict(rt: HostRuntime) {
 #[test]
 fn a_swap_gets_room_for_both_its_events(rt: HostRuntime) {
     let mut log = Log::new(&rt, rt.alloc());
-    assert!(rt; log.accesses.prepare(T1, Op::Load(X)).is_ok(), "memory");
-    assert!(rt; log.accesses.prepare(T1, Op::Store(X)).is_ok(), "memory");
-    assert!(rt; log.accesses.ready(T1, Op::Load(X)));
-    assert!(rt; log.accesses.ready(T1, Op::Store(X)));
+    let load = event(T1, Op::Load(X));
+    let store = event(T1, Op::Store(X));
+    assert!(rt;
+        log.accesses.make_room_swap(&load, &store).is_ok(),
+        "memory"
+    );
+    assert!(rt; log.accesses.ready_for(T1, Op::Load(X)));
+    assert!(rt; log.accesses.ready_for(T1, Op::Store(X)));
     drop(log);
 }

@@ -49,9 +49,9 @@ fn permit(rt: &impl Abort, memory: &mut Memory, call: &Call)
     ensures stands { (log : List AnEvent) → MemoryStandsFor log memory.old → MemoryStandsFor log memory.new }
 {
     assert!(rt; memory.permit(call).is_ok(), "a legal event");
-    assert!(rt; memory.prepare(call.thread, call.op).is_ok(), "memory");
+    assert!(rt; memory.prepare(call).is_ok(), "memory");
     assert!(rt; memory.permit(call).is_ok());
-    assert!(rt; memory.ready(call.thread, call.op));
+    assert!(rt; memory.ready(call));
 }
 
 fn strict_numbers(clocks: &WcpClocks, thread: ThreadId) -> [u64; 3]

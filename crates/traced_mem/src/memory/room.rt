@@ -70,7 +70,7 @@ impl Memory {
     }
 
     /// Whether there is room for the call. There is for each release that is allowed.
-    #[inline]
+    #[inline(always)]
     pub fn ready(&self, call: &Call) -> bool
         ensures room { IsTrue result ↔ IsReady self.now call.now.thread call.now.op }
         ensures release { (lock : Lock) → call.now.op ≡ Operation.Release lock
