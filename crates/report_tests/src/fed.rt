@@ -7,7 +7,7 @@ use event_core::{Limits, Refusal, Roots};
 use rapid_text::{Cause, Kind, TextFault};
 use std::alloc::Global;
 use std::process::Abort;
-use trace_report::{ReplayFault, Replayer, TraceFault};
+use trace_report::{ReplayFault, Replayer};
 
 /// The fault of a new replayer that is fed the text in its pieces, an empty one before each, and an LF after
 /// a read has failed; none where there was no memory for one. The page has what it wrote.
@@ -92,40 +92,40 @@ const FAULTS: &[(&[u8], bool, u32, &str, ReplayFault)] = &[
         true,
         8,
         "",
-        ReplayFault::Found(TraceFault::Text(TextFault {
+        ReplayFault::Text(TextFault {
             line: 1,
             cause: Cause::Read,
-        })),
+        }),
     ),
     (
         b"T0|w(x)|1\n",
         true,
         8,
         "",
-        ReplayFault::Found(TraceFault::Text(TextFault {
+        ReplayFault::Text(TextFault {
             line: 2,
             cause: Cause::Read,
-        })),
+        }),
     ),
     (
         b"T0|rel(l)|1\n",
         true,
         8,
         "line 1: NotHolder\n",
-        ReplayFault::Found(TraceFault::Refused {
+        ReplayFault::Refused {
             line: 1,
             refusal: Refusal::NotHolder,
-        }),
+        },
     ),
     (
         b"T0|fork(T1)|1",
         false,
         1,
         "line 1: TooManyNames\n",
-        ReplayFault::Found(TraceFault::Text(TextFault {
+        ReplayFault::Text(TextFault {
             line: 1,
             cause: Cause::TooManyNames(Kind::Thread),
-        })),
+        }),
     ),
 ];
 

@@ -10,7 +10,7 @@ use rapid_text::{Cause, TextFault};
 use std::process::Abort;
 use std::sync::Wait;
 use std::thread::Threads;
-use trace_report::{ReplayFault, TraceFault};
+use trace_report::ReplayFault;
 use wcp_tool::ScriptFiles;
 
 const OUT_OF_MEMORY: Answer<'static> = Answer {
@@ -71,13 +71,13 @@ fn a_script_is_run_whole_or_not_at_all_where_memory_is_refused(rt: HostRuntime) 
 fn ran_out(fault: &ReplayFault) -> bool {
     matches!(
         fault,
-        ReplayFault::Found(TraceFault::Text(TextFault {
+        ReplayFault::Text(TextFault {
             cause: Cause::OutOfMemory,
             ..
-        })) | ReplayFault::Found(TraceFault::Refused {
+        }) | ReplayFault::Refused {
             refusal: Refusal::OutOfMemory,
             ..
-        })
+        }
     )
 }
 

@@ -5,7 +5,7 @@ use crate::expected::expect;
 use event_core::{Limits, Roots};
 use rapid_text::{Cause, TextFault};
 use std::alloc::Global;
-use trace_report::{Counts, ReplayFault, Summary, TraceFault, replay};
+use trace_report::{Counts, ReplayFault, Summary, replay};
 use wcp_tool::check;
 
 /// Stores and loads of two threads, 234 bytes.
@@ -136,10 +136,10 @@ const CASES: &[Case] = &[
 
 fn fault(stops_at: Option<u64>) -> Option<ReplayFault> {
     let line = stops_at?;
-    Some(ReplayFault::Found(TraceFault::Text(TextFault {
+    Some(ReplayFault::Text(TextFault {
         line,
         cause: Cause::Read,
-    })))
+    }))
 }
 
 #[test]

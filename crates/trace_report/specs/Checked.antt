@@ -4,11 +4,12 @@ use Rattle.std.specs.Io.KnownBytes.{Appends}
 use Rattle.event_core.specs.declared.bounds.Limits.{Limits}
 use Rattle.rapid_text.specs.Tables.{Tables}
 use Rattle.trace_report.specs.declared.faults.ReplayFault.{ReplayFault}
-use Rattle.trace_report.specs.declared.faults.ReplayFault.TheVariants.{Found, Write}
+use Rattle.trace_report.specs.declared.faults.ReplayFault.TheVariants.{Text, Refused, Write}
 use Rattle.trace_report.specs.declared.faults.TraceFault.{TraceFault}
+use Rattle.trace_report.specs.declared.faults.TraceFault.TheVariants as found
 use Rattle.trace_report.specs.declared.counts.Counts.{Counts}
 use Rattle.trace_report.specs.Findings.{Trace, finding}
-use Rattle.trace_report.specs.Replayed.{OfText, fault_text}
+use Rattle.trace_report.specs.Replayed.{OfText, fault_text, replay_fault}
 use Rattle.trace_report.specs.Reports.{labelled}
 
 -- so many events, and how many names there are of each kind
@@ -23,7 +24,7 @@ counts_of events t = record {
 -- the counts of a legal trace, or the fault
 abbrev pub counted : Result Trace TraceFault → Result Counts ReplayFault
 counted (Ok t) = Ok (counts_of (length t.log) t.names)
-counted (Err f) = Err (Found f)
+counted (Err f) = Err (replay_fault f)
 
 -- events E threads T locks L variables V
 abbrev pub counts_text : Counts → List ℕ
@@ -40,7 +41,8 @@ counts_line c = counts_text c ++ 10 ∷ []
 -- the one line that tells an answer
 abbrev pub told : Result Counts ReplayFault → List ℕ
 told (Ok counts) = counts_line counts
-told (Err (Found f)) = fault_text f
+told (Err (Text f)) = fault_text (found.Text f)
+told (Err (Refused line r)) = fault_text (found.Refused line r)
 told (Err Write) = []
 
 -- the answer is the one for the text that the reader had left, and its one line was written, and nothing else

@@ -10,7 +10,7 @@ use Rattle.rapid_text.specs.declared.causes.Cause.TheVariants as causes
 use Rattle.rapid_text.specs.Faults.{cause_word, fault_line}
 use Rattle.seq_monitor.specs.Monitored.{AreVerdicts}
 use Rattle.trace_report.specs.declared.faults.ReplayFault.{ReplayFault}
-use Rattle.trace_report.specs.declared.faults.ReplayFault.TheVariants.{Found, Write}
+use Rattle.trace_report.specs.declared.faults.ReplayFault.TheVariants as answers
 use Rattle.trace_report.specs.declared.faults.TraceFault.{TraceFault}
 use Rattle.trace_report.specs.declared.faults.TraceFault.TheVariants.{Text, Refused}
 use Rattle.trace_report.specs.declared.summary.Summary.{Summary}
@@ -32,10 +32,15 @@ abbrev pub fault_text : TraceFault → List ℕ
 fault_text (Text f) = fault_line f.line (cause_word f.cause)
 fault_text (Refused line r) = fault_line line (refusal_word r)
 
+-- the answer where the text has this fault
+abbrev pub replay_fault : TraceFault → ReplayFault
+replay_fault (Text f) = answers.Text f
+replay_fault (Refused line r) = answers.Refused line r
+
 -- the answer and what was written tell the finding: the report of a legal trace, or the line of the fault
 abbrev pub Tells : Result Trace TraceFault → Result Summary ReplayFault → List ℕ → Type 0
 Tells (Ok t) (Ok s) text = IsReport t text s
-Tells (Err f) (Err answer) text = (answer ≡ Found f) × (text ≡ fault_text f)
+Tells (Err f) (Err answer) text = (answer ≡ replay_fault f) × (text ≡ fault_text f)
 Tells _ _ text = ⊥
 
 -- something was written, which tells the finding together with the answer
@@ -77,12 +82,17 @@ fault_gives_up None = false
 fault_gives_up (Some f) = gives_up f
 
 -- or a write failed
+abbrev pub says_nothing : ReplayFault → Bool
+says_nothing (answers.Text f) = cause_gives_up f.cause
+says_nothing (answers.Refused line r) = refusal_gives_up r
+says_nothing answers.Write = true
+
 abbrev pub answer_gives_up : {A : Type 0} → Result A ReplayFault → Bool
 answer_gives_up (Ok a) = false
-answer_gives_up (Err (Found f)) = gives_up f
-answer_gives_up (Err Write) = true
+answer_gives_up (Err f) = says_nothing f
 
--- where the answer is a fault that was found in the text, it is so
+-- where the answer is a fault of the text, it is so
 abbrev pub IfFound : {A : Type 0} → Result A ReplayFault → (TraceFault → Type 0) → Type 0
-IfFound (Err (Found f)) IsSo = IsSo f
+IfFound (Err (answers.Text f)) IsSo = IsSo (Text f)
+IfFound (Err (answers.Refused line r)) IsSo = IsSo (Refused line r)
 IfFound _ IsSo = Unit {0}

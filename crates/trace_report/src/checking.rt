@@ -49,12 +49,7 @@ pub fn check<I: Input, O: Output>(
     let memory = Memory::new(alloc, limits).unwrap();
     let text = match judge_text(alloc, reader, memory, limits, turns) {
         Ok(text) => text,
-        Err(fault) => {
-            let Ok(()) = tell_failure(writer, fault) else {
-                return Err(ReplayFault::Write);
-            };
-            return Err(ReplayFault::Found(fault));
-        }
+        Err(fault) => return Err(tell_failure(writer, fault)),
     };
     let counts = Counts::of(text.judge.len(), text.cutter.names());
     match counts.write(writer) {

@@ -5,22 +5,23 @@ use rapid_text::{Cause, TextFault};
 use thiserror::Error;
 
 /// Why a text is no legal trace, or was not judged to its end.
-#[derive(Clone, Copy, Debug, PartialEq, Eq, Error)]
+#[derive(Clone, Copy)]
 pub enum TraceFault {
     /// A line is no event, a read failed, or the turns were used up.
-    #[error(transparent)]
     Text(TextFault),
     /// The event of the line is refused.
-    #[error("line {line}: {refusal}")]
     Refused { line: u64, refusal: Refusal },
 }
 
 /// Why a text has no report.
 #[derive(Clone, Copy, Debug, PartialEq, Eq, Error)]
 pub enum ReplayFault {
-    /// This was found in the text.
+    /// A line is no event, a read failed, or the turns were used up.
     #[error(transparent)]
-    Found(TraceFault),
+    Text(TextFault),
+    /// The event of the line is refused.
+    #[error("line {line}: {refusal}")]
+    Refused { line: u64, refusal: Refusal },
     /// A write failed.
     #[error("the report could not be written")]
     Write,
@@ -29,7 +30,17 @@ pub enum ReplayFault {
 impl TraceFault {
     ghost use Rattle.std.specs.Prelude.{◌≡◌, ◌↔◌, true, IsNone, IfSome};
     ghost use Rattle.rapid_text.specs.Faults.{fault_line};
-    ghost use Rattle.trace_report.specs.Replayed.{gives_up, fault_text};
+    ghost use Rattle.trace_report.specs.Replayed.{gives_up, fault_text, replay_fault};
+
+    /// The answer of a check or a replay that has this fault.
+    pub(crate) fn replay_fault(self) -> ReplayFault
+        ensures { result ≡ replay_fault self }
+    {
+        match self {
+            TraceFault::Text(fault) => ReplayFault::Text(fault),
+            TraceFault::Refused { line, refusal } => ReplayFault::Refused { line, refusal },
+        }
+    }
 
     /// Its line and its name; none, where it says nothing of the text.
     pub(crate) fn line_and_word(self) -> Option<(u64, &'static str)>

@@ -19,7 +19,7 @@ mod words;
 
 pub use checking::check;
 pub use counts::Counts;
-pub use faults::{ReplayFault, TraceFault};
+pub use faults::ReplayFault;
 pub use lines::{put_count, put_race, put_summary};
 pub use replayer::Replayer;
 pub use replaying::replay;

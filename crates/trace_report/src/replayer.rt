@@ -4,7 +4,7 @@ ghost use Rattle.std.specs.Prelude.{true, false, IfOk, IfErr, IfSome, IsTrue, �
 ghost use Rattle.rapid_text.specs.Cutting.{most};
 ghost use Rattle.rapid_text.specs.Taking.{Advances, cutter_place};
 ghost use Rattle.rapid_text.specs.declared.causes.Cause.TheVariants.{Read};
-ghost use Rattle.trace_report.specs.Replayed.{fault_gives_up, answer_gives_up, IfFound, Told};
+ghost use Rattle.trace_report.specs.Replayed.{fault_gives_up, answer_gives_up, replay_fault, IfFound, Told};
 ghost use Rattle.trace_report.specs.Replaying.{unfed, after, ReachesIn};
 ghost use Rattle.trace_report.specs.Judging.{RanOut, is_read_fault};
 
@@ -96,7 +96,7 @@ impl Replayer {
         // Memory ran out at the last line, which has an event, or its fault stands.
         ensures memory { self.fault ≡ None → IfFound result (λ f. RanOut f → ReachesIn self [] f) }
         // A fault that stands is the answer, unless its line could not be written.
-        ensures answered { IfSome self.fault (λ f. (result ≡ Err (ReplayFault.Found f))
+        ensures answered { IfSome self.fault (λ f. (result ≡ Err (replay_fault f))
             ⊎ (result ≡ Err ReplayFault.Write)) }
         // It is a fault of the writer exactly where the writer failed or took no byte.
         ensures healthy { result ≢ Err ReplayFault.Write → W.failed writer.new ≡ W.failed writer.old }
@@ -105,10 +105,7 @@ impl Replayer {
         let mut text = self.text;
         if let Err(fault) = text.end() {
             drop(text);
-            let Ok(()) = tell_failure(writer, fault) else {
-                return Err(ReplayFault::Write);
-            };
-            return Err(ReplayFault::Found(fault));
+            return Err(tell_failure(writer, fault));
         }
         let answer = tell_trace(writer, &text.judge, text.cutter.names());
         drop(text);

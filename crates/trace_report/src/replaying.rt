@@ -3,7 +3,7 @@ ghost use Rattle.std.specs.Prelude.{◌≡◌, ◌≢◌, ◌⊎◌, ◌≤◌, 
 ghost use Rattle.trace_report.specs.Replayed.{answer_gives_up, IfFound, TellsText};
 ghost use Rattle.trace_report.specs.Judging.{HasRead, RanOut, ReachesLine, line_of};
 
-use crate::faults::{ReplayFault, TraceFault};
+use crate::faults::ReplayFault;
 use crate::summary::Summary;
 use crate::telling::{tell_failure, tell_trace};
 use crate::whole_text::judge_text;
@@ -47,19 +47,14 @@ pub fn replay<I: Input, O: Output>(
     ensures written { result ≢ Err ReplayFault.Write → O.failed writer.new ≡ false }
 {
     let Ok(monitor) = Monitor::new(alloc, limits) else {
-        return Err(ReplayFault::Found(TraceFault::Refused {
+        return Err(ReplayFault::Refused {
             line: 1,
             refusal: Refusal::OutOfMemory,
-        }));
+        });
     };
     let text = match judge_text(alloc, reader, monitor, limits, turns) {
         Ok(text) => text,
-        Err(fault) => {
-            let Ok(()) = tell_failure(writer, fault) else {
-                return Err(ReplayFault::Write);
-            };
-            return Err(ReplayFault::Found(fault));
-        }
+        Err(fault) => return Err(tell_failure(writer, fault)),
     };
     let answer = tell_trace(writer, &text.judge, text.cutter.names());
     drop(text);

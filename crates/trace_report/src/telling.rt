@@ -1,8 +1,9 @@
 //! What is written of a text once it has ended: the report of its log, or the line of its fault.
-ghost use Rattle.std.specs.Prelude.{◌≡◌, ◌≢◌, Ok, Err, true, false, IfErr, OnErr, OnOk};
+ghost use Rattle.std.specs.Prelude.{◌≡◌, ◌≢◌, ◌⊎◌, Ok, Err, true, false, IfErr};
 ghost use Rattle.std.specs.Io.KnownBytes.{Appends};
 ghost use Rattle.trace_report.specs.Reports.{AreNamed};
-ghost use Rattle.trace_report.specs.Replayed.{answer_gives_up, fault_text, gives_up, Told};
+ghost use Rattle.trace_report.specs.Replayed.{answer_gives_up, fault_text, gives_up, replay_fault};
+ghost use Rattle.trace_report.specs.Replayed.{says_nothing, Told};
 
 use crate::faults::{ReplayFault, TraceFault};
 use crate::reporting::report;
@@ -29,16 +30,22 @@ pub fn tell_trace<W: Output>(
     }
 }
 
-/// Writes the one line that tells the fault; nothing, where the fault says nothing of the text.
-pub fn tell_failure<W: Output>(writer: &mut W, fault: TraceFault) -> Result<(), WriteFault>
-    ensures tells { OnOk result (gives_up fault ≡ false
-        → Appends (W.written writer.old) (W.written writer.new) (fault_text fault)) }
-    ensures quiet { gives_up fault ≡ true → writer.new ≡ writer.old }
-    ensures healthy { OnOk result (W.failed writer.new ≡ W.failed writer.old) }
-    ensures failed { OnErr result (W.failed writer.new ≡ true) }
+/// Writes the one line that tells the fault, and answers it; nothing is written where it says nothing of the
+/// text.
+#[tactic(auto, using(crate::proofs::TellingLaws::same_fault))]
+pub fn tell_failure<W: Output>(writer: &mut W, fault: TraceFault) -> ReplayFault
+    ensures answers { (result ≡ replay_fault fault) ⊎ (result ≡ ReplayFault.Write) }
+    ensures tells { says_nothing result ≡ false → (result ≡ replay_fault fault) × (gives_up fault ≡ false)
+        × Appends (W.written writer.old) (W.written writer.new) (fault_text fault) }
+    ensures quiet { says_nothing result ≡ true → result ≢ ReplayFault.Write → writer.new ≡ writer.old }
+    ensures healthy { result ≢ ReplayFault.Write → W.failed writer.new ≡ W.failed writer.old }
+    ensures failed { result ≡ ReplayFault.Write → W.failed writer.new ≡ true }
 {
     let Some((line, word)) = fault.line_and_word() else {
-        return Ok(());
+        return fault.replay_fault();
     };
-    write_fault(writer, line, word)
+    let Ok(()) = write_fault(writer, line, word) else {
+        return ReplayFault::Write;
+    };
+    fault.replay_fault()
 }
