@@ -1,0 +1,6 @@
+pub mod Indices
+pub mod Ranks
+pub mod Counts
+pub mod Forks
+pub mod Entries
+pub mod Walks

@@ -1,0 +1,5 @@
+pub mod Indices
+pub mod Witness
+pub mod Walks
+pub mod Standing
+pub mod Searched
