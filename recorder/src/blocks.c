@@ -22,6 +22,12 @@ static struct user *users;
 static uint32_t cell_count, user_count;
 static struct range *ranges;
 static uint32_t range_count;
+/* Of pages that lie in one range, or in none, the block of the range: a page's number and 1, and the block. */
+enum { PAGE = 1 << 12, PAGES = 1 << 10 };
+static struct page {
+    uint64_t number;
+    uint32_t block;
+} known_pages[PAGES];
 static const uint64_t most = (uint64_t)1 << 32;
 
 int start_blocks(void) {
@@ -39,6 +45,7 @@ void again_blocks(void) {
     block_count = 0;
     cell_count = 0;
     range_count = 0;
+    memset(known_pages, 0, sizeof known_pages);
     for (uint32_t i = 0; i < chunk_count; i++) madvise(all_chunks[i], sizeof **all_chunks, MADV_DONTNEED);
 }
 
@@ -72,6 +79,7 @@ static void insert_range(uint32_t at, struct range range) {
 
 /* The new range takes the place of what it overlaps. */
 static void new_range(struct range range) {
+    memset(known_pages, 0, sizeof known_pages);
     uint32_t at = range_after(range.start);
     if (at < range_count && ranges[at].start < range.start) {
         struct range rest = ranges[at];
@@ -103,17 +111,34 @@ void new_block(const struct event *event, uint32_t thread) {
     for (uint64_t at = start; at < end; at += 16) chunk_of(at)->block[at % CHUNK / 16] = number;
 }
 
+/* The large block at the address, 0 where there is none. */
+static uint32_t large_at(uint64_t address) {
+    uint64_t number = address / PAGE + 1;
+    struct page *page = &known_pages[number % PAGES];
+    if (page->number == number) return page->block;
+    uint32_t at = range_after(address);
+    int is_in = at < range_count && ranges[at].start <= address;
+    uint32_t block = is_in ? ranges[at].block : 0;
+    uint64_t start = address / PAGE * PAGE;
+    uint64_t before = is_in ? ranges[at].start : at ? ranges[at - 1].end : 0;
+    uint64_t after = is_in ? ranges[at].end : at < range_count ? ranges[at].start : UINT64_MAX;
+    if (before <= start && start + PAGE <= after) *page = (struct page){ number, block };
+    return block;
+}
+
 uint32_t block_at(uint64_t address) {
     uint32_t near = chunk_of(address)->block[address % CHUNK / 16];
-    uint32_t at = range_after(address);
-    if (at < range_count && ranges[at].start <= address && ranges[at].block > near) return ranges[at].block;
-    return near;
+    uint32_t far = large_at(address);
+    return far > near ? far : near;
 }
 
 /* The cell of these 16 bytes of their block. */
 struct cell *cell_at(uint64_t address) {
-    uint32_t *number = &chunk_of(address)->cell[address % CHUNK / 16];
-    uint32_t block = block_at(address);
+    struct chunk *chunk = chunk_of(address);
+    uint32_t *number = &chunk->cell[address % CHUNK / 16];
+    uint32_t near = chunk->block[address % CHUNK / 16];
+    uint32_t far = large_at(address);
+    uint32_t block = far > near ? far : near;
     if (*number && cells[*number].block == block) return &cells[*number];
     *number = ++cell_count;
     cells[*number].block = block;

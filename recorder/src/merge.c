@@ -72,13 +72,24 @@ static void fill_heap(void) {
     for (uint32_t i = sources; i-- > 0;) sink(i);
 }
 
+/* The source whose turn comes after the first. */
+static const struct source *second(void) {
+    if (sources < 2) return NULL;
+    return sources > 2 && is_before(&heap[2], &heap[1]) ? &heap[2] : &heap[1];
+}
+
 void walk(void (*visit)(const struct event *event, uint32_t thread)) {
     fill_heap();
     while (sources > 0) {
-        struct source *top = &heap[0];
-        visit(top->next, top->thread);
-        top->next++;
-        if (!settle(top)) {
+        struct source *first = &heap[0];
+        const struct source *later = second();
+        int has_more = 1;
+        while (has_more && (!later || is_before(first, later))) {
+            visit(first->next, first->thread);
+            first->next++;
+            has_more = settle(first);
+        }
+        if (!has_more) {
             sources--;
             heap[0] = heap[sources];
         }

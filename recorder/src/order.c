@@ -88,6 +88,10 @@ static void see_barrier(const struct event *event, uint32_t thread, struct objec
         return;
     }
     if (kind_of(event) == ARRIVE) {
+        if (size_of(event) && size_of(event) != object->count) {
+            object->count = size_of(event);
+            object->arrived = 0;
+        }
         if (object->count && object->arrived++ % object->count == 0) {
             object->round = sync_number;
             if (is_writing) counts.locks++;

@@ -4,50 +4,51 @@
  * plain and an atomic access may race, and two atomic ones do not. */
 #include "writer.h"
 
-static void cut(uint64_t address) { cell_at(address)->cuts |= 1 << address % 16; }
-
-/* The end of an access cuts its block, where it is not the block's end. */
-static void mark_ends(uint64_t start, uint64_t end) {
-    cut(start);
-    if (block_at(end) == block_at(end - 1)) cut(end);
+/* The bytes of a cell from one address up to another, as bits. */
+static uint32_t bits_of(uint64_t start, uint64_t end) {
+    return ((1u << (end - start)) - 1) << start % 16;
 }
 
-static void mark_bytes(uint64_t start, uint64_t end, uint32_t thread, int is_atomic) {
-    uint16_t own = thread + 1;
+static void mark_owner(struct cell *cell, uint64_t start, uint64_t end, uint16_t own) {
+    for (uint64_t at = start; at < end; at++) {
+        uint16_t *owner = &cell->owner[at % 16];
+        if (*owner == own) continue;
+        *owner = *owner ? SHARED : own;
+    }
+}
+
+/* Notes who accesses these bytes, and where the access cuts their block. */
+static void mark(uint64_t start, uint64_t end, uint32_t thread, int is_atomic) {
     for (uint64_t at = start; at < end;) {
         struct cell *cell = cell_at(at);
-        uint64_t last = (at / 16 + 1) * 16 < end ? (at / 16 + 1) * 16 : end;
-        uint16_t bytes = 0;
-        for (; at < last; at++) {
-            uint16_t *owner = &cell->owner[at % 16];
-            if (*owner == 0) *owner = own;
-            else if (*owner != own) *owner = SHARED;
-            bytes |= 1 << at % 16;
-        }
-        if (is_atomic) {
-            cell->atomic |= bytes;
-            user_of(cell, thread)->bytes |= bytes;
-        } else {
-            cell->plain |= bytes;
-        }
+        uint64_t next = at / 16 * 16 + 16;
+        uint64_t last = next < end ? next : end;
+        uint32_t bits = bits_of(at, last);
+        if (at == start) cell->cuts |= 1u << at % 16;
+        if (last == end) cell->cuts |= 1u << ((last - 1) % 16 + 1);
+        mark_owner(cell, at, last, thread + 1);
+        if (is_atomic) cell->atomic |= bits;
+        else cell->plain |= bits;
+        if (is_atomic) user_of(cell, thread)->bytes |= bits;
+        at = last;
     }
 }
 
-/* Where the variable ends that begins at this address. */
-static uint64_t variable_end(uint64_t address, uint64_t end) {
-    uint32_t block = cell_at(address)->block;
-    uint64_t at = address + 1;
-    while (at < end) {
-        struct cell *cell = cell_at(at);
-        if (cell->block != block) return at;
-        uint16_t later = cell->cuts >> at % 16;
+/* Where the variable ends that begins at this address, in this cell. */
+static uint64_t variable_end(struct cell *cell, uint64_t address, uint64_t end) {
+    uint64_t at = address;
+    for (;;) {
+        uint32_t later = cell->cuts >> (at % 16 + 1);
         if (later) {
-            at += __builtin_ctz(later);
+            at += 1 + (uint64_t)__builtin_ctz(later);
             return at < end ? at : end;
         }
-        at = (at / 16 + 1) * 16;
+        at = at / 16 * 16 + 16;
+        if (at >= end) return end;
+        struct cell *next = cell_at(at);
+        if (next->block != cell->block || next->cuts & 1) return at;
+        cell = next;
     }
-    return end;
 }
 
 /* The variables of other threads' atomic operations. */
@@ -63,8 +64,8 @@ static void put_users(const struct event *event, uint32_t thread, const char *op
     }
 }
 
-static void put_variable(const struct event *event, uint32_t thread, const char *operation, uint64_t address) {
-    struct cell *cell = cell_at(address);
+static void put_variable(const struct event *event, uint32_t thread, const char *operation, uint64_t address,
+                         struct cell *cell) {
     uint16_t byte = 1 << address % 16;
     if (cell->owner[address % 16] != SHARED && !options.keeps_all) return;
     if (!(cell->named & byte)) counts.variables++;
@@ -75,10 +76,15 @@ static void put_variable(const struct event *event, uint32_t thread, const char 
 
 static void see_bytes(const struct event *event, uint32_t thread, uint64_t start, uint64_t end) {
     const char *operation = kind_of(event) == READ ? "|r(" : "|w(";
-    mark_ends(start, end);
-    if (!is_writing) mark_bytes(start, end, thread, 0);
-    for (uint64_t at = start; is_writing && at < end; at = variable_end(at, end))
-        put_variable(event, thread, operation, at);
+    if (!is_writing) {
+        mark(start, end, thread, 0);
+        return;
+    }
+    for (uint64_t at = start; at < end;) {
+        struct cell *cell = cell_at(at);
+        put_variable(event, thread, operation, at, cell);
+        at = variable_end(cell, at, end);
+    }
 }
 
 /* Of a large block that is given back, only what was accessed before counts as stored to. */
@@ -95,23 +101,26 @@ void see_access(const struct event *event, uint32_t thread) {
     }
 }
 
+static void put_atomic(const struct event *event, uint32_t thread, uint64_t address, struct cell *cell) {
+    uint16_t byte = 1 << address % 16;
+    if (!(cell->plain & byte)) return;
+    if (cell->owner[address % 16] != SHARED && !options.keeps_all) return;
+    struct user *user = user_of(cell, thread);
+    if (!(user->named & byte)) counts.variables++;
+    user->named |= byte;
+    line(event, thread, kind_of(event) == LOAD ? "|r(" : "|w(", address, cell->block, OF_USER, thread);
+}
+
 void see_atomic(const struct event *event, uint32_t thread) {
-    const char *operation = kind_of(event) == LOAD ? "|r(" : "|w(";
     uint64_t start = address_of(event);
     uint64_t end = start + size_of(event) % ORDERS;
-    mark_ends(start, end);
     if (!is_writing) {
-        mark_bytes(start, end, thread, 1);
+        mark(start, end, thread, 1);
         return;
     }
-    for (uint64_t at = start; at < end; at = variable_end(at, end)) {
+    for (uint64_t at = start; at < end;) {
         struct cell *cell = cell_at(at);
-        uint16_t byte = 1 << at % 16;
-        if (!(cell->plain & byte)) continue;
-        if (cell->owner[at % 16] != SHARED && !options.keeps_all) continue;
-        struct user *user = user_of(cell, thread);
-        if (!(user->named & byte)) counts.variables++;
-        user->named |= byte;
-        line(event, thread, operation, at, cell->block, OF_USER, thread);
+        put_atomic(event, thread, at, cell);
+        at = variable_end(cell, at, end);
     }
 }

@@ -15,13 +15,14 @@ struct block {
     uint8_t is_named;
 };
 
-/* Sixteen bytes of a block: at which bytes accesses begin or end, which bytes were accessed plainly and which by
- * atomic operations, and by whom: OWNER + thread, or SHARED. `users` are threads with atomic operations. */
+/* Sixteen bytes of a block: at which bytes accesses begin, or end before (bit 16 is the end of the sixteen), which
+ * bytes were accessed plainly and which by atomic operations, and of each byte by whom: the thread's number and 1,
+ * or SHARED. `users` are threads with atomic operations. */
 struct cell {
-    uint32_t block, users;
-    uint16_t cuts, plain, atomic, named;
+    uint32_t block, users, cuts;
+    uint16_t plain, atomic, named;
     uint16_t owner[16];
-};
+} __attribute__((aligned(64)));
 enum { SHARED = 0xffff };
 struct user {
     uint32_t next;
