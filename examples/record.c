@@ -1,4 +1,4 @@
-/* A program that records its own run, for compilers other than those of examples/tsan_recorder.c:
+/* A program that records its own run, for compilers other than those of recorder/:
  *
  *     cc -pthread examples/record.c -o record
  *     ./record > trace.txt

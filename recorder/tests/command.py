@@ -67,7 +67,8 @@ def show_line(shown, folder):
         return
     refused, report = shown.judge(trace)
     counts = re.findall(r'\d+', report[0]) if report else refused
-    shown.tell('the counts are those of wcp', list(line.groups()[:4]) == counts[:4], (line.groups(), counts))
+    told = [line[number] for number in (1, 2, 4, 3)]
+    shown.tell('the counts are those of wcp', told == counts[:4], (line.groups(), counts))
     shown.tell('the bytes are those of the file', int(line[6]) == os.path.getsize(trace), line[6])
     shown.tell('one race', len(report) == 2, report)
     places = re.findall(r'\|app\+(0x[0-9a-f]+)', report[1] if len(report) > 1 else '')

@@ -56,7 +56,7 @@ class Case:
         self.name = f'{os.path.basename(source)}, {compiler} {level}'
         self.wanted = answers(source)
         self.races = set(self.wanted['Races'].split()) - {'none'}
-        self.folder = shown.folder(re.sub(r'[ ,]+', '_', self.name))
+        self.folder = shown.folder(self.name)
         self.app = os.path.join(self.folder, 'app')
 
     def build(self):
@@ -71,7 +71,7 @@ class Case:
     def differs(self, number):
         """How the run with this number is not as it has to be, or nothing."""
         trace = os.path.join(self.folder, f'trace{number}')
-        done = room.run([*room.RECORD, '-o', trace, self.app], cwd=self.folder)
+        done = room.run([*room.RECORD, '-o', trace, self.app], timeout=60, cwd=self.folder)
         status = int(self.wanted.get('Status', 0))
         status = 125 if 'Cut' in self.wanted else 128 - status if status < 0 else status
         if done.returncode != status:
@@ -115,12 +115,13 @@ class Case:
         how_often = sum(map(bool, found))
         return self.shown.tell(self.name, not failures, f'{how_often} of {RUNS} runs: {"; ".join(failures)}')
 
-    def sanitizer(self, runtime):
-        """What ThreadSanitizer itself has of one run: the variables that it names."""
-        env = dict(os.environ, TSAN_OPTIONS='exitcode=0:report_bugs=1', LD_LIBRARY_PATH=runtime)
-        done = room.run(['setarch', '-R', self.app], timeout=20, cwd=self.folder, env=env)
+    def sanitizer(self):
+        """What ThreadSanitizer itself has of one run: the variables that it names. Of gcc's builds alone, since
+        clang's library does not run as a shared one."""
+        env = dict(os.environ, TSAN_OPTIONS='exitcode=0')
+        done = room.run(['setarch', '-R', self.app], timeout=10, cwd=self.folder, env=env)
         said = done.stdout + done.stderr
-        if 'FATAL: ThreadSanitizer' in said or 'error while loading' in said:
+        if 'FATAL: ThreadSanitizer' in said or 'error while loading' in said or done.returncode == 124:
             return {'(did not run)'}
         names = {re.sub(r'.*::|\.\d+$', '', name) for name in
                  re.findall(r"Location is global '([^']*)'", said)}
@@ -143,7 +144,6 @@ def show(shown):
             shown.skip(why)
         else:
             compilers.append(compiler)
-    runtimes = {'gcc': '', 'clang': room.clang_runtime() if 'clang' in compilers else ''}
     for source in sorted(glob.glob(os.path.join(HERE, '*.c')) + glob.glob(os.path.join(HERE, '*.cpp'))):
         wanted = answers(source)
         if 'Races' in wanted:
@@ -154,13 +154,14 @@ def show(shown):
 
     def work(case):
         case.judge()
-        return case, case.sanitizer(runtimes[case.compiler]) if os.path.exists(case.app) else {'(not built)'}
+        return case, case.sanitizer() if case.compiler == 'gcc' and os.path.exists(case.app) else None
 
     table = {}
     with concurrent.futures.ThreadPoolExecutor(os.cpu_count()) as pool:
         for case, theirs in pool.map(work, cases):
             row = table.setdefault(os.path.basename(case.source), (case.races, set()))
-            row[1].add(' '.join(sorted(theirs)) or 'none')
+            if theirs is not None:
+                row[1].add(' '.join(sorted(theirs)) or 'none')
     print(f'{"program":28}{"what races":24}by ThreadSanitizer')
     for name, (races, theirs) in table.items():
         print(f'{name:28}{" ".join(sorted(races)) or "none":24}{"; or ".join(sorted(theirs))}'[:160])

@@ -34,7 +34,7 @@ class Shown:
             self.skipped.append(what)
 
     def folder(self, name):
-        path = os.path.join(self.room, name)
+        path = os.path.join(self.room, re.sub(r'\W+', '_', name))
         os.makedirs(path)
         return path
 
@@ -98,9 +98,3 @@ def variables(report, tables):
 
 def has(*tools):
     return all(map(shutil.which, tools))
-
-
-def clang_runtime():
-    """The folder of clang's own library as a shared one, or nothing."""
-    path = run(['clang', '-print-file-name=libclang_rt.tsan-x86_64.so']).stdout.strip()
-    return os.path.dirname(path) if os.path.isabs(path) else ''
