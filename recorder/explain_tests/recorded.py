@@ -1,5 +1,5 @@
-"""Explains recorded runs of the programs of this folder, built by gcc and clang: their entries, as text and as
-JSON; suppressions; known races after an edit; and what is said where a file is missing or another build."""
+"""Explains recorded runs of the programs of this folder, built by gcc and clang: their entries, as text and
+as JSON; suppressions; known races after an edit; and what is said where a file is missing or another build."""
 import glob
 import io
 import json
@@ -19,11 +19,11 @@ PROGRAMS = sorted(os.path.basename(path) for end in ('c', 'cpp') for path in glo
 
 
 def settled(text):
-    """Entries without what differs from build to build: numbers of events, offsets, how lines are filled, what
-    clang's debug information has no place for in `nm`, and the parentheses that gcc's has not."""
+    """Entries without what differs from build to build: numbers of events, offsets, how lines are filled,
+    the declarations that `nm` does not find in clang's files, and the parentheses that gcc's have not."""
     text = re.sub(r'\s+', ' ', text.replace('\n\n', '\r')).replace('\r', '\n\n').strip()
-    for pattern, word in ((r'event \d+', 'event N'), (r'0x[0-9a-f]+', '0x..'), (r' bytes, \S+:\d+\)', ' bytes)'),
-                          (r'\(\)', '')):
+    for pattern, word in ((r'event \d+', 'event N'), (r'0x[0-9a-f]+', '0x..'),
+                          (r' bytes, \S+:\d+\)', ' bytes)'), (r'\(\)', '')):
         text = re.sub(pattern, word, text)
     return text
 
@@ -40,10 +40,10 @@ class Build:
     def run(self, words):
         return room.run(words, cwd=self.folder)
 
-    def build(self, *options):
+    def build(self):
         which = self.source.endswith('.cpp')
         env = dict(os.environ, **{('WCP_CC', 'WCP_CXX')[which]: room.COMPILERS[self.compiler][which]})
-        done = room.run([os.path.join(room.RECORDER, ('cc', 'c++')[which]), '-g', '-O1', '-w', '-pthread', *options,
+        done = room.run([os.path.join(room.RECORDER, ('cc', 'c++')[which]), '-g', '-O1', '-w', '-pthread',
                          self.source, '-o', 'app'], cwd=self.folder, env=env)
         return self.shown.tell(f'{self.compiler} builds {self.source}', done.returncode == 0, done)
 
@@ -83,16 +83,18 @@ def show_suppressions(shown, compiler):
         return
     file = os.path.join(made.folder, 'suppressions')
     for lines, left in (('race:reset', 0), ('race:^reset$', 1), ('race:^rese$', 4), ('race:heading.c', 0),
-                        ('race:set_*', 1), ('race:^other$', 3), ('race_top:resetting', 3), ('race:resetting', 0),
+                        ('race:set_*', 1), ('race:^other$', 3), ('race_top:resetting', 3),
+                        ('race:resetting', 0),
                         ('race_top:set_y\n# race:*\n\ndeadlock:*', 3), ('race:x$\nrace:set_z', 2)):
         room.write(file, lines + '\n')
         done = made.explain('--suppressions', file)
         count = f', {4 - left} suppressed' if left < 4 else ''
         text = f'{left or "no"} race{"s" * (left != 1)}{count}\n'
-        made.tell(f'suppressed by {lines!r}', done.stdout.endswith(text) and done.returncode == (left > 0), done)
+        made.tell(f'suppressed by {lines!r}',
+                  done.stdout.endswith(text) and done.returncode == (left > 0), done)
     done = made.explain('--first', '2')
-    made.tell('the first two', done.stdout.count('\nrace ') == 2 and '4 races, the first 2 printed' in done.stdout,
-              done)
+    made.tell('the first two', done.stdout.count('\nrace ') == 2 and
+              '4 races, the first 2 printed' in done.stdout, done)
 
 
 def show_known(shown, compiler):
@@ -127,7 +129,7 @@ def show_missing(shown, compiler):
 
     def unnamed(what, said):
         done = made.explain()
-        made.tell(what, 'hidden.c' not in done.stdout and re.search(r'    #0 app\+0x[0-9a-f]+', done.stdout) and
+        made.tell(what, 'hidden.c' not in done.stdout and re.search(r' #0 app\+0x[0-9a-f]+', done.stdout) and
                   'hidden by the schedule: T1 released `app+0x' in done.stdout and
                   done.stderr.count(said) == 1 and done.returncode == 1, done)
     os.rename(app, app + '.away')
@@ -156,8 +158,8 @@ def show_test(shown, compiler):
         return
     test = [*TEST, '--wcp', shown.program]
     done = made.run([*test, '-n', '3', '--keep', 'kept', './app'])
-    made.tell('three runs', ', 3 events in 3 of 3 runs' in done.stdout and '1 race in 3 runs' in done.stdout and
-              done.stderr.count('recorder: ') == 3 and done.returncode == 1, done)
+    made.tell('three runs', ', 3 events in 3 of 3 runs' in done.stdout and
+              '1 race in 3 runs' in done.stdout and done.stderr.count('recorder: ') == 3 and done.returncode == 1, done)
     made.tell('kept traces', sorted(os.listdir(os.path.join(made.folder, 'kept'))) == [
         f'run{run}.txt{end}' for run in (1, 2, 3) for end in ('', '.info')])
     room.write(os.path.join(made.folder, 'suppressions'), 'race:announced\n')
