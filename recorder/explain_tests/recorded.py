@@ -173,6 +173,28 @@ def show_test(shown, compiler):
     made.tell('no wcp', made.run([*TEST, '--wcp', '/nowhere', './app']).returncode == 126)
 
 
+def show_ci(shown):
+    """The job of docs/CI.md fails on a new race, and on no known one."""
+    folder = shown.folder('job')
+    os.mkdir(os.path.join(folder, 'tests'))
+    for name in ('hidden.c', 'turns.h'):
+        shutil.copy(os.path.join(HERE, name), folder)
+    os.symlink(room.RECORDER, os.path.join(folder, 'recorder'))
+    room.write(os.path.join(folder, 'known.races'), '')
+    room.write(os.path.join(folder, 'Makefile'),
+               'all:\n\t$(CC) $(CFLAGS) -pthread hidden.c -o tests/queue.test\nclean:\n\trm -f tests/*.test\n')
+    page = room.read(os.path.join(room.TOP, 'docs/CI.md'))
+    job, accept = (text.replace('recorder/test', f'recorder/test --wcp {shown.program}')
+                   for text in re.findall(r'```sh\n(.*?)```', page, re.S)[:2])
+
+    def tell(what, text, status, said):
+        done = room.run(['sh', '-c', text], cwd=folder)
+        shown.tell(f'docs/CI.md: {what}', done.returncode == status and said in done.stdout, done)
+    tell('a new race', job, 1, 'in 3 of 3 runs')
+    tell('it is accepted', accept, 1, '1 race')
+    tell('a known race', job, 0, 'no races in 3 runs, 1 known')
+
+
 def show(shown):
     if not room.has('make', 'nm', 'addr2line'):
         shown.skip('recorded runs (make, nm or addr2line is not there)')
@@ -186,3 +208,4 @@ def show(shown):
             continue
         for part in (show_entries, show_suppressions, show_known, show_missing, show_test):
             part(shown, compiler)
+    show_ci(shown)

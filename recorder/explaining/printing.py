@@ -152,7 +152,9 @@ def print_block(printer, block):
     if block and block['frames']:
         by = f' by {block["thread"]}' if block['thread'] else ''
         printer.line(f'  the block of {block["size"]} bytes was allocated{by}:')
-        print_frames(printer, block['frames'])
+        frames = block['frames']
+        own = [frame for frame in frames if not frame['is_system']]
+        print_frames(printer, own or frames)
 
 
 def print_starts(printer, entry):
