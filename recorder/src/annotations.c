@@ -138,3 +138,13 @@ void WTFAnnotateBenignRaceSized(const char *file, int line, const volatile void 
 }
 int RunningOnValgrind(void) { return 0; }
 double ValgrindSlowdown(void) { return 10.0; }
+const char *ThreadSanitizerQuery(const char *of) {
+    (void)of;
+    return "";
+}
+
+/* What reports of the sanitizer would use. */
+void __sanitizer_print_stack_trace(void) {}
+void __sanitizer_set_death_callback(void (*work)(void)) { (void)work; }
+void __sanitizer_set_report_path(const char *path) { (void)path; }
+void __sanitizer_set_report_fd(void *file) { (void)file; }
