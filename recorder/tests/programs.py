@@ -94,7 +94,8 @@ class Case:
 
     def unfinished(self, trace, said):
         """Waits for the traces of processes that go on; then says which is half written."""
-        awaited = re.findall(r'goes on, and writes (\S+) when', said)
+        names = re.findall(r'goes on, and writes (\S+) when', said)
+        awaited = [os.path.join(self.folder, name) for name in names]
         until = time.monotonic() + 20
         while time.monotonic() < until:
             left = [path for path in awaited if not os.path.exists(path)]
@@ -116,8 +117,8 @@ class Case:
         return self.shown.tell(self.name, not failures, f'{how_often} of {RUNS} runs: {"; ".join(failures)}')
 
     def sanitizer(self):
-        """What ThreadSanitizer itself has of one run: the variables that it names. Of gcc's builds alone, since
-        clang's library does not run as a shared one."""
+        """The variables that ThreadSanitizer itself names in one run. Of gcc's builds alone, since clang's
+        library does not run as a shared one."""
         env = dict(os.environ, TSAN_OPTIONS='exitcode=0')
         done = room.run(['setarch', '-R', self.app], timeout=10, cwd=self.folder, env=env)
         said = done.stdout + done.stderr
@@ -134,8 +135,8 @@ class Case:
         return names
 
 
-def show(shown):
-    """Judges all programs, a few at a time, and prints what ThreadSanitizer has of each."""
+def show(shown, words=()):
+    """Judges all programs, or those whose names have these words, and prints what ThreadSanitizer has."""
     folder, cases = shown.folder('compilers'), []
     compilers = []
     for compiler in room.COMPILERS:
@@ -146,7 +147,7 @@ def show(shown):
             compilers.append(compiler)
     for source in sorted(glob.glob(os.path.join(HERE, '*.c')) + glob.glob(os.path.join(HERE, '*.cpp'))):
         wanted = answers(source)
-        if 'Races' in wanted:
+        if 'Races' in wanted and (not words or any(word in source for word in words)):
             for compiler in wanted.get('Compilers', ' '.join(room.COMPILERS)).split():
                 if compiler in compilers:
                     for level in wanted.get('Levels', '-O0 -O2').split():

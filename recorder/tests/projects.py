@@ -106,7 +106,7 @@ def fill(folder):
 
 
 def ways():
-    """How a build is asked for: its name, the tools that it takes, its variables, and the compiler's flags."""
+    """How a build is asked for: its name, the tools that it takes, its variables and the flags."""
     flags = '-fsanitize=thread -g -O1'
     for name, (c, plus) in room.COMPILERS.items():
         own = flags if name == 'gcc' else flags + ' -shared-libsan'
