@@ -1,5 +1,6 @@
 """Explains recorded runs of the programs of this folder, built by gcc and clang: their entries, as text and
-as JSON; suppressions; known races after an edit; and what is said where a file is missing or another build."""
+as JSON; suppressions; known races after an edit; and what is said of a file that is missing or another build.
+"""
 import glob
 import io
 import json
@@ -159,7 +160,8 @@ def show_test(shown, compiler):
     test = [*TEST, '--wcp', shown.program]
     done = made.run([*test, '-n', '3', '--keep', 'kept', './app'])
     made.tell('three runs', ', 3 events in 3 of 3 runs' in done.stdout and
-              '1 race in 3 runs' in done.stdout and done.stderr.count('recorder: ') == 3 and done.returncode == 1, done)
+              '1 race in 3 runs' in done.stdout and done.stderr.count('recorder: ') == 3 and
+              done.returncode == 1, done)
     made.tell('kept traces', sorted(os.listdir(os.path.join(made.folder, 'kept'))) == [
         f'run{run}.txt{end}' for run in (1, 2, 3) for end in ('', '.info')])
     room.write(os.path.join(made.folder, 'suppressions'), 'race:announced\n')
@@ -181,8 +183,8 @@ def show_ci(shown):
         shutil.copy(os.path.join(HERE, name), folder)
     os.symlink(room.RECORDER, os.path.join(folder, 'recorder'))
     room.write(os.path.join(folder, 'known.races'), '')
-    room.write(os.path.join(folder, 'Makefile'),
-               'all:\n\t$(CC) $(CFLAGS) -pthread hidden.c -o tests/queue.test\nclean:\n\trm -f tests/*.test\n')
+    room.write(os.path.join(folder, 'Makefile'), 'all:\n\t$(CC) $(CFLAGS) -pthread hidden.c -o '
+               'tests/queue.test\nclean:\n\trm -f tests/*.test\n')
     page = room.read(os.path.join(room.TOP, 'docs/CI.md'))
     job, accept = (text.replace('recorder/test', f'recorder/test --wcp {shown.program}')
                    for text in re.findall(r'```sh\n(.*?)```', page, re.S)[:2])

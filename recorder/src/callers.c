@@ -19,8 +19,8 @@ static _Unwind_Reason_Code look(struct _Unwind_Context *context, void *given) {
     return _URC_NO_REASON;
 }
 
-/* The return address, within the innermost instrumented function, of the call that led to the one that returns
- * to this place. */
+/* The return address, within the innermost instrumented function, of the call that led to the one that
+ * returns to this place. */
 uintptr_t place_in_program(uintptr_t place) {
     if (!self || self->depth == 0) return place;
     struct search search = { self->frames[self->depth - 1].pointer, place, 0 };
