@@ -37,7 +37,7 @@ def show_folder(shown, name, beside):
     for words, status, said in (
             ('wcp --version', 0, 'wcp'), ('wcp-cc -g -O1 -w -pthread hidden.c -o app', 0, ''),
             ('wcp-c++ -g -O1 -w -pthread inlined.cpp -o other', 0, ''), ('wcp-record -o trace ./app', 0, ''),
-            ('wcp-explain trace', 1, 'hidden by the schedule'), ('wcp-test ./app', 1, 'hidden by the schedule'),
-            ('wcp-test ./other', 1, 'Account::credit')):
+            ('wcp-explain trace', 1, 'hidden by the schedule'),
+            ('wcp-test ./app', 1, 'hidden by the schedule'), ('wcp-test ./other', 1, 'Account::credit')):
         done = room.run(words.split(), cwd=work, env=env)
         shown.tell(f'{words}, installed in {name}', done.returncode == status and said in done.stdout, done)

@@ -87,7 +87,8 @@ def is_path(names, lines, edges, order, first, second):
             return False
         if step.kind == 'lock':
             release, acquire = lines[step.release - 1], lines[step.acquire - 1]
-            if (release[0], acquire[0]) != (giver, taker) or (step.release, 'lock') not in edges[step.acquire]:
+            is_edge = (step.release, 'lock') in edges[step.acquire]
+            if (release[0], acquire[0]) != (giver, taker) or not is_edge:
                 return False
         elif step.kind == 'fork' and lines[step.acquire - 1] != (giver, 'fork', taker):
             return False

@@ -1,5 +1,6 @@
-"""Explains recorded runs of the programs of this folder, built by gcc and clang: their entries, as text and as
-JSON; suppressions; known races after an edit; and what is said where a file is missing or another build."""
+"""Explains recorded runs of the programs of this folder, built by gcc and clang: their entries, as text and
+as JSON; suppressions; known races after an edit; and what is said of a file that is missing or another build.
+"""
 import glob
 import io
 import json
@@ -19,11 +20,11 @@ PROGRAMS = sorted(os.path.basename(path) for end in ('c', 'cpp') for path in glo
 
 
 def settled(text):
-    """Entries without what differs from build to build: numbers of events, offsets, how lines are filled, what
-    clang's debug information has no place for in `nm`, and the parentheses that gcc's has not."""
+    """Entries without what differs from build to build: numbers of events, offsets, how lines are filled,
+    the declarations that `nm` does not find in clang's files, and the parentheses that gcc's have not."""
     text = re.sub(r'\s+', ' ', text.replace('\n\n', '\r')).replace('\r', '\n\n').strip()
-    for pattern, word in ((r'event \d+', 'event N'), (r'0x[0-9a-f]+', '0x..'), (r' bytes, \S+:\d+\)', ' bytes)'),
-                          (r'\(\)', '')):
+    for pattern, word in ((r'event \d+', 'event N'), (r'0x[0-9a-f]+', '0x..'),
+                          (r' bytes, \S+:\d+\)', ' bytes)'), (r'\(\)', '')):
         text = re.sub(pattern, word, text)
     return text
 
@@ -40,10 +41,10 @@ class Build:
     def run(self, words):
         return room.run(words, cwd=self.folder)
 
-    def build(self, *options):
+    def build(self):
         which = self.source.endswith('.cpp')
         env = dict(os.environ, **{('WCP_CC', 'WCP_CXX')[which]: room.COMPILERS[self.compiler][which]})
-        done = room.run([os.path.join(room.RECORDER, ('cc', 'c++')[which]), '-g', '-O1', '-w', '-pthread', *options,
+        done = room.run([os.path.join(room.RECORDER, ('cc', 'c++')[which]), '-g', '-O1', '-w', '-pthread',
                          self.source, '-o', 'app'], cwd=self.folder, env=env)
         return self.shown.tell(f'{self.compiler} builds {self.source}', done.returncode == 0, done)
 
@@ -83,16 +84,18 @@ def show_suppressions(shown, compiler):
         return
     file = os.path.join(made.folder, 'suppressions')
     for lines, left in (('race:reset', 0), ('race:^reset$', 1), ('race:^rese$', 4), ('race:heading.c', 0),
-                        ('race:set_*', 1), ('race:^other$', 3), ('race_top:resetting', 3), ('race:resetting', 0),
+                        ('race:set_*', 1), ('race:^other$', 3), ('race_top:resetting', 3),
+                        ('race:resetting', 0),
                         ('race_top:set_y\n# race:*\n\ndeadlock:*', 3), ('race:x$\nrace:set_z', 2)):
         room.write(file, lines + '\n')
         done = made.explain('--suppressions', file)
         count = f', {4 - left} suppressed' if left < 4 else ''
         text = f'{left or "no"} race{"s" * (left != 1)}{count}\n'
-        made.tell(f'suppressed by {lines!r}', done.stdout.endswith(text) and done.returncode == (left > 0), done)
+        made.tell(f'suppressed by {lines!r}',
+                  done.stdout.endswith(text) and done.returncode == (left > 0), done)
     done = made.explain('--first', '2')
-    made.tell('the first two', done.stdout.count('\nrace ') == 2 and '4 races, the first 2 printed' in done.stdout,
-              done)
+    made.tell('the first two', done.stdout.count('\nrace ') == 2 and
+              '4 races, the first 2 printed' in done.stdout, done)
 
 
 def show_known(shown, compiler):
@@ -127,7 +130,7 @@ def show_missing(shown, compiler):
 
     def unnamed(what, said):
         done = made.explain()
-        made.tell(what, 'hidden.c' not in done.stdout and re.search(r'    #0 app\+0x[0-9a-f]+', done.stdout) and
+        made.tell(what, 'hidden.c' not in done.stdout and re.search(r' #0 app\+0x[0-9a-f]+', done.stdout) and
                   'hidden by the schedule: T1 released `app+0x' in done.stdout and
                   done.stderr.count(said) == 1 and done.returncode == 1, done)
     os.rename(app, app + '.away')
@@ -156,8 +159,9 @@ def show_test(shown, compiler):
         return
     test = [*TEST, '--wcp', shown.program]
     done = made.run([*test, '-n', '3', '--keep', 'kept', './app'])
-    made.tell('three runs', ', 3 events in 3 of 3 runs' in done.stdout and '1 race in 3 runs' in done.stdout and
-              done.stderr.count('recorder: ') == 3 and done.returncode == 1, done)
+    made.tell('three runs', ', 3 events in 3 of 3 runs' in done.stdout and
+              '1 race in 3 runs' in done.stdout and done.stderr.count('recorder: ') == 3 and
+              done.returncode == 1, done)
     made.tell('kept traces', sorted(os.listdir(os.path.join(made.folder, 'kept'))) == [
         f'run{run}.txt{end}' for run in (1, 2, 3) for end in ('', '.info')])
     room.write(os.path.join(made.folder, 'suppressions'), 'race:announced\n')
@@ -169,6 +173,28 @@ def show_test(shown, compiler):
     made.tell('what is not instrumented', done.returncode == 125 and 'instrumented' in done.stderr, done)
     made.tell('no program', made.run([*test]).returncode == 2)
     made.tell('no wcp', made.run([*TEST, '--wcp', '/nowhere', './app']).returncode == 126)
+
+
+def show_ci(shown):
+    """The job of docs/CI.md fails on a new race, and on no known one."""
+    folder = shown.folder('job')
+    os.mkdir(os.path.join(folder, 'tests'))
+    for name in ('hidden.c', 'turns.h'):
+        shutil.copy(os.path.join(HERE, name), folder)
+    os.symlink(room.RECORDER, os.path.join(folder, 'recorder'))
+    room.write(os.path.join(folder, 'known.races'), '')
+    room.write(os.path.join(folder, 'Makefile'), 'all:\n\t$(CC) $(CFLAGS) -pthread hidden.c -o '
+               'tests/queue.test\nclean:\n\trm -f tests/*.test\n')
+    page = room.read(os.path.join(room.TOP, 'docs/CI.md'))
+    job, accept = (text.replace('recorder/test', f'recorder/test --wcp {shown.program}')
+                   for text in re.findall(r'```sh\n(.*?)```', page, re.S)[:2])
+
+    def tell(what, text, status, said):
+        done = room.run(['sh', '-c', text], cwd=folder)
+        shown.tell(f'docs/CI.md: {what}', done.returncode == status and said in done.stdout, done)
+    tell('a new race', job, 1, 'in 3 of 3 runs')
+    tell('it is accepted', accept, 1, '1 race')
+    tell('a known race', job, 0, 'no races in 3 runs, 1 known')
 
 
 def show(shown):
@@ -184,3 +210,4 @@ def show(shown):
             continue
         for part in (show_entries, show_suppressions, show_known, show_missing, show_test):
             part(shown, compiler)
+    show_ci(shown)

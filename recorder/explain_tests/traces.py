@@ -55,7 +55,8 @@ def show_hostile(shown):
     done = explain(shown, [trace])
     text = done.stdout + done.stderr
     shown.tell('hostile names: one race', 'race 1 of 1' in text and done.returncode == 1, done)
-    shown.tell('hostile names: no control characters', all(c == '\n' or c.isprintable() for c in text), [text])
+    is_safe = all(c == '\n' or c.isprintable() for c in text)
+    shown.tell('hostile names: no control characters', is_safe, [text])
     for wanted in ('x\\x1b[31m', '\\xe2\\x80\\xae', 'na\\x1b[2Jme\\x0a', '\\xff'):
         shown.tell(f'hostile names: {wanted} is printed', wanted in text, text)
     done = explain(shown, ['--json', trace])
@@ -67,7 +68,8 @@ def show_forms(shown):
     lines = ['T0|w(x)|1', 'T0|acq(l)|2', 'T0|rel(l)|3', 'T1|acq(l)|4', 'T1|rel(l)|5', 'T1|r(x)|6']
     wanted = None
     for name, text in (('plain', '\n'.join(lines) + '\n'), ('no end', '\n'.join(lines)),
-                       ('CR LF', '\r\n'.join(lines)), ('empty lines', '\n\n' + '\r\n\n\n'.join(lines) + '\n\n')):
+                       ('CR LF', '\r\n'.join(lines)),
+                       ('empty lines', '\n\n' + '\r\n\n\n'.join(lines) + '\n\n')):
         trace = os.path.join(shown.room, 'forms.txt')
         with open(trace, 'w', newline='') as file:
             file.write(text)
@@ -89,7 +91,8 @@ def show_statuses(shown):
             ([race], 1, '1 race'), ([none], 0, 'no races'), ([bad], 3, 'line 2: NotHolder'),
             ([empty], 0, 'nothing was recorded'), ([os.path.join(folder, 'absent')], 4, 'No such file'),
             ([folder], 4, ''), ([], 2, 'usage'), (['--nothing', race], 2, 'usage'),
-            (['--threads', '1', race], 3, 'line 2: TooManyNames'), (['--wcp', '/nowhere', race], 126, 'no program'),
+            (['--threads', '1', race], 3, 'line 2: TooManyNames'),
+            (['--wcp', '/nowhere', race], 126, 'no program'),
             (['--report', none, race], 4, ''), (['--first', '0', race], 1, '1 race, the first 0 printed'),
             (['--suppressions', race + '.suppressions', race], 2, 'suppressions:2'),
             (['--known', os.path.join(folder, 'absent'), race], 4, 'No such file')):
@@ -108,7 +111,8 @@ def show_statuses(shown):
 def show_terminal(shown):
     """Colors on a terminal, unless NO_COLOR is set; a bar where the work is long, and none elsewhere."""
     trace = os.path.join(shown.room, 'statuses/race')
-    for words, env, wanted in (([], {}, True), ([], {'NO_COLOR': '1'}, False), (['--color', 'never'], {}, False),
+    for words, env, wanted in (([], {}, True), ([], {'NO_COLOR': '1'}, False),
+                               (['--color', 'never'], {}, False),
                                (['--color', 'always'], {'NO_COLOR': '1'}, True)):
         text = on_terminal([*EXPLAIN, '--wcp', shown.program, *words, trace], dict(os.environ, **env))
         shown.tell(f'colors: {words} {env}', (b'\x1b[1;31mrace 1' in text) == wanted, text)

@@ -55,7 +55,7 @@ class Maker:
                 'stacks': len(pair.stacks),
                 'first': self._access(first, order.held_first),
                 'second': self._access(second, order.held_second),
-                'is_hidden': order.steps is not None,
+                'is_hidden': order.steps is not None, 'is_recorded': self.naming.info.is_there,
                 'steps': self._steps(order.steps or [], second.number),
             }
 

@@ -116,7 +116,7 @@ def print_path(printer, entry):
             printer.paragraph(text, 4)
         printer.paragraph(f'{end} {detector}')
     for step in locks:
-        print_warning(printer, step)
+        print_warning(printer, step, entry['is_recorded'])
 
 
 def step_text(entry, number):
@@ -136,22 +136,25 @@ def step_text(entry, number):
             f'{after}; {taker} {took} ({where(acquired["at"])}) at event {acquired["event"]}{before}')
 
 
-def print_warning(printer, step):
+def print_warning(printer, step, is_recorded):
     if step['empty']:
         which = f'section of {step["empty"][0]} on {lock_text(step["lock"])} has'
         if len(step['empty']) > 1:
             which = f'sections of {" and ".join(step["empty"])} on {lock_text(step["lock"])} have'
         printer.paragraph(
             f'warning: the {which} no access in the trace. Where code that is not instrumented works in it, that '
-            'may order the two accesses, and then this is no race. (The recorder leaves out what one thread '
-            'alone accesses; WCP_ALL=1 keeps it.)', color='warning')
+            'may order the two accesses, and then this is no race.' + (
+                ' (The recorder leaves out what one thread alone accesses; WCP_ALL=1 keeps it.)' *
+                is_recorded), color='warning')
 
 
 def print_block(printer, block):
     if block and block['frames']:
         by = f' by {block["thread"]}' if block['thread'] else ''
         printer.line(f'  the block of {block["size"]} bytes was allocated{by}:')
-        print_frames(printer, block['frames'])
+        frames = block['frames']
+        own = [frame for frame in frames if not frame['is_system']]
+        print_frames(printer, own or frames)
 
 
 def print_starts(printer, entry):

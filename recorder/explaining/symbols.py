@@ -158,6 +158,7 @@ def _table_of(path):
 
 
 def _is_system(function, file):
-    is_own = file is None or not (file.startswith(HEADERS) or RECORDER.match(file))
-    return not is_own or function.startswith(('std::', '__gnu_cxx::'))
+    if file is None:
+        return function.startswith(('std::', '__gnu_cxx::'))
+    return file.startswith(HEADERS) or bool(RECORDER.match(file))
 

@@ -192,6 +192,9 @@ void leave_no_file(void);
 void tell_status(const char *status, const uint64_t *numbers);
 void complain(const char *why);
 
+/* callers.c */
+uintptr_t place_in_program(uintptr_t place);
+
 /* start.c, ends.c */
 extern volatile int fork_goes_on;
 void start_recording(int is_child);

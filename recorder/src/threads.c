@@ -102,6 +102,7 @@ static struct thread *fork_thread(struct event **event, uintptr_t place) {
     struct thread *parent = self ? self : own_thread();
     struct thread *child = parent ? new_thread() : NULL;
     if (!child) return NULL;
+    place = place_in_program(place);
     child->creator = parent->number;
     child->place = place;
     child->stack = stack_now(parent);
