@@ -85,10 +85,8 @@ impl Run {
         let mut work = self.no_work(rt);
         assert!(rt; self.events < 100);
         assert!(rt; is_within(event));
-        assert!(rt;
-            self.clocks.prepare(event.thread, event.op).is_ok(),
-            "memory"
-        );
+        assert!(rt; self.clocks.prepare(event).is_ok(), "memory");
+        assert!(rt; self.clocks.ready(event));
         assert!(rt; self.clocks.admits(event.thread, event.op));
         self.clocks.advance(event, &mut work);
         self.events += 1;

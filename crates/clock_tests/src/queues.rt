@@ -92,12 +92,12 @@ impl Sections {
         }
     }
 
-    fn prepare(&mut self, rt: &impl Abort, thread: ThreadId, lock: LockId) {
-        assert!(rt; self.queues.prepare(thread, lock).is_ok(), "memory");
+    fn make_room(&mut self, rt: &impl Abort, thread: ThreadId, lock: LockId) {
+        assert!(rt; self.queues.make_room(thread, lock).is_ok(), "memory");
     }
 
     fn close(&mut self, rt: &impl Abort, thread: ThreadId, lock: LockId) {
-        self.prepare(rt, thread, lock);
+        self.make_room(rt, thread, lock);
         let mark = self.run.latest(rt, thread);
         let clock = self.run.happened(rt, thread);
         close_first(rt, &mut self.queues, thread, lock, mark, clock);
@@ -133,7 +133,7 @@ impl Sections {
         lock: LockId,
         other: ThreadId,
     ) -> Option<(ThreadId, u32)> {
-        self.prepare(rt, thread, lock);
+        self.make_room(rt, thread, lock);
         let Sections { mut queues, run } = self;
         let mark = run.latest(rt, thread);
         let clock = run.clocks.hb(other);

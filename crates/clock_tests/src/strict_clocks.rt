@@ -16,14 +16,18 @@ mod cases;
 use crate::clocks::event;
 use crate::expected::expect;
 use cases::{
-    CHILD, CROSSED_SECTIONS, EARLIER_RELEASE, INNER_RELEASES, Line, MAIN, OTHER,
-    OVERLAPPING_SECTIONS, RELEASES_OF_ONE_THREAD, Y,
+    CHILD, CROSSED_SECTIONS, EARLIER_RELEASE, INNER_RELEASES, K, Line, M, MAIN, OTHER,
+    OVERLAPPING_SECTIONS, RELEASES_OF_ONE_THREAD, X, Y,
 };
-use event_core::{Call, Event, Limits, Op, Roots, SiteId, ThreadId};
+use event_core::{AccessKind, Call, Event, Limits, LockId, Op, Roots, SiteId, ThreadId, VarId};
 use std::alloc::Global;
 use std::process::Abort;
 use traced_mem::Memory;
 use wcp_clocks::WcpClocks;
+
+const LOAD: AccessKind = AccessKind::Read;
+
+const STORE: AccessKind = AccessKind::Write;
 
 fn small_limits(rt: &impl Abort) -> Limits
     ensures { result ≡ small }
@@ -38,7 +42,7 @@ fn prepare(rt: &impl Abort, clocks: &mut WcpClocks, event: &Event)
     ensures limits { SameLimits clocks.old clocks.new }
     ensures ready { IsReady clocks.new event.now.thread event.now.op }
 {
-    assert!(rt; clocks.prepare(event.thread, event.op).is_ok(), "memory");
+    assert!(rt; clocks.prepare(event).is_ok(), "memory");
 }
 
 // The call is permitted, and there is room for it.
@@ -105,9 +109,10 @@ fn expect_below(rt: &impl Abort, at: usize, clocks: &WcpClocks, thread: ThreadId
     expect(rt, at, clock_numbers(clocks, thread), wanted);
 }
 
-// Takes the events in turn, and looks at the numbers after each. At the end so many events are below the last
-// one of the thread.
-fn follow(rt: &impl Abort, alloc: Global, lines: &[Line], last: ThreadId, below: [u64; 3]) {
+// Takes the events in turn, and looks at the numbers after each.
+fn take_all(rt: &impl Abort, alloc: Global, lines: &[Line]) -> WcpClocks
+    ensures { width_of result ≡ 3 }
+{
     let limits = small_limits(rt);
     let mut memory = Memory::new(alloc, limits).expect(rt, "no memory is taken");
     let mut clocks = WcpClocks::new(alloc, limits).expect(rt, "memory");
@@ -117,9 +122,37 @@ fn follow(rt: &impl Abort, alloc: Global, lines: &[Line], last: ThreadId, below:
         let strict = strict_numbers(&clocks, thread);
         expect(rt, index, strict, wanted);
     }
+    drop(memory);
+    clocks
+}
+
+// After the events so many are below the last one of the thread.
+fn follow(rt: &impl Abort, alloc: Global, lines: &[Line], last: ThreadId, below: [u64; 3]) {
+    let clocks = take_all(rt, alloc, lines);
     expect_below(rt, lines.len(), &clocks, last, below);
     drop(clocks);
-    drop(memory);
+}
+
+// After the events an access by the thread under the lock meets these releases: of each its thread, how many
+// events of that thread there were before it, and how many of each.
+fn follow_to_sources(
+    rt: &impl Abort,
+    alloc: Global,
+    lines: &[Line],
+    access: (ThreadId, LockId, VarId, AccessKind),
+    wanted: &[(ThreadId, u32, &[u32])],
+) {
+    let clocks = take_all(rt, alloc, lines);
+    let (thread, lock, var, kind) = access;
+    let mut sources = clocks.sources(thread, lock, var, kind);
+    for (at, row) in wanted.iter().enumerate() {
+        let release = sources.next().expect(rt, "a release");
+        let came = (release.by(), release.own(), release.counts_before());
+        expect(rt, at, came, *row);
+    }
+    assert!(rt; sources.next().is_none());
+    drop(sources);
+    drop(clocks);
 }
 
 #[test]
@@ -142,6 +175,35 @@ fn rule_b_orders_the_releases_of_overlapping_sections(rt: HostRuntime) {
     follow(&rt, rt.alloc(), OVERLAPPING_SECTIONS, CHILD, [7, 6, 0]);
 }
 
+// The child has acquired k. Main's store to x is in the section on k that main's fifth event ended.
+#[test]
+fn an_access_meets_the_release_of_a_section_in_conflict(rt: HostRuntime) {
+    let lines = &EARLIER_RELEASE[..8];
+    let met: &[(ThreadId, u32, &[u32])] = &[(MAIN, 4, &[4])];
+    follow_to_sources(&rt, rt.alloc(), lines, (CHILD, K, X, LOAD), met);
+    follow_to_sources(&rt, rt.alloc(), lines, (CHILD, K, X, STORE), met);
+    // its own, and another variable
+    follow_to_sources(&rt, rt.alloc(), lines, (MAIN, K, X, STORE), &[]);
+    follow_to_sources(&rt, rt.alloc(), lines, (CHILD, K, Y, STORE), &[]);
+}
+
+// On m main's section with a store to x ended at main's sixth event, and the child's with a load of x at the
+// child's third, before which main's six happened.
+#[test]
+fn a_store_meets_the_newest_store_and_the_newest_load(rt: HostRuntime) {
+    let lines = &RELEASES_OF_ONE_THREAD[..15];
+    let stored: (ThreadId, u32, &[u32]) = (MAIN, 5, &[5]);
+    let loaded: (ThreadId, u32, &[u32]) = (CHILD, 2, &[6, 2]);
+    follow_to_sources(&rt, rt.alloc(), lines, (OTHER, M, X, LOAD), &[stored]);
+    follow_to_sources(
+        &rt,
+        rt.alloc(),
+        lines,
+        (OTHER, M, X, STORE),
+        &[stored, loaded],
+    );
+}
+
 #[test]
 fn an_inner_release_ends_no_section(rt: HostRuntime) {
     follow(&rt, rt.alloc(), INNER_RELEASES, CHILD, [6, 5, 0]);
@@ -151,10 +213,12 @@ fn an_inner_release_ends_no_section(rt: HostRuntime) {
 fn room_for_a_swap_serves_its_load_and_its_store(rt: HostRuntime) {
     let limits = small_limits(&rt);
     let mut clocks = WcpClocks::new(rt.alloc(), limits).expect(&rt, "memory");
-    assert!(rt; !clocks.ready(MAIN, Op::Load(Y)));
-    assert!(rt; !clocks.ready(MAIN, Op::Store(Y)));
-    assert!(rt; clocks.prepare(MAIN, Op::Load(Y)).is_ok(), "memory");
-    assert!(rt; clocks.ready(MAIN, Op::Load(Y)));
-    assert!(rt; clocks.ready(MAIN, Op::Store(Y)));
+    let load = event(MAIN, Op::Load(Y));
+    let store = event(MAIN, Op::Store(Y));
+    assert!(rt; !clocks.ready_swap(&load, &store));
+    assert!(rt; clocks.prepare_swap(&load, &store).is_ok(), "memory");
+    assert!(rt; clocks.ready_swap(&load, &store));
+    assert!(rt; clocks.ready(&load));
+    assert!(rt; clocks.ready(&store));
     drop(clocks);
 }

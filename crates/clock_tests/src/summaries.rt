@@ -4,7 +4,7 @@ ghost use Rattle.event_core.specs.declared.events.AccessKind.{AccessKind as Kind
 ghost use Rattle.section_sum.specs.Sums.{noted_of};
 
 use crate::expected::expect;
-use event_core::{AccessKind, LockId, ThreadId, VarId};
+use event_core::{AccessKind, Limits, LockId, Roots, ThreadId, VarId};
 use section_sum::Summaries;
 use std::alloc::Global;
 use std::process::Abort;
@@ -85,7 +85,13 @@ fn section(
     kind: AccessKind,
     number: u32,
 ) {
-    assert!(rt; sections.summaries.prepare(&locks, var).is_ok(), "memory");
+    assert!(rt;
+        sections
+            .summaries
+            .make_room(thread, &locks, var, kind)
+            .is_ok(),
+        "memory"
+    );
     sections.summaries.note(thread, &locks, var, kind);
     sections.summaries.close(thread, locks[0], number);
     sections.summaries.close(thread, locks[1], number);
@@ -125,8 +131,9 @@ fn follow(rt: &impl Abort, sections: &mut Sections, at: usize, row: &Row) {
 }
 
 fn follow_all(rt: &impl Abort, alloc: Global, rows: &[Row]) {
+    let limits = Limits::new(4, 6, 8, 64, Roots::Free).expect(rt, "small limits");
     let mut sections = Sections {
-        summaries: Summaries::new(alloc),
+        summaries: Summaries::new(alloc, limits).expect(rt, "no memory is taken"),
     };
     for (at, row) in rows.iter().enumerate() {
         follow(rt, &mut sections, at, row);

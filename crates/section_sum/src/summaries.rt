@@ -42,7 +42,7 @@ impl Model for Summaries {
 }
 
 impl Summaries {
-    /// No sections. Takes no memory: the tables grow with the numbers that are used, within any limits.
+    /// No sections. Takes no memory: its tables grow with the numbers that are used, whatever the limits.
     pub fn new(alloc: Global, limits: Limits) -> Result<Summaries, OutOfMemory>
         ensures made { IsOk result }
         ensures nothing_noted { IfOk result (λ s. (t l v : ℕ) (k : Kind) → noted_of s t l v k ≡ false) }

@@ -9,13 +9,13 @@ pub const OTHER: ThreadId = ThreadId(2);
 
 const L: LockId = LockId(0);
 
-const K: LockId = LockId(1);
+pub const K: LockId = LockId(1);
 
 pub const M: LockId = LockId(2);
 
 pub const N: LockId = LockId(3);
 
-const X: VarId = VarId(0);
+pub const X: VarId = VarId(0);
 
 pub const Y: VarId = VarId(1);
 
