@@ -14,8 +14,8 @@ use crate::memory::Memory;
 use event_core::{Call, Event, Op, OutOfMemory, ThreadId};
 
 impl Memory {
-    /// Makes room for the call, or answers `OutOfMemory`. Nothing else changes, and what was ready stays so. A
-    /// table that grows has memory for at most twice what the call needs.
+    /// Makes room for the call, or answers `OutOfMemory`. Nothing else changes, and what was ready stays so.
+    /// A table that grows has memory for at most twice what the call needs.
     #[inline]
     pub fn prepare(&mut self, call: &Call) -> Result<(), OutOfMemory>
         ensures same { meaning self.new ≡ meaning self.old }

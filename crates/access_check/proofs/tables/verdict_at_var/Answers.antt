@@ -19,10 +19,10 @@ narrow_at vars x width ts d is lt narrow k =
 
 pub latest_racing-requires-clause-loads : goal.latest_racing-requires-clause-loads
 latest_racing-requires-clause-loads g c =
-    narrow_at c.args.vars.now c.args.var (length (g.T.VectorTime.numbers c.args.clock.now)) c.index-vars-var.result _
-    c.index-vars-var.is c.if-vars-var.false c.requires Read
+    narrow_at c.args.vars.now c.args.var (length (g.T.VectorTime.numbers c.args.clock.now))
+    c.index-vars-var.result _ c.index-vars-var.is c.if-vars-var.false c.requires Read
 
 pub latest_racing-requires-clause-stores : goal.latest_racing-requires-clause-stores
 latest_racing-requires-clause-stores g c =
-    narrow_at c.args.vars.now c.args.var (length (g.T.VectorTime.numbers c.args.clock.now)) c.index-vars-var.result _
-    c.index-vars-var.is c.if-vars-var.false c.requires Write
+    narrow_at c.args.vars.now c.args.var (length (g.T.VectorTime.numbers c.args.clock.now))
+    c.index-vars-var.result _ c.index-vars-var.is c.if-vars-var.false c.requires Write
