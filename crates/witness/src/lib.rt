@@ -5,6 +5,7 @@
 //! events; a walk over it tests each point of the definition, and what it passes is a witness.
 #![tactic(auto)]
 
+pub mod laws;
 mod marks;
 mod memory_step;
 mod next;
