@@ -1,5 +1,6 @@
 -- What is next after the events that are counted, and the count of one more.
-use Rattle.std.proofs.Common.{◌≡◌, ℕ, ◌+◌, ◌<◌, ◌≤◌, ◌⊎◌, List, [], ◌∷◌, ◌++◌, Some, slice_get, take, refl, ap}
+use Rattle.std.proofs.Common.{◌≡◌, ℕ, ◌+◌, ◌<◌, ◌≤◌, ◌⊎◌, List, [], ◌∷◌, ◌++◌, Some, slice_get, take, refl}
+use Rattle.std.proofs.Common.{ap}
 use Rattle.std.proofs.Common.{subst, ◌∙◌, sym, arith}
 use Rattle.std.proofs.lemmas.Bool.{cases_lt, eq-eqb, ne_eqb}
 use Rattle.std.proofs.lemmas.Option.{slice_get_within}
@@ -14,7 +15,7 @@ use Rattle.event_core.specs.Count.{events_of, Counts}
 use Rattle.event_core.specs.Rows.{bump}
 use Rattle.event_core.specs.Closed.{Has}
 use Rattle.event_core.proofs.CountLaws.{rank_below}
-use Rattle.event_core.proofs.Depth.{thread_cases}
+use Rattle.event_core.proofs.Depth.{thread_cases, same_thread_id}
 use Rattle.event_core.proofs.LogFacts.{of_one, does_op}
 use Rattle.event_core.proofs.Members.{has_front, has_last, has_split, none_in}
 use Rattle.witness.specs.Walks.{IsCount, HasFork, HasAll, IsNextOf}
@@ -68,7 +69,8 @@ next_of {log = log} {before = before} {counts = counts} k e at count place fork 
         = subst (λ (v : ThreadId). counts v.0 ≡ events_of (take k log) v) (of_one mine b) place in
         let r = rank_before log u h k lt a in
         ((count.counted u).first h a).1 (omega arith)
-    edge h (fork_to_event u v lt a b) = subst (λ (w : ThreadId). HasFork log before w) (of_one mine b) fork h v a
+    edge h (fork_to_event u v lt a b) =
+        subst (λ (w : ThreadId). HasFork log before w) (of_one mine b) fork h v a
     edge h (fork_to_join u v w lt a b) = (join u (does_op does b)).1 h v a
     edge h (event_to_join u w lt a b) = (join u (does_op does b)).0 h a
 
@@ -122,7 +124,7 @@ count_more {log = log} {before = before} {counts = counts} {more = more} k u min
     counted w (inr other) =
         let old = count.counted w in
         let is : more w.0 ≡ counts w.0
-        = are w.0 ∙ rw (ne_eqb w.0 u.0 (λ q. other (ap (λ (n : ℕ). let t : ThreadId = record { 0 = n } in t) q))) refl in
+        = are w.0 ∙ rw (ne_eqb w.0 u.0 (λ q. other (same_thread_id q))) refl in
         record {
           within = (let a = old.within in omega arith);
           first = λ i o. (

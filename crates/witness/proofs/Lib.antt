@@ -4,3 +4,5 @@ pub mod Counts
 pub mod Forks
 pub mod Entries
 pub mod Walks
+pub mod Within
+pub mod Neighbors

@@ -3,3 +3,4 @@ pub mod Witness
 pub mod Walks
 pub mod Standing
 pub mod Searched
+pub mod EndLaws

@@ -2,8 +2,8 @@
 --
 -- A witness for a race of i and j in a log is a list s of other events of that log, by index, each at most
 -- once, such that
--- - program order: whatever precedes an event of s, or i, or j, in program order (threads, forks, joins) is in
---   s, and before it;
+-- - program order: whatever precedes an event of s, or i, or j, in program order (threads, forks, joins) is
+--   in s, and before it;
 -- - legal: the events of s, one after another, are a well-formed log;
 -- - reads: each load in s has in s the same last store before it that it has in the log, or none in both.
 -- So the threads that made the log can make s as well: each has had the same values. After s, i and j are the

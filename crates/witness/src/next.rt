@@ -1,4 +1,4 @@
-//! Whether an event is next after some others: they have all that precedes it in program order, and not itself.
+//! Whether an event is next after some others: they have all that precedes it in program order, and not it.
 ghost use Rattle.std.specs.Prelude.{◌≡◌, ℕ, ◌<◌, ◌^◌, List, Some, IsTrue, slice_get, slice_index};
 ghost use Rattle.event_core.specs.declared.events.Event.{Event as Entry};
 ghost use Rattle.event_core.specs.declared.events.Op.{Op as Operation};

@@ -1,12 +1,12 @@
 //! The search for a witness: the least set of events that a witness needs, if it may have them.
 //!
 //! The set has what precedes both accesses in their threads. With an event it also has its thread's events
-//! before, the fork of its thread, all of the thread that it joins, the store that it reads; and, of two outer
-//! acquires of one lock in the set, the release that ends the earlier one's section. It is kept as a number for
-//! each thread, grown to a fixed point. Where it takes in one of the accesses, or a section that never ends,
-//! there is none; else the set, in the order of the log, is proposed. So sections keep their order: the
-//! search is that of "sync-preserving" races (Mathur, Pavlogiannis and Viswanathan, POPL 2021). Nothing is
-//! promised of it: what it proposes is tested.
+//! before, the fork of its thread, all of the thread that it joins, the store that it reads; and, of two
+//! outer acquires of one lock in the set, the release that ends the earlier one's section. It is kept as a
+//! number for each thread, grown to a fixed point. Where it takes in one of the accesses, or a section that
+//! never ends, there is none; else the set, in the order of the log, is proposed. So sections keep their
+//! order: the search is that of "sync-preserving" races (Mathur, Pavlogiannis and Viswanathan, POPL 2021).
+//! Nothing is promised of it: what it proposes is tested.
 ghost use Rattle.std.specs.Prelude.{◌≤◌, ◌^◌, length};
 
 use crate::marks::{count_of, index_at};

@@ -1,5 +1,6 @@
 //! What is kept of a log, so that each test of a witness takes constant time.
-ghost use Rattle.std.specs.Prelude.{◌≡◌, ◌<◌, ◌≤◌, ◌^◌, length, slice_get, slice_index, slice_index_or, Some, None, IfOk};
+ghost use Rattle.std.specs.Prelude.{◌≡◌, ◌<◌, ◌≤◌, ◌^◌, length, slice_get, slice_index, slice_index_or};
+ghost use Rattle.std.specs.Prelude.{Some, None, IfOk};
 ghost use Rattle.event_core.specs.declared.events.Op.{Op as Operation};
 ghost use Rattle.event_core.specs.declared.ids.VarId.{VarId as Var};
 ghost use Rattle.event_core.specs.declared.bounds.Limits.{Limits as Bounds};

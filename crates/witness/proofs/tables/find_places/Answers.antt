@@ -78,4 +78,5 @@ returns-clause-totals c = λ u.
     let b = c.len-index-end.ensures in
     let end : c.events.index ≡ length log = omega arith in
     c.events.invariant.counts u
-    ∙ ap (λ (n : ℕ). events_of (take n log) u) end ∙ ap (λ (xs : List Event). events_of xs u) (take-length log)
+    ∙ ap (λ (n : ℕ). events_of (take n log) u) end
+    ∙ ap (λ (xs : List Event). events_of xs u) (take-length log)

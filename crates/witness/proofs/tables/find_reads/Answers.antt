@@ -32,7 +32,8 @@ events-preserved c =
           omega (arith, c.events.invariant.long));
       reads = λ n lt u x d.
           ap (λ (xs : List (Option ℕ)). get_or xs n None) pushed
-          ∙ each_more (λ i v. (w : ThreadId) (y : VarId) → Does log i w (Load y) → v ≡ last_store log y (below i))
+          ∙ each_more
+          (λ i v. (w : ThreadId) (y : VarId) → Does log i w (Load y) → v ≡ last_store log y (below i))
           None c.store_before.result
           c.events.reads.items k c.events.invariant.long c.events.invariant.reads
           (λ w y p.

@@ -30,7 +30,9 @@ events-preserved c =
     let more = c.in_ok-admit.ensures.walk t (take i s) walk in
     let test = c.events-test.true in
     record {
-      walk = subst (λ (xs : List ℕ). IsWalk log xs c.admit.new.walk) (sym (take_more s i 0 (omega arith))) more;
+      walk =
+          subst (λ (xs : List ℕ). IsWalk log xs c.admit.new.walk) (sym (take_more s i 0 (omega arith)))
+          more;
       limits = c.admit.ensures.limits ∙ c.events.invariant.limits;
       next = each_place (λ n k. IsNext log (take n s) k) s i c.events.invariant.next next;
       reads =
