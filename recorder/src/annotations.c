@@ -1,4 +1,5 @@
-/* Calls that a program or a compiler may make of the sanitizer's library, and that say nothing of order here. */
+/* Calls that a program or a compiler may make of the sanitizer's library, and that say nothing of order
+ * here. */
 #include "recorder.h"
 
 void __tsan_init(void) {}
@@ -125,7 +126,8 @@ void AnnotateEnableRaceDetection(const char *file, int line, int is_on) {
     (void)line;
     (void)is_on;
 }
-void AnnotateBenignRaceSized(const char *file, int line, const volatile void *at, size_t size, const char *why) {
+void AnnotateBenignRaceSized(const char *file, int line, const volatile void *at, size_t size,
+                             const char *why) {
     (void)file;
     (void)line;
     (void)at;

@@ -37,8 +37,8 @@ static void tell(const char *why) {
     tell_status(status, numbers);
 }
 
-/* Ends the recording and writes the trace, once. Another thread that ends the process waits for it; a fault in
- * the writing itself leaves no trace. */
+/* Ends the recording and writes the trace, once. Another thread that ends the process waits for it; a fault
+ * in the writing itself leaves no trace. */
 void finish(const char *why) {
     int mine = (int)syscall(SYS_gettid);
     int none = 0;
@@ -83,7 +83,8 @@ void abort(void) {
 
 /* Signals that end a process, but for those that no handler gets. */
 static int is_fatal(int number) {
-    static const int others[] = { SIGKILL, SIGSTOP, SIGCHLD, SIGCONT, SIGURG, SIGWINCH, SIGTSTP, SIGTTIN, SIGTTOU };
+    static const int others[] = { SIGKILL, SIGSTOP, SIGCHLD, SIGCONT, SIGURG,
+                                  SIGWINCH, SIGTSTP, SIGTTIN, SIGTTOU };
     for (unsigned i = 0; i < sizeof others / sizeof *others; i++) {
         if (number == others[i]) return 0;
     }
