@@ -1,9 +1,10 @@
 """Paths of happens-before on random legal traces, compared with a search from event to event: whether there
-is one, that each of its steps is in the trace, and that no path has fewer steps."""
+is one, that each of its steps is in the trace, and that no path has fewer steps; where steps are counted up
+to a low number, that longer paths are found all the same."""
 import os
 import random
 
-from explaining.happens_before import LEVELS, orders
+from explaining import happens_before
 from explaining.trace import Trace
 
 TRACES, EVENTS = 200, 70
@@ -99,6 +100,12 @@ def is_path(names, lines, edges, order, first, second):
 
 
 def show(shown):
+    for levels in (3, happens_before.LEVELS):
+        happens_before.LEVELS = levels
+        show_levels(shown, levels)
+
+
+def show_levels(shown, levels):
     choose, path = random.Random(7), os.path.join(shown.room, 'random.txt')
     compared = ordered = several = 0
     for number in range(TRACES):
@@ -111,18 +118,18 @@ def show(shown):
         pairs = [tuple(sorted(choose.sample(accesses, 2))) for _ in range(20)]
         pairs = [(i, j) for i, j in pairs if lines[i - 1][0] != lines[j - 1][0]]
         edges = edges_of(lines)
-        found = orders(trace, [tuple(value for event in pair for value in (
+        found = happens_before.orders(trace, [tuple(value for event in pair for value in (
             event, trace.threads.number(lines[event - 1][0].encode()))) for pair in pairs])
         names = [name.decode() for name in trace.threads.names]
         for (i, j), order in zip(pairs, found):
             wanted = fewest_steps(lines, edges, i).get(j)
             steps = None if order.steps is None else len(order.steps)
-            is_right = wanted == steps or (steps and wanted and min(wanted, steps) >= LEVELS - 1)
+            is_right = wanted == steps or (steps and wanted and min(wanted, steps) >= levels - 1)
             compared += 1
             ordered += steps is not None
             several += (steps or 0) > 1
             if not is_right or steps is not None and not is_path(names, lines, edges, order, i, j):
                 shown.tell(f'the path from event {i} to {j} of random trace {number}', False, (wanted, order))
-    shown.tell('paths of random traces', compared > 2000 and ordered > 300 and several > 100,
+    shown.tell(f'paths of random traces, {levels} levels', compared > 2000 and ordered > 300 and several > 100,
                (compared, ordered, several))
 

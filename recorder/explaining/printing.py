@@ -72,7 +72,9 @@ def about(entry):
 
 
 def print_access(printer, entry, access):
-    held = 'holding ' + ', '.join(f'{lock_text(lock)} ({where(lock["at"])})' for lock in access['locks'])
+    # A writer holds the parts of all threads of a reader-writer lock.
+    locks = dict.fromkeys(f'{lock_text(lock)} ({where(lock["at"])})' for lock in access['locks'])
+    held = 'holding ' + ', '.join(locks)
     operation = 'atomic ' * access['is_atomic'] + access['operation']
     printer.paragraph(f'{operation} by {thread_text(access["thread"])}, event {access["event"]}, '
                       + (held if access['locks'] else 'holding no lock'))

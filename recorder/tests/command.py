@@ -179,6 +179,43 @@ def show_signals(shown, folder):
     shown.tell('a process that is killed', is_so, (done.returncode, done.stderr, left))
 
 
+FILLS = '''#include <pthread.h>
+#include <stdio.h>
+static pthread_mutex_t mutex = PTHREAD_MUTEX_INITIALIZER;
+static long counter;
+static void *work(void *unused)
+{
+    for (int i = 0; i < 2000000; i++) {
+        pthread_mutex_lock(&mutex);
+        counter++;
+        pthread_mutex_unlock(&mutex);
+    }
+    return unused;
+}
+int main(void)
+{
+    pthread_t thread;
+    pthread_create(&thread, NULL, work, NULL);
+    work(NULL);
+    pthread_join(thread, NULL);
+    printf("%ld\\n", counter);
+}
+'''
+
+
+def show_memory(shown, folder):
+    """Where memory is full the program goes on, and a line says that the trace is not whole."""
+    app = build(folder, FILLS, '-fsanitize=thread')[0]
+    limited = ['sh', '-c', 'ulimit -v 400000; exec "$@"', 'sh', *RECORD, '-o', 'full.txt', app]
+    done = run(limited, cwd=folder)
+    told = done.returncode == 125 and 'memory is full' in done.stderr
+    shown.tell('memory is full: it is told', told, (done.returncode, done.stderr))
+    shown.tell('memory is full: the program goes on', done.stdout == '4000000\n', done.stdout)
+    trace = os.path.join(folder, 'full.txt')
+    refused = shown.judge(trace)[0] if os.path.exists(trace) else ''
+    shown.tell('memory is full: no half trace', not refused, refused)
+
+
 def show_files(shown, folder):
     """Pipes, devices, %p, and processes with files of their own."""
     app = build(folder, 'exit_by_exit.c', '-fsanitize=thread')[0]
@@ -248,7 +285,7 @@ def show_links(shown, folder):
 
 
 def show(shown):
-    for part in (show_line, show_refusals, show_signals, show_files, show_links):
+    for part in (show_line, show_refusals, show_signals, show_memory, show_files, show_links):
         begun = time.monotonic()
         part(shown, shown.folder(part.__name__))
         print(f'{part.__name__}: {time.monotonic() - begun:.0f} s', flush=True)
