@@ -4,6 +4,18 @@
 #include <x86intrin.h>
 #include "recorder.h"
 
+/* The time of an access, and the time of an event that orders threads: `rdtscp` waits for what came before
+ * it, so an acquire's time is not before the lock was got. */
+static inline uint64_t clock_soon(void) {
+    if (has_stamp) return __rdtsc() - clock_start;
+    return __atomic_add_fetch(&clock_counter, 1, __ATOMIC_SEQ_CST);
+}
+static inline uint64_t clock_now(void) {
+    unsigned processor;
+    if (has_stamp) return __rdtscp(&processor) - clock_start;
+    return __atomic_add_fetch(&clock_counter, 1, __ATOMIC_SEQ_CST);
+}
+
 /* Takes a place for an event. One instruction, so that a signal's handler takes another place. */
 static inline struct event *take_place(struct thread *thread) {
     uint64_t step = sizeof(struct event);
@@ -45,7 +57,7 @@ static inline void record_access(enum kind kind, uintptr_t address, uint64_t siz
         refill(thread);
         if (!recording) return;
     }
-    uint64_t time = clock_now();
+    uint64_t time = clock_soon();
     if (time < thread->time) time = thread->time;
     thread->time = time;
     fill(take_place(thread), kind, address, size, place, stack, time);

@@ -1,4 +1,5 @@
-/* Calls that a program or a compiler may make of the sanitizer's library, and that say nothing of order here. */
+/* Calls that a program or a compiler may make of the sanitizer's library, and that say nothing of order
+ * here. */
 #include "recorder.h"
 
 void __tsan_init(void) {}

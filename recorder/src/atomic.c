@@ -1,6 +1,6 @@
-/* Atomic operations. An operation and the keeping of its event are one step, under a lock that the addresses of a
- * stripe share: so the times of a variable's events are the order of its operations. A handler of a signal that
- * comes within a step makes its operation without one. */
+/* Atomic operations. An operation and the keeping of its event are one step, under a lock that the addresses
+ * of a stripe share: so the times of a variable's events are the order of its operations. A handler of a
+ * signal that comes within a step makes its operation without one. */
 #include "access.h"
 
 static struct stripe *enter(const volatile void *at) {

@@ -1,5 +1,5 @@
-/* Whose memory an address is. Each 16 bytes know the number of the block that was given out last there, and their
- * cell. Large blocks are kept in a list of ranges that do not overlap. */
+/* Whose memory an address is. Each 16 bytes know the number of the block that was given out last there, and
+ * their cell. Large blocks are kept in a list of ranges that do not overlap. */
 #include <sys/mman.h>
 #include "writer.h"
 

@@ -1,6 +1,6 @@
-/* What is handed over by a descriptor. Each direction of a pipe, of a pair of sockets, of a connection and of other
- * descriptors is a channel. A connection to another process has two channels, of which this process uses one end
- * each, so that it orders nothing here. */
+/* What is handed over by a descriptor. Each direction of a pipe, of a pair of sockets, of a connection and
+ * of other descriptors is a channel. A connection to another process has two channels, of which this process
+ * uses one end each, so that it orders nothing here. */
 #include <netinet/in.h>
 #include <sys/socket.h>
 #include <sys/stat.h>

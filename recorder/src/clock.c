@@ -1,7 +1,7 @@
-/* Time, by which the events of all threads are put in one order. It is the processor's time stamp, which costs no
- * shared memory; where the processor has no invariant one, a counter. Time stamps of two processors may differ,
- * so what orders two threads carries the time as well: each lock, block or atomic variable has a stripe with the
- * latest time of an event on it, and the next event on it is later (a hybrid logical clock). */
+/* Time, by which the events of all threads are put in one order. It is the processor's time stamp, which
+ * costs no shared memory; where the processor has no invariant one, a counter. Time stamps of two processors
+ * may differ, so what orders two threads carries the time as well: each lock, block or atomic variable has a
+ * stripe with the latest time of an event on it, and the next event on it is later (a hybrid logical clock). */
 #include <cpuid.h>
 #include <sched.h>
 #include <x86intrin.h>
@@ -9,26 +9,19 @@
 
 enum { STRIPES = 1 << 12 };
 static struct stripe stripes[STRIPES] __attribute__((aligned(64)));
-static volatile uint64_t counter __attribute__((aligned(64)));
-static uint64_t first;
-static int has_stamp;
+volatile uint64_t clock_counter __attribute__((aligned(64)));
+uint64_t clock_start;
+int has_stamp;
 
 void start_clock(void) {
     unsigned a, b, c, d;
     has_stamp = __get_cpuid(0x80000007, &a, &b, &c, &d) && d & 1 << 8;
-    first = has_stamp ? __rdtsc() - 1 : 0;
+    clock_start = has_stamp ? __rdtsc() - 1 : 0;
 }
 
 /* In the child of a fork: who held a stripe's lock is not there. */
 void again_clock(void) {
     for (int i = 0; i < STRIPES; i++) stripes[i].is_locked = 0;
-}
-
-/* `rdtscp` waits for what came before it: an acquire's time is not before the lock was got. */
-uint64_t clock_now(void) {
-    unsigned processor;
-    if (!has_stamp) return __atomic_add_fetch(&counter, 1, __ATOMIC_SEQ_CST);
-    return __rdtscp(&processor) - first;
 }
 
 struct stripe *stripe_of(uintptr_t address) {

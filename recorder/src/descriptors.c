@@ -1,5 +1,5 @@
-/* Calls that send and receive by a descriptor, and what they load and store. What is sent is signalled before, and
- * who received something waits for it. */
+/* Calls that send and receive by a descriptor, and what they load and store. What is sent is signalled
+ * before, and who received something waits for it. */
 #include <signal.h>
 #include <sys/epoll.h>
 #include <sys/eventfd.h>

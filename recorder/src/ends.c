@@ -37,8 +37,8 @@ static void tell(const char *why) {
     tell_status(status, numbers);
 }
 
-/* Ends the recording and writes the trace, once. Another thread that ends the process waits for it; a fault in
- * the writing itself leaves no trace. */
+/* Ends the recording and writes the trace, once. Another thread that ends the process waits for it; a fault
+ * in the writing itself leaves no trace. */
 void finish(const char *why) {
     int mine = (int)syscall(SYS_gettid);
     int none = 0;

@@ -1,6 +1,6 @@
-/* The files that are written: the trace, what explains it, and a line of summary. They are opened at the start and
- * kept open, at high numbers. The trace is written under a temporary name and named when it is whole; a pipe or
- * a device is written directly. */
+/* The files that are written: the trace, what explains it, and a line of summary. They are opened at the
+ * start and kept open, at high numbers. The trace is written under a temporary name and named when it is
+ * whole; a pipe or a device is written directly. */
 #include <fcntl.h>
 #include <sys/stat.h>
 #include <sys/syscall.h>
@@ -89,8 +89,8 @@ static int is_taken(void) {
     return found;
 }
 
-/* FILE with the process's number for `%p`; without one, and in a child, FILE.PID; where that is taken, FILE.PID.2
- * and so on. */
+/* FILE with the process's number for `%p`; without one, and in a child, FILE.PID; where that is taken,
+ * FILE.PID.2 and so on. */
 static int find_path(const char *name, int is_child) {
     char room[PATH];
     char number[24];

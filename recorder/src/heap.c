@@ -1,5 +1,5 @@
-/* Memory of the heap, of mmap, and by the operators of C++. A block is as long as malloc_usable_size says, since a
- * program may use all of it. To give a block back is a store to it. */
+/* Memory of the heap, of mmap, and by the operators of C++. A block is as long as malloc_usable_size says,
+ * since a program may use all of it. To give a block back is a store to it. */
 #include <malloc.h>
 #include <sys/mman.h>
 #include "recorder.h"
@@ -54,8 +54,8 @@ void *reallocarray(void *old, size_t count, size_t size) {
     return moved(old, all, PLACE);
 }
 
-/* The operators of C++, by the names that its compilers give them. Where there is no memory, the library's own
- * throws. */
+/* The operators of C++, by the names that its compilers give them. Where there is no memory, the library's
+ * own throws. */
 struct nothrow;
 #define NEW(name, parameters, arguments, got)                                                                \
     void *name parameters;                                                                                   \

@@ -1,7 +1,8 @@
 /* Who holds which lock. A hold that its own thread ends by a release is written as a section. One that ends
- * otherwise (another thread unlocks, the lock is initialised or destroyed, the thread ends, another thread gets
- * the lock) is none: its acquire waits for the release before it, and what ended it is a signal to the next. The
- * first time finds which holds these are, so what is written is legal and orders as much as the run did. */
+ * otherwise (another thread unlocks, the lock is initialised or destroyed, the thread ends, another thread
+ * gets the lock) is none: its acquire waits for the release before it, and what ended it is a signal to the
+ * next. The first time finds which holds these are, so what is written is legal and orders as much as the
+ * run did. */
 #include "writer.h"
 
 static unsigned char *improper;

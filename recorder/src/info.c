@@ -1,4 +1,5 @@
-/* What explains a report, written beside the trace: files, threads, stacks and blocks. README.md has the format. */
+/* What explains a report, written beside the trace: files, threads, stacks and blocks. README.md has the
+ * format. */
 #include "writer.h"
 
 static void put_thread(uint32_t number) {

@@ -1,5 +1,5 @@
-/* Names of memory and of places in the program. Nothing here takes memory of the heap or a lock, since a trace may
- * have to be written by the handler of a signal. */
+/* Names of memory and of places in the program. Nothing here takes memory of the heap or a lock, since a
+ * trace may have to be written by the handler of a signal. */
 #include <dlfcn.h>
 #include <elf.h>
 #include <link.h>

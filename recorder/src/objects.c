@@ -1,5 +1,5 @@
-/* What orders threads, by its address and the block that it lies in: so a lock in memory that is given out again
- * is another lock. */
+/* What orders threads, by its address and the block that it lies in: so a lock in memory that is given out
+ * again is another lock. */
 #include "writer.h"
 
 enum { OBJECTS = 1 << 26, CHAINS = 1 << 20 };

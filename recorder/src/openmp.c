@@ -1,5 +1,5 @@
-/* OpenMP of gcc: parallel regions, barriers, the ends of work shares, critical and ordered sections, and locks. What
- * tasks hand over is not seen; a line says so once. */
+/* OpenMP of gcc: parallel regions, barriers, the ends of work shares, critical and ordered sections, and
+ * locks. What tasks hand over is not seen; a line says so once. */
 #include <stdbool.h>
 #include "recorder.h"
 

@@ -1,11 +1,12 @@
-/* Signals and waits. A signal is a section on a lock of its own in which a variable of its own is stored; a wait is
- * such a section that loads it. Only signals that a thread waits for, and did not wait for before, are written. */
+/* Signals and waits. A signal is a section on a lock of its own in which a variable of its own is stored; a
+ * wait is such a section that loads it. Only signals that a thread waits for, and did not wait for before,
+ * are written. */
 #include "writer.h"
 
 uint32_t sync_number;
 static unsigned char *awaited;
-/* Of each thread the latest signal of each other that it waited for; signals that its relaxed loads saw, which a
- * fence waits for, as a list; its latest release fence; the barrier's round that it waits in. */
+/* Of each thread the latest signal of each other that it waited for; signals that its relaxed loads saw,
+ * which a fence waits for, as a list; its latest release fence; the barrier's round that it waits in. */
 static uint32_t waited[THREADS][THREADS];
 struct seen {
     struct signal signals[THREADS];
@@ -138,8 +139,8 @@ static void see_fence(const struct event *event, uint32_t thread) {
 static int acquires(int order) { return order != __ATOMIC_RELAXED && order != __ATOMIC_RELEASE; }
 static int releases(int order) { return order >= __ATOMIC_RELEASE; }
 
-/* A relaxed store publishes what the thread's last release fence did. An update that releases goes on from the
- * signal before it, which it waits for. */
+/* A relaxed store publishes what the thread's last release fence did. An update that releases goes on from
+ * the signal before it, which it waits for. */
 static void see_operation(const struct event *event, uint32_t thread, struct object *object) {
     int order = size_of(event) / ORDERS;
     enum kind kind = kind_of(event);

@@ -1,4 +1,5 @@
-/* Calls that make another process or program of this one, and calls after which the trace could not be named. */
+/* Calls that make another process or program of this one, and calls after which the trace could not be
+ * named. */
 #include <fcntl.h>
 #include <stdarg.h>
 #include "recorder.h"

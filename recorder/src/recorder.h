@@ -1,5 +1,5 @@
-/* What the files of the recorder share: the event as it is kept, the thread that records, and the functions by
- * which each file is used. README.md in the folder above says how they work together. */
+/* What the files of the recorder share: the event as it is kept, the thread that records, and the functions
+ * by which each file is used. README.md in the folder above says how they work together. */
 #ifndef RECORDER_H
 #define RECORDER_H
 #include <errno.h>
@@ -47,9 +47,9 @@ enum kind {
 };
 enum { ORDERS = 32 };
 
-/* An event as it is kept, 24 bytes: address and the lower half of the stack's number, place and the upper half,
- * time, kind and size. `place` is a return address. The last word is stored last, so that an event whose kind
- * is not NOTHING is whole. */
+/* An event as it is kept, 24 bytes: address and the lower half of the stack's number, place and the upper
+ * half, time, kind and size. `place` is a return address. The last word is stored last, so that an event
+ * whose kind is not NOTHING is whole. */
 struct event {
     uint64_t words[3];
 };
@@ -144,8 +144,10 @@ struct stripe {
     volatile int is_locked;
     char unused[64 - sizeof(uint64_t) - sizeof(int)];
 };
+extern volatile uint64_t clock_counter;
+extern uint64_t clock_start;
+extern int has_stamp;
 void start_clock(void);
-uint64_t clock_now(void);
 struct stripe *stripe_of(uintptr_t address);
 void lock_stripe(struct stripe *stripe);
 void unlock_stripe(struct stripe *stripe);

@@ -1,5 +1,5 @@
-/* What one thread signals and another waits for: semaphores, barriers, what is done once, the static variables
- * of C++ functions, and the annotations by which a program tells of locks of its own. */
+/* What one thread signals and another waits for: semaphores, barriers, what is done once, the static
+ * variables of C++ functions, and the annotations by which a program tells of locks of its own. */
 #include <semaphore.h>
 #include <threads.h>
 #include <time.h>

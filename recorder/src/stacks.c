@@ -1,5 +1,5 @@
-/* Numbers of stacks. A stack is its caller's stack with one call more, so all stacks are a tree. Threads add to it
- * without a lock. */
+/* Numbers of stacks. A stack is its caller's stack with one call more, so all stacks are a tree. Threads add
+ * to it without a lock. */
 #include "recorder.h"
 
 enum { STACKS = 1 << 26, CHAINS = 1 << 18 };

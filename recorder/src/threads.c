@@ -6,7 +6,8 @@
 struct thread *threads[THREADS];
 volatile uint32_t thread_count;
 
-/* A function of the C library. The versions of condition variables are named, since the oldest ones come first. */
+/* A function of the C library. The versions of condition variables are named, since the oldest ones come
+ * first. */
 void *find_next(void **found, const char *name) {
     static const char prefix[] = "pthread_cond_";
     size_t same = 0;
@@ -40,7 +41,8 @@ struct thread *new_thread(void) {
 /* Whether the thread is being begun: the calls that this takes are not recorded. */
 static _Thread_local int is_beginning __attribute__((tls_model("initial-exec")));
 
-/* Makes the running thread that one. Its stack is memory of its own; more than 64 MB of it is not told apart. */
+/* Makes the running thread that one. Its stack is memory of its own; more than 64 MB of it is not told
+ * apart. */
 void begin_thread(struct thread *thread) {
     pthread_attr_t attributes;
     void *low;

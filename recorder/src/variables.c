@@ -1,7 +1,7 @@
-/* Accesses. A variable is a run of bytes of a block that no access splits. What one thread alone accessed in the
- * whole run is left out. Where a variable has plain accesses and atomic ones, atomic operations of thread u
- * access a variable of its own, x@u, and a plain access of x by another thread accesses each x@u as well: so a
- * plain and an atomic access may race, and two atomic ones do not. */
+/* Accesses. A variable is a run of bytes of a block that no access splits. What one thread alone accessed in
+ * the whole run is left out. Where a variable has plain accesses and atomic ones, atomic operations of
+ * thread u access a variable of its own, x@u, and a plain access of x by another thread accesses each x@u as
+ * well: so a plain and an atomic access may race, and two atomic ones do not. */
 #include "writer.h"
 
 /* The bytes of a cell from one address up to another, as bits. */

@@ -1,6 +1,6 @@
-/* Functions that the sanitizer's library has too, and of which the C library has more than one version. A program that
- * was linked with the sanitizer's asks for them without a version. Without these it would get the oldest, which
- * differs. */
+/* Functions that the sanitizer's library has too, and of which the C library has more than one version. A
+ * program that was linked with the sanitizer's asks for them without a version. Without these it would get
+ * the oldest, which differs. */
 #include <glob.h>
 #include <sched.h>
 #include <spawn.h>

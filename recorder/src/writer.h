@@ -1,7 +1,7 @@
-/* What the files share that work after the run. They go through the events twice, in the order of time. The first
- * time they find whose memory each address is, where accesses cut it into variables, which signals somebody waits
- * for, and which holds of locks end as they should. The second time they write. Both times they do the same in
- * the same order, so that numbers are the same. */
+/* What the files share that work after the run. They go through the events twice, in the order of time. The
+ * first time they find whose memory each address is, where accesses cut it into variables, which signals
+ * somebody waits for, and which holds of locks end as they should. The second time they write. Both times
+ * they do the same in the same order, so that numbers are the same. */
 #ifndef WRITER_H
 #define WRITER_H
 #include "recorder.h"
@@ -15,9 +15,9 @@ struct block {
     uint8_t is_named;
 };
 
-/* Sixteen bytes of a block: at which bytes accesses begin, or end before (bit 16 is the end of the sixteen), which
- * bytes were accessed plainly and which by atomic operations, and of each byte by whom: the thread's number and 1,
- * or SHARED. `users` are threads with atomic operations. */
+/* Sixteen bytes of a block: at which bytes accesses begin, or end before (bit 16 is the end of the sixteen),
+ * which bytes were accessed plainly and which by atomic operations, and of each byte by whom: the thread's
+ * number and 1, or SHARED. `users` are threads with atomic operations. */
 struct cell {
     uint32_t block, users, cuts;
     uint16_t plain, atomic, named;
