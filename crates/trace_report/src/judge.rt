@@ -56,7 +56,7 @@ impl Judge for Memory {
     fn judge(&mut self, event: &Event) -> Result<(), Refusal> {
         let call = call_for(event);
         self.permit(&call)?;
-        if !self.ready(call.thread, call.op) && self.prepare(call.thread, call.op).is_err() {
+        if !self.ready(&call) && self.prepare(&call).is_err() {
             return Err(Refusal::OutOfMemory);
         }
         self.apply(&call);
