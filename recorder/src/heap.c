@@ -1,6 +1,7 @@
 /* Memory of the heap, of mmap, and by the operators of C++. A block is as long as malloc_usable_size says,
  * since a program may use all of it. To give a block back is a store to it. */
 #include <malloc.h>
+#include <stdarg.h>
 #include <sys/mman.h>
 #include "recorder.h"
 
@@ -120,4 +121,12 @@ void *mmap64(void *at, size_t size, int protection, int flags, int file, off64_t
 int munmap(void *at, size_t size) {
     unmap();
     return REAL(munmap)(at, size);
+}
+void *mremap(void *old, size_t old_size, size_t size, int flags, ...) {
+    va_list rest;
+    va_start(rest, flags);
+    void *to = flags & MREMAP_FIXED ? va_arg(rest, void *) : NULL;
+    va_end(rest);
+    unmap();
+    return mapped(REAL(mremap)(old, old_size, size, flags, to), size, PLACE);
 }
