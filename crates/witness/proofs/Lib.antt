@@ -6,3 +6,6 @@ pub mod Entries
 pub mod Walks
 pub mod Within
 pub mod Neighbors
+pub mod Weights
+pub mod Ends
+pub mod Shown

@@ -1,6 +1,6 @@
 //! What a race at the end of a log is to each relation. A law's function does nothing, and its clause is the
 //! law.
-ghost use Rattle.witness.specs.EndLaws.{StrictIsWithinHb, NeighborsRace};
+ghost use Rattle.witness.specs.EndLaws.{StrictIsWithinHb, NeighborsRace, ShowsRace};
 
 /// In a well-formed log, what strictly precedes an event happens before it.
 pub fn strict_is_within_hb()
@@ -11,4 +11,11 @@ pub fn strict_is_within_hb()
 /// they race, and the verdict on the later one names the earlier one.
 pub fn neighbors_race()
     ensures { NeighborsRace }
+{}
+
+/// The events of a witness, followed by the two accesses in either order, a load with the value that it then
+/// reads, are a well-formed log. In it the accesses race by happens-before, and so by weak causal precedence,
+/// and the verdict on the last event names the one before.
+pub fn shows_race()
+    ensures { ShowsRace }
 {}
