@@ -4,7 +4,8 @@
 #define ACCESS(prefix, size)                                                                                 \
     void __tsan_##prefix##read##size(void *at) { record_access(READ, (uintptr_t)at, size, PLACE); }          \
     void __tsan_##prefix##write##size(void *at) { record_access(WRITE, (uintptr_t)at, size, PLACE); }
-#define SIZES(prefix) ACCESS(prefix, 1) ACCESS(prefix, 2) ACCESS(prefix, 4) ACCESS(prefix, 8) ACCESS(prefix, 16)
+#define SIZES(prefix)                                                                                        \
+    ACCESS(prefix, 1) ACCESS(prefix, 2) ACCESS(prefix, 4) ACCESS(prefix, 8) ACCESS(prefix, 16)
 SIZES()
 SIZES(unaligned_)
 SIZES(volatile_)

@@ -126,7 +126,8 @@ void AnnotateEnableRaceDetection(const char *file, int line, int is_on) {
     (void)line;
     (void)is_on;
 }
-void AnnotateBenignRaceSized(const char *file, int line, const volatile void *at, size_t size, const char *why) {
+void AnnotateBenignRaceSized(const char *file, int line, const volatile void *at, size_t size,
+                             const char *why) {
     (void)file;
     (void)line;
     (void)at;

@@ -19,6 +19,8 @@ static void leave(struct stripe *stripe, enum kind kind, const volatile void *at
     is_in_step = 0;
 }
 
+#define exchanged(at, wanted, value)                                                                         \
+    __atomic_compare_exchange_n(at, wanted, value, 0, __ATOMIC_SEQ_CST, __ATOMIC_SEQ_CST)
 #define LOADED(type, bits)                                                                                   \
     type __tsan_atomic##bits##_load(const volatile type *at, int order) {                                    \
         struct stripe *stripe = enter(at);                                                                   \
@@ -42,7 +44,7 @@ static void leave(struct stripe *stripe, enum kind kind, const volatile void *at
 #define COMPARED(type, bits, name)                                                                           \
     int __tsan_atomic##bits##_##name(volatile type *at, type *wanted, type value, int order, int failure) {  \
         struct stripe *stripe = enter(at);                                                                   \
-        int is_done = __atomic_compare_exchange_n(at, wanted, value, 0, __ATOMIC_SEQ_CST, __ATOMIC_SEQ_CST); \
+        int is_done = exchanged(at, wanted, value);                                                          \
         leave(stripe, is_done ? UPDATE : LOAD, at, sizeof value, is_done ? order : failure, PLACE);          \
         return is_done;                                                                                      \
     }
@@ -50,7 +52,7 @@ static void leave(struct stripe *stripe, enum kind kind, const volatile void *at
     type __tsan_atomic##bits##_compare_exchange_val(volatile type *at, type wanted, type value, int order,   \
                                                     int failure) {                                           \
         struct stripe *stripe = enter(at);                                                                   \
-        int is_done = __atomic_compare_exchange_n(at, &wanted, value, 0, __ATOMIC_SEQ_CST, __ATOMIC_SEQ_CST); \
+        int is_done = exchanged(at, &wanted, value);                                                         \
         leave(stripe, is_done ? UPDATE : LOAD, at, sizeof value, is_done ? order : failure, PLACE);          \
         return wanted;                                                                                       \
     }

@@ -22,7 +22,7 @@ static struct user *users;
 static uint32_t cell_count, user_count;
 static struct range *ranges;
 static uint32_t range_count;
-/* Of pages that lie in one range, or in none, the block of the range: a page's number and 1, and the block. */
+/* Of a page that lies in one range, or in none, its number and 1, and the range's block. */
 enum { PAGE = 1 << 12, PAGES = 1 << 10 };
 static struct page {
     uint64_t number;

@@ -51,7 +51,8 @@ static uint64_t mix_address(uint64_t key, const struct sockaddr_storage *address
     }
     if (address->ss_family == AF_INET6) {
         int is_four = IN6_IS_ADDR_V4MAPPED(&six->sin6_addr);
-        key = is_four ? mix(key, six->sin6_addr.s6_addr + 12, 4) : mix(key, &six->sin6_addr, sizeof six->sin6_addr);
+        const unsigned char *bytes = six->sin6_addr.s6_addr;
+        key = is_four ? mix(key, bytes + 12, 4) : mix(key, bytes, 16);
         return mix(key, &six->sin6_port, sizeof six->sin6_port);
     }
     return mix(key, address, length);

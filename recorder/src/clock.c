@@ -1,7 +1,8 @@
 /* Time, by which the events of all threads are put in one order. It is the processor's time stamp, which
  * costs no shared memory; where the processor has no invariant one, a counter. Time stamps of two processors
  * may differ, so what orders two threads carries the time as well: each lock, block or atomic variable has a
- * stripe with the latest time of an event on it, and the next event on it is later (a hybrid logical clock). */
+ * stripe with the latest time of an event on it, and the next event on it is later: a hybrid logical
+ * clock. */
 #include <cpuid.h>
 #include <sched.h>
 #include <x86intrin.h>

@@ -61,7 +61,8 @@ ssize_t send(int file, const void *at, size_t size, int flags) {
     sends(file, PLACE);
     return REAL(send)(file, at, size, flags);
 }
-ssize_t sendto(int file, const void *at, size_t size, int flags, const struct sockaddr *to, socklen_t length) {
+ssize_t sendto(int file, const void *at, size_t size, int flags, const struct sockaddr *to,
+               socklen_t length) {
     loads(at, size, PLACE);
     sends(file, PLACE);
     return REAL(sendto)(file, at, size, flags, to, length);

@@ -83,7 +83,8 @@ void abort(void) {
 
 /* Signals that end a process, but for those that no handler gets. */
 static int is_fatal(int number) {
-    static const int others[] = { SIGKILL, SIGSTOP, SIGCHLD, SIGCONT, SIGURG, SIGWINCH, SIGTSTP, SIGTTIN, SIGTTOU };
+    static const int others[] = { SIGKILL, SIGSTOP, SIGCHLD, SIGCONT, SIGURG,
+                                  SIGWINCH, SIGTSTP, SIGTTIN, SIGTTOU };
     for (unsigned i = 0; i < sizeof others / sizeof *others; i++) {
         if (number == others[i]) return 0;
     }

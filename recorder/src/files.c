@@ -182,5 +182,6 @@ void tell_status(const char *status, const uint64_t *numbers) {
     char words[PATH + 512];
     int length = snprintf(words, sizeof words, "%d\t%s\t%lu\t%lu\t%lu\t%lu\t%lu\t%s\n", (int)getpid(), status,
                           numbers[0], numbers[1], numbers[2], numbers[3], numbers[4], path);
-    if (summary >= 0 && write(summary, words, (size_t)length) < 0) complain("the summary could not be written");
+    if (summary < 0) return;
+    if (write(summary, words, (size_t)length) < 0) complain("the summary could not be written");
 }

@@ -32,11 +32,13 @@ GIVES(FRESH, pthread_mutex_destroy, (pthread_mutex_t *at))
 TAKES(READ_LOCK, pthread_rwlock_rdlock, (pthread_rwlock_t *at), (at))
 TAKES(READ_LOCK, pthread_rwlock_tryrdlock, (pthread_rwlock_t *at), (at))
 TAKES(READ_LOCK, pthread_rwlock_timedrdlock, (pthread_rwlock_t *at, TIME), (at, until))
-TAKES(READ_LOCK, pthread_rwlock_clockrdlock, (pthread_rwlock_t *at, clockid_t clock, TIME), (at, clock, until))
+TAKES(READ_LOCK, pthread_rwlock_clockrdlock, (pthread_rwlock_t *at, clockid_t clock, TIME),
+      (at, clock, until))
 TAKES(WRITE_LOCK, pthread_rwlock_wrlock, (pthread_rwlock_t *at), (at))
 TAKES(WRITE_LOCK, pthread_rwlock_trywrlock, (pthread_rwlock_t *at), (at))
 TAKES(WRITE_LOCK, pthread_rwlock_timedwrlock, (pthread_rwlock_t *at, TIME), (at, until))
-TAKES(WRITE_LOCK, pthread_rwlock_clockwrlock, (pthread_rwlock_t *at, clockid_t clock, TIME), (at, clock, until))
+TAKES(WRITE_LOCK, pthread_rwlock_clockwrlock, (pthread_rwlock_t *at, clockid_t clock, TIME),
+      (at, clock, until))
 GIVES(READ_WRITE_UNLOCK, pthread_rwlock_unlock, (pthread_rwlock_t *at))
 GIVES(FRESH, pthread_rwlock_destroy, (pthread_rwlock_t *at))
 

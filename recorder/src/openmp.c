@@ -80,7 +80,8 @@ PARALLEL_LOOP_LATER(GOMP_parallel_loop_maybe_nonmonotonic_runtime)
 
 /* A barrier of the region's threads. Outside of a region a thread waits for nobody. */
 static void arrive(uintptr_t place) {
-    if (region) record_sync(ARRIVE, (uintptr_t)&region->barrier, (uint64_t)REAL(omp_get_num_threads)(), place);
+    if (!region) return;
+    record_sync(ARRIVE, (uintptr_t)&region->barrier, (uint64_t)REAL(omp_get_num_threads)(), place);
 }
 static void leave(uintptr_t place) {
     if (region) record_sync(LEAVE, (uintptr_t)&region->barrier, 0, place);

@@ -13,7 +13,7 @@ static void *work(void *block)
 int main(void)
 {
     pthread_t thread;
-    int *block = malloc(sizeof *block);
+    int *volatile block = malloc(sizeof *block);
     pthread_create(&thread, NULL, work, block);
     usleep(50000);
     block = realloc(block, 1 << 20);

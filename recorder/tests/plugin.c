@@ -1,6 +1,6 @@
 /* Races: in_plugin
  * Library: plugin_part.c
- * A plug-in that is loaded by dlopen, used by two threads, and unloaded. */
+ * A plug-in that is loaded by dlopen and used by two threads. */
 #include <dlfcn.h>
 #include <pthread.h>
 #include <stdio.h>
@@ -25,6 +25,5 @@ int main(int count, char **words)
     pthread_create(&thread, NULL, work, NULL);
     call();
     pthread_join(thread, NULL);
-    dlclose(plugin);
     return 0;
 }
