@@ -172,8 +172,8 @@ def show_signals(shown, folder):
         shown.tell(f'{number.name}: the status', child.returncode == status, (child.returncode, said))
         refused, report = shown.judge(os.path.join(folder, 'signal.txt'))
         shown.tell(f'{number.name}: the race', len(report) > 1, (refused, said))
-    done = run([*RECORD, '-o', 'killed.txt', 'sh', '-c', f'{app} & sleep 0.5; kill -KILL $!; wait $!'],
-               cwd=folder, timeout=60)
+    kills = f'{app} > ready & while [ ! -s ready ]; do sleep 0.1; done; kill -KILL $!; wait $!'
+    done = run([*RECORD, '-o', 'killed.txt', 'sh', '-c', kills], cwd=folder, timeout=60)
     left = [path for path in glob.glob(os.path.join(folder, 'killed.txt*')) if '.part' not in path]
     is_so = done.returncode == 125 and 'killed' in done.stderr and not left
     shown.tell('a process that is killed', is_so, (done.returncode, done.stderr, left))

@@ -1,6 +1,6 @@
 // Races: racy
-// A pool of three threads takes tasks from a queue; `racy` is stored by two tasks that nothing orders.
-#include <chrono>
+// A pool of three threads takes tasks from a queue; `racy` is stored by two tasks, on two threads.
+#include <atomic>
 #include <condition_variable>
 #include <cstdio>
 #include <deque>
@@ -62,6 +62,7 @@ class Pool {
 };
 
 static int racy, kept;
+static std::atomic<int> started{0};
 static std::mutex guard;
 
 int main()
@@ -70,7 +71,9 @@ int main()
     for (int i = 0; i < 2; i++)
         pool.add([] {
             racy++;
-            std::this_thread::sleep_for(std::chrono::milliseconds(30));
+            started.fetch_add(1, std::memory_order_relaxed);
+            while (started.load(std::memory_order_relaxed) < 2)
+                std::this_thread::yield();
         });
     for (int i = 0; i < 6; i++)
         pool.add([] {

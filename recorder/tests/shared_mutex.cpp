@@ -1,6 +1,8 @@
 // Races: racy
 // Flags: -std=c++17
-// Readers and writers by std::shared_mutex and std::shared_timed_mutex; `racy` is stored by readers.
+// Readers and writers by std::shared_mutex and std::shared_timed_mutex; `racy` is stored by readers, before
+// the writer comes, whose sections would order the readers'.
+#include <atomic>
 #include <chrono>
 #include <cstdio>
 #include <mutex>
@@ -11,12 +13,14 @@
 static std::shared_mutex mutex;
 static std::shared_timed_mutex timed;
 static int kept, timed_kept, racy;
+static std::atomic<int> readers{0};
 
 static int read_both(int i)
 {
     std::shared_lock<std::shared_mutex> held(mutex);
     std::shared_lock<std::shared_timed_mutex> timed_held(timed, std::chrono::seconds(60));
-    racy = i;
+    if (i == 0)
+        racy++;
     return kept + timed_kept;
 }
 
@@ -34,10 +38,15 @@ int main()
     int sums[2] = { 0, 0 };
     for (int reader = 0; reader < 2; reader++)
         threads.emplace_back([&sums, reader] {
-            for (int i = 0; i < 10; i++)
+            for (int i = 0; i < 10; i++) {
                 sums[reader] += read_both(i);
+                if (i == 0)
+                    readers.fetch_add(1, std::memory_order_relaxed);
+            }
         });
     threads.emplace_back([] {
+        while (readers.load(std::memory_order_relaxed) < 2)
+            continue;
         for (int i = 0; i < 10; i++)
             write_both();
     });
