@@ -1,7 +1,7 @@
 /* Memory of the heap, of mmap, and by the operators of C++. A block is as long as malloc_usable_size says,
  * since a program may use all of it. To give a block back is a store to it. */
-#include <stdarg.h>
 #include <malloc.h>
+#include <stdarg.h>
 #include <sys/mman.h>
 #include "recorder.h"
 
@@ -122,12 +122,11 @@ int munmap(void *at, size_t size) {
     unmap();
     return REAL(munmap)(at, size);
 }
-/* Memory that grows or moves has a new name, as what is given out again has. */
-void *mremap(void *at, size_t size, size_t new_size, int flags, ...) {
-    va_list more;
-    va_start(more, flags);
-    void *to = flags & MREMAP_FIXED ? va_arg(more, void *) : NULL;
-    va_end(more);
+void *mremap(void *old, size_t old_size, size_t size, int flags, ...) {
+    va_list rest;
+    va_start(rest, flags);
+    void *to = flags & MREMAP_FIXED ? va_arg(rest, void *) : NULL;
+    va_end(rest);
     unmap();
-    return mapped(REAL(mremap)(at, size, new_size, flags, to), new_size, PLACE);
+    return mapped(REAL(mremap)(old, old_size, size, flags, to), size, PLACE);
 }
