@@ -130,6 +130,6 @@ def show_levels(shown, levels):
             several += (steps or 0) > 1
             if not is_right or steps is not None and not is_path(names, lines, edges, order, i, j):
                 shown.tell(f'the path from event {i} to {j} of random trace {number}', False, (wanted, order))
-    shown.tell(f'paths of random traces, {levels} levels', compared > 2000 and ordered > 300 and several > 100,
-               (compared, ordered, several))
+    shown.tell(f'paths of random traces, {levels} levels',
+               compared > 2000 and ordered > 300 and several > 100, (compared, ordered, several))
 
