@@ -3,7 +3,8 @@ use Rattle.std.proofs.Common.{◌≡◌, ℕ, List, Option, Bool, true, Result, 
 use Rattle.std.specs.Prelude.{IsErrAnd}
 use Rattle.event_core.specs.declared.bounds.Limits.{Limits}
 use Rattle.trace_report.specs.declared.faults.ReplayFault.{ReplayFault}
-use Rattle.trace_report.specs.declared.faults.ReplayFault.TheVariants.{Found, Write}
+use Rattle.trace_report.specs.declared.faults.ReplayFault.TheVariants.{Text, Refused, Write}
+use Rattle.trace_report.specs.declared.faults.TraceFault.TheVariants as found
 use Rattle.trace_report.specs.Judging.{HasRead, IsTruncatedAt}
 use Rattle.wcp_tool.specs.Endings.{is_unread}
 use Rattle.wcp_tool.specs.Running.{TruncatesTrace}
@@ -13,9 +14,10 @@ pub trace_cut : {A : Type 0} (m n : Limits) (left rest : Option (List ℕ)) (fai
     (answer : Result A ReplayFault) → m ≡ n → HasRead m left rest 17592186044416 failed answer
     → IsErrAnd answer (λ f. is_unread f ≡ true) → TruncatesTrace n left rest failed
 trace_cut m n left rest failed (Ok a) same reads unread = absurd unread
-trace_cut m n left rest failed (Err (Found f)) same reads unread = record {
-  fault = f;
-  is = subst (λ (l : Limits). IsTruncatedAt l left rest 17592186044416 failed f) same
+trace_cut m n left rest failed (Err (Text f)) same reads unread = record {
+  fault = found.Text f;
+  is = subst (λ (l : Limits). IsTruncatedAt l left rest 17592186044416 failed (found.Text f)) same
       (reads.truncated unread);
 }
+trace_cut m n left rest failed (Err (Refused line r)) same reads unread = absurd (cc)
 trace_cut m n left rest failed (Err Write) same reads unread = absurd (cc)

@@ -8,9 +8,8 @@ use Rattle.trace_report.specs.declared.counts.Counts.{Counts}
 use Rattle.wcp_tool.specs.declared.endings.Ending.{Ending}
 use Rattle.trace_report.specs.declared.faults.ReplayFault.{ReplayFault}
 use Rattle.trace_report.specs.declared.faults.ReplayFault.TheVariants as faults
-use Rattle.trace_report.specs.declared.faults.TraceFault.TheVariants as found
 use Rattle.trace_report.specs.declared.summary.Summary.{Summary}
-use Rattle.trace_report.specs.Judging.{is_read_fault}
+use Rattle.trace_report.specs.Judging.{is_read}
 use Rattle.wcp_tool.specs.declared.endings.Ending.TheVariants.{Done, Races, WrongUsage, Refused, ReadFault}
 use Rattle.wcp_tool.specs.declared.endings.Ending.TheVariants.{WriteFault, OutOfMemory, BrokenScript}
 
@@ -48,13 +47,13 @@ refusal_ending _ = Refused
 
 -- the text was not read to its end
 abbrev pub is_unread : ReplayFault → Bool
-is_unread (faults.Found f) = is_read_fault f
-is_unread faults.Write = false
+is_unread (faults.Text f) = is_read f.cause
+is_unread _ = false
 
 -- how a check or a replay with this fault ends
 abbrev pub fault_ending : ReplayFault → Ending
-fault_ending (faults.Found (found.Text f)) = cause_ending f.cause
-fault_ending (faults.Found (found.Refused line r)) = refusal_ending r
+fault_ending (faults.Text f) = cause_ending f.cause
+fault_ending (faults.Refused line r) = refusal_ending r
 fault_ending faults.Write = WriteFault
 
 -- how a check with this answer ends

@@ -5,7 +5,7 @@ ghost use Rattle.wcp_tool.specs.Endings.{is_unread, summary_ending as for_summar
 
 use event_core::Refusal;
 use rapid_text::{Cause, Output, write_all};
-use trace_report::{Counts, ReplayFault, Summary, TraceFault};
+use trace_report::{Counts, ReplayFault, Summary};
 
 /// How the program ends.
 #[derive(Clone, Copy)]
@@ -74,12 +74,12 @@ fn fault_ending(fault: ReplayFault) -> Ending
     ensures unread { result ≡ Ending.ReadFault → is_unread fault ≡ true }
 {
     match fault {
-        ReplayFault::Found(TraceFault::Text(fault)) => match fault.cause {
+        ReplayFault::Text(fault) => match fault.cause {
             Cause::Read => Ending::ReadFault,
             Cause::OutOfMemory => Ending::OutOfMemory,
             Cause::Line(_) | Cause::TooManyNames(_) | Cause::Failed => Ending::Refused,
         },
-        ReplayFault::Found(TraceFault::Refused { refusal, .. }) => {
+        ReplayFault::Refused { refusal, .. } => {
             if refusal == Refusal::OutOfMemory {
                 Ending::OutOfMemory
             } else {

@@ -2,11 +2,10 @@
 ghost use Rattle.std.specs.Prelude.{◌≡◌, ◌≢◌, ◌⊎◌, ℕ, List, ◌≤◌, Option, IfErr, IfSome, true, false, length};
 ghost use Rattle.std.specs.Prelude.{map};
 ghost use Rattle.clap.specs.Words.{Text};
-ghost use Rattle.wcp_tool.specs.Endings.{HasEnded, is_write_fault, status_of};
+ghost use Rattle.wcp_tool.specs.Endings.{is_write_fault};
 ghost use Rattle.wcp_tool.specs.CommandLine.{request_of};
 ghost use Rattle.wcp_tool.specs.Running.{Checks, Replays, Performs, IsTruncated, IsHindered, Runs};
-ghost use Rattle.wcp_tool.specs.Running.{EndsAs, LeavesInput, limits_with, reads_trace};
-ghost use Rattle.event_core.specs.declared.bounds.Roots.TheVariants.{Free};
+ghost use Rattle.wcp_tool.specs.Running.{EndsAs, IsUnhindered, LeavesInput, reads_trace};
 
 use crate::bounds::{TURNS, limits_of};
 use crate::command_line::settings;
@@ -26,46 +25,43 @@ use trace_report::{check, replay};
 
 /// Does what the settings ask for.
 #[tactic(auto, using(crate::proofs::TraceReads::trace_cut))]
-fn run<R: AllocGlobal + ScriptFiles + Threads + Wait + Sync, I: Input, O: Output>(
+fn run<R: AllocGlobal + ScriptFiles + Threads + Wait + Sync, I: Input, O: Output, E: Output>(
     rt: &R,
-    settings: Settings,
+    settings: &Settings,
     reader: &mut I,
     writer: &mut O,
-) -> Ending
-    requires threads { (1 ≤ settings.threads) × (settings.threads ≤ 1024) }
-    requires patience { 1 ≤ settings.patience }
+    errors: &mut E,
+) -> u8
+    requires threads { (1 ≤ settings.now.threads) × (settings.now.threads ≤ 1024) }
+    requires patience { (1 ≤ settings.now.patience) × (settings.now.patience ≤ 4294967295) }
     requires reads { I.failed reader.old ≡ false }
     requires writes { O.failed writer.old ≡ false }
-    ensures performs { result ≢ Ending.ReadFault → result ≢ Ending.WriteFault → result ≢ Ending.OutOfMemory
-        → Performs (R.open_gives rt.now) R.Script.left (request_of settings.command) settings.threads
-        (I.left reader.old) (O.written writer.old) (O.written writer.new) (status_of result) }
-    ensures ends { HasEnded (writer.new ≡ writer.old) (O.failed writer.new) result }
-    ensures truncated { result ≡ Ending.ReadFault
-        → IsTruncated (R.open_gives rt.now) R.Script.left R.Script.failed
-        (request_of settings.command) settings.threads (I.left reader.old) (I.left reader.new)
-        (I.failed reader.new) }
-    ensures untouched { reads_trace (request_of settings.command) ≡ false → reader.new ≡ reader.old }
-    ensures read { (result ≡ Ending.Done) ⊎ (result ≡ Ending.Races) → I.failed reader.new ≡ false }
+    ensures performs { IsUnhindered result → Performs (R.open_gives rt.now) R.Script.left
+        (request_of settings.now.command) settings.now.threads
+        (I.left reader.old) (O.written writer.old) (O.written writer.new) result }
+    ensures range { result ≤ 6 }
+    ensures usage { result ≢ 2 }
+    ensures quiet { result ≡ 5 → writer.new ≡ writer.old }
+    ensures devices { result ≡ 4 → (O.failed writer.new ≡ true)
+        ⊎ ((writer.new ≡ writer.old) × IsTruncated (R.open_gives rt.now) R.Script.left R.Script.failed
+        (request_of settings.now.command) settings.now.threads (I.left reader.old) (I.left reader.new)
+        (I.failed reader.new)) }
+    ensures written { result ≢ 4 → O.failed writer.new ≡ false }
+    ensures untouched { reads_trace (request_of settings.now.command) ≡ false → reader.new ≡ reader.old }
+    ensures read { (result ≡ 0) ⊎ (result ≡ 1) → I.failed reader.new ≡ false }
 {
-    let Settings {
-        command,
-        threads,
-        patience,
-    } = settings;
-    match command {
+    match &settings.command {
         Command::Check => {
-            let limits = limits_of(threads, Roots::Free);
-            ending_of_check(check(rt.alloc(), reader, writer, limits, TURNS))
+            let limits = limits_of(settings.threads, Roots::Free);
+            let ending = ending_of_check(check(rt.alloc(), reader, writer, limits, TURNS));
+            finish(ending, errors)
         }
         Command::Replay => {
-            let limits = limits_of(threads, Roots::Free);
-            ending_of_replay(replay(rt.alloc(), reader, writer, limits, TURNS))
+            let limits = limits_of(settings.threads, Roots::Free);
+            let ending = ending_of_replay(replay(rt.alloc(), reader, writer, limits, TURNS));
+            finish(ending, errors)
         }
-        Command::Run(path) => {
-            let ending = run_file(rt, path.as_str(), writer, threads, patience);
-            drop(path);
-            ending
-        }
+        Command::Run(path) => run_file(rt, path.as_str(), writer, errors, settings),
     }
 }
 
@@ -132,8 +128,9 @@ pub fn tool<
 {
     match settings(rt.alloc(), words) {
         Ok(settings) => {
-            let ending = run(rt, settings, reader, writer);
-            finish(ending, errors)
+            let status = run(rt, &settings, reader, writer, errors);
+            drop(settings);
+            status
         }
         Err(fault) => {
             let ending = explain(fault, writer, errors);

@@ -5,7 +5,7 @@ ghost use Rattle.rapid_text.specs.Faults.{fault_line};
 ghost use Rattle.script_text.specs.declared.causes.ScriptFault.{ScriptFault as Why};
 ghost use Rattle.script_text.specs.Scripts.{script_of, IsScript};
 ghost use Rattle.wcp_tool.specs.Endings.{HasEnded, is_write_fault, status_of};
-ghost use Rattle.wcp_tool.specs.Running.{TruncatesFile, TruncatesScript, PerformsFile};
+ghost use Rattle.wcp_tool.specs.Running.{IsUnhindered, TruncatesFile, TruncatesScript, PerformsFile};
 ghost use Rattle.wcp_tool.specs.Running.{PerformsRun, limits_with};
 ghost use Rattle.trace_report.specs.Reports.{AreNamed};
 ghost use Rattle.wcp_tool.specs.ScriptRuns.{BreaksText, Ran, RefusesText, ReportsLog, RunsText};
@@ -216,28 +216,32 @@ pub fn run_script<R: AllocGlobal + Threads + Wait + Sync, I: Input, O: Output, E
     finish(ending, errors)
 }
 
-/// The command `run` over the path of the script.
-pub(crate) fn run_file<R: AllocGlobal + ScriptFiles + Threads + Wait + Sync, O: Output>(
+/// The command `run` over the path of the script, which is opened and then run.
+pub(crate) fn run_file<R: AllocGlobal + ScriptFiles + Threads + Wait + Sync, O: Output, E: Output>(
     rt: &R,
     path: &str,
     writer: &mut O,
-    threads: u32,
-    patience: u32,
-) -> Ending
-    requires threads { (1 ≤ threads) × (threads ≤ 1024) }
-    requires patience { 1 ≤ patience }
+    errors: &mut E,
+    settings: &Settings,
+) -> u8
+    requires threads { (1 ≤ settings.now.threads) × (settings.now.threads ≤ 1024) }
+    requires patience { (1 ≤ settings.now.patience) × (settings.now.patience ≤ 4294967295) }
     requires writes { O.failed writer.old ≡ false }
-    ensures performs { result ≢ Ending.ReadFault → PerformsFile (R.open_gives rt.now path.now) R.Script.left
-        (limits_with threads OnlyMain) (O.written writer.old) (O.written writer.new) (status_of result) }
-    ensures truncated { result ≡ Ending.ReadFault → R.open_gives rt.now path.now None
+    ensures performs { IsUnhindered result → PerformsFile (R.open_gives rt.now path.now) R.Script.left
+        (limits_with settings.now.threads OnlyMain) (O.written writer.old) (O.written writer.new) result }
+    ensures range { result ≤ 6 }
+    ensures usage { result ≢ 2 }
+    ensures quiet { result ≡ 5 → writer.new ≡ writer.old }
+    ensures devices { result ≡ 4 → (O.failed writer.new ≡ true)
+        ⊎ ((writer.new ≡ writer.old) × (R.open_gives rt.now path.now None
         ⊎ TruncatesFile (R.open_gives rt.now path.now) R.Script.left R.Script.failed
-        (limits_with threads OnlyMain) }
-    ensures ends { HasEnded (writer.new ≡ writer.old) (O.failed writer.new) result }
+        (limits_with settings.now.threads OnlyMain))) }
+    ensures written { result ≢ 4 → O.failed writer.new ≡ false }
 {
     let Some(mut script) = rt.open_script(path) else {
-        return Ending::ReadFault;
+        return finish(Ending::ReadFault, errors);
     };
-    let ending = run_text(rt, &mut script, writer, threads, patience);
+    let status = run_script(rt, &mut script, writer, errors, settings);
     drop(script);
-    ending
+    status
 }
