@@ -5,6 +5,7 @@ use crate::marks::count_of;
 use crate::tables::Tables;
 use event_core::{LockId, Log, Op, OutOfMemory, ThreadId, grow_to};
 use std::alloc::Global;
+use std::mem::size_of;
 
 /// Whether an event opens a section, and which release ends it.
 #[derive(Clone, Copy)]
@@ -16,6 +17,11 @@ pub enum Section {
     /// It is an outer acquire, and this release ends its section.
     Ends(u32),
 }
+
+// An event takes so many bytes for its section, and as many for the store that it reads.
+const _: () = prove!(size_of::<Section>() == 8);
+
+const _: () = prove!(size_of::<Option<u32>>() == 8);
 
 /// The events of each thread, and the ends of sections.
 #[derive(Drop)]
