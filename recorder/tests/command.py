@@ -12,6 +12,7 @@ from room import RECORD, run
 
 HERE = os.path.dirname(os.path.realpath(__file__))
 HIDDEN = os.path.join(room.TOP, 'examples/hidden_race.cpp')
+COMPILERS = []
 LINE = re.compile(r'recorder: (\d+) events? of (\d+) threads? on (\d+) variables? and (\d+) locks? in (\S+), '
                   r'(\d+) bytes$', re.M)
 
@@ -32,9 +33,20 @@ def builds(shown):
     return True
 
 
+def ordinary(shown):
+    """The compilers of C and C++ that link the sanitizer's library as a shared one, or the wrappers."""
+    wrappers = (room.RECORDER + '/cc', room.RECORDER + '/c++')
+    for pair in (('gcc', 'g++'), ('clang -shared-libsan', 'clang++ -shared-libsan'), wrappers):
+        if all(map(room.links, pair)):
+            return pair
+    shown.skip("the command record (ThreadSanitizer's library is not there)")
+    return None
+
+
 def build(folder, source, *options, name='app', compiler=None):
     """A program of tests/, or of this text, built in the folder; what the compiler says if it fails."""
-    compiler = compiler or ('g++' if source.endswith('.cpp') else 'gcc')
+    if not compiler:
+        compiler = COMPILERS[source.endswith('.cpp')] if '-fsanitize=thread' in options else 'cc'
     if '\n' in source:
         path = os.path.join(folder, name + '.c')
         room.write(path, source)
@@ -72,8 +84,11 @@ def show_line(shown, folder):
     shown.tell('the bytes are those of the file', int(line[6]) == os.path.getsize(trace), line[6])
     shown.tell('one race', len(report) == 2, report)
     places = re.findall(r'\|app\+(0x[0-9a-f]+)', report[1] if len(report) > 1 else '')
-    lines = run(['addr2line', '-e', app, *places]).stdout
-    shown.tell('its two lines', re.findall(r':(\d+)', lines) == ['30', '19'], (places, lines))
+    if room.has('addr2line'):
+        lines = run(['addr2line', '-e', app, *places]).stdout
+        shown.tell('its two lines', re.findall(r':(\d+)', lines) == ['30', '19'], (places, lines))
+    else:
+        shown.skip('the two lines of hidden_race.cpp (addr2line)')
     info = room.read(trace + '.info').splitlines()
     words = [line.split('\t')[0] for line in info]
     for word in ('process', 'file', 'thread', 'end'):
@@ -269,8 +284,9 @@ def show_links(shown, folder):
                  (f'recorder/c++ by {plus}', f'env WCP_CXX={plus} {room.RECORDER}/c++', [])]
     for number, (what, compiler, options) in enumerate(ways):
         tool = re.search(r'=(\S+)', compiler)
-        if tool and not room.has(tool[1]) or compiler == 'gcc' and not room.has('gcc'):
-            shown.skip(what)
+        tool = tool[1] if tool else 'c++' if '++' in what else 'cc' if 'cc' in what[-2:] else 'gcc'
+        if not room.has(tool) or 'clang' not in tool and not room.links(tool):
+            shown.skip(f'{what} ({tool}, or its library)')
             continue
         source = HIDDEN if '++' in what else 'exit_by_exit.c'
         app, error = build(folder, source, *options, name=f'app{number}', compiler=compiler)
@@ -285,6 +301,9 @@ def show_links(shown, folder):
 
 
 def show(shown):
+    COMPILERS[:] = ordinary(shown) or ()
+    if not COMPILERS:
+        return
     for part in (show_line, show_refusals, show_signals, show_memory, show_files, show_links):
         begun = time.monotonic()
         part(shown, shown.folder(part.__name__))

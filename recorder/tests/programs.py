@@ -37,13 +37,11 @@ def compiler_words(compiler, source):
     return words + (['-shared-libsan'] if compiler == 'clang' else [])
 
 
-def missing(compiler, folder):
+def missing(compiler):
     """Why this compiler cannot be tried, or nothing."""
     if not room.has(*room.COMPILERS[compiler]):
         return f'{compiler} (it is not there)'
-    source = os.path.join(folder, f'{compiler}.cpp')
-    room.write(source, 'int main() {}\n')
-    if room.run([*compiler_words(compiler, source), source, '-o', source + '.out']).returncode:
+    if not room.links(' '.join(compiler_words(compiler, '.cpp'))):
         return f"{compiler} (ThreadSanitizer's library is not there)"
     return ''
 
@@ -122,7 +120,7 @@ class Case:
         env = dict(os.environ, TSAN_OPTIONS='exitcode=0')
         done = room.run(['setarch', '-R', self.app], timeout=10, cwd=self.folder, env=env)
         said = done.stdout + done.stderr
-        if 'FATAL: ThreadSanitizer' in said or 'error while loading' in said or done.returncode == 124:
+        if 'FATAL: ThreadSanitizer' in said or 'error while loading' in said or done.returncode in (124, 127):
             return {'(did not run)'}
         names = {re.sub(r'.*::|\.\d+$', '', name) for name in
                  re.findall(r"Location is global '([^']*)'", said)}
@@ -137,10 +135,9 @@ class Case:
 
 def show(shown, words=()):
     """Judges all programs, or those whose names have these words, and prints what ThreadSanitizer has."""
-    folder, cases = shown.folder('compilers'), []
-    compilers = []
+    cases, compilers = [], []
     for compiler in room.COMPILERS:
-        why = missing(compiler, folder)
+        why = missing(compiler)
         if why:
             shown.skip(why)
         else:

@@ -4,6 +4,7 @@ import re
 import shutil
 import subprocess
 import sys
+import tempfile
 import threading
 
 RECORDER = os.path.dirname(os.path.dirname(os.path.realpath(__file__)))
@@ -49,12 +50,15 @@ class Shown:
 
 
 def run(words, timeout=120, **how):
-    """Runs a command to its end, with its output as text. One that takes too long has status 124."""
+    """Runs a command to its end, with its output as text. One that takes too long has status 124, one that is
+    not there 127."""
     how = {'stdin': subprocess.DEVNULL, 'stdout': subprocess.PIPE, 'stderr': subprocess.PIPE, **how}
     try:
         return subprocess.run(words, timeout=timeout, errors='backslashreplace', **how)
     except subprocess.TimeoutExpired:
         return subprocess.CompletedProcess(words, 124, '', f'still running after {timeout} s')
+    except FileNotFoundError as error:
+        return subprocess.CompletedProcess(words, 127, '', str(error))
 
 
 def read(path):
@@ -98,3 +102,11 @@ def variables(report, tables):
 
 def has(*tools):
     return all(map(shutil.which, tools))
+
+
+def links(compiler):
+    """Whether the compiler, with its options, links a program with the sanitizer's library."""
+    with tempfile.TemporaryDirectory() as folder:
+        source = os.path.join(folder, 'tried.cpp' if '++' in compiler else 'tried.c')
+        write(source, 'int main(void) { return 0; }\n')
+        return run([*compiler.split(), '-fsanitize=thread', source, '-o', source + '.out']).returncode == 0
