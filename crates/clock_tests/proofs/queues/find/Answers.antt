@@ -1,6 +1,6 @@
 use Rattle.std.proofs.Common.{ℕ, ◌≤◌, List, length, sym, ap, subst, ◌∙◌, arith}
 use Rattle.event_core.specs.Closed.{Closed}
-use Rattle.lock_queues.specs.Queues.{closed_of, opened_of}
+use Rattle.lock_queues.specs.Queues.{opened_of}
 use Rattle.clock_tests.proofs.OneSection.{written, earlier_one}
 use Rattle.clock_tests.proofs.queues.find.Goals as goal
 
