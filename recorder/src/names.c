@@ -1,20 +1,14 @@
 /* Names of memory and of places in the program. Nothing here takes memory of the heap or a lock, since a
  * trace may have to be written by the handler of a signal. */
-#include <dlfcn.h>
-#include <elf.h>
-#include <link.h>
-#include "writer.h"
+#include "modules.h"
 
-enum { PLACES = 1 << 14, FILES = 1 << 12, MOST = 160 };
+enum { PLACES = 1 << 14 };
 struct known {
     uint64_t place;
     uint32_t length;
-    char text[MOST + 20];
+    char text[NAME + 20];
 };
 static struct known *known;
-static struct link_map *files[FILES];
-static const unsigned char *starts[FILES];
-static uint32_t file_count;
 
 void start_names(void) {
     known = pages(sizeof *known * PLACES);
@@ -36,35 +30,12 @@ char *name_words(char *to, const char *words) {
     return to;
 }
 
-static const char *path_of(const struct link_map *map) {
-    return *map->l_name ? map->l_name : program_path;
-}
-
-/* The last part of the path, without what a trace's line cannot hold. */
-static char *name_file(char *to, const struct link_map *map) {
-    const char *path = path_of(map);
-    const char *slash = strrchr(path, '/');
-    const char *from = slash ? slash + 1 : path;
-    for (int i = 0; from[i] && i < MOST; i++) *to++ = strchr("|\r\n\t()#", from[i]) ? '_' : from[i];
-    return to;
-}
-
-static void note_file(struct link_map *map, const void *start) {
-    for (uint32_t i = 0; i < file_count; i++) {
-        if (files[i] == map) return;
-    }
-    if (file_count == FILES) return;
-    starts[file_count] = start;
-    files[file_count++] = map;
-}
-
 static char *name_offset(char *to, uint64_t address) {
-    struct dl_find_object found;
-    if (_dl_find_object((void *)(uintptr_t)address, &found) == 0) {
-        note_file(found.dlfo_link_map, found.dlfo_map_start);
-        to = name_file(to, found.dlfo_link_map);
+    const struct module *module = module_at(address);
+    if (module) {
+        to = name_words(to, module->name);
         *to++ = '+';
-        address -= found.dlfo_link_map->l_addr;
+        address -= module->base;
     }
     to = name_words(to, "0x");
     return name_number(to, 16, address);
@@ -95,53 +66,4 @@ char *name_place(char *to, uint64_t place) {
     }
     memcpy(to, kept->text, kept->length);
     return to + kept->length;
-}
-
-/* The build-id is in a note of the file, whose head is the first page that is mapped. */
-static void put_build_id(const struct link_map *map, const unsigned char *start) {
-    const ElfW(Ehdr) *head = (const void *)start;
-    if (memcmp(start, ELFMAG, SELFMAG) != 0) {
-        put("-");
-        return;
-    }
-    const ElfW(Phdr) *part = (const void *)(start + head->e_phoff);
-    for (int i = 0; i < head->e_phnum; i++) {
-        if (part[i].p_type != PT_NOTE) continue;
-        const unsigned char *at = (const unsigned char *)map->l_addr + part[i].p_vaddr;
-        const unsigned char *end = at + part[i].p_memsz;
-        while (at + sizeof(ElfW(Nhdr)) <= end) {
-            const ElfW(Nhdr) *note = (const void *)at;
-            const unsigned char *words = at + sizeof *note + ((note->n_namesz + 3) & ~3u);
-            if (note->n_type == NT_GNU_BUILD_ID && note->n_namesz == 4) {
-                char digits[3] = "";
-                for (uint32_t byte = 0; byte < note->n_descsz; byte++) {
-                    digits[0] = "0123456789abcdef"[words[byte] >> 4];
-                    digits[1] = "0123456789abcdef"[words[byte] & 15];
-                    put(digits);
-                }
-                return;
-            }
-            at = words + ((note->n_descsz + 3) & ~3u);
-        }
-    }
-    put("-");
-}
-
-void put_files(void) {
-    char name[MOST + 20];
-    put("process\t");
-    put_number((uint64_t)getpid());
-    put("\t");
-    put_field(program_path);
-    put("\n");
-    for (uint32_t i = 0; i < file_count; i++) {
-        *name_file(name, files[i]) = 0;
-        put("file\t");
-        put_field(name);
-        put("\t");
-        put_field(path_of(files[i]));
-        put("\t");
-        put_build_id(files[i], starts[i]);
-        put("\n");
-    }
 }

@@ -17,19 +17,22 @@ static void mark_owner(struct cell *cell, uint64_t start, uint64_t end, uint16_t
     }
 }
 
+/* How an access is noted: where a block is given back nothing is cut. */
+enum access { PLAIN, ATOMIC, WHOLE };
+
 /* Notes who accesses these bytes, and where the access cuts their block. */
-static void mark(uint64_t start, uint64_t end, uint32_t thread, int is_atomic) {
+static void mark(uint64_t start, uint64_t end, uint32_t thread, enum access access) {
     for (uint64_t at = start; at < end;) {
         struct cell *cell = cell_at(at);
         uint64_t next = at / 16 * 16 + 16;
         uint64_t last = next < end ? next : end;
         uint32_t bits = bits_of(at, last);
-        if (at == start) cell->cuts |= 1u << at % 16;
-        if (last == end) cell->cuts |= 1u << ((last - 1) % 16 + 1);
+        if (at == start && access != WHOLE) cell->cuts |= 1u << at % 16;
+        if (last == end && access != WHOLE) cell->cuts |= 1u << ((last - 1) % 16 + 1);
         mark_owner(cell, at, last, thread + 1);
-        if (is_atomic) cell->atomic |= bits;
+        if (access == ATOMIC) cell->atomic |= bits;
         else cell->plain |= bits;
-        if (is_atomic) user_of(cell, thread)->bytes |= bits;
+        if (access == ATOMIC) user_of(cell, thread)->bytes |= bits;
         at = last;
     }
 }
@@ -77,7 +80,7 @@ static void put_variable(const struct event *event, uint32_t thread, const char 
 static void see_bytes(const struct event *event, uint32_t thread, uint64_t start, uint64_t end) {
     const char *operation = kind_of(event) == READ ? "|r(" : "|w(";
     if (!is_writing) {
-        mark(start, end, thread, 0);
+        mark(start, end, thread, kind_of(event) == FREED ? WHOLE : PLAIN);
         return;
     }
     for (uint64_t at = start; at < end;) {
@@ -96,8 +99,11 @@ void see_access(const struct event *event, uint32_t thread) {
         see_bytes(event, thread, start, end);
         return;
     }
-    for (uint64_t at = start; at < end; at += 16) {
-        if (has_cell(at)) see_bytes(event, thread, at, at + 16 < end ? at + 16 : end);
+    for (uint64_t at = start; at < end;) {
+        uint64_t from = at;
+        while (at < end && has_cell(at)) at = at / 16 * 16 + 16;
+        if (at > from) see_bytes(event, thread, from, at < end ? at : end);
+        else at = at / 16 * 16 + 16;
     }
 }
 
@@ -115,7 +121,7 @@ void see_atomic(const struct event *event, uint32_t thread) {
     uint64_t start = address_of(event);
     uint64_t end = start + size_of(event) % ORDERS;
     if (!is_writing) {
-        mark(start, end, thread, 1);
+        mark(start, end, thread, ATOMIC);
         return;
     }
     for (uint64_t at = start; at < end;) {

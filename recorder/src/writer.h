@@ -136,6 +136,8 @@ char *name_words(char *to, const char *words);
 char *name_address(char *to, uint64_t address, uint32_t block);
 char *name_place(char *to, uint64_t place);
 void start_names(void);
+
+/* modules.c */
 void put_files(void);
 
 /* info.c */
