@@ -21,7 +21,7 @@ pub fn perform(memory: &mut Memory, event: &Event) -> Result<bool, OutOfMemory>
     if memory.permit(&call).is_err() {
         return Ok(false);
     }
-    memory.prepare(call.thread, call.op)?;
+    memory.prepare(&call)?;
     let value = memory.apply(&call);
     Ok(value == event.value)
 }
