@@ -31,15 +31,14 @@ static inline void fill(struct event *event, enum kind kind, uint64_t address, u
                      __ATOMIC_RELEASE);
 }
 
-/* Whether the thread's latest load of this address, for a store its latest store, is this one: of this size,
- * at this place, with this stack, and since its last event that is no access. */
+/* Whether the thread made this access, at this place, since its last event that is no access. */
 static inline int is_repeated(struct thread *thread, enum kind kind, uint64_t address, uint64_t size,
                               uint64_t place, uint32_t stack) {
     uint64_t access = (address << 2 | kind) * 0x9e3779b97f4a7c15;
-    uint64_t *kept = &thread->recent[access >> 51];
     access ^= (place ^ (uint64_t)stack << 40) * 0xc2b2ae3d27d4eb4f;
     access = (access ^ access >> 29) + (thread->others << 11 | size) * 0xff51afd7ed558ccd;
     access |= 1;
+    uint64_t *kept = &thread->recent[access >> 51];
     uint64_t before = *kept;
     *kept = access;
     return before == access;
