@@ -11,10 +11,35 @@ static struct stripe *enter(const volatile void *at) {
     return stripe;
 }
 
+/* An operation that changes nothing: a load, or an update that stores what was there and publishes nothing.
+ * Where the thread made it before, and the stripe did not change since, it orders nothing anew. It is left
+ * out where besides the thread had only accesses and such operations since: a loop that waits for a store
+ * would fill the memory. */
+static void record_same(struct stripe *stripe, enum kind kind, uintptr_t address, uint64_t size,
+                        uintptr_t place) {
+    struct thread *thread = self;
+    uint64_t what = (address << 6 | kind) * 0x9e3779b97f4a7c15;
+    what ^= (place ^ (uint64_t)stack_now(thread) << 40) * 0xc2b2ae3d27d4eb4f;
+    what = ((what ^ what >> 29) + size) * 0xff51afd7ed558ccd | 1;
+    struct load *kept = &thread->loads[what >> 56];
+    int is_known = kept->what == what && kept->changes == stripe->changes;
+    if (is_known && kept->others == thread->others) return;
+    record_sync(kind, address, size, place);
+    if (is_known) thread->others--;
+    *kept = (struct load){ what, stripe->changes, thread->others };
+}
+
 static void leave(struct stripe *stripe, enum kind kind, const volatile void *at, uint64_t bytes, int order,
-                  uintptr_t place) {
+                  uintptr_t place, int is_same) {
     if (!stripe) return;
-    record_sync(kind, (uintptr_t)at, bytes + ORDERS * (uint64_t)(order & 7), place);
+    uint64_t size = bytes + ORDERS * (uint64_t)(order & 7);
+    int publishes = kind != LOAD && (order >= __ATOMIC_RELEASE || self->has_fence);
+    if (is_same && !publishes && !options.keeps_all) {
+        record_same(stripe, kind, (uintptr_t)at, size, place);
+    } else {
+        stripe->changes++;
+        record_sync(kind, (uintptr_t)at, size, place);
+    }
     unlock_stripe(stripe);
     is_in_step = 0;
 }
@@ -25,27 +50,28 @@ static void leave(struct stripe *stripe, enum kind kind, const volatile void *at
     type __tsan_atomic##bits##_load(const volatile type *at, int order) {                                    \
         struct stripe *stripe = enter(at);                                                                   \
         type value = __atomic_load_n(at, __ATOMIC_SEQ_CST);                                                  \
-        leave(stripe, LOAD, at, sizeof value, order, PLACE);                                                 \
+        leave(stripe, LOAD, at, sizeof value, order, PLACE, 1);                                              \
         return value;                                                                                        \
     }
 #define STORED(type, bits)                                                                                   \
     void __tsan_atomic##bits##_store(volatile type *at, type value, int order) {                             \
         struct stripe *stripe = enter(at);                                                                   \
         __atomic_store_n(at, value, __ATOMIC_SEQ_CST);                                                       \
-        leave(stripe, STORE, at, sizeof value, order, PLACE);                                                \
+        leave(stripe, STORE, at, sizeof value, order, PLACE, 0);                                             \
     }
 #define CHANGED(type, bits, name, operation)                                                                 \
     type __tsan_atomic##bits##_##name(volatile type *at, type value, int order) {                            \
         struct stripe *stripe = enter(at);                                                                   \
         type was = operation(at, value, __ATOMIC_SEQ_CST);                                                   \
-        leave(stripe, UPDATE, at, sizeof value, order, PLACE);                                               \
+        leave(stripe, UPDATE, at, sizeof value, order, PLACE, was == *at);                                   \
         return was;                                                                                          \
     }
 #define COMPARED(type, bits, name)                                                                           \
     int __tsan_atomic##bits##_##name(volatile type *at, type *wanted, type value, int order, int failure) {  \
         struct stripe *stripe = enter(at);                                                                   \
         int is_done = exchanged(at, wanted, value);                                                          \
-        leave(stripe, is_done ? UPDATE : LOAD, at, sizeof value, is_done ? order : failure, PLACE);          \
+        leave(stripe, is_done ? UPDATE : LOAD, at, sizeof value, is_done ? order : failure, PLACE,           \
+              !is_done);                                                                                     \
         return is_done;                                                                                      \
     }
 #define COMPARED_VALUE(type, bits)                                                                           \
@@ -53,7 +79,8 @@ static void leave(struct stripe *stripe, enum kind kind, const volatile void *at
                                                     int failure) {                                           \
         struct stripe *stripe = enter(at);                                                                   \
         int is_done = exchanged(at, &wanted, value);                                                         \
-        leave(stripe, is_done ? UPDATE : LOAD, at, sizeof value, is_done ? order : failure, PLACE);          \
+        leave(stripe, is_done ? UPDATE : LOAD, at, sizeof value, is_done ? order : failure, PLACE,           \
+              !is_done);                                                                                     \
         return wanted;                                                                                       \
     }
 #define ATOMIC(type, bits)                                                                                   \
@@ -76,6 +103,7 @@ ATOMIC(uint64_t, 64)
 
 void __tsan_atomic_thread_fence(int order) {
     __atomic_thread_fence(__ATOMIC_SEQ_CST);
+    if (self && order >= __ATOMIC_RELEASE) self->has_fence = 1;
     record_sync(FENCE, 0, (uint64_t)(order & 7) * ORDERS, PLACE);
 }
 void __tsan_atomic_signal_fence(int order) {
@@ -93,7 +121,7 @@ SIXTEEN static sixteen swap(volatile sixteen *at, sixteen from, sixteen to) {
 SIXTEEN sixteen __tsan_atomic128_load(const volatile sixteen *at, int order) {
     struct stripe *stripe = enter(at);
     sixteen value = swap((volatile sixteen *)(uintptr_t)at, 0, 0);
-    leave(stripe, LOAD, at, sizeof value, order, PLACE);
+    leave(stripe, LOAD, at, sizeof value, order, PLACE, 1);
     return value;
 }
 #define CHANGED_SIXTEEN(type, name, kind, after, result)                                                     \
@@ -101,7 +129,7 @@ SIXTEEN sixteen __tsan_atomic128_load(const volatile sixteen *at, int order) {
         struct stripe *stripe = enter(at);                                                                   \
         sixteen was = *at;                                                                                   \
         for (sixteen seen = swap(at, was, after); seen != was; seen = swap(at, was, after)) was = seen;      \
-        leave(stripe, kind, at, sizeof value, order, PLACE);                                                 \
+        leave(stripe, kind, at, sizeof value, order, PLACE, kind == UPDATE && was == *at);                   \
         return result;                                                                                       \
     }
 CHANGED_SIXTEEN(void, store, STORE, value, (void)0)
@@ -117,7 +145,8 @@ sixteen __tsan_atomic128_compare_exchange_val(volatile sixteen *at, sixteen want
                                               int failure) {
     struct stripe *stripe = enter(at);
     sixteen was = swap(at, wanted, value);
-    leave(stripe, was == wanted ? UPDATE : LOAD, at, sizeof value, was == wanted ? order : failure, PLACE);
+    leave(stripe, was == wanted ? UPDATE : LOAD, at, sizeof value, was == wanted ? order : failure, PLACE,
+          was != wanted);
     return was;
 }
 #define COMPARED_SIXTEEN(name)                                                                               \
@@ -126,7 +155,8 @@ sixteen __tsan_atomic128_compare_exchange_val(volatile sixteen *at, sixteen want
         struct stripe *stripe = enter(at);                                                                   \
         sixteen was = swap(at, *wanted, value);                                                              \
         int is_done = was == *wanted;                                                                        \
-        leave(stripe, is_done ? UPDATE : LOAD, at, sizeof value, is_done ? order : failure, PLACE);          \
+        leave(stripe, is_done ? UPDATE : LOAD, at, sizeof value, is_done ? order : failure, PLACE,           \
+              !is_done);                                                                                     \
         *wanted = was;                                                                                       \
         return is_done;                                                                                      \
     }

@@ -37,12 +37,22 @@ static void tell(const char *why) {
     tell_status(status, numbers);
 }
 
+/* While the trace is written, signals wait, but for those of faults and SIGQUIT. */
+static void hold_signals(sigset_t *before) {
+    static const int through[] = { SIGSEGV, SIGBUS, SIGFPE, SIGILL, SIGTRAP, SIGSYS, SIGABRT, SIGQUIT };
+    sigset_t held;
+    sigfillset(&held);
+    for (unsigned i = 0; i < sizeof through / sizeof *through; i++) sigdelset(&held, through[i]);
+    pthread_sigmask(SIG_BLOCK, &held, before);
+}
+
 /* Ends the recording and writes the trace, once. Another thread that ends the process waits for it; a fault
  * in the writing itself leaves no trace. */
 void finish(const char *why) {
     int mine = (int)syscall(SYS_gettid);
     int none = 0;
     int before = errno;
+    sigset_t signals;
     if (process != getpid()) return;
     if (!__atomic_compare_exchange_n(&finisher, &none, mine, 0, __ATOMIC_SEQ_CST, __ATOMIC_SEQ_CST)) {
         if (none == mine && !is_finished) {
@@ -53,6 +63,7 @@ void finish(const char *why) {
         while (!is_finished) usleep(1000);
         return;
     }
+    hold_signals(&signals);
     recording = 0;
     if (cut_because) why = cut_because;
     const char *failed = write_trace(trace_file());
@@ -64,6 +75,7 @@ void finish(const char *why) {
     tell(failed ? failed : why);
     close_files();
     is_finished = 1;
+    pthread_sigmask(SIG_SETMASK, &signals, NULL);
     errno = before;
 }
 

@@ -95,7 +95,9 @@ struct event *record_sync(enum kind kind, uintptr_t address, uint64_t size, uint
     struct stripe *stripe = address ? stripe_of(address) : NULL;
     uint64_t time = next_time(thread, stripe);
     struct event *event = append(thread, kind, address, size, place, time);
-    if (stripe) raise_time(stripe, time);
+    if (!stripe) return event;
+    if (kind < LOAD) __atomic_fetch_add(&stripe->changes, 1, __ATOMIC_SEQ_CST);
+    raise_time(stripe, time);
     return event;
 }
 

@@ -12,7 +12,7 @@
 #include <unistd.h>
 
 /* THREADS is the most that wcp reads. LONG is the size of an event whose size is kept by a MORE after it. */
-enum { THREADS = 1024, FRAMES = 1 << 16, RECENT = 1 << 13, LONG = 1023 };
+enum { THREADS = 1024, FRAMES = 1 << 16, RECENT = 1 << 13, LOADS = 1 << 8, LONG = 1023 };
 /* Descriptors and signals' numbers have addresses below any memory's. */
 enum { DESCRIPTORS = 1, SIGNALS = 1 << 20, ADDRESSES = SIGNALS + 256 };
 
@@ -73,16 +73,25 @@ struct frame {
     uint32_t stack;
 };
 
+/* An atomic load that was kept: what it loads at which place and stack, how often the stripe had changed, and
+ * how many events that are no accesses its thread had. */
+struct load {
+    uint64_t what;
+    uint64_t changes;
+    uint64_t others;
+};
+
 struct thread {
     struct event *next;   /* where its next event goes */
     struct event *limit;  /* up to where it has room */
     uint64_t time;        /* of its latest event */
-    uint64_t others;      /* its events that are no accesses */
+    uint64_t others;      /* its events that are no accesses, nor loads that found nothing new */
     uint32_t number;
     uint32_t depth;       /* of its calls */
     uint32_t beyond;      /* its calls for which there was no frame left */
     uint32_t ignored;     /* how many annotations ask to ignore its accesses */
     uint32_t is_joined;
+    uint32_t has_fence;   /* that releases */
     struct event *events;
     uintptr_t low, high;  /* of its stack */
     pthread_t handle;
@@ -93,6 +102,7 @@ struct thread {
     uintptr_t place;         /* where it was made */
     char name[20];
     uint64_t recent[RECENT];
+    struct load loads[LOADS];
     struct frame frames[FRAMES];
 };
 
@@ -141,8 +151,9 @@ void *allocate(size_t size, uintptr_t place);
 /* clock.c */
 struct stripe {
     volatile uint64_t time;
+    volatile uint64_t changes; /* its events but for those by which nothing changes */
     volatile int is_locked;
-    char unused[64 - sizeof(uint64_t) - sizeof(int)];
+    char unused[64 - 2 * sizeof(uint64_t) - sizeof(int)];
 };
 extern volatile uint64_t clock_counter;
 extern uint64_t clock_start;

@@ -90,9 +90,13 @@ static void see_bytes(const struct event *event, uint32_t thread, uint64_t start
     }
 }
 
+/* Whether there is one thread alone, none of whose accesses are written. */
+static int is_alone(void) { return thread_count < 2 && !options.keeps_all; }
+
 /* Of a large block that is given back, only what was accessed before counts as stored to. */
 void see_access(const struct event *event, uint32_t thread) {
     static const uint64_t large = 4096;
+    if (is_alone()) return;
     uint64_t start = address_of(event);
     uint64_t end = start + size_of(event);
     if (kind_of(event) != FREED || end - start <= large) {
@@ -120,6 +124,7 @@ static void put_atomic(const struct event *event, uint32_t thread, uint64_t addr
 void see_atomic(const struct event *event, uint32_t thread) {
     uint64_t start = address_of(event);
     uint64_t end = start + size_of(event) % ORDERS;
+    if (is_alone()) return;
     if (!is_writing) {
         mark(start, end, thread, ATOMIC);
         return;
