@@ -17,11 +17,13 @@ static uint64_t room(void) {
     return asked ? asked : bytes / 2 / sizeof(struct event);
 }
 
+/* The first process ends where its trace cannot be opened; others go on without one. */
 void start_recording(int is_child) {
+    int is_first = !is_child && !getenv("WCP_FIRST");
     if (!open_files(is_child)) {
         complain("the trace cannot be opened");
         tell_status("cut: the trace cannot be opened", nothing);
-        if (!is_child) _exit(125);
+        if (is_first) _exit(125);
         return;
     }
     options.keeps_all = is_set("WCP_ALL", "1");
@@ -57,6 +59,6 @@ __attribute__((constructor(101))) static void start(void) {
     if (!getenv("WCP_TRACE")) return;
     read_program();
     start_recording(0);
-    catch_signals();
+    if (recording) catch_signals();
     pthread_atfork(NULL, NULL, go_on_in_child);
 }

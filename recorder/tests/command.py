@@ -174,13 +174,19 @@ int main(void)
 '''
 
 
+def heed_signals():
+    """A shell's job in the background is started with SIGINT ignored, and so are its children."""
+    for number in (signal.SIGTERM, signal.SIGUSR1, signal.SIGINT):
+        signal.signal(number, signal.SIG_DFL)
+
+
 def show_signals(shown, folder):
     """Signals to record reach the program; a program that is killed leaves no trace, and says so."""
     app, error = build(folder, WAITS, '-fsanitize=thread')
     shown.tell('a program that waits builds', not error, error)
     for number, status in ((signal.SIGTERM, 15), (signal.SIGUSR1, 10), (signal.SIGINT, 130)):
         child = subprocess.Popen([*RECORD, '-o', 'signal.txt', app], cwd=folder, stdout=subprocess.PIPE,
-                                 stderr=subprocess.PIPE)
+                                 stderr=subprocess.PIPE, preexec_fn=heed_signals)
         child.stdout.read(5)
         child.send_signal(number)
         said = child.communicate(timeout=60)[1].decode()
