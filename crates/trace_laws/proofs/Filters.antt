@@ -1,7 +1,8 @@
 -- Where the elements of a filtered list come from.
-use Rattle.std.proofs.Common.{◌≡◌, ℕ, zero, suc, ◌≤◌, ◌+◌, List, [], ◌∷◌, ◌++◌, Bool, true, false, length, refl}
+use Rattle.std.proofs.Common.{◌≡◌, ℕ, zero, suc, ◌≤◌, ◌+◌, List, [], ◌∷◌, ◌++◌, Bool, true, false, length}
+use Rattle.std.proofs.Common.{refl}
 use Rattle.std.proofs.Common.{sym, ap, subst, ◌∙◌, arith, take, drop, Some, slice_get, take-append-drop}
-use Rattle.std.proofs.Common.{length-append, ◌⊎◌}
+use Rattle.std.proofs.Common.{length-append}
 use Rattle.std.proofs.Math.Seq.{take-append_seam}
 use Rattle.std.proofs.lemmas.Bool.{cases_Bool, cond-true, cond-false}
 use Rattle.std.proofs.lemmas.List.{take-take}
@@ -31,7 +32,8 @@ split p xs i = sym (filter-append p (take i xs) (drop i xs)) ∙ ap (filter p) (
 pub front : (p : Event → Bool) (xs : List Event) (i : ℕ)
     → take (place p xs i) (filter p xs) ≡ filter p (take i xs)
 front p xs i =
-    ap (take (place p xs i)) (sym (split p xs i)) ∙ take-append_seam (filter p (take i xs)) (filter p (drop i xs))
+    ap (take (place p xs i)) (sym (split p xs i))
+    ∙ take-append_seam (filter p (take i xs)) (filter p (drop i xs))
 
 pub rises : (p : Event → Bool) (xs : List Event) (i j : ℕ) → i ≤ j → place p xs i ≤ place p xs j
 rises p xs i j le =

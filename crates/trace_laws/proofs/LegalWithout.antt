@@ -1,8 +1,9 @@
 -- A log without the accesses to variables is well formed.
-use Rattle.std.proofs.Common.{◌≡◌, ℕ, zero, suc, ◌<◌, ◌≤◌, ◌+◌, List, [], ◌∷◌, ◌++◌, Bool, true, false, length, refl}
-use Rattle.std.proofs.Common.{sym, ap, ap₂, subst, ◌∙◌, arith, take, Some, None, Option, slice_get, not, nat_le}
-use Rattle.std.proofs.Common.{nat_eq, nat_lt, cond, ◌||◌, ◌-◌, ◌⊎◌, if◌then◌else◌, option_and_then}
-use Rattle.std.proofs.lemmas.Bool.{cases_Bool, cond-true, cond-false, leb-true, le-leb, not-false, not-true}
+use Rattle.std.proofs.Common.{◌≡◌, ℕ, zero, suc, ◌≤◌, ◌+◌, List, [], ◌∷◌, Bool, true, false, length, refl}
+use Rattle.std.proofs.Common.{sym, ap, ap₂, subst, ◌∙◌, arith, take, Some, None, Option, slice_get, not}
+use Rattle.std.proofs.Common.{nat_le}
+use Rattle.std.proofs.Common.{nat_eq, nat_lt, cond, ◌||◌, ◌-◌, if◌then◌else◌, option_and_then}
+use Rattle.std.proofs.lemmas.Bool.{cases_Bool, cond-false, leb-true, le-leb, not-false, not-true}
 use Rattle.std.proofs.lemmas.Bool.{both_ways, or_parts, eqb-true, and_right}
 use Rattle.std.proofs.lemmas.List.Sums.{count_by-le-length, length-filter, sum_by-cons}
 use Rattle.std.specs.List.{filter, list_any, count_by}
@@ -25,12 +26,12 @@ use Rattle.event_core.specs.Log.{depth, acquires, releases, op_acquires, op_rele
 use Rattle.event_core.specs.Refusal.{op_forks, op_joins}
 use Rattle.event_core.specs.Refusal.{refusal, reasons, first_of, when, held, held_by, holder, is_holder}
 use Rattle.event_core.specs.Refusal.{last_acquirer, not_holder, already_started, known, forked, forks, joins}
-use Rattle.event_core.specs.Refusal.{mentions, Legal, WellFormed, log_full, full_with, held_depths, lock_depth}
+use Rattle.event_core.specs.Refusal.{mentions, Legal, WellFormed, log_full, held_depths, lock_depth}
 use Rattle.event_core.specs.Refusal.{sum_locks, lock_at, depth_by, target_not_started, last_value}
-use Rattle.event_core.specs.Refusal.{last_value_from, op_stores, value_of, event_of}
+use Rattle.event_core.specs.Refusal.{last_value_from, op_stores, value_of}
 use Rattle.event_core.proofs.Legality.{AllNone, all_none, when_none}
 use Rattle.trace_laws.specs.Without.{op_accesses, stays, without}
-use Rattle.trace_laws.proofs.Filters.{front, filter_in, filter_out, Origin, origin}
+use Rattle.trace_laws.proofs.Filters.{front, filter_in, filter_out, origin}
 
 -- a test that the elements left out do not pass counts the same, and is passed by the same lists
 count_cons : (q : Event → Bool) (x : Event) (xs : List Event)
@@ -269,7 +270,8 @@ started_too m vars xs (Acquire x) h = refl
 started_too m vars xs (Release x) h = refl
 started_too m vars xs (Fork x) h = refl
 
-fits_too : (a b n : ℕ) → a ≤ b → when (not (nat_le b n)) LogFull ≡ None → when (not (nat_le a n)) LogFull ≡ None
+fits_too : (a b n : ℕ) → a ≤ b → when (not (nat_le b n)) LogFull ≡ None
+    → when (not (nat_le a n)) LogFull ≡ None
 fits_too a b n le h =
     let fit : b ≤ n = leb-true b n (not-false (nat_le b n) (when_none (not (nat_le b n)) LogFull h)) in
     when_false (not (nat_le a n)) LogFull (ap not (le-leb a n (omega (arith, le, fit))))
@@ -284,7 +286,8 @@ room_too m vars xs o h = go o h
     depths : held_depths m (without vars xs) ≡ held_depths m xs
     depths = same_held_depths m vars xs
 
-    plus : (k : ℕ) → length (without vars xs) + held_depths m (without vars xs) + k ≤ length xs + held_depths m xs + k
+    plus : (k : ℕ) → length (without vars xs) + held_depths m (without vars xs) + k
+        ≤ length xs + held_depths m xs + k
     plus k = let a = less in let b = depths in omega (arith, a, b)
 
     go : (o : Op) → log_full m xs o ≡ None → log_full m (without vars xs) o ≡ None
@@ -294,6 +297,10 @@ room_too m vars xs o h = go o h
     go (Store x) h = fits_too _ _ m.events (plus 1) h
     go (Fork x) h = fits_too _ _ m.events (plus 1) h
     go (Join x) h = fits_too _ _ m.events (plus 1) h
+
+-- the event of a call, with this value
+abbrev with_value : Call → ℕ → Event
+with_value c n = record { thread = c.thread; op = c.op; site = c.site; value = n }
 
 legal_too : (m : Limits) (vars : VarId → Bool) (xs : List Event) (e : Event) → stays vars e ≡ true
     → Legal m xs e → Legal m (without vars xs) e
@@ -337,7 +344,7 @@ legal_too m vars xs e t legal =
       allowed = none_all (reasons m (without vars xs) c) new;
       is =
           legal.is
-          ∙ ap (λ (n : ℕ). let x : Event = record { thread = c.thread; op = c.op; site = c.site; value = n } in x)
+          ∙ ap (λ (n : ℕ). with_value c n)
           (sym (same_value vars xs c.op c.arg kept));
     }
 

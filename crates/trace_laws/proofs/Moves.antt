@@ -1,14 +1,14 @@
 -- A log and another that has some of its events: what is so of the events that both have.
-use Rattle.std.proofs.Common.{◌≡◌, ℕ, suc, ◌<◌, ◌≤◌, List, Bool, true, false, length, refl, sym, ap, subst}
+use Rattle.std.proofs.Common.{◌≡◌, ℕ, suc, ◌<◌, ◌≤◌, List, Bool, true, false, length, sym, ap, subst}
 use Rattle.std.proofs.Common.{◌∙◌, arith, take, ◌⊎◌, Some, slice_get}
-use Rattle.std.proofs.lemmas.Bool.{cases_lt, cases_order}
+use Rattle.std.proofs.lemmas.Bool.{cases_lt}
 use Rattle.std.proofs.lemmas.Option.{slice_get_within}
 use mathlib.Core.Logic.{inl, inr}
 use Rattle.event_core.specs.declared.ids.ThreadId.{ThreadId}
 use Rattle.event_core.specs.declared.ids.LockId.{LockId}
 use Rattle.event_core.specs.declared.events.Event.{Event}
 use Rattle.event_core.specs.declared.events.Op.{Op}
-use Rattle.event_core.specs.declared.events.Op.TheVariants.{Load, Store, Acquire, Release, Fork, Join}
+use Rattle.event_core.specs.declared.events.Op.TheVariants.{Load, Store, Acquire, Release}
 use Rattle.event_core.specs.Log.{Does, Of, depth, OuterAcquire, OuterRelease, Inside, Section, InSection}
 use Rattle.event_core.specs.Log.{Conflict}
 use Rattle.event_core.specs.Wcp.{Meets}
@@ -141,9 +141,10 @@ release_from {other = other} {i = i} {u = u} {l = l} a k e d =
           ∙ d.outer;
     }
 
-pub inside_to : {log other : List Event} {Kept : ℕ → Type 0} {to : ℕ → ℕ} {b i : ℕ} {u : ThreadId} {l : LockId}
-    → Moved log other Kept to → Kept b → Kept i → Inside log u l b i → Inside other u l (to b) (to i)
-inside_to {log = log} {other = other} {Kept = Kept} {to = to} {b = b} {i = i} {u = u} {l = l} a kb ki d = record {
+pub inside_to : {log other : List Event} {Kept : ℕ → Type 0} {to : ℕ → ℕ} {b i : ℕ} {u : ThreadId}
+    {l : LockId} → Moved log other Kept to → Kept b → Kept i → Inside log u l b i
+    → Inside other u l (to b) (to i)
+inside_to {log = log} {other = other} {to = to} {b = b} {i = i} {u = u} {l = l} a kb ki d = record {
   opened = acquire_to a kb d.opened;
   of = mine;
   from = a.rises b i d.from;
@@ -175,7 +176,8 @@ inside_from {other = other} {to = to} {b = b} {i = i} {x = x} {y = y} {u = u} {l
   from = le_from a ki (let le : x ≤ y = d.from in omega (arith, le, e, f));
   held =
       λ k lt le. subst (λ (n : ℕ). 0 < n) (a.depths k u l)
-      (d.held (to k) (let up = lt_to a kb lt in omega (arith, up, e)) (let up = a.rises k i le in omega (arith, up, f)));
+      (d.held (to k) (let up = lt_to a kb lt in omega (arith, up, e))
+      (let up = a.rises k i le in omega (arith, up, f)));
 }
 
 pub section_to : {log other : List Event} {Kept : ℕ → Type 0} {to : ℕ → ℕ} {b r : ℕ} {u : ThreadId}
@@ -195,7 +197,8 @@ in_section_to {to = to} {r = r} {i = i} a ki s = record {
   thread = s.thread;
   acquire = to s.acquire;
   section =
-      section_to a (kept_acquire a s.section.inside.opened.does) (kept_release a s.section.closed.does) s.section;
+      section_to a (kept_acquire a s.section.inside.opened.does) (kept_release a s.section.closed.does)
+      s.section;
   of = of_to a ki s.of;
   from = a.rises s.acquire i s.from;
   to = a.rises i r s.to;

@@ -1,17 +1,17 @@
 -- The relations between the events that both logs have are the same.
-use Rattle.std.proofs.Common.{◌≡◌, ℕ, suc, ◌<◌, ◌≤◌, List, Bool, true, false, refl, sym, ap, subst, ◌∙◌, arith}
-use Rattle.std.proofs.Common.{◌⊎◌, Some, slice_get, ◌↔◌}
+use Rattle.std.proofs.Common.{◌≡◌, ℕ, ◌<◌, List, true, refl, sym, subst, ◌∙◌, arith}
+use Rattle.std.proofs.Common.{◌⊎◌}
 use mathlib.Core.Logic.{inl, inr}
 use Rattle.event_core.specs.declared.ids.ThreadId.{ThreadId}
 use Rattle.event_core.specs.declared.ids.LockId.{LockId}
 use Rattle.event_core.specs.declared.events.Event.{Event}
 use Rattle.event_core.specs.declared.events.Op.{Op}
-use Rattle.event_core.specs.declared.events.Op.TheVariants.{Fork, Join, Acquire, Release}
+use Rattle.event_core.specs.declared.events.Op.TheVariants.{Fork}
 use Rattle.event_core.specs.Log.{Does, Of, InSection}
 use Rattle.event_core.specs.Order.{Chain, here, step, ProgramEdge, same_thread, fork_to_event, fork_to_join}
 use Rattle.event_core.specs.Order.{event_to_join, HbEdge, program, lock, Po, Hb}
 use Rattle.event_core.specs.Wcp.{Meets, Strict, rule_a, rule_b, rule_c_left, rule_c_right}
-use Rattle.event_core.proofs.Chains.{program_forward, hb_trans, acquire_below, below_release}
+use Rattle.event_core.proofs.Chains.{hb_trans, acquire_below, below_release}
 use Rattle.event_core.proofs.LogFacts.{of_does, of_one, does_op}
 use Rattle.trace_laws.proofs.Moves.{Moved, is_access, lt_to, lt_from, one_index, does_to, does_from, of_to}
 use Rattle.trace_laws.proofs.Moves.{of_from, from_of, from_does, kept_acquire, kept_release, acquire_to}
@@ -117,7 +117,8 @@ record Edges (log other : List Event) (Kept : ℕ → Type 0) (to : ℕ → ℕ)
   pub source : (x y : ℕ) → F x y → Event2 other x × Event2 other y
   pub forth : (i j : ℕ) → Kept i → Kept j → E i j → F (to i) (to j)
   pub back : (i j : ℕ) → Kept i → Kept j → F (to i) (to j) → E i j
-  pub short : (b g j : ℕ) (u : ThreadId) (o : Op) → Does log g u o → is_access o ≡ true → E b g → E g j → E b j
+  pub short : (b g j : ℕ) (u : ThreadId) (o : Op) → Does log g u o → is_access o ≡ true → E b g → E g j
+      → E b j
 
 -- a chain up to an access that is not kept, less its last edge
 record Pending (log : List Event) (Kept : ℕ → Type 0) (to : ℕ → ℕ) (E F : ℕ → ℕ → Type 0) (i j : ℕ)
@@ -234,7 +235,8 @@ KeepsPremises log other Kept to =
     (r i j : ℕ) → Meets log r i → Kept j → Hb log i j → Premise log other Kept to r j
 
 -- a section's acquire and its release are in it
-at_acquire : {log : List Event} {l : LockId} {r i : ℕ} → (s : InSection log l r i) → InSection log l r s.acquire
+at_acquire : {log : List Event} {l : LockId} {r i : ℕ} → (s : InSection log l r i)
+    → InSection log l r s.acquire
 at_acquire s = record {
   thread = s.thread;
   acquire = s.acquire;

@@ -1,10 +1,9 @@
 -- A log without the accesses to variables of one thread has the same relations, races and verdicts.
-use Rattle.std.proofs.Common.{◌≡◌, ℕ, suc, ◌<◌, ◌≤◌, List, Bool, true, false, not, length, refl, sym, ap, subst}
-use Rattle.std.proofs.Common.{◌∙◌, arith, take, Some, slice_get, ◌⊎◌, ◌↔◌}
-use Rattle.std.proofs.lemmas.Bool.{cases_Bool, not-false}
+use Rattle.std.proofs.Common.{◌≡◌, ℕ, List, Bool, true, not, refl, sym, ap, subst}
+use Rattle.std.proofs.Common.{◌∙◌, take, ◌⊎◌}
+use Rattle.std.proofs.lemmas.Bool.{cases_Bool}
 use mathlib.Core.Logic.{inl, inr}
 use Rattle.event_core.specs.declared.ids.ThreadId.{ThreadId}
-use Rattle.event_core.specs.declared.ids.LockId.{LockId}
 use Rattle.event_core.specs.declared.ids.VarId.{VarId}
 use Rattle.event_core.specs.declared.events.Event.{Event}
 use Rattle.event_core.specs.declared.events.Op.{Op}
@@ -14,11 +13,11 @@ use Rattle.event_core.specs.declared.replies.Verdict.{Verdict}
 use Rattle.event_core.specs.declared.replies.Verdict.TheVariants.{Clear, Racy}
 use Rattle.event_core.specs.Log.{Does, depth, Conflict, OpsConflict}
 use Rattle.event_core.specs.Refusal.{WellFormed}
-use Rattle.event_core.specs.Verdict.{Races, IsVerdict}
+use Rattle.event_core.specs.Verdict.{IsVerdict}
 use Rattle.trace_laws.specs.Without.{op_accesses, stays, Stays, without, new_index, new_verdict, IsAccessTo}
 use Rattle.trace_laws.specs.Without.{HasOneThread}
 use Rattle.trace_laws.specs.AccessLaws.{SaysTheSame}
-use Rattle.trace_laws.proofs.Filters.{front, rises, next, stands, Origin, origin}
+use Rattle.trace_laws.proofs.Filters.{front, rises, next, stands, origin}
 use Rattle.trace_laws.proofs.LegalWithout.{same_depth, well_formed_too}
 use Rattle.trace_laws.proofs.Moves.{Moved, is_access, meets_to}
 use Rattle.trace_laws.proofs.Verdicts.{Same, same_po, same_hb, same_strict, races_to, races_from, clear_to}

@@ -1,8 +1,7 @@
 -- The races and the verdicts of the events that both logs have are the same, where no other event races.
-use Rattle.std.proofs.Common.{◌≡◌, ℕ, ◌<◌, ◌≤◌, List, refl, sym, subst, arith, ◌↔◌, ◌⊎◌}
+use Rattle.std.proofs.Common.{◌≡◌, ℕ, List, refl, sym, subst, arith, ◌↔◌}
 use mathlib.Core.Logic.{inl, inr}
 use Rattle.event_core.specs.declared.events.Event.{Event}
-use Rattle.event_core.specs.declared.replies.Verdict.{Verdict}
 use Rattle.event_core.specs.declared.replies.Verdict.TheVariants.{Clear, Racy}
 use Rattle.event_core.specs.Log.{Conflict}
 use Rattle.event_core.specs.Order.{Po, Hb, here}
