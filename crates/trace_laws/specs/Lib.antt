@@ -1,1 +1,3 @@
+pub mod Without
 pub mod HbLaws
+pub mod AccessLaws

@@ -1,4 +1,5 @@
 //! The laws of traces. A law's function does nothing, and its clause is the law.
+ghost use Rattle.trace_laws.specs.AccessLaws.{PrivateAccessesChangeNothing};
 ghost use Rattle.trace_laws.specs.HbLaws.{StrictIsWithinHb, HbRacesAreRaces};
 
 /// In a well-formed log, what strictly precedes an event happens before it.
@@ -10,4 +11,11 @@ pub fn strict_is_within_hb()
 /// of races by happens-before finds in a trace, this one finds there too.
 pub fn hb_races_are_races()
     ensures { HbRacesAreRaces }
+{}
+
+/// The accesses to variables that one thread alone accesses may be left out of a well-formed log. The log is
+/// then well formed too, its relations and races are the same, and each event that stays has the verdict that
+/// it had. Only the indices move down, each by as many events as are left out before it.
+pub fn private_accesses_change_nothing()
+    ensures { PrivateAccessesChangeNothing }
 {}
