@@ -38,7 +38,7 @@ fn perform(log: &mut Log, memory: &mut Memory, call: &Call) -> Result<bool, OutO
         return Ok(false);
     }
     log.reserve(1)?;
-    memory.prepare(call.thread, call.op)?;
+    memory.prepare(call)?;
     let value = memory.apply(call);
     log.push(call.event_with(value));
     Ok(true)
