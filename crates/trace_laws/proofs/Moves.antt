@@ -13,12 +13,7 @@ use Rattle.event_core.specs.Log.{Does, Of, depth, OuterAcquire, OuterRelease, In
 use Rattle.event_core.specs.Log.{Conflict}
 use Rattle.event_core.specs.Wcp.{Meets}
 use Rattle.event_core.proofs.Depth.{event_at}
-
--- whether the operation is an access
-abbrev pub is_access : Op → Bool
-is_access (Load x) = true
-is_access (Store x) = true
-is_access _ = false
+use Rattle.trace_laws.specs.Repeats.{is_access}
 
 -- the other log has the events of this one that are kept, in their order, and those that it has not are
 -- accesses
