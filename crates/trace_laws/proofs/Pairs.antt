@@ -1,28 +1,30 @@
 -- Without an access that its thread made before, the same pairs race.
-use Rattle.std.proofs.Common.{◌≡◌, ℕ, suc, ◌<◌, ◌≤◌, List, ◌∷◌, ◌++◌, Bool, true, false, length, refl, sym, ap}
-use Rattle.std.proofs.Common.{subst, ◌∙◌, arith, take, ◌⊎◌, Some, slice_get, ◌↔◌}
+use Rattle.std.proofs.Common.{◌≡◌, ℕ, ◌<◌, ◌≤◌, List, ◌∷◌, ◌++◌, true, length}
+use Rattle.std.proofs.Common.{sym, ap}
+use Rattle.std.proofs.Common.{subst, ◌∙◌, arith, take, ◌⊎◌, Some, ◌↔◌}
 use Rattle.std.proofs.lemmas.Bool.{cases_lt, cases_eq}
 use mathlib.Core.Logic.{inl, inr}
 use Rattle.event_core.specs.declared.ids.ThreadId.{ThreadId}
 use Rattle.event_core.specs.declared.ids.LockId.{LockId}
 use Rattle.event_core.specs.declared.events.Event.{Event}
 use Rattle.event_core.specs.declared.events.Op.{Op}
-use Rattle.event_core.specs.declared.events.Op.TheVariants.{Acquire, Release}
 use Rattle.event_core.specs.declared.bounds.Limits.{Limits}
 use Rattle.event_core.specs.Log.{Does, Of, depth, Inside, InSection, OuterAcquire, Conflict}
-use Rattle.event_core.specs.Order.{Hb, here}
+use Rattle.event_core.specs.Order.{Hb}
 use Rattle.event_core.specs.Orderly.{Orderly}
 use Rattle.event_core.specs.Refusal.{WellFormed}
 use Rattle.event_core.specs.Verdict.{Races}
 use Rattle.event_core.specs.Wcp.{Meets}
 use Rattle.event_core.proofs.Chains.{hb_trans, hb_thread}
+use Rattle.event_core.proofs.EndedLaw.{ended_rest}
 use Rattle.event_core.proofs.Legality.{orderly}
 use Rattle.event_core.proofs.LogFacts.{of_does, of_one, does_op, does_thread}
-use Rattle.trace_laws.specs.Repeats.{is_access, Repeats, RaceBetween}
-use Rattle.trace_laws.proofs.Moves.{Moved, does_to, does_from, from_does, meets_to}
-use Rattle.trace_laws.proofs.Orders.{KeepsPremises, Premise}
-use Rattle.trace_laws.proofs.Repeated.{in_stretch, first_conflict, second_conflict, later_races, earlier_races}
-use Rattle.trace_laws.proofs.Skips.{skip, skipped, at_seam}
+use Rattle.trace_laws.specs.Repeats.{is_access, Ordered, Repeats, RaceBetween}
+use Rattle.trace_laws.proofs.Moves.{Moved, lt_to, does_to, does_from, of_from, from_does, from_of, meets_to}
+use Rattle.trace_laws.proofs.Orders.{KeepsPremises}
+use Rattle.trace_laws.proofs.Repeated.{in_stretch, first_conflict, second_conflict, later_races}
+use Rattle.trace_laws.proofs.Repeated.{earlier_races}
+use Rattle.trace_laws.proofs.Skips.{skip, onto, skipped, at_seam}
 use Rattle.trace_laws.proofs.Verdicts.{Same, races_to, races_from}
 
 -- a section that the second access is in, the first is in too
@@ -35,8 +37,8 @@ acquired_before {log = log} {p = p} {k = k} {a = a} r same o le = elim (cases_lt
       absurd (let no = in_stretch r (record { from = ge; to = le; of = mine }) o.does in cc)
 ]
 
-first_inside : {log : List Event} {p k a : ℕ} {u : ThreadId} {l : LockId} → Repeats log p k → Inside log u l a k
-    → Inside log u l a p
+first_inside : {log : List Event} {p k a : ℕ} {u : ThreadId} {l : LockId} → Repeats log p k
+    → Inside log u l a k → Inside log u l a p
 first_inside {log = log} {p = p} {k = k} {a = a} {u = u} r h =
     let same : u ≡ r.thread = of_one h.of (of_does r.again) in
     let lt : a < p = acquired_before r same h.opened h.from in
@@ -158,10 +160,10 @@ are_first : {log : List Event} {u v : ThreadId} {o q : Op} {p k j : ℕ} → Rep
 are_first r (inl d) = inl (first_does r d.0, d.1)
 are_first r (inr d) = inr (first_does r d.0, d.1)
 
-pair_to : {log other : List Event} {to : ℕ → ℕ} {p k : ℕ} {u v : ThreadId} {o q : Op} (m : Limits)
-    → Same log other (λ i. i ≡ k → ⊥) to → WellFormed m log → Repeats log p k → RaceBetween log u o v q
+pair_to : {log other : List Event} {to : ℕ → ℕ} {p k : ℕ} {u v : ThreadId} {o q : Op}
+    → Same log other (λ i. i ≡ k → ⊥) to → Ordered log → Repeats log p k → RaceBetween log u o v q
     → RaceBetween other u o v q
-pair_to {log = log} {other = other} {to = to} {p = p} {k = k} {u = u} {v = v} {o = o} {q = q} m s w r b =
+pair_to {log = log} {other = other} {to = to} {p = p} {k = k} {u = u} {v = v} {o = o} {q = q} s w r b =
     elim (cases_eq b.first k) [
       | inl e ↦ at_first (subst (λ (n : ℕ). Races log n b.second) e b.races)
           (subst (λ (n : ℕ). Are log u o v q n b.second) e b.are)
@@ -193,13 +195,13 @@ pair_to {log = log} {other = other} {to = to} {p = p} {k = k} {u = u} {v = v} {o
     at_first : Races log k b.second → Are log u o v q k b.second → RaceBetween other u o v q
     at_first race are =
         let lt : k < b.second = race.before in
-        moved p b.second apart (λ e. omega (arith, lt, e)) (later_races m w r race) (are_first r are)
+        moved p b.second apart (λ e. omega (arith, lt, e)) (later_races w r race) (are_first r are)
 
     at_second : (b.first ≡ k → ⊥) → Races log b.first k → Are log u o v q b.first k
         → RaceBetween other u o v q
     at_second n race are =
         let turned : Are log u o v q p b.first = are_first r (are_swapped are) in
-        elim (earlier_races m w r race) [
+        elim (earlier_races w r race) [
           | inl h ↦ moved b.first p n apart h (are_swapped turned)
           | inr h ↦ moved p b.first apart n h turned
         ]
@@ -222,11 +224,62 @@ pair_from {log = log} {other = other} {to = to} {u = u} {v = v} {o = o} {q = q} 
       ];
     }
 
-pub same_pairs : (m : Limits) (before after : List Event) (e : Event) (p : ℕ)
-    → WellFormed m (before ++ e ∷ after) → Repeats (before ++ e ∷ after) p (length before)
-    → (u v : ThreadId) (o q : Op)
-    → RaceBetween (before ++ e ∷ after) u o v q ↔ RaceBetween (before ++ after) u o v q
-same_pairs m before after e p w r u v o q = ((λ b. pair_to m s w r b), (λ b. pair_from s b))
+-- the locks, forks and joins stay in order
+ordered_too : (xs ys : List Event) (e : Event)
+    → Moved (xs ++ e ∷ ys) (xs ++ ys) (λ i. i ≡ length xs → ⊥) (skip (length xs)) → Ordered (xs ++ e ∷ ys)
+    → Ordered (xs ++ ys)
+ordered_too xs ys e a w = record {
+  orderly = record {
+    one_holder = one_holder;
+    held_at_release =
+        λ x u l d. (
+        let i = from_does a d in
+        subst (λ (n : ℕ). 0 < depth (take n (xs ++ ys)) u l) i.2
+        (subst (λ (n : ℕ). 0 < n) (sym (a.depths i.0 u l))
+        (w.orderly.held_at_release i.0 u l (does_from a i.1 i.2 d))));
+    fork_first =
+        λ g k u v d o. (
+        let i = from_does a d in
+        let j = from_of a o in
+        let lt : i.0 < j.0 = w.orderly.fork_first i.0 j.0 u v (does_from a i.1 i.2 d) (of_from a j.1 j.2 o) in
+        before i.0 j.0 i.1 lt i.2 j.2);
+  };
+  rest =
+      λ j k u v d o. (
+      let i = from_does a d in
+      let n = from_of a o in
+      let lt : n.0 < i.0 = w.rest i.0 n.0 u v (does_from a i.1 i.2 d) (of_from a n.1 n.2 o) in
+      before n.0 i.0 n.1 lt n.2 i.2);
+}
+  where
+    before : (i j : ℕ) {x y : ℕ} → (i ≡ length xs → ⊥) → i < j → skip (length xs) i ≡ x
+        → skip (length xs) j ≡ y → x < y
+    before i j k lt p q = let up = lt_to a k lt in omega (arith, up, p, q)
+
+    one_holder : (k : ℕ) (u v : ThreadId) (l : LockId) → 0 < depth (take k (xs ++ ys)) u l
+        → 0 < depth (take k (xs ++ ys)) v l → u ≡ v
+    one_holder k u v l p q =
+        let n = onto (length xs) k in
+        let back : (t : ThreadId) → 0 < depth (take k (xs ++ ys)) t l → 0 < depth (take n.0 (xs ++ e ∷ ys)) t l
+        = λ t h. subst (λ (c : ℕ). 0 < c) (a.depths n.0 t l)
+        (subst (λ (c : ℕ). 0 < depth (take c (xs ++ ys)) t l) (sym n.2) h) in
+        w.orderly.one_holder n.0 u v l (back u p) (back v q)
+
+pub ordered_log : (m : Limits) (log : List Event) → WellFormed m log → Ordered log
+ordered_log m log w = record {
+  orderly = orderly m log w;
+  rest = λ j k u v d o. ended_rest m log u v j k w d o;
+}
+
+pub same_pairs : (before after : List Event) (e : Event) (p : ℕ) → Ordered (before ++ e ∷ after)
+    → Repeats (before ++ e ∷ after) p (length before)
+    → Ordered (before ++ after)
+    × ((u v : ThreadId) (o q : Op)
+    → RaceBetween (before ++ e ∷ after) u o v q ↔ RaceBetween (before ++ after) u o v q)
+same_pairs before after e p w r = (
+  ordered_too before after e moved w,
+  λ u v o q. ((λ b. pair_to s w r b), (λ b. pair_from s b)),
+)
   where
     access : is_access e.op ≡ true
     access =
@@ -234,8 +287,8 @@ same_pairs m before after e p w r u v o q = ((λ b. pair_to m s w r b), (λ b. p
         let is : r.again.event ≡ e = cc in
         subst (λ (x : Op). is_access x ≡ true) (sym r.again.does ∙ ap (λ (f : Event). f.op) is) r.access
 
+    moved : Moved (before ++ e ∷ after) (before ++ after) (λ i. i ≡ length before → ⊥) (skip (length before))
+    moved = skipped before after e access
+
     s : Same (before ++ e ∷ after) (before ++ after) (λ i. i ≡ length before → ⊥) (skip (length before))
-    s = record {
-      moved = skipped before after e access;
-      premises = keeps (skipped before after e access) (orderly m (before ++ e ∷ after) w) r;
-    }
+    s = record { moved = moved; premises = keeps moved w.orderly r }

@@ -1,5 +1,6 @@
 -- A log and the same without one access.
-use Rattle.std.proofs.Common.{◌≡◌, ℕ, zero, suc, ◌<◌, ◌≤◌, ◌+◌, ◌-◌, List, [], ◌∷◌, ◌++◌, Bool, true, false, length}
+use Rattle.std.proofs.Common.{◌≡◌, ℕ, zero, suc, ◌≤◌, ◌+◌, ◌-◌, List, [], ◌∷◌, ◌++◌, Bool, true, false}
+use Rattle.std.proofs.Common.{length}
 use Rattle.std.proofs.Common.{refl, sym, ap, ap₂, subst, ◌∙◌, arith, take, ◌⊎◌, Some, slice_get, cond}
 use Rattle.std.proofs.lemmas.Bool.{cases_eq}
 use Rattle.std.specs.List.{count_by}
@@ -61,7 +62,7 @@ next (suc zero) zero n = refl
 next (suc (suc k)) zero n = refl
 next (suc k) (suc i) n = ap suc (next k i (λ h. n (ap suc h)))
 
-onto : (k x : ℕ) → (i : ℕ) × (i ≡ k → ⊥) × (skip k i ≡ x)
+pub onto : (k x : ℕ) → (i : ℕ) × (i ≡ k → ⊥) × (skip k i ≡ x)
 unfolding skip
 onto zero x = (suc x, (λ h. omega (arith, h)), refl)
 onto (suc k) zero = (zero, (λ h. omega (arith, h)), refl)

@@ -86,7 +86,8 @@ pub clear_from : {log other : List Event} {Kept : ℕ → Type 0} {to : ℕ → 
 clear_from {to = to} j s all kj none = λ i r. none (to i) (races_to i j s (all i j r.conflict).0 kj r)
 
 pub racy_from : {log other : List Event} {Kept : ℕ → Type 0} {to : ℕ → ℕ} (j x : ℕ) → Same log other Kept to
-    → KeepsConflicts log Kept → Kept j → IsVerdict other (to j) (Racy x) → (i : ℕ) × (to i ≡ x) × IsVerdict log j (Racy i)
+    → KeepsConflicts log Kept → Kept j → IsVerdict other (to j) (Racy x)
+    → (i : ℕ) × (to i ≡ x) × IsVerdict log j (Racy i)
 racy_from {log = log} {to = to} j x s all kj v =
     let p = from_race s kj v.0 in
     let is : to p.0 ≡ x = p.2 in (

@@ -10,7 +10,7 @@ use Rattle.event_core.specs.Order.{Po, Hb}
 use Rattle.event_core.specs.Wcp.{Strict}
 use Rattle.event_core.specs.Refusal.{WellFormed}
 use Rattle.event_core.specs.Verdict.{Races, IsVerdict}
-use Rattle.trace_laws.specs.Repeats.{Repeats, RaceBetween}
+use Rattle.trace_laws.specs.Repeats.{Ordered, Repeats, RaceBetween}
 use Rattle.trace_laws.specs.Without.{Stays, without, new_index, new_verdict, HasOneThread}
 
 -- the log without the accesses to the variables says the same as the log
@@ -39,10 +39,16 @@ PrivateAccessesChangeNothing =
     (m : Limits) (log : List Event) (vars : VarId → Bool) → WellFormed m log
     → ((x : VarId) → vars x ≡ true → HasOneThread log x) → SaysTheSame m log vars
 
--- without an access that its thread made before, and since then made accesses alone, the same pairs of threads
--- race by the same operations
+-- the locks, forks and joins of a well-formed log are in order
+abbrev pub WellFormedIsOrdered : Type 0
+WellFormedIsOrdered = (m : Limits) (log : List Event) → WellFormed m log → Ordered log
+
+-- without an access that its thread made before, and since then made accesses alone, they stay in order, and
+-- the same pairs of threads race by the same operations
 abbrev pub RepeatedAccessesChangeNoPair : Type 0
 RepeatedAccessesChangeNoPair =
-    (m : Limits) (before after : List Event) (e : Event) (p : ℕ) → WellFormed m (before ++ e ∷ after)
-    → Repeats (before ++ e ∷ after) p (length before) → (u v : ThreadId) (o q : Op)
-    → RaceBetween (before ++ e ∷ after) u o v q ↔ RaceBetween (before ++ after) u o v q
+    (before after : List Event) (e : Event) (p : ℕ) → Ordered (before ++ e ∷ after)
+    → Repeats (before ++ e ∷ after) p (length before)
+    → Ordered (before ++ after)
+    × ((u v : ThreadId) (o q : Op)
+    → RaceBetween (before ++ e ∷ after) u o v q ↔ RaceBetween (before ++ after) u o v q)
