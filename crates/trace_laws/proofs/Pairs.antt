@@ -260,7 +260,8 @@ ordered_too xs ys e a w = record {
         → 0 < depth (take k (xs ++ ys)) v l → u ≡ v
     one_holder k u v l p q =
         let n = onto (length xs) k in
-        let back : (t : ThreadId) → 0 < depth (take k (xs ++ ys)) t l → 0 < depth (take n.0 (xs ++ e ∷ ys)) t l
+        let back : (t : ThreadId) → 0 < depth (take k (xs ++ ys)) t l
+        → 0 < depth (take n.0 (xs ++ e ∷ ys)) t l
         = λ t h. subst (λ (c : ℕ). 0 < c) (a.depths n.0 t l)
         (subst (λ (c : ℕ). 0 < depth (take c (xs ++ ys)) t l) (sym n.2) h) in
         w.orderly.one_holder n.0 u v l (back u p) (back v q)
