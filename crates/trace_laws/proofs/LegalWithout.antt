@@ -34,7 +34,7 @@ use Rattle.trace_laws.specs.Without.{op_accesses, stays, without}
 use Rattle.trace_laws.proofs.Filters.{front, filter_in, filter_out, origin}
 
 -- a test that the elements left out do not pass counts the same, and is passed by the same lists
-count_cons : (q : Event → Bool) (x : Event) (xs : List Event)
+pub count_cons : (q : Event → Bool) (x : Event) (xs : List Event)
     → count_by q (x ∷ xs) ≡ cond {A = ℕ} (q x) 1 0 + count_by q xs
 count_cons q x xs = sum_by-cons (λ e. cond (q e) 1 0) x xs
 

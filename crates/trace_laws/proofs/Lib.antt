@@ -5,3 +5,6 @@ pub mod Orders
 pub mod Verdicts
 pub mod LegalWithout
 pub mod Private
+pub mod Skips
+pub mod Repeated
+pub mod Pairs

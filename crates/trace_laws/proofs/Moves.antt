@@ -1,5 +1,5 @@
 -- A log and another that has some of its events: what is so of the events that both have.
-use Rattle.std.proofs.Common.{◌≡◌, ℕ, suc, ◌<◌, ◌≤◌, List, Bool, true, false, length, sym, ap, subst}
+use Rattle.std.proofs.Common.{◌≡◌, ℕ, suc, ◌<◌, ◌≤◌, List, true, length, sym, ap, subst}
 use Rattle.std.proofs.Common.{◌∙◌, arith, take, ◌⊎◌, Some, slice_get}
 use Rattle.std.proofs.lemmas.Bool.{cases_lt}
 use Rattle.std.proofs.lemmas.Option.{slice_get_within}
@@ -8,17 +8,12 @@ use Rattle.event_core.specs.declared.ids.ThreadId.{ThreadId}
 use Rattle.event_core.specs.declared.ids.LockId.{LockId}
 use Rattle.event_core.specs.declared.events.Event.{Event}
 use Rattle.event_core.specs.declared.events.Op.{Op}
-use Rattle.event_core.specs.declared.events.Op.TheVariants.{Load, Store, Acquire, Release}
+use Rattle.event_core.specs.declared.events.Op.TheVariants.{Acquire, Release}
 use Rattle.event_core.specs.Log.{Does, Of, depth, OuterAcquire, OuterRelease, Inside, Section, InSection}
 use Rattle.event_core.specs.Log.{Conflict}
 use Rattle.event_core.specs.Wcp.{Meets}
 use Rattle.event_core.proofs.Depth.{event_at}
-
--- whether the operation is an access
-abbrev pub is_access : Op → Bool
-is_access (Load x) = true
-is_access (Store x) = true
-is_access _ = false
+use Rattle.trace_laws.specs.Repeats.{is_access}
 
 -- the other log has the events of this one that are kept, in their order, and those that it has not are
 -- accesses

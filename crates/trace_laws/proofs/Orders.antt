@@ -13,7 +13,8 @@ use Rattle.event_core.specs.Order.{event_to_join, HbEdge, program, lock, Po, Hb}
 use Rattle.event_core.specs.Wcp.{Meets, Strict, rule_a, rule_b, rule_c_left, rule_c_right}
 use Rattle.event_core.proofs.Chains.{hb_trans, acquire_below, below_release}
 use Rattle.event_core.proofs.LogFacts.{of_does, of_one, does_op}
-use Rattle.trace_laws.proofs.Moves.{Moved, is_access, lt_to, lt_from, one_index, does_to, does_from, of_to}
+use Rattle.trace_laws.specs.Repeats.{is_access}
+use Rattle.trace_laws.proofs.Moves.{Moved, lt_to, lt_from, one_index, does_to, does_from, of_to}
 use Rattle.trace_laws.proofs.Moves.{of_from, from_of, from_does, kept_acquire, kept_release, acquire_to}
 use Rattle.trace_laws.proofs.Moves.{acquire_from, release_to, release_from, in_section_to, in_section_from}
 use Rattle.trace_laws.proofs.Moves.{meets_from}

@@ -19,7 +19,8 @@ use Rattle.trace_laws.specs.Without.{HasOneThread}
 use Rattle.trace_laws.specs.AccessLaws.{SaysTheSame}
 use Rattle.trace_laws.proofs.Filters.{front, rises, next, stands, origin}
 use Rattle.trace_laws.proofs.LegalWithout.{same_depth, well_formed_too}
-use Rattle.trace_laws.proofs.Moves.{Moved, is_access, meets_to}
+use Rattle.trace_laws.specs.Repeats.{is_access}
+use Rattle.trace_laws.proofs.Moves.{Moved, meets_to}
 use Rattle.trace_laws.proofs.Verdicts.{Same, same_po, same_hb, same_strict, races_to, races_from, clear_to}
 use Rattle.trace_laws.proofs.Verdicts.{racy_to, clear_from, racy_from}
 
@@ -127,7 +128,6 @@ same vars log own = record {
   premises = λ r i j m kj h. (
       let k = conflicts vars log own m.access i m.conflict in
       record { access = i; kept = k.1; below = h; meets = meets_to (moved vars log) k.1 m k.0 });
-  conflicts = conflicts vars log own;
 }
 
 pub says_the_same : (m : Limits) (vars : VarId → Bool) (log : List Event) → WellFormed m log
@@ -146,12 +146,12 @@ says_the_same m vars log w own = record {
 
     verdict : (j : ℕ) (v : Verdict) → Stays vars log j → IsVerdict log j v
         → IsVerdict (without vars log) (new_index vars log j) (new_verdict vars log v)
-    verdict j Clear k v = clear_to j s k v
-    verdict j (Racy i) k v = racy_to j i s k v
+    verdict j Clear k v = clear_to j s (conflicts vars log own) k v
+    verdict j (Racy i) k v = racy_to j i s (conflicts vars log own) k v
 
     verdict_here : (j : ℕ) (v : Verdict) → Stays vars log j
         → IsVerdict (without vars log) (new_index vars log j) v
         → (w : Verdict) × (new_verdict vars log w ≡ v) × IsVerdict log j w
-    verdict_here j Clear k v = (Clear, refl, clear_from j s k v)
+    verdict_here j Clear k v = (Clear, refl, clear_from j s (conflicts vars log own) k v)
     verdict_here j (Racy x) k v =
-        let p = racy_from j x s k v in (Racy p.0, ap Racy p.1, p.2)
+        let p = racy_from j x s (conflicts vars log own) k v in (Racy p.0, ap Racy p.1, p.2)

@@ -10,11 +10,14 @@ use Rattle.event_core.specs.Verdict.{Races, IsVerdict}
 use Rattle.trace_laws.proofs.Moves.{Moved, lt_to, lt_from, from_does, conflict_to, conflict_from}
 use Rattle.trace_laws.proofs.Orders.{KeepsPremises, po_to, po_from, hb_to, hb_back, strict_to, strict_from}
 
--- all that race are kept, and the premises of rule (a) are
+-- the premises of rule (a) are kept
 pub record Same (log other : List Event) (Kept : ℕ → Type 0) (to : ℕ → ℕ) : Type 0 where
   pub moved : Moved log other Kept to
   pub premises : KeepsPremises log other Kept to
-  pub conflicts : (i j : ℕ) → Conflict log i j → Kept i × Kept j
+
+-- and all that conflict
+abbrev pub KeepsConflicts : List Event → (ℕ → Type 0) → Type 0
+KeepsConflicts log Kept = (i j : ℕ) → Conflict log i j → Kept i × Kept j
 
 pub same_po : {log other : List Event} {Kept : ℕ → Type 0} {to : ℕ → ℕ} (i j : ℕ) → Same log other Kept to
     → Kept i → Kept j → Po log i j ↔ Po other (to i) (to j)
@@ -66,25 +69,26 @@ from_race {other = other} {to = to} {j = j} s kj r =
     (p.0, p.1, p.2, races_from p.0 j s p.1 kj moved_race)
 
 pub clear_to : {log other : List Event} {Kept : ℕ → Type 0} {to : ℕ → ℕ} (j : ℕ) → Same log other Kept to
-    → Kept j → IsVerdict log j Clear → IsVerdict other (to j) Clear
-clear_to j s kj none = λ x r. (let p = from_race s kj r in none p.0 p.3)
+    → KeepsConflicts log Kept → Kept j → IsVerdict log j Clear → IsVerdict other (to j) Clear
+clear_to j s all kj none = λ x r. (let p = from_race s kj r in none p.0 p.3)
 
 pub racy_to : {log other : List Event} {Kept : ℕ → Type 0} {to : ℕ → ℕ} (j i : ℕ) → Same log other Kept to
-    → Kept j → IsVerdict log j (Racy i) → IsVerdict other (to j) (Racy (to i))
-racy_to {to = to} j i s kj v = (
-  races_to i j s (s.conflicts i j v.0.conflict).0 kj v.0,
+    → KeepsConflicts log Kept → Kept j → IsVerdict log j (Racy i) → IsVerdict other (to j) (Racy (to i))
+racy_to {to = to} j i s all kj v = (
+  races_to i j s (all i j v.0.conflict).0 kj v.0,
   λ x lt r. (let p = from_race s kj r in
       let is : to p.0 ≡ x = p.2 in
       v.1 p.0 (lt_from s.moved (omega (arith, is, lt))) p.3),
 )
 
 pub clear_from : {log other : List Event} {Kept : ℕ → Type 0} {to : ℕ → ℕ} (j : ℕ) → Same log other Kept to
-    → Kept j → IsVerdict other (to j) Clear → IsVerdict log j Clear
-clear_from {to = to} j s kj none = λ i r. none (to i) (races_to i j s (s.conflicts i j r.conflict).0 kj r)
+    → KeepsConflicts log Kept → Kept j → IsVerdict other (to j) Clear → IsVerdict log j Clear
+clear_from {to = to} j s all kj none = λ i r. none (to i) (races_to i j s (all i j r.conflict).0 kj r)
 
 pub racy_from : {log other : List Event} {Kept : ℕ → Type 0} {to : ℕ → ℕ} (j x : ℕ) → Same log other Kept to
-    → Kept j → IsVerdict other (to j) (Racy x) → (i : ℕ) × (to i ≡ x) × IsVerdict log j (Racy i)
-racy_from {log = log} {to = to} j x s kj v =
+    → KeepsConflicts log Kept → Kept j → IsVerdict other (to j) (Racy x)
+    → (i : ℕ) × (to i ≡ x) × IsVerdict log j (Racy i)
+racy_from {log = log} {to = to} j x s all kj v =
     let p = from_race s kj v.0 in
     let is : to p.0 ≡ x = p.2 in (
       p.0,
@@ -92,7 +96,7 @@ racy_from {log = log} {to = to} j x s kj v =
       (
         p.3,
         λ k lt r. (
-            let kk = (s.conflicts k j r.conflict).0 in
+            let kk = (all k j r.conflict).0 in
             let up = lt_to s.moved p.1 lt in
             v.1 (to k) (omega (arith, is, up)) (races_to k j s kk kj r)),
       ),

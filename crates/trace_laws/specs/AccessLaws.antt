@@ -1,13 +1,16 @@
 -- Which accesses a recorder may leave out.
-use Rattle.std.specs.Prelude.{◌≡◌, ℕ, Bool, true, ◌↔◌, List}
+use Rattle.std.specs.Prelude.{◌≡◌, ℕ, Bool, true, ◌↔◌, List, ◌∷◌, ◌++◌, length}
+use Rattle.event_core.specs.declared.ids.ThreadId.{ThreadId}
 use Rattle.event_core.specs.declared.ids.VarId.{VarId}
 use Rattle.event_core.specs.declared.events.Event.{Event}
+use Rattle.event_core.specs.declared.events.Op.{Op}
 use Rattle.event_core.specs.declared.bounds.Limits.{Limits}
 use Rattle.event_core.specs.declared.replies.Verdict.{Verdict}
 use Rattle.event_core.specs.Order.{Po, Hb}
 use Rattle.event_core.specs.Wcp.{Strict}
 use Rattle.event_core.specs.Refusal.{WellFormed}
 use Rattle.event_core.specs.Verdict.{Races, IsVerdict}
+use Rattle.trace_laws.specs.Repeats.{Ordered, Repeats, RaceBetween}
 use Rattle.trace_laws.specs.Without.{Stays, without, new_index, new_verdict, HasOneThread}
 
 -- the log without the accesses to the variables says the same as the log
@@ -35,3 +38,17 @@ abbrev pub PrivateAccessesChangeNothing : Type 0
 PrivateAccessesChangeNothing =
     (m : Limits) (log : List Event) (vars : VarId → Bool) → WellFormed m log
     → ((x : VarId) → vars x ≡ true → HasOneThread log x) → SaysTheSame m log vars
+
+-- the locks, forks and joins of a well-formed log are in order
+abbrev pub WellFormedIsOrdered : Type 0
+WellFormedIsOrdered = (m : Limits) (log : List Event) → WellFormed m log → Ordered log
+
+-- without an access that its thread made before, and since then made accesses alone, they stay in order, and
+-- the same pairs of threads race by the same operations
+abbrev pub RepeatedAccessesChangeNoPair : Type 0
+RepeatedAccessesChangeNoPair =
+    (before after : List Event) (e : Event) (p : ℕ) → Ordered (before ++ e ∷ after)
+    → Repeats (before ++ e ∷ after) p (length before)
+    → Ordered (before ++ after)
+    × ((u v : ThreadId) (o q : Op)
+    → RaceBetween (before ++ e ∷ after) u o v q ↔ RaceBetween (before ++ after) u o v q)

@@ -1,3 +1,4 @@
 pub mod Without
 pub mod HbLaws
+pub mod Repeats
 pub mod AccessLaws

@@ -1,5 +1,9 @@
 //! The laws of traces. A law's function does nothing, and its clause is the law.
-ghost use Rattle.trace_laws.specs.AccessLaws.{PrivateAccessesChangeNothing};
+ghost use Rattle.trace_laws.specs.AccessLaws.{
+  PrivateAccessesChangeNothing,
+  WellFormedIsOrdered,
+  RepeatedAccessesChangeNoPair,
+};
 ghost use Rattle.trace_laws.specs.HbLaws.{StrictIsWithinHb, HbRacesAreRaces};
 
 /// In a well-formed log, what strictly precedes an event happens before it.
@@ -18,4 +22,17 @@ pub fn hb_races_are_races()
 /// it had. Only the indices move down, each by as many events as are left out before it.
 pub fn private_accesses_change_nothing()
     ensures { PrivateAccessesChangeNothing }
+{}
+
+/// The locks, forks and joins of a well-formed log are in order.
+pub fn well_formed_is_ordered()
+    ensures { WellFormedIsOrdered }
+{}
+
+/// An access that its thread made before, by the same operation, may be left out of a log whose locks, forks
+/// and joins are in order, where the thread has made accesses alone since. They stay in order, so another may
+/// be left out then. The same two threads race by the same operations, and no others. Which of a thread's
+/// accesses a race is with may change, and which of the two comes first. Values do not matter.
+pub fn repeated_accesses_change_no_pair()
+    ensures { RepeatedAccessesChangeNoPair }
 {}

@@ -1,0 +1,5 @@
+use Rattle.trace_laws.proofs.Pairs.{ordered_log}
+use Rattle.trace_laws.proofs.laws.well_formed_is_ordered.Goals as goal
+
+pub returns : goal.returns
+returns c = ordered_log
