@@ -14,12 +14,14 @@ void start_names(void) {
     known = pages(sizeof *known * PLACES);
 }
 
+/* To the base of 16 or of 10, each a constant, since to divide by a number that is not known takes longer. */
 char *name_number(char *to, unsigned base, uint64_t number) {
     char digits[24];
     int count = 0;
     do {
-        digits[count++] = "0123456789abcdef"[number % base];
-        number /= base;
+        uint64_t rest = base == 16 ? number / 16 : number / 10;
+        digits[count++] = "0123456789abcdef"[number - rest * base];
+        number = rest;
     } while (number);
     while (count) *to++ = digits[--count];
     return to;
