@@ -1,6 +1,7 @@
 //! Worked logs with the numbers of their clocks.
 ghost use Rattle.std.specs.Prelude.{◌≡◌, ℕ, ◌<◌, ◌≤◌, ◌↔◌, length, IsTrue};
 ghost use Rattle.hb_clocks.specs.Counts.{counts_of};
+ghost use Rattle.hb_clocks.specs.Released.{before_of};
 ghost use Rattle.hb_clocks.specs.Standing.{IsAtMost};
 ghost use Rattle.hb_clocks.specs.Tables.{state_of, IsWithin};
 
@@ -58,6 +59,25 @@ fn expect_numbers(rt: &impl Abort, at: usize, clock: &Clock, wanted: &[u64; 3])
     expect(rt, at, [clock.at(T0), clock.at(T1), clock.at(T2)], *wanted);
 }
 
+// A count for one call, which has no work yet.
+pub fn no_work(rt: &impl Abort, alloc: Global) -> Work
+    ensures { result ≡ record { comparisons = 0; joins = 0 } }
+{
+    let limits = Limits::new(1, 1, 1, 1, Roots::Free).expect(rt, "small limits");
+    let (_clocks, work, _releases) = HbClocks::new(alloc, limits).expect(rt, "memory");
+    work
+}
+
+// The numbers of the clock of a release, which a clock of zeros has once it joined them.
+pub fn numbers_of(rt: &impl Abort, alloc: Global, release: &ReleaseClock) -> [u64; 3]
+    requires { length (before_of release.now) ≤ 3 }
+{
+    let mut clock = Clock::new(alloc, 3).expect(rt, "memory");
+    let mut work = no_work(rt, alloc);
+    clock.join_release(release, &mut work);
+    [clock.at(T0), clock.at(T1), clock.at(T2)]
+}
+
 impl Run {
     pub fn new(rt: &impl Abort, alloc: Global) -> Run {
         let limits = Limits::new(3, 2, 2, 64, Roots::Free).expect(rt, "small limits");
@@ -71,18 +91,9 @@ impl Run {
         }
     }
 
-    // A count for one call, which has no work yet.
-    pub fn no_work(&self, rt: &impl Abort) -> Work
-        ensures { result ≡ record { comparisons = 0; joins = 0 } }
-    {
-        let limits = Limits::new(1, 1, 1, 1, Roots::Free).expect(rt, "small limits");
-        let (_clocks, work, _releases) = HbClocks::new(self.alloc, limits).expect(rt, "memory");
-        work
-    }
-
     // Makes room for the event, and takes it.
     pub fn take(&mut self, rt: &impl Abort, event: &Event) {
-        let mut work = self.no_work(rt);
+        let mut work = no_work(rt, self.alloc);
         assert!(rt; self.events < 100);
         assert!(rt; is_within(event));
         assert!(rt; self.clocks.prepare(event).is_ok(), "memory");
@@ -117,7 +128,7 @@ impl Run {
     fn expect_counts(&self, rt: &impl Abort, at: usize, thread: ThreadId, wanted: &[bool; 2]) {
         let mark = self.marked.expect(rt, "a mark is kept");
         assert!(rt; mark.thread().0 < 3);
-        let mut work = self.no_work(rt);
+        let mut work = no_work(rt, self.alloc);
         let by_po = mark.counted(self.clocks.po(thread), &mut work);
         let by_hb = mark.counted(self.clocks.hb(thread), &mut work);
         expect(rt, at, [by_po, by_hb], *wanted);
@@ -129,14 +140,15 @@ impl Run {
     }
 
     fn join(&mut self, rt: &impl Abort, thread: ThreadId) {
-        let mut work = self.no_work(rt);
+        let mut work = no_work(rt, self.alloc);
         self.beside.join(self.clocks.hb(thread), &mut work);
     }
 
     // It takes the greater numbers of the release.
-    pub fn join_release(&mut self, rt: &impl Abort, release: &ReleaseClock) {
-        assert!(rt; release.counts_before().len() <= 3);
-        let mut work = self.no_work(rt);
+    pub fn join_release(&mut self, rt: &impl Abort, release: &ReleaseClock)
+        requires { length (before_of release.now) ≤ 3 }
+    {
+        let mut work = no_work(rt, self.alloc);
         self.beside.join_release(release, &mut work);
     }
 

@@ -7,7 +7,7 @@ ghost use Rattle.lock_queues.specs.Queues.{closed_of, found_of, SameMeaning};
 
 mod cases;
 
-use crate::clocks::{Run, event};
+use crate::clocks::{Run, event, no_work, numbers_of};
 use crate::expected::expect;
 use cases::{L, ONE_SECTION, RELEASES, Row, T0, T1, THREE_THREADS, TWO_THREADS};
 use event_core::{Limits, LockId, Op, Roots, ThreadId, VarId};
@@ -19,6 +19,7 @@ use std::process::Abort;
 /// The sections of three threads on two locks, and the clocks of those threads.
 #[derive(Drop)]
 struct Sections {
+    alloc: Global,
     queues: Queues,
     run: Run,
     ghost threads: { queues.limits.threads ≡ 3 },
@@ -59,19 +60,22 @@ fn close_first(
     queues.leave(thread, lock, clock);
 }
 
-// What a release of the thread finds by the clock, which ends its section from the mark on.
+// What a release of the thread finds by the clock, which ends its section from the mark on: a thread and the
+// numbers of its release.
 fn find(
     rt: &impl Abort,
+    alloc: Global,
     queues: &mut Queues,
     thread: ThreadId,
     lock: LockId,
     mark: Mark,
     clock: &Clock,
     work: &mut Work,
-) -> Option<(ThreadId, u32)>
+) -> Option<(ThreadId, [u64; 3])>
     requires own { mark.thread ≡ thread.0 }
     requires marked { 0 < mark.position }
     requires width { length clock.now ≡ queues.old.limits.threads }
+    requires threads { queues.old.limits.threads ≡ 3 }
     requires few { length (closed_of queues.old lock.0) ≤ 1 }
     requires found { found_of queues.old ≡ (λ _ _. 0) }
     requires work { work.old.comparisons ≡ 0 }
@@ -79,7 +83,7 @@ fn find(
     assert!(rt; queues.ready(thread, lock));
     queues.enter(thread, lock, mark);
     let below = queues.last_below(thread, lock, clock, work)?;
-    Some((below.by(), below.own()))
+    Some((below.by(), numbers_of(rt, alloc, &below)))
 }
 
 impl Sections {
@@ -87,6 +91,7 @@ impl Sections {
         let limits = Limits::new(3, 2, 1, 8, Roots::Free).expect(rt, "small limits");
         let (_clocks, _work, releases) = HbClocks::new(alloc, limits).expect(rt, "memory");
         Sections {
+            alloc,
             queues: Queues::new(alloc, limits, releases).expect(rt, "no memory is taken"),
             run: Run::new(rt, alloc),
         }
@@ -109,12 +114,12 @@ impl Sections {
         at: usize,
         lock: LockId,
         number: u32,
-        wanted: (ThreadId, u32, &[u32]),
+        wanted: (ThreadId, [u64; 3]),
     ) {
         assert!(rt; 0 < number);
         assert!(rt; number <= self.queues.count(lock));
         let section = self.queues.section(lock, number);
-        let found = (section.by(), section.own(), section.counts_before());
+        let found = (section.by(), numbers_of(rt, self.alloc, &section));
         expect(rt, at, found, wanted);
     }
 
@@ -132,13 +137,17 @@ impl Sections {
         thread: ThreadId,
         lock: LockId,
         other: ThreadId,
-    ) -> Option<(ThreadId, u32)> {
+    ) -> Option<(ThreadId, [u64; 3])> {
         self.make_room(rt, thread, lock);
-        let Sections { mut queues, run } = self;
+        let Sections {
+            alloc,
+            mut queues,
+            run,
+        } = self;
         let mark = run.latest(rt, thread);
         let clock = run.clocks.hb(other);
-        let mut work = run.no_work(rt);
-        find(rt, &mut queues, thread, lock, mark, clock, &mut work)
+        let mut work = no_work(rt, alloc);
+        find(rt, alloc, &mut queues, thread, lock, mark, clock, &mut work)
     }
 
     fn follow(&mut self, rt: &impl Abort, at: usize, row: &Row) {
@@ -147,8 +156,8 @@ impl Sections {
             Row::Fork(thread, child) => self.run.take(rt, &event(*thread, Op::Fork(*child))),
             Row::Close(thread, lock) => self.close(rt, *thread, *lock),
             Row::Count(lock, wanted) => expect(rt, at, self.queues.count(*lock), *wanted),
-            Row::Section(lock, number, by, own, before) => {
-                self.expect_section(rt, at, *lock, *number, (*by, *own, before));
+            Row::Section(lock, number, by, wanted) => {
+                self.expect_section(rt, at, *lock, *number, (*by, *wanted));
             }
             Row::Copy(thread) => self.run.copy(*thread),
             Row::JoinRelease(lock, number) => self.join_release(rt, *lock, *number),
@@ -178,7 +187,7 @@ fn releases_of_two_threads_are_joined_into_the_clock_of_a_third(rt: HostRuntime)
 #[test]
 fn another_thread_finds_the_section(rt: HostRuntime) {
     let sections = follow_all(&rt, rt.alloc(), TWO_THREADS);
-    assert_eq!(rt; sections.found(&rt, T1, L, T0), Some((T0, 0)));
+    assert_eq!(rt; sections.found(&rt, T1, L, T0), Some((T0, [1, 0, 0])));
 }
 
 #[test]

@@ -13,7 +13,7 @@ ghost use Rattle.clock_tests.specs.OneLog.{small, StandForOneLog};
 
 mod cases;
 
-use crate::clocks::event;
+use crate::clocks::{event, numbers_of};
 use crate::expected::expect;
 use cases::{
     CHILD, CROSSED_SECTIONS, EARLIER_RELEASE, INNER_RELEASES, K, Line, M, MAIN, OTHER,
@@ -133,21 +133,21 @@ fn follow(rt: &impl Abort, alloc: Global, lines: &[Line], last: ThreadId, below:
     drop(clocks);
 }
 
-// After the events an access by the thread under the lock meets these releases: of each its thread, how many
-// events of that thread there were before it, and how many of each.
+// After the events an access by the thread under the lock meets these releases: of each its thread, and of
+// each thread how many events happened before it, which is one of them.
 fn follow_to_sources(
     rt: &impl Abort,
     alloc: Global,
     lines: &[Line],
     access: (ThreadId, LockId, VarId, AccessKind),
-    wanted: &[(ThreadId, u32, &[u32])],
+    wanted: &[(ThreadId, [u64; 3])],
 ) {
     let clocks = take_all(rt, alloc, lines);
     let (thread, lock, var, kind) = access;
     let mut sources = clocks.sources(thread, lock, var, kind);
     for (at, row) in wanted.iter().enumerate() {
         let release = sources.next().expect(rt, "a release");
-        let came = (release.by(), release.own(), release.counts_before());
+        let came = (release.by(), numbers_of(rt, alloc, &release));
         expect(rt, at, came, *row);
     }
     assert!(rt; sources.next().is_none());
@@ -179,7 +179,7 @@ fn rule_b_orders_the_releases_of_overlapping_sections(rt: HostRuntime) {
 #[test]
 fn an_access_meets_the_release_of_a_section_in_conflict(rt: HostRuntime) {
     let lines = &EARLIER_RELEASE[..8];
-    let met: &[(ThreadId, u32, &[u32])] = &[(MAIN, 4, &[4])];
+    let met: &[(ThreadId, [u64; 3])] = &[(MAIN, [5, 0, 0])];
     follow_to_sources(&rt, rt.alloc(), lines, (CHILD, K, X, LOAD), met);
     follow_to_sources(&rt, rt.alloc(), lines, (CHILD, K, X, STORE), met);
     // its own, and another variable
@@ -192,8 +192,8 @@ fn an_access_meets_the_release_of_a_section_in_conflict(rt: HostRuntime) {
 #[test]
 fn a_store_meets_the_newest_store_and_the_newest_load(rt: HostRuntime) {
     let lines = &RELEASES_OF_ONE_THREAD[..15];
-    let stored: (ThreadId, u32, &[u32]) = (MAIN, 5, &[5]);
-    let loaded: (ThreadId, u32, &[u32]) = (CHILD, 2, &[6, 2]);
+    let stored: (ThreadId, [u64; 3]) = (MAIN, [6, 0, 0]);
+    let loaded: (ThreadId, [u64; 3]) = (CHILD, [6, 3, 0]);
     follow_to_sources(&rt, rt.alloc(), lines, (OTHER, M, X, LOAD), &[stored]);
     follow_to_sources(
         &rt,

@@ -28,9 +28,6 @@ counts_set ns t n lt i u = go (cases_eq u t) i
         ∙ sym (ap (with_row t n (counts_of ns)) is ∙ row_same t n (counts_of ns))
     go (inr other) = get_or-set_other ns t u n 0 other ∙ sym (row_other t n (counts_of ns) u other)
 
-pub lowered_at : (t : ℕ) (ns : List ℕ) → t < length ns → counts_of (lowered t ns) ≡ before t (counts_of ns)
-lowered_at t ns lt = counts_set ns t (counts_of ns t - 1) lt
-
 -- a clock with one event more, just before that event
 pub before_bumped : (t : ℕ) (f : ℕ → ℕ) (u : ℕ) → before t (bump t f) u ≡ f u
 before_bumped t f u = go (cases_eq u t)

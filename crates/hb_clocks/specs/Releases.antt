@@ -20,19 +20,17 @@ pub record KeptNumbers : Type 0 where
   pub numbers : List ℕ
   pub most : ℕ
 
--- where the numbers of one release stand among them, how many they are, and which is its own thread's
+-- where the numbers of one release stand among them, and how many they are
 pub record Place : Type 0 where
-  pub own : ℕ
   pub width : ℕ
   pub start : ℕ
 
 abbrev pub numbers_at : List ℕ → Place → List ℕ
 numbers_at numbers p = take p.width (drop p.start numbers)
 
--- the numbers are there, and the thread's is its own
-pub record IsReadable (numbers : List ℕ) (by : ℕ) (p : Place) : Type 0 where
+-- the numbers are there
+pub record IsReadable (numbers : List ℕ) (p : Place) : Type 0 where
   pub within : p.start + p.width ≤ length numbers
-  pub own : counts_of (numbers_at numbers p) by ≡ p.own
 
 -- the clock of a release by the thread, of so many numbers at most, comes after all others at the place
 pub record IsAdded (old new : List ℕ) (by : ℕ) (p : Place) (width : ℕ) (clock : ℕ → ℕ) : Type 0 where
@@ -41,6 +39,5 @@ pub record IsAdded (old new : List ℕ) (by : ℕ) (p : Place) (width : ℕ) (cl
   pub start : p.start ≡ length old
   pub count : p.width ≡ length added
   pub marked : by < length added
-  pub own : counts_of added by ≡ p.own
   pub release : counts_of (raised by added) ≡ clock
   pub within : length added ≤ width

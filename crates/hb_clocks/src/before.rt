@@ -52,7 +52,7 @@ fn write_low(numbers: &mut [u32], counts: &[u64])
 }
 
 // How many events of the thread of the release there were just before it.
-pub(crate) fn number_before(release: &[u64], by: ThreadId) -> u32
+fn number_before(release: &[u64], by: ThreadId) -> u32
     requires within { by.0 < length release.now }
     requires counted { 0 < counts_of release.now by.0 }
     requires few { before by.0 (counts_of release.now) by.0 < 2 ^ 32 }

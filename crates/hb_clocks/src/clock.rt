@@ -78,8 +78,10 @@ impl Clock {
         ensures work { work.new ≡ record work.old { joins = work.old.joins + 1 } }
     {
         work.add_join();
-        self.raise_before(release.counts_before());
-        self.count_release(release.by(), release.own());
+        let before = release.counts_before();
+        let by = release.by();
+        self.raise_before(before);
+        self.count_release(by, before[by.0 as usize]);
     }
 
     /// Takes the other clock's numbers.

@@ -6,7 +6,7 @@
 ghost use Rattle.std.specs.Prelude.{◌≡◌, ◌<◌, length};
 ghost use Rattle.hb_clocks.specs.Counts.{counts_of};
 
-use crate::before::{number_before, push_before};
+use crate::before::push_before;
 use crate::clock::Clock;
 use event_core::{OutOfMemory, ThreadId, reserve};
 use std::alloc::Global;
@@ -28,10 +28,9 @@ impl Model for ReleaseClocks {
     ghost view = { λ r. record { numbers = r.numbers.items; most = vec_capacity r.numbers } };
 }
 
-/// Which of the clocks: from which number on, and how many numbers. Beside it that of its own thread.
+/// Which of the clocks: from which number on, and how many numbers.
 #[derive(Clone, Copy)]
 pub struct ReleasePlace {
-    own: u32,
     width: u32,
     start: usize,
 }
@@ -41,23 +40,20 @@ impl Model for ReleasePlace {
 
     ghost Value = { Place };
 
-    ghost view = { λ p. record { own = p.own; width = p.width; start = p.start } };
+    ghost view = { λ p. record { width = p.width; start = p.start } };
 
-    ghost inverse = { λ p. record { own = p.own; width = p.width; start = p.start } };
+    ghost inverse = { λ p. record { width = p.width; start = p.start } };
 }
 
 /// The clock of one release: its thread, and of each thread how many events happened before it. The release
 /// is one more event of its own thread. Beyond the numbers each is 0.
 ///
-/// The thread's own number stands beside the others too: who asks whether the release is counted needs no
-/// other, and the others lie elsewhere in memory.
+/// Contracts alone see the numbers. A clock can join them, and nothing else asks for them: a join is counted.
 #[derive(Clone, Copy)]
 pub struct ReleaseClock<'a> {
     by: ThreadId,
-    own: u32,
     before: &'a [u32],
     ghost marked: { by.0 < length before.now },
-    ghost own_number: { own ≡ counts_of before.now by.0 },
 }
 
 impl ReleaseClocks {
@@ -111,7 +107,6 @@ impl ReleaseClocks {
         let start = self.numbers.len();
         push_before(&mut self.numbers, counts, by);
         ReleasePlace {
-            own: number_before(counts, by),
             width: counts.len() as u32,
             start,
         }
@@ -120,7 +115,7 @@ impl ReleaseClocks {
     /// The clock at the place, of a release by the thread.
     #[inline(always)]
     pub fn at(&self, by: ThreadId, place: &ReleasePlace) -> ReleaseClock<'_>
-        requires readable { IsReadable self.now.numbers by.0 place.now }
+        requires readable { IsReadable self.now.numbers place.now }
         requires marked { by.0 < place.now.width }
         ensures by { thread_of result ≡ by }
         ensures before { before_of result ≡ numbers_at self.now.numbers place.now }
@@ -129,16 +124,14 @@ impl ReleaseClocks {
         let end = place.start + place.width as usize;
         ReleaseClock {
             by,
-            own: place.own,
             before: &numbers[place.start..end],
         }
     }
 }
 
 impl<'a> ReleaseClock<'a> {
-    ghost use Rattle.std.specs.Prelude.{◌≡◌, ◌<◌, ◌≤◌, ◌↔◌, length, IsTrue};
-    ghost use Rattle.hb_clocks.specs.Counts.{counts_of};
-    ghost use Rattle.hb_clocks.specs.Released.{thread_of, before_of, clock_of};
+    ghost use Rattle.std.specs.Prelude.{◌≡◌, ◌<◌, length};
+    ghost use Rattle.hb_clocks.specs.Released.{thread_of, before_of};
 
     /// The thread whose release it is.
     pub fn by(&self) -> ThreadId
@@ -148,27 +141,10 @@ impl<'a> ReleaseClock<'a> {
         self.by
     }
 
-    /// How many events of its thread happened before it.
-    pub fn own(&self) -> u32
-        ensures { result ≡ counts_of (before_of self.now) (thread_of self.now).0 }
-    {
-        self.own
-    }
-
-    /// Of each thread how many events happened before it, from thread 0 on. Beyond them each number is 0.
-    pub fn counts_before(&self) -> &[u32]
+    // Of each thread how many events happened before it, from thread 0 on. Beyond them each number is 0.
+    pub(crate) fn counts_before(&self) -> &[u32]
         ensures { result.now ≡ before_of self.now }
     {
         self.before
-    }
-
-    /// Whether the clock counts the release.
-    #[inline(always)]
-    pub fn counted(&self, clock: &Clock) -> bool
-        requires { length (before_of self.now) ≤ length clock.now }
-        ensures { IsTrue result ↔ (clock_of self.now (thread_of self.now).0
-            ≤ counts_of clock.now (thread_of self.now).0) }
-    {
-        self.own as u64 + 1 <= clock.at(self.by)
     }
 }

@@ -34,15 +34,9 @@ numbers_grown ns ms p within =
     ap (take p.width) (drop-append-le p.start ns ms (omega arith))
     ∙ take-append-le p.width (drop p.start ns) ms (omega arith)
 
-pub readable_grown : (ns ms : List ℕ) (e : Entry) → IsReadable ns e.acquire.thread e.place
-    → IsReadable (ns ++ ms) e.acquire.thread e.place
+pub readable_grown : (ns ms : List ℕ) (e : Entry) → IsReadable ns e.place → IsReadable (ns ++ ms) e.place
 readable_grown ns ms e is =
-    let longer = length-append ns ms in
-    let within = is.within in
-    record {
-      within = omega arith;
-      own = ap (λ xs. counts_of xs e.acquire.thread) (numbers_grown ns ms e.place is.within) ∙ is.own;
-    }
+    let longer = length-append ns ms in let within = is.within in record { within = omega arith }
 
 -- the section of the entry, by the numbers of its release
 abbrev section_with : Entry → List ℕ → Closed
@@ -89,15 +83,10 @@ joined_readable {ns = ns} {es = es} {fs = fs} j are =
     let longer = length-append ns j.kept.added in
     let start = j.kept.start in
     let width = j.kept.count in
-    let mine : IsReadable (ns ++ j.kept.added) j.entry.acquire.thread j.entry.place
-    = record {
-      within = omega arith;
-      own = ap₂ counts_of (joined_numbers ns j.kept.added j.entry.place j.kept.start j.kept.count) j.thread
-          ∙ j.kept.own;
-    } in
+    let mine : IsReadable (ns ++ j.kept.added) j.entry.place = record { within = omega arith } in
     subst (λ (xs : List ℕ). AreReadable xs fs) (sym j.kept.numbers)
     (subst (AreReadable (ns ++ j.kept.added)) (sym j.entries)
-    (each_pushed (λ (e : Entry). IsReadable (ns ++ j.kept.added) e.acquire.thread e.place) es j.entry
+    (each_pushed (λ (e : Entry). IsReadable (ns ++ j.kept.added) e.place) es j.entry
     (λ k lt. readable_grown ns j.kept.added (entry_at es k) (are k lt)) mine))
 
 -- a section that is closed after the others

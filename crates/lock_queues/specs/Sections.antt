@@ -38,7 +38,7 @@ abbrev pub sections_of : List ℕ → List Entry → List Closed
 sections_of numbers entries = map (section_of numbers) entries
 
 abbrev pub no_entry : Entry
-no_entry = record { acquire = no_mark; place = record { own = 0; width = 0; start = 0 } }
+no_entry = record { acquire = no_mark; place = record { width = 0; start = 0 } }
 
 abbrev pub entry_at : List Entry → ℕ → Entry
 entry_at entries k = slice_index_or entries k no_entry
@@ -70,8 +70,7 @@ pub record Listed : Type 0 where
 -- their numbers are there
 abbrev pub AreReadable : List ℕ → List Entry → Type 0
 AreReadable numbers entries =
-    (k : ℕ) → k < length entries
-    → IsReadable numbers (entry_at entries k).acquire.thread (entry_at entries k).place
+    (k : ℕ) → k < length entries → IsReadable numbers (entry_at entries k).place
 
 -- the clock counts the acquire of the entry at the place
 abbrev pub CountsEntry : List Entry → List ℕ → ℕ → Type 0

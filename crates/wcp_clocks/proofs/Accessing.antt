@@ -67,8 +67,7 @@ module _ (e : Event) (x : VarId) (k : AccessKind) (old : Parts)
       (strict_of old.rows).thread
       → (strict_of taken).lock ≡ (strict_of old.rows).lock → SameRoom old.rows taken
       → joined.joins ≤ old.work.joins + 2 * length locks
-      → joined.joins ≡ old.work.joins + joins_under old.sums (closed_of old.queues) x.0 k t
-      ((strict_of old.rows).thread t) (numbers_of locks)
+      → joined.joins ≡ old.work.joins + joins_under old.sums x.0 k t (numbers_of locks)
       → joined.comparisons ≡ old.work.comparisons
       → ((v l y : ℕ) (j : AccessKind) → noted_of sums v l y j
       ≡ (noted_of old.sums v l y j || is_access t locks x.0 k v l y j))
@@ -102,8 +101,7 @@ module _ (e : Event) (x : VarId) (k : AccessKind) (old : Parts)
             ∙ ap (λ (ls : List LockId). length ls) (sym of) in
             omega arith);
         joins_exact = (let w = joins_told e (Accesses x k) old joined work told done in
-            let n = ap (λ (ls : List LockId). joins_under old.sums (closed_of old.queues) x.0 k t
-            ((strict_of old.rows).thread t) (numbers_of ls)) of in
+            let n = ap (λ (ls : List LockId). joins_under old.sums x.0 k t (numbers_of ls)) of in
             omega arith);
         comparisons = ap (λ (d : Done). d.comparisons) done ∙ comparisons;
         no_fewer = tt;

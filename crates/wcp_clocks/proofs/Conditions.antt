@@ -18,16 +18,11 @@ use Rattle.event_core.proofs.Members.{any_has}
 use Rattle.event_core.proofs.Slots.{slots}
 use Rattle.hb_clocks.proofs.Conditions.{admits_legal, few_in_log, events_within}
 use Rattle.section_sum.specs.Sums.{IsAlone, noted_of}
-use Rattle.event_core.specs.Count.{events_of}
-use Rattle.event_core.proofs.Counting.{events_grow, grown_length}
+use Rattle.event_core.proofs.Counting.{grown_length}
 use Rattle.event_core.specs.Effect.{Closes}
 use Rattle.wcp_laws.specs.Found.{sum_below}
 use Rattle.wcp_laws.proofs.FoundLaws.{closes_after_first}
-use Rattle.wcp_laws.specs.State.{State}
-use Rattle.wcp_laws.specs.Standing.{StandsFor as StateStandsFor}
 use Rattle.wcp_laws.specs.Step as wcp
-use Rattle.wcp_laws.proofs.LegalSteps as wcp_steps
-use Rattle.wcp_clocks.specs.Whole.{own_of}
 use Rattle.wcp_laws.proofs.Conditions.{sound_where_legal}
 use Rattle.wcp_clocks.specs.Parts.{Parts, hb_of, state_of}
 use Rattle.wcp_clocks.specs.HeldLists.{list_at, held_of}
@@ -82,17 +77,6 @@ alone limits log p t w st l u v k is other = go (cases_Bool (noted_of p.sums u l
         = (orderly limits log w).one_holder (length log) thread t lock (theirs noted) mine in
         absurd (other (ap (λ (x : ThreadId). x.0) one))
 
--- no thread's own number falls
-own_grows : (limits : Limits) (log : List Event) (e : Event) (s : State) → WellFormed limits (log ++ e ∷ [])
-    → StateStandsFor log s → (u : ℕ) → own_of s u ≤ own_of (wcp.after e s) u
-own_grows limits log e s w st u =
-    let t : ThreadId = record { 0 = u } in
-    let before : s.hb.thread u u ≡ events_of log t = st.own t in
-    let now : (wcp.after e s).hb.thread u u ≡ events_of (log ++ e ∷ []) t
-    = (wcp_steps.step_stands limits log e s w st).own t in
-    let more = events_grow log e t in
-    omega arith
-
 -- one of the numbers is not above their sum
 one_of_sum : (f : ℕ → ℕ) (n i : ℕ) → i < n → f i ≤ sum_below f n
 one_of_sum f zero i lt = absurd (omega (arith, lt))
@@ -129,7 +113,15 @@ few_closed limits log e p most w st l told =
     let within : length (log ++ e ∷ []) ≤ limits.events = log_within limits (log ++ e ∷ []) w in
     omega arith
 
--- the thread's clock counts no more than the events before this one
+-- there are fewer events before this one than there may be
+fewer : (limits : Limits) (log : List Event) (e : Event) → limits.events ≤ 4294967296
+    → WellFormed limits (log ++ e ∷ []) → length log < 4294967296
+fewer limits log e most w =
+    let grown : length (log ++ e ∷ []) ≡ length log + 1 = grown_length log e in
+    let within : length (log ++ e ∷ []) ≤ limits.events = log_within limits (log ++ e ∷ []) w in
+    omega arith
+
+-- and the thread's clock counts no more of them
 few_counts : (limits : Limits) (log : List Event) (e : Event) (p : Parts) → limits.events ≤ 4294967296
     → WellFormed limits (log ++ e ∷ []) → StandsFor log p → (u : ℕ)
     → (hb_of p).hb.thread e.thread.0 u < 4294967296
@@ -137,8 +129,17 @@ few_counts limits log e p most w st u =
     let other : ThreadId = record { 0 = u } in
     let counted = (st.hb.hb.thread e.thread other).within in
     let events = events_within log other in
-    let grown : length (log ++ e ∷ []) ≡ length log + 1 = grown_length log e in
-    let within : length (log ++ e ∷ []) ≤ limits.events = log_within limits (log ++ e ∷ []) w in
+    let few = fewer limits log e most w in
+    omega arith
+
+-- nor does a lock's
+few_at_lock : (limits : Limits) (log : List Event) (e : Event) (p : Parts) → limits.events ≤ 4294967296
+    → WellFormed limits (log ++ e ∷ []) → StandsFor log p → (l : LockId)
+    → (hb_of p).hb.lock l.0 e.thread.0 < 4294967296
+few_at_lock limits log e p most w st l =
+    let counted = (st.hb.hb.lock l e.thread).within in
+    let events = events_within log e.thread in
+    let few = fewer limits log e most w in
     omega arith
 
 pub fits_where_legal : FitsWhereLegal
@@ -150,10 +151,10 @@ fits_where_legal limits log e p bounds w st little =
       admits = admits_legal limits log e (hb_of p) w st.hb;
       few = few_in_log log (hb_of p) (omega arith) st.hb;
       sound = sound_where_legal limits log e (state_of p) w st.strict;
-      own_grows = own_grows limits log e (state_of p) w st.strict;
       alone = alone limits log p e.thread front st;
       held = λ l. held l;
       few_counts = few_counts limits log e p most w st;
+      few_at_lock = few_at_lock limits log e p most w st;
       few_closed = few_closed limits log e p most w st;
       cursors = st.found.counted;
       joins = little.joins;

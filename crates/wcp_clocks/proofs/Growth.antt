@@ -26,8 +26,6 @@ use Rattle.wcp_clocks.specs.StrictRows.{StrictTables, strict_of, HasThread, HasL
 use Rattle.wcp_clocks.specs.StrictRows.{HasNamed, IsReady, GrownFor}
 use Rattle.event_core.specs.Closed.{Closed}
 use Rattle.wcp_clocks.specs.Met.{release_at}
-use Rattle.wcp_clocks.specs.Whole.{AreWhole}
-use Rattle.wcp_clocks.proofs.Wholeness.{empty_whole}
 use Rattle.wcp_clocks.specs.Growth.{ClocksHaveGrown, SumsHaveGrown, QueuesHaveGrown, HoldsHaveGrown, HasGrown}
 use Rattle.wcp_clocks.proofs.Ordered.{ordered_more, ordered_grown}
 
@@ -149,7 +147,6 @@ grown_parts g a = record {
       let n = a.numbers l x k t in
       let w = ap (λ (f : ℕ → List Closed). length (f l)) g.queues.same.closed in
       omega arith);
-  whole = subst AreWhole (sym (grown_numbers g).state) a.whole;
   held_thread = λ t l up. g.clocks.rows_room.thread t
       (a.held_thread t l (subst (λ (s : HbState). 0 < s.depth t l) g.clocks.order up));
   held_lock = λ t l up. g.clocks.rows_room.lock l
@@ -218,7 +215,6 @@ are_parts p is rows queues others no_thread no_lock = record {
   rows = rows;
   queues = queues;
   numbers = λ l x k t. (let e = others l x k t in omega arith);
-  whole = subst AreWhole (sym is) empty_whole;
   held_thread = λ t l up. absurd (none t l up);
   held_lock = λ t l up. absurd (none t l up);
   ordered = record { thread = λ t has. absurd (no_thread t.0 has); lock = λ l has. absurd (no_lock l.0 has) };

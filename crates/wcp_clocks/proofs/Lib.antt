@@ -8,7 +8,6 @@ mod Latest
 mod Lists
 mod Ordered
 mod Passing
-pub mod Releasing
 mod Rows
 mod RowsGrown
 mod RowsKept
@@ -18,7 +17,6 @@ pub mod Standing
 pub mod Stepped
 mod Swaps
 mod Taking
-mod Wholeness
 mod Within
 pub mod WithinLimits
 pub mod WorkLaws

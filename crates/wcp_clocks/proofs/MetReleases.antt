@@ -1,7 +1,5 @@
 -- The releases that an access meets under a lock, and what their clocks count together.
-use Rattle.std.proofs.Common.{◌≡◌, ℕ, ◌<◌, ◌≤◌, List, [], ◌∷◌, length, map, refl, sym, subst}
-use Rattle.std.proofs.Common.{All, max, arith, inl, inr}
-use Rattle.std.proofs.lemmas.List.Elements.{All-head, All-tail, All-nil, All-cons}
+use Rattle.std.proofs.Common.{◌≡◌, ℕ, ◌<◌, List, [], ◌∷◌, map, refl, sym, subst, max, arith, inl, inr}
 use Rattle.event_core.specs.declared.events.AccessKind.{AccessKind}
 use Rattle.event_core.specs.declared.events.AccessKind.TheVariants.{Read, Write}
 use Rattle.event_core.specs.declared.events.Event.{Event}
@@ -17,29 +15,13 @@ use Rattle.event_core.proofs.Counting.{counted_join, counted_same}
 use Rattle.lock_queues.specs.Queues.{closed_of}
 use Rattle.section_sum.specs.Paired.{IsBelowPaired}
 use Rattle.section_sum.specs.Standing.{IsAccessBy}
-use Rattle.section_sum.specs.Sums.{Sums, sources_of}
+use Rattle.section_sum.specs.Sums.{sources_of}
 use Rattle.section_sum.proofs.PairedSections.{paired_other, other_paired}
 use Rattle.wcp_clocks.specs.Parts.{Parts}
-use Rattle.wcp_clocks.specs.Met.{joined_all, met_clocks, met_under, release_at, AreNumbers, AreClosed}
+use Rattle.wcp_clocks.specs.Met.{joined_all, met_clocks, met_under, release_at}
 use Rattle.wcp_clocks.specs.MetReleases.{IsBelowSource, released_at, together}
 use Rattle.wcp_clocks.specs.Standing.{StandsFor}
-use Rattle.wcp_clocks.proofs.Taking.{IsMet, sources_joined, sources_met}
-
-met_closed : (s : Sums) (closed : ℕ → List Closed) (l x t : ℕ) (ns : List ℕ) → AreNumbers s closed
-    → All (IsMet s l x t) ns → AreClosed (closed l) ns
-met_closed s closed l x t [] are met = All-nil (λ n. (0 < n) × (n ≤ length (closed l)))
-met_closed s closed l x t (n ∷ ns) are met =
-    let here = All-head (IsMet s l x t) n ns met in
-    All-cons (λ m. (0 < m) × (m ≤ length (closed l))) n ns
-    (here.some, subst (λ m. m ≤ length (closed l)) (sym here.number) (are l x here.kind t))
-    (met_closed s closed l x t ns are (All-tail (IsMet s l x t) n ns met))
-
--- the summaries name closed sections to an access
-pub sources_closed : (s : Sums) (closed : ℕ → List Closed) (l x t : ℕ) (k : AccessKind) (ns : List ℕ)
-    → ns ≡ sources_of s l x k t → AreNumbers s closed → AreClosed (closed l) ns
-sources_closed s closed l x t k ns is are =
-    subst (AreClosed (closed l)) (sym is)
-    (met_closed s closed l x t (sources_of s l x k t) are (sources_met s l x t k))
+use Rattle.wcp_clocks.proofs.Taking.{sources_joined}
 
 -- the releases of sections, together
 together_is : (qs : List Closed) (f : ℕ → ℕ) (ns : List ℕ) (u : ℕ)

@@ -14,9 +14,7 @@ use Rattle.wcp_laws.specs.Step.{effect, after}
 use Rattle.wcp_clocks.specs.Parts.{Parts, hb_of, state_of, AreParts, IsReady, Fits, IsAccess, KeepsReady}
 use Rattle.wcp_clocks.specs.StrictRows.{HasThread, HasLock, HasNamed, SameRoom}
 use Rattle.wcp_clocks.proofs.RowsKept.{room_back, thread_kept, lock_kept}
-use Rattle.wcp_clocks.specs.Whole.{AreWhole}
 use Rattle.wcp_clocks.proofs.Ordered.{ordered_more, ordered_same}
-use Rattle.wcp_clocks.proofs.Wholeness.{whole_after}
 use Rattle.wcp_clocks.specs.Stepping.{IsDue, IsStep, IsStepBy, KeepsFor}
 
 -- a lock that is held after the operation was held before it, or is the one that it acquires
@@ -65,15 +63,11 @@ module _ {e : Event} {old new : Parts} (by : IsStep e old new) where
   abbrev at : Op → Effect
   at = effect_of ((hb_of old).depth e.thread.0)
 
-  whole : AreParts old → Fits e old → AreWhole (state_of new)
-  whole parts fits = subst AreWhole (sym exact) (whole_after e (state_of old) parts.whole fits.own_grows)
-
-  pub kept_parts : AreParts old → IsReady old e.thread e.op → Fits e old → AreParts new
-  kept_parts parts ready fits = record {
+  pub kept_parts : AreParts old → IsReady old e.thread e.op → AreParts new
+  kept_parts parts ready = record {
     rows = by.room.width ∙ parts.rows ∙ sym by.limits.width;
     queues = ap (λ b. b.threads) by.limits.limits ∙ parts.queues ∙ sym by.limits.width;
     numbers = by.numbers;
-    whole = whole parts fits;
     held_thread = λ t l h. thread l t (held_before e.thread.0 e.op (hb_of old).depth t l (was t l h));
     held_lock = λ t l h. lock l t (held_before e.thread.0 e.op (hb_of old).depth t l (was t l h));
     ordered = ordered_more new.rows old.hb new.hb by.order_room
@@ -119,7 +113,7 @@ module _ {e : Event} {old : Parts} {o : Op} (op : e.op ≡ o) where
 -- so the parts stay as they ought to be
 pub kept_within : {e : Event} {k : Effect} {old new : Parts} → IsDue e k old → IsStepBy e k old new
     → AreParts old → AreParts new
-kept_within due by parts = kept_parts (stepped due.effect by) parts due.ready due.fits
+kept_within due by parts = kept_parts (stepped due.effect by) parts due.ready
 
 -- the parts within are those that are seen
 module _ {e : Event} {k : Effect} {within now : Parts} (is : within ≡ now) where

@@ -1,66 +1,24 @@
 -- A thread's strict clock takes one clock after another.
-use Rattle.std.proofs.Common.{◌≡◌, ℕ, zero, suc, ◌+◌, ◌*◌, ◌<◌, ◌≤◌, List, [], ◌∷◌, ◌++◌, length, map, cond}
-use Rattle.std.proofs.Common.{All, max, true, false, refl, sym, ap, ap₂, subst, ◌∙◌, arith}
+use Rattle.std.proofs.Common.{◌≡◌, ℕ, zero, suc, ◌+◌, ◌*◌, ◌≤◌, List, [], ◌∷◌, ◌++◌, length, map, cond}
+use Rattle.std.proofs.Common.{max, refl, sym, ap, ap₂, ◌∙◌, arith}
 use Rattle.std.proofs.lemmas.List.{length_push, append-nil}
-use Rattle.std.proofs.lemmas.List.Elements.{All-head, All-tail, All-nil, All-cons, All-append}
-use Rattle.std.proofs.lemmas.Bool.{ne_eqb, leb-true}
+use Rattle.std.proofs.lemmas.Bool.{ne_eqb}
 use Rattle.event_core.specs.Rows.{join, with_row}
 use Rattle.event_core.proofs.Growing.{row_same}
 use Rattle.hb_clocks.specs.Rows.{rows_of}
 use Rattle.hb_clocks.specs.Work.{Done}
 use Rattle.event_core.specs.declared.events.AccessKind.{AccessKind}
 use Rattle.event_core.specs.declared.events.AccessKind.TheVariants.{Read, Write}
-use Rattle.event_core.specs.Closed.{Closed, Has, first, later}
-use Rattle.lock_queues.specs.Sections.{closed_at}
+use Rattle.event_core.specs.Closed.{Closed}
 use Rattle.section_sum.specs.Newest.{section}
 use Rattle.section_sum.specs.Sums.{Sums, others_of, sources_of}
-use Rattle.wcp_clocks.specs.Met.{release_at, thread_at, met_clocks, met_under, joined_all, counts_release}
-use Rattle.wcp_clocks.specs.Met.{joins_for, joins_under, AreNumbers, AreWholeIn}
+use Rattle.wcp_clocks.specs.Met.{release_at, met_clocks, met_under, joined_all, joins_under}
 use Rattle.wcp_clocks.specs.MetReleases.{Released, released_at}
-use Rattle.wcp_clocks.specs.Whole.{IsWhole}
-use Rattle.wcp_clocks.proofs.Wholeness.{whole_join}
 use Rattle.wcp_laws.specs.Step.{join_all}
 use Rattle.hb_clocks.proofs.TableSteps.{row_again}
 use Rattle.wcp_clocks.proofs.Rows.{row_kept, join_nothing}
 use Rattle.wcp_clocks.specs.StrictRows.{StrictTables, SameRoom}
 use Rattle.wcp_clocks.proofs.RowsKept.{room_same, room_then}
-
--- the number is that of a section that an access of the thread to the variable meets
-pub record IsMet (s : Sums) (l x t n : ℕ) : Type 0 where
-  pub some : 0 < n
-  pub kind : AccessKind
-  pub number : n ≡ others_of s l x kind t
-
-has_closed : (qs : List Closed) (n : ℕ) → n < length qs → Has (closed_at qs n) qs
-has_closed [] n lt = absurd (omega arith)
-has_closed (q ∷ qs) zero lt = first q qs refl
-has_closed (q ∷ qs) (suc n) lt = later q qs (has_closed qs n (omega arith))
-
--- the section's clock is whole
-met_whole : (s : Sums) (closed : ℕ → List Closed) (l x t n : ℕ) → AreWholeIn s closed → IsMet s l x t n
-    → IsWhole closed (release_at (closed l) n)
-met_whole s closed l x t n each m =
-    subst (λ i. IsWhole closed (release_at (closed l) i)) (sym m.number) (each l x m.kind t)
-
--- and a clock that counts the release is at or above it
-counted : (s : Sums) (closed : ℕ → List Closed) (l x t n : ℕ) (f : ℕ → ℕ) → AreNumbers s closed
-    → IsWhole closed f → IsMet s l x t n
-    → release_at (closed l) n (thread_at (closed l) n) ≤ f (thread_at (closed l) n)
-    → f ≡ join f (release_at (closed l) n)
-counted s closed l x t n f are whole m le i u = at i
-  where
-    above : (n : ℕ) → 0 < n → n ≤ length (closed l)
-        → release_at (closed l) n (thread_at (closed l) n) ≤ f (thread_at (closed l) n)
-        → release_at (closed l) n u ≤ f u
-    above zero some lt h = absurd (omega (arith, some))
-    above (suc j) some lt h = whole l (closed_at (closed l) j) (has_closed (closed l) j (omega arith)) h u
-
-    at : f u ≡ max (f u) (release_at (closed l) n u)
-    at =
-        let within = are l x m.kind t in
-        let number = m.number in
-        let p = above n m.some (omega arith) le in
-        omega arith
 
 -- what has been taken of the source, where the rest is still to be taken
 pub record IsTaking (s : Sums) (closed : ℕ → List Closed) (l x t : ℕ) (k : AccessKind)
@@ -70,11 +28,8 @@ pub record IsTaking (s : Sums) (closed : ℕ → List Closed) (l x t : ℕ) (k :
       ≡ join (rows_of old.thread t) (met_under (met_clocks s closed) x k t l) u
   pub lock : rows_of now.lock ≡ rows_of old.lock
   pub kept : SameRoom old now
-  pub met : All (IsMet s l x t) rest
-  pub whole : IsWhole closed (rows_of now.thread t)
   pub joins : after.joins + length rest ≤ before.joins + 2
-  pub made : after.joins + joins_for (closed l) (rows_of now.thread t) rest
-      ≡ before.joins + joins_for (closed l) (rows_of old.thread t) (sources_of s l x k t)
+  pub made : after.joins + length rest ≡ before.joins + length (sources_of s l x k t)
   pub comparisons : after.comparisons ≡ before.comparisons
 
 -- the same, where the sections are left as releases, whose clocks have numbers of so many threads at most
@@ -163,99 +118,46 @@ sources_joined s closed l x t Write f u =
     either : (a b c : ℕ) → max (max a b) c ≡ max a (max c b)
     either a b c = omega arith
 
-section_met : (s : Sums) (l x t : ℕ) (k : AccessKind) (n : ℕ) → n ≡ others_of s l x k t
-    → All (IsMet s l x t) (section n)
-section_met s l x t k zero is = All-nil (IsMet s l x t)
-section_met s l x t k (suc n) is =
-    subst (λ b. All (IsMet s l x t) (cond b [] (suc n ∷ []))) (sym (ne_eqb (suc n) 0 (λ e. absurd (omega
-    (arith, e)))))
-    (All-cons (IsMet s l x t) (suc n) [] (record { some = omega arith; kind = k; number = is })
-    (All-nil (IsMet s l x t)))
-
-pub sources_met : (s : Sums) (l x t : ℕ) (k : AccessKind) → All (IsMet s l x t) (sources_of s l x k t)
-unfolding sources_of
-sources_met s l x t Read = section_met s l x t Write (others_of s l x Write t) refl
-sources_met s l x t Write =
-    All-append (IsMet s l x t) (section (others_of s l x Write t)) (section (others_of s l x Read t))
-    (section_met s l x t Write (others_of s l x Write t) refl)
-    (section_met s l x t Read (others_of s l x Read t) refl)
-
 module _ {s : Sums} {closed : ℕ → List Closed} {l x t : ℕ} {k : AccessKind} {old : StrictTables}
     {before : Done} where
   pub taking_begins : (rest : List ℕ) → rest ≡ sources_of s l x k t → length rest ≤ 2
-      → IsWhole closed (rows_of old.thread t) → IsTaking s closed l x t k old old before before rest
-  taking_begins rest is few whole = record {
+      → IsTaking s closed l x t k old old before before rest
+  taking_begins rest is few = record {
     shape = row_kept t (rows_of old.thread);
     joined = λ u. ap (λ ns. joined_all (closed l) (rows_of old.thread t) ns u) is
         ∙ sources_joined s closed l x t k (rows_of old.thread t) u;
     lock = refl;
     kept = room_same old;
-    met = subst (All (IsMet s l x t)) (sym is) (sources_met s l x t k);
-    whole = whole;
     joins = omega arith;
-    made = ap (λ ns. before.joins + joins_for (closed l) (rows_of old.thread t) ns) is;
+    made = ap (λ ns. before.joins + length ns) is;
     comparisons = refl;
   }
 
-  module _ {now : StrictTables} {after : Done} {n : ℕ} {rest : List ℕ}
-      (is : IsTaking s closed l x t k old now before after (n ∷ rest)) where
-    -- the next section is met
-    pub next_met : IsMet s l x t n
-    next_met = All-head (IsMet s l x t) n rest is.met
+  -- the next section's release is taken
+  pub taking_on : {now new : StrictTables} {after done : Done} {n : ℕ} {rest : List ℕ}
+      → IsTaking s closed l x t k old now before after (n ∷ rest)
+      → rows_of new.thread ≡ with_row t (join (rows_of now.thread t) (release_at (closed l) n))
+      (rows_of now.thread)
+      → rows_of new.lock ≡ rows_of now.lock → SameRoom now new
+      → done ≡ record after { joins = after.joins + 1 }
+      → IsTaking s closed l x t k old new before done rest
+  taking_on {now} {new} {after} {done} {n} {rest} is threads lock kept work = record {
+    shape = threads ∙ ap (with_row t taken) is.shape ∙ row_again t taken (rows_of now.thread t)
+        (rows_of old.thread)
+        ∙ ap (λ g. with_row t g (rows_of old.thread)) (sym own);
+    joined = λ u. ap (λ (g : ℕ → ℕ). joined_all (closed l) g rest u) own ∙ is.joined u;
+    lock = lock ∙ is.lock;
+    kept = room_then is.kept kept;
+    joins = (let w = ap (λ (d : Done). d.joins) work in let j = is.joins in omega arith);
+    made = (let w = ap (λ (d : Done). d.joins) work in let j = is.made in omega arith);
+    comparisons = ap (λ (d : Done). d.comparisons) work ∙ is.comparisons;
+  }
+    where
+      taken : ℕ → ℕ
+      taken = join (rows_of now.thread t) (release_at (closed l) n)
 
-    abbrev row : ℕ → ℕ
-    row = rows_of now.thread t
-
-    abbrev release : ℕ → ℕ
-    release = release_at (closed l) n
-
-    -- a release that is counted brings nothing
-    pub taking_past : AreNumbers s closed → counts_release (closed l) (rows_of now.thread t) n ≡ true
-        → IsTaking s closed l x t k old now before after rest
-    taking_past are counts = record {
-      shape = is.shape;
-      joined = λ u. ap (λ (g : ℕ → ℕ). joined_all (closed l) g rest u)
-          (counted s closed l x t n row are is.whole next_met (leb-true _ _ counts)) ∙ is.joined u;
-      lock = is.lock;
-      kept = is.kept;
-      met = All-tail (IsMet s l x t) n rest is.met;
-      whole = is.whole;
-      joins = (let j = is.joins in omega arith);
-      made = ap (λ b. after.joins + cond b (joins_for (closed l) row rest)
-          (suc (joins_for (closed l) (join row release) rest))) (sym counts) ∙ is.made;
-      comparisons = is.comparisons;
-    }
-
-    pub taking_on : {new : StrictTables} {done : Done} → AreWholeIn s closed
-        → counts_release (closed l) (rows_of now.thread t) n ≡ false
-        → rows_of new.thread ≡ with_row t (join (rows_of now.thread t) (release_at (closed l) n))
-        (rows_of now.thread)
-        → rows_of new.lock ≡ rows_of now.lock → SameRoom now new
-        → done ≡ record after { joins = after.joins + 1 }
-        → IsTaking s closed l x t k old new before done rest
-    taking_on {new} {done} each not_yet threads lock kept work = record {
-      shape = threads ∙ ap (with_row t (join row release)) is.shape
-          ∙ row_again t (join row release) row (rows_of old.thread)
-          ∙ ap (λ g. with_row t g (rows_of old.thread)) (sym own);
-      joined = λ u. ap (λ (g : ℕ → ℕ). joined_all (closed l) g rest u) own ∙ is.joined u;
-      lock = lock ∙ is.lock;
-      kept = room_then is.kept kept;
-      met = All-tail (IsMet s l x t) n rest is.met;
-      whole = subst (IsWhole closed) (sym own)
-          (whole_join closed row release is.whole (met_whole s closed l x t n each next_met));
-      joins = (let w = ap (λ (d : Done). d.joins) work in let j = is.joins in omega arith);
-      made = (let w = ap (λ (d : Done). d.joins) work in
-          let taken = ap (λ (g : ℕ → ℕ). joins_for (closed l) g rest) own in
-          let one : after.joins + suc (joins_for (closed l) (join row release) rest)
-          ≡ before.joins + joins_for (closed l) (rows_of old.thread t) (sources_of s l x k t)
-          = ap (λ b. after.joins + cond b (joins_for (closed l) row rest)
-          (suc (joins_for (closed l) (join row release) rest))) (sym not_yet) ∙ is.made in
-          omega arith);
-      comparisons = ap (λ (d : Done). d.comparisons) work ∙ is.comparisons;
-    }
-      where
-        own : rows_of new.thread t ≡ join row release
-        own = ap (λ (f : ℕ → ℕ → ℕ). f t) threads ∙ row_same t (join row release) (rows_of now.thread)
+      own : rows_of new.thread t ≡ taken
+      own = ap (λ (f : ℕ → ℕ → ℕ). f t) threads ∙ row_same t taken (rows_of now.thread)
 
 -- what has been taken under the first of the locks
 pub record HasTaken (s : Sums) (closed : ℕ → List Closed) (x : ℕ) (k : AccessKind) (t : ℕ)
@@ -265,9 +167,8 @@ pub record HasTaken (s : Sums) (closed : ℕ → List Closed) (x : ℕ) (k : Acc
       (rows_of old.thread)
   pub lock : rows_of now.lock ≡ rows_of old.lock
   pub kept : SameRoom old now
-  pub whole : IsWhole closed (rows_of now.thread t)
   pub joins : after.joins ≤ before.joins + 2 * length locks
-  pub made : after.joins ≡ before.joins + joins_under s closed x k t (rows_of old.thread t) locks
+  pub made : after.joins ≡ before.joins + joins_under s x k t locks
   pub comparisons : after.comparisons ≡ before.comparisons
 
 join_again : (a b c : ℕ → ℕ) → join (join a b) c ≡ join a (join b c)
@@ -287,70 +188,43 @@ join_all_more source f (m ∷ ms) l =
     ∙ ap (λ g. join g (source l)) (join_again f (source m) (join_all source ms))
 
 -- and its joins
-joins_more : (s : Sums) (closed : ℕ → List Closed) (x : ℕ) (k : AccessKind) (t : ℕ) (f : ℕ → ℕ)
-    (locks : List ℕ) (l : ℕ)
-    → joins_under s closed x k t f (locks ++ l ∷ [])
-    ≡ joins_under s closed x k t f locks
-    + joins_for (closed l) (join f (join_all (met_under (met_clocks s closed) x k t) locks))
-    (sources_of s l x k t)
-joins_more s closed x k t f [] l =
-    let same = ap (λ (g : ℕ → ℕ). joins_for (closed l) g (sources_of s l x k t)) (join_nothing f) in
-    omega arith
-joins_more s closed x k t f (m ∷ ms) l =
-    let source : ℕ → ℕ → ℕ = met_under (met_clocks s closed) x k t in
-    let rest = joins_more s closed x k t (join f (source m)) ms l in
-    let same = ap (λ (g : ℕ → ℕ). joins_for (closed l) g (sources_of s l x k t))
-    (join_again f (source m) (join_all source ms)) in
-    omega arith
-
--- the sources under a lock are whole
-sources_whole : (s : Sums) (closed : ℕ → List Closed) (l x t : ℕ) (k : AccessKind) → AreWholeIn s closed
-    → IsWhole closed (met_under (met_clocks s closed) x k t l)
-sources_whole s closed l x t Read each = each l x Write t
-sources_whole s closed l x t Write each =
-    whole_join closed (met_clocks s closed l x Read t)
-    (met_clocks s closed l x Write t) (each l x Read t) (each l x Write t)
+joins_more : (s : Sums) (x : ℕ) (k : AccessKind) (t : ℕ) (locks : List ℕ) (l : ℕ)
+    → joins_under s x k t (locks ++ l ∷ []) ≡ joins_under s x k t locks + length (sources_of s l x k t)
+joins_more s x k t [] l = omega arith
+joins_more s x k t (m ∷ ms) l = let rest = joins_more s x k t ms l in omega arith
 
 module _ {s : Sums} {closed : ℕ → List Closed} {x : ℕ} {k : AccessKind} {t : ℕ} {old : StrictTables}
     {before : Done} where
-  pub taken_begins : IsWhole closed (rows_of old.thread t) → HasTaken s closed x k t old old before before []
-  taken_begins whole = record {
+  pub taken_begins : HasTaken s closed x k t old old before before []
+  taken_begins = record {
     threads = row_kept t (rows_of old.thread)
         ∙ ap (λ g. with_row t g (rows_of old.thread)) (sym (join_nothing (rows_of old.thread t)));
     lock = refl;
     kept = room_same old;
-    whole = whole;
     joins = omega arith;
     made = omega arith;
     comparisons = refl;
   }
 
-  pub taken_on : {now new : StrictTables} {after done : Done} (locks : List ℕ) (l : ℕ) → AreWholeIn s closed
+  pub taken_on : {now new : StrictTables} {after done : Done} (locks : List ℕ) (l : ℕ)
       → HasTaken s closed x k t old now before after locks
       → rows_of new.thread
       ≡ with_row t (join (rows_of now.thread t) (met_under (met_clocks s closed) x k t l))
       (rows_of now.thread)
       → rows_of new.lock ≡ rows_of now.lock → SameRoom now new
       → done.joins ≤ after.joins + 2
-      → done.joins ≡ after.joins + joins_for (closed l) (rows_of now.thread t) (sources_of s l x k t)
+      → done.joins ≡ after.joins + length (sources_of s l x k t)
       → done.comparisons ≡ after.comparisons
       → HasTaken s closed x k t old new before done (locks ++ l ∷ [])
-  taken_on {now} {new} {after} {done} locks l each is threads lock kept joins exact comparisons = record {
+  taken_on {now} {new} {after} {done} locks l is threads lock kept joins exact comparisons = record {
     threads = threads ∙ ap₂ (λ g f. with_row t g f) own is.threads
         ∙ row_again t _ _ (rows_of old.thread)
         ∙ ap (λ g. with_row t g (rows_of old.thread))
         (sym (join_all_more source (rows_of old.thread t) locks l));
     lock = lock ∙ is.lock;
     kept = room_then is.kept kept;
-    whole = subst (IsWhole closed)
-        (sym (ap (λ (f : ℕ → ℕ → ℕ). f t) threads
-        ∙ row_same t (join (rows_of now.thread t) (source l)) (rows_of now.thread)))
-        (whole_join closed (rows_of now.thread t) (source l) is.whole (sources_whole s closed l x t k each));
     joins = (let n = length_push locks l in let j = is.joins in omega arith);
-    made = (let j = is.made in
-        let more = joins_more s closed x k t (rows_of old.thread t) locks l in
-        let here = ap (λ (g : ℕ → ℕ). joins_for (closed l) g (sources_of s l x k t)) taken in
-        omega arith);
+    made = (let j = is.made in let more = joins_more s x k t locks l in omega arith);
     comparisons = comparisons ∙ is.comparisons;
   }
     where

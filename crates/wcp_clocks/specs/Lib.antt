@@ -6,5 +6,4 @@ pub mod MetReleases
 pub mod Standing
 pub mod Stepping
 pub mod StrictRows
-pub mod Whole
 pub mod WorkWithin

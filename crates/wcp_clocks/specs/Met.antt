@@ -1,5 +1,5 @@
 -- The closed sections that an access meets, by their numbers on a lock, and their clocks.
-use Rattle.std.specs.Prelude.{ℕ, zero, suc, ◌+◌, ◌<◌, ◌≤◌, List, [], ◌∷◌, length, Bool, cond, nat_le}
+use Rattle.std.specs.Prelude.{ℕ, zero, suc, ◌+◌, ◌<◌, ◌≤◌, List, [], ◌∷◌, length}
 use Rattle.std.specs.Prelude.{Option, Some, None}
 use Rattle.std.specs.List.{All}
 use Rattle.event_core.specs.declared.events.AccessKind.{AccessKind}
@@ -8,7 +8,6 @@ use Rattle.event_core.specs.Closed.{Closed}
 use Rattle.event_core.specs.Rows.{no_clock, join}
 use Rattle.section_sum.specs.Sums.{Sums, others_of, sources_of}
 use Rattle.lock_queues.specs.Sections.{closed_at}
-use Rattle.wcp_clocks.specs.Whole.{IsWhole}
 
 -- of a lock, a variable, a kind and a thread: the clock of the releases that an access of the thread meets
 abbrev pub Clocks : Type 0
@@ -36,10 +35,6 @@ AreNumbers s closed = (l x : ℕ) (k : AccessKind) (t : ℕ) → others_of s l x
 abbrev pub AreClosed : List Closed → List ℕ → Type 0
 AreClosed qs ns = All (λ n. (0 < n) × (n ≤ length qs)) ns
 
--- each of those clocks counts with a release all that is below it
-abbrev pub AreWholeIn : Sums → (ℕ → List Closed) → Type 0
-AreWholeIn s closed = (l x : ℕ) (k : AccessKind) (t : ℕ) → IsWhole closed (met_clocks s closed l x k t)
-
 -- the clock of the sections that an access of the kind by the thread meets under the lock: a load meets the
 -- stores, and a store both
 abbrev pub met_under : Clocks → ℕ → AccessKind → ℕ → ℕ → ℕ → ℕ
@@ -51,25 +46,12 @@ abbrev pub joined_all : List Closed → (ℕ → ℕ) → List ℕ → ℕ → �
 joined_all qs f [] = f
 joined_all qs f (n ∷ ns) = joined_all qs (join f (release_at qs n)) ns
 
--- whether the clock counts the section's release
-abbrev pub counts_release : List Closed → (ℕ → ℕ) → ℕ → Bool
-counts_release qs f n = nat_le (release_at qs n (thread_at qs n)) (f (thread_at qs n))
-
--- how many joins take the clock f through those sections in turn: one for each release that it does not count
--- by then
-abbrev pub joins_for : List Closed → (ℕ → ℕ) → List ℕ → ℕ
-joins_for qs f [] = 0
-joins_for qs f (n ∷ ns) =
-    cond (counts_release qs f n) (joins_for qs f ns) (suc (joins_for qs (join f (release_at qs n)) ns))
-
--- the same through the sections that an access of the kind by the thread meets, under one lock after another
-abbrev pub joins_under : Sums → (ℕ → List Closed) → ℕ → AccessKind → ℕ → (ℕ → ℕ) → List ℕ → ℕ
-joins_under s closed x k t f [] = 0
-joins_under s closed x k t f (l ∷ ls) =
-    joins_for (closed l) f (sources_of s l x k t)
-    + joins_under s closed x k t (join f (met_under (met_clocks s closed) x k t l)) ls
+-- how many sections an access of the kind by the thread meets under the locks: each release is one join
+abbrev pub joins_under : Sums → ℕ → AccessKind → ℕ → List ℕ → ℕ
+joins_under s x k t [] = 0
+joins_under s x k t (l ∷ ls) = length (sources_of s l x k t) + joins_under s x k t ls
 
 -- and for the one that a closing release finds
-abbrev pub joins_latest : Option Closed → (ℕ → ℕ) → ℕ
-joins_latest None f = 0
-joins_latest (Some q) f = cond (nat_le (q.release q.thread) (f q.thread)) 0 1
+abbrev pub joins_latest : Option Closed → ℕ
+joins_latest None = 0
+joins_latest (Some q) = 1

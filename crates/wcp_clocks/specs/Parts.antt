@@ -17,12 +17,11 @@ use Rattle.section_sum.specs.Sums.{Sums, noted_of, IsReady as SumsAreReady, IsAl
 use Rattle.lock_queues.specs.Sections.{latest_counted}
 use Rattle.lock_queues.specs.Queues.{AllQueues as Queues, closed_of, opened_of, found_of, is_ready}
 use Rattle.wcp_laws.specs.State.{State}
-use Rattle.wcp_laws.specs.Step.{effect, after}
+use Rattle.wcp_laws.specs.Step.{effect}
 use Rattle.wcp_laws.specs.Conditions.{IsSound, CursorsStand}
 use Rattle.wcp_clocks.specs.HeldLists.{HeldList, list_at, held_of, room_at}
 use Rattle.wcp_clocks.specs.StrictRows.{StrictTables, strict_of, HasThread, HasLock, IsReady as RowsAreReady}
 use Rattle.wcp_clocks.specs.Met.{met_clocks, AreNumbers, joins_under, joins_latest}
-use Rattle.wcp_clocks.specs.Whole.{AreWhole, own_of}
 
 -- the clocks of program order and happens-before, those of the strict relation, what closed sections saw,
 -- who holds what, and the work that was done
@@ -105,12 +104,12 @@ pub record Fits (e : Event) (p : Parts) : Type 0 where
   pub admits : Admits (hb_of p) e.thread e.op
   pub few : IsFew (hb_of p)
   pub sound : IsSound e (state_of p)
-  -- no thread's own number falls
-  pub own_grows : (u : ℕ) → own_of (state_of p) u ≤ own_of (after e (state_of p)) u
   -- no other thread has an access in an open section on a lock that the thread holds
   pub alone : IsAlone p.sums e.thread.0 (list_at p.held e.thread.0).locks
   -- before its thread's event it counts fewer events than a log may have
   pub few_counts : (u : ℕ) → (hb_of p).hb.thread e.thread.0 u < 4294967296
+  -- and so does a lock
+  pub few_at_lock : (l : LockId) → (hb_of p).hb.lock l.0 e.thread.0 < 4294967296
   -- a section that is closed has a number
   pub few_closed : (l : LockId) → effect e (state_of p) ≡ Closes l
       → length (closed_of p.queues l.0) + 1 < 4294967296
@@ -126,8 +125,6 @@ pub record AreParts (p : Parts) : Type 0 where
   pub queues : p.queues.limits.threads ≡ p.hb.width
   -- the summaries name closed sections
   pub numbers : AreNumbers p.sums (closed_of p.queues)
-  -- a clock that counts a release counts all that is below it
-  pub whole : AreWhole (state_of p)
   -- a lock that is held has its clock, and so has its holder
   pub held_thread : (t l : ℕ) → 0 < (hb_of p).depth t l → HasThread p.rows t
   pub held_lock : (t l : ℕ) → 0 < (hb_of p).depth t l → HasLock p.rows l
@@ -148,15 +145,13 @@ most_joins (Accesses x k) held = 2 * held
 most_joins _ held = 3
 
 -- how many joins it takes: two at an outer acquire and three at a join, and else one for each release that
--- its thread's strict clock takes and does not count by then
+-- its thread's strict clock takes
 abbrev pub joins_at : ThreadId → Effect → Parts → ℕ
 joins_at t (Opens l) p = 2
 joins_at t (Joins u) p = 3
-joins_at t (Accesses x k) p =
-    joins_under p.sums (closed_of p.queues) x.0 k t.0 ((strict_of p.rows).thread t.0) (held_of p.held t.0)
+joins_at t (Accesses x k) p = joins_under p.sums x.0 k t.0 (held_of p.held t.0)
 joins_at t (Closes l) p =
     joins_latest (latest_counted ((strict_of p.rows).thread t.0) (closed_of p.queues l.0))
-    ((strict_of p.rows).thread t.0)
 joins_at t _ p = 0
 
 -- a closing release makes one comparison more than it finds sections, at most, and nothing else makes one

@@ -95,9 +95,9 @@ impl WcpClocks {
     /// The event joins the log that the clocks stand for.
     ///
     /// It takes at most three joins of clocks, or at an access two for each lock that its thread holds: one
-    /// for each clock that is taken and not counted by then, and no join goes uncounted. A release that ends
-    /// a section makes a comparison for each section that it newly finds below it, and at most one more;
-    /// nothing else makes one.
+    /// for each release that the rules name, and no join goes uncounted. A release that ends a section makes
+    /// a comparison for each section that it newly finds below it, and at most one more; nothing else makes
+    /// one.
     #[inline(always)]
     pub fn advance(&mut self, event: &Event)
         requires ready { IsReady self.old event.now.thread event.now.op }

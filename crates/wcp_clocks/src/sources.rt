@@ -8,9 +8,8 @@ ghost use Rattle.section_sum.specs.Sources.{most_sources};
 ghost use Rattle.section_sum.specs.Sums.{sources_of};
 ghost use Rattle.wcp_laws.specs.Step.{join_all};
 ghost use Rattle.wcp_clocks.specs.HeldLists.{numbers_of};
-ghost use Rattle.wcp_clocks.specs.Met.{met_clocks, met_under, joins_for, joins_under, AreNumbers, AreWholeIn};
+ghost use Rattle.wcp_clocks.specs.Met.{met_clocks, met_under, joins_under, AreNumbers};
 ghost use Rattle.wcp_clocks.specs.MetReleases.{rest, most_threads, released_at};
-ghost use Rattle.wcp_clocks.specs.Whole.{IsWhole};
 ghost use Rattle.wcp_clocks.specs.StrictRows.{strict_of, HasThread, SameRoom};
 
 use crate::source_clocks::SourceClocks;
@@ -39,8 +38,7 @@ pub(crate) fn sources_under<'a>(
     SourceClocks::new(queues, lock, sums.sources(thread, lock, var, kind))
 }
 
-// The thread's strict clock takes what its access meets under the lock, at most two clocks. A clock that
-// counts a release counts all that is below it, so a release that is counted already brings nothing.
+// The thread's strict clock takes what its access meets under the lock, at most two clocks.
 #[inline(always)]
 fn take_under(
     rows: &mut StrictRows,
@@ -56,8 +54,6 @@ fn take_under(
     requires wide { queues.now.limits.threads ≡ rows.old.width }
     requires few { work.old.joins + 2 < 2 ^ 63 }
     requires numbers { AreNumbers sums.now (closed_of queues.now) }
-    requires whole { IsWhole (closed_of queues.now) ((strict_of rows.old).thread thread.0) }
-    requires releases { AreWholeIn sums.now (closed_of queues.now) }
     ensures threads { (strict_of rows.new).thread ≡ with_row thread.0
         (join ((strict_of rows.old).thread thread.0)
         (met_under (met_clocks sums.now (closed_of queues.now)) var.0 kind thread.0 lock.0))
@@ -66,14 +62,11 @@ fn take_under(
     ensures kept { SameRoom rows.old rows.new }
     ensures joins { work.new.joins ≤ work.old.joins + 2 }
     ensures joins_exact { work.new.joins ≡ work.old.joins
-        + joins_for (closed_of queues.now lock.0) ((strict_of rows.old).thread thread.0)
-        (sources_of sums.now lock.0 var.0 kind thread.0) }
+        + length (sources_of sums.now lock.0 var.0 kind thread.0) }
     ensures comparisons { work.new.comparisons ≡ work.old.comparisons }
 {
-    for section in sources_under(sums, queues, thread, lock, var, kind) {
-        if !rows.counts(thread, &section) {
-            rows.take_release(thread, &section, work);
-        }
+    for release in sources_under(sums, queues, thread, lock, var, kind) {
+        rows.take_release(thread, &release, work);
     }
 }
 
@@ -93,8 +86,6 @@ pub(crate) fn take_sources(
     requires wide { queues.now.limits.threads ≡ rows.old.width }
     requires few { work.old.joins + 2 * length held.now < 2 ^ 63 }
     requires numbers { AreNumbers sums.now (closed_of queues.now) }
-    requires whole { IsWhole (closed_of queues.now) ((strict_of rows.old).thread thread.0) }
-    requires releases { AreWholeIn sums.now (closed_of queues.now) }
     ensures threads { (strict_of rows.new).thread ≡ with_row thread.0
         (join ((strict_of rows.old).thread thread.0)
         (join_all (met_under (met_clocks sums.now (closed_of queues.now)) var.0 kind thread.0)
@@ -104,8 +95,7 @@ pub(crate) fn take_sources(
     ensures kept { SameRoom rows.old rows.new }
     ensures joins { work.new.joins ≤ work.old.joins + 2 * length held.now }
     ensures joins_exact { work.new.joins ≡ work.old.joins
-        + joins_under sums.now (closed_of queues.now) var.0 kind thread.0
-        ((strict_of rows.old).thread thread.0) (numbers_of held.now) }
+        + joins_under sums.now var.0 kind thread.0 (numbers_of held.now) }
     ensures comparisons { work.new.comparisons ≡ work.old.comparisons }
 {
     for lock in held {

@@ -1,9 +1,8 @@
 //! The clocks of the strict relation: a row for each thread and each lock.
 ghost use Rattle.std.specs.Prelude.{◌≡◌, ◌≢◌, ℕ, ◌+◌, ◌*◌, ◌<◌, ◌≤◌, ◌^◌, ◌↔◌, length, IfOk, OnOk, IsTrue};
-ghost use Rattle.std.specs.Prelude.{max, nat_le};
 ghost use Rattle.event_core.specs.Rows.{join, with_row, no_rows};
 ghost use Rattle.hb_clocks.specs.Counts.{counts_of};
-ghost use Rattle.hb_clocks.specs.Released.{thread_of, before_of, clock_of};
+ghost use Rattle.hb_clocks.specs.Released.{before_of, clock_of};
 ghost use Rattle.hb_clocks.specs.Rows.{row_at};
 ghost use Rattle.wcp_clocks.specs.StrictRows.{strict_of, HasThread, HasLock, KeepsRoom, SameRoom};
 ghost use Rattle.wcp_clocks.specs.StrictRows.{SameClocks, IsReady, HasMade, GrownFor};
@@ -137,15 +136,6 @@ impl StrictRows {
         ensures row { HasThread self.now thread.0 → result.now ≡ row_at self.now.thread thread.0 }
     {
         row_or(&self.threads, thread.0 as usize, &self.zeros)
-    }
-
-    // Whether the thread's strict clock counts the release.
-    pub(crate) fn counts(&self, thread: ThreadId, release: &ReleaseClock<'_>) -> bool
-        requires within { length (before_of release.now) ≤ self.now.width }
-        ensures { result ≡ nat_le (clock_of release.now (thread_of release.now).0)
-            ((strict_of self.now).thread thread.0 (thread_of release.now).0) }
-    {
-        release.counted(self.strict(thread))
     }
 
     // The thread's strict clock takes the greater numbers of the release, and counts it. It is one join.

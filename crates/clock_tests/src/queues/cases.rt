@@ -21,9 +21,9 @@ pub enum Row {
     Close(ThreadId, LockId),
     /// How many closed sections the lock has.
     Count(LockId, u32),
-    /// The lock's closed section of the number: its thread, how many events of that thread there were before
-    /// its release, and how many of each.
-    Section(LockId, u32, ThreadId, u32, &'static [u32]),
+    /// The lock's closed section of the number: its thread, and of each thread how many events happened
+    /// before its release, which is one of them.
+    Section(LockId, u32, ThreadId, [u64; 3]),
     /// A clock takes the numbers of the thread.
     Copy(ThreadId),
     /// It takes the greater numbers of the release of the lock's closed section of the number.
@@ -39,7 +39,7 @@ pub const ONE_SECTION: &[Row] = &[
     Row::Count(L, 0),
     Row::Close(T1, L),
     Row::Count(L, 1),
-    Row::Section(L, 1, T1, 0, &[0, 0]),
+    Row::Section(L, 1, T1, [0, 1, 0]),
 ];
 
 pub const RELEASES: &[Row] = &[
@@ -49,13 +49,13 @@ pub const RELEASES: &[Row] = &[
     Row::Take(T1),
     Row::Take(T1),
     Row::Close(T1, L),
-    Row::Section(L, 1, T1, 2, &[0, 2]),
+    Row::Section(L, 1, T1, [0, 3, 0]),
     Row::Copy(T0),
     Row::Clock([2, 0, 0]),
     Row::JoinRelease(L, 1),
     Row::Clock([2, 3, 0]),
     Row::Close(T0, M),
-    Row::Section(M, 1, T0, 1, &[1]),
+    Row::Section(M, 1, T0, [2, 0, 0]),
     Row::Copy(T1),
     Row::JoinRelease(M, 1),
     Row::Clock([2, 3, 0]),
@@ -71,7 +71,7 @@ pub const THREE_THREADS: &[Row] = &[
     Row::Take(T1),
     Row::Take(T1),
     Row::Close(T1, L),
-    Row::Section(L, 1, T1, 4, &[1, 4]),
+    Row::Section(L, 1, T1, [1, 5, 0]),
     Row::Take(T0),
     Row::Copy(T0),
     Row::Clock([2, 0, 0]),
@@ -85,7 +85,7 @@ pub const THREE_THREADS: &[Row] = &[
     Row::Take(T2),
     Row::Take(T2),
     Row::Close(T2, M),
-    Row::Section(M, 1, T2, 5, &[3, 0, 5]),
+    Row::Section(M, 1, T2, [3, 0, 6]),
     Row::JoinRelease(M, 1),
     Row::Clock([3, 5, 6]),
 ];

@@ -3,7 +3,6 @@ ghost use Rattle.std.specs.Prelude.{◌≡◌, ◌+◌, ◌<◌, ◌≤◌, ◌^
 ghost use Rattle.event_core.specs.declared.events.Op.TheVariants.{Acquire, Release};
 ghost use Rattle.event_core.specs.Effect.{Accesses, Opens, Closes, Forks, Joins, Inner};
 ghost use Rattle.wcp_clocks.specs.Met.{joins_latest};
-ghost use Rattle.wcp_clocks.specs.Whole.{IsWhole};
 ghost use Rattle.wcp_clocks.specs.Parts.{IsReady, Fits};
 ghost use Rattle.wcp_clocks.specs.Stepping.{IsDue, IsStepBy, IsStep};
 ghost use Rattle.event_core.specs.Rows.{join, with_row};
@@ -163,7 +162,7 @@ impl WcpClocks {
 }
 
 // The thread's strict clock takes the release clock of the latest section on the lock whose acquire it
-// counts, if there is one that it does not count already.
+// counts, if there is one.
 fn take_closed(
     rows: &mut StrictRows,
     queues: &mut Queues,
@@ -178,7 +177,6 @@ fn take_closed(
         ≤ number_counted ((strict_of rows.old).thread thread.0) (closed_of queues.old lock.0) }
     requires earlier { CountsEarlier ((strict_of rows.old).thread thread.0) (closed_of queues.old lock.0) }
     requires few { work.old.comparisons + length (closed_of queues.old lock.0) < 2 ^ 63 }
-    requires whole { IsWhole (closed_of queues.old) ((strict_of rows.old).thread thread.0) }
     requires few_joins { work.old.joins < 2 ^ 62 }
     ensures threads { (strict_of rows.new).thread ≡ with_row thread.0
         (join ((strict_of rows.old).thread thread.0)
@@ -190,8 +188,8 @@ fn take_closed(
         (number_counted ((strict_of rows.old).thread thread.0) (closed_of queues.old lock.0)) }
     ensures joins { work.new.joins ≤ work.old.joins + 1 }
     ensures joins_exact { work.new.joins ≡ work.old.joins
-        + joins_latest (latest_counted ((strict_of rows.old).thread thread.0) (closed_of queues.old lock.0))
-        ((strict_of rows.old).thread thread.0) }
+        + joins_latest
+        (latest_counted ((strict_of rows.old).thread thread.0) (closed_of queues.old lock.0)) }
     ensures comparisons { work.new.comparisons + found_of queues.old lock.0 thread.0
         ≤ work.old.comparisons
         + number_counted ((strict_of rows.old).thread thread.0) (closed_of queues.old lock.0) + 1 }
@@ -200,9 +198,7 @@ fn take_closed(
         ≤ work.new.comparisons + found_of queues.old lock.0 thread.0 }
 {
     let latest = queues.last_below(thread, lock, rows.strict(thread), work);
-    if let Some(section) = latest {
-        if !rows.counts(thread, &section) {
-            rows.take_release(thread, &section, work);
-        }
+    if let Some(release) = latest {
+        rows.take_release(thread, &release, work);
     }
 }

@@ -3,7 +3,7 @@ use Rattle.std.proofs.lemmas.List.{length-map}
 use Rattle.section_sum.specs.Sources.{most_sources}
 use Rattle.lock_queues.specs.Queues.{closed_of}
 use Rattle.wcp_clocks.specs.MetReleases.{released_at}
-use Rattle.wcp_clocks.proofs.MetReleases.{sources_closed}
+use Rattle.wcp_clocks.proofs.MetNumbers.{sources_closed}
 use Rattle.wcp_clocks.proofs.sources.sources_under.Goals as goal
 
 pub new-requires : goal.new-requires

@@ -7,7 +7,7 @@ use Rattle.wcp_clocks.proofs.Taking.{HasTaken, taken_begins, taken_on}
 use Rattle.wcp_clocks.proofs.sources.take_sources.Goals as goal
 
 pub loop-lock-init : goal.loop-lock-init
-loop-lock-init c = taken_begins c.requires.whole
+loop-lock-init c = taken_begins
 
 pub take_under-requires-clause-room : goal.take_under-requires-clause-room
 take_under-requires-clause-room c = thread_kept c.loop-lock.invariant.kept _ c.requires.room
@@ -32,5 +32,5 @@ loop-lock-preserved c =
     subst (HasTaken _ _ _ _ _ _ _ _ _)
     (sym (map_more (λ (m : LockId). m.0) c.args.held.now c.loop-lock.lock-index
     (record { 0 = 0 }) c.loop-lock-test.true))
-    (taken_on (numbers_of (take c.loop-lock.lock-index c.args.held.now)) l.0 c.requires.releases
+    (taken_on (numbers_of (take c.loop-lock.lock-index c.args.held.now)) l.0
     c.loop-lock.invariant e.threads e.locks e.kept e.joins e.joins_exact e.comparisons)

@@ -1,7 +1,7 @@
 use Rattle.std.proofs.Common.{◌≡◌, ℕ, ◌<◌, ◌-◌, ◌++◌, ap, sym, subst, ◌∙◌, arith, length, length-set}
 use Rattle.hb_clocks.specs.Counts.{counts_of}
 use Rattle.hb_clocks.specs.Releases.{KeptNumbers, before, lowered}
-use Rattle.hb_clocks.proofs.Lowering.{counted_within, raised_lowered, lowered_at}
+use Rattle.hb_clocks.proofs.Lowering.{counted_within, raised_lowered}
 use Rattle.hb_clocks.proofs.release.ReleaseClocks.push.Goals as goal
 
 pub push_before-requires-clause-own : goal.push_before-requires-clause-own
@@ -18,27 +18,13 @@ push_before-requires-clause-few c =
     subst (λ (f : ℕ → ℕ). (u : ℕ) → before c.args.by.0 f u < 4294967296) (sym c.counts-counts.ensures.counts)
     c.requires.few
 
-pub number_before-requires-clause-within : goal.number_before-requires-clause-within
-number_before-requires-clause-within c =
-    counted_within c.counts-counts.result.now c.args.by.0
-    (subst (λ (f : ℕ → ℕ). 0 < f c.args.by.0) (sym c.counts-counts.ensures.counts) c.requires.counted)
-
-pub number_before-requires-clause-counted : goal.number_before-requires-clause-counted
-number_before-requires-clause-counted c =
-    subst (λ (f : ℕ → ℕ). 0 < f c.args.by.0) (sym c.counts-counts.ensures.counts) c.requires.counted
-
-pub number_before-requires-clause-few : goal.number_before-requires-clause-few
-number_before-requires-clause-few c =
-    subst (λ (f : ℕ → ℕ). before c.args.by.0 f c.args.by.0 < 4294967296)
-    (sym c.counts-counts.ensures.counts) (c.requires.few c.args.by.0)
-
 pub returns-clause-added : goal.returns-clause-added
 returns-clause-added c =
     let t : ℕ = c.args.by.0 in
     let counts = c.counts-counts.result.now in
     let counted : 0 < counts_of counts t
     = subst (λ (f : ℕ → ℕ). 0 < f t) (sym c.counts-counts.ensures.counts) c.requires.counted in
-    let own : t < length counts = counted_within counts t counted in
+    let within : t < length counts = counted_within counts t counted in
     let same : length (lowered t counts) ≡ length counts = length-set counts t (counts_of counts t - 1) in
     let used = c.counts-counts.ensures.within in
     let numbers = c.self.inside.numbers.ok.0 in
@@ -51,7 +37,6 @@ returns-clause-added c =
       start = omega arith;
       count = sym same;
       marked = omega arith;
-      own = ap (λ (f : ℕ → ℕ). f t) (lowered_at t counts own) ∙ sym c.number_before.ensures;
       release = ap counts_of (raised_lowered t counts counted) ∙ c.counts-counts.ensures.counts;
       within = omega arith;
     }

@@ -6,12 +6,6 @@ use Rattle.wcp_clocks.proofs.Stepped.{kept_within, due_within, seen_step}
 use Rattle.wcp_clocks.proofs.Within.{within}
 use Rattle.wcp_clocks.proofs.clocks.WcpClocks.access.Goals as goal
 
-pub take_sources-requires-clause-whole : goal.take_sources-requires-clause-whole
-take_sources-requires-clause-whole c = (c.self.invariant.whole.strict c.args.event.now.thread.0).whole
-
-pub take_sources-requires-clause-releases : goal.take_sources-requires-clause-releases
-take_sources-requires-clause-releases c = λ l x k t. (c.self.invariant.whole.met l x k t).whole
-
 -- the parts as the step leaves them
 abbrev left : goal.After-advance → Parts
 left c =

@@ -74,9 +74,6 @@ give_lock-requires-clause-room c =
 pub give_lock-requires-clause-lock_room : goal.give_lock-requires-clause-lock_room
 give_lock-requires-clause-lock_room c = lock_kept c.take_closed.ensures.kept _ (search rules)
 
-pub take_closed-requires-clause-whole : goal.take_closed-requires-clause-whole
-take_closed-requires-clause-whole c = (c.self.invariant.whole.strict c.args.event.now.thread.0).whole
-
 -- the parts as the step leaves them
 step : (c : goal.After-remove) → IsStepBy c.args.event.now (Closes c.args.lock) (within c.self.inside)
     (parts_of c.advance.new.self c.give_lock.new.self c.close.new.self c.leave.new.self

@@ -33,7 +33,7 @@ mark-requires-clause-few c =
     let old = hb_of (within c.self.inside) in
     let next = own_opened e c.args.lock old _ due.effect c.advance.ensures.exact in
     let few = due.fits.few_counts e.thread.0 in
-    let within = (c.self.invariant.whole.hb_lock c.args.lock.0).within e.thread.0 in
+    let at_lock = due.fits.few_at_lock c.args.lock in
     omega arith
 
 -- the parts as the step leaves them
