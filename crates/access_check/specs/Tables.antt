@@ -123,6 +123,26 @@ pub record GrownFor (old new : AccessTables) (t : ThreadId) (o : Op) : Type 0 wh
   pub var_room : new.var_room ≤ max old.var_room (2 * vars_for o)
   pub lasts : LastsFor o old.vars new.vars
 
+-- the operation is no access
+abbrev pub IsOther : Op → Type 0
+IsOther (Load x) = ⊥
+IsOther (Store x) = ⊥
+IsOther _ = Unit {0}
+
+-- each list of a variable has the memory that it had
+abbrev pub SameLasts : List VariableAccesses → List VariableAccesses → Type 0
+SameLasts old new = (y : ℕ) (k : AccessKind)
+    → (of_kind k (accesses_at new y)).reserved ≡ (of_kind k (accesses_at old y)).reserved
+
+-- each table is as long as it was and has the memory that it had; and no variable changes but by an access
+pub record SameMemory (old new : AccessTables) (o : Op) : Type 0 where
+  pub counts : length new.counts ≡ length old.counts
+  pub vars : length new.vars ≡ length old.vars
+  pub count_room : new.count_room ≡ old.count_room
+  pub var_room : new.var_room ≡ old.var_room
+  pub lasts : SameLasts old.vars new.vars
+  pub others : IsOther o → new.vars ≡ old.vars
+
 -- before any event
 abbrev pub no_tables : Limits → AccessTables
 no_tables m = record { limits = m; counts = []; vars = []; count_room = 0; var_room = 0 }

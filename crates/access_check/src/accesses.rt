@@ -43,7 +43,8 @@ impl Accesses {
     ghost use Rattle.event_core.specs.Refusal.{WellFormed};
     ghost use Rattle.event_core.specs.Verdict.{IsVerdict};
     ghost use Rattle.hb_clocks.specs.Counts.{counts_of};
-    ghost use Rattle.access_check.specs.Tables.{IsReady, KeepsReady, Notes, count_at, no_tables, verdict_of};
+    ghost use Rattle.access_check.specs.Tables.{IsReady, KeepsReady, SameMemory, Notes};
+    ghost use Rattle.access_check.specs.Tables.{count_at, no_tables, verdict_of};
     ghost use Rattle.access_check.specs.Standing.{StandsFor};
 
     /// The accesses of the empty log. It takes no memory, and so succeeds.
@@ -117,6 +118,7 @@ impl Accesses {
             → IsVerdict (log ++ event.now ∷ []) (length log) verdict
             → StandsFor (log ++ event.now ∷ []) self.new }
         ensures kept { KeepsReady self.old self.new event.now.thread }
+        ensures memory { SameMemory self.old self.new event.now.op }
     {
         let position = count_event(&mut self.counts, event.thread.0 as usize);
         note_access(&mut self.vars, event, Access { index, position }, verdict);

@@ -114,7 +114,8 @@ fn has_place(lasts: &Vec<PackedAccess>, thread: ThreadId) -> bool
 fn put(lasts: &mut Vec<PackedAccess>, last: PackedAccess)
     requires { IsTrue (list_any (is_of last.thread) lasts.old.items
         || nat_lt 0 (vec_capacity lasts.old - vec_len lasts.old)) }
-    ensures { lasts.new.items ≡ put last lasts.old.items }
+    ensures items { lasts.new.items ≡ put last lasts.old.items }
+    ensures memory { vec_capacity lasts.new ≡ vec_capacity lasts.old }
 {
     match find(lasts, last.thread()) {
         Some(at) => lasts[at] = last,
@@ -194,6 +195,7 @@ impl LastAccesses {
         requires room { IsTrue (is_ready last.thread self.old) }
         ensures items { self.new.items ≡ put last self.old.items }
         ensures room { IsTrue (is_ready last.thread self.new) }
+        ensures memory { self.new.reserved ≡ self.old.reserved }
     {
         self.put(PackedAccess::new(last));
     }
@@ -201,7 +203,8 @@ impl LastAccesses {
     #[inline(always)]
     fn put(&mut self, last: PackedAccess)
         requires { IsTrue (is_ready last.thread self.old) }
-        ensures { self.new.items ≡ put last self.old.items }
+        ensures items { self.new.items ≡ put last self.old.items }
+        ensures memory { self.new.reserved ≡ self.old.reserved }
     {
         match &self.first {
             Some(first) if first.thread() != last.thread() => put(&mut self.rest, last),
@@ -214,6 +217,7 @@ impl LastAccesses {
     pub fn clear(&mut self)
         ensures items { self.new.items ≡ [] }
         ensures kept { (t : Thread) → IsTrue (is_ready t self.old) → IsTrue (is_ready t self.new) }
+        ensures memory { self.new.reserved ≡ self.old.reserved }
     {
         self.first = None;
         self.rest.clear();

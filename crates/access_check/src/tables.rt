@@ -8,7 +8,7 @@ ghost use Rattle.hb_clocks.specs.Counts.{counts_of};
 ghost use Rattle.access_check.specs.LastAccesses.{AreNarrow, IsPackable};
 ghost use Rattle.access_check.specs.VariableAccesses.{kept, latest_racing, kept_after};
 ghost use Rattle.access_check.specs.Tables.{last_of, count_at, accesses_at, accesses_after, verdict_at};
-ghost use Rattle.access_check.specs.Tables.{IsReadyAt, IsReadyFor, LastsAt};
+ghost use Rattle.access_check.specs.Tables.{IsReadyAt, IsReadyFor, IsOther, LastsAt, SameLasts};
 
 use crate::last_accesses::{Access, LastAccess};
 use crate::variable_accesses::VariableAccesses;
@@ -105,6 +105,8 @@ fn note_at(
     ensures accesses { (x : ℕ) (k : Kind) → kept k (accesses_at vars.new x)
         ≡ cond (nat_eq x var) (kept_after verdict kind last k (accesses_at vars.old x))
         (kept k (accesses_at vars.old x)) }
+    ensures memory { SameLasts vars.old vars.new }
+    ensures as_many { length vars.new ≡ length vars.old }
 {
     let accesses = &mut vars[var];
     accesses.note(kind, last, verdict);
@@ -142,6 +144,7 @@ pub(crate) fn count_event(counts: &mut [u64], thread: usize) -> u64
     ensures position { result ≡ count_at counts.old thread + 1 }
     ensures counts { (u : ℕ) → count_at counts.new u
         ≡ cond (nat_eq u thread) (count_at counts.old u + 1) (count_at counts.old u) }
+    ensures as_many { length counts.new ≡ length counts.old }
 {
     let count = &mut counts[thread];
     *count += 1;
@@ -166,6 +169,9 @@ pub(crate) fn note_access(
         → (x : ℕ) (k : Kind) → AreNarrow width (kept k (accesses_at vars.new x)) }
     ensures kept { (o : Operation) → IsReadyFor vars.old event.now.thread o
         → IsReadyFor vars.new event.now.thread o }
+    ensures memory { SameLasts vars.old vars.new }
+    ensures as_many { length vars.new ≡ length vars.old }
+    ensures others { IsOther event.now.op → vars.new ≡ vars.old }
 {
     let last = LastAccess {
         thread: event.thread,

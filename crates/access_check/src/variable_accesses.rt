@@ -71,6 +71,7 @@ impl VariableAccesses {
         ensures accesses { (k : Kind) → kept k self.new ≡ kept_after verdict kind last k self.old }
         ensures room { (k : Kind) → IsTrue (is_ready last.thread (of_kind k self.old))
             → IsTrue (is_ready last.thread (of_kind k self.new)) }
+        ensures memory { (k : Kind) → (of_kind k self.new).reserved ≡ (of_kind k self.old).reserved }
     {
         match (kind, verdict) {
             (AccessKind::Read, _) => self.loads.note(last),

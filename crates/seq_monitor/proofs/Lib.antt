@@ -7,3 +7,4 @@ pub mod RunMore
 pub mod SwapReplies
 pub mod NeverMemory
 pub mod Joining
+pub mod GrowthLaws

@@ -3,3 +3,4 @@ pub mod Answers
 pub mod RunAnswers
 pub mod Joins
 pub mod Grown
+pub mod Growth

@@ -11,6 +11,7 @@ ghost use Rattle.wcp_clocks.specs.Standing.{StandsFor as ClocksStandFor};
 ghost use Rattle.wcp_clocks.specs.WorkWithin.{IsWorkOf};
 ghost use Rattle.seq_monitor.specs.Monitored.{slots_for, HasRoomFor};
 ghost use Rattle.seq_monitor.specs.Grown.{HasGrown, HasOtherRoom, IsKeptRelease};
+ghost use Rattle.seq_monitor.specs.Growth.{GrownFor, TablesGrownFor};
 
 use access_check::Accesses;
 use event_core::{Event, Log, Op, OutOfMemory, Reply, ThreadId, Verdict};
@@ -115,8 +116,20 @@ fn others_ready(parts: &Parts, thread: ThreadId, op: Op, slots: usize) -> bool
     parts.verdicts.has_room(slots)
 }
 
-/// Makes room in all parts for the thread's operation, and in the lists for so many events. Nothing else
-/// changes. Where there is room no memory is taken.
+// Whether it is a release, and there is room for it. There is for each release that was kept room for.
+#[inline(always)]
+fn ready_to_release(parts: &Parts, thread: ThreadId, op: Op, slots: usize) -> bool
+    ensures ready { IsTrue result → HasRoomFor parts.now thread op slots }
+    ensures release { IsKeptRelease parts.now thread op slots → IsTrue result }
+{
+    match op {
+        Op::Release(_) => ready(parts, thread, op, slots),
+        _ => false,
+    }
+}
+
+/// Makes room in all parts for the thread's operation, and in the lists for so many events, and no more than
+/// that. Nothing else changes. Where there is room, as for each release that was kept room for, nothing does.
 #[inline(always)]
 pub(crate) fn prepare(
     parts: &mut Parts,
@@ -127,10 +140,14 @@ pub(crate) fn prepare(
     requires clocks { ClocksAreWithin parts.old.clocks thread op }
     requires width { width_of parts.old.clocks ≡ parts.old.accesses.limits.threads }
     ensures grown { HasGrown parts.old parts.new }
+    ensures within { GrownFor parts.old parts.new thread op slots }
     ensures ready { OnOk result (HasRoomFor parts.new thread op slots) }
-    ensures again { HasRoomFor parts.old thread op slots → IsOk result }
-    ensures release { IsKeptRelease parts.old thread op slots → IsOk result }
+    ensures again { HasRoomFor parts.old thread op slots → IsOk result × (parts.new ≡ parts.old) }
+    ensures release { IsKeptRelease parts.old thread op slots → IsOk result × (parts.new ≡ parts.old) }
 {
+    if ready_to_release(parts, thread, op, slots) {
+        return Ok(());
+    }
     parts.clocks.prepare_for(thread, op)?;
     if others_ready(parts, thread, op, slots) {
         return Ok(());
@@ -144,6 +161,7 @@ pub(crate) fn prepare(
 fn grow_others(parts: &mut Parts, thread: ThreadId, op: Op, slots: usize) -> Result<(), OutOfMemory>
     requires { thread.0 < parts.old.accesses.limits.threads }
     ensures grown { HasGrown parts.old parts.new }
+    ensures within { TablesGrownFor parts.old parts.new thread op slots }
     ensures clocks { parts.new.clocks ≡ parts.old.clocks }
     ensures ready { OnOk result (HasOtherRoom parts.new thread op slots) }
 {

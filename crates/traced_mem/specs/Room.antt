@@ -68,6 +68,16 @@ pub record GrownFor (old new : MemoryTables) (u : ThreadId) (o : Op) : Type 0 wh
   pub cell_room : new.room ≤ max old.room (2 * cells_for o)
   pub held : HeldFor old.threads new.threads u o
 
+-- each table has the rows and the memory that it had; the list of cells may reach up to the operation's
+pub record SameMemory (old new : MemoryTables) (o : Op) : Type 0 where
+  pub threads : length new.threads ≡ length old.threads
+  pub locks : length new.locks ≡ length old.locks
+  pub cells : length new.cells ≤ max (length old.cells) (cells_for o)
+  pub thread_room : new.thread_room ≡ old.thread_room
+  pub lock_room : new.lock_room ≡ old.lock_room
+  pub cell_room : new.room ≡ old.room
+  pub held : (v : ℕ) → (thread_at new.threads v).held.capacity ≡ (thread_at old.threads v).held.capacity
+
 -- more room, and the same meaning
 pub record Grown (old new : List ThreadRow) : Type 0 where
   pub rows : threads_of new ≡ threads_of old

@@ -7,7 +7,7 @@ ghost use Rattle.event_core.specs.Refusal.{value_of, event_of};
 ghost use Rattle.traced_mem.specs.Meaning.{nothing};
 ghost use Rattle.traced_mem.specs.After.{after, value_at, holds_after};
 ghost use Rattle.traced_mem.specs.Tables.{meaning, Allows};
-ghost use Rattle.traced_mem.specs.Room.{IsReady, HoldsFit, takes_place};
+ghost use Rattle.traced_mem.specs.Room.{IsReady, SameMemory, HoldsFit, takes_place};
 ghost use Rattle.traced_mem.specs.Standing.{StandsFor};
 
 mod permission;
@@ -102,6 +102,7 @@ impl Memory {
         // an acquire may use up the place that was made for another one by its thread
         ensures kept { (u : Thread) (o : Operation) → takes_place call.now.thread call.now.op u o ≡ false
             → IsReady self.old u o → IsReady self.new u o }
+        ensures memory { SameMemory self.old self.new call.now.op }
         ensures last { (log : List Event) → StandsFor log self.old
             → result ≡ value_of log call.now.op call.now.arg }
         ensures stands { (log : List Event) → StandsFor log self.old

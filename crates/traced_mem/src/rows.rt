@@ -1,5 +1,5 @@
 //! The rows of the tables, and what one event changes in one row.
-ghost use Rattle.std.specs.Prelude.{◌≡◌, ℕ, ◌+◌, ◌<◌, ◌^◌, length, nat_eq, vec_capacity};
+ghost use Rattle.std.specs.Prelude.{◌≡◌, ℕ, ◌+◌, ◌<◌, ◌≤◌, ◌^◌, length, max, nat_eq, vec_capacity};
 ghost use Rattle.std.specs.List.{position};
 ghost use Rattle.smallvec.specs.SmallVec.{HasRoomFor};
 ghost use Rattle.event_core.specs.declared.ids.LockId.{LockId as Lock};
@@ -166,6 +166,7 @@ pub fn write(cells: &mut Vec<u64>, cell: usize, value: u64)
     requires { cell < vec_capacity cells.old }
     ensures rows { cells_of cells.new.items ≡ updated cell value (cells_of cells.old.items) }
     ensures room { vec_capacity cells.new ≡ vec_capacity cells.old }
+    ensures most { length cells.new.items ≤ max (length cells.old.items) (cell + 1) }
 {
     lengthen(cells, cell);
     cells[cell] = value;
@@ -177,6 +178,7 @@ fn lengthen(cells: &mut Vec<u64>, cell: usize)
     requires { cell < vec_capacity cells.old }
     ensures same { cells_of cells.new.items ≡ cells_of cells.old.items }
     ensures room { vec_capacity cells.new ≡ vec_capacity cells.old }
+    ensures most { length cells.new.items ≤ max (length cells.old.items) (cell + 1) }
     ensures there { cell < length cells.new.items }
 {
     'growing: while cells.len() <= cell {

@@ -1,5 +1,5 @@
 //! One accepted event, on all tables.
-ghost use Rattle.std.specs.Prelude.{◌≡◌, ℕ, ◌<◌, length, vec_capacity};
+ghost use Rattle.std.specs.Prelude.{◌≡◌, ℕ, ◌<◌, ◌≤◌, length, max, vec_capacity};
 ghost use Rattle.traced_mem.specs.After.{
   updated,
   mentioned_again,
@@ -9,7 +9,7 @@ ghost use Rattle.traced_mem.specs.After.{
   holds_after,
 };
 ghost use Rattle.traced_mem.specs.Tables.{threads_of, locks_of, cells_of, thread_at, total, HeldBelow};
-ghost use Rattle.traced_mem.specs.Room.{HasRoom, DepthFits};
+ghost use Rattle.traced_mem.specs.Room.{HasRoom, DepthFits, cells_for};
 
 use crate::rows::{LockRow, ThreadRow, deepen, fork, gain, join, lessen, lose, mention, write};
 use event_core::{Call, Op};
@@ -36,6 +36,7 @@ pub fn apply_rows(
     ensures same_threads { length threads.new ≡ length threads.old }
     ensures same_locks { length locks.new ≡ length locks.old }
     ensures same_cells { vec_capacity cells.new ≡ vec_capacity cells.old }
+    ensures most_cells { length cells.new.items ≤ max (length cells.old.items) (cells_for call.now.op) }
     ensures same_room { (u : ℕ)
         → (thread_at threads.new u).held.capacity ≡ (thread_at threads.old u).held.capacity }
     ensures total { total locks.new ≡ holds_after call.now.op (total locks.old) }

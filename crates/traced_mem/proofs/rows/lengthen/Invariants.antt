@@ -1,4 +1,4 @@
-use Rattle.std.proofs.Common.{◌≡◌, ◌+◌, ◌-◌, length, vec_capacity}
+use Rattle.std.proofs.Common.{◌≡◌, ◌+◌, ◌-◌, ◌≤◌, length, max, vec_capacity}
 use Rattle.traced_mem.specs.Tables.{cells_of}
 use Rattle.traced_mem.proofs.rows.lengthen.Given as goal
 
@@ -6,6 +6,7 @@ abbrev pub invariant-growing : goal.invariant-growing
 invariant-growing l = record {
   same : cells_of l.cells.items ≡ cells_of l.initial.cells.items;
   room : vec_capacity l.cells ≡ vec_capacity l.initial.cells;
+  most : length l.cells.items ≤ max (length l.initial.cells.items) (l.cell + 1);
 }
 
 abbrev pub decreases-growing : goal.decreases-growing

@@ -3,7 +3,7 @@ use Rattle.std.proofs.Common.{arith, ◌+◌, cond, nat_eq}
 use Rattle.std.proofs.Math.Seq.{take-append_seam}
 use Rattle.access_check.specs.declared.variable_accesses.VariableAccesses.{VariableAccesses}
 use Rattle.access_check.specs.LastAccesses.{AreNarrow}
-use Rattle.access_check.specs.VariableAccesses.{kept}
+use Rattle.access_check.specs.VariableAccesses.{kept, of_kind}
 use Rattle.access_check.specs.Tables.{AccessTables, IsReadyFor, accesses_at, count_at, accesses_after}
 use Rattle.access_check.proofs.Stepping.{note_stands}
 use Rattle.access_check.proofs.accesses.Accesses.note.Goals as goal
@@ -65,6 +65,23 @@ returns-clause-kept c o room =
           (c.note_access.ensures.kept o
           (subst (λ (vs : List VariableAccesses). IsReadyFor vs t o) (sym were) room.access));
     }
+
+pub returns-clause-memory : goal.returns-clause-memory
+returns-clause-memory c =
+    let counts = written c.self.inside.counts.len c.count_event-position.new.counts c.self.inside.counts.items
+    (omega arith) in
+    let vars = written c.self.inside.vars.len c.note_access.new.vars c.self.inside.vars.items (omega arith) in
+    let had_counts = c.deref_mut.ensures.value ∙ ap (λ (v : AccessTables). v.counts) c.self.view_is in
+    let had_vars = c.deref_mut-2.ensures.value ∙ ap (λ (v : AccessTables). v.vars) c.self.view_is in
+    rw (counts, vars) (record {
+      counts = c.count_event-position.ensures.as_many ∙ ap (λ (ns : List ℕ). length ns) had_counts;
+      vars = c.note_access.ensures.as_many ∙ ap (λ (vs : List VariableAccesses). length vs) had_vars;
+      count_room = ap (λ (v : AccessTables). v.count_room) c.self.view_is;
+      var_room = ap (λ (v : AccessTables). v.var_room) c.self.view_is;
+      lasts = λ y k. c.note_access.ensures.memory y k
+          ∙ ap (λ (vs : List VariableAccesses). (of_kind k (accesses_at vs y)).reserved) had_vars;
+      others = λ other. c.note_access.ensures.others other ∙ had_vars;
+    })
 
 pub returns-clause-stands : goal.returns-clause-stands
 returns-clause-stands c = λ log stands at well verdict.

@@ -7,4 +7,4 @@ use Rattle.access_check.proofs.last_accesses.LastAccesses.note.Goals as goal
 pub returns-clause-room : goal.returns-clause-room
 returns-clause-room c =
     room_put c.args.last c.args.self.now c.put.new.self
-    (c.put.ensures ∙ ap (λ (p : LastAccess). put p c.args.self.now.items) c.new.ensures)
+    (c.put.ensures.items ∙ ap (λ (p : LastAccess). put p c.args.self.now.items) c.new.ensures)

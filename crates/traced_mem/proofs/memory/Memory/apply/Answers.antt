@@ -1,12 +1,13 @@
-use Rattle.std.proofs.Common.{◌≡◌, ◌+◌, [], ◌∷◌, ◌++◌, None, ap, sym, subst, refl, ◌∙◌, arith}
+use Rattle.std.proofs.Common.{◌≡◌, ℕ, ◌+◌, ◌≤◌, max, length, List, [], ◌∷◌, ◌++◌, None, ap, sym, subst, refl}
+use Rattle.std.proofs.Common.{◌∙◌, arith}
 use Rattle.event_core.specs.declared.bounds.Limits.{Limits}
 use Rattle.event_core.specs.Refusal.{refusal, event_of, WellFormed}
 use Rattle.event_core.proofs.Growth.{well_formed_grown}
 use Rattle.traced_mem.specs.Meaning.{Meaning}
 use Rattle.traced_mem.specs.Refusals.{refusal_at}
 use Rattle.traced_mem.specs.After.{holds_after, after, value_at}
-use Rattle.traced_mem.specs.Tables.{MemoryTables, total, locks_of, threads_of, meaning}
-use Rattle.traced_mem.specs.Room.{HoldsFit, IsReady}
+use Rattle.traced_mem.specs.Tables.{MemoryTables, total, locks_of, threads_of, thread_at, meaning}
+use Rattle.traced_mem.specs.Room.{HoldsFit, IsReady, cells_for}
 use Rattle.traced_mem.proofs.AfterLaw.{after_law}
 use Rattle.traced_mem.proofs.Allowed.{fits_inside}
 use Rattle.traced_mem.proofs.SameRefusals.{same_refusal, same_value}
@@ -82,6 +83,26 @@ returns-clause-kept c u o free r =
     c.apply_rows.ensures.same_room c.apply_rows.ensures.threads
     (subst (λ (s : MemoryTables). IsReady s u o)
     (sym (lent_whole c.self.view_is c.deref_mut.ensures.value c.deref_mut-2.ensures.value)) r))
+
+pub returns-clause-memory : goal.returns-clause-memory
+returns-clause-memory c =
+    let threads = given_back c.apply_rows.new.threads c.deref_mut.ensures.value c.deref_mut.ensures.len
+    c.apply_rows.ensures.same_threads in
+    let locks = given_back c.apply_rows.new.locks c.deref_mut-2.ensures.value c.deref_mut-2.ensures.len
+    c.apply_rows.ensures.same_locks in
+    let whole = lent_whole c.self.view_is c.deref_mut.ensures.value c.deref_mut-2.ensures.value in
+    let cells : List ℕ = c.apply_rows.new.cells.items in
+    rw (threads, locks) (record {
+      threads = c.apply_rows.ensures.same_threads ∙ ap (λ (s : MemoryTables). length s.threads) whole;
+      locks = c.apply_rows.ensures.same_locks ∙ ap (λ (s : MemoryTables). length s.locks) whole;
+      cells = subst (λ (s : MemoryTables). length cells ≤ max (length s.cells) (cells_for c.args.call.now.op))
+          whole c.apply_rows.ensures.most_cells;
+      thread_room = ap (λ (s : MemoryTables). s.thread_room) whole;
+      lock_room = ap (λ (s : MemoryTables). s.lock_room) whole;
+      cell_room = c.apply_rows.ensures.same_cells ∙ ap (λ (s : MemoryTables). s.room) whole;
+      held = λ v. c.apply_rows.ensures.same_room v
+          ∙ ap (λ (s : MemoryTables). (thread_at s.threads v).held.capacity) whole;
+    })
 
 pub returns-clause-last : goal.returns-clause-last
 returns-clause-last c log s =
