@@ -17,3 +17,4 @@ pub mod NewNames
 pub mod Joined
 pub mod Begins
 pub mod FeedLaws
+pub mod TurnsLaws

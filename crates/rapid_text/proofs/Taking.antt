@@ -1,6 +1,6 @@
 -- What the steps of a cutter take of a text, and where a text stands that was not read to its end.
-use Rattle.std.proofs.Common.{◌≡◌, ℕ, ◌+◌, ◌≤◌, ◌⊎◌, List, [], ◌∷◌, ◌++◌, length, length-append, Option, Bool}
-use Rattle.std.proofs.Common.{true, refl, sym, ap, subst, ◌∙◌, append_assoc, append-nil, arith, take, drop}
+use Rattle.std.proofs.Common.{◌≡◌, ℕ, ◌+◌, ◌≤◌, List, [], ◌∷◌, ◌++◌, length, length-append, Option}
+use Rattle.std.proofs.Common.{refl, sym, ap, subst, ◌∙◌, append_assoc, append-nil, arith, take, drop}
 use Rattle.std.proofs.lemmas.List.{length-take-le, take-append-drop}
 use Rattle.std.specs.Io.KnownBytes.{Consumes}
 use Rattle.rapid_line.specs.Cut.{Lacks, count, after_last}
@@ -93,11 +93,10 @@ push_advances s t piece used o p few =
     (take-append-drop used piece) (took_advances (drop used piece) took few)
 
 -- a text of which these bytes came and were taken, where the reading stopped
-pub truncates : (left rest : Option (List ℕ)) (turns : ℕ) (failed : Bool) (now : Place)
-    (So : List ℕ → Type 0) (came : List ℕ) → Consumes left rest came
-    → (failed ≡ true) ⊎ (turns ≤ length came) → Advances start came [] now → So came
-    → Truncates left rest turns failed now.unfinished So
-truncates left rest turns failed now So came bytes why took so =
+pub truncates : (left rest : Option (List ℕ)) (Why : List ℕ → Type 0) (now : Place) (So : List ℕ → Type 0)
+    (came : List ℕ) → Consumes left rest came → Why came → Advances start came [] now → So came
+    → Truncates left rest Why now.unfinished So
+truncates left rest Why now So came bytes why took so =
     let unended = took.unended (refl, omega arith) in
     let kept : now.kept ≡ after_last 10 came =
     sym (after_last-Lacks 10 now.kept unended.0)

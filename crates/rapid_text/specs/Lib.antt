@@ -11,6 +11,7 @@ pub mod Cutting
 pub mod Pushing
 pub mod Pulling
 pub mod Reading
+pub mod Turns
 pub mod Feeding
 pub mod Taking
 pub mod TakingLaws

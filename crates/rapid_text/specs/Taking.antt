@@ -1,5 +1,5 @@
 -- A text that is taken in pieces: how far it was taken, and where it stands if it was not read to its end.
-use Rattle.std.specs.Prelude.{◌≡◌, ℕ, ◌+◌, ◌≤◌, ◌⊎◌, List, [], ◌++◌, length, Option, Bool, true}
+use Rattle.std.specs.Prelude.{◌≡◌, ℕ, ◌+◌, ◌≤◌, List, [], ◌++◌, length, Option}
 use Rattle.std.specs.Io.KnownBytes.{Consumes}
 use Rattle.rapid_line.specs.Cut.{Lacks, count, after_last}
 use Rattle.rapid_line.specs.Lines.{Lines}
@@ -34,13 +34,13 @@ pub record Advances (old : Place) (bytes rest : List ℕ) (new : Place) : Type 0
   pub unended : AreUnended old.kept → AreUnended new.kept
   pub taken : new.taken + length rest ≡ old.taken + length bytes
 
--- these bytes came of the text. Then a read failed, or there were as many as turns at least, and line n is
--- the one whose end was not seen.
-pub record Truncates (left rest : Option (List ℕ)) (turns : ℕ) (read_failed : Bool) (n : ℕ)
-    (So : List ℕ → Type 0) : Type 0 where
+-- these bytes came of the text, which was not read to its end for this reason; line n is the one whose end
+-- was not seen
+pub record Truncates (left rest : Option (List ℕ)) (Why : List ℕ → Type 0) (n : ℕ) (So : List ℕ → Type 0)
+    : Type 0 where
   pub came : List ℕ
   pub bytes : Consumes left rest came
-  pub why : (read_failed ≡ true) ⊎ (turns ≤ length came)
+  pub why : Why came
   pub at : n ≡ 1 + count 10 came
   -- with one byte more than this it is too long
   pub short : length (after_last 10 came) ≤ 1025

@@ -1,5 +1,5 @@
 //! Any reader or writer of std as an input or an output.
-ghost use Rattle.std.specs.Prelude.{◌≡◌, false};
+ghost use Rattle.std.specs.Prelude.{◌≡◌, Some, false};
 ghost use Rattle.rapid_text.specs.Devices.{DeviceView};
 
 use crate::input::{Input, ReadFailed};
@@ -12,23 +12,27 @@ use std::marker::Model;
 pub struct Device<T> {
     inner: T,
     failed: bool,
+    // Contracts alone see this number.
+    pulls: u64,
 }
 
 impl<T> Model for Device<T> {
     ghost Value = { DeviceView T };
 
-    ghost view = { λ d. record { inner = d.inner; failed = d.failed } };
+    ghost view = { λ d. record { inner = d.inner; failed = d.failed; pulls = d.pulls } };
 }
 
 impl<T> Device<T> {
-    /// The device of a reader or a writer, which has not failed.
+    /// The device of a reader or a writer, which has not failed and was not pulled.
     pub fn new(inner: T) -> Device<T>
         ensures inner { result.inner ≡ inner }
         ensures failed { result.failed ≡ false }
+        ensures pulls { result.pulls ≡ 0 }
     {
         Device {
             inner,
             failed: false,
+            pulls: 0,
         }
     }
 }
@@ -38,7 +42,10 @@ impl<T: Read> Input for Device<T> {
 
     ghost failed = { λ d. d.failed };
 
+    ghost pulls = { λ d. Some d.pulls };
+
     fn pull(&mut self, buf: &mut [u8]) -> Result<usize, ReadFailed> {
+        self.pulls = self.pulls.saturating_add(1);
         match self.inner.read(buf) {
             Ok(n) => Ok(n),
             Err(_) => {

@@ -1,6 +1,7 @@
 //! A text that is pulled from an input and fed to what takes it, piece by piece.
-ghost use Rattle.std.specs.Prelude.{◌≡◌, ◌≢◌, ◌⊎◌, ℕ, ◌≤◌, List, [], ◌++◌, true, false, length};
+ghost use Rattle.std.specs.Prelude.{◌≡◌, ◌≢◌, ℕ, List, [], ◌++◌, true, false};
 ghost use Rattle.rapid_text.specs.Feeding.{Pulled, Whole, WithinTurns};
+ghost use Rattle.rapid_text.specs.Turns.{IsCutShort, PulledWithin};
 
 use crate::input::Input;
 
@@ -48,10 +49,12 @@ pub fn feed_all<I: Input, S: Sink>(input: &mut I, sink: &mut S, turns: u64) -> F
     // The sink stopped within what was pulled.
     ensures stopped { result ≡ Fed.Stopped → Pulled (I.left input.old) (I.left input.new) turns
         (λ bytes. S.stops sink.old bytes sink.new) }
-    // What was pulled was taken; a pull failed, or each of so many gave a byte at least.
+    // What was pulled was taken. A pull failed, or as many were made as there are turns.
     ensures truncated { result ≡ Fed.Truncated → Pulled (I.left input.old) (I.left input.new) turns
-        (λ bytes. S.takes sink.old bytes sink.new × ((I.failed input.new ≡ true) ⊎ (turns ≤ length bytes))) }
-    // However it ends, no more than 65,536 bytes were pulled for each turn.
+        (λ bytes. S.takes sink.old bytes sink.new
+        × IsCutShort turns (I.failed input.new) (I.pulls input.old) (I.pulls input.new) bytes) }
+    // However it ends, no more pulls were made than there are turns, and each gave at most 65,536 bytes.
+    ensures pulls { PulledWithin turns (I.pulls input.old) (I.pulls input.new) }
     ensures few { WithinTurns turns (I.left input.old) (I.left input.new) }
     // No failure of the input is passed over.
     ensures healthy { result ≢ Fed.Truncated → I.failed input.new ≡ I.failed input.old }

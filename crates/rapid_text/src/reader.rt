@@ -3,14 +3,15 @@
 //! What waits in the window is pushed to the cutter. Where no line with an event ended, the next piece is
 //! pulled, for one turn; the end of the text finishes the cutter. So the number of pulls is bounded,
 //! however the input behaves, and each line that came whole is judged before a failure is reported.
-ghost use Rattle.std.specs.Prelude.{◌≡◌, ◌≢◌, ℕ, ◌+◌, ◌*◌, ◌≤◌, length, IfOk, IfErr, IfSome, OnOk, Ok, None};
-ghost use Rattle.std.specs.Prelude.{Some, true, false};
+ghost use Rattle.std.specs.Prelude.{◌≡◌, ◌≢◌, ℕ, ◌+◌, ◌-◌, ◌*◌, ◌≤◌, length, IfOk, IfErr, IfSome, OnOk, Ok};
+ghost use Rattle.std.specs.Prelude.{None, Some, true, false};
 ghost use Rattle.std.specs.Result.{IsErrOf};
 ghost use Rattle.rapid_text.specs.Cutting.{most, failed_at};
 ghost use Rattle.rapid_text.specs.Tables.{TablesGrow};
 ghost use Rattle.rapid_text.specs.Events.{IsOfNames};
 ghost use Rattle.rapid_text.specs.Pulling.{unpulled, Answers, NoAnswer, pulling_of, to_judge};
 ghost use Rattle.rapid_text.specs.Pulling.{TakeBytes, TakeFew};
+ghost use Rattle.rapid_text.specs.Turns.{PulledTimes};
 ghost use Rattle.rapid_text.specs.Texts.{BeginsAt};
 ghost use Rattle.rapid_text.specs.Reading.{Reading};
 
@@ -51,6 +52,7 @@ fn next_event<I: Input>(
     ensures told { IfErr result (λ f. f.cause ≢ Cause.Read → I.failed input.new ≡ I.failed input.old) }
     ensures room { OnOk result (cutter.new.taken + length window.new + 4096 * turns.new ≤ most) }
     ensures turns { turns.new ≤ turns.old }
+    ensures pulls { PulledTimes (turns.old - turns.new) (I.pulls input.old) (I.pulls input.new) }
     ensures few { TakeFew turns.old (I.left input.old) turns.new (I.left input.new) }
     ensures bytes { OnOk result (ended.new ≡ false
         → TakeBytes turns.old (I.left input.old) turns.new (I.left input.new)) }
@@ -99,6 +101,7 @@ impl<I: Input> Model for Reader<I> {
       text = pulling_of r.cutter r.window r.turns r.ended;
       left = I.left r.input;
       read_failed = I.failed r.input;
+      pulls = I.pulls r.input;
     } };
 
     ghost invariant = { λ r.
@@ -119,8 +122,12 @@ impl<I: Input> Reader<I> {
         I: Drop,
         requires turns { turns ≤ 17592186044416 }
         requires works { I.failed inner ≡ false }
-        ensures { IfOk result (λ r.
-            r ≡ record { text = unpulled limits turns; left = I.left inner; read_failed = false }) }
+        ensures { IfOk result (λ r. r ≡ record {
+          text = unpulled limits turns;
+          left = I.left inner;
+          read_failed = false;
+          pulls = I.pulls inner;
+        }) }
     {
         let window = Window::new(alloc)?;
         let cutter = Cutter::new(alloc, limits)?;
@@ -157,7 +164,10 @@ impl<I: Input> Reader<I> {
         ensures healthy { OnOk result (self.new.read_failed ≡ self.old.read_failed) }
         ensures told { IfErr result (λ f.
             f.cause ≢ Cause.Read → self.new.read_failed ≡ self.old.read_failed) }
+        // Each pull takes one turn.
         ensures turns { self.new.text.turns ≤ self.old.text.turns }
+        ensures pulls { PulledTimes (self.old.text.turns - self.new.text.turns)
+            self.old.pulls self.new.pulls }
         // However it ends, no more than 4,096 bytes were pulled for each turn.
         ensures few { TakeFew self.old.text.turns self.old.left self.new.text.turns self.new.left }
         // Each turn took a byte, except one that found the end of the text or a failure.

@@ -3,6 +3,7 @@ ghost use Rattle.std.specs.Prelude.{◌≡◌, ℕ, ◌+◌, ◌-◌, ◌<◌, �
 ghost use Rattle.std.specs.Prelude.{OnErr};
 ghost use Rattle.std.specs.Result.{is_err};
 ghost use Rattle.std.specs.Io.KnownBytes.{Consumes, Keeps, IsAtEnd};
+ghost use Rattle.rapid_text.specs.Turns.{PulledTimes};
 
 use crate::input::{Input, ReadFailed};
 use event_core::OutOfMemory;
@@ -67,6 +68,7 @@ impl Window {
         ensures kept { OnErr result (Keeps (I.left input.old) (I.left input.new)) }
         ensures none { OnErr result (self.new ≡ []) }
         ensures failed { I.failed input.new ≡ (I.failed input.old || is_err result) }
+        ensures counts { PulledTimes 1 (I.pulls input.old) (I.pulls input.new) }
     {
         let pulled = input.pull(self.bytes.as_mut_slice());
         self.from = 0;

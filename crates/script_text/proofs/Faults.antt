@@ -1,6 +1,6 @@
 -- Why there is no script.
 use Rattle.std.proofs.Common.{◌≡◌, ◌≢◌, ℕ, ◌≤◌, ◌++◌, List, [], Option, Some, None, Ok, ap, ◌∙◌, sym, subst}
-use Rattle.std.proofs.Common.{Bool, true, ◌⊎◌, inl, inr, refl, arith, length}
+use Rattle.std.proofs.Common.{true, inl, inr, refl, arith}
 use Rattle.std.specs.Prelude.{IfSome, IsSomeAnd}
 use Rattle.std.proofs.lemmas.Option.{IfSome_then}
 use Rattle.std.specs.Io.KnownBytes.{Consumes, IsAtEnd}
@@ -34,10 +34,10 @@ known_whole P (Some xs) None came c end h = absurd c
 known_whole P (Some xs) (Some ys) came c end h =
     subst P (sym (c ∙ ap (λ (t : List ℕ). came ++ t) end)) h
 
-module _ (limits : Bounds) (left rest : Option (List ℕ)) (turns : ℕ) (failed : Bool) where
+module _ (limits : Bounds) (left rest : Option (List ℕ)) (turns : ℕ) (Why : List ℕ → Type 0) where
   fault_as : (k : ScriptCause) (f : ScriptFault) → (is_of_line k ≡ true → HasFault limits left f)
       → HasNoneBefore limits left f.line → k ≢ causes.Read → k ≢ causes.NoFork
-      → IsFault limits left rest turns failed f k
+      → IsFault limits left rest Why f k
   fault_as causes.OutOfMemory f finds first read of_line = first
   fault_as causes.NoFork f finds first read of_line = absurd (of_line refl)
   fault_as causes.Read f finds first read of_line = absurd (read refl)
@@ -45,12 +45,12 @@ module _ (limits : Bounds) (left rest : Option (List ℕ)) (turns : ℕ) (failed
 
   -- memory ran out before the first line
   pub memory_fault : (f : ScriptFault) → f ≡ record { line = 1; cause = causes.OutOfMemory }
-      → IsFault limits left rest turns failed f f.cause
+      → IsFault limits left rest Why f f.cause
   memory_fault f e =
       let first : ScriptFault = record { line = 1; cause = causes.OutOfMemory } in
-      let here : IsFault limits left rest turns failed first first.cause =
+      let here : IsFault limits left rest Why first first.cause =
       always left (λ text g d. judge_from (begun limits) 1 (lines_of text) g d) in
-      subst (λ (g : ScriptFault). IsFault limits left rest turns failed g g.cause) (sym e) here
+      subst (λ (g : ScriptFault). IsFault limits left rest Why g g.cause) (sym e) here
     where
       always : {P : List ℕ → Type 0} (o : Option (List ℕ)) → ((text : List ℕ) → P text) → IfSome o P
       always None h = tt
@@ -58,19 +58,19 @@ module _ (limits : Bounds) (left rest : Option (List ℕ)) (turns : ℕ) (failed
 
   -- all lines were judged, but there is no script
   pub incomplete_fault : (s : Parsed) (f : ScriptFault) → IfSome left (λ text. script_of limits text ≡ Ok s)
-      → Incomplete s.lines f → IsFault limits left rest turns failed f f.cause
+      → Incomplete s.lines f → IsFault limits left rest Why f f.cause
   incomplete_fault s f all (inl h) = memory_fault f h
   incomplete_fault s f all (inr h) =
-      let here : IsFault limits left rest turns failed f causes.NoFork =
+      let here : IsFault limits left rest Why f causes.NoFork =
       IfSome_then left all (λ text e. record { parsed = s; reads = e; first = h.1 }) in
-      subst (λ (k : ScriptCause). IsFault limits left rest turns failed f k) (sym h.0) here
+      subst (λ (k : ScriptCause). IsFault limits left rest Why f k) (sym h.0) here
 
   -- ---- a text that was pulled
 
   module _ (start : Progress) (is : start ≡ unread limits) where
     pub stopped_fault : (o : Option ScriptFault) (f : ScriptFault) → turns ≤ 17592186044416
         → Pulled left rest turns (λ bytes. IsSomeAnd o (PieceFails start bytes)) → o ≡ Some f
-        → IsFault limits left rest turns failed f f.cause
+        → IsFault limits left rest Why f f.cause
     stopped_fault o f few p some =
         let stops = subst (λ (q : Progress). PieceFails q p.bytes f) is
         (subst (λ (x : Option ScriptFault). IsSomeAnd x (PieceFails start p.bytes)) some p.so) in
@@ -86,7 +86,7 @@ module _ (limits : Bounds) (left rest : Option (List ℕ)) (turns : ℕ) (failed
       taken bytes h = subst (λ (q : Progress). Takes q bytes [] now) is h
 
       pub end_fault : (f : ScriptFault) → Whole left rest turns IsRead → EndFails now f
-          → IsFault limits left rest turns failed f f.cause
+          → IsFault limits left rest Why f f.cause
       end_fault f w stops =
           let p = w.pulled in
           let law = (taken p.bytes p.so).law [] in
@@ -100,13 +100,12 @@ module _ (limits : Bounds) (left rest : Option (List ℕ)) (turns : ℕ) (failed
           draft_judged (begun limits) 1 (lines_of (w.pulled.bytes ++ [])) s (draft_begun limits)
           ((taken w.pulled.bytes w.pulled.so).law [] ∙ e)
 
-      pub read_fault : (n : ℕ)
-          → Pulled left rest turns (λ bytes. IsRead bytes × ((failed ≡ true) ⊎ (turns ≤ length bytes)))
+      pub read_fault : (n : ℕ) → Pulled left rest turns (λ bytes. IsRead bytes × Why bytes)
           → n ≡ now.cutter.unfinished
-          → IsFault limits left rest turns failed (record { line = n; cause = causes.Read }) causes.Read
+          → IsFault limits left rest Why (record { line = n; cause = causes.Read }) causes.Read
       read_fault n p at =
           let t = taken p.bytes p.so.0 in
-          subst (λ (m : ℕ). ReadFails limits left rest turns failed m) (sym at)
-          (truncates left rest turns failed (lines_place now.cutter) _ p.bytes p.came p.so.1 t.advances
+          subst (λ (m : ℕ). ReadFails limits left rest Why m) (sym at)
+          (truncates left rest Why (lines_place now.cutter) _ p.bytes p.came p.so.1 t.advances
           (λ more g e. judge_from now.parsed now.cutter.unfinished (lines_of (now.cutter.kept ++ more)) g
           (sym (t.law more) ∙ e)))

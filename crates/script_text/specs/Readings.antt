@@ -60,10 +60,10 @@ pub record EndFails (old : Progress) (f : ScriptFault) : Type 0 where
 
 -- ---- why there is no script
 
--- a read failed, or the turns are used up. Line n is the one whose end was not seen, and whatever follows, no
--- line that came whole has a cause.
-abbrev pub ReadFails : Bounds → Option (List ℕ) → Option (List ℕ) → ℕ → Bool → ℕ → Type 0
-ReadFails limits left rest turns failed n = Truncates left rest turns failed n (λ came.
+-- the text was not read to its end for this reason. Line n is the one whose end was not seen, and whatever
+-- follows, no line that came whole has a cause.
+abbrev pub ReadFails : Bounds → Option (List ℕ) → Option (List ℕ) → (List ℕ → Type 0) → ℕ → Type 0
+ReadFails limits left rest Why n = Truncates left rest Why n (λ came.
     (more : List ℕ) (g : ScriptFault) → script_of limits (came ++ more) ≡ Err g → n ≤ g.line)
 
 -- no line has a cause, and line n is the first that names a thread which is not reached
@@ -93,9 +93,9 @@ LacksFork limits left n = IfSome left (λ text. IsUnforked limits text n)
 
 -- the fault is that of the text that the input had left; a failed read is at the line whose end was not seen,
 -- and want of memory at no later line than the first that has a cause
-abbrev pub IsFault : Bounds → Option (List ℕ) → Option (List ℕ) → ℕ → Bool → ScriptFault → ScriptCause
-    → Type 0
-IsFault limits left rest turns failed f causes.OutOfMemory = HasNoneBefore limits left f.line
-IsFault limits left rest turns failed f causes.Read = ReadFails limits left rest turns failed f.line
-IsFault limits left rest turns failed f causes.NoFork = LacksFork limits left f.line
-IsFault limits left rest turns failed f cause = HasFault limits left f
+abbrev pub IsFault : Bounds → Option (List ℕ) → Option (List ℕ) → (List ℕ → Type 0) → ScriptFault
+    → ScriptCause → Type 0
+IsFault limits left rest Why f causes.OutOfMemory = HasNoneBefore limits left f.line
+IsFault limits left rest Why f causes.Read = ReadFails limits left rest Why f.line
+IsFault limits left rest Why f causes.NoFork = LacksFork limits left f.line
+IsFault limits left rest Why f cause = HasFault limits left f

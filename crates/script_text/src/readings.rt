@@ -1,6 +1,7 @@
 //! A script that is read in pieces, however it is cut.
 ghost use Rattle.std.specs.Prelude.{◌≡◌, ◌≢◌, ◌≤◌, [], false, length, Ok, IfErr, IfOk, IfSome, OnOk};
 ghost use Rattle.rapid_text.specs.Feeding.{WithinTurns};
+ghost use Rattle.rapid_text.specs.Turns.{IsCutShort, PulledWithin};
 ghost use Rattle.script_text.specs.Forms.{Fails};
 ghost use Rattle.script_text.specs.Scripts.{IsDraft, after_content, script_of};
 ghost use Rattle.script_text.specs.Readings.{progress, unread, script_after, Takes};
@@ -153,8 +154,9 @@ pub fn read_lines<I: Input>(
     ensures ok { IfOk result (λ r. IfSome (I.left reader.old) (λ text.
         script_of limits text ≡ Ok (record { names = r.0; lines = r.1.items }))) }
     ensures draft { IfOk result (λ r. IsDraft (record { names = r.0; lines = r.1.items })) }
-    ensures fault { IfErr result (λ f.
-        IsFault limits (I.left reader.old) (I.left reader.new) turns (I.failed reader.new) f f.cause) }
+    ensures fault { IfErr result (λ f. IsFault limits (I.left reader.old) (I.left reader.new)
+        (IsCutShort turns (I.failed reader.new) (I.pulls reader.old) (I.pulls reader.new)) f f.cause) }
+    ensures pulls { PulledWithin turns (I.pulls reader.old) (I.pulls reader.new) }
     ensures few { WithinTurns turns (I.left reader.old) (I.left reader.new) }
     ensures healthy { OnOk result (I.failed reader.new ≡ false) }
     ensures told { IfErr result (λ f. f.cause ≢ ScriptCause.Read → I.failed reader.new ≡ false) }

@@ -1,6 +1,7 @@
 //! Scripts that were read.
 ghost use Rattle.std.specs.Prelude.{◌≡◌, ◌≢◌, ℕ, ◌≤◌, length, IfOk, IfErr, IfSome, OnOk, Ok, false};
 ghost use Rattle.rapid_text.specs.Feeding.{WithinTurns};
+ghost use Rattle.rapid_text.specs.Turns.{IsCutShort, PulledWithin};
 ghost use Rattle.script_text.specs.Scripts.{Parsed, IsScript, IsFirstUnreached, IsDraft, script_of};
 ghost use Rattle.script_text.specs.Readings.{IsFault, Incomplete};
 
@@ -65,7 +66,7 @@ impl Model for Script {
 }
 
 impl Script {
-    /// Reads the script that the reader gives. It reads up to 65,536 bytes for each turn, and there may be
+    /// Reads the script that the reader gives. Each turn is one pull of up to 65,536 bytes, and there may be
     /// 2^44 turns. It keeps no more of the text than one piece and one line. The fault is the first line that
     /// has a cause, `Read` at the line whose end was not seen, or `OutOfMemory`.
     pub fn read<I: Input>(
@@ -80,13 +81,14 @@ impl Script {
         ensures ok { IfOk result (λ s. IfSome (I.left reader.old) (λ text. script_of limits text ≡ Ok s)) }
         // Forks lead from thread 0 to each thread, and no thread is forked or joined twice.
         ensures script { IfOk result (λ s. IsScript s) }
-        // The fault is the first of the text, or a growth was refused at no later line, or a read failed or
-        // the turns are used up. A read fault is at the line whose end was not seen. Each line that came
-        // whole is without a cause, and at most 1,025 bytes came of that line, since with one more it is too
-        // long.
-        ensures fault { IfErr result (λ f.
-            IsFault limits (I.left reader.old) (I.left reader.new) turns (I.failed reader.new) f f.cause) }
-        // However it ends, no more than 65,536 bytes were read for each turn.
+        // The fault is the first of the text, or a growth was refused at no later line, or a read failed, or
+        // as many pulls were made as there are turns. A read fault is at the line whose end was not seen.
+        // Each line that came whole is without a cause, and at most 1,025 bytes came of that line, since with
+        // one more it is too long.
+        ensures fault { IfErr result (λ f. IsFault limits (I.left reader.old) (I.left reader.new)
+            (IsCutShort turns (I.failed reader.new) (I.pulls reader.old) (I.pulls reader.new)) f f.cause) }
+        // However it ends, no more pulls were made than there are turns, and each gave at most 65,536 bytes.
+        ensures pulls { PulledWithin turns (I.pulls reader.old) (I.pulls reader.new) }
         ensures few { WithinTurns turns (I.left reader.old) (I.left reader.new) }
         // A failure of the reader is never passed over: it is answered `Read`.
         ensures healthy { OnOk result (I.failed reader.new ≡ false) }

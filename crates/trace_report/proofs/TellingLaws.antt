@@ -9,6 +9,7 @@ use Rattle.event_core.specs.declared.events.Event.{Event}
 use Rattle.event_core.specs.declared.replies.Verdict.{Verdict}
 use Rattle.event_core.specs.declared.replies.Verdict.TheVariants.{Racy}
 use Rattle.rapid_text.specs.Feeding.{WithinTurns}
+use Rattle.rapid_text.specs.Turns.{IsCutShort, PulledWithin}
 use Rattle.rapid_text.specs.Tables.{Tables}
 use Rattle.seq_monitor.specs.Monitored.{AreVerdicts}
 use Rattle.trace_report.specs.declared.faults.ReplayFault.{ReplayFault}
@@ -73,14 +74,18 @@ if_found A So (inr is) so = subst (λ (x : ReplayFault). IfFound {A = A} (Err x)
 
 -- how much was read for it
 pub fault_read : (A : Type 0) {m : Limits} {left rest : Option (List ℕ)} {turns : ℕ} {failed : Bool}
-    {f : TraceFault} {answer : ReplayFault} → (answer ≡ replay_fault f) ⊎ (answer ≡ Write)
-    → WithinTurns turns left rest → (is_read_fault f ≡ true → IsTruncatedAt m left rest turns failed f)
-    → HasRead {A = A} m left rest turns failed (Err answer)
-fault_read A {m} {left} {rest} {turns} {failed} answers few truncated = record {
-  few = few;
+    {before after : Option ℕ} {f : TraceFault} {answer : ReplayFault}
+    → (answer ≡ replay_fault f) ⊎ (answer ≡ Write)
+    → PulledWithin turns before after × WithinTurns turns left rest
+    → (is_read_fault f ≡ true → IsTruncatedAt m left rest (IsCutShort turns failed before after) f)
+    → HasRead {A = A} m left rest turns failed before after (Err answer)
+fault_read A {m} {left} {rest} {turns} {failed} {before} {after} answers read truncated = record {
+  pulls = read.0;
+  few = read.1;
   whole = tt;
-  truncated = if_found A (λ f. is_read_fault f ≡ true → IsTruncatedAt m left rest turns failed f) answers
-      truncated;
+  truncated = if_found A
+      (λ f. is_read_fault f ≡ true → IsTruncatedAt m left rest (IsCutShort turns failed before after) f)
+      answers truncated;
 }
 
 abbrev pub AnswersFault : (A : Type 0) → ReplayFault → TraceFault → Type 0

@@ -1,7 +1,7 @@
 -- A text that was not read to its end: its fault is at the line whose end was not seen, and none is before
 -- it.
 use Rattle.std.proofs.Common.{◌≡◌, ℕ, ◌+◌, List, [], ◌∷◌, ◌++◌, Option, Some, None, Result, Ok, Err}
-use Rattle.std.proofs.Common.{refl, sym, ap, subst, ◌∙◌, arith, ◌≤◌, ◌⊎◌, length, Bool, true}
+use Rattle.std.proofs.Common.{refl, sym, ap, subst, ◌∙◌, arith, ◌≤◌}
 use Rattle.std.specs.Prelude.{IfErr}
 use Rattle.event_core.specs.declared.bounds.Limits.{Limits}
 use Rattle.event_core.specs.declared.events.Event.{Event}
@@ -54,18 +54,16 @@ from_line m log (l ∷ ls) t n =
 
 -- a text of which some bytes came and were taken, where the reading stopped
 pub truncated_text : {m : Limits} {A B : Limits → List Event → Type 0} {left rest : Option (List ℕ)}
-    {turns : ℕ} {failed : Bool} {So : List ℕ → Type 0} {s t : Cutting} → s ≡ begun m
-    → (p : Pulled left rest turns (λ bytes. So bytes × ((failed ≡ true) ⊎ (turns ≤ length bytes))))
-    → Takes A B s p.bytes [] t → A m []
-    → IsTruncatedAt m left rest turns failed (Text (record { line = t.unfinished; cause = Read }))
+    {turns : ℕ} {So Why : List ℕ → Type 0} {s t : Cutting} → s ≡ begun m
+    → (p : Pulled left rest turns (λ bytes. So bytes × Why bytes)) → Takes A B s p.bytes [] t → A m []
+    → IsTruncatedAt m left rest Why (Text (record { line = t.unfinished; cause = Read }))
 unfolding finding
-truncated_text {m} {left = left} {rest = rest} {turns = turns} {failed = failed} {s = s}
-    {t = t} is p takes first =
+truncated_text {m} {left = left} {rest = rest} {Why = Why} {s = s} {t = t} is p takes first =
     let on = takes.goes_on m [] first in
     record {
       line = t.unfinished;
       at = refl;
-      stops = truncates left rest turns failed (cutter_place t) _ p.bytes p.came p.so.1
+      stops = truncates left rest Why (cutter_place t) _ p.bytes p.came p.so.1
           (subst (λ (c : Cutting). Advances (cutter_place c) p.bytes [] (cutter_place t)) is takes.advances)
           (λ more. subst (λ (found : Result Trace TraceFault). IsFrom t.unfinished found)
           (sym (ap (λ (c : Cutting). finding_after m [] (judged c (p.bytes ++ more))) (sym is)

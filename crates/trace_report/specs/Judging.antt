@@ -36,6 +36,7 @@ use Rattle.rapid_text.specs.Tables.{Tables, no_names}
 use Rattle.rapid_text.specs.Taking.{Advances, Truncates, cutter_place}
 use Rattle.rapid_text.specs.Texts.{Judgement, judgement}
 use Rattle.rapid_text.specs.Feeding.{WithinTurns}
+use Rattle.rapid_text.specs.Turns.{IsCutShort, PulledWithin}
 use Rattle.trace_report.specs.declared.faults.ReplayFault.{ReplayFault}
 use Rattle.trace_report.specs.declared.faults.TraceFault.{TraceFault}
 use Rattle.trace_report.specs.declared.faults.TraceFault.TheVariants.{Text, Refused}
@@ -147,21 +148,23 @@ pub record FindsFault (m : Limits) (left : Option (List ℕ)) (f : TraceFault) :
 
 -- ---- a text that was not read to its end
 
--- a read failed or the turns are used up: the fault is at the line whose end was not seen, and whatever
--- follows what came, no line before it has a fault or an event that is refused
-pub record IsTruncatedAt (m : Limits) (left rest : Option (List ℕ)) (turns : ℕ) (read_failed : Bool)
-    (f : TraceFault) : Type 0 where
+-- for this reason: the fault is at the line whose end was not seen, and whatever follows what came, no line
+-- before it has a fault or an event that is refused
+pub record IsTruncatedAt (m : Limits) (left rest : Option (List ℕ)) (Why : List ℕ → Type 0) (f : TraceFault)
+    : Type 0 where
   pub line : ℕ
   pub at : f ≡ Text (record { line = line; cause = causes.Read })
-  pub stops : Truncates left rest turns read_failed line
+  pub stops : Truncates left rest Why line
       (λ came. (more : List ℕ) → IfErr (finding m (came ++ more)) (λ g. line ≤ line_of g))
 
 -- how much of a text was read for an answer, in so many turns
 pub record HasRead {A : Type 0} (m : Limits) (left rest : Option (List ℕ)) (turns : ℕ) (read_failed : Bool)
-    (answer : Result A ReplayFault) : Type 0 where
-  -- however it ended, no more than 65,536 bytes for each turn
+    (before after : Option ℕ) (answer : Result A ReplayFault) : Type 0 where
+  -- however it ended, no more pulls were made than there are turns, and each gave at most 65,536 bytes
+  pub pulls : PulledWithin turns before after
   pub few : WithinTurns turns left rest
   -- no failed read is passed over where there is a result
   pub whole : OnOk answer (read_failed ≡ false)
-  -- a read fault is answered only where a read failed, or as many bytes came as there are turns
-  pub truncated : IfFound answer (λ f. is_read_fault f ≡ true → IsTruncatedAt m left rest turns read_failed f)
+  -- a read fault is answered only where a read failed, or as many pulls were made as there are turns
+  pub truncated : IfFound answer (λ f. is_read_fault f ≡ true
+      → IsTruncatedAt m left rest (IsCutShort turns read_failed before after) f)

@@ -15,7 +15,7 @@ use traced_mem::Memory;
 
 /// Judges the trace that the reader has left, and writes one line: the counts of a legal trace, or the first
 /// line that is no event or whose event is refused. The lines before are known by the memory alone, and no
-/// log is kept. It reads up to 65,536 bytes for each turn, and there may be 2^44 turns.
+/// log is kept. Each turn is one pull of up to 65,536 bytes, and there may be 2^44 turns.
 ///
 /// Nothing is written where the text could not be read to its end, or a growth was refused. The first has
 /// the cause `Read`, and the second the cause or the refusal `OutOfMemory`.
@@ -38,7 +38,7 @@ pub fn check<I: Input, O: Output>(
     // A read fault is at the line whose end was not seen, of which at most 1,025 bytes came, since with one
     // more it is too long. No line before has a fault or a refused event.
     ensures reads { HasRead limits (I.left reader.old) (I.left reader.new) turns (I.failed reader.new)
-        result }
+        (I.pulls reader.old) (I.pulls reader.new) result }
     // Memory ran out at a line with an event. No event of a line before is refused, nor is the line's own
     // unless memory ran out for its names.
     ensures memory { IfFound result (λ f. RanOut f → ReachesLine limits (I.left reader.old) f) }

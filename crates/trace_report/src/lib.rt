@@ -19,10 +19,14 @@ mod words;
 
 pub use checking::check;
 pub use counts::Counts;
-pub use faults::ReplayFault;
+pub use faults::{ReplayFault, TraceFault};
+pub use judge::Judge;
+pub use judged_text::JudgedText;
 pub use lines::{put_count, put_race, put_summary};
 pub use replayer::Replayer;
 pub use replaying::replay;
 pub use reporting::report;
 pub use summary::Summary;
+pub use telling::tell_failure;
+pub use whole_text::judge_text;
 pub use words::refusal_word;

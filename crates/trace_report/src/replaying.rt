@@ -13,8 +13,8 @@ use seq_monitor::Monitor;
 use std::alloc::Global;
 
 /// Replays the trace that the reader has left, and writes what it comes to: the report of a legal trace, or
-/// one line for the first line that is no event or whose event is refused. It reads up to 65,536 bytes for
-/// each turn, and there may be 2^44 turns.
+/// one line for the first line that is no event or whose event is refused. Each turn is one pull of up to
+/// 65,536 bytes, and there may be 2^44 turns.
 ///
 /// Nothing is written before the text has ended or a fault is met, nor where the text could not be read to
 /// its end or a growth was refused.
@@ -37,7 +37,7 @@ pub fn replay<I: Input, O: Output>(
     // A read fault is at the line whose end was not seen, of which at most 1,025 bytes came, since with one
     // more it is too long. No line before has a fault or a refused event.
     ensures reads { HasRead limits (I.left reader.old) (I.left reader.new) turns (I.failed reader.new)
-        result }
+        (I.pulls reader.old) (I.pulls reader.new) result }
     // Memory ran out at a line with an event. No event of a line before is refused, nor is the line's own
     // unless memory ran out for its names. Or it ran out at line 1, before the first read.
     ensures memory { IfFound result (λ f. RanOut f → ReachesLine limits (I.left reader.old) f

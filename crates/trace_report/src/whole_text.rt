@@ -1,6 +1,7 @@
 //! A text that is judged whole, from an input.
 ghost use Rattle.std.specs.Prelude.{◌≡◌, ◌≤◌, [], None, true, IfErr, IfOk, IfSome, OnOk};
 ghost use Rattle.rapid_text.specs.Feeding.{WithinTurns};
+ghost use Rattle.rapid_text.specs.Turns.{IsCutShort, PulledWithin};
 ghost use Rattle.trace_report.specs.Judging.{IsFed, FindsTrace, FindsFault, IsTruncatedAt, is_read_fault};
 
 use crate::faults::TraceFault;
@@ -10,8 +11,7 @@ use event_core::Limits;
 use rapid_text::{Fed, Input, feed_all};
 use std::alloc::Global;
 
-/// Judges what the reader has left of its text, except a last line without an end. It reads up to 65,536
-/// bytes for each turn.
+/// Judges what the reader has left of its text, except a last line without an end. Each turn is one pull.
 fn read_text<I: Input, J: Judge>(
     alloc: Global,
     reader: &mut I,
@@ -25,7 +25,9 @@ fn read_text<I: Input, J: Judge>(
         → IsFed limits (I.left reader.old) (J.is_after result.judge limits) result.cutter }
     ensures fault { IfSome result.fault (FindsFault limits (I.left reader.old)) }
     ensures truncated { IfSome result.fault (λ f. is_read_fault f ≡ true
-        → IsTruncatedAt limits (I.left reader.old) (I.left reader.new) turns (I.failed reader.new) f) }
+        → IsTruncatedAt limits (I.left reader.old) (I.left reader.new)
+        (IsCutShort turns (I.failed reader.new) (I.pulls reader.old) (I.pulls reader.new)) f) }
+    ensures pulls { PulledWithin turns (I.pulls reader.old) (I.pulls reader.new) }
     ensures few { WithinTurns turns (I.left reader.old) (I.left reader.new) }
     ensures healthy { result.fault ≡ None → I.failed reader.new ≡ I.failed reader.old }
 {
@@ -38,8 +40,7 @@ fn read_text<I: Input, J: Judge>(
     text
 }
 
-/// Judges the text that the reader has left. It reads up to 65,536 bytes for each turn. The judge is before
-/// any event.
+/// Judges the text that the reader has left. Each turn is one pull. The judge is before any event.
 pub fn judge_text<I: Input, J: Judge + Drop>(
     alloc: Global,
     reader: &mut I,
@@ -56,7 +57,9 @@ pub fn judge_text<I: Input, J: Judge + Drop>(
     // which is at a line that is reached.
     ensures fault { IfErr result (FindsFault limits (I.left reader.old)) }
     ensures truncated { IfErr result (λ f. is_read_fault f ≡ true
-        → IsTruncatedAt limits (I.left reader.old) (I.left reader.new) turns (I.failed reader.new) f) }
+        → IsTruncatedAt limits (I.left reader.old) (I.left reader.new)
+        (IsCutShort turns (I.failed reader.new) (I.pulls reader.old) (I.pulls reader.new)) f) }
+    ensures pulls { PulledWithin turns (I.pulls reader.old) (I.pulls reader.new) }
     ensures few { WithinTurns turns (I.left reader.old) (I.left reader.new) }
     ensures healthy { OnOk result (I.failed reader.new ≡ I.failed reader.old) }
 {

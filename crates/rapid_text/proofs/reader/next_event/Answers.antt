@@ -5,6 +5,7 @@ use Rattle.rapid_text.specs.Pulling.{pulling_of}
 use Rattle.rapid_text.proofs.NameGrowth.{TablesGrow-trans, TablesGrow-same}
 use Rattle.rapid_text.proofs.Pulling.{runs_on, no_event, grown, handed_on, after_push, push_fails}
 use Rattle.rapid_text.proofs.Pulling.{at_end, closes_text, end_fails, end_begins, takes_more}
+use Rattle.rapid_text.proofs.TurnsLaws.{one_turn}
 use Rattle.rapid_text.proofs.reader.next_event.Goals as goal
 
 pub returns-in_err-event-in-Ok-eq0-clause-grows : goal.returns-in_err-event-in-Ok-eq0-clause-grows
@@ -63,6 +64,10 @@ pulls-preserved g c =
           ∙ (or-false (g.I.Input.failed c.pulls.input) ∙ c.pulls.invariant.healthy);
       bytes = taken.0;
       few = taken.1;
+      pulls = one_turn c.args.turns.now c.pulls.turns (g.I.Input.pulls c.args.input.now)
+          (g.I.Input.pulls c.pulls.input) (g.I.Input.pulls c.fill.new.input)
+          c.pulls.invariant.running.turns_left (omega (arith, c.if-turns-eq0.false))
+          c.pulls.invariant.pulls c.in-Ok.ensures.counts;
       going = c.pulls.invariant.going;
       grows = TablesGrow-trans _ _ _ c.pulls.invariant.grows c.push.ensures.grows;
     }

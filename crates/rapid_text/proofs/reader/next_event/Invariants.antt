@@ -1,5 +1,6 @@
-use Rattle.std.proofs.Common.{◌≡◌, false}
+use Rattle.std.proofs.Common.{◌≡◌, ◌-◌, false}
 use Rattle.rapid_text.specs.Pulling.{pulling_of, TakeBytes, TakeFew}
+use Rattle.rapid_text.specs.Turns.{PulledTimes}
 use Rattle.rapid_text.specs.Tables.{TablesGrow}
 use Rattle.rapid_text.proofs.Pulling.{Running}
 use Rattle.rapid_text.proofs.reader.next_event.Given as goal
@@ -11,6 +12,7 @@ invariant-pulls g l = record {
   healthy : g.I.Input.failed l.input ≡ g.I.Input.failed l.fn.input;
   bytes : TakeBytes l.fn.turns (g.I.Input.left l.fn.input) l.turns (g.I.Input.left l.input);
   few : TakeFew l.fn.turns (g.I.Input.left l.fn.input) l.turns (g.I.Input.left l.input);
+  pulls : PulledTimes (l.fn.turns - l.turns) (g.I.Input.pulls l.fn.input) (g.I.Input.pulls l.input);
   going : l.ended ≡ false;
   grows : TablesGrow l.fn.cutter.names l.cutter.names;
 }

@@ -21,7 +21,8 @@ returns-in-Err-clause-checks g c says =
 
 pub returns-in-Err-clause-reads : goal.returns-in-Err-clause-reads
 returns-in-Err-clause-reads g c =
-    fault_read Counts c.tell_failure.ensures.answers c.judge_text.ensures.few c.in-Err.ensures.truncated
+    fault_read Counts c.tell_failure.ensures.answers (c.judge_text.ensures.pulls, c.judge_text.ensures.few)
+    c.in-Err.ensures.truncated
 
 pub returns-in-Err-clause-memory : goal.returns-in-Err-clause-memory
 returns-in-Err-clause-memory g c =

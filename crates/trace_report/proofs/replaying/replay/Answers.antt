@@ -29,7 +29,8 @@ returns-in-Err-clause-tells g c says =
 
 pub returns-in-Err-clause-reads : goal.returns-in-Err-clause-reads
 returns-in-Err-clause-reads g c =
-    fault_read Summary c.tell_failure.ensures.answers c.judge_text.ensures.few c.in-Err.ensures.truncated
+    fault_read Summary c.tell_failure.ensures.answers (c.judge_text.ensures.pulls, c.judge_text.ensures.few)
+    c.in-Err.ensures.truncated
 
 pub returns-in-Err-clause-memory : goal.returns-in-Err-clause-memory
 returns-in-Err-clause-memory g c =

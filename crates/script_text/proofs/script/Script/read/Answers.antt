@@ -1,4 +1,5 @@
 use Rattle.std.proofs.Common.{List, subst}
+use Rattle.rapid_text.specs.Turns.{IsCutShort}
 use Rattle.script_text.specs.declared.lines.ScriptLine.{ScriptLine}
 use Rattle.script_text.specs.Scripts.{IsScript}
 use Rattle.script_text.specs.Readings.{Incomplete}
@@ -14,7 +15,8 @@ pub returns-in-Err-clause-fault : goal.returns-in-Err-clause-fault
 returns-in-Err-clause-fault g c =
     let reader = c.read_lines.new.reader in
     incomplete_fault c.args.limits (g.I.Input.left c.args.reader.now) (g.I.Input.left reader) c.args.turns
-    (g.I.Input.failed reader) (record { names = c.in_ok-names.names; lines = c.in_ok-names.lines.items })
+    (IsCutShort c.args.turns (g.I.Input.failed reader) (g.I.Input.pulls c.args.reader.now)
+    (g.I.Input.pulls reader)) (record { names = c.in_ok-names.names; lines = c.in_ok-names.lines.items })
     c.in-Err.fault c.in_ok-names.ensures.ok
     (subst (λ (ls : List ScriptLine). Incomplete ls c.in-Err.fault) c.as_slice.ensures.value
     c.in-Err.ensures.fault)
