@@ -8,3 +8,8 @@ pub mod Private
 pub mod Skips
 pub mod Repeated
 pub mod Pairs
+pub mod Reorders
+pub mod ReorderedRelations
+pub mod ReorderedRaces
+pub mod Exchanged
+pub mod Exchanges

@@ -154,7 +154,7 @@ flipped_ops (Store x) (Load y) c = sym c
 flipped_ops (Store x) (Store y) c = sym c
 flipped_ops _ _ c = absurd c
 
-flipped : {log : List Event} {i j : ℕ} → Conflict log i j → Conflict log j i
+pub flipped : {log : List Event} {i j : ℕ} → Conflict log i j → Conflict log j i
 flipped c = record {
   first = c.second;
   second = c.first;

@@ -2,3 +2,4 @@ pub mod Without
 pub mod HbLaws
 pub mod Repeats
 pub mod AccessLaws
+pub mod Exchanges

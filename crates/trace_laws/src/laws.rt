@@ -4,6 +4,7 @@ ghost use Rattle.trace_laws.specs.AccessLaws.{
   WellFormedIsOrdered,
   RepeatedAccessesChangeNoPair,
 };
+ghost use Rattle.trace_laws.specs.Exchanges.{ExchangesChangeNoRace, FirstRaceStands};
 ghost use Rattle.trace_laws.specs.HbLaws.{StrictIsWithinHb, HbRacesAreRaces};
 
 /// In a well-formed log, what strictly precedes an event happens before it.
@@ -35,4 +36,18 @@ pub fn well_formed_is_ordered()
 /// accesses a race is with may change, and which of the two comes first. Values do not matter.
 pub fn repeated_accesses_change_no_pair()
     ensures { RepeatedAccessesChangeNoPair }
+{}
+
+/// In a log whose locks, forks and joins are in order, two events side by side may be exchanged, if they are
+/// of different threads, at least one is an access, and neither forks or joins the other's thread. However
+/// often that is done, the locks, forks and joins stay in order, and the relations and the races are the
+/// same. Only the indices change, and which access of a race comes first. Values do not matter.
+pub fn exchanges_change_no_race()
+    ensures { ExchangesChangeNoRace }
+{}
+
+/// Conflicting accesses that have changed their order by such exchanges race. So those before the first event
+/// that races have kept it, and the races of this event are races in the other order too.
+pub fn first_race_stands()
+    ensures { FirstRaceStands }
 {}

@@ -1,0 +1,5 @@
+mod Beginnings
+mod Joined
+mod Places
+mod Tables
+mod Meetings
