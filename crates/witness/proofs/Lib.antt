@@ -4,7 +4,6 @@ pub mod Counts
 pub mod Forks
 pub mod Entries
 pub mod Walks
-pub mod Within
 pub mod Neighbors
 pub mod Weights
 pub mod Ends

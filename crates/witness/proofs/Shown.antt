@@ -3,7 +3,6 @@ use Rattle.std.proofs.Common.{◌≡◌, ℕ, suc, ◌+◌, ◌<◌, List, [], �
 use Rattle.std.proofs.Common.{subst, arith, length, length-append}
 use Rattle.event_core.specs.declared.events.Event.{Event}
 use Rattle.event_core.specs.declared.events.Op.{Op}
-use Rattle.event_core.specs.declared.events.Op.TheVariants.{Load, Store, Acquire, Release, Fork, Join}
 use Rattle.event_core.specs.declared.bounds.Limits.{Limits}
 use Rattle.event_core.specs.Log.{Of, Conflict, OpsConflict}
 use Rattle.event_core.specs.Refusal.{WellFormed}
@@ -14,40 +13,9 @@ use Rattle.event_core.proofs.Places.{get_last, get_before}
 use Rattle.witness.specs.Indices.{events_at}
 use Rattle.witness.specs.Witness.{IsWitness}
 use Rattle.witness.specs.EndLaws.{next_event, with_ends, RaceAtEnd}
-use Rattle.witness.proofs.Ends.{access_first, access_second, IsAccess, ends_formed}
+use Rattle.witness.proofs.Ends.{access_first, access_second, ends_formed}
 use Rattle.witness.proofs.Neighbors.{unordered}
-use Rattle.witness.proofs.Within.{below_hb}
-
-flipped : (o p : Op) → OpsConflict o p → IsAccess o → IsAccess p → OpsConflict p o
-flipped (Load x) (Store y) c a b = sym c
-flipped (Store x) (Load y) c a b = sym c
-flipped (Store x) (Store y) c a b = sym c
-flipped (Load x) (Load y) c a b = c
-flipped (Load x) (Acquire l) c a b = absurd b
-flipped (Load x) (Release l) c a b = absurd b
-flipped (Load x) (Fork u) c a b = absurd b
-flipped (Load x) (Join u) c a b = absurd b
-flipped (Store x) (Acquire l) c a b = absurd b
-flipped (Store x) (Release l) c a b = absurd b
-flipped (Store x) (Fork u) c a b = absurd b
-flipped (Store x) (Join u) c a b = absurd b
-flipped (Acquire l) p c a b = absurd a
-flipped (Release l) p c a b = absurd a
-flipped (Fork u) p c a b = absurd a
-flipped (Join u) p c a b = absurd a
-
-pub both_ways : {log : List Event} {i j : ℕ} → Conflict log i j → Conflict log j i
-both_ways c = record {
-  first = c.second;
-  second = c.first;
-  by = c.other;
-  other = c.by;
-  does_first = c.does_second;
-  does_second = c.does_first;
-  ops = flipped c.first c.second c.ops (access_first c.first c.second c.ops)
-      (access_second c.first c.second c.ops);
-  threads = λ q. c.threads (sym q);
-}
+use Rattle.trace_laws.proofs.Within.{below_hb}
 
 pub turned : {m : Limits} {log : List Event} {i j : ℕ} {s : List ℕ} → IsWitness m log i j s
     → IsWitness m log j i s

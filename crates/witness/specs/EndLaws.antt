@@ -6,15 +6,10 @@ use Rattle.event_core.specs.declared.bounds.Limits.{Limits}
 use Rattle.event_core.specs.declared.replies.Verdict.TheVariants.{Racy}
 use Rattle.event_core.specs.Log.{Conflict}
 use Rattle.event_core.specs.Order.{Hb}
-use Rattle.event_core.specs.Wcp.{Strict}
 use Rattle.event_core.specs.Refusal.{WellFormed, value_of}
 use Rattle.event_core.specs.Verdict.{Races, IsVerdict}
 use Rattle.witness.specs.Indices.{events_at}
 use Rattle.witness.specs.Witness.{IsWitness}
-
--- what strictly precedes an event happens before it
-abbrev pub StrictIsWithinHb : Type 0
-StrictIsWithinHb = (m : Limits) (log : List Event) (i j : ℕ) → WellFormed m log → Strict log i j → Hb log i j
 
 -- happens-before does not order them, so they race, and the verdict on the later names the earlier
 abbrev pub NeighborsRace : Type 0

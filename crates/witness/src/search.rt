@@ -166,7 +166,8 @@ impl Search {
         self.want_event(bounds, log, tables, index_at(&tables.forks, thread.0))
     }
 
-    // Takes the thread's events, up to as many as are wanted.
+    // Takes the thread's events, up to as many as are wanted, the latest first: these are the likeliest to
+    // need what may not be taken, so that a search without a witness ends soon.
     fn take(
         &mut self,
         bounds: &[Bound],
@@ -175,23 +176,22 @@ impl Search {
         sections: &Sections,
         thread: ThreadId,
     ) -> Result<bool, OutOfMemory> {
-        let at = thread.0 as usize;
-        if self.taken.len() <= at || !self.want_fork(bounds, log, tables, thread)? {
+        if !self.want_fork(bounds, log, tables, thread)? {
             return Ok(false);
         }
-        'events: for _event in 0..u64::MAX {
-            let place = count_of(&self.taken, thread);
-            if count_of(&self.wanted, thread) <= place {
-                break;
-            }
+        let least = count_of(&self.taken, thread);
+        let most = count_of(&self.wanted, thread);
+        let at = thread.0 as usize;
+        if self.taken.len() <= at || most <= least {
+            return Ok(true);
+        }
+        self.taken[at] = most;
+        'events: for place in (least..most).rev() {
             let Some(index) = sections.event_of(thread, place) else {
                 return Ok(false);
             };
             if !self.want_for(bounds, log, tables, sections, index)? {
                 return Ok(false);
-            }
-            if at < self.taken.len() {
-                self.taken[at] = place.saturating_add(1);
             }
         }
         Ok(true)

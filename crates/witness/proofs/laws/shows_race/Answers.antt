@@ -1,8 +1,9 @@
-use Rattle.witness.proofs.Shown.{at_end, both_ways, turned}
+use Rattle.trace_laws.proofs.Repeated.{flipped}
+use Rattle.witness.proofs.Shown.{at_end, turned}
 use Rattle.witness.proofs.laws.shows_race.Goals as goal
 
 pub returns : goal.returns
 returns c = λ m log i j s e f formed at_i at_j conflict w. (
   at_end m log i j s e f formed at_i at_j conflict w,
-  at_end m log j i s f e formed at_j at_i (both_ways conflict) (turned w),
+  at_end m log j i s f e formed at_j at_i (flipped conflict) (turned w),
 )

@@ -1,6 +1,0 @@
-use Rattle.event_core.proofs.Legality.{orderly}
-use Rattle.witness.proofs.Within.{strict_hb}
-use Rattle.witness.proofs.laws.strict_is_within_hb.Goals as goal
-
-pub returns : goal.returns
-returns c = λ m log i j w s. strict_hb (orderly m log w) s

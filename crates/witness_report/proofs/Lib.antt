@@ -1,0 +1,3 @@
+pub mod PairLaws
+pub mod RowLaws
+pub mod ShowingLaws

@@ -1,0 +1,12 @@
+use Rattle.rapid_text.proofs.Putting.{put_both, all_flushed}
+use Rattle.witness_report.proofs.lines.write_lines.Goals as goal
+
+pub returns-clause-ok : goal.returns-clause-ok
+returns-clause-ok g c =
+    let written = g.W.Output.written in
+    all_flushed c.flush.result (written c.args.writer.now) (written c.put_line-2.new.writer)
+    (written c.flush.new.writer)
+    c.new-page.result c.put_line-2.new.page c.flush.new.self _ c.new-page.ensures
+    (put_both (put_both c.in_ok-put_lines.ensures.ok c.in_ok-put_line.ensures.ok)
+    c.in_ok-put_line-2.ensures.ok)
+    c.flush.ensures.ok c.flush.ensures.empty
