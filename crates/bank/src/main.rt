@@ -6,7 +6,7 @@ ghost use Rattle.std.specs.Prelude.{◌≡◌};
 
 use closed_report::{Device, NameLists, names_of, report_closed};
 use event_core::{Limits, LockId, Refusal, Roots, SiteId, ThreadId, VarId};
-use live_monitor::{Closed, Unnamed, start};
+use live_monitor::{Closed, Tries, Unnamed, start};
 use log_pass::Name;
 use std::marker::Brand;
 use std::process::ExitCode;
@@ -15,6 +15,9 @@ use std::thread::{Threads, for_each_mut};
 use traced_thread::TracedThread;
 
 const ACCOUNTS: u32 = 4;
+
+/// How often a teller tries to acquire a lock.
+const TRIES: u32 = 1_000_000;
 
 const DESK: SiteId = SiteId(0);
 
@@ -36,8 +39,8 @@ fn work<N: Name, R: Wait>(rt: &R, teller: &mut TracedThread<N>, step: u32) -> Re
         let from = round % ACCOUNTS;
         let to = (from + step % ACCOUNTS) % ACCOUNTS;
         // The lesser lock is acquired first. Both are released at the end of the round, and by `?`.
-        let mut one = teller.lock_up_to(rt, LockId(from.min(to)), MOVE, 1_000_000)?;
-        let mut both = one.lock_up_to(LockId(from.max(to)), MOVE, 1_000_000)?;
+        let mut one = teller.lock_within(rt, LockId(from.min(to)), MOVE, &mut Tries::of(TRIES))?;
+        let mut both = one.lock_within(LockId(from.max(to)), MOVE, &mut Tries::of(TRIES))?;
         let balance = both.load(VarId(from), MOVE)?.value;
         let amount = balance.min(10);
         both.store(VarId(from), balance - amount, MOVE)?;

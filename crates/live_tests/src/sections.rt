@@ -3,6 +3,7 @@ use crate::calls::{begin, fork};
 use crate::expected::expect;
 use crate::plays::{Play, closed_after};
 use event_core::{Event, Limits, LockId, Op, Refusal, Roots, SiteId, ThreadId, VarId};
+use live_monitor::Tries;
 use log_pass::Name;
 use std::process::Abort;
 use std::sync::Wait;
@@ -15,7 +16,7 @@ const INNER: SiteId = SiteId(4);
 /// Begins a section within another, and loads a variable that is not there, which leaves both.
 fn leave_both<N: Name, R: Wait>(rt: &R, child: &mut TracedThread<N>) -> Result<(), Refusal> {
     let mut outer = child.lock(rt, LockId(0), OUTER)?;
-    let mut inner = outer.lock_up_to(LockId(1), INNER, 3)?;
+    let mut inner = outer.lock_within(LockId(1), INNER, &mut Tries::of(3))?;
     inner.store(VarId(0), 9, INNER)?;
     inner.load(VarId(1), INNER)?;
     Ok(())

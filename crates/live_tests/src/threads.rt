@@ -6,7 +6,7 @@ use crate::expected::expect;
 use event_core::{
     Call, Event, Limits, LockId, Log, Op, Reply, Roots, SiteId, ThreadId, VarId, Verdict,
 };
-use live_monitor::{Closed, Unnamed, start};
+use live_monitor::{Closed, Tries, Unnamed, start};
 use log_pass::Name;
 use seq_monitor::Monitor;
 use std::alloc::Global;
@@ -55,7 +55,7 @@ fn make_round<N: Name, R: Wait + Abort>(
     let site = SiteId(round);
     must(rt, thread, Ask::Load(0), site);
     must(rt, thread, Ask::Store(0, 7), site);
-    let acquired = thread.acquire_up_to(rt, LockId(0), site, PATIENCE);
+    let acquired = thread.acquire_within(rt, LockId(0), site, &mut Tries::of(PATIENCE));
     expect(rt, "an acquire", acquired.err(), None);
     must(rt, thread, Ask::Release(0), site);
     let swapped = thread.swap(rt, VarId(1), value, site);

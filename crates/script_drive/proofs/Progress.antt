@@ -23,10 +23,10 @@ use Rattle.log_pass.specs.Passes.{main, new_pass, IsPass}
 use Rattle.script_text.specs.declared.lines.ScriptLine.{ScriptLine}
 use Rattle.script_text.specs.Lines.{fork_of, is_of, join_of, thread_of}
 use Rattle.script_drive.specs.Lines.{asked_by, lines_by, unread, Follows}
-use Rattle.script_drive.specs.Runs.{HasStarted}
-use Rattle.script_drive.specs.Workers.{Does, Done, HasDone, IsFirst, Reach, Serves, forked, joined}
+use Rattle.script_drive.specs.Runs.{HasStarted, IsRunOf}
+use Rattle.script_drive.specs.Workers.{Does, Done, HasDone, IsFirst, Reach, SawRun, Serves, forked, joined}
 use Rattle.live_monitor.proofs.Beginnings.{log_begins}
-use Rattle.script_drive.proofs.Runs.{asked-snoc}
+use Rattle.script_drive.proofs.Runs.{asked-snoc, nothing_ran}
 
 -- a thread that has started has done so in a longer log
 started_more : (t : ThreadId) (xs ys : List Event) → IsPrefix xs ys → HasStarted t xs → HasStarted t ys
@@ -39,17 +39,25 @@ started_more t xs ys begins h = go (or_cases (nat_eq t.0 0) (list_any (forks t) 
         (any_front (forks t) xs begins.0 is))
 
 -- a first pass is one of its own thread
-pub own_first : (t : ThreadId) (p : PassView) → IsFirst t p → IsFirst p.thread p
-own_first t p h = subst (λ (u : ThreadId). IsFirst u p) (sym h.thread) h
+pub own_first : (script : List ScriptLine) (t : ThreadId) (p : PassView) → IsFirst script t p
+    → IsFirst script p.thread p
+own_first script t p h = subst (λ (u : ThreadId). IsFirst script u p) (sym h.thread) h
 
 -- and thread 0's has seen nothing
-pub main_first : (p : PassView) → p ≡ new_pass main [] → IsFirst p.thread p
-main_first p is =
-    let first : IsFirst main (new_pass main []) = record { thread = refl; no_step = refl; started = refl } in
-    own_first main p (subst (IsFirst main) (sym is) first)
+pub main_first : (script : List ScriptLine) (p : PassView) → p ≡ new_pass main []
+    → IsFirst script p.thread p
+main_first script p is =
+    let first : IsFirst script main (new_pass main []) = record {
+      thread = refl;
+      no_step = refl;
+      started = refl;
+      run = nothing_ran script;
+    } in
+    own_first script main p (subst (IsFirst script main) (sym is) first)
 
 -- a thread's first pass has done none of its lines
-pub first_done : (t : ThreadId) (p : PassView) → IsFirst t p → HasDone t p []
+pub first_done : {script : List ScriptLine} (t : ThreadId) (p : PassView) → IsFirst script t p
+    → HasDone t p []
 first_done t p h = record {
   thread = h.thread;
   started = h.started;
@@ -70,6 +78,11 @@ done_later m t p q lines later mine h = record {
   started = started_more t (log_of p.seen) (log_of q.seen) (log_begins p.seen q.seen later.begins) h.started;
   follows = subst (λ (s : List Step). Follows (log_of s) lines) (sym mine) h.follows;
 }
+
+-- and that is a run of the script
+pub saw_later : {m : Limits} {script : List ScriptLine} {p q : PassView} → HasComeTo m p q
+    → IsRunOf script (log_of q.seen) → SawRun m script q
+saw_later later run = record { is_pass = later.is_pass; run = run }
 
 -- one more line is done
 pub done_more : (t : ThreadId) (p q : PassView) (lines : List ScriptLine) (l : ScriptLine)

@@ -72,7 +72,7 @@ own_none t u (e ∷ es) other by =
 
 -- ---- the events that a line asks for are added
 
-module _ (script : List ScriptLine) (l : ScriptLine) (p : PassView) (next : IsNext script l p)
+module _ {m : Limits} (script : List ScriptLine) (l : ScriptLine) (p : PassView) (next : IsNext m script l p)
     (log es : List Event) (own : HasOwn p log) (run : IsRunOf script log) (by : AreBy p.thread es)
     (asks : map unread es ≡ asked_by l.act)
     (ends : (u : ThreadId) → list_any (joins u) es ≡ true
@@ -185,48 +185,50 @@ joined_all script log u v child done its test =
     left true e = refl
     left false e = e
 
-module _ {script : List ScriptLine} {l : ScriptLine} {p : PassView} (next : IsNext script l p) where
-  thread : thread_of l ≡ p.thread
-  thread = sym next.done.thread
+module _ {m : Limits} {script : List ScriptLine} {l : ScriptLine} {p : PassView} (next : IsNext m script l p)
+  where
+    thread : thread_of l ≡ p.thread
+    thread = sym next.done.thread
 
-  pub may_add : {call : Call} {op : Op} (arg : ℕ) → l.act ≡ One call → call.op ≡ op
-      → given op call.arg ≡ given op arg → ((u : ThreadId) → op_joins u op ≡ false)
-      → MayAdd (IsRunOf script) p (call_by p.thread op call.site arg)
-  may_add {call} {op} arg act is same none log own run =
-      run_more script l p next log (event_of log (call_by p.thread op call.site arg) ∷ []) own run
-      (refl, tt) (event_asked log l call p.thread op arg act thread is same)
-      (λ u test. absurd (not_both _ test (ap (λ (b : Bool). b || false) (none u))))
+    pub may_add : {call : Call} {op : Op} (arg : ℕ) → l.act ≡ One call → call.op ≡ op
+        → given op call.arg ≡ given op arg → ((u : ThreadId) → op_joins u op ≡ false)
+        → MayAdd (IsRunOf script) p (call_by p.thread op call.site arg)
+    may_add {call} {op} arg act is same none log own run =
+        run_more script l p next log (event_of log (call_by p.thread op call.site arg) ∷ []) own run
+        (refl, tt) (event_asked log l call p.thread op arg act thread is same)
+        (λ u test. absurd (not_both _ test (ap (λ (b : Bool). b || false) (none u))))
 
-  pub may_swap : {t : ThreadId} {x : VarId} {site : SiteId} {arg : ℕ} → l.act ≡ Swap t x site arg
-      → MaySwap (IsRunOf script) p x site arg
-  may_swap {x = x} {site = site} {arg = arg} act log own run =
-      let asks : asked_by (Swap p.thread x site arg) ≡ asked_by l.act
-      = ap (λ (u : ThreadId). asked_by (Swap u x site arg)) (sym thread ∙ ap act_thread act)
-      ∙ sym (ap asked_by act) in
-      run_more script l p next log
-      (swap_load log p.thread x site ∷ swap_store p.thread x site arg ∷ []) own run (refl, (refl, tt)) asks
-      (λ u test. absurd (cc test))
+    pub may_swap : {t : ThreadId} {x : VarId} {site : SiteId} {arg : ℕ} → l.act ≡ Swap t x site arg
+        → MaySwap (IsRunOf script) p x site arg
+    may_swap {x = x} {site = site} {arg = arg} act log own run =
+        let asks : asked_by (Swap p.thread x site arg) ≡ asked_by l.act
+        = ap (λ (u : ThreadId). asked_by (Swap u x site arg)) (sym thread ∙ ap act_thread act)
+        ∙ sym (ap asked_by act) in
+        run_more script l p next log
+        (swap_load log p.thread x site ∷ swap_store p.thread x site arg ∷ []) own run (refl, (refl, tt)) asks
+        (λ u test. absurd (cc test))
 
-  pub may_join : {call : Call} {u : ThreadId} {child : PassView} → l.act ≡ One call → call.op ≡ Join u
-      → Done script u child → MayJoin (IsRunOf script) p child (join_by p.thread child.thread call.site)
-  may_join {call} {u} {child} act op done log own its run =
-      let e = event_of log (join_by p.thread child.thread call.site) in
-      run_more script l p next log (e ∷ []) own run (refl, tt)
-      (event_asked log l call p.thread (Join child.thread) 0 act thread (op ∙ ap Join (sym done.thread)) refl)
-      (λ v test. joined_all script (log ++ e ∷ []) u v child done its test)
+    pub may_join : {call : Call} {u : ThreadId} {child : PassView} → l.act ≡ One call → call.op ≡ Join u
+        → Done script u child → MayJoin (IsRunOf script) p child (join_by p.thread child.thread call.site)
+    may_join {call} {u} {child} act op done log own its run =
+        let e = event_of log (join_by p.thread child.thread call.site) in
+        run_more script l p next log (e ∷ []) own run (refl, tt)
+        (event_asked log l call p.thread (Join child.thread) 0 act thread (op ∙ ap Join (sym done.thread))
+        refl)
+        (λ v test. joined_all script (log ++ e ∷ []) u v child done its test)
 
-  -- a pass whose line's call was accepted did the line
-  pub call_does : {m : Limits} {call : Call} {op : Op} {q : PassView} {reply : Reply} (arg : ℕ)
-      → l.act ≡ One call → call.op ≡ op → given op call.arg ≡ given op arg → HasComeTo m p q
-      → Accepted m (call_by p.thread op call.site arg) p q reply → Does l p q
-  call_does {call = call} {op = op} arg act is same later did =
-      let made = call_by p.thread op call.site arg in
-      let log = log_of did.steps in record {
-        thread = later.same_thread;
-        begins = later.begins;
-        mine = ap (λ ds. map unread (log_of ds)) did.mine
-            ∙ (ap (map unread) (log_of-snoc p.mine (OneStep (event_of log made)))
-            ∙ (map-append unread (log_of p.mine) (event_of log made ∷ [])
-            ∙ ap (λ es. map unread (log_of p.mine) ++ es)
-            (event_asked log l call p.thread op arg act thread is same)));
-      }
+    -- a pass whose line's call was accepted did the line
+    pub call_does : {call : Call} {op : Op} {q : PassView} {reply : Reply} (arg : ℕ)
+        → l.act ≡ One call → call.op ≡ op → given op call.arg ≡ given op arg → HasComeTo m p q
+        → Accepted m (call_by p.thread op call.site arg) p q reply → Does l p q
+    call_does {call = call} {op = op} arg act is same later did =
+        let made = call_by p.thread op call.site arg in
+        let log = log_of did.steps in record {
+          thread = later.same_thread;
+          begins = later.begins;
+          mine = ap (λ ds. map unread (log_of ds)) did.mine
+              ∙ (ap (map unread) (log_of-snoc p.mine (OneStep (event_of log made)))
+              ∙ (map-append unread (log_of p.mine) (event_of log made ∷ [])
+              ∙ ap (λ es. map unread (log_of p.mine) ++ es)
+              (event_asked log l call p.thread op arg act thread is same)));
+        }

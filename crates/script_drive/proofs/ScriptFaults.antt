@@ -1,8 +1,9 @@
 -- The faults of workers are those of lines of the script.
 use Rattle.std.proofs.Common.{◌≡◌, ℕ, ◌+◌, ◌<◌, ◌≤◌, List, ◌∷◌, Some, refl, sym, ap, ◌∙◌, subst, length}
 use Rattle.std.proofs.Common.{get_or, take, drop, arith}
-use Rattle.std.specs.Prelude.{[], Bool, true, Option, None, IfErr, IfSome, IsErrAnd, IsSome, Result, Ok, Err}
+use Rattle.std.specs.Prelude.{[], Bool, true, Option, None, IfErr, IfSome, IsErrAnd, Result, Ok, Err}
 use Rattle.std.specs.List.{All, Contains}
+use Rattle.std.proofs.lemmas.Bool.{false≢true}
 use Rattle.std.proofs.lemmas.List.Elements.{All-more, All-weaker, Contains-get_or}
 use mathlib.Core.Logic.{inl, inr}
 use Rattle.event_core.specs.declared.ids.ThreadId.{ThreadId}
@@ -27,16 +28,16 @@ use Rattle.live_monitor.specs.Calls.{call_by, Declined, DeclinedAct, HasComeTo}
 use Rattle.live_monitor.specs.Tries.{AreUsedUp, Tried}
 use Rattle.log_pass.specs.declared.views.PassView.{PassView}
 use Rattle.script_text.specs.declared.lines.ScriptLine.{ScriptLine}
-use Rattle.script_text.specs.Lines.{act_join, act_thread, is_of, op_join, thread_of}
+use Rattle.script_text.specs.Lines.{act_thread, is_of, thread_of}
 use Rattle.script_drive.specs.declared.faults.DriveFault.{DriveFault}
 use Rattle.script_drive.specs.declared.faults.Halt.{Halt}
 use Rattle.script_drive.specs.declared.faults.Halt.TheVariants.{Abandoned, Fault}
 use Rattle.script_drive.specs.Faults.{act_acquires, act_waits, is_told, op_waits, rank, refused_at, Fits}
 use Rattle.script_drive.specs.Faults.{IsAnswer, IsAnswered, IsDue, IsEarlier, IsFaultOf, IsFirst, IsHaltOf}
-use Rattle.script_drive.specs.Faults.{IsHeldBack, IsNext, Refuses}
+use Rattle.script_drive.specs.Faults.{HasToWait, IsNext, Refuses}
 use Rattle.script_drive.specs.Lines.{lines_by}
 use Rattle.script_drive.specs.Runs.{IsRunOf}
-use Rattle.script_drive.specs.Workers.{HasDone}
+use Rattle.script_drive.specs.Workers.{HasDone, SawRun}
 use Rattle.script_drive.proofs.Progress.{done_later, made_of, own_place, own_thread}
 use Rattle.script_drive.proofs.ToldRefusals.{act_told}
 
@@ -97,8 +98,8 @@ pub swap_refusal_of : (m : Limits) (l : ScriptLine) {t u : ThreadId} {x : VarId}
 swap_refusal_of m l {x = x} act thread log = ap (act_refusal m log) act
     ∙ ap (λ (u : ThreadId). swap_refusal m log u x) (sym (thread ∙ ap act_thread act))
 
-module _ {m : Limits} {script : List ScriptLine} {l : ScriptLine} {p q : PassView} (next : IsNext script l p)
-    (later : HasComeTo m p q) (run : IsRunOf script (log_of q.seen)) where
+module _ {m : Limits} {script : List ScriptLine} {l : ScriptLine} {p q : PassView}
+    (next : IsNext m script l p) (later : HasComeTo m p q) (run : IsRunOf script (log_of q.seen)) where
   -- a line is due after what its pass has seen by the time that its call is declined
   due : q.mine ≡ p.mine → IsDue m script l (log_of q.seen)
   due mine =
@@ -147,22 +148,42 @@ module _ {m : Limits} {script : List ScriptLine} {l : ScriptLine} {p q : PassVie
   -- the lock that an acquire was refused is then held
   pub held_back : {call : Call} {lock : LockId} {answer : Result Reply Refusal} → l.act ≡ One call
       → call.op ≡ Acquire lock → IfErr answer (Declined m (call_by p.thread (Acquire lock) call.site 0) p q)
-      → (by : ThreadId) × (answer ≡ Err (Held by)) → IsHeldBack m script l
+      → (by : ThreadId) × (answer ≡ Err (Held by)) → HasToWait m script l
   held_back {call} {lock} act is declined held =
       let acquire : Call = call_by p.thread (Acquire lock) call.site 0 in
       let refused : Declined m acquire p q (Held (held.0))
-      = subst (λ a. IfErr a (Declined m acquire p q)) held.1 declined in (
-        held.0,
-        record {
-          log = log_of q.seen;
-          due = due refused.mine;
-          refused = line_refusal m l call.site 0 act is next.done.thread (log_of q.seen)
+      = subst (λ a. IfErr a (Declined m acquire p q)) held.1 declined in
+      record {
+        log = log_of q.seen;
+        due = due refused.mine;
+        waits = ap act_waits act ∙ ap op_waits is;
+        held = λ _. (
+          held.0,
+          line_refusal m l call.site 0 act is next.done.thread (log_of q.seen)
               ∙ (elim (refused.why) as (λ _. refusal m (log_of q.seen) acquire ≡ Some (Held (held.0))) [
                 | inl why ↦ why
                 | inr memory ↦ absurd (cc (memory.0))
-              ]);
-        },
-      )
+              ]),
+        );
+      }
+
+-- a line that joins has to wait after what its pass has seen
+pub join_waits : {m : Limits} {script : List ScriptLine} {l : ScriptLine} {p : PassView} {call : Call}
+    {u : ThreadId} → IsNext m script l p → l.act ≡ One call → call.op ≡ Join u → HasToWait m script l
+join_waits {m} {l = l} {p = p} next act is = record {
+  log = log_of p.seen;
+  due = record {
+    before = next.before;
+    later = next.later;
+    place = next.place;
+    well_formed = next.saw.is_pass.formed.well_formed;
+    run = next.saw.run;
+    started = next.done.started;
+    made = made_of m (thread_of l) p next.before next.saw.is_pass next.done;
+  };
+  waits = ap act_waits act ∙ ap op_waits is;
+  held = λ acquires. absurd (false≢true (sym (ap act_acquires act ∙ ap op_is_acquire is) ∙ acquires));
+}
 
 -- an acquire that another thread's hold refused has used its tries up
 pub held_used_up : (tries : Tried) (answer : Result Reply Refusal)
@@ -170,24 +191,6 @@ pub held_used_up : (tries : Tried) (answer : Result Reply Refusal)
     → (by : ThreadId) × (answer ≡ Err (Held by)) → AreUsedUp tries
 held_used_up tries answer used_up held =
     (subst (λ a. IfErr a (λ why. why ≡ Held (held.0) → AreUsedUp tries)) held.1 (used_up held.0)) refl
-
--- a line that joins acquires nothing
-pub joins_alone : (a : Act) → IsSome (act_join a) → act_acquires a ≡ true → ⊥
-joins_alone (One c) joins acquires = go c.op joins acquires
-  where
-    go : (o : Op) → IsSome (op_join o) → op_is_acquire o ≡ true → ⊥
-    go (Join u) joins acquires = cc acquires
-    go _ joins acquires = cc joins
-joins_alone (Swap t x site arg) joins acquires = cc joins
-
--- it waits
-joins_wait : (a : Act) → IsSome (act_join a) → act_waits a ≡ true
-joins_wait (One c) joins = go c.op joins
-  where
-    go : (o : Op) → IsSome (op_join o) → op_waits o ≡ true
-    go (Join u) joins = refl
-    go _ joins = absurd (cc joins)
-joins_wait (Swap t x site arg) joins = absurd (cc joins)
 
 -- a worker's halt is answered by a fault of the script
 pub answer_fits : (m : Limits) (ahead : Bool) (script : List ScriptLine) (halt : Halt)
@@ -204,16 +207,7 @@ answer_fits m ahead script (Abandoned l) (Some other) f is fits answer =
     subst (IsFaultOf m ahead script) (sym answer) fits
 answer_fits m ahead script (Abandoned l) None f is fits answer =
     subst (IsFaultOf m ahead script) (sym answer)
-    ∣ (
-      l,
-      is.0,
-      (
-        refl,
-        refl,
-        λ _. joins_wait l.act is.1,
-        λ _ acquires. absurd (joins_alone l.act is.1 acquires),
-      ),
-    ) ∣₁
+    ∣ (l, is.0, (refl, refl, λ _. is.1)) ∣₁
 
 -- ---- the lines of a thread
 
@@ -223,14 +217,16 @@ line_at script lines i line is same lt =
     subst (λ (s : List ScriptLine). Contains s line) same
     (subst (Contains lines) (sym is) (Contains-get_or lines i line lt))
 
-pub next_at : (script lines : List ScriptLine) (t : ThreadId) (p : PassView) (i : ℕ) (line : ScriptLine)
+pub next_at : {m : Limits} (script lines : List ScriptLine) (t : ThreadId) (p : PassView) (i : ℕ)
+    (line : ScriptLine)
     → line ≡ get_or lines i line → lines ≡ script → i < length lines → is_of t.0 line ≡ true
-    → HasDone t p (lines_by t (take i lines)) → IsNext script line p
-next_at script lines t p i line is same lt own h = record {
+    → HasDone t p (lines_by t (take i lines)) → SawRun m script p → IsNext m script line p
+next_at script lines t p i line is same lt own h saw = record {
   line = line_at script lines i line is same lt;
   before = lines_by t (take i lines);
   later = lines_by t (drop (i + 1) lines);
   place = ap (lines_by (thread_of line)) (sym same) ∙ own_place t lines i line is lt own;
   done = subst (λ (u : ThreadId). HasDone u p (lines_by t (take i lines)))
       (sym (own_thread t lines i line is lt own)) h;
+  saw = saw;
 }

@@ -16,14 +16,14 @@ use Rattle.event_core.specs.Refusal.{op_is_acquire, WellFormed}
 use Rattle.event_core.specs.Steps.{own_events}
 use Rattle.log_pass.specs.declared.views.PassView.{PassView}
 use Rattle.script_text.specs.declared.lines.ScriptLine.{ScriptLine}
-use Rattle.script_text.specs.Lines.{fork_of, join_of, thread_of}
+use Rattle.script_text.specs.Lines.{fork_of, thread_of}
 use Rattle.script_drive.specs.declared.faults.DriveFault.{DriveFault}
 use Rattle.script_drive.specs.declared.faults.DriveFault.TheVariants.{Stuck, Refused, NoWorker, OutOfMemory}
 use Rattle.script_drive.specs.declared.faults.Halt.{Halt}
 use Rattle.script_drive.specs.declared.faults.Halt.TheVariants.{Fault, Abandoned}
 use Rattle.script_drive.specs.Lines.{lines_by, Follows}
 use Rattle.script_drive.specs.Runs.{HasStarted, IsRunOf}
-use Rattle.script_drive.specs.Workers.{HasDone}
+use Rattle.script_drive.specs.Workers.{HasDone, SawRun}
 
 -- ---- one worker
 
@@ -106,14 +106,6 @@ act_acquires (Swap t x site arg) = false
 abbrev pub acquires : ScriptLine → Bool
 acquires l = act_acquires l.act
 
--- another thread holds the lock that the line acquires, after some log after which the line is due
-abbrev pub IsHeldBack : Limits → List ScriptLine → ScriptLine → Type 0
-IsHeldBack m script l = (by : ThreadId) × Refuses m script l (refusals.Held by)
-
--- some line of the script is so
-abbrev pub SomeLine : List ScriptLine → (ScriptLine → Type 0) → Type 0
-SomeLine script P = (l : ScriptLine) × Contains script l × P l
-
 -- the operation may have to wait for another thread: it acquires a lock, or joins a thread
 abbrev pub op_waits : Op → Bool
 op_waits (Acquire l) = true
@@ -128,6 +120,18 @@ act_waits (Swap t x site arg) = false
 abbrev pub waits : ScriptLine → Bool
 waits l = act_waits l.act
 
+-- The line has to wait after some log after which it is due: it joins a thread, or acquires a lock that
+-- another thread then holds.
+pub record HasToWait (m : Limits) (script : List ScriptLine) (l : ScriptLine) : Type 0 where
+  pub log : List Event
+  pub due : IsDue m script l log
+  pub waits : waits l ≡ true
+  pub held : acquires l ≡ true → (by : ThreadId) × (act_refusal m log l.act ≡ Some (refusals.Held by))
+
+-- some line of the script is so
+abbrev pub SomeLine : List ScriptLine → (ScriptLine → Type 0) → Type 0
+SomeLine script P = (l : ScriptLine) × Contains script l × P l
+
 -- each line is let go ahead at its first try, by a gate that is free and so much patience
 abbrev pub goes_ahead : Bool → ℕ → Bool
 goes_ahead free patience = free && not (patience == 0)
@@ -136,13 +140,11 @@ goes_ahead free patience = free && not (patience == 0)
 abbrev pub IsForkLine : List ScriptLine → ℕ → Type 0
 IsForkLine script n = ∥ SomeLine script (λ l. (l.line ≡ n) × IsSome (fork_of l)) ∥₁
 
--- The fault fits a line of the script. Where each line goes ahead at its first try, a stuck one waits, and an
--- acquire does so for a lock that another thread holds.
+-- The fault fits a line of the script. Where each line goes ahead at its first try, a stuck one has to wait.
 abbrev pub Fits : Limits → Bool → List ScriptLine → DriveFault → Type 0
 Fits m ahead script OutOfMemory = Unit {0}
 Fits m ahead script (Stuck t n) =
-    SomeLine script (λ l. (thread_of l ≡ t) × (l.line ≡ n) × (ahead ≡ true → waits l ≡ true)
-    × (ahead ≡ true → acquires l ≡ true → IsHeldBack m script l))
+    SomeLine script (λ l. (thread_of l ≡ t) × (l.line ≡ n) × (ahead ≡ true → HasToWait m script l))
 Fits m ahead script (Refused t n why) = (is_told why ≡ true)
     × SomeLine script (λ l. (thread_of l ≡ t) × (l.line ≡ n) × Refuses m script l why)
 Fits m ahead script (NoWorker n) = IsForkLine script n
@@ -151,15 +153,16 @@ Fits m ahead script (NoWorker n) = IsForkLine script n
 abbrev pub IsFaultOf : Limits → Bool → List ScriptLine → DriveFault → Type 0
 IsFaultOf m ahead script f = ∥ Fits m ahead script f ∥₁
 
--- the worker's own fault is one of the script; or the line of the script at which it ended joins a thread
+-- the worker's own fault is one of the script; or it ended at a line of the script that has to wait
 abbrev pub IsHaltOf : Limits → Bool → List ScriptLine → Halt → Type 0
 IsHaltOf m ahead script (Fault f) = IsFaultOf m ahead script f
-IsHaltOf m ahead script (Abandoned l) = Contains script l × IsSome (join_of l)
+IsHaltOf m ahead script (Abandoned l) = Contains script l × HasToWait m script l
 
--- the line is the next of the pass's thread: the pass has done those before it
-pub record IsNext (script : List ScriptLine) (l : ScriptLine) (p : PassView) : Type 0 where
+-- the line is the next of the pass's thread: the pass has seen a run of the script, and done the lines before
+pub record IsNext (m : Limits) (script : List ScriptLine) (l : ScriptLine) (p : PassView) : Type 0 where
   pub line : Contains script l
   pub before : List ScriptLine
   pub later : List ScriptLine
   pub place : lines_by (thread_of l) script ≡ before ++ l ∷ later
   pub done : HasDone (thread_of l) p before
+  pub saw : SawRun m script p

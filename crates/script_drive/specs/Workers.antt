@@ -2,19 +2,27 @@
 use Rattle.std.specs.Prelude.{◌≡◌, ◌||◌, Bool, List, [], ◌++◌, map, is_some}
 use Rattle.std.specs.List.{filter_map}
 use mathlib.Core.List.{IsPrefix}
+use Rattle.event_core.specs.declared.bounds.Limits.{Limits}
 use Rattle.event_core.specs.declared.ids.ThreadId.{ThreadId}
 use Rattle.event_core.specs.Steps.{log_of}
 use Rattle.log_pass.specs.declared.views.PassView.{PassView}
+use Rattle.log_pass.specs.Passes.{IsPass}
 use Rattle.script_text.specs.declared.lines.ScriptLine.{ScriptLine}
 use Rattle.script_text.specs.Lines.{fork_of, join_of}
 use Rattle.script_drive.specs.Lines.{unread, asked_by, lines_by, Follows}
-use Rattle.script_drive.specs.Runs.{HasStarted}
+use Rattle.script_drive.specs.Runs.{HasStarted, IsRunOf}
 
--- the first pass of a thread: it has seen the log in which the thread is started, and made no step
-pub record IsFirst (t : ThreadId) (p : PassView) : Type 0 where
+-- the first pass of a thread: it has seen a run of the script that has started the thread, and made no step
+pub record IsFirst (script : List ScriptLine) (t : ThreadId) (p : PassView) : Type 0 where
   pub thread : p.thread ≡ t
   pub no_step : p.mine ≡ []
   pub started : HasStarted t (log_of p.seen)
+  pub run : IsRunOf script (log_of p.seen)
+
+-- what the pass has seen is a run of the script
+pub record SawRun (m : Limits) (script : List ScriptLine) (p : PassView) : Type 0 where
+  pub is_pass : IsPass m p
+  pub run : IsRunOf script (log_of p.seen)
 
 -- the pass of a thread that has done just these lines
 pub record HasDone (t : ThreadId) (p : PassView) (lines : List ScriptLine) : Type 0 where

@@ -220,8 +220,8 @@ fn drive_in<S: Text + Send + Sync, G: Gate + Sync, R: Threads + Wait + Sync>(
 ///
 /// The fault is one of a line of the script, or want of memory. A refusal is one that the line's call has
 /// after some well-formed run of the script in which the line's thread has started, and has made just the
-/// calls of its lines before. Where the gate is one that lets each line go ahead at once, and
-/// patience is not 0, a line that is stuck joins a thread, or acquires a lock that another thread holds.
+/// calls of its lines before. Where the gate is one that lets each line go ahead at once, and patience is not
+/// 0, a line that is stuck joins a thread, or acquires a lock that another thread holds, after some such run.
 ///
 /// No clause tells the rest: how often a line is tried, nor that the run ends. A worker tells its line as
 /// stuck only where it counted `patience` tries. Where a worker cannot be started, no call is made. Where

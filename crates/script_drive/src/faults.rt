@@ -1,8 +1,8 @@
 //! Why a drive ends before its script does.
 ghost use Rattle.std.specs.Prelude.{◌≡◌, [], true, None, Contains, IfSome};
 ghost use Rattle.live_monitor.specs.Tries.{AreUsedUp};
-ghost use Rattle.script_drive.specs.Faults.{acquires, own_fault, rank, refused_at, stuck_at, waits};
-ghost use Rattle.script_drive.specs.Faults.{IsAnswer, IsEarlier, IsFirst, IsHaltOf, IsHeldBack};
+ghost use Rattle.script_drive.specs.Faults.{own_fault, rank, refused_at, stuck_at, HasToWait};
+ghost use Rattle.script_drive.specs.Faults.{IsAnswer, IsEarlier, IsFirst, IsHaltOf};
 
 use crate::text::Text;
 use event_core::{Refusal, ThreadId};
@@ -105,10 +105,7 @@ impl Halt {
         requires line { Contains S.lines line.now }
         requires patience { tries.now.most ≡ S.patience }
         requires used_up { AreUsedUp tries.now }
-        requires waits { S.ahead ≡ true → waits line.now ≡ true }
-        requires held { S.ahead ≡ true
-            → acquires line.now ≡ true
-            → IsHeldBack S.limits S.lines line.now }
+        requires waits { S.ahead ≡ true → HasToWait S.limits S.lines line.now }
         ensures stuck { result ≡ Halt.Fault (stuck_at line.now) }
         ensures halt { IsHaltOf S.limits S.ahead S.lines result }
     {

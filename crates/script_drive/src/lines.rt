@@ -1,13 +1,12 @@
 //! What a worker does: the calls of its thread's lines, in order.
 ghost use Rattle.std.specs.Prelude.{◌≡◌, ◌∷◌, true, Err, List, Contains};
-ghost use Rattle.std.specs.Prelude.{IfErr, IfOk, IsErrAnd, IsFalse, IsOk, IsSome, IsTrue, OnOk};
+ghost use Rattle.std.specs.Prelude.{IfErr, IfOk, IsErrAnd, IsFalse, IsOk, IsTrue, OnOk};
 ghost use Rattle.event_core.specs.declared.ids.ThreadId.{ThreadId as Thread};
 ghost use Rattle.event_core.specs.declared.replies.Refusal.TheVariants.{Held};
 ghost use Rattle.script_text.specs.declared.lines.ScriptLine.{ScriptLine as Line};
-ghost use Rattle.script_text.specs.Lines.{join_of};
-ghost use Rattle.script_drive.specs.Faults.{goes_ahead, is_told, refused_at, IsHaltOf, IsNext};
+ghost use Rattle.script_drive.specs.Faults.{goes_ahead, is_told, refused_at, HasToWait, IsHaltOf, IsNext};
 ghost use Rattle.script_drive.specs.Lines.{lines_by};
-ghost use Rattle.script_drive.specs.Workers.{Does, Done, IsFirst, Serves};
+ghost use Rattle.script_drive.specs.Workers.{Does, Done, IsFirst, SawRun, Serves};
 
 use crate::faults::{DriveFault, Halt};
 use crate::gate::Gate;
@@ -48,14 +47,13 @@ fn enter<S: Text, G: Gate, R>(drive: &Drive<'_, S, G, R>, line: &ScriptLine) -> 
 }
 
 // Looks for the pass of the thread that the line joins, as often as patience allows.
-#[tactic(auto, using(crate::proofs::ScriptFaults::joins_alone))]
 fn await_end<S: Text, G: Gate, R: Wait>(
     drive: &Drive<'_, S, G, R>,
     receiver: PassReceiver<S, LastPasses<S>>,
     line: &ScriptLine,
 ) -> Result<Pass<S>, Halt>
     requires line { Contains S.lines line.now }
-    requires joins { IsSome (join_of line.now) }
+    requires waits { HasToWait S.limits S.lines line.now }
     ensures done { IfOk result (Done S.lines receiver.to) }
     ensures halt { IfErr result (IsHaltOf S.limits S.ahead S.lines) }
 {
@@ -102,9 +100,10 @@ fn make_call<S: Text, G: Gate, R: Wait>(
     line: &ScriptLine,
     links: &mut Links<S>,
 ) -> Result<Pass<S>, Halt>
-    requires next { IsNext S.lines line.now pass }
+    requires next { IsNext S.limits S.lines line.now pass }
     requires serves { (later : List Line) × Serves links.old (line.now ∷ later) }
     ensures does { IfOk result (Does line.now pass) }
+    ensures saw { IfOk result (SawRun S.limits S.lines) }
     ensures serves { (later : List Line) → Serves links.old (line.now ∷ later)
         → OnOk result (Serves links.new later) }
     ensures halt { IfErr result (IsHaltOf S.limits S.ahead S.lines) }
@@ -154,7 +153,7 @@ pub(crate) fn run_lines<S: Text, G: Gate, R: Wait>(
     pass: Pass<S>,
     links: &mut Links<S>,
 ) -> Result<Pass<S>, Halt>
-    requires first { IsFirst pass.thread pass }
+    requires first { IsFirst S.lines pass.thread pass }
     requires serves { Serves links.old (lines_by pass.thread S.lines) }
     ensures done { IfOk result (Done S.lines pass.thread) }
     ensures halt { IfErr result (IsHaltOf S.limits S.ahead S.lines) }

@@ -47,7 +47,7 @@ pub(crate) struct FirstPasses<S: Text> {
 impl<S: Text> Terms for FirstPasses<S> {
     ghost use Rattle.script_drive.specs.Workers.{IsFirst};
 
-    ghost good = { IsFirst };
+    ghost good = { IsFirst S.lines };
 }
 
 /// The last pass of a thread, which has made the calls of its lines.

@@ -122,23 +122,6 @@ impl<'m, N: Name> TracedThread<'m, N> {
         answer
     }
 
-    /// Acquires the lock, with so many tries at most, and one at least.
-    pub fn acquire_up_to<R: Wait>(
-        &mut self,
-        rt: &R,
-        lock: LockId,
-        site: SiteId,
-        most: u32,
-    ) -> Result<Reply, Refusal>
-        ensures later { HasComeTo N.limits self.old self.new }
-        ensures accepted { IfOk result
-            (λ reply. Accepted N.limits (acquire_by self.old.thread lock site) self.old self.new reply) }
-        ensures declined { IfErr result
-            (λ answer. Declined N.limits (acquire_by self.old.thread lock site) self.old self.new answer) }
-    {
-        self.acquire_within(rt, lock, site, &mut Tries::of(most))
-    }
-
     /// Releases the lock. It is never refused for want of memory.
     #[inline(always)]
     pub fn release<R: Wait>(&mut self, rt: &R, lock: LockId, site: SiteId) -> Result<Reply, Refusal>

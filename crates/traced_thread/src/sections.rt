@@ -146,25 +146,6 @@ impl<'h, 'm, N: Name, R: Wait> Section<'h, 'm, N, R> {
             Err(refusal) => Err(refusal),
         }
     }
-
-    /// Begins a section within this one, with so many tries at most.
-    pub fn lock_up_to(
-        &mut self,
-        lock: LockId,
-        site: SiteId,
-        most: u32,
-    ) -> Result<Section<'_, 'm, N, R>, Refusal>
-        ensures same_lock { IfOk result (λ section. IsSectionOf lock site section) }
-        ensures later { IfOk result (λ section. HasComeTo N.limits (pass_of self.old) (pass_of section)) }
-        ensures accepted { IfOk result (λ section.
-            IsAcquired N.limits lock site (pass_of self.old) (pass_of section)) }
-        ensures declined { IfErr result (WasRefused N.limits lock site (pass_of self.old)) }
-    {
-        match self.thread.acquire_up_to(self.rt, lock, site, most) {
-            Ok(_) => Ok(Section::new(self.rt, self.thread, lock, site)),
-            Err(refusal) => Err(refusal),
-        }
-    }
 }
 
 impl<'m, N: Name> TracedThread<'m, N> {
@@ -210,27 +191,6 @@ impl<'m, N: Name> TracedThread<'m, N> {
         ensures counts_up { (one_more tries.old).made ≤ tries.new.made }
     {
         match self.acquire_within(rt, lock, site, tries) {
-            Ok(_) => Ok(Section::new(rt, self, lock, site)),
-            Err(refusal) => Err(refusal),
-        }
-    }
-
-    /// Begins a section, with so many tries at most, and one at least.
-    pub fn lock_up_to<'h, R: Wait>(
-        &'h mut self,
-        rt: &'h R,
-        lock: LockId,
-        site: SiteId,
-        most: u32,
-    ) -> Result<Section<'h, 'm, N, R>, Refusal>
-        ensures same_reference { IfOk result (λ section. handle_of section ≡ self.entry.ghost_name) }
-        ensures same_lock { IfOk result (λ section. IsSectionOf lock site section) }
-        ensures later { IfOk result (λ section. HasComeTo N.limits self.old (pass_of section)) }
-        ensures accepted { IfOk result (λ section.
-            IsAcquired N.limits lock site self.old (pass_of section)) }
-        ensures declined { IfErr result (WasRefused N.limits lock site self.old) }
-    {
-        match self.acquire_up_to(rt, lock, site, most) {
             Ok(_) => Ok(Section::new(rt, self, lock, site)),
             Err(refusal) => Err(refusal),
         }

@@ -5,8 +5,8 @@ use Rattle.script_drive.specs.Faults.{IsFaultOf}
 use Rattle.script_drive.specs.Workers.{Done}
 use Rattle.script_drive.proofs.Calls.{next_forked, next_joined}
 use Rattle.script_drive.proofs.Runs.{call_does, may_add, may_join, may_swap}
-use Rattle.script_drive.proofs.ScriptFaults.{act_fits, act_halts, held_back, held_used_up, line_refusal}
-use Rattle.script_drive.proofs.ScriptFaults.{swap_refusal_of}
+use Rattle.script_drive.proofs.ScriptFaults.{act_fits, act_halts, held_back, held_used_up, join_waits}
+use Rattle.script_drive.proofs.ScriptFaults.{line_refusal, swap_refusal_of}
 use Rattle.script_drive.proofs.lines.make_call.Goals as goal
 
 -- what a line's call adds to a run of the script makes it a longer one
@@ -66,8 +66,11 @@ returns-in-Store-clause-halt g c =
     (line_refusal _ c.args.line.now _ _ c.in-One.is c.in-Store.is c.requires.next.done.thread)
     c.answered-in-Store.ensures.refused (λ is. absurd (false≢true is))
 
-pub stuck-requires-clause-held : goal.stuck-requires-clause-held
-stuck-requires-clause-held g c = λ _ _.
+pub await_end-requires-clause-waits : goal.await_end-requires-clause-waits
+await_end-requires-clause-waits g c = join_waits c.requires.next c.in-One.is c.in-Join.is
+
+pub stuck-requires-clause-waits : goal.stuck-requires-clause-waits
+stuck-requires-clause-waits g c = λ _.
     let did = c.acquire_within-pass.ensures in
     held_back c.requires.next did.later did.keeps c.in-One.is c.in-Acquire.is did.declined
     (c.is_held.ensures.held c.if-is_held.true)

@@ -10,6 +10,7 @@ pub loop-line-init : goal.loop-line-init
 loop-line-init g c = (
   first_done c.args.pass.thread c.args.pass c.requires.first,
   subst (λ ls. Serves c.args.links.now (lines_by c.args.pass.thread ls)) (search rules) c.requires.serves,
+  record { is_pass = c.thread-thread.ensures.is_pass; run = c.requires.first.run },
 )
 
 pub make_call-requires-clause-next : goal.make_call-requires-clause-next
@@ -17,7 +18,7 @@ make_call-requires-clause-next g c =
     let same : c.lines-line-items.result.now ≡ g.S.Text.lines = cc in
     next_at g.S.Text.lines c.lines-line-items.result.now c.args.pass.thread c.loop-line.pass
     c.loop-line.line-index c.get-line.result (search rules) same (search rules) (search rules)
-    c.loop-line.invariant.0
+    c.loop-line.invariant.0 c.loop-line.invariant.2
 
 pub make_call-requires-clause-serves : goal.make_call-requires-clause-serves
 make_call-requires-clause-serves g c =
@@ -48,6 +49,7 @@ loop-line-preserved g c =
       c.in_ok-pass.ensures.serves (lines_by t (drop (i + 1) lines))
           (next_line t lines i c.get-line.result (search rules) (search rules) (search rules)
           c.loop-line.links c.loop-line.invariant.1),
+      c.in_ok-pass.ensures.saw,
     )
 
 -- another thread's line is passed over
@@ -62,6 +64,7 @@ loop-line-preserved-then-not-is_of g c =
       subst (Serves c.loop-line.links)
           (other_left t lines i c.line-item.result (search rules) (search rules) (search rules))
           c.loop-line.invariant.1,
+      c.loop-line.invariant.2,
     )
 
 pub returns-clause-done : goal.returns-clause-done
