@@ -36,6 +36,8 @@ mod traces;
 #[cfg(test)]
 mod turns;
 #[cfg(test)]
+mod witnesses;
+#[cfg(test)]
 mod words;
 #[cfg(test)]
 mod worked_cases;

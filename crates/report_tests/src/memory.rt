@@ -25,7 +25,8 @@ const NO_WORKER: Answer<'static> = Answer {
     status: 6,
 };
 
-fn expect_whole<R: Abort + AllocGlobal + ScriptFiles + Threads + Wait + Sync>(
+/// The program on the text writes this and ends so, or writes that memory ran out and nothing else.
+pub fn expect_whole<R: Abort + AllocGlobal + ScriptFiles + Threads + Wait + Sync>(
     rt: &R,
     name: &str,
     program: Program<'_>,

@@ -20,13 +20,12 @@ use Rattle.wcp_tool.specs.ScriptRuns.{IsOfText, TellsFault, TellsRefusal, TellsR
 use Rattle.wcp_tool.specs.ScriptRuns.{TellsStopped}
 
 -- a script with a read fault was not read to its end
-pub truncates_script : (m n : Limits) (left rest : Option (List ℕ)) (failed : Bool) (f : ScriptFault) → m ≡ n
-    → f.cause ≡ Read → IsFault m left rest 17592186044416 failed f f.cause
-    → TruncatesScript n left rest failed
-truncates_script m n left rest failed f same read is = record {
+pub truncates_script : (m n : Limits) (left rest : Option (List ℕ)) (Why : List ℕ → Type 0) (f : ScriptFault)
+    → m ≡ n → f.cause ≡ Read → IsFault m left rest Why f f.cause → TruncatesScript n left rest Why
+truncates_script m n left rest Why f same read is = record {
   line = f.line;
-  fails = subst (λ (l : Limits). ReadFails l left rest 17592186044416 failed f.line) same
-      (subst (λ (c : ScriptCause). IsFault m left rest 17592186044416 failed f c) read is);
+  fails = subst (λ (l : Limits). ReadFails l left rest Why f.line) same
+      (subst (λ (c : ScriptCause). IsFault m left rest Why f c) read is);
 }
 
 -- the refusal that is reported is one of the script
@@ -45,19 +44,19 @@ refusal_told m ahead lines (drive.Refused t n why) old new fits told =
 refusal_told m ahead lines _ old new fits told = absurd told
 
 -- a fault that is no read fault and no want of memory is one of the text
-of_text : (m : Limits) (left rest : Option (List ℕ)) (turns : ℕ) (failed : Bool) (f : ScriptFault)
+of_text : (m : Limits) (left rest : Option (List ℕ)) (Why : List ℕ → Type 0) (f : ScriptFault)
     (cause : ScriptCause) → ((cause ≡ causes.Read) ⊎ (cause ≡ causes.OutOfMemory) → ⊥)
-    → IsFault m left rest turns failed f cause → IsOfText m left f cause
-of_text m left rest turns failed f causes.Read other is = other (inl refl)
-of_text m left rest turns failed f causes.OutOfMemory other is = other (inr refl)
-of_text m left rest turns failed f _ other is = is
+    → IsFault m left rest Why f cause → IsOfText m left f cause
+of_text m left rest Why f causes.Read other is = other (inl refl)
+of_text m left rest Why f causes.OutOfMemory other is = other (inr refl)
+of_text m left rest Why f _ other is = is
 
 -- the run of a text whose fault is reported
-pub fault_told : (m : Limits) (left rest : Option (List ℕ)) (turns : ℕ) (failed : Bool) (f : ScriptFault)
+pub fault_told : (m : Limits) (left rest : Option (List ℕ)) (Why : List ℕ → Type 0) (f : ScriptFault)
     (old new : Option (List ℕ)) (status : ℕ) → TellsFault f old new status
     → ((f.cause ≡ causes.Read) ⊎ (f.cause ≡ causes.OutOfMemory) → (status ≡ 4) ⊎ (status ≡ 5))
-    → IsFault m left rest turns failed f f.cause → PerformsRun m left old new status
-fault_told m left rest turns failed f old new status (inl told) hindered is =
+    → IsFault m left rest Why f f.cause → PerformsRun m left old new status
+fault_told m left rest Why f old new status (inl told) hindered is =
     let other : (f.cause ≡ causes.Read) ⊎ (f.cause ≡ causes.OutOfMemory) → ⊥
     = λ h. omega (arith, told.0, hindered h) in
     record {
@@ -65,11 +64,11 @@ fault_told m left rest turns failed f old new status (inl told) hindered is =
       refused = λ h. absurd (omega (arith, told.0, h));
       broken = λ h. inl (record {
         fault = f;
-        is_of = of_text m left rest turns failed f f.cause other is;
+        is_of = of_text m left rest Why f f.cause other is;
         written = told.1;
       });
     }
-fault_told m left rest turns failed f old new status (inr gave_up) hindered is = record {
+fault_told m left rest Why f old new status (inr gave_up) hindered is = record {
   ran = λ h. absurd (omega (arith, gave_up, h));
   refused = λ h. absurd (omega (arith, gave_up, h));
   broken = λ h. absurd (omega (arith, gave_up, h));
@@ -78,7 +77,7 @@ fault_told m left rest turns failed f old new status (inr gave_up) hindered is =
 -- the stop that is reported is one of the script, each of whose lines goes ahead at its first try
 pub stop_told : (m : Limits) (ahead : Bool) (lines : List ScriptLine) (f : DriveFault)
     (old new : Option (List ℕ)) → ahead ≡ true → IsFaultOf m ahead lines f → TellsStopped f old new
-    → TellsStop lines old new
+    → TellsStop m lines old new
 stop_told m ahead lines drive.OutOfMemory old new goes fits told = absurd told
 stop_told m ahead lines (drive.Refused t n why) old new goes fits told = absurd told
 stop_told m ahead lines (drive.Stuck t n) old new goes fits told =

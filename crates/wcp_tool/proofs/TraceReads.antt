@@ -7,17 +7,18 @@ use Rattle.trace_report.specs.declared.faults.ReplayFault.TheVariants.{Text, Ref
 use Rattle.trace_report.specs.declared.faults.TraceFault.TheVariants as found
 use Rattle.trace_report.specs.Judging.{HasRead, IsTruncatedAt}
 use Rattle.wcp_tool.specs.Endings.{is_unread}
-use Rattle.wcp_tool.specs.Running.{TruncatesTrace}
+use Rattle.wcp_tool.specs.Running.{IsUnread, TruncatesTrace}
 
 -- an answer of a check or a replay that the text was not read to its end
 pub trace_cut : {A : Type 0} (m n : Limits) (left rest : Option (List ℕ)) (failed : Bool)
-    (answer : Result A ReplayFault) → m ≡ n → HasRead m left rest 17592186044416 failed answer
-    → IsErrAnd answer (λ f. is_unread f ≡ true) → TruncatesTrace n left rest failed
-trace_cut m n left rest failed (Ok a) same reads unread = absurd unread
-trace_cut m n left rest failed (Err (Text f)) same reads unread = record {
+    (before after : Option ℕ) (answer : Result A ReplayFault) → m ≡ n
+    → HasRead m left rest 17592186044416 failed before after answer
+    → IsErrAnd answer (λ f. is_unread f ≡ true) → TruncatesTrace n left rest (IsUnread failed before after)
+trace_cut m n left rest failed before after (Ok a) same reads unread = absurd unread
+trace_cut m n left rest failed before after (Err (Text f)) same reads unread = record {
   fault = found.Text f;
-  is = subst (λ (l : Limits). IsTruncatedAt l left rest 17592186044416 failed (found.Text f)) same
+  is = subst (λ (l : Limits). IsTruncatedAt l left rest (IsUnread failed before after) (found.Text f)) same
       (reads.truncated unread);
 }
-trace_cut m n left rest failed (Err (Refused line r)) same reads unread = absurd (cc)
-trace_cut m n left rest failed (Err Write) same reads unread = absurd (cc)
+trace_cut m n left rest failed before after (Err (Refused line r)) same reads unread = absurd (cc)
+trace_cut m n left rest failed before after (Err Write) same reads unread = absurd (cc)

@@ -14,7 +14,7 @@ use Rattle.clap.specs.declared.builder.value_parser.ValueParser.TheVariants.{Sig
 use Rattle.clap.specs.declared.error.kind.ErrorKind.{ErrorKind}
 use Rattle.clap.specs.declared.error.kind.ErrorKind.TheVariants as kinds
 use Rattle.wcp_tool.specs.declared.requests.Command.{Command}
-use Rattle.wcp_tool.specs.declared.requests.Command.TheVariants.{Check, Replay, Run}
+use Rattle.wcp_tool.specs.declared.requests.Command.TheVariants.{Check, Replay, Witness, Run}
 use Rattle.wcp_tool.specs.declared.requests.Settings.{Settings}
 use Rattle.wcp_tool.specs.declared.requests.UsageFault.{UsageFault}
 use Rattle.wcp_tool.specs.declared.requests.UsageFault.TheVariants as faults
@@ -43,9 +43,21 @@ patience_option = number_option (codes "patience") 4294967295 (codes "1000000")
 abbrev pub file_argument : Rule
 file_argument = record (new_rule (codes "FILE")) { required = true; action = Some Set }
 
+-- EVENT, which may be given: a number from 1 to 4,294,967,295
+abbrev pub event_argument : Rule
+event_argument = record (new_rule (codes "EVENT")) {
+  action = Some Set;
+  parser = Some (Signed (pos 1) (pos 4294967295));
+}
+
 -- a command over a trace
 abbrev pub trace_command : Text → Shape
 trace_command name = (with_rule (new_app name) threads_option).top
+
+-- the command that looks for witnesses
+abbrev pub witness_command : Shape
+witness_command =
+    (with_rule (with_rule (new_app (codes "witness")) event_argument) threads_option).top
 
 -- the command over a script
 abbrev pub run_command : Shape
@@ -71,7 +83,7 @@ trace_commands =
     with_subcommand (with_subcommand bare (trace_command (codes "check"))) (trace_command (codes "replay"))
 
 unfoldable pub wcp : App
-wcp = with_subcommand trace_commands run_command
+wcp = with_subcommand (with_subcommand trace_commands witness_command) run_command
 
 -- ---- what the words ask for
 
@@ -79,10 +91,12 @@ wcp = with_subcommand trace_commands run_command
 unfoldable pub faults_of : List Text → Kinds
 faults_of words = fault_of wcp words
 
--- what to do: check a trace, replay it, or run the script at a path
+-- what to do: check a trace, replay it, look for witnesses, of the race of one event or for each pair of
+-- locations, or run the script at a path
 pub data Request : Type 0 where
   check : Request
   replay : Request
+  witness : Option ℕ → Request
   run : Text → Request
 
 -- what words ask for
@@ -94,6 +108,7 @@ pub record Asked : Type 0 where
 abbrev pub request_of : Command → Request
 request_of Check = check
 request_of Replay = replay
+request_of (Witness event) = witness event
 request_of (Run file) = run (string_bytes file)
 
 abbrev pub asked_by : Settings → Asked
@@ -117,6 +132,10 @@ threads_in = number_for (codes "threads") 1024 64
 abbrev pub patience_in : List Row → ℕ
 patience_in = number_for (codes "patience") 4294967295 1000000
 
+-- the number that was found for EVENT, if one was
+abbrev pub event_in : List Row → Option ℕ
+event_in rows = option_and_then number_of (one_of (codes "EVENT") rows)
+
 -- no script is run
 abbrev pub over_trace : Request → ℕ → Asked
 over_trace request threads = record { request = request; threads = threads; patience = 1000000 }
@@ -131,7 +150,8 @@ abbrev pub asked_under : Text → List Row → Asked
 asked_under name rows =
     if bytes_eq name (codes "check") then over_trace check (threads_in rows)
     else (if bytes_eq name (codes "replay") then over_trace replay (threads_in rows)
-    else record { request = run (path_in rows); threads = threads_in rows; patience = patience_in rows })
+    else (if bytes_eq name (codes "witness") then over_trace (witness (event_in rows)) (threads_in rows)
+    else record { request = run (path_in rows); threads = threads_in rows; patience = patience_in rows }))
 
 abbrev pub asked_in : Option (Text × List Row) → Option Asked
 asked_in = option_map (λ p. asked_under p.0 p.1)

@@ -10,6 +10,8 @@ use Rattle.trace_report.specs.declared.faults.ReplayFault.{ReplayFault}
 use Rattle.trace_report.specs.declared.faults.ReplayFault.TheVariants as faults
 use Rattle.trace_report.specs.declared.summary.Summary.{Summary}
 use Rattle.trace_report.specs.Judging.{is_read}
+use Rattle.witness_report.specs.declared.shown.Shown.{Shown}
+use Rattle.witness_report.specs.declared.shown.Shown.TheVariants as shown
 use Rattle.wcp_tool.specs.declared.endings.Ending.TheVariants.{Done, Races, WrongUsage, Refused, ReadFault}
 use Rattle.wcp_tool.specs.declared.endings.Ending.TheVariants.{WriteFault, OutOfMemory, BrokenScript}
 
@@ -69,3 +71,12 @@ summary_ending summary = cond (nat_eq summary.races 0) Done Races
 abbrev pub replay_ending : Result Summary ReplayFault → Ending
 replay_ending (Ok summary) = summary_ending summary
 replay_ending (Err f) = fault_ending f
+
+-- how a search for witnesses with this answer ends
+abbrev pub witness_ending : Result Shown ReplayFault → Ending
+witness_ending (Ok shown.Witness) = Done
+witness_ending (Ok shown.NoWitness) = Races
+witness_ending (Ok shown.NoRace) = WrongUsage
+witness_ending (Ok (shown.Pairs summary)) = summary_ending summary
+witness_ending (Ok shown.OutOfMemory) = OutOfMemory
+witness_ending (Err f) = fault_ending f

@@ -11,7 +11,7 @@ use Rattle.event_core.specs.Steps.{own_events}
 use Rattle.closed_report.specs.Closed.{IsReportOf}
 use Rattle.rapid_text.specs.Faults.{fault_line}
 use Rattle.rapid_text.specs.Tables.{Tables}
-use Rattle.script_drive.specs.Faults.{Refuses, is_told, waits}
+use Rattle.script_drive.specs.Faults.{HasToWait, Refuses, is_told}
 use Rattle.script_drive.specs.Lines.{Follows, IsJoinedFrom, lines_by}
 use Rattle.script_drive.specs.Runs.{IsRunOf}
 use Rattle.script_drive.specs.declared.faults.DriveFault.{DriveFault}
@@ -123,19 +123,19 @@ TellsStopped (Stuck t n) old new = Appends old new (fault_line n (codes "Stuck")
 TellsStopped (NoWorker n) old new = Appends old new (fault_line n (codes "NoWorker"))
 TellsStopped _ old new = ⊥
 
--- one line was written, which names a line of the script: one that acquires or joins and is stuck, or one
--- that forks a thread for which no worker could be started
-pub record NamesStop (lines : List ScriptLine) (old new : Option (List ℕ)) : Type 0 where
+-- one line was written, which names a line of the script: one that is stuck, and has to wait after some log
+-- after which it is due, or one that forks a thread for which no worker could be started
+pub record NamesStop (m : Limits) (lines : List ScriptLine) (old new : Option (List ℕ)) : Type 0 where
   pub line : ScriptLine
   pub one : Contains lines line
-  pub written : ((waits line ≡ true) × Appends old new (fault_line line.line (codes "Stuck")))
+  pub written : (HasToWait m lines line × Appends old new (fault_line line.line (codes "Stuck")))
       ⊎ (IsSome (fork_of line) × Appends old new (fault_line line.line (codes "NoWorker")))
 
 -- the same, as a fact without its witness
-abbrev pub TellsStop : List ScriptLine → Option (List ℕ) → Option (List ℕ) → Type 0
-TellsStop lines old new = ∥ NamesStop lines old new ∥₁
+abbrev pub TellsStop : Limits → List ScriptLine → Option (List ℕ) → Option (List ℕ) → Type 0
+TellsStop m lines old new = ∥ NamesStop m lines old new ∥₁
 
 -- why a run ends with status 6
 abbrev pub BreaksText : Limits → Option (List ℕ) → Option (List ℕ) → Option (List ℕ) → Type 0
 BreaksText m left old new =
-    FaultsText m left old new ⊎ OfScript m left (λ script. TellsStop script.lines old new)
+    FaultsText m left old new ⊎ OfScript m left (λ script. TellsStop m script.lines old new)

@@ -4,11 +4,15 @@ ghost use Rattle.clap.specs.Words.{app_of, found_of, has_subcommand, kind_of, ne
 ghost use Rattle.clap.specs.Words.{shape_of, subcommand_rows_of, with_subcommand};
 ghost use Rattle.clap.specs.declared.builder.command.Command.TheViews.{out-Command};
 ghost use Rattle.wcp_tool.specs.CommandLine.{bare, run_command as run_shape, trace_command, wcp};
+ghost use Rattle.wcp_tool.specs.CommandLine.{witness_command as witness_shape};
 ghost use Rattle.wcp_tool.specs.CommandLine.{file_argument as file_rule, TellsKind, faults_of, asked};
 ghost use Rattle.wcp_tool.specs.CommandLine.{asked_by, asked_in, path_in, IsFaultAt};
 
-use crate::help_texts::{CHECK_TEXTS, PROGRAM_TEXTS, REPLAY_TEXTS, RUN_TEXTS};
-use crate::options::{DEFAULT_PATIENCE, patience_of, patience_option, threads_of, threads_option};
+use crate::help_texts::{CHECK_TEXTS, PROGRAM_TEXTS, REPLAY_TEXTS, RUN_TEXTS, WITNESS_TEXTS};
+use crate::options::{
+    DEFAULT_PATIENCE, event_argument, event_of, patience_of, patience_option, threads_of,
+    threads_option,
+};
 use crate::requests::{Command, Settings, UsageFault};
 use clap::error::ErrorKind;
 use clap::{Arg, ArgAction, ArgMatches};
@@ -58,6 +62,22 @@ fn run_command<'a>(alloc: Global) -> Result<clap::Command<'a>, AllocError>
     .arg(file_argument(alloc))?
     .arg(threads_option(alloc))?
     .arg(patience_option(alloc))
+}
+
+/// The command that looks for witnesses.
+fn witness_command<'a>(alloc: Global) -> Result<clap::Command<'a>, AllocError>
+    ensures local { IfOk result (λ c. (out-Command c).has_globals ≡ false) }
+    ensures shape { IfOk result (λ c. shape_of c ≡ witness_shape) }
+{
+    bare_command(
+        alloc,
+        "witness",
+        "Shows for races of a trace a schedule in which they meet",
+        "wcp witness [OPTIONS] [EVENT] < TRACE\n\n  tip: the trace is standard input",
+        WITNESS_TEXTS,
+    )
+    .arg(event_argument(alloc))?
+    .arg(threads_option(alloc))
 }
 
 /// The program, before its commands are added.
@@ -115,7 +135,8 @@ fn command_line<'a>(alloc: Global) -> Result<clap::Command<'a>, AllocError>
         "wcp replay [OPTIONS] < TRACE\n\n  tip: the trace is standard input, as in: wcp replay < trace.txt",
         REPLAY_TEXTS,
     )?;
-    two.subcommand(run_command(alloc)?)
+    let three = two.subcommand(witness_command(alloc)?)?;
+    three.subcommand(run_command(alloc)?)
 }
 
 /// The name of the command that was met, and what its options were given.
@@ -174,6 +195,9 @@ fn settings_of(alloc: Global, matches: &ArgMatches<'_>) -> Result<Settings, Allo
     }
     if name == "replay" {
         return Ok(trace_settings(Command::Replay, threads));
+    }
+    if name == "witness" {
+        return Ok(trace_settings(Command::Witness(event_of(given)), threads));
     }
     let file = String::from_str(alloc, file_of(given))?;
     Ok(Settings {

@@ -1,11 +1,12 @@
 //! How the program ends: its exit status, and what standard error says of it.
 ghost use Rattle.std.specs.Prelude.{◌≡◌, ◌≢◌, IsErrAnd, true};
 ghost use Rattle.wcp_tool.specs.Endings.{check_ending, fault_ending as for_fault, replay_ending, status_of};
-ghost use Rattle.wcp_tool.specs.Endings.{is_unread, summary_ending as for_summary};
+ghost use Rattle.wcp_tool.specs.Endings.{is_unread, summary_ending as for_summary, witness_ending};
 
 use event_core::Refusal;
 use rapid_text::{Cause, Output, write_all};
 use trace_report::{Counts, ReplayFault, Summary};
+use witness_report::Shown;
 
 /// How the program ends.
 #[derive(Clone, Copy)]
@@ -14,7 +15,7 @@ pub(crate) enum Ending {
     Done,
     /// A race was found, and the report stands on standard output.
     Races,
-    /// The command line is wrong.
+    /// The command line is wrong, or names an event that does not race. Standard error says which.
     WrongUsage,
     /// A line of the trace, or a call of the script, is refused.
     Refused,
@@ -120,6 +121,27 @@ pub(crate) fn ending_of_replay(answer: Result<Summary, ReplayFault>) -> Ending
 {
     match answer {
         Ok(summary) => summary_ending(summary),
+        Err(fault) => fault_ending(fault),
+    }
+}
+
+/// How a search for witnesses with this answer ends. That the event does not race is said on standard error.
+pub(crate) fn ending_of_witness<E: Output>(
+    answer: Result<Shown, ReplayFault>,
+    errors: &mut E,
+) -> Ending
+    ensures ending { result ≡ witness_ending answer }
+    ensures unread { result ≡ Ending.ReadFault → IsErrAnd answer (λ f. is_unread f ≡ true) }
+{
+    match answer {
+        Ok(Shown::Witness) => Ending::Done,
+        Ok(Shown::NoWitness) => Ending::Races,
+        Ok(Shown::NoRace) => {
+            let _ = write_all(errors, b"the event does not race with an earlier one\n");
+            Ending::WrongUsage
+        }
+        Ok(Shown::Pairs(summary)) => summary_ending(summary),
+        Ok(Shown::OutOfMemory) => Ending::OutOfMemory,
         Err(fault) => fault_ending(fault),
     }
 }

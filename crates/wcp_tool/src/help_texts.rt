@@ -118,6 +118,42 @@ Exit status:
   5  Out of memory"
 );
 
+/// What is said of the command `witness`.
+pub(crate) const WITNESS_TEXTS: &str = trace_help!(
+    "\
+With EVENT, the number of a racing event in the report of replay, standard
+output has the trace of a witness for its race. A witness is another order of
+events of the trace, in which each thread does the same up to the race, each
+load reads the same store, and the two events that race come last, with nothing
+between them. So the threads that made the trace could have made this order. Or
+there is one line, none, where no witness was found: the race may still be real.
+
+Without EVENT standard output has a line of counts, and a line for each pair of
+locations of the report of replay, in the order of their first races:
+  events E threads T locks L variables V races R
+  witness N I|THREAD|OP(VARIABLE)|LOCATION with J|THREAD|OP(VARIABLE)|LOCATION
+  none N I|THREAD|OP(VARIABLE)|LOCATION with J|THREAD|OP(VARIABLE)|LOCATION
+N is how many races there are between the two locations. The line of the report
+follows, of the race that has a witness, or else of the first. At a pair of
+locations the first 200 races are tried.",
+    "\
+Example:
+  printf 'A|w(y)|1\\nA|acq(l)|2\\nA|rel(l)|3\\nB|acq(l)|4\\nB|r(y)|5\\n' |
+    wcp witness 5
+prints
+  B|acq(l)|4
+  A|w(y)|1
+  B|r(y)|5
+
+Exit status:
+  0  A witness was printed; or, without EVENT, no race was found
+  1  No witness was found for the event; or, without EVENT, a race was found
+  2  The command line is wrong, or the event does not race with an earlier one
+  3  A line of the trace is refused
+  4  Standard input could not be read, or standard output could not be written
+  5  Out of memory"
+);
+
 /// What is said of the command `run`.
 pub(crate) const RUN_TEXTS: &str = "\
 The file has a script, with a line for each call of a thread, whose words are

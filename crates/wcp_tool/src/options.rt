@@ -4,6 +4,7 @@ ghost use Rattle.clap.specs.Words.{found_of, rows_of, rule_of};
 ghost use Rattle.wcp_tool.specs.CommandLine.{number_for, patience_in, threads_in, number_option as rule_for};
 ghost use Rattle.wcp_tool.specs.CommandLine.{threads_option as threads_rule};
 ghost use Rattle.wcp_tool.specs.CommandLine.{patience_option as patience_rule};
+ghost use Rattle.wcp_tool.specs.CommandLine.{event_argument as event_rule, event_in};
 
 use clap::builder::ValueParser;
 use clap::{Arg, ArgAction, ArgMatches};
@@ -91,4 +92,22 @@ pub(crate) fn patience_of(matches: &ArgMatches<'_>) -> u32
     ensures given { result ≡ patience_in (rows_of (found_of matches.now)) }
 {
     number_of(matches, "patience", u32::MAX, DEFAULT_PATIENCE)
+}
+
+/// The number of an event.
+pub(crate) fn event_argument<'a>(alloc: Global) -> Arg<'a>
+    ensures local { result.global ≡ false }
+    ensures rule { rule_of result ≡ event_rule }
+{
+    Arg::new(alloc, "EVENT")
+        .action(ArgAction::Set)
+        .value_parser(ValueParser::Signed(1, i64::from(u32::MAX)))
+        .help("The number of a racing event in the report of replay")
+}
+
+/// The number of the event that was given, if one was.
+pub(crate) fn event_of(matches: &ArgMatches<'_>) -> Option<u32>
+    ensures { result ≡ event_in (rows_of (found_of matches.now)) }
+{
+    matches.get_one("EVENT")
 }

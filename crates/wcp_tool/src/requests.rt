@@ -8,6 +8,9 @@ pub enum Command {
     Check,
     /// Report the races of the trace on standard input.
     Replay,
+    /// Write a witness for the race of the event with this number of the trace on standard input; without a
+    /// number, whether each pair of locations has one.
+    Witness(Option<u32>),
     /// Run the threads of the script at this path, and report their races.
     Run(String),
 }

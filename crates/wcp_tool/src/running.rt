@@ -4,12 +4,19 @@ ghost use Rattle.std.specs.Prelude.{map};
 ghost use Rattle.clap.specs.Words.{Text};
 ghost use Rattle.wcp_tool.specs.Endings.{is_write_fault};
 ghost use Rattle.wcp_tool.specs.CommandLine.{request_of};
-ghost use Rattle.wcp_tool.specs.Running.{Checks, Replays, Performs, IsTruncated, IsHindered, Runs};
-ghost use Rattle.wcp_tool.specs.Running.{EndsAs, IsUnhindered, LeavesInput, reads_trace};
+ghost use Rattle.wcp_tool.specs.Running.{Checks, Replays, Witnesses, Performs, IsTruncated, IsHindered, Runs};
+ghost use Rattle.wcp_tool.specs.Running.{
+  EndsAs,
+  IsUnhindered,
+  IsUnread,
+  LeavesInput,
+  names_event,
+  reads_trace,
+};
 
 use crate::bounds::{TURNS, limits_of};
 use crate::command_line::settings;
-use crate::endings::{Ending, ending_of_check, ending_of_replay, finish};
+use crate::endings::{Ending, ending_of_check, ending_of_replay, ending_of_witness, finish};
 use crate::requests::{Command, Settings, UsageFault};
 use crate::script_files::ScriptFiles;
 use crate::scripts::run_file;
@@ -22,6 +29,7 @@ use std::io::ErrorKind;
 use std::sync::Wait;
 use std::thread::Threads;
 use trace_report::{check, replay};
+use witness_report::show_trace;
 
 /// Does what the settings ask for.
 #[tactic(auto, using(crate::proofs::TraceReads::trace_cut))]
@@ -40,12 +48,12 @@ fn run<R: AllocGlobal + ScriptFiles + Threads + Wait + Sync, I: Input, O: Output
         (request_of settings.now.command) settings.now.threads
         (I.left reader.old) (O.written writer.old) (O.written writer.new) result }
     ensures range { result ≤ 6 }
-    ensures usage { result ≢ 2 }
-    ensures quiet { result ≡ 5 → writer.new ≡ writer.old }
+    ensures usage { result ≡ 2 → names_event (request_of settings.now.command) ≡ true }
+    ensures quiet { (result ≡ 2) ⊎ (result ≡ 5) → writer.new ≡ writer.old }
     ensures devices { result ≡ 4 → (O.failed writer.new ≡ true)
         ⊎ ((writer.new ≡ writer.old) × IsTruncated (R.open_gives rt.now) R.Script.left R.Script.failed
-        (request_of settings.now.command) settings.now.threads (I.left reader.old) (I.left reader.new)
-        (I.failed reader.new)) }
+        R.Script.pulls (request_of settings.now.command) settings.now.threads (I.left reader.old)
+        (I.left reader.new) (IsUnread (I.failed reader.new) (I.pulls reader.old) (I.pulls reader.new))) }
     ensures written { result ≢ 4 → O.failed writer.new ≡ false }
     ensures untouched { reads_trace (request_of settings.now.command) ≡ false → reader.new ≡ reader.old }
     ensures read { (result ≡ 0) ⊎ (result ≡ 1) → I.failed reader.new ≡ false }
@@ -59,6 +67,12 @@ fn run<R: AllocGlobal + ScriptFiles + Threads + Wait + Sync, I: Input, O: Output
         Command::Replay => {
             let limits = limits_of(settings.threads, Roots::Free);
             let ending = ending_of_replay(replay(rt.alloc(), reader, writer, limits, TURNS));
+            finish(ending, errors)
+        }
+        Command::Witness(event) => {
+            let limits = limits_of(settings.threads, Roots::Free);
+            let shown = show_trace(rt.alloc(), reader, writer, limits, TURNS, *event);
+            let ending = ending_of_witness(shown, errors);
             finish(ending, errors)
         }
         Command::Run(path) => run_file(rt, path.as_str(), writer, errors, settings),
@@ -91,8 +105,8 @@ fn explain<O: Output, E: Output>(fault: UsageFault, writer: &mut O, errors: &mut
 }
 
 /// The program over the words after its own name. Its answer is the exit status: 0 done, 1 races, 2 the
-/// words are wrong, 3 a line or a call is refused, 4 a read or a write failed, 5 out of memory, 6 the script
-/// is broken or stuck.
+/// words are wrong or name an event without a race, 3 a line or a call is refused, 4 a read or a write
+/// failed, 5 out of memory, 6 the script is broken or stuck.
 ///
 /// No contract says what the texts of help, the version and a usage fault are.
 pub fn tool<
@@ -111,14 +125,15 @@ pub fn tool<
     ensures range { result ≤ 6 }
     // The reader is left alone where the words have a fault, or ask for a run of a script.
     ensures untouched { LeavesInput (map S.text words.now) → reader.new ≡ reader.old }
-    // Nothing is written to standard output where the words are wrong or memory ran out.
+    // Nothing is written to standard output where the words are wrong, where the event that they name does
+    // not race, or where memory ran out.
     ensures quiet { (result ≡ 2) ⊎ (result ≡ 5) → writer.new ≡ writer.old }
     // It ends with 4 only where the writer failed or took no byte, or what the words ask for was not read to
-    // its end: a read failed, or the text has as many bytes as there are turns; and no line that came whole
-    // has a fault. Or the file of the script could not be opened.
+    // its end: a read failed, or 2^44 pulls were made; and no line that came whole has a fault. Or the file
+    // of the script could not be opened.
     ensures hindered { result ≡ 4 → IsHindered (R.open_gives rt.now) R.Script.left R.Script.failed
-        (map S.text words.now) (I.left reader.old) (I.left reader.new) (I.failed reader.new)
-        (O.failed writer.new) }
+        R.Script.pulls (map S.text words.now) (I.left reader.old) (I.left reader.new)
+        (IsUnread (I.failed reader.new) (I.pulls reader.old) (I.pulls reader.new)) (O.failed writer.new) }
     // Where the writer did not fail, nothing is written then.
     ensures devices { result ≡ 4 → (O.failed writer.new ≡ true) ⊎ (writer.new ≡ writer.old) }
     // It ends with 0 or 1 only where no read failed.
@@ -175,8 +190,9 @@ pub fn program<
         × Runs (R.open_gives rt.now) R.Script.left words (I.left reader.old) (O.written writer.old)
         (O.written writer.new) result
         × (LeavesInput words → reader.new ≡ reader.old)
-        × (result ≡ 4 → IsHindered (R.open_gives rt.now) R.Script.left R.Script.failed words
-        (I.left reader.old) (I.left reader.new) (I.failed reader.new) (O.failed writer.new)))
+        × (result ≡ 4 → IsHindered (R.open_gives rt.now) R.Script.left R.Script.failed R.Script.pulls words
+        (I.left reader.old) (I.left reader.new)
+        (IsUnread (I.failed reader.new) (I.pulls reader.old) (I.pulls reader.new)) (O.failed writer.new)))
         ⊎ ((result ≡ 2) ⊎ (result ≡ 5)) }
     ensures range { result ≤ 6 }
     // Nothing is written to standard output where the words are wrong or memory ran out.

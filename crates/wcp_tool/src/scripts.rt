@@ -5,7 +5,8 @@ ghost use Rattle.rapid_text.specs.Faults.{fault_line};
 ghost use Rattle.script_text.specs.declared.causes.ScriptFault.{ScriptFault as Why};
 ghost use Rattle.script_text.specs.Scripts.{script_of, IsScript};
 ghost use Rattle.wcp_tool.specs.Endings.{HasEnded, is_write_fault, status_of};
-ghost use Rattle.wcp_tool.specs.Running.{IsUnhindered, TruncatesFile, TruncatesScript, PerformsFile};
+ghost use Rattle.wcp_tool.specs.Running.{IsUnhindered, IsUnread, TruncatesFile, TruncatesScript};
+ghost use Rattle.wcp_tool.specs.Running.{PerformsFile};
 ghost use Rattle.wcp_tool.specs.Running.{PerformsRun, limits_with};
 ghost use Rattle.trace_report.specs.Reports.{AreNamed};
 ghost use Rattle.wcp_tool.specs.ScriptRuns.{BreaksText, Ran, RefusesText, ReportsLog, RunsText};
@@ -112,7 +113,7 @@ fn run_threads<R: AllocGlobal + Threads + Wait + Sync, O: Output>(
         (O.written writer.old) (O.written writer.new) (status_of result) }
     ensures refused { status_of result ≡ 3 → TellsRefusal limits script.now.lines
         (O.written writer.old) (O.written writer.new) }
-    ensures broken { status_of result ≡ 6 → TellsStop script.now.lines (O.written writer.old)
+    ensures broken { status_of result ≡ 6 → TellsStop limits script.now.lines (O.written writer.old)
         (O.written writer.new) }
     ensures whole { result ≢ Ending.ReadFault }
     ensures ends { HasEnded (writer.new ≡ writer.old) (O.failed writer.new) result }
@@ -145,8 +146,8 @@ fn run_text<R: AllocGlobal + Threads + Wait + Sync, I: Input, O: Output>(
         → script_of (limits_with threads OnlyMain) text ≡ Err f
         → TellsFault f (O.written writer.old) (O.written writer.new) (status_of result)) }
     ensures truncated { result ≡ Ending.ReadFault
-        → TruncatesScript (limits_with threads OnlyMain) (I.left script.old)
-        (I.left script.new) (I.failed script.new) }
+        → TruncatesScript (limits_with threads OnlyMain) (I.left script.old) (I.left script.new)
+        (IsUnread (I.failed script.new) (I.pulls script.old) (I.pulls script.new)) }
     ensures read { (result ≡ Ending.Done) ⊎ (result ≡ Ending.Races) → I.failed script.new ≡ false }
     ensures ends { HasEnded (writer.new ≡ writer.old) (O.failed writer.new) result }
 {
@@ -163,7 +164,7 @@ fn run_text<R: AllocGlobal + Threads + Wait + Sync, I: Input, O: Output>(
 
 /// The command `run` over a reader of the script: its threads are run, each line is tried as often as the
 /// patience of the settings says, and what the threads did is reported. The answer is the exit status. Of
-/// patience the clauses say that a line which neither acquires nor joins is not stuck.
+/// patience the clauses say that no line is stuck but one that has to wait for another thread.
 ///
 /// What the threads did depends on the schedule, and so does the status: of the log it is said only that it
 /// is well formed, that it is one that the script's threads can have made, and which events the first thread
@@ -190,7 +191,9 @@ pub fn run_script<R: AllocGlobal + Threads + Wait + Sync, I: Input, O: Output, E
     ensures refused { result ≡ 3 → RefusesText (limits_with settings.now.threads OnlyMain)
         (I.left script.old) (O.written writer.old) (O.written writer.new) }
     // With status 6 it wrote the one line that says why the text is no script, or which of its lines is
-    // stuck or can start no worker. A stuck line is one that acquires or joins.
+    // stuck or can start no worker. A stuck line joins a thread, or acquires a lock that another thread
+    // holds, after some log that the script's threads can have made, and in which its thread has made just
+    // the calls before.
     ensures broken { result ≡ 6 → BreaksText (limits_with settings.now.threads OnlyMain)
         (I.left script.old) (O.written writer.old) (O.written writer.new) }
     // It reports the first fault of the script's lines, unless memory ran out or a device failed.
@@ -203,11 +206,12 @@ pub fn run_script<R: AllocGlobal + Threads + Wait + Sync, I: Input, O: Output, E
     // Nothing is written to standard output where memory ran out.
     ensures quiet { result ≡ 5 → writer.new ≡ writer.old }
     // Status 4 says that the writer failed or took no byte; or else that the script was not read to its end,
-    // since a read failed or it has as many bytes as there are turns, and then nothing is written. No line
-    // that came whole has a cause then, and at most 1,025 bytes came of the line whose end was not seen.
+    // since a read failed or 2^44 pulls were made, and then nothing is written. No line that came whole has a
+    // cause then, and at most 1,025 bytes came of the line whose end was not seen.
     ensures devices { result ≡ 4 → (O.failed writer.new ≡ true)
         ⊎ ((writer.new ≡ writer.old) × TruncatesScript (limits_with settings.now.threads OnlyMain)
-        (I.left script.old) (I.left script.new) (I.failed script.new)) }
+        (I.left script.old) (I.left script.new)
+        (IsUnread (I.failed script.new) (I.pulls script.old) (I.pulls script.new))) }
     // It ends with 0 or 1 only where no read failed.
     ensures read { (result ≡ 0) ⊎ (result ≡ 1) → I.failed script.new ≡ false }
     ensures written { result ≢ 4 → O.failed writer.new ≡ false }
@@ -234,7 +238,7 @@ pub(crate) fn run_file<R: AllocGlobal + ScriptFiles + Threads + Wait + Sync, O: 
     ensures quiet { result ≡ 5 → writer.new ≡ writer.old }
     ensures devices { result ≡ 4 → (O.failed writer.new ≡ true)
         ⊎ ((writer.new ≡ writer.old) × (R.open_gives rt.now path.now None
-        ⊎ TruncatesFile (R.open_gives rt.now path.now) R.Script.left R.Script.failed
+        ⊎ TruncatesFile (R.open_gives rt.now path.now) R.Script.left R.Script.failed R.Script.pulls
         (limits_with settings.now.threads OnlyMain))) }
     ensures written { result ≢ 4 → O.failed writer.new ≡ false }
 {

@@ -12,16 +12,20 @@ returns-clause-app c =
     ∙ ap (λ (a : App). with_subcommand a (trace_command (codes "check"))) c.in_ok-none.ensures.app in
     let two = c.in_ok-two.ensures.app
     ∙ ap (λ (a : App). with_subcommand a (trace_command (codes "replay"))) one in
-    IfOk-weaker c.subcommand.result _ _
-    (λ x h. h.shape c.in_ok-run_command.ensures.local ∙ ap₂ with_subcommand two
+    let three = c.in_ok-three.ensures.shape c.in_ok-witness_command.ensures.local
+    ∙ ap₂ with_subcommand two c.in_ok-witness_command.ensures.shape in
+    IfOk-weaker c.subcommand-2.result _ _
+    (λ x h. h.shape c.in_ok-run_command.ensures.local ∙ ap₂ with_subcommand three
     c.in_ok-run_command.ensures.shape)
-    c.subcommand.ensures
+    c.subcommand-2.ensures
 
 pub returns-clause-local : goal.returns-clause-local
 returns-clause-local c =
-    IfOk-weaker c.subcommand.result _ _
-    (λ x h. h.globals ∙ ap₂ (λ a b. a || b) c.in_ok-two.ensures.local c.in_ok-run_command.ensures.local)
-    c.subcommand.ensures
+    let three = c.in_ok-three.ensures.globals
+    ∙ ap₂ (λ a b. a || b) c.in_ok-two.ensures.local c.in_ok-witness_command.ensures.local in
+    IfOk-weaker c.subcommand-2.result _ _
+    (λ x h. h.globals ∙ ap₂ (λ a b. a || b) three c.in_ok-run_command.ensures.local)
+    c.subcommand-2.ensures
 
 pub with_trace_command-requires : goal.with_trace_command-requires
 with_trace_command-requires c = c.in_ok-none.ensures.local

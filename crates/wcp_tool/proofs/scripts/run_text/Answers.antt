@@ -31,7 +31,7 @@ returns-in-Err-clause-performs g c =
     (g.O.Output.written c.args.writer.now)
     (g.O.Output.written c.explain_script.new.writer) (status_of c.explain_script.result))
     c.limits_of-limits.ensures
-    (fault_told _ _ _ _ _ _ _ _ _ told.tells told.hindered c.in-Err.ensures.fault)
+    (fault_told _ _ _ _ _ _ _ _ told.tells told.hindered c.in-Err.ensures.fault)
 
 pub returns-in-Err-clause-truncated : goal.returns-in-Err-clause-truncated
 returns-in-Err-clause-truncated g c h =
