@@ -12,6 +12,7 @@ import sys
 import room
 from explaining.elf import build_id
 from explaining.printing import Printer, print_text
+from schedules import printed
 from traces import EXPLAIN, explain
 
 HERE = os.path.dirname(os.path.realpath(__file__))
@@ -23,7 +24,7 @@ def settled(text):
     """Entries without what differs from build to build: numbers of events, offsets, how lines are filled,
     the declarations that `nm` does not find in clang's files, and the parentheses that gcc's have not."""
     text = re.sub(r'\s+', ' ', text.replace('\n\n', '\r')).replace('\r', '\n\n').strip()
-    for pattern, word in ((r'event \d+', 'event N'), (r'0x[0-9a-f]+', '0x..'),
+    for pattern, word in ((r'(event|witness) \d+', r'\1 N'), (r'0x[0-9a-f]+', '0x..'),
                           (r' bytes, \S+:\d+\)', ' bytes)'), (r'\(\)', '')):
         text = re.sub(pattern, word, text)
     return text
@@ -162,8 +163,13 @@ def show_test(shown, compiler):
     made.tell('three runs', ', 3 events in 3 of 3 runs' in done.stdout and
               '1 race in 3 runs' in done.stdout and done.stderr.count('recorder: ') == 3 and
               done.returncode == 1, done)
+    schedules = printed(shown, done.stdout, made.folder)
+    made.tell('the schedule of a kept trace', len(schedules) == 1 and '|r(' in schedules[0][-1], done)
     made.tell('kept traces', sorted(os.listdir(os.path.join(made.folder, 'kept'))) == [
         f'run{run}.txt{end}' for run in (1, 2, 3) for end in ('', '.info')])
+    done = made.run([*test, './app'])
+    made.tell('the schedule of a trace that is gone',
+              'a schedule shows it: keep the trace by --keep FOLDER' in done.stdout, done)
     room.write(os.path.join(made.folder, 'suppressions'), 'race:announced\n')
     suppressed = ['--suppressions', 'suppressions']
     made.tell('suppressed', made.run([*test, *suppressed, './app']).returncode == 0)

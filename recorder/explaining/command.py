@@ -1,6 +1,7 @@
 """The command `explain`: its options, its order of work, and its exit status."""
 import argparse
 import os
+import subprocess
 import sys
 import traceback
 
@@ -11,7 +12,8 @@ from .naming import Naming
 from .names import shown, text_of
 from .printing import Printer, print_json, print_text
 from .progress import Bar
-from .replay import Refused, find_program, pairs_of, races_of, replay
+from .replay import Refused, answer_of, find_program, pairs_of, races_of
+from .schedules import command_of, is_shown, schedules_of
 from .suppressions import BadSuppressions, read_suppressions
 from .symbols import Symbols
 from .trace import Trace
@@ -53,9 +55,11 @@ def say(text):
 
 
 class Found:
-    """The entries of all traces, by their places, with the runs in which they were met."""
+    """The entries of all traces, by their places, with the runs in which they were met. `is_kept`: whether
+    the traces stay after the command."""
 
-    def __init__(self):
+    def __init__(self, is_kept):
+        self.is_kept = is_kept
         self.by_places, self.runs, self.status, self.notes = {}, {}, 0, []
 
     def meet(self, pairs, run):
@@ -86,13 +90,18 @@ def explain_trace(path, options, found, run):
         return
     note_what_is_missing(path, trace, info, found)
     new = found.meet(pairs, run)
-    if not new:
-        return
+    if new:
+        make_entries(path, trace, info, new, found)
+    if not options.report:
+        add_schedules(path, trace, size, options, found, [found.by_places[places] for places in pairs])
+
+
+def make_entries(path, trace, info, new, found):
     symbols = Symbols(info)
     try:
         maker = Maker(trace, [pair for _, pair in new], lambda forks: Naming(info, symbols, forks))
         for (places, _), entry in zip(new, maker.entries()):
-            found.by_places[places] = entry
+            found.by_places[places] = {**entry, 'schedule': None}
     except OtherTrace as other:
         raise Stop(USAGE, f'the report is not of {path}: event {other} is another there')
     finally:
@@ -104,17 +113,44 @@ def report_of(path, trace, size, options):
     if options.report:
         with open(options.report, 'rb') as file:
             return file.read()
+    return ask('replay', path, trace, size, options)
+
+
+def add_schedules(path, trace, size, options, found, entries):
+    """Adds to each entry of this trace whether a schedule shows it. Where `wcp witness` fails, as for want of
+    memory, they stay as they are."""
+    if all(is_shown(entry) for entry in entries):
+        return
+    try:
+        schedules = schedules_of(ask('witness', path, trace, size, options, stderr=subprocess.DEVNULL))
+    except Refused as refused:
+        found.notes.append(f'wcp witness ended with status {refused.status} on {path}: '
+                           'its entries do not mention schedules')
+        return
+    for places, event in schedules.items():
+        entry = found.by_places.get(places)
+        if entry and not is_shown(entry):
+            command = command_of(event, path, threads_of(trace, options)) if event and found.is_kept else None
+            entry['schedule'] = {'event': event, 'command': command}
+
+
+def ask(command, path, trace, size, options, **how):
+    """What a command of `wcp` prints of the trace."""
     program = find_program(options.wcp, HERE)
     if program is None:
         raise Stop(NO_PROGRAM, 'there is no program wcp: build it by ./wcp, or name it by --wcp PATH')
-    threads = options.threads
-    if not threads and len(trace.threads.names) > DEFAULT_THREADS:
-        threads = len(trace.threads.names)
-    bar = Bar('wcp', size, trace.events)
+    bar = Bar(f'wcp {command}', size, trace.events)
     try:
-        return replay(program, path, threads, bar.tell)
+        return answer_of(program, command, path, threads_of(trace, options), bar.tell, **how)
     finally:
         bar.end()
+
+
+def threads_of(trace, options):
+    """How many threads `wcp` has to be told to allow for; None where its default will do."""
+    if options.threads or len(trace.threads.names) <= DEFAULT_THREADS:
+        return options.threads
+    return len(trace.threads.names)
 
 
 def note_what_is_missing(path, trace, info, found):
@@ -146,17 +182,27 @@ def chosen(found, options):
     return entries, suppressed, seen
 
 
-def explain(runs, options, out=sys.stdout):
+def in_order(entries):
+    """The entries in the order in which they are numbered: first those that a schedule shows. `after` is the
+    first entry above whose race comes earlier in the report."""
+    order = sorted(enumerate(entries), key=lambda placed: not is_shown(placed[1]))
+    for number, (place, entry) in enumerate(order, 1):
+        entry['number'] = number
+        above = order[:number - 1]
+        entry['after'] = next((other['number'] for before, other in above if before < place), None)
+    return [entry for _, entry in order]
+
+
+def explain(runs, options, is_kept=True, out=sys.stdout):
     """Explains runs of one program, each a list of traces, one of a process; answers the exit status."""
-    found = Found()
+    found = Found(is_kept)
     for run, paths in enumerate(runs):
         for path in paths:
             explain_trace(path, options, found, run)
     for places, entry in found.by_places.items():
         entry.update(runs=len(found.runs[places]), of_runs=len(runs))
     entries, suppressed, seen = chosen(found, options)
-    for number, entry in enumerate(entries, 1):
-        entry['number'] = number
+    entries = in_order(entries)
     printed = entries if options.first is None else entries[:max(options.first, 0)]
     if options.json:
         print_json(out, printed)

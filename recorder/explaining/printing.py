@@ -1,11 +1,12 @@
-"""Prints entries as text: the race, its two accesses with their stacks, what hid it, and where its threads
-were started. Each text that comes from the program is printed by `shown`."""
+"""Prints entries as text: the race, its two accesses with their stacks, what hid it, whether a schedule shows
+it, and where its threads were started. Each text that comes from the program is printed by `shown`."""
 import json
 import textwrap
 
 from .grouping import grouped
 from .names import shown, source
 from .naming import thread_text, where
+from .schedules import is_shown
 
 WIDTH = 108
 LONGEST = 90
@@ -31,8 +32,11 @@ class Printer:
 
 
 def print_text(printer, entries, total):
-    """All entries, those that share a side under one heading. `total` is how many there are in all."""
-    for side, group in grouped(entries):
+    """All entries: first those that a schedule shows, then the others; of each, those that share a side under
+    one heading. `total` is how many there are in all."""
+    groups = [group for part in (True, False)
+              for group in grouped([entry for entry in entries if is_shown(entry) == part])]
+    for side, group in groups:
         if side is not None:
             printer.line(f'{len(group)} races have {cut(side)} on one side: they may have one cause', 'heading')
             printer.line()
@@ -45,8 +49,8 @@ def print_entry(printer, entry, total):
     events = f'{entry["events"]} event{"s" * (entry["events"] != 1)}'
     runs = f' in {entry["runs"]} of {entry["of_runs"]} runs' if entry['of_runs'] > 1 else ''
     printer.line(f'race {entry["number"]} of {total}: {about(entry)}, {events}{runs}', 'race')
-    if entry['number'] > 1:
-        printer.line('  comes after race 1, and may be its consequence: look at that first')
+    if entry['after']:
+        printer.line(f'  comes after race {entry["after"]}, and may be its consequence: look at that first')
     print_access(printer, entry, entry['first'])
     print_access(printer, entry, entry['second'])
     if entry['stacks'] > 1:
@@ -55,6 +59,10 @@ def print_entry(printer, entry, total):
         print_path(printer, entry)
     else:
         printer.paragraph('also a race by happens-before: no lock, start or join orders the two in this run')
+    if entry['schedule']:
+        printer.line('  ' + schedule_text(entry))
+    for step in entry['steps']:
+        print_warning(printer, step, entry['is_recorded'])
     print_block(printer, entry['variable']['block'])
     print_starts(printer, entry)
 
@@ -117,8 +125,6 @@ def print_path(printer, entry):
         for text in texts:
             printer.paragraph(text, 4)
         printer.paragraph(f'{end} {detector}')
-    for step in locks:
-        print_warning(printer, step, entry['is_recorded'])
 
 
 def step_text(entry, number):
@@ -138,8 +144,18 @@ def step_text(entry, number):
             f'{after}; {taker} {took} ({where(acquired["at"])}) at event {acquired["event"]}{before}')
 
 
+def schedule_text(entry):
+    """Whether a schedule shows the race, on one line, so that its command can be copied."""
+    event, command = entry['schedule']['event'], entry['schedule']['command']
+    if event is None:
+        return 'no schedule was found that shows it; the race may still be real'
+    which = 'it' if event == entry['second']['event'] else 'another race of these places'
+    return f'a schedule shows {which}: ' + (
+        command or 'keep the trace by --keep FOLDER, for the command that prints it')
+
+
 def print_warning(printer, step, is_recorded):
-    if step['empty']:
+    if step.get('empty'):
         which = f'section of {step["empty"][0]} on {lock_text(step["lock"])} has'
         if len(step['empty']) > 1:
             which = f'sections of {" and ".join(step["empty"])} on {lock_text(step["lock"])} have'

@@ -1,4 +1,5 @@
-"""Runs `wcp replay` on a trace, or takes the report of a file, and finds the pairs of places in it."""
+"""Runs `wcp` on a trace, and finds the pairs of places in a report."""
+import functools
 import os
 import re
 import subprocess
@@ -45,11 +46,11 @@ def find_program(given, here):
     return next((path for path in places if os.path.isfile(path) and os.access(path, os.X_OK)), None)
 
 
-def replay(program, trace, threads, told=lambda done: None):
-    """The report of the trace, as `wcp replay` prints it."""
-    words = [program, 'replay'] + (['--threads', str(threads)] if threads else [])
+def answer_of(program, command, trace, threads, told=lambda done: None, **how):
+    """What this command of `wcp` prints of the trace, such as the report of `replay`."""
+    words = [program, command] + (['--threads', str(threads)] if threads else [])
     with tempfile.TemporaryFile() as out, open(trace, 'rb') as text:
-        run = subprocess.Popen(words, stdin=subprocess.PIPE, stdout=out)
+        run = subprocess.Popen(words, stdin=subprocess.PIPE, stdout=out, **how)
         done = 0
         try:
             while piece := text.read(PIECE):
@@ -61,10 +62,10 @@ def replay(program, trace, threads, told=lambda done: None):
             pass
         status = run.wait()
         out.seek(0)
-        report = out.read()
+        answer = out.read()
     if status not in (0, 1):
-        raise Refused(status if status > 0 else 128 - status, report)
-    return report
+        raise Refused(status if status > 0 else 128 - status, answer)
+    return answer
 
 
 def races_of(report):
@@ -75,10 +76,11 @@ def races_of(report):
         raise Refused(3 if lines[0].startswith(b'line ') else 4, report)
     for line in lines[1:]:
         if line:
-            yield _race(line)
+            yield race_of(line)
 
 
-def _race(line):
+def race_of(line):
+    """The race of a line of the report."""
     fields = line.split(b'|')
     if len(fields) != 7 or b' with ' not in fields[3]:
         raise Refused(4, line)
@@ -91,23 +93,24 @@ def _event(number, thread, access, location):
     return Event(int(number), thread, access[:1], access[2:-1], location)
 
 
+@functools.lru_cache(maxsize=None)
 def place_of(location):
     """A location without the number of its stack, and that number, or None."""
     match = STACK.match(location)
     return (match[1], int(match[2])) if match else (location, None)
 
 
+def places_of(race):
+    """The two places of a race, in the order of their text."""
+    return tuple(sorted(place_of(event.location)[0] for event in race))
+
+
 def pairs_of(races):
     """The pairs of places, in the order of the first race of each: {places: Pair}."""
-    pairs, places = {}, {}
+    pairs = {}
     for race in races:
-        key = []
-        for event in race:
-            if event.location not in places:
-                places[event.location] = place_of(event.location)[0]
-            key.append(places[event.location])
-        pair = pairs.setdefault(tuple(sorted(key)), None)
-        if pair is None:
-            pair = pairs[tuple(sorted(key))] = Pair(race)
-        pair.add(race)
+        places = places_of(race)
+        if places not in pairs:
+            pairs[places] = Pair(race)
+        pairs[places].add(race)
     return pairs

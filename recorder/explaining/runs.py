@@ -32,7 +32,7 @@ def test(words, options, folder):
         if not traces:
             return status or NOT_RECORDED
         runs.append(traces)
-    status = explain(runs, options)
+    status = explain(runs, options, is_kept=options.keep is not None)
     return status or (NOT_RECORDED if NOT_RECORDED in statuses else max(statuses))
 
 

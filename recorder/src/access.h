@@ -31,17 +31,39 @@ static inline void fill(struct event *event, enum kind kind, uint64_t address, u
                      __ATOMIC_RELEASE);
 }
 
-/* Whether the thread made this access, at this place, since its last event that is no access. */
+/* Whether this is the number of the latest access of each of these bytes, which it is from now on. */
+static inline int is_latest(uint64_t address, uint64_t size, uint64_t number) {
+    int is_same = 1;
+    for (uint64_t at = address / 8; at <= (address + size - 1) / 8; at++) {
+        uint64_t *kept = &latest_accesses[at % LATEST];
+        if (__atomic_load_n(kept, __ATOMIC_RELAXED) == number) continue;
+        __atomic_store_n(kept, number, __ATOMIC_RELAXED);
+        is_same = 0;
+    }
+    return is_same;
+}
+
+__extension__ typedef unsigned __int128 product;
+
+/* A number, which is odd, that an access has in common with those that it repeats alone. */
+static inline uint64_t number_of(struct thread *thread, enum kind kind, uint64_t address, uint64_t size,
+                                 uint64_t place, uint32_t stack) {
+    uint64_t what = address | size << 48 | (uint64_t)kind << 58;
+    uint64_t where = place + stack * 0xc2b2ae3d27d4eb4f;
+    uint64_t when = (thread->others + renewals) * 0xff51afd7ed558ccd;
+    product all = (product)(what ^ 0x9e3779b97f4a7c15) * (where ^ when);
+    return ((uint64_t)(all >> 64) ^ (uint64_t)all) | 1;
+}
+
+/* Whether the access is left out (repeats.c). */
 static inline int is_repeated(struct thread *thread, enum kind kind, uint64_t address, uint64_t size,
                               uint64_t place, uint32_t stack) {
-    uint64_t access = (address << 2 | kind) * 0x9e3779b97f4a7c15;
-    access ^= (place ^ (uint64_t)stack << 40) * 0xc2b2ae3d27d4eb4f;
-    access = (access ^ access >> 29) + (thread->others << 11 | size) * 0xff51afd7ed558ccd;
-    access |= 1;
-    uint64_t *kept = &thread->recent[access >> 51];
+    uint64_t number = number_of(thread, kind, address, size, place, stack);
+    if (!options.keeps_less) return is_latest(address, size, number) && !thread->held;
+    uint64_t *kept = &thread->recent[number >> 51];
     uint64_t before = *kept;
-    *kept = access;
-    return before == access;
+    *kept = number;
+    return before == number;
 }
 
 static inline void record_access(enum kind kind, uintptr_t address, uint64_t size, uintptr_t place) {

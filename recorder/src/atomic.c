@@ -33,6 +33,7 @@ static void leave(struct stripe *stripe, enum kind kind, const volatile void *at
                   uintptr_t place, int is_same) {
     if (!stripe) return;
     uint64_t size = bytes + ORDERS * (uint64_t)(order & 7);
+    renew((uintptr_t)at, bytes);
     int publishes = kind != LOAD && (order >= __ATOMIC_RELEASE || self->has_fence);
     if (is_same && !publishes && !options.keeps_all) {
         record_same(stripe, kind, (uintptr_t)at, size, place);

@@ -40,6 +40,7 @@ void again_events(void) {
     granted = 0;
     cut_because = NULL;
     is_in_step = 0;
+    again_repeats();
 }
 
 void refill(struct thread *thread) {
@@ -92,6 +93,7 @@ struct event *record_sync(enum kind kind, uintptr_t address, uint64_t size, uint
     struct thread *thread = running();
     if (!thread) return NULL;
     thread->others++;
+    thread->held += change_of_held(kind, address);
     struct stripe *stripe = address ? stripe_of(address) : NULL;
     uint64_t time = next_time(thread, stripe);
     struct event *event = append(thread, kind, address, size, place, time);
@@ -107,6 +109,7 @@ void record_block(enum kind kind, const volatile void *at, uint64_t size, uintpt
     if (!thread || !at) return;
     struct stripe *stripe = stripe_of(kind == BLOCK ? (uintptr_t)at : 0);
     thread->others++;
+    if (kind != BLOCK) renew((uintptr_t)at, size);
     uint64_t time = next_time(thread, stripe);
     append(thread, kind, (uintptr_t)at, size, place, time);
 }
@@ -116,8 +119,9 @@ void record_freed(void *at, uint64_t size, uintptr_t place) {
     struct thread *thread = running();
     if (!thread || !at) return;
     struct stripe *stripe = stripe_of((uintptr_t)at);
-    uint64_t time = next_time(thread, NULL);
     thread->others++;
+    renew((uintptr_t)at, size);
+    uint64_t time = next_time(thread, NULL);
     if (!thread->ignored) append(thread, FREED, (uintptr_t)at, size, place, time);
     raise_time(stripe, time);
 }
@@ -131,6 +135,7 @@ void record_range(enum kind kind, const volatile void *at, uint64_t size, uintpt
         return;
     }
     if (thread->ignored) return;
+    renew((uintptr_t)at, size);
     uint64_t time = clock_now();
     if (time < thread->time) time = thread->time;
     thread->time = time;
@@ -139,5 +144,7 @@ void record_range(enum kind kind, const volatile void *at, uint64_t size, uintpt
 
 /* What was recorded of a call that then failed is no event. */
 void take_back(struct event *event) {
-    if (event && recording) event->words[2] &= ~((uint64_t)63 << 48);
+    if (!event || !recording) return;
+    self->held -= change_of_held(kind_of(event), address_of(event));
+    event->words[2] &= ~((uint64_t)63 << 48);
 }

@@ -32,6 +32,15 @@ uint64_t event_count(void) {
     return all;
 }
 
+/* All events, those of one thread after those of another. */
+void each_thread(void (*visit)(struct event *event, uint32_t thread)) {
+    uint32_t count = thread_count < THREADS ? thread_count : THREADS;
+    for (uint32_t i = 0; i < count; i++) {
+        for (struct event *event = threads[i] ? threads[i]->events : NULL; event < ends[i]; event++)
+            visit(event, i);
+    }
+}
+
 static int is_before(const struct source *one, const struct source *other) {
     if (one->time != other->time) return one->time < other->time;
     return one->thread < other->thread;

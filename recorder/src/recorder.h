@@ -85,7 +85,9 @@ struct thread {
     struct event *next;   /* where its next event goes */
     struct event *limit;  /* up to where it has room */
     uint64_t time;        /* of its latest event */
-    uint64_t others;      /* its events that are no accesses, nor loads that found nothing new */
+    uint64_t others;      /* its events that are no accesses, nor loads that found nothing new; of no two
+                             threads the same */
+    uint64_t held;        /* the sum of the locks that it holds */
     uint32_t number;
     uint32_t depth;       /* of its calls */
     uint32_t beyond;      /* its calls for which there was no frame left */
@@ -109,6 +111,7 @@ struct thread {
 /* What the environment asked for. */
 struct options {
     int keeps_all;
+    int keeps_less;
     int has_stacks;
     uint64_t events;
 };
@@ -144,6 +147,14 @@ void record_block(enum kind kind, const volatile void *at, uint64_t size, uintpt
 void record_range(enum kind kind, const volatile void *at, uint64_t size, uintptr_t place);
 void record_freed(void *at, uint64_t size, uintptr_t place);
 void take_back(struct event *event);
+
+/* repeats.c */
+enum { LATEST = 1 << 17 };
+extern uint64_t latest_accesses[LATEST];
+extern volatile uint64_t renewals;
+void renew(uintptr_t address, uint64_t size);
+uint64_t change_of_held(enum kind kind, uint64_t lock);
+void again_repeats(void);
 
 /* heap.c */
 void *allocate(size_t size, uintptr_t place);

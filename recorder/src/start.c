@@ -27,6 +27,7 @@ void start_recording(int is_child) {
         return;
     }
     options.keeps_all = is_set("WCP_ALL", "1");
+    options.keeps_less = is_set("WCP_LESS", "1");
     options.has_stacks = !is_set("WCP_STACKS", "0");
     options.events = room();
     if (!stacks) start_stacks();

@@ -34,6 +34,7 @@ struct thread *new_thread(void) {
     }
     thread->number = number;
     thread->creator = number;
+    thread->others = (uint64_t)number << 40;
     threads[number] = thread;
     return thread;
 }

@@ -38,6 +38,7 @@ static void see(const struct event *event, uint32_t thread) {
 const char *write_trace(int file) {
     if (setjmp(broken)) return broken_by;
     stop_threads();
+    take_out_alone();
     start_names();
     if (!start_blocks() || !start_objects() || !start_order() || !start_holders() || !start_lines(file))
         return "memory is full";

@@ -78,6 +78,10 @@ extern struct counts counts;
 void stop_threads(void);
 void walk(void (*visit)(const struct event *event, uint32_t thread));
 uint64_t event_count(void);
+void each_thread(void (*visit)(struct event *event, uint32_t thread));
+
+/* alone.c */
+void take_out_alone(void);
 
 /* blocks.c */
 extern struct block *blocks;

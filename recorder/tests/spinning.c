@@ -1,6 +1,8 @@
 /* Races: racy
+ * Levels: -O1 -O2
  * A thread spins until another stores, by loads and by exchanges that change nothing. What it repeats is kept
- * once, so that its memory stays small: status 1 says that it grew. */
+ * once, so that its memory stays small: status 1 says that it grew. At -O0 the loop also loads and stores its
+ * own variables, which is kept each time. */
 #include <pthread.h>
 #include <stdatomic.h>
 #include <sys/resource.h>
