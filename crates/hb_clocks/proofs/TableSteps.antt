@@ -2,6 +2,9 @@
 use Rattle.std.proofs.Common.{◌≡◌, ℕ, ◌<◌, ◌≤◌, ◌+◌, ◌^◌, max, List, length, refl, sym, ap, ap₂, subst, ◌∙◌}
 use Rattle.std.proofs.Common.{arith, inl, inr, ◌⊎◌}
 use Rattle.std.proofs.lemmas.Bool.{cases_eq}
+use Rattle.std.proofs.lemmas.List.{with_items_is}
+use Rattle.std.specs.Vec.{with_items}
+use Rattle.std.specs.declared.vec.Vec.{Vec}
 use Rattle.event_core.specs.declared.ids.ThreadId.{ThreadId}
 use Rattle.event_core.specs.declared.ids.LockId.{LockId}
 use Rattle.event_core.specs.declared.events.Event.{Event}
@@ -15,10 +18,10 @@ use Rattle.hb_clocks.specs.Holds.{hold_at, holds_after, is_outer, effect_by, Has
 use Rattle.hb_clocks.specs.State.{HbState, effect, without_locks, after}
 use Rattle.hb_clocks.specs.Standing.{IsFew, Admits, IsAlone}
 use Rattle.hb_clocks.specs.Tables.{ClockTables, hb_rows, state_from, HasThread}
-use Rattle.hb_clocks.specs.Tables.{HasClocks, KeepsRoom, AreTables}
+use Rattle.hb_clocks.specs.Tables.{HasClocks, KeepsRoom, SameRows, SameMemory, AreTables}
 use Rattle.hb_clocks.specs.Rows.{rows_of, widths_of}
 use Rattle.hb_clocks.proofs.HoldLaws.{AloneAt, of_holder, outer_effect, depths_after, holds_length}
-use Rattle.hb_clocks.proofs.MadeRows.{made_kept, wide_kept}
+use Rattle.hb_clocks.proofs.MadeRows.{made_kept, wide_kept, written_widths}
 
 -- a row that is written twice
 pub row_again : {A : Type 0} (t : ℕ) (g h : A) (f : ℕ → A) → with_row t g (with_row t h f) ≡ with_row t g f
@@ -144,31 +147,42 @@ hold_kept m n (Acquire l) le h = omega arith
 hold_kept m n (Release l) le h = omega arith
 hold_kept m n _ le h = tt
 
+-- rows that are written in their vector, and keep their widths
+pub written_rows : {Z : Type 0} (v : Vec (List ℕ) Z) (read rows : List (List ℕ)) → length read ≡ v.len
+    → read ≡ v.items → length rows ≡ length read → widths_of rows ≡ widths_of read
+    → SameRows v.items (with_items v rows).items
+written_rows v read rows len is same kept = record {
+  count = ap length (with_items_is v rows (same ∙ len)) ∙ same ∙ ap length is;
+  widths = written_widths v read rows len is same kept;
+}
+
 -- what the step keeps of tables and their room
 pub record IsStepped (zeros : List ℕ) (old new : ClockTables) : Type 0 where
   pub tables : AreTables new.width zeros new.po new.hb new.lock
   pub kept : KeepsRoom old new
+  pub memory : SameMemory old new
 
 pub stepped : (zeros : List ℕ) (old : ClockTables) (po hb lock : List (List ℕ)) (holds : List Hold)
     (t : ThreadId)
-    (op : Op) → widths_of po ≡ widths_of old.po → widths_of hb ≡ widths_of old.hb
-    → widths_of lock ≡ widths_of old.lock → holds ≡ holds_after t.0 op old.holds
+    (op : Op) → SameRows old.po po → SameRows old.hb hb → SameRows old.lock lock
+    → holds ≡ holds_after t.0 op old.holds
     → AreTables old.width zeros old.po old.hb old.lock
     → IsStepped zeros old (record old { po = po; hb = hb; lock = lock; holds = holds })
 stepped zeros old po hb lock holds t op p h l d a = record {
   tables = record {
     some = a.some;
     only_zeros = a.only_zeros;
-    po_wide = wide_kept old.width old.po po p a.po_wide;
-    hb_wide = wide_kept old.width old.hb hb h a.hb_wide;
-    lock_wide = wide_kept old.width old.lock lock l a.lock_wide;
+    po_wide = wide_kept old.width old.po po p.widths a.po_wide;
+    hb_wide = wide_kept old.width old.hb hb h.widths a.hb_wide;
+    lock_wide = wide_kept old.width old.lock lock l.widths a.lock_wide;
   };
   kept = λ u o r. record {
-    thread = thread_kept old.width u.0 old.po old.hb po hb p h r.thread;
-    clocks = clocks_kept old.width old.po old.hb old.lock po hb lock o p h l r.clocks;
-    hold = hold_kept (length old.holds) (length holds) o same r.hold;
+    thread = thread_kept old.width u.0 old.po old.hb po hb p.widths h.widths r.thread;
+    clocks = clocks_kept old.width old.po old.hb old.lock po hb lock o p.widths h.widths l.widths r.clocks;
+    hold = hold_kept (length old.holds) (length holds) o (omega (arith, same)) r.hold;
   };
+  memory = record { po = p; hb = h; lock = l; holds = same; thread_room = refl; lock_room = refl };
 }
   where
-    same : length old.holds ≤ length holds
-    same = let e = ap length d ∙ holds_length old.holds t.0 op in omega arith
+    same : length holds ≡ length old.holds
+    same = ap length d ∙ holds_length old.holds t.0 op

@@ -114,6 +114,20 @@ pub record GrownFor (old new : ClockTables) (t : ThreadId) (op : Op) : Type 0 wh
   pub thread_room : new.thread_room ≤ max old.thread_room (2 * threads_for t op)
   pub lock_room : new.lock_room ≤ max old.lock_room (2 * locks_for op)
 
+-- the table has a row for each that it had, with a clock of the same width
+pub record SameRows (old new : List (List ℕ)) : Type 0 where
+  pub count : length new ≡ length old
+  pub widths : widths_of new ≡ widths_of old
+
+-- each table has the clocks and the memory that it had
+pub record SameMemory (old new : ClockTables) : Type 0 where
+  pub po : SameRows old.po new.po
+  pub hb : SameRows old.hb new.hb
+  pub lock : SameRows old.lock new.lock
+  pub holds : length new.holds ≡ length old.holds
+  pub thread_room : new.thread_room ≡ old.thread_room
+  pub lock_room : new.lock_room ≡ old.lock_room
+
 -- the threads that are named are below the width
 abbrev pub NamesWithin : ℕ → Op → Type 0
 NamesWithin w (Fork u) = u.0 < w

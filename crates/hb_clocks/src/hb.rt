@@ -19,7 +19,7 @@ ghost use Rattle.hb_clocks.specs.Work.{more_joins};
 ghost use Rattle.hb_clocks.specs.State.{empty, after, effect, joins_of, latest_mark};
 ghost use Rattle.hb_clocks.specs.Standing.{StandsFor, Admits, IsFew};
 ghost use Rattle.hb_clocks.specs.Tables.{no_tables, state_of, IsReady, KeepsRoom, IsWithin, HasThread};
-ghost use Rattle.hb_clocks.specs.Tables.{GrownFor, IsThreadFor, IsLockOf, threads_for, locks_for};
+ghost use Rattle.hb_clocks.specs.Tables.{GrownFor, SameMemory, IsThreadFor, IsLockOf, threads_for, locks_for};
 ghost use Rattle.hb_clocks.specs.Rows.{IsMade};
 
 use crate::clock::Clock;
@@ -177,6 +177,7 @@ impl HbClocks {
         ensures stands { (limits : Bounds) (log : List AnEvent) → WellFormed limits (log ++ event.now ∷ [])
             → StandsFor log (state_of self.old) → StandsFor (log ++ event.now ∷ []) (state_of self.new) }
         ensures kept { KeepsRoom self.old self.new }
+        ensures memory { SameMemory self.old self.new }
         ensures width { self.new.width ≡ self.old.width }
         ensures work { work.new ≡ more_joins (joins_of (effect event.now (state_of self.old))) work.old }
     {

@@ -9,7 +9,7 @@ use Rattle.lock_queues.specs.Sections.{sections_of}
 use Rattle.lock_queues.specs.Slots.{has_slot, opened_in}
 use Rattle.lock_queues.specs.Queue.{OneQueue, queue_at, no_queue, AreAlike, places_for}
 use Rattle.lock_queues.specs.Queue.{SameMeaning as SameQueue}
-use Rattle.lock_queues.specs.Queues.{SameMeaning, GrownFor, count_slots}
+use Rattle.lock_queues.specs.Queues.{SameMeaning, GrownFor, SamePlaces, count_slots}
 use Rattle.lock_queues.proofs.Lifting.{at_same, at_other, lifted_same, lifted_cell}
 use Rattle.lock_queues.proofs.Searching.{tables}
 
@@ -110,4 +110,14 @@ grown_queues b t l alike numbers most fit numbers_fit = record {
   number_room = numbers_fit;
   places = omega (arith, (alike l).3);
   other_places = λ m away. (alike m).3;
+}
+
+-- the tables have the memory that they had, where the queue that is put in place of another has its memory
+pub places_set : (b : Bounds) (qs : List OneQueue) {ns ms : List ℕ} {r m n : ℕ} (l : ℕ) (q : OneQueue)
+    → l < length qs → q.reserved ≡ (queue_at qs l).reserved
+    → SamePlaces (tables b qs ns r m) (tables b (set qs l q) ms r n)
+places_set b qs l q lt same = record {
+  queues = length-set qs l q;
+  queue_room = refl;
+  places = λ k. ap (λ (f : ℕ → ℕ). f k) (lifted_same (λ (x : OneQueue). x.reserved) qs l q lt same);
 }

@@ -60,6 +60,17 @@ pub record SameMeaning (old new : AllQueues) : Type 0 where
   pub found : found_of new ≡ found_of old
   pub limits : new.limits ≡ old.limits
 
+-- each queue has the memory that it had, and so has their table
+pub record SamePlaces (old new : AllQueues) : Type 0 where
+  pub queues : length new.queues ≡ length old.queues
+  pub queue_room : new.queue_room ≡ old.queue_room
+  pub places : (l : ℕ) → (queue_at new.queues l).reserved ≡ (queue_at old.queues l).reserved
+
+-- and so has the list of the releases' numbers
+pub record SameMemory (old new : AllQueues) : Type 0 where
+  pub places : SamePlaces old new
+  pub numbers : new.number_room ≡ old.number_room
+
 -- how many numbers the releases have of all sections, of those that have a slot, and of one more
 abbrev pub numbers_for : AllQueues → ℕ
 numbers_for v = length v.numbers + (count_slots v.queues + 1) * v.limits.threads

@@ -118,6 +118,7 @@ impl Queue {
         ensures entries { self.new.entries ≡ self.old.entries }
         ensures found { self.new.found ≡ self.old.found }
         ensures width { self.new.width ≡ self.old.width }
+        ensures reserved { self.new.reserved ≡ self.old.reserved }
     {
         let at = find(&self.slots, thread);
         let slot = &mut self.slots[at];
@@ -140,6 +141,7 @@ impl Queue {
         ensures many { length self.new.slots + 1 ≡ length self.old.slots }
         ensures found { self.new.found ≡ self.old.found }
         ensures width { self.new.width ≡ self.old.width }
+        ensures reserved { self.new.reserved ≡ self.old.reserved }
         ensures memory { releases.old.most ≤ releases.new.most }
     {
         let at = find(&self.slots, thread);
@@ -165,6 +167,7 @@ impl Queue {
         ensures entries { self.new.entries ≡ self.old.entries }
         ensures slots { self.new.slots ≡ self.old.slots }
         ensures width { self.new.width ≡ self.old.width }
+        ensures reserved { self.new.reserved ≡ self.old.reserved }
         ensures joins { work.new.joins ≡ work.old.joins }
         ensures most { work.new.comparisons + slice_index self.old.found thread.0
             ≤ work.old.comparisons + result + 1 }

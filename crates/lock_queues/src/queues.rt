@@ -72,7 +72,7 @@ impl Queues {
     ghost use Rattle.hb_clocks.specs.Released.{thread_of, before_of, clock_of};
     ghost use Rattle.hb_clocks.specs.Releases.{before};
     ghost use Rattle.lock_queues.specs.Queues.{closed_of, opened_of, found_of, is_ready, counted_of};
-    ghost use Rattle.lock_queues.specs.Queues.{SameMeaning, GrownFor};
+    ghost use Rattle.lock_queues.specs.Queues.{SameMeaning, GrownFor, SamePlaces, SameMemory};
     ghost use Rattle.lock_queues.specs.Sections.{closed_at, latest_counted};
     ghost use Rattle.lock_queues.specs.Searched.{CountsEarlier, FindsCounted, IsAboveAll, IsLatestBefore};
     ghost use Rattle.lock_queues.specs.Searched.{IsSection};
@@ -156,6 +156,7 @@ impl Queues {
             → StandsFor log self.old → StandsFor (log ++ e ∷ []) self.new }
         ensures ready { is_ready self.new ≡ is_ready self.old }
         ensures limits { self.new.limits ≡ self.old.limits }
+        ensures memory { SameMemory self.old self.new }
     {
         let queue = &mut self.queues[lock.0 as usize];
         queue.enter(thread, mark);
@@ -201,9 +202,10 @@ impl Queues {
             ≤ work.new.comparisons + found_of self.old lock.0 thread.0 }
         ensures joins { work.new.joins ≡ work.old.joins }
 
-        // Once the answer is let go, the thread has found the counted sections.
+        // Once the answer is let go, the thread has found the counted sections. It took no memory.
         ensures* after { sem 𝓛 (Rests the_row self.entry (λ new.
-            FindsCounted self.old new thread.0 lock.0 (counted_of self.old lock.0 clock.now))) }
+            FindsCounted self.old new thread.0 lock.0 (counted_of self.old lock.0 clock.now)
+            × SameMemory self.old new)) }
     {
         self.find_counted(thread, lock, clock, work);
         self.latest(thread, lock)
@@ -233,6 +235,7 @@ impl Queues {
         ensures ready { is_ready self.new
             ≡ with_row thread.0 (with_row lock.0 false (is_ready self.old thread.0)) (is_ready self.old) }
         ensures limits { self.new.limits ≡ self.old.limits }
+        ensures places { SamePlaces self.old self.new }
     {
         // Asked for its clause alone: how many threads there may be at most.
         let _threads = self.limits.threads();
@@ -276,6 +279,7 @@ impl Queues {
         requires few { work.old.comparisons + length (closed_of self.old lock.0) < 2 ^ 63 }
         ensures found { FindsCounted self.old self.new thread.0 lock.0
             (counted_of self.old lock.0 clock.now) }
+        ensures memory { SameMemory self.old self.new }
         ensures latest { IsLatestBefore (counts_of clock.now) (closed_of self.old lock.0)
             (counted_of self.old lock.0 clock.now) }
         ensures joins { work.new.joins ≡ work.old.joins }

@@ -91,6 +91,7 @@ impl ClosedSections {
         requires { length self.old.entries < self.old.most }
         ensures entries { self.new.entries ≡ self.old.entries ++ entry ∷ [] }
         ensures most { self.old.most ≤ self.new.most }
+        ensures reserved { self.new.reserved ≡ self.old.reserved }
     {
         self.first = self.first.or(Some(entry.acquire));
         self.acquires.push_reserved(entry.acquire);

@@ -10,7 +10,7 @@ use Rattle.section_sum.specs.LockSums.{LockSum, no_kept, kept_at, shown, all_sho
 use Rattle.section_sum.specs.Entries.{entries_of, SaysSame}
 use Rattle.section_sum.specs.Locks.{SaySame, HaveGrown}
 use Rattle.section_sum.specs.Sums.{Sums, said_of, is_held, is_ready, noted_of, others_of, GrownFor}
-use Rattle.section_sum.specs.Sums.{KeepsReady, SameNoted, SameOthers, IsReady}
+use Rattle.section_sum.specs.Sums.{KeepsReady, SameNoted, SameOthers, IsReady, LocksGrownFor}
 use Rattle.section_sum.specs.Standing.{StandsFor}
 use Rattle.event_core.specs.declared.events.Event.{Event}
 use Rattle.section_sum.proofs.Basics.{at_set, long_enough}
@@ -24,6 +24,10 @@ use Rattle.section_sum.proofs.Steps.{same_stands}
 abbrev HasAll : List LockId → ℕ → Stored → Type 0
 HasAll held var s = (l : ℕ) → is_held held l ≡ true → has_cell s l var ≡ true
 
+-- each of the locks has a number below n
+abbrev AreBelow : ℕ → List LockId → Type 0
+AreBelow n held = (l : ℕ) → is_held held l ≡ true → l < n
+
 -- the variable has cells under the first so many of the locks, and no other cell joined. Where it had one
 -- under each, all is the same.
 pub record Grown (held : List LockId) (var i : ℕ) (before : Sums) (cells : Stored) (locks : List LockSum)
@@ -33,6 +37,7 @@ pub record Grown (held : List LockId) (var i : ℕ) (before : Sums) (cells : Sto
   pub ready : (l : ℕ) → is_held (take i held) l ≡ true → has_cell cells l var ≡ true
   pub grown : HaveGrown held var before.cells cells
   pub again : HasAll held var before.cells → (cells ≡ before.cells) × (all_shown locks ≡ before.locks)
+  pub few : (n : ℕ) → AreBelow n held → length locks ≤ max (length before.locks) n
 
 pub none_grown : (held : List LockId) (var : ℕ) (cells : Stored) (locks : List LockSum) → AreKept cells locks
     → Grown held var 0 (sums cells locks) cells locks
@@ -43,6 +48,7 @@ none_grown held var cells locks kept = record {
   ready = λ l on. absurd (false≢true on);
   grown = λ l v off. refl;
   again = λ all. (refl, refl);
+  few = λ n below. omega (arith, length-map locks shown);
 }
 
 module _ {held : List LockId} {var i : ℕ} {before : Sums} {cells : Stored} {locks : List LockSum}
@@ -65,6 +71,7 @@ module _ {held : List LockId} {var i : ℕ} {before : Sums} {cells : Stored} {lo
         let below = has_lock cells locks l var g.kept (ltb-true _ _ (still l on all)) in
         let was = g.again all in
         (was.0, ap all_shown (long_enough no_kept locks after l below more most alike) ∙ was.1);
+    few = λ n below. omega (arith, g.few n below, below l on, most);
   }
 
   -- a cell joins for one of the locks, or none
@@ -81,6 +88,7 @@ module _ {held : List LockId} {var i : ℕ} {before : Sums} {cells : Stored} {lo
     again = λ all.
         let there = still l on all in
         let was = g.again all in (none_joins grown there ∙ was.0, same_shown there ∙ was.1);
+    few = λ n below. omega (arith, g.few n below, length-set locks l k);
   }
     where
       by_each : (m : ℕ) → (kept_at (set locks l k) m).by ≡ (kept_at locks m).by
@@ -119,6 +127,7 @@ module _ {held : List LockId} {var i : ℕ} {before : Sums} {cells : Stored} {lo
     ready = held_each (λ l. has_cell cells l var ≡ true) held i m h g.ready there;
     grown = g.grown;
     again = g.again;
+    few = g.few;
   }
 
 -- the lock at hand has grown, once locks have joined
@@ -143,6 +152,7 @@ pub record Prepared (held : List LockId) (var : ℕ) (old new : Sums) : Type 0 w
   pub again : IsReady old held var → new ≡ old
   pub kept : KeepsReady old new
   pub grown : GrownFor old new held var
+  pub locks : LocksGrownFor old new held
   pub noted : SameNoted old new
   pub others : SameOthers old new
   pub stands : (log : List Event) → StandsFor log old → StandsFor log new
@@ -156,6 +166,7 @@ prepared {before = before} {cells = cells} {locks = locks} g =
       again = λ ready i. record { cells = (g.again ready).0 i; locks = (g.again ready).1 i };
       kept = λ l v. (same l).ready v;
       grown = g.grown;
+      locks = λ n below. omega (arith, g.few n below, length-map locks shown);
       noted = λ t l v k. (same l).noted t v k;
       others = λ l v k t. (same l).others v k t;
       stands = λ log. same_stands log _ _ (λ t l v k. (same l).noted t v k)

@@ -1,14 +1,15 @@
 -- The sections that an access meets, in the words that callers see.
 use Rattle.std.proofs.Common.{◌≡◌, ℕ, ◌≤◌, Bool, true, false, cond, List, nat_eq}
-use Rattle.std.proofs.Common.{[], ◌∷◌, length, length-append, refl, sym, subst, arith}
+use Rattle.std.proofs.Common.{[], ◌∷◌, length, length-append, refl, sym, subst, ◌∙◌, arith}
 use Rattle.std.specs.Prelude.{zero, suc}
+use Rattle.std.proofs.lemmas.List.{length-map}
 use Rattle.event_core.specs.declared.events.AccessKind.{AccessKind}
 use Rattle.event_core.specs.declared.events.AccessKind.TheVariants.{Read, Write}
 use Rattle.section_sum.specs.Newest.{section}
 use Rattle.section_sum.specs.Cells.{Stored}
 use Rattle.section_sum.specs.LockSums.{LockSum, kept_at, shown, all_shown}
 use Rattle.section_sum.specs.Entries.{Entries, entries_of, sources_on}
-use Rattle.section_sum.specs.Sums.{Sums, said_of, others_of, sources_of}
+use Rattle.section_sum.specs.Sums.{Sums, said_of, others_of, sources_of, SameMemory}
 use Rattle.section_sum.specs.Sources.{most_sources}
 
 abbrev pub sums : Stored → List LockSum → Sums
@@ -30,6 +31,15 @@ seen P cells new locks more is h =
     subst (λ (s : Sums). P (said_of s) (said_of (sums new more))) is
     (subst (P (said_of (sums cells locks))) (sym (said_as new more))
     (subst (λ f. P f (entries_of new more)) (sym (said_as cells locks)) h))
+
+-- calls that keep the cells and the locks that are known keep the memory
+pub same_memory : {now : Sums} (cells new : Stored) (locks more : List LockSum) → sums cells locks ≡ now
+    → new.places ≡ cells.places → length more ≡ length locks → SameMemory now (sums new more)
+same_memory cells new locks more is places count =
+    subst (λ (s : Sums). SameMemory s (sums new more)) is (record {
+      cells = places;
+      locks = length-map more shown ∙ count ∙ sym (length-map locks shown);
+    })
 
 -- the sections that an access meets
 pub meets : (s : Sums) (l v : ℕ) (k : AccessKind) (t : ℕ)

@@ -1,5 +1,5 @@
 -- What is kept of all locks, in numbers.
-use Rattle.std.specs.Prelude.{ℕ, ◌≡◌, Bool, true, false, ◌&&◌, ◌++◌, List, nat_eq}
+use Rattle.std.specs.Prelude.{ℕ, ◌≡◌, ◌<◌, ◌≤◌, Bool, true, false, ◌&&◌, ◌++◌, List, length, max, nat_eq}
 use Rattle.std.specs.List.{list_any}
 use Rattle.event_core.specs.declared.ids.LockId.{LockId}
 use Rattle.event_core.specs.declared.events.AccessKind.{AccessKind}
@@ -66,6 +66,17 @@ KeepsReady old new = (l v : ℕ) → is_ready old l v ≡ true → is_ready new 
 abbrev pub GrownFor : Sums → Sums → List LockId → ℕ → Type 0
 GrownFor old new held var = (l v : ℕ) → (is_held held l && nat_eq v var) ≡ false
     → is_ready new l v ≡ is_ready old l v
+
+-- no more locks are known than there were, or than up to those of the list
+abbrev pub LocksGrownFor : Sums → Sums → List LockId → Type 0
+LocksGrownFor old new held = (n : ℕ) → ((l : ℕ) → is_held held l ≡ true → l < n)
+    → length new.locks ≤ max (length old.locks) n
+
+-- the same pairs of a lock and a variable have cells, and as many locks are known. There is memory for at
+-- most twice as many, and one
+pub record SameMemory (old new : Sums) : Type 0 where
+  pub cells : new.cells.places ≡ old.cells.places
+  pub locks : length new.locks ≡ length old.locks
 
 -- the numbers of the sections that an access of the kind by the thread meets under the lock: a load meets
 -- the newest with a store, and a store that and the newest with a load

@@ -1,5 +1,5 @@
 //! What is kept of all locks. A lock of which nothing is kept saw no access.
-ghost use Rattle.std.specs.Prelude.{◌≡◌, ℕ, true};
+ghost use Rattle.std.specs.Prelude.{◌≡◌, ℕ, length, true};
 ghost use Rattle.section_sum.specs.LockSums.{AreKept, IsFitted};
 ghost use Rattle.section_sum.specs.Entries.{entries_of, sources_on, IsAlone};
 ghost use Rattle.section_sum.specs.Sums.{is_held};
@@ -39,6 +39,8 @@ pub fn note_held(
     ensures kept { AreKept cells.new locks.new.items }
     ensures noted { HaveNoted thread.0 held.now var.0 kind (entries_of cells.old locks.old.items)
         (entries_of cells.new locks.new.items) }
+    ensures places { cells.new.places ≡ cells.old.places }
+    ensures count { length locks.new.items ≡ length locks.old.items }
     ensures fitted { IsFitted locks.old → IsFitted locks.new }
 {
     for lock in held {
@@ -59,6 +61,8 @@ pub fn close_under(
     ensures kept { AreKept cells.new locks.new.items }
     ensures closed { HaveClosed thread.0 lock.0 number (entries_of cells.old locks.old.items)
         (entries_of cells.new locks.new.items) }
+    ensures places { cells.new.places ≡ cells.old.places }
+    ensures count { length locks.new.items ≡ length locks.old.items }
     ensures fitted { IsFitted locks.old → IsFitted locks.new }
 {
     let at = lock.0 as usize;

@@ -8,7 +8,8 @@ ghost use Rattle.event_core.specs.Log.{depth};
 ghost use Rattle.event_core.specs.Refusal.{WellFormed};
 ghost use Rattle.event_core.specs.Closed.{EndsSection, ended};
 ghost use Rattle.section_sum.specs.Sums.{noted_of, others_of, sources_of, is_access, IsReady, IsAlone};
-ghost use Rattle.section_sum.specs.Sums.{SameNoted, SameOthers, KeepsReady, GrownFor};
+ghost use Rattle.section_sum.specs.Sums.{SameNoted, SameOthers, KeepsReady, GrownFor, LocksGrownFor};
+ghost use Rattle.section_sum.specs.Sums.{SameMemory};
 ghost use Rattle.section_sum.specs.Sources.{left, most_sources};
 ghost use Rattle.section_sum.specs.Standing.{StandsFor, IsAccessBy, AreHeld};
 ghost use Rattle.section_sum.specs.Paired.{AreSources};
@@ -74,6 +75,7 @@ impl Summaries {
         ensures again { IsReady self.old held.now var.0 → IsOk result × (self.new ≡ self.old) }
         ensures kept { KeepsReady self.old self.new }
         ensures grown { GrownFor self.old self.new held.now var.0 }
+        ensures locks { LocksGrownFor self.old self.new held.now }
 
         // In any case the same is known.
         ensures noted { SameNoted self.old self.new }
@@ -91,6 +93,7 @@ impl Summaries {
         ensures again { IsReady self.old held.now var.0 → IsOk result × (self.new ≡ self.old) }
         ensures kept { KeepsReady self.old self.new }
         ensures grown { GrownFor self.old self.new held.now var.0 }
+        ensures locks { LocksGrownFor self.old self.new held.now }
 
         // In any case the same is known.
         ensures noted { SameNoted self.old self.new }
@@ -131,6 +134,7 @@ impl Summaries {
             → IsAccessBy thread var kind e → AreHeld log thread held.now
             → StandsFor log self.old → StandsFor (log ++ e ∷ []) self.new }
         ensures kept { KeepsReady self.old self.new }
+        ensures memory { SameMemory self.old self.new }
     {
         note_held(&mut self.cells, &mut self.locks, thread, held, var, kind);
     }
@@ -148,6 +152,7 @@ impl Summaries {
             → EndsSection log thread lock e → number ≡ ended log lock + 1
             → StandsFor log self.old → StandsFor (log ++ e ∷ []) self.new }
         ensures kept { KeepsReady self.old self.new }
+        ensures memory { SameMemory self.old self.new }
     {
         close_under(&mut self.cells, &mut self.locks, thread, lock, number);
     }

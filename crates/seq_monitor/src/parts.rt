@@ -7,6 +7,7 @@ ghost use Rattle.event_core.specs.Verdict.{IsVerdict};
 ghost use Rattle.access_check.specs.Standing.{StandsFor as AccessesStand};
 ghost use Rattle.wcp_clocks.specs.Parts.{width_of, SameLimits, IsAccess, KeepsReady, Fits};
 ghost use Rattle.wcp_clocks.specs.Parts.{IsWithin as ClocksAreWithin, IsReady as ClocksAreReady};
+ghost use Rattle.wcp_clocks.specs.Growth.{SameMemory as InClocks};
 ghost use Rattle.wcp_clocks.specs.Standing.{StandsFor as ClocksStandFor};
 ghost use Rattle.wcp_clocks.specs.WorkWithin.{IsWorkOf};
 ghost use Rattle.seq_monitor.specs.Monitored.{slots_for, HasRoomFor};
@@ -82,6 +83,7 @@ pub(crate) fn judge(clocks: &mut WcpClocks, accesses: &Accesses, event: &Event) 
         → ClocksStandFor past clocks.old → ClocksStandFor (past ++ event.now ∷ []) clocks.new }
     ensures work { IsWorkOf event.now clocks.old clocks.new }
     ensures kept { IsAccess event.now.op → KeepsReady clocks.old clocks.new }
+    ensures memory { InClocks clocks.old clocks.new event.now.op }
     ensures limits { SameLimits clocks.old clocks.new }
 {
     clocks.advance(event);

@@ -76,7 +76,7 @@ module _ {m : Limits} {before after : PassView} (l : LockId) (later : HasComeTo 
       (subst (λ xs. 0 < depth xs t l) (sym (take-length log)) deep) in
       holder_is log l t (subst (λ xs. last_acquirer xs l ≡ Some t) (take-length log) last) deep
 
--- of a refused release by the lock's holder: the holder has been joined
+-- a release is refused to the lock's holder only where it has been joined
 only_ended : {m : Limits} {before after : PassView} (l : LockId) (site : SiteId) (answer : Refusal)
     → HasComeTo m before after → after.mine ≡ before.mine
     → refusal m (log_of after.seen) (release_by before.thread l site) ≡ Some answer → HoldsLock m l before
@@ -91,18 +91,22 @@ only_ended {m} {before} {after} l site answer later mine why holds =
     go true joined is = record { answer = cc; joined = joined }
     go false joined is = absurd (cc)
 
+pub holder_has_ended : {m : Limits} {before after : PassView} (l : LockId) (site : SiteId)
+    (r : Result Reply Refusal) → HasComeTo m before after
+    → IfErr r (λ answer. Declined m (release_by before.thread l site) before after answer)
+    → IfErr r (λ answer. refusal m (log_of after.seen) (release_by before.thread l site) ≡ Some answer)
+    → IfErr r (λ answer. HoldsLock m l before → HasEnded before.thread after answer)
+holder_has_ended l site (Ok reply) later declined why = tt
+holder_has_ended l site (Err answer) later declined why = only_ended l site answer later declined.mine why
+
 -- what a release answers is the end of a section
 pub is_released : {m : Limits} {before after : PassView} (l : LockId) (site : SiteId)
-    (r : Result Reply Refusal) → HasComeTo m before after
+    (r : Result Reply Refusal)
     → IfOk r (λ reply. Accepted m (release_by before.thread l site) before after reply)
     → IfErr r (λ answer. Declined m (release_by before.thread l site) before after answer)
     → IfErr r (λ answer. refusal m (log_of after.seen) (release_by before.thread l site) ≡ Some answer)
+    → IfErr r (λ answer. HoldsLock m l before → HasEnded before.thread after answer)
     → IsReleased m l site before after
-is_released l site (Ok reply) later accepted declined why = inl (reply, accepted)
-is_released l site (Err answer) later accepted declined why =
-    inr (record {
-      mine = declined.mine;
-      answer = answer;
-      why = why;
-      ended = only_ended l site answer later declined.mine why;
-    })
+is_released l site (Ok reply) accepted declined why ended = inl (reply, accepted)
+is_released l site (Err answer) accepted declined why ended =
+    inr (record { mine = declined.mine; answer = answer; why = why; ended = ended })

@@ -18,6 +18,7 @@ ghost use Rattle.live_monitor.specs.Calls.{
   HasComeTo,
 };
 ghost use Rattle.live_monitor.specs.Tries.{one_more, AreUsedUp};
+ghost use Rattle.traced_thread.specs.Sections.{HoldsLock, HasEnded};
 
 use crate::handle::{TracedThread, take};
 use event_core::{LockId, Refusal, Reply, SiteId, SwapReply, VarId};
@@ -122,7 +123,8 @@ impl<'m, N: Name> TracedThread<'m, N> {
         answer
     }
 
-    /// Releases the lock. It is never refused for want of memory.
+    /// Releases the lock. It is never refused for want of memory, and to a thread that holds the lock only
+    /// once that was joined.
     #[inline(always)]
     pub fn release<R: Wait>(&mut self, rt: &R, lock: LockId, site: SiteId) -> Result<Reply, Refusal>
         ensures later { HasComeTo N.limits self.old self.new }
@@ -132,6 +134,8 @@ impl<'m, N: Name> TracedThread<'m, N> {
             (λ answer. Declined N.limits (release_by self.old.thread lock site) self.old self.new answer) }
         ensures refused { IfErr result (λ answer.
             refusal N.limits (log_of self.new.seen) (release_by self.old.thread lock site) ≡ Some answer) }
+        ensures ended { IfErr result (λ answer.
+            HoldsLock N.limits lock self.old → HasEnded self.old.thread self.new answer) }
     {
         let (pass, answer) = self.monitor.release(rt, take(&mut self.pass), lock, site);
         self.pass = Some(pass);

@@ -16,6 +16,7 @@ use Rattle.hb_clocks.specs.Tables as hb_tables
 use Rattle.hb_clocks.specs.Work.{Done, more_joins}
 use Rattle.lock_queues.specs.Queues.{closed_of}
 use Rattle.section_sum.specs.Sums.{Sums, noted_of, is_access, SameOthers, KeepsReady as sum_rooms}
+use Rattle.section_sum.specs.Sums.{SameMemory as SameSums}
 use Rattle.wcp_laws.specs.Step.{effect, join_all}
 use Rattle.wcp_clocks.specs.Parts.{Parts, hb_of, state_of, Fits, HasPlaces, KeepsReady}
 use Rattle.wcp_clocks.specs.HeldLists.{list_at, numbers_of, held_of}
@@ -23,6 +24,7 @@ use Rattle.wcp_clocks.specs.StrictRows.{StrictTables, strict_of, SameRoom}
 use Rattle.wcp_clocks.specs.Stepping.{IsStepBy}
 use Rattle.wcp_clocks.specs.Met.{met_clocks, met_under, joins_under, AreNumbers}
 use Rattle.wcp_clocks.proofs.Growth.{rows_ready}
+use Rattle.wcp_clocks.proofs.Memory.{queues_stay, held_stay}
 use Rattle.wcp_clocks.proofs.RowsKept.{room_kept}
 use Rattle.wcp_clocks.proofs.Passing.{joins_told}
 use Rattle.wcp_clocks.proofs.EffectWords.{same_sources, same_noted, same_clocks, same_numbers}
@@ -75,10 +77,11 @@ module _ (e : Event) (x : VarId) (k : AccessKind) (old : Parts)
       → hb_tables.state_of tables ≡ hb.after e (hb_of old) → tables.width ≡ old.hb.width
       → hb_tables.KeepsRoom old.hb tables
       → work ≡ more_joins (hb.joins_of (hb.effect e (hb_of old))) joined → sum_rooms old.sums sums
+      → hb_tables.SameMemory old.hb tables → SameSums old.sums sums
       → IsStepBy e (Accesses x k) old
       (record { hb = tables; rows = taken; sums = sums; queues = old.queues; held = old.held; work = work })
   access_step locks taken tables sums joined work of threads lock room joins made comparisons noted others
-      numbers exact width order done rooms =
+      numbers exact width order done rooms order_memory sums_memory =
       record {
         hb = exact;
         order_room = order;
@@ -105,7 +108,14 @@ module _ (e : Event) (x : VarId) (k : AccessKind) (old : Parts)
             omega arith);
         comparisons = ap (λ (d : Done). d.comparisons) done ∙ comparisons;
         no_fewer = tt;
-        room = room;
+        memory = record {
+          order = order_memory;
+          rows = room;
+          sums = sums_memory;
+          queues = (queues_stay old.queues).places;
+          numbers = λ other. refl;
+          held = held_stay old.held;
+        };
         limits = record { width = width; limits = refl };
         kept = access_keeps old taken tables sums work order room rooms;
       }

@@ -11,6 +11,7 @@ mod Passing
 mod Rows
 mod RowsGrown
 mod RowsKept
+pub mod Memory
 mod MetNumbers
 mod MetReleases
 pub mod Standing

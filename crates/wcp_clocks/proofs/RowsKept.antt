@@ -20,7 +20,13 @@ pub seen_kept : {found now : StrictTables} {threads locks : List (List ℕ)} →
     → SameRoom now (record found { thread = threads; lock = locks })
 seen_kept {found} {now} {threads} {locks} is same_thread same_lock =
     subst (λ (v : StrictTables). SameRoom v (record found { thread = threads; lock = locks })) is
-    (record { width = refl; thread = same_thread; lock = same_lock })
+    (record {
+      width = refl;
+      thread = same_thread;
+      lock = same_lock;
+      thread_room = refl;
+      lock_room = refl;
+    })
 
 -- the rows that are named are among those that are read
 module _ {found now : StrictTables} {zeros : List ℕ} {t : ℕ} {read : List (List ℕ)} (is : found ≡ now)
@@ -34,13 +40,25 @@ module _ {found now : StrictTables} {zeros : List ℕ} {t : ℕ} {read : List (L
       (made_within (subst (λ (v : StrictTables). HasLock v t) (sym is) has).made a.some)
 
 pub room_same : (c : StrictTables) → SameRoom c c
-room_same c = record { width = refl; thread = refl; lock = refl }
+room_same c = record { width = refl; thread = refl; lock = refl; thread_room = refl; lock_room = refl }
 
 pub room_back : {a b : StrictTables} → SameRoom a b → SameRoom b a
-room_back p = record { width = sym p.width; thread = sym p.thread; lock = sym p.lock }
+room_back p = record {
+  width = sym p.width;
+  thread = sym p.thread;
+  lock = sym p.lock;
+  thread_room = sym p.thread_room;
+  lock_room = sym p.lock_room;
+}
 
 pub room_then : {a b c : StrictTables} → SameRoom a b → SameRoom b c → SameRoom a c
-room_then p q = record { width = q.width ∙ p.width; thread = q.thread ∙ p.thread; lock = q.lock ∙ p.lock }
+room_then p q = record {
+  width = q.width ∙ p.width;
+  thread = q.thread ∙ p.thread;
+  lock = q.lock ∙ p.lock;
+  thread_room = q.thread_room ∙ p.thread_room;
+  lock_room = q.lock_room ∙ p.lock_room;
+}
 
 -- a clock that was made stays
 pub thread_kept : {a b : StrictTables} → SameRoom a b → (t : ℕ) → HasThread a t → HasThread b t

@@ -65,7 +65,7 @@ module _ {e : Event} {old new : Parts} (by : IsStep e old new) where
 
   pub kept_parts : AreParts old → IsReady old e.thread e.op → AreParts new
   kept_parts parts ready = record {
-    rows = by.room.width ∙ parts.rows ∙ sym by.limits.width;
+    rows = by.memory.rows.width ∙ parts.rows ∙ sym by.limits.width;
     queues = ap (λ b. b.threads) by.limits.limits ∙ parts.queues ∙ sym by.limits.width;
     numbers = by.numbers;
     held_thread = λ t l h. thread l t (held_before e.thread.0 e.op (hb_of old).depth t l (was t l h));
@@ -75,18 +75,19 @@ module _ {e : Event} {old new : Parts} (by : IsStep e old new) where
   }
     where
       back : SameRoom new.rows old.rows
-      back = room_back by.room
+      back = room_back by.memory.rows
 
       was : (t l : ℕ) → 0 < (hb_of new).depth t l → 0 < depth_after e.thread.0 e.op (hb_of old).depth t l
       was t l h = subst (λ (s : hb.HbState). 0 < s.depth t l) by.hb h
 
       thread : (l t : ℕ) → (0 < (hb_of old).depth t l) ⊎ IsTaken e.thread.0 e.op t l → HasThread new.rows t
-      thread l t (inl h) = thread_kept by.room t (parts.held_thread t l h)
-      thread l t (inr p) = thread_kept by.room t (subst (HasThread old.rows) (sym p.0) ready.rows.thread)
+      thread l t (inl h) = thread_kept by.memory.rows t (parts.held_thread t l h)
+      thread l t (inr p) =
+          thread_kept by.memory.rows t (subst (HasThread old.rows) (sym p.0) ready.rows.thread)
 
       lock : (l t : ℕ) → (0 < (hb_of old).depth t l) ⊎ IsTaken e.thread.0 e.op t l → HasLock new.rows l
-      lock l t (inl h) = lock_kept by.room l (parts.held_lock t l h)
-      lock l t (inr p) = lock_kept by.room l (subst (λ m. HasLock old.rows m) (sym p.3)
+      lock l t (inl h) = lock_kept by.memory.rows l (parts.held_lock t l h)
+      lock l t (inr p) = lock_kept by.memory.rows l (subst (λ m. HasLock old.rows m) (sym p.3)
           (subst (λ (op : Op). HasNamed old.rows op) p.2 ready.rows.named))
 
   pub access_kept : (o : Op) → e.op ≡ o → IsAccess o → KeepsReady old new

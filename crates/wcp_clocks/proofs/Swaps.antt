@@ -19,6 +19,7 @@ store_grown : (old new : Parts) (t : ThreadId) (x : VarId) → GrownFor old new 
     → GrownFor old new t (Store x)
 store_grown old new t x g = record {
   accesses = g.accesses;
+  locks = g.locks;
   sections = g.sections;
   holds = g.holds;
 }

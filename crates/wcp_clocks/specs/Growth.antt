@@ -5,13 +5,16 @@ use Rattle.event_core.specs.declared.ids.LockId.{LockId}
 use Rattle.event_core.specs.declared.events.Op.{Op}
 use Rattle.event_core.specs.declared.events.Op.TheVariants.{Load, Store, Acquire}
 use Rattle.hb_clocks.specs.Tables.{ClockTables, state_of as order_of, KeepsRoom as KeepsOrder}
-use Rattle.hb_clocks.specs.Tables.{GrownFor as OrderGrownFor}
+use Rattle.hb_clocks.specs.Tables.{GrownFor as OrderGrownFor, SameMemory as SameOrderMemory}
 use Rattle.section_sum.specs.Sums.{Sums, SameNoted, SameOthers, KeepsReady as KeepsSums, is_held}
-use Rattle.section_sum.specs.Sums.{is_ready as has_cell}
+use Rattle.section_sum.specs.Sums.{is_ready as has_cell, LocksGrownFor, SameMemory as SameSumsMemory}
 use Rattle.lock_queues.specs.Queues.{AllQueues as Queues, GrownFor as QueuesGrownFor, SameMeaning, is_ready}
-use Rattle.wcp_clocks.specs.Parts.{Parts, AreOrdered}
-use Rattle.wcp_clocks.specs.HeldLists.{HeldList, HaveGrownFor, list_at, held_of, KeepsPlaces}
-use Rattle.wcp_clocks.specs.StrictRows.{StrictTables, SameClocks, KeepsRoom, GrownFor as RowsGrownFor}
+use Rattle.lock_queues.specs.Queues.{SamePlaces as SameQueuePlaces}
+use Rattle.event_core.specs.Effect.{Effect, Closes}
+use Rattle.wcp_clocks.specs.Parts.{Parts, AreOrdered, IsRelease}
+use Rattle.wcp_clocks.specs.HeldLists.{HeldList, HaveGrownFor, list_at, held_of, KeepsPlaces, SamePlaces}
+use Rattle.wcp_clocks.specs.StrictRows.{StrictTables, SameClocks, KeepsRoom, SameRoom}
+use Rattle.wcp_clocks.specs.StrictRows.{GrownFor as RowsGrownFor}
 
 -- the clocks have as much room as before, or more, and their numbers are as they were
 pub record ClocksHaveGrown (old new : ClockTables) (was is : StrictTables) : Type 0 where
@@ -68,6 +71,7 @@ HoldsGrownFor old new t _ = new ≡ old
 -- room was made for the operation alone: its access, under the locks that its thread holds, or its section
 pub record GrownFor (old new : Parts) (t : ThreadId) (op : Op) : Type 0 where
   pub accesses : AccessesGrownFor old.sums new.sums (list_at old.held t.0).locks op
+  pub locks : LocksGrownFor old.sums new.sums (list_at old.held t.0).locks
   pub sections : SectionsGrownFor old.queues new.queues t op
   pub holds : HoldsGrownFor old.held new.held t op
 
@@ -75,3 +79,28 @@ pub record GrownFor (old new : Parts) (t : ThreadId) (op : Op) : Type 0 where
 pub record MadeFor (old new : Parts) (t : ThreadId) (op : Op) : Type 0 where
   pub order : OrderGrownFor old.hb new.hb t op
   pub rows : RowsGrownFor old.rows new.rows t op
+
+-- the event closes a section
+abbrev pub IsClosing : Effect → Type 0
+IsClosing (Closes l) = Unit {0}
+IsClosing _ = ⊥
+
+-- each part has the memory that it had. Of the list of the releases' numbers nothing is said where one may
+-- join it
+pub record KeepsMemory (Joins : Type 0) (old new : Parts) : Type 0 where
+  pub order : SameOrderMemory old.hb new.hb
+  pub rows : SameRoom old.rows new.rows
+  pub sums : SameSumsMemory old.sums new.sums
+  pub queues : SameQueuePlaces old.queues new.queues
+  pub numbers : (Joins → ⊥) → new.queues.number_room ≡ old.queues.number_room
+  pub held : SamePlaces old.held new.held
+
+abbrev pub SameMemory : Parts → Parts → Op → Type 0
+SameMemory old new op = KeepsMemory (IsRelease op) old new
+
+-- room was made for the operation alone, and then its event took no more
+pub record TakenFor (old new : Parts) (t : ThreadId) (op : Op) : Type 0 where
+  pub ready : Parts
+  pub grown : GrownFor old ready t op
+  pub made : MadeFor old ready t op
+  pub memory : SameMemory ready new op

@@ -42,6 +42,11 @@ pub record HaveGrownFor (old new : List HeldList) (t : ℕ) : Type 0 where
   pub places : places_at new t ≤ max (places_at old t) (2 * (length (list_at old t).locks + 1))
   pub others : (u : ℕ) → (u ≡ t → ⊥) → list_at new u ≡ list_at old u
 
+-- there are as many lists, each with the places that it had
+pub record SamePlaces (old new : List HeldList) : Type 0 where
+  pub lists : length new ≡ length old
+  pub places : (t : ℕ) → places_at new t ≡ places_at old t
+
 -- there is no less room
 abbrev pub KeepsPlaces : List HeldList → List HeldList → Type 0
 KeepsPlaces old new = (t : ℕ) → 0 < room_at old t → 0 < room_at new t

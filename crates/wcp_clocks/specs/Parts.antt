@@ -178,6 +178,10 @@ NamesWithin p _ = Unit {0}
 abbrev pub IsWithin : Parts → ThreadId → Op → Type 0
 IsWithin p t op = (t.0 < width_of p) × NamesWithin p op
 
+abbrev pub IsRelease : Op → Type 0
+IsRelease (Release l) = Unit {0}
+IsRelease _ = ⊥
+
 abbrev pub IsAccess : Op → Type 0
 IsAccess (Load x) = Unit {0}
 IsAccess (Store x) = Unit {0}

@@ -13,7 +13,8 @@ use Rattle.wcp_laws.specs.Conditions.{found_at}
 use Rattle.wcp_clocks.specs.Parts.{Parts, hb_of, state_of, found_in, SameLimits, most_joins, joins_at}
 use Rattle.wcp_clocks.specs.Parts.{FewComparisons, NoFewer, KeepsReady, IsReady, Fits}
 use Rattle.wcp_clocks.specs.HeldLists.{held_of}
-use Rattle.wcp_clocks.specs.StrictRows.{strict_of, SameRoom}
+use Rattle.wcp_clocks.specs.StrictRows.{strict_of}
+use Rattle.wcp_clocks.specs.Growth.{IsClosing, KeepsMemory}
 use Rattle.wcp_clocks.specs.Met.{met_clocks, AreNumbers}
 
 -- the event has the effect k, there is room for it, and the numbers are as it asks
@@ -51,7 +52,7 @@ pub record IsStepBy (e : Event) (k : Effect) (old new : Parts) : Type 0 where
   pub joins_exact : new.work.joins ≡ old.work.joins + joins_at e.thread k old
   pub comparisons : FewComparisons e.thread k old new
   pub no_fewer : NoFewer e.thread k old new
-  pub room : SameRoom old.rows new.rows
+  pub memory : KeepsMemory (IsClosing k) old new
   pub limits : SameLimits old new
   pub kept : KeepsFor k old new
 

@@ -59,11 +59,14 @@ pub record KeepsRoom (old new : StrictTables) : Type 0 where
   pub thread : (t : ℕ) → HasThread old t → HasThread new t
   pub lock : (l : ℕ) → HasLock old l → HasLock new l
 
--- there is room where there was, and nowhere else: each clock is as wide as it was
+-- there is room where there was, and nowhere else: each clock is as wide as it was, and there is memory for
+-- as many
 pub record SameRoom (old new : StrictTables) : Type 0 where
   pub width : new.width ≡ old.width
   pub thread : widths_of new.thread ≡ widths_of old.thread
   pub lock : widths_of new.lock ≡ widths_of old.lock
+  pub thread_room : new.thread_room ≡ old.thread_room
+  pub lock_room : new.lock_room ≡ old.lock_room
 
 -- there may be other room, and all else is as it was
 pub record SameClocks (old new : StrictTables) : Type 0 where

@@ -27,6 +27,7 @@ ghost use Rattle.wcp_clocks.specs.Parts.{hb_of, state_of, width_of, limits_of, w
 ghost use Rattle.wcp_clocks.specs.Parts.{IsReady, Fits, KeepsReady, SameLimits, most_joins};
 ghost use Rattle.wcp_clocks.specs.Parts.{joins_at, FewComparisons, NoFewer, IsAccess};
 ghost use Rattle.wcp_clocks.specs.MetReleases.{rest, most_threads, together, IsBelowSource};
+ghost use Rattle.wcp_clocks.specs.Growth.{SameMemory};
 ghost use Rattle.wcp_clocks.specs.Standing.{StandsFor};
 
 mod effects;
@@ -118,6 +119,7 @@ impl WcpClocks {
         ensures no_fewer { NoFewer event.now.thread (effect event.now (state_of self.old)) self.old
             self.new }
         ensures kept { IsAccess event.now.op → KeepsReady self.old self.new }
+        ensures memory { SameMemory self.old self.new event.now.op }
         ensures limits { SameLimits self.old self.new }
     {
         self.step(event);

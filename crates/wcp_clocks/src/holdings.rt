@@ -4,7 +4,7 @@ ghost use Rattle.std.specs.Prelude.{◌≢◌, ◌*◌, max, vec_capacity, vec_l
 ghost use Rattle.event_core.specs.Rows.{with_row};
 ghost use Rattle.wcp_laws.specs.Step.{without};
 ghost use Rattle.wcp_clocks.specs.HeldLists.{list_at, held_of, room_at, numbers_of, without_lock};
-ghost use Rattle.wcp_clocks.specs.HeldLists.{KeepsPlaces, HaveGrownFor, places_at};
+ghost use Rattle.wcp_clocks.specs.HeldLists.{KeepsPlaces, SamePlaces, HaveGrownFor, places_at};
 
 use event_core::{LockId, OutOfMemory, ThreadId, grow_to, reserve};
 use std::alloc::Global;
@@ -14,6 +14,7 @@ use std::marker::Model;
 fn take_out(locks: &mut Vec<LockId>, lock: LockId)
     ensures locks { locks.new.items ≡ without_lock lock locks.old.items }
     ensures room { vec_capacity locks.old - vec_len locks.old ≤ vec_capacity locks.new - vec_len locks.new }
+    ensures memory { vec_capacity locks.new ≡ vec_capacity locks.old }
 {
     locks.retain(|held| *held != lock);
 }
@@ -71,7 +72,8 @@ impl Holding {
     // One lock more.
     fn add(&mut self, lock: LockId)
         requires { 0 < self.old.room }
-        ensures { self.new.locks ≡ self.old.locks ++ lock ∷ [] }
+        ensures locks { self.new.locks ≡ self.old.locks ++ lock ∷ [] }
+        ensures places { length self.new.locks + self.new.room ≡ length self.old.locks + self.old.room }
     {
         self.locks.push_reserved(lock);
     }
@@ -80,6 +82,7 @@ impl Holding {
     fn remove(&mut self, lock: LockId)
         ensures locks { self.new.locks ≡ without_lock lock self.old.locks }
         ensures room { self.old.room ≤ self.new.room }
+        ensures places { length self.new.locks + self.new.room ≡ length self.old.locks + self.old.room }
     {
         take_out(&mut self.locks, lock);
     }
@@ -166,8 +169,9 @@ impl Holdings {
     // The thread holds one lock more.
     pub(crate) fn add(&mut self, thread: ThreadId, lock: LockId)
         requires { 0 < room_at self.old thread.0 }
-        ensures { held_of self.new
+        ensures held { held_of self.new
             ≡ with_row thread.0 (held_of self.old thread.0 ++ lock.0 ∷ []) (held_of self.old) }
+        ensures places { SamePlaces self.old self.new }
     {
         add_at(&mut self.lists, thread.0 as usize, lock);
     }
@@ -177,6 +181,7 @@ impl Holdings {
         ensures held { held_of self.new
             ≡ with_row thread.0 (without lock.0 (held_of self.old thread.0)) (held_of self.old) }
         ensures kept { KeepsPlaces self.old self.new }
+        ensures places { SamePlaces self.old self.new }
     {
         remove_at(&mut self.lists, thread.0 as usize, lock);
     }
@@ -198,7 +203,9 @@ fn prepare_at(lists: &mut [Holding], at: usize) -> Result<(), OutOfMemory>
 
 fn add_at(lists: &mut [Holding], at: usize, lock: LockId)
     requires room { 0 < room_at lists.old at }
-    ensures { held_of lists.new ≡ with_row at (held_of lists.old at ++ lock.0 ∷ []) (held_of lists.old) }
+    ensures held { held_of lists.new
+        ≡ with_row at (held_of lists.old at ++ lock.0 ∷ []) (held_of lists.old) }
+    ensures places { SamePlaces lists.old lists.new }
 {
     let list = &mut lists[at];
     list.add(lock);
@@ -208,6 +215,7 @@ fn remove_at(lists: &mut [Holding], at: usize, lock: LockId)
     ensures held { held_of lists.new
         ≡ with_row at (without lock.0 (held_of lists.old at)) (held_of lists.old) }
     ensures kept { KeepsPlaces lists.old lists.new }
+    ensures places { SamePlaces lists.old lists.new }
 {
     if lists.len() <= at {
         return;

@@ -1,6 +1,7 @@
 //! Room for an operation, part by part.
 ghost use Rattle.std.specs.Prelude.{◌≡◌, ◌↔◌, IsOk, OnOk, IsTrue};
 ghost use Rattle.hb_clocks.specs.Tables as hb;
+ghost use Rattle.section_sum.specs.Sums.{LocksGrownFor};
 ghost use Rattle.wcp_clocks.specs.HeldLists.{list_at};
 ghost use Rattle.wcp_clocks.specs.StrictRows.{IsReady, GrownFor as RowsGrownFor};
 ghost use Rattle.wcp_clocks.specs.Parts.{HasPlaces};
@@ -44,6 +45,7 @@ pub(crate) fn prepare_places(
     ensures queues { QueuesHaveGrown queues.old queues.new }
     ensures held { HoldsHaveGrown held.old held.new }
     ensures accesses { AccessesGrownFor sums.old sums.new (list_at held.old thread.0).locks op }
+    ensures locks { LocksGrownFor sums.old sums.new (list_at held.old thread.0).locks }
     ensures sections { SectionsGrownFor queues.old queues.new thread op }
     ensures holds { HoldsGrownFor held.old held.new thread op }
     ensures ready { OnOk result (HasPlaces sums.new queues.new held.new thread op) }

@@ -8,7 +8,7 @@ ghost use Rattle.wcp_clocks.specs.Stepping.{IsDue, IsStepBy, IsStep};
 ghost use Rattle.event_core.specs.Rows.{join, with_row};
 ghost use Rattle.event_core.specs.Closed.{below_closed, number_counted};
 ghost use Rattle.lock_queues.specs.Sections.{latest_counted};
-ghost use Rattle.lock_queues.specs.Queues.{closed_of, opened_of, found_of};
+ghost use Rattle.lock_queues.specs.Queues.{closed_of, opened_of, found_of, SameMemory};
 ghost use Rattle.lock_queues.specs.Searched.{CountsEarlier, FindsCounted};
 ghost use Rattle.wcp_clocks.specs.StrictRows.{strict_of, HasThread, SameRoom};
 
@@ -186,6 +186,7 @@ fn take_closed(
     ensures kept { SameRoom rows.old rows.new }
     ensures found { FindsCounted queues.old queues.new thread.0 lock.0
         (number_counted ((strict_of rows.old).thread thread.0) (closed_of queues.old lock.0)) }
+    ensures memory { SameMemory queues.old queues.new }
     ensures joins { work.new.joins ≤ work.old.joins + 1 }
     ensures joins_exact { work.new.joins ≡ work.old.joins
         + joins_latest

@@ -1,4 +1,4 @@
-use Rattle.std.proofs.Common.{rules, length-set, get_or, arith}
+use Rattle.std.proofs.Common.{rules, length-set, get_or, ◌∙◌, arith}
 use Rattle.std.proofs.lemmas.Bool.{eq-eqb}
 use Rattle.event_core.specs.declared.ids.LockId.{LockId}
 use Rattle.section_sum.specs.Cells.{cell_place}
@@ -58,6 +58,8 @@ loop-lock-preserved c =
           (c.requires.alone l.0 (is_held_at c.args.held.now c.loop-lock.lock-index _ c.loop-lock-test.true))))
           (λ m n. says_other l.0 m c.loop-lock.cells c.note.new.cells c.loop-lock.locks.items
           c.note.new.self n changed);
+      places = c.note.ensures.places ∙ c.loop-lock.invariant.places;
+      count = length-set c.loop-lock.locks.items l.0 c.note.new.self ∙ c.loop-lock.invariant.count;
       fitted = λ was.
           let had = c.loop-lock.invariant.fitted was in
           let long = length-set c.loop-lock.locks.items l.0 c.note.new.self in omega (arith, had, long);

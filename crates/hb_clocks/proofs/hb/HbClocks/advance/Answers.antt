@@ -5,10 +5,9 @@ use Rattle.std.specs.Vec.{with_items}
 use Rattle.hb_clocks.specs.declared.holds.Hold.{Hold}
 use Rattle.hb_clocks.specs.Holds.{holds_after}
 use Rattle.hb_clocks.specs.Standing.{StandsFor}
-use Rattle.hb_clocks.specs.Tables.{ClockTables, state_of, IsReady}
-use Rattle.hb_clocks.proofs.MadeRows.{written_widths}
+use Rattle.hb_clocks.specs.Tables.{ClockTables, state_of, IsReady, SameMemory}
 use Rattle.hb_clocks.proofs.LegalSteps.{step_stands}
-use Rattle.hb_clocks.proofs.TableSteps.{IsStepped, stepped}
+use Rattle.hb_clocks.proofs.TableSteps.{IsStepped, stepped, written_rows}
 use Rattle.hb_clocks.proofs.hb.HbClocks.advance.Goals as goal
 
 pub returns-clause-exact : goal.returns-clause-exact
@@ -46,11 +45,11 @@ step c =
     let t = c.args.event.now.thread in
     let op = c.args.event.now.op in
     stepped s.zeros (found c) (left c).po (left c).hb (left c).lock (left c).holds t op
-    (written_widths s.po _ a.new.po c.deref_mut.ensures.len c.deref_mut.ensures.value a.auto.po
+    (written_rows s.po _ a.new.po c.deref_mut.ensures.len c.deref_mut.ensures.value a.auto.po
     a.ensures.po_widths)
-    (written_widths s.hb _ a.new.hb c.deref_mut-2.ensures.len c.deref_mut-2.ensures.value a.auto.hb
+    (written_rows s.hb _ a.new.hb c.deref_mut-2.ensures.len c.deref_mut-2.ensures.value a.auto.hb
     a.ensures.hb_widths)
-    (written_widths s.locks _ a.new.locks c.deref_mut-3.ensures.len c.deref_mut-3.ensures.value a.auto.locks
+    (written_rows s.locks _ a.new.locks c.deref_mut-3.ensures.len c.deref_mut-3.ensures.value a.auto.locks
     a.ensures.lock_widths)
     (with_items_is s.holds a.new.holds (a.auto.holds ∙ c.deref_mut-4.ensures.len) ∙ a.ensures.holds
     ∙ ap (λ (xs : List Hold). holds_after t.0 op xs) c.deref_mut-4.ensures.value)
@@ -58,6 +57,9 @@ step c =
 
 pub invariant_of-self : goal.invariant_of-self
 invariant_of-self c = (step c).tables
+
+pub returns-clause-memory : goal.returns-clause-memory
+returns-clause-memory c = subst (λ (v : ClockTables). SameMemory v (left c)) c.self.view_is (step c).memory
 
 pub returns-clause-kept : goal.returns-clause-kept
 returns-clause-kept c t op ready =

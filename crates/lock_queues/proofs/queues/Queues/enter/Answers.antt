@@ -1,4 +1,4 @@
-use Rattle.std.proofs.Common.{ap, ◌∙◌, arith}
+use Rattle.std.proofs.Common.{ap, refl, ◌∙◌, arith}
 use Rattle.std.specs.Prelude.{slice_index}
 use Rattle.lock_queues.specs.Sections.{sections_of}
 use Rattle.event_core.specs.Rows.{with_row}
@@ -8,6 +8,7 @@ use Rattle.lock_queues.proofs.LogSteps.{enter_stands}
 use Rattle.lock_queues.proofs.Lifting.{Read, lifted_same, lifted_cell}
 use Rattle.lock_queues.proofs.Searching.{ready_read}
 use Rattle.lock_queues.proofs.KeepingAll.{kept_set}
+use Rattle.lock_queues.proofs.Sameness.{places_set}
 use Rattle.lock_queues.proofs.queues.Queues.enter.Goals as goal
 
 -- the queue that is entered
@@ -52,3 +53,12 @@ pub returns-clause-stands : goal.returns-clause-stands
 returns-clause-stands c = λ limits log e.
     enter_stands limits log e c.args.self.now c.args.thread c.args.lock c.args.mark
     (returns-clause-closed c) (returns-clause-opened c) (returns-clause-found c)
+
+pub returns-clause-memory : goal.returns-clause-memory
+returns-clause-memory c =
+    let same = c.enter.ensures.reserved ∙ ap (λ (q : OneQueue). q.reserved) (queue c).is in
+    rw (← c.self.view_is) (record {
+      places = places_set c.self.inside.limits c.self.inside.queues.items c.args.lock.0 c.enter.new.self
+          (queue c).within same;
+      numbers = refl;
+    })

@@ -1,4 +1,4 @@
-use Rattle.std.proofs.Common.{◌≡◌, ap, ◌∙◌, arith, length}
+use Rattle.std.proofs.Common.{◌≡◌, ap, refl, ◌∙◌, arith, length}
 use Rattle.std.specs.Prelude.{slice_index}
 use Rattle.event_core.specs.Rows.{with_row}
 use Rattle.lock_queues.specs.Sections.{sections_of}
@@ -10,6 +10,7 @@ use Rattle.lock_queues.proofs.Counting.{counted_first, latest_before}
 use Rattle.lock_queues.proofs.Lifting.{Read, lifted, lifted_same}
 use Rattle.lock_queues.proofs.Searching.{AreOf, are_of, number_found, entered_read, entered_width}
 use Rattle.lock_queues.proofs.KeepingAll.{kept_set}
+use Rattle.lock_queues.proofs.Sameness.{places_set}
 use Rattle.lock_queues.proofs.queues.Queues.find_counted.Goals as goal
 
 pub find_counted-requires-clause-slot : goal.find_counted-requires-clause-slot
@@ -116,3 +117,12 @@ returns-clause-no_fewer c =
     let now = found_now c in
     let work = c.find_counted.ensures.least in
     omega arith
+
+pub returns-clause-memory : goal.returns-clause-memory
+returns-clause-memory c =
+    let same = c.find_counted.ensures.reserved ∙ ap (λ (q : OneQueue). q.reserved) (queue c).is in
+    rw (← c.self.view_is) (record {
+      places = places_set c.self.inside.limits c.self.inside.queues.items c.args.lock.0
+          c.find_counted.new.self (queue c).within same;
+      numbers = refl;
+    })

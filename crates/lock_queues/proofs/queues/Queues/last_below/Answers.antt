@@ -58,7 +58,7 @@ returns c =
     (λ r h. subst (λ (o : Option Closed). IsSomeAnd o (Told r)) (sym (before.latest h.0))
     (sym h.1.thread, sym h.1.release))
     known in (
-      (refl, λ _. tt, c.find_counted.ensures.found),
+      (refl, λ _. tt, (c.find_counted.ensures.found, c.find_counted.ensures.memory)),
       record {
         number = answer (n ≡ 0) (Reads n qs threads) (λ _. 0 < n) (λ z. z) (λ r h. h.0) known;
         latest = latest;

@@ -13,6 +13,7 @@ use Rattle.lock_queues.proofs.Lifting.{Read, lifted, lifted_same, lifted_cell}
 use Rattle.lock_queues.proofs.Storing.{sections_grown, joined_sections}
 use Rattle.lock_queues.proofs.KeepingAll.{kept_joined, joined_at, some_made, one_fits}
 use Rattle.lock_queues.proofs.Searching.{entered_read, entered_width, entered_made}
+use Rattle.lock_queues.proofs.Sameness.{places_set}
 use Rattle.lock_queues.proofs.queues.Queues.leave.Goals as goal
 
 pub leave-requires-clause-memory : goal.leave-requires-clause-memory
@@ -109,3 +110,9 @@ pub returns-clause-stands : goal.returns-clause-stands
 returns-clause-stands c = λ limits log e.
     leave_stands limits log e c.args.self.now c.args.thread c.args.lock (counts_of c.args.clock.now)
     (returns-clause-closed c) (returns-clause-opened c) (returns-clause-found c)
+
+pub returns-clause-places : goal.returns-clause-places
+returns-clause-places c =
+    let same = c.leave.ensures.reserved ∙ ap (λ (q : OneQueue). q.reserved) (queue c).is in
+    rw (← c.self.view_is) (places_set c.self.inside.limits c.self.inside.queues.items c.args.lock.0
+    c.leave.new.self (queue c).within same)

@@ -2,7 +2,7 @@ use Rattle.std.proofs.Common.{ℕ, sym, subst}
 use Rattle.section_sum.specs.Entries.{Entries, IsAlone as IsAloneThere}
 use Rattle.section_sum.specs.Locks.{HaveNoted}
 use Rattle.section_sum.specs.Sums.{Sums, noted_of, others_of, is_ready, IsReady, IsAlone}
-use Rattle.section_sum.proofs.Meaning.{said_as, seen}
+use Rattle.section_sum.proofs.Meaning.{same_memory, said_as, seen}
 use Rattle.section_sum.proofs.Steps.{note_stands}
 use Rattle.section_sum.proofs.summaries.Summaries.note.Goals as goal
 
@@ -31,4 +31,6 @@ returns c =
       stands = λ limits log e w is are.
           note_stands limits log e _ _ c.args.thread c.args.held.now c.args.var c.args.kind noted w is are;
       kept = λ l v. (noted l).ready v;
+      memory = same_memory c.self.inside.cells c.note_held.new.cells c.self.inside.locks.items
+          c.note_held.new.locks.items c.self.view_is c.note_held.ensures.places c.note_held.ensures.count;
     }

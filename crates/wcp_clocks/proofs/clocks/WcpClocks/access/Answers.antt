@@ -22,7 +22,7 @@ step c =
     c.of-held.ensures s.ensures.threads s.ensures.locks s.ensures.kept s.ensures.joins s.ensures.joins_exact
     s.ensures.comparisons c.note.ensures.noted c.note.ensures.others c.self.invariant.numbers
     c.advance.ensures.exact c.advance.ensures.width c.advance.ensures.kept c.advance.ensures.work
-    c.note.ensures.kept
+    c.note.ensures.kept c.advance.ensures.memory c.note.ensures.memory
 
 pub invariant_of-self : goal.invariant_of-self
 invariant_of-self c = kept_within (due_within c.self.view_is c.requires) (step c) c.self.invariant

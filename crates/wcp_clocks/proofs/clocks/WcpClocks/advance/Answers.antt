@@ -1,5 +1,6 @@
 use Rattle.std.proofs.Common.{refl}
 use Rattle.wcp_clocks.proofs.Standing.{step_stands}
+use Rattle.wcp_clocks.proofs.Memory.{closing_releases, keeps_weaker}
 use Rattle.wcp_clocks.proofs.Stepped.{exact, access_kept}
 use Rattle.wcp_clocks.proofs.clocks.WcpClocks.advance.Goals as goal
 
@@ -13,3 +14,6 @@ returns-clause-stands c limits log w st =
 
 pub returns-clause-kept : goal.returns-clause-kept
 returns-clause-kept c = access_kept c.step.ensures c.args.event.now.op refl
+
+pub returns-clause-memory : goal.returns-clause-memory
+returns-clause-memory c = keeps_weaker (closing_releases _ c.args.event.now.op) c.step.ensures.memory

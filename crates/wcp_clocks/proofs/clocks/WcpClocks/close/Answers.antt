@@ -16,6 +16,7 @@ use Rattle.wcp_clocks.proofs.RowsKept.{room_then, thread_kept, lock_kept}
 use Rattle.wcp_clocks.proofs.EffectWords.{own_happens_before, closed_noted}
 use Rattle.wcp_clocks.proofs.Closing.{closing_clocks, closing_numbers, before_closing, counts_itself}
 use Rattle.wcp_clocks.proofs.Passing.{own_written, joins_told}
+use Rattle.wcp_clocks.proofs.Memory.{tables_then}
 use Rattle.wcp_clocks.proofs.Stepped.{kept_within, due_within, seen_step}
 use Rattle.wcp_clocks.proofs.Within.{within}
 use Rattle.wcp_clocks.specs.Stepping.{IsStepBy}
@@ -138,7 +139,14 @@ step c =
       joins_exact = (let w = taken.ensures.joins_exact in omega arith);
       comparisons = (let w = taken.ensures.comparisons in omega arith);
       no_fewer = (let w = taken.ensures.no_fewer in omega arith);
-      room = room_then taken.ensures.kept c.give_lock.ensures.kept;
+      memory = record {
+        order = c.advance.ensures.memory;
+        rows = room_then taken.ensures.kept c.give_lock.ensures.kept;
+        sums = c.close.ensures.memory;
+        queues = tables_then taken.ensures.memory.places left.places;
+        numbers = λ other. absurd (other tt);
+        held = c.remove.ensures.places;
+      };
       limits = record { width = c.advance.ensures.width; limits = left.limits ∙ taken.ensures.found.limits };
       kept = tt;
     }

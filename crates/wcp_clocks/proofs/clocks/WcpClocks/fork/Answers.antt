@@ -3,6 +3,7 @@ use Rattle.event_core.specs.Rows.{with_row}
 use Rattle.event_core.specs.Effect.{Effect, Forks}
 use Rattle.hb_clocks.specs.Work.{Done}
 use Rattle.wcp_clocks.proofs.Passing.{plain_strict, plain_threads, joins_told}
+use Rattle.wcp_clocks.proofs.Memory.{sums_stay, queues_stay, held_stay}
 use Rattle.wcp_clocks.proofs.Stepped.{kept_within, due_within, seen_step}
 use Rattle.wcp_clocks.proofs.Within.{within}
 use Rattle.wcp_clocks.specs.Parts.{parts_of}
@@ -38,7 +39,14 @@ step c =
       joins_exact = j;
       comparisons = ap (λ (d : Done). d.comparisons) c.advance.ensures.work;
       no_fewer = tt;
-      room = give.kept;
+      memory = record {
+        order = c.advance.ensures.memory;
+        rows = give.kept;
+        sums = sums_stay old.sums;
+        queues = (queues_stay old.queues).places;
+        numbers = λ other. refl;
+        held = held_stay old.held;
+      };
       limits = record { width = c.advance.ensures.width; limits = refl };
       kept = tt;
     }

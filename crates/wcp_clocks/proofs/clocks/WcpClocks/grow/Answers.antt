@@ -37,3 +37,13 @@ pub returns-in_err-prepare_clocks-clause-kept : goal.returns-in_err-prepare_cloc
 returns-in_err-prepare_clocks-clause-kept c =
     let clocks = c.prepare_clocks.ensures.grown in
     seen_ready c.self.view_is (all_grown clocks (sums_same _) (queues_same _) (held_same _))
+
+pub returns-clause-grown : goal.returns-clause-grown
+returns-clause-grown c =
+    let more = c.prepare_places.ensures in
+    rw (← c.self.view_is) (record {
+      accesses = more.accesses;
+      locks = more.locks;
+      sections = more.sections;
+      holds = more.holds;
+    })

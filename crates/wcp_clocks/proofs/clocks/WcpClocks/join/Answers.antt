@@ -2,6 +2,7 @@ use Rattle.std.proofs.Common.{ap, ◌∙◌, arith, refl}
 use Rattle.event_core.specs.Effect.{Effect, Joins}
 use Rattle.hb_clocks.specs.Work.{Done}
 use Rattle.wcp_clocks.proofs.Passing.{joins_told}
+use Rattle.wcp_clocks.proofs.Memory.{sums_stay, queues_stay, held_stay}
 use Rattle.wcp_clocks.proofs.Stepped.{kept_within, due_within, seen_step}
 use Rattle.wcp_clocks.proofs.Within.{within}
 use Rattle.wcp_clocks.specs.Parts.{parts_of}
@@ -42,7 +43,14 @@ step c =
       comparisons = ap (λ (d : Done). d.comparisons) c.advance.ensures.work
           ∙ ap (λ (d : Done). d.comparisons) taken.ensures.work;
       no_fewer = tt;
-      room = taken.ensures.kept;
+      memory = record {
+        order = c.advance.ensures.memory;
+        rows = taken.ensures.kept;
+        sums = sums_stay old.sums;
+        queues = (queues_stay old.queues).places;
+        numbers = λ other. refl;
+        held = held_stay old.held;
+      };
       limits = record { width = c.advance.ensures.width; limits = refl };
       kept = tt;
     }

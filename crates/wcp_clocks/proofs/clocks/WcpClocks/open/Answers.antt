@@ -9,6 +9,7 @@ use Rattle.wcp_clocks.specs.Parts.{hb_of, state_of, parts_of}
 use Rattle.wcp_clocks.proofs.Closing.{counts_itself}
 use Rattle.wcp_clocks.proofs.EffectWords.{own_happens_before, own_opened}
 use Rattle.wcp_clocks.proofs.Passing.{joins_told}
+use Rattle.wcp_clocks.proofs.Memory.{sums_stay}
 use Rattle.wcp_clocks.proofs.Stepped.{kept_within, due_within, seen_step}
 use Rattle.wcp_clocks.proofs.Within.{within}
 use Rattle.wcp_clocks.specs.Stepping.{IsStepBy}
@@ -61,7 +62,7 @@ step c =
           ∙ ap (λ (n : ℕ). with_row t (with_row c.args.lock.0 n (opened_of old.queues t))
           (opened_of old.queues))
           position;
-      held = c.add.ensures;
+      held = c.add.ensures.held;
       noted = refl;
       met = ap (met_clocks old.sums) c.enter.ensures.closed;
       numbers = subst (AreNumbers old.sums) (sym c.enter.ensures.closed) c.self.invariant.numbers;
@@ -72,7 +73,14 @@ step c =
       comparisons = ap (λ (d : Done). d.comparisons) c.advance.ensures.work
           ∙ ap (λ (d : Done). d.comparisons) taken.ensures.work;
       no_fewer = tt;
-      room = taken.ensures.kept;
+      memory = record {
+        order = c.advance.ensures.memory;
+        rows = taken.ensures.kept;
+        sums = sums_stay old.sums;
+        queues = c.enter.ensures.memory.places;
+        numbers = λ other. c.enter.ensures.memory.numbers;
+        held = c.add.ensures.places;
+      };
       limits = record { width = c.advance.ensures.width; limits = c.enter.ensures.limits };
       kept = tt;
     }

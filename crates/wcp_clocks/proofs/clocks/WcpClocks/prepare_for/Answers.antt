@@ -25,3 +25,13 @@ returns-then-ready-clause-again c = rw (← c.self.view_is) (λ ready.
       λ i. parts_of c.self.inside.hb c.self.inside.rows (places.1 i) (places.2 i) (places.3 i)
           c.self.inside.work,
     ))
+
+pub returns-then-ready-clause-grown : goal.returns-then-ready-clause-grown
+returns-then-ready-clause-grown c =
+    let more = c.prepare_places.ensures in
+    rw (← c.self.view_is) (record {
+      accesses = more.accesses;
+      locks = more.locks;
+      sections = more.sections;
+      holds = more.holds;
+    })
