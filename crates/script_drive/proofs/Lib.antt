@@ -3,5 +3,6 @@ mod ToldRefusals
 mod ScriptFaults
 mod Runs
 mod Joins
+mod Ends
 mod Progress
 mod LinkLines

@@ -6,7 +6,7 @@ use Rattle.std.specs.List.{list_any}
 use Rattle.std.proofs.Math.Seq.{drop-cons}
 use Rattle.std.proofs.lemmas.Bool.{or_cases, or_left, or_right, eqb-true}
 use Rattle.std.proofs.lemmas.List.{append-nil, take_all}
-use Rattle.std.proofs.lemmas.List.Elements.{filter-append, filter_more, filter_map-append}
+use Rattle.std.proofs.lemmas.List.Elements.{All-push, filter-append, filter_more, filter_map-append}
 use mathlib.Core.Logic.{inl, inr}
 use mathlib.Core.List.{IsPrefix}
 use Rattle.event_core.specs.declared.ids.ThreadId.{ThreadId}
@@ -19,9 +19,10 @@ use Rattle.event_core.proofs.Depth.{same_thread_id}
 use Rattle.event_core.proofs.StepLaws.{any_front}
 use Rattle.live_monitor.specs.Calls.{HasComeTo}
 use Rattle.log_pass.specs.declared.views.PassView.{PassView}
-use Rattle.log_pass.specs.Passes.{main, new_pass, IsPass}
+use Rattle.log_pass.specs.Passes.{main, new_pass, seeing, IsPass}
 use Rattle.script_text.specs.declared.lines.ScriptLine.{ScriptLine}
 use Rattle.script_text.specs.Lines.{fork_of, is_of, join_of, thread_of}
+use Rattle.script_drive.specs.Ends.{PassedGate}
 use Rattle.script_drive.specs.Lines.{asked_by, lines_by, unread, Follows}
 use Rattle.script_drive.specs.Runs.{HasStarted, IsRunOf}
 use Rattle.script_drive.specs.Workers.{Does, Done, HasDone, IsFirst, Reach, SawRun, Serves, forked, joined}
@@ -79,6 +80,16 @@ done_later m t p q lines later mine h = record {
   follows = subst (λ (s : List Step). Follows (log_of s) lines) (sym mine) h.follows;
 }
 
+-- the same of a pass that has only seen more
+pub done_seen : (t : ThreadId) (p q : PassView) (lines : List ScriptLine) → q ≡ seeing q.seen p
+    → IsPrefix p.seen q.seen → HasDone t p lines → HasDone t q lines
+done_seen t p q lines same begins h = record {
+  thread = ap (λ (r : PassView). r.thread) same ∙ h.thread;
+  started = started_more t (log_of p.seen) (log_of q.seen) (log_begins p.seen q.seen begins) h.started;
+  follows = subst (λ (s : List Step). Follows (log_of s) lines) (sym (ap (λ (r : PassView). r.mine) same))
+      h.follows;
+}
+
 -- and that is a run of the script
 pub saw_later : {m : Limits} {script : List ScriptLine} {p q : PassView} → HasComeTo m p q
     → IsRunOf script (log_of q.seen) → SawRun m script q
@@ -133,6 +144,15 @@ module _ (t : ThreadId) (lines : List ScriptLine) (i : ℕ) (line : ScriptLine)
         → HasDone t q (lines_by t (take (i + 1) lines))
     done_at p q h does = subst (HasDone t q) (sym own_taken)
         (done_more t p q (lines_by t (take i lines)) line h does)
+
+    -- and passed the gate
+    pub passed_at : (admitted told : ThreadId → ℕ → Type 0) → admitted (thread_of line) line.line
+        → told (thread_of line) line.line → PassedGate admitted told (lines_by t (take i lines))
+        → PassedGate admitted told (lines_by t (take (i + 1) lines))
+    passed_at admitted told entered done before =
+        subst (λ (ls : List ScriptLine). PassedGate admitted told ls) (sym own_taken)
+        (All-push (λ (l : ScriptLine). admitted (thread_of l) l.line × told (thread_of l) l.line)
+        (lines_by t (take i lines)) line before (entered, done))
 
     pub next_line : (reach : Reach) → Serves reach (lines_by t (drop i lines))
         → Serves reach (line ∷ lines_by t (drop (i + 1) lines))

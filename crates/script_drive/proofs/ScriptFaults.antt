@@ -4,7 +4,7 @@ use Rattle.std.proofs.Common.{get_or, take, drop, arith}
 use Rattle.std.specs.Prelude.{[], Bool, true, Option, None, IfErr, IfSome, IsErrAnd, Result, Ok, Err}
 use Rattle.std.specs.List.{All, Contains}
 use Rattle.std.proofs.lemmas.Bool.{false≢true}
-use Rattle.std.proofs.lemmas.List.Elements.{All-more, All-weaker, Contains-get_or}
+use Rattle.std.proofs.lemmas.List.Elements.{All-contains, All-more, All-weaker, Contains-get_or}
 use mathlib.Core.Logic.{inl, inr}
 use Rattle.event_core.specs.declared.ids.ThreadId.{ThreadId}
 use Rattle.event_core.specs.declared.ids.LockId.{LockId}
@@ -31,7 +31,7 @@ use Rattle.script_text.specs.declared.lines.ScriptLine.{ScriptLine}
 use Rattle.script_text.specs.Lines.{act_thread, is_of, thread_of}
 use Rattle.script_drive.specs.declared.faults.DriveFault.{DriveFault}
 use Rattle.script_drive.specs.declared.faults.Halt.{Halt}
-use Rattle.script_drive.specs.declared.faults.Halt.TheVariants.{Abandoned, Fault}
+use Rattle.script_drive.specs.declared.faults.Halt.TheVariants.{Abandoned, Fault, NotForked}
 use Rattle.script_drive.specs.Faults.{act_acquires, act_waits, is_told, op_waits, rank, refused_at, Fits}
 use Rattle.script_drive.specs.Faults.{IsAnswer, IsAnswered, IsDue, IsEarlier, IsFaultOf, IsFirst, IsHaltOf}
 use Rattle.script_drive.specs.Faults.{HasToWait, IsNext, Refuses}
@@ -192,6 +192,14 @@ pub held_used_up : (tries : Tried) (answer : Result Reply Refusal)
 held_used_up tries answer used_up held =
     (subst (λ a. IfErr a (λ why. why ≡ Held (held.0) → AreUsedUp tries)) held.1 (used_up held.0)) refl
 
+-- the first of faults of the script is one
+pub first_fits : (m : Limits) (ahead : Bool) (script : List ScriptLine) (faults : List DriveFault)
+    (first : Option DriveFault) → IfSome first (IsFirst faults) → All (IsFaultOf m ahead script) faults
+    → IfSome first (IsFaultOf m ahead script)
+first_fits m ahead script faults None is all = tt
+first_fits m ahead script faults (Some f) is all =
+    All-contains (IsFaultOf m ahead script) faults f all is.one
+
 -- a worker's halt is answered by a fault of the script
 pub answer_fits : (m : Limits) (ahead : Bool) (script : List ScriptLine) (halt : Halt)
     (others : Option DriveFault) (f : DriveFault) → IsHaltOf m ahead script halt
@@ -208,6 +216,10 @@ answer_fits m ahead script (Abandoned l) (Some other) f is fits answer =
 answer_fits m ahead script (Abandoned l) None f is fits answer =
     subst (IsFaultOf m ahead script) (sym answer)
     ∣ (l, is.0, (refl, refl, λ _. is.1)) ∣₁
+answer_fits m ahead script (NotForked n) (Some other) f is fits answer =
+    subst (IsFaultOf m ahead script) (sym answer) fits
+answer_fits m ahead script (NotForked n) None f is fits answer =
+    subst (IsFaultOf m ahead script) (sym answer) ∣ is ∣₁
 
 -- ---- the lines of a thread
 

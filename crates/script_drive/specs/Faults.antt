@@ -20,7 +20,7 @@ use Rattle.script_text.specs.Lines.{fork_of, thread_of}
 use Rattle.script_drive.specs.declared.faults.DriveFault.{DriveFault}
 use Rattle.script_drive.specs.declared.faults.DriveFault.TheVariants.{Stuck, Refused, NoWorker, OutOfMemory}
 use Rattle.script_drive.specs.declared.faults.Halt.{Halt}
-use Rattle.script_drive.specs.declared.faults.Halt.TheVariants.{Fault, Abandoned}
+use Rattle.script_drive.specs.declared.faults.Halt.TheVariants.{Fault, Abandoned, NotForked}
 use Rattle.script_drive.specs.Lines.{lines_by, Follows}
 use Rattle.script_drive.specs.Runs.{HasStarted, IsRunOf}
 use Rattle.script_drive.specs.Workers.{HasDone, SawRun}
@@ -40,6 +40,7 @@ refused_at l why = Refused (thread_of l) l.line why
 abbrev pub own_fault : Halt → Option DriveFault
 own_fault (Fault f) = Some f
 own_fault (Abandoned l) = None
+own_fault (NotForked n) = None
 
 -- ---- which of several faults is answered
 
@@ -59,13 +60,16 @@ pub record IsFirst (faults : List DriveFault) (f : DriveFault) : Type 0 where
 abbrev pub IsEarlier : DriveFault → DriveFault → DriveFault → Type 0
 IsEarlier x y f = ((f ≡ x) ⊎ (f ≡ y)) × (rank f ≤ rank x) × (rank f ≤ rank y)
 
--- the fault is answered where thread 0's worker ended so, and this is the first fault of the others: the
--- first of both. Where there is none, it is that the line at which it was abandoned is stuck.
+-- the fault is answered where a worker ended so, and this is the first fault of the others: the first of
+-- both. Where there is none, it is that the line at which it was abandoned is stuck, or that there is no
+-- worker for the thread that the line forks.
 abbrev pub IsAnswer : Halt → Option DriveFault → DriveFault → Type 0
 IsAnswer (Fault own) (Some other) f = IsEarlier own other f
 IsAnswer (Fault own) None f = f ≡ own
 IsAnswer (Abandoned l) (Some other) f = f ≡ other
 IsAnswer (Abandoned l) None f = f ≡ stuck_at l
+IsAnswer (NotForked n) (Some other) f = f ≡ other
+IsAnswer (NotForked n) None f = f ≡ NoWorker n
 
 -- the fault is answered where thread 0's worker ended so, and the others by these faults
 abbrev pub IsAnswered : Result PassView Halt → List DriveFault → DriveFault → Type 0
@@ -153,10 +157,12 @@ Fits m ahead script (NoWorker n) = IsForkLine script n
 abbrev pub IsFaultOf : Limits → Bool → List ScriptLine → DriveFault → Type 0
 IsFaultOf m ahead script f = ∥ Fits m ahead script f ∥₁
 
--- the worker's own fault is one of the script; or it ended at a line of the script that has to wait
+-- the worker's own fault is one of the script; or it ended at a line of the script that has to wait; or
+-- before its first line, and a line with this number forks a thread
 abbrev pub IsHaltOf : Limits → Bool → List ScriptLine → Halt → Type 0
 IsHaltOf m ahead script (Fault f) = IsFaultOf m ahead script f
 IsHaltOf m ahead script (Abandoned l) = Contains script l × HasToWait m script l
+IsHaltOf m ahead script (NotForked n) = IsForkLine script n
 
 -- the line is the next of the pass's thread: the pass has seen a run of the script, and done the lines before
 pub record IsNext (m : Limits) (script : List ScriptLine) (l : ScriptLine) (p : PassView) : Type 0 where

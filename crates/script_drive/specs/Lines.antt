@@ -1,5 +1,5 @@
 -- The lines of a script as events: which events are those of which lines.
-use Rattle.std.specs.Prelude.{◌≡◌, ℕ, true, List, [], ◌∷◌, map, filter}
+use Rattle.std.specs.Prelude.{◌≡◌, ℕ, true, false, List, [], ◌∷◌, map, filter}
 use Rattle.std.specs.List.{flat_map, list_any}
 use Rattle.event_core.specs.declared.ids.ThreadId.{ThreadId}
 use Rattle.event_core.specs.declared.events.Event.{Event}
@@ -7,6 +7,7 @@ use Rattle.event_core.specs.declared.events.Op.{Op}
 use Rattle.event_core.specs.declared.events.Op.TheVariants.{Load, Store}
 use Rattle.event_core.specs.declared.events.Act.{Act}
 use Rattle.event_core.specs.declared.events.Act.TheVariants.{One, Swap}
+use Rattle.event_core.specs.Steps.{own_events}
 use Rattle.script_text.specs.declared.lines.ScriptLine.{ScriptLine}
 use Rattle.script_text.specs.Lines.{is_of, joins}
 
@@ -45,3 +46,16 @@ pub data IsJoinedFrom (script : List ScriptLine) : ThreadId → ThreadId → Typ
   itself : {t u : ThreadId} → list_any (joins u.0) (lines_by t script) ≡ true → IsJoinedFrom script t u
   through : {t u : ThreadId} (v : ThreadId) → list_any (joins v.0) (lines_by t script) ≡ true
       → IsJoinedFrom script v u → IsJoinedFrom script t u
+
+-- a line joins the thread
+abbrev pub IsJoined : List ScriptLine → ThreadId → Type 0
+IsJoined script t = list_any (joins t.0) script ≡ true
+
+-- no line joins the thread
+abbrev pub IsUnjoined : List ScriptLine → ThreadId → Type 0
+IsUnjoined script t = list_any (joins t.0) script ≡ false
+
+-- the thread has made all its lines in the log, as has each thread that is joined from it
+abbrev pub AllMadeFrom : List ScriptLine → List Event → ThreadId → Type 0
+AllMadeFrom script log t = Follows (own_events t log) (lines_by t script)
+    × ((u : ThreadId) → IsJoinedFrom script t u → Follows (own_events u log) (lines_by u script))

@@ -1,12 +1,15 @@
 //! One worker for each thread of a script.
-ghost use Rattle.std.specs.Prelude.{◌≡◌, [], All, IfErr, IfOk, OnOk};
+ghost use Rattle.std.specs.Prelude.{◌≡◌, ◌∷◌, ◌++◌, [], All, IfErr, IfOk, IsOk, OnOk, map};
+ghost use Rattle.std.specs.List.{filter_map};
+ghost use mathlib.Core.List.{IsPrefix};
 ghost use Rattle.event_core.specs.declared.bounds.Roots.TheVariants.{OnlyMain};
 ghost use Rattle.event_core.specs.declared.ids.ThreadId.{ThreadId as Thread};
 ghost use Rattle.event_core.specs.Refusal.{WellFormed};
 ghost use Rattle.event_core.specs.Steps.{own_events};
-ghost use Rattle.log_pass.specs.Passes.{main, new_pass};
+ghost use Rattle.log_pass.specs.Passes.{main, new_pass, seeing};
+ghost use Rattle.script_drive.specs.Ends.{end_fault, EndMet, HasEnded, IsThrough, PassedGate};
 ghost use Rattle.script_drive.specs.Faults.{goes_ahead, IsAnswered, IsFaultOf, IsHaltOf};
-ghost use Rattle.script_drive.specs.Lines.{lines_by, Follows, IsJoinedFrom};
+ghost use Rattle.script_drive.specs.Lines.{lines_by, AllMadeFrom, Follows, IsJoinedFrom, IsUnjoined};
 ghost use Rattle.script_drive.specs.Runs.{IsRunOf};
 ghost use Rattle.script_drive.specs.Workers.{Done, Serves};
 
@@ -16,7 +19,7 @@ use crate::lines::{Drive, run_lines};
 use crate::links::Links;
 use crate::text::{RunsScript, Text};
 use crate::workers::{OwnLinks, Worker, all_workers};
-use event_core::Limits;
+use event_core::{Limits, ThreadId};
 use live_monitor::{Closed, Shared, Unnamed, start_under};
 use log_pass::Pass;
 use script_text::Script;
@@ -24,23 +27,32 @@ use std::alloc::{AllocError, Global};
 use std::marker::{Brand, PhantomData};
 use std::sync::Wait;
 use std::thread;
-use std::thread::{JoinHandle, Scope, Threads};
+use std::thread::{Promise, PromisedHandle, Scope, Threads, join_promised};
 
-// A worker's own fault.
+// How a worker ends: with its last pass, or without one where it sent that to the worker that joins it; or by
+// a halt.
+type WorkerEnd<S> = Result<Option<Pass<S>>, Halt>;
+
+// What a worker of the thread promises of its end: all its lines are done, or this is why it ended before.
 #[derive(Drop)]
-struct OwnFault<S: Text> {
-    fault: DriveFault,
-    script: PhantomData<S>,
-    ghost fits: { IsFaultOf S.limits S.ahead S.lines fault },
+struct EndOf<S: Text, G: Gate> {
+    thread: ThreadId,
+    of: PhantomData<(S, G)>,
+}
+
+impl<S: Text, G: Gate> Promise<WorkerEnd<S>> for EndOf<S, G> {
+    ghost use Rattle.script_drive.specs.Ends.{HasEnded};
+
+    ghost kept_by = { λ of end.
+        HasEnded S.limits S.ahead S.lines G.admitted G.told of.thread end };
 }
 
 // Waits for the thread's pass, makes the calls of its lines, and sends the pass to who joins the thread. A
 // worker that ends before its lines do lets its ends go, which tells those that wait for it.
 #[tactic(auto, using(crate::proofs::Progress::own_first))]
-fn work<S: Text, G: Gate, R: Wait>(
-    drive: &Drive<'_, S, G, R>,
-    worker: Worker<S>,
-) -> Option<OwnFault<S>> {
+fn work<S: Text, G: Gate, R: Wait>(drive: &Drive<'_, S, G, R>, worker: Worker<S>) -> WorkerEnd<S>
+    ensures { HasEnded S.limits S.ahead S.lines G.admitted G.told worker.own.thread result }
+{
     let Worker {
         own: OwnLinks {
             thread: _,
@@ -49,22 +61,16 @@ fn work<S: Text, G: Gate, R: Wait>(
         start,
         end,
     } = worker;
-    let pass = start.receiver.receive(drive.rt)?;
-    let ended = run_lines(drive, pass, &mut links);
-    drop(links);
-    match (ended, end) {
-        (Ok(last), Some(end)) => {
-            end.send(drive.rt, last);
-            None
+    let Some(pass) = start.receiver.receive(drive.rt) else {
+        return Err(Halt::NotForked(start.line.number));
+    };
+    let last = run_lines(drive, pass, &mut links)?;
+    match end {
+        Some(end) => {
+            end.sender.send(drive.rt, last);
+            Ok(None)
         }
-        (Ok(_), None) => None,
-        (Err(halt), _) => {
-            let fault = halt.fault()?;
-            Some(OwnFault {
-                fault,
-                script: PhantomData,
-            })
-        }
+        None => Ok(Some(last)),
     }
 }
 
@@ -74,13 +80,19 @@ fn start_workers<'s, 'e, S: Text + Send + Sync, G: Gate + Sync, R: Threads + Wai
     drive: &'s Drive<'s, S, G, R>,
     alloc: Global,
     workers: Vec<Worker<S>>,
-) -> Result<Vec<JoinHandle<Option<OwnFault<S>>>>, DriveFault>
-    ensures { IfErr result (IsFaultOf S.limits S.ahead S.lines) }
+) -> Result<Vec<PromisedHandle<WorkerEnd<S>, EndOf<S, G>>>, DriveFault>
+    ensures all { IfOk result (λ started. map (λ handle. handle.promise.thread) started.items
+        ≡ map (λ worker. worker.own.thread) workers.items) }
+    ensures fault { IfErr result (IsFaultOf S.limits S.ahead S.lines) }
 {
     let mut started = Vec::new(alloc);
     for worker in workers {
         let line = worker.start.line.number;
-        let Ok(handle) = scope.spawn(move || work(drive, worker)) else {
+        let promise = EndOf {
+            thread: worker.own.thread,
+            of: PhantomData,
+        };
+        let Ok(handle) = scope.spawn_with(promise, move || work(drive, worker)) else {
             return Err(DriveFault::NoWorker { line });
         };
         if started.push(handle).is_err() {
@@ -90,25 +102,32 @@ fn start_workers<'s, 'e, S: Text + Send + Sync, G: Gate + Sync, R: Threads + Wai
     Ok(started)
 }
 
-// The faults of the workers, once all have ended. No clause tells that none is left out.
-fn own_faults<S: Text, R: Threads>(
-    rt: &R,
-    alloc: Global,
-    workers: Vec<JoinHandle<Option<OwnFault<S>>>>,
-) -> Result<Vec<DriveFault>, AllocError>
-    ensures { IfOk result (λ faults. All (IsFaultOf S.limits S.ahead S.lines) faults.items) }
+// Adds the worker's own fault, if it ended by one.
+fn add_fault<S: Text>(faults: &mut Vec<DriveFault>, end: &WorkerEnd<S>) -> Result<(), AllocError>
+    ensures { OnOk result
+        (faults.new.items ≡ faults.old.items ++ filter_map end_fault (end.now ∷ [])) }
+{
+    if let Err(halt) = end {
+        if let Some(fault) = halt.fault() {
+            faults.push(fault)?;
+        }
+    }
+    Ok(())
+}
+
+// The workers' own faults.
+fn own_faults<S: Text>(alloc: Global, ends: &[WorkerEnd<S>]) -> Result<Vec<DriveFault>, AllocError>
+    ensures { IfOk result (λ faults. faults.items ≡ filter_map end_fault ends.now) }
 {
     let mut faults = Vec::new(alloc);
-    for worker in workers {
-        if let Some(own) = worker.join(rt) {
-            faults.push(own.fault)?;
-        }
+    for end in ends {
+        add_fault(&mut faults, end)?;
     }
     Ok(faults)
 }
 
 // Thread 0's last pass, or the fault that is answered, where the other workers have these faults.
-#[tactic(auto, using(crate::proofs::ScriptFaults::answered_by, crate::proofs::ScriptFaults::answer_fits))]
+#[tactic(auto, using(crate::proofs::ScriptFaults::answered_by))]
 fn outcome<S: Text>(
     main: Result<Pass<S>, Halt>,
     faults: &[DriveFault],
@@ -127,6 +146,53 @@ fn outcome<S: Text>(
     }
 }
 
+// Thread 0's pass once it has met the last passes of the other workers. Where none of them has a fault of its
+// own, none ended by a halt, so no fault is answered here. No clause tells so.
+fn meet_all<S: Text>(
+    shared: &Shared<S, RunsScript<S>>,
+    pass: Pass<S>,
+    ends: Vec<WorkerEnd<S>>,
+) -> Result<Pass<S>, DriveFault>
+    requires halts { All (λ end. IfErr end (IsHaltOf S.limits S.ahead S.lines)) ends.items }
+    ensures same { IfOk result (λ last. last ≡ seeing last.seen pass) }
+    ensures begins { IfOk result (λ last. IsPrefix pass.seen last.seen) }
+    ensures met { IfOk result (λ last. All (EndMet last) ends.items) }
+    ensures fault { IfErr result (IsFaultOf S.limits S.ahead S.lines) }
+{
+    let mut pass = pass;
+    for end in ends {
+        match end {
+            Ok(Some(last)) => (pass, _) = shared.meet(pass, last),
+            Ok(None) => {}
+            Err(halt) => return Err(halt.answer(None)),
+        }
+    }
+    Ok(pass)
+}
+
+// Thread 0's last pass, which has met those of the other workers, or the fault that is answered.
+#[tactic(auto, using(crate::proofs::Ends::finished))]
+fn finish<S: Text>(
+    shared: &Shared<S, RunsScript<S>>,
+    alloc: Global,
+    main_end: Result<Pass<S>, Halt>,
+    ends: Vec<WorkerEnd<S>>,
+) -> Result<Pass<S>, DriveFault>
+    requires done { IfOk main_end (Done S.lines main) }
+    requires halt { IfErr main_end (IsHaltOf S.limits S.ahead S.lines) }
+    requires halts { All (λ end. IfErr end (IsHaltOf S.limits S.ahead S.lines)) ends.items }
+    ensures done { IfOk result (Done S.lines main) }
+    ensures ok { OnOk result (IsOk main_end) }
+    ensures met { IfOk result (λ last. All (EndMet last) ends.items) }
+    ensures fault { IfErr result (IsFaultOf S.limits S.ahead S.lines) }
+{
+    let Ok(faults) = own_faults::<S>(alloc, ends.as_slice()) else {
+        return Err(DriveFault::OutOfMemory);
+    };
+    let last = outcome::<S>(main_end, faults.as_slice())?;
+    meet_all(shared, last, ends)
+}
+
 // Each thread makes the calls of its lines, in a worker of its own. The pass and the links are thread 0's.
 #[tactic(auto, using(crate::proofs::Progress::main_first))]
 fn run_all<S: Text + Send + Sync, G: Gate + Sync, R: Threads + Wait + Sync>(
@@ -139,6 +205,9 @@ fn run_all<S: Text + Send + Sync, G: Gate + Sync, R: Threads + Wait + Sync>(
     requires pass { pass ≡ new_pass main [] }
     requires serves { Serves links (lines_by main S.lines) }
     ensures done { IfOk result (Done S.lines main) }
+    ensures passed { IfOk result (λ _. PassedGate G.admitted G.told (lines_by main S.lines)) }
+    ensures through { IfOk result (λ last. All (IsThrough S.lines G.admitted G.told last)
+        (map (λ worker. worker.own.thread) workers.items)) }
     ensures fault { IfErr result (IsFaultOf S.limits S.ahead S.lines) }
 {
     thread::scope(
@@ -148,16 +217,20 @@ fn run_all<S: Text + Send + Sync, G: Gate + Sync, R: Threads + Wait + Sync>(
             requires pass { pass ≡ new_pass main [] }
             requires serves { Serves links (lines_by main S.lines) }
             ensures done { IfOk result (Done S.lines main) }
+            ensures passed { IfOk result
+                (λ _. PassedGate G.admitted G.told (lines_by main S.lines)) }
+            ensures through { IfOk result (λ last. All (IsThrough S.lines G.admitted G.told last)
+                (map (λ worker. worker.own.thread) workers.items)) }
             ensures fault { IfErr result (IsFaultOf S.limits S.ahead S.lines) }
         {
             let started = start_workers(scope, drive, alloc, workers)?;
             let mut links = links;
-            let main = run_lines(drive, pass, &mut links);
+            let main_end = run_lines(drive, pass, &mut links);
             drop(links);
-            let Ok(faults) = own_faults(drive.rt, alloc, started) else {
+            let Ok(ends) = join_promised(drive.rt, started) else {
                 return Err(DriveFault::OutOfMemory);
             };
-            outcome::<S>(main, faults.as_slice())
+            finish(drive.shared, alloc, main_end, ends)
         },
     )
 }
@@ -184,6 +257,10 @@ fn drive_in<S: Text + Send + Sync, G: Gate + Sync, R: Threads + Wait + Sync>(
     ensures joined { IfOk result (λ closed. (u : Thread)
         → IsJoinedFrom S.lines main u
         → Follows (own_events u closed.log) (lines_by u S.lines)) }
+    ensures unjoined { IfOk result (λ closed. (t : Thread)
+        → IsUnjoined S.lines t
+        → AllMadeFrom S.lines closed.log t) }
+    ensures passed { IfOk result (λ _. PassedGate G.admitted G.told S.lines) }
     ensures run { IfOk result (λ closed. IsRunOf S.lines closed.log) }
     ensures fault { IfErr result (IsFaultOf S.limits S.ahead S.lines) }
 {
@@ -215,8 +292,10 @@ fn drive_in<S: Text + Send + Sync, G: Gate + Sync, R: Threads + Wait + Sync>(
 ///
 /// The closed log is well formed, and its events of thread 0, and of each thread that is joined from it, are
 /// that thread's lines in order. A thread is joined from thread 0 where thread 0 joins it, or joins a thread
-/// from which it is joined. The closed log is a run of the script: each thread's events are those of the
-/// first of its lines, and of all of them once it is joined.
+/// from which it is joined. The same holds of each thread that no line joins, and of each thread that is
+/// joined from it. The closed log is a run of the script: each thread's events are those of the first of its
+/// lines, and of all of them once it is joined. The gate admitted each line of the script, and was told of
+/// it.
 ///
 /// The fault is one of a line of the script, or want of memory. A refusal is one that the line's call has
 /// after some well-formed run of the script in which the line's thread has started, and has made just the
@@ -242,6 +321,10 @@ pub fn drive<G: Gate + Sync, R: Threads + Wait + Sync>(
     ensures joined { IfOk result (λ closed. (u : Thread)
         → IsJoinedFrom script.now.lines main u
         → Follows (own_events u closed.log) (lines_by u script.now.lines)) }
+    ensures unjoined { IfOk result (λ closed. (t : Thread)
+        → IsUnjoined script.now.lines t
+        → AllMadeFrom script.now.lines closed.log t) }
+    ensures passed { IfOk result (λ _. PassedGate G.admitted G.told script.now.lines) }
     ensures run { IfOk result (λ closed. IsRunOf script.now.lines closed.log) }
     ensures fault { IfErr result (IsFaultOf limits (goes_ahead G.free patience) script.now.lines) }
 {

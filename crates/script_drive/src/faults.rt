@@ -97,6 +97,8 @@ pub(crate) enum Halt {
     Fault(DriveFault),
     /// The thread that this line joins ended before its lines did.
     Abandoned(ScriptLine),
+    /// The line with this number, which forks the worker's thread, was not done.
+    NotForked(u64),
 }
 
 impl Halt {
@@ -122,10 +124,11 @@ impl Halt {
         match self {
             Halt::Fault(fault) => Some(fault),
             Halt::Abandoned(_) => None,
+            Halt::NotForked(_) => None,
         }
     }
 
-    /// What is answered where thread 0's worker ends so, and this is the first fault of the others.
+    /// What is answered where a worker ends so, and this is the first fault of the others.
     pub(crate) fn answer(self, others: Option<DriveFault>) -> DriveFault
         ensures { IsAnswer self others result }
     {
@@ -133,11 +136,13 @@ impl Halt {
             (Halt::Fault(own), Some(other)) => own.or_earlier(other),
             (Halt::Fault(own), None) => own,
             (Halt::Abandoned(_), Some(other)) => other,
-            // A worker is abandoned by one that has a fault, so this does not occur. No clause tells so.
+            (Halt::NotForked(_), Some(other)) => other,
+            // A worker ends so because of one that has a fault, so this does not occur. No clause tells so.
             (Halt::Abandoned(line), None) => DriveFault::Stuck {
                 thread: line.thread(),
                 line: line.line,
             },
+            (Halt::NotForked(line), None) => DriveFault::NoWorker { line },
         }
     }
 }

@@ -1,22 +1,31 @@
 //! Gates: when a line may be run.
-ghost use Rattle.std.specs.Prelude.{◌≡◌, true};
+ghost use Rattle.std.specs.Prelude.{◌≡◌, true, IsTrue};
 
 use event_core::ThreadId;
 
 /// Says when a line may go ahead, and hears that it was done. Lines are numbered from 1. It is asked by each
 /// worker for its own lines.
 pub trait Gate {
-    ghost use Rattle.std.specs.Prelude.{Bool, false};
+    ghost use Rattle.std.specs.Prelude.{Bool, false, ℕ, ⊤};
+    ghost use Rattle.event_core.specs.declared.ids.ThreadId.{ThreadId};
 
     /// Whether it is known to let each line go ahead at once, as [`FreeGate`] does. A gate need not say.
     ghost free: { Bool } = { false };
 
+    /// What is known of a thread's line once `enter` has let it go ahead. A gate need not say.
+    ghost admitted: { ThreadId → ℕ → Type 0 } = { λ thread line. ⊤ };
+
+    /// What is known of a thread's line once `done` was called for it. A gate need not say.
+    ghost told: { ThreadId → ℕ → Type 0 } = { λ thread line. ⊤ };
+
     /// Whether the line may go ahead now. Where it may not, it is asked again.
     fn enter(&self, thread: ThreadId, line: u64) -> bool
-        ensures { Self.free ≡ true → result ≡ true };
+        ensures free { Self.free ≡ true → result ≡ true }
+        ensures admitted { IsTrue result → Self.admitted thread line };
 
     /// The line's call was accepted.
-    fn done(&self, thread: ThreadId, line: u64);
+    fn done(&self, thread: ThreadId, line: u64)
+        ensures { Self.told thread line };
 }
 
 /// Lets each line go ahead at once.

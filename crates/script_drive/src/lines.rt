@@ -5,6 +5,8 @@ ghost use Rattle.event_core.specs.declared.ids.ThreadId.{ThreadId as Thread};
 ghost use Rattle.event_core.specs.declared.replies.Refusal.TheVariants.{Held};
 ghost use Rattle.script_text.specs.declared.lines.ScriptLine.{ScriptLine as Line};
 ghost use Rattle.script_drive.specs.Faults.{goes_ahead, is_told, refused_at, HasToWait, IsHaltOf, IsNext};
+ghost use Rattle.script_text.specs.Lines.{thread_of};
+ghost use Rattle.script_drive.specs.Ends.{PassedGate};
 ghost use Rattle.script_drive.specs.Lines.{lines_by};
 ghost use Rattle.script_drive.specs.Workers.{Does, Done, IsFirst, SawRun, Serves};
 
@@ -35,6 +37,7 @@ pub(crate) struct Drive<'a, S: Text, G: Gate, R> {
 // Asks the gate for the line, as often as patience allows.
 fn enter<S: Text, G: Gate, R>(drive: &Drive<'_, S, G, R>, line: &ScriptLine) -> Result<(), Halt>
     requires line { Contains S.lines line.now }
+    ensures admitted { IfOk result (λ _. G.admitted (thread_of line.now) line.now.line) }
     ensures halt { IfErr result (IsHaltOf S.limits S.ahead S.lines) }
 {
     let mut tries = Tries::of(drive.patience);
@@ -156,6 +159,7 @@ pub(crate) fn run_lines<S: Text, G: Gate, R: Wait>(
     requires first { IsFirst S.lines pass.thread pass }
     requires serves { Serves links.old (lines_by pass.thread S.lines) }
     ensures done { IfOk result (Done S.lines pass.thread) }
+    ensures passed { IfOk result (λ _. PassedGate G.admitted G.told (lines_by pass.thread S.lines)) }
     ensures halt { IfErr result (IsHaltOf S.limits S.ahead S.lines) }
 {
     let thread = pass.thread();

@@ -1,9 +1,10 @@
 //! What workers are started with. All channels are made before the first line.
-ghost use Rattle.std.specs.Prelude.{◌≡◌, ◌∷◌, ◌++◌, [], filter, Contains, IfOk, IfSome, OnOk};
+ghost use Rattle.std.specs.Prelude.{◌≡◌, ◌∷◌, ◌++◌, [], filter, map, Contains, IfOk, IfSome, OnOk};
 ghost use Rattle.std.specs.Option.{ForSome};
 ghost use Rattle.log_pass.specs.Passes.{main};
+ghost use Rattle.script_text.specs.Scripts.{IsScript};
 ghost use Rattle.script_drive.specs.Faults.{IsForkLine};
-ghost use Rattle.script_drive.specs.Lines.{lines_by};
+ghost use Rattle.script_drive.specs.Lines.{lines_by, IsJoined};
 ghost use Rattle.script_drive.specs.Workers.{forked, is_link, joined, Serves};
 
 use crate::links::Links;
@@ -24,7 +25,7 @@ pub(crate) struct OwnLinks<S: Text> {
 }
 
 impl<S: Text> Model for OwnLinks<S> {
-    ghost use Rattle.script_drive.specs.Lines.{lines_by};
+    ghost use Rattle.script_drive.specs.Lines.{lines_by, IsJoined};
     ghost use Rattle.script_drive.specs.Workers.{OwnReach, Serves};
 
     ghost Value = { OwnReach };
@@ -49,21 +50,38 @@ pub(crate) struct Start<S: Text> {
     pub line: ForkLine<S>,
 }
 
+/// A thread that a line of the script joins.
+#[derive(Drop)]
+pub(crate) struct JoinTarget<S: Text> {
+    pub thread: ThreadId,
+    script: PhantomData<S>,
+    ghost joins: { IsJoined S.lines thread },
+}
+
+/// Where the last pass of a thread goes that a line joins.
+#[derive(Drop)]
+pub(crate) struct End<S: Text> {
+    pub sender: PassSender<S, LastPasses<S>>,
+    pub target: JoinTarget<S>,
+    ghost same: { sender.to ≡ target.thread },
+}
+
 /// A worker that is not started yet. Its last pass goes to the worker that joins it, if one does.
 #[derive(Drop)]
 pub(crate) struct Worker<S: Text> {
     pub own: OwnLinks<S>,
     pub start: Start<S>,
-    pub end: Option<PassSender<S, LastPasses<S>>>,
+    pub end: Option<End<S>>,
     ghost begins: { start.receiver.to ≡ own.thread },
-    ghost ends: { ForSome end (λ sender. sender.to ≡ own.thread) },
+    ghost ends: { ForSome end (λ end. end.sender.to ≡ own.thread) },
 }
 
-// The lines of the script that fork or join a thread, in order.
+// The lines of the script that fork or join a thread, in order. No thread is forked or joined twice.
 fn link_lines(alloc: Global, script: &Script) -> Result<Vec<ScriptLine>, AllocError>
-    ensures { IfOk result (λ lines. lines.items ≡ filter is_link script.now.lines) }
+    ensures lines { IfOk result (λ lines. lines.items ≡ filter is_link script.now.lines) }
+    ensures script { IsScript script.now }
 {
-    let mut lines = Vec::new(alloc);
+    let mut lines = Vec::with_capacity(alloc, 2 * script.threads() as usize)?;
     for line in script.lines() {
         let line = line.get();
         if line.fork().is_some() || line.join().is_some() {
@@ -76,30 +94,93 @@ fn link_lines(alloc: Global, script: &Script) -> Result<Vec<ScriptLine>, AllocEr
 // The ends of channels that no worker has yet.
 #[derive(Drop)]
 struct UnclaimedEnds<S: Text> {
-    starts: Vec<Start<S>>,
-    ends: Vec<PassSender<S, LastPasses<S>>>,
+    forks: Vec<PassSender<S, FirstPasses<S>>>,
+    ends: Vec<End<S>>,
 }
 
 impl<S: Text> UnclaimedEnds<S> {
     // Makes the channel for the thread that the line forks, if it forks one.
+    fn add_start(
+        &mut self,
+        alloc: Global,
+        line: &ScriptLine,
+        starts: &mut Vec<Start<S>>,
+    ) -> Result<(), AllocError>
+        requires { Contains S.lines line.now }
+        ensures { OnOk result (map (λ start. start.receiver.to) starts.new.items
+            ≡ map (λ start. start.receiver.to) starts.old.items ++ forked (line.now ∷ [])) }
+    {
+        if let Some(child) = line.fork() {
+            let (sender, receiver) = pass_channel::<S, FirstPasses<S>>(alloc, child)?;
+            self.forks.push(sender)?;
+            let line = ForkLine {
+                number: line.line,
+                script: PhantomData,
+            };
+            starts.push(Start { receiver, line })?;
+        }
+        Ok(())
+    }
+
+    // A start for each line that forks a thread, among the lines of the script that fork or join one.
+    fn make_starts(
+        &mut self,
+        alloc: Global,
+        lines: &[ScriptLine],
+    ) -> Result<Vec<Start<S>>, AllocError>
+        requires { lines.now ≡ filter is_link S.lines }
+        ensures { IfOk result
+            (λ starts. map (λ start. start.receiver.to) starts.items ≡ forked lines.now) }
+    {
+        let mut starts = Vec::new(alloc);
+        for line in lines {
+            self.add_start(alloc, line, &mut starts)?;
+        }
+        Ok(starts)
+    }
+
+    fn take_fork(&mut self, thread: ThreadId) -> Option<PassSender<S, FirstPasses<S>>>
+        ensures { IfSome result (λ sender. sender.to ≡ thread) }
+    {
+        for at in 0..self.forks.len() {
+            if self.forks[at].to == thread {
+                return Some(self.forks.swap_remove(at));
+            }
+        }
+        None
+    }
+
+    fn take_end(&mut self, thread: ThreadId) -> Option<End<S>>
+        ensures { IfSome result (λ end. end.sender.to ≡ thread) }
+    {
+        for at in 0..self.ends.len() {
+            if self.ends[at].sender.to == thread {
+                return Some(self.ends.swap_remove(at));
+            }
+        }
+        None
+    }
+
+    // Adds the end for the thread that the line forks, if it forks one.
     fn add_fork(
         &mut self,
         alloc: Global,
         line: &ScriptLine,
         links: &mut Links<S>,
     ) -> Result<(), AllocError>
-        requires { Contains S.lines line.now }
         ensures forks { OnOk result (links.new.forks ≡ links.old.forks ++ forked (line.now ∷ [])) }
         ensures joins { links.new.joins ≡ links.old.joins }
     {
         if let Some(child) = line.fork() {
-            let (sender, receiver) = pass_channel::<S, FirstPasses<S>>(alloc, child)?;
-            links.add_fork(sender)?;
-            let line = ForkLine {
-                number: line.line,
-                script: PhantomData,
+            let sender = match self.take_fork(child) {
+                Some(sender) => sender,
+                // No thread is forked twice, so this does not occur. No clause tells so.
+                None => {
+                    let (sender, _) = pass_channel::<S, FirstPasses<S>>(alloc, child)?;
+                    sender
+                }
             };
-            self.starts.push(Start { receiver, line })?;
+            links.add_fork(sender)?;
         }
         Ok(())
     }
@@ -111,13 +192,18 @@ impl<S: Text> UnclaimedEnds<S> {
         line: &ScriptLine,
         links: &mut Links<S>,
     ) -> Result<(), AllocError>
+        requires { Contains S.lines line.now }
         ensures forks { links.new.forks ≡ links.old.forks }
         ensures joins { OnOk result (links.new.joins ≡ links.old.joins ++ joined (line.now ∷ [])) }
     {
         if let Some(child) = line.join() {
             let (sender, receiver) = pass_channel::<S, LastPasses<S>>(alloc, child)?;
             links.add_join(receiver)?;
-            self.ends.push(sender)?;
+            let target = JoinTarget {
+                thread: child,
+                script: PhantomData,
+            };
+            self.ends.push(End { sender, target })?;
         }
         Ok(())
     }
@@ -144,79 +230,69 @@ impl<S: Text> UnclaimedEnds<S> {
         Ok(links)
     }
 
-    fn take_start(&mut self, thread: ThreadId) -> Option<Start<S>>
-        ensures { IfSome result (λ start. start.receiver.to ≡ thread) }
-    {
-        for at in 0..self.starts.len() {
-            if self.starts[at].receiver.to == thread {
-                return Some(self.starts.swap_remove(at));
-            }
-        }
-        None
-    }
-
-    fn take_end(&mut self, thread: ThreadId) -> Option<PassSender<S, LastPasses<S>>>
-        ensures { IfSome result (λ sender. sender.to ≡ thread) }
-    {
-        for at in 0..self.ends.len() {
-            if self.ends[at].to == thread {
-                return Some(self.ends.swap_remove(at));
-            }
-        }
-        None
-    }
-
-    // A worker for each thread that has these links and that a line forks. No clause tells that none is left
-    // out.
-    fn make_workers(
-        mut self,
+    // A worker for each start. None has its end yet.
+    fn connect_all(
+        &mut self,
         alloc: Global,
-        others: Vec<OwnLinks<S>>,
-    ) -> Result<Vec<Worker<S>>, AllocError> {
+        lines: &[ScriptLine],
+        starts: Vec<Start<S>>,
+    ) -> Result<Vec<Worker<S>>, AllocError>
+        requires { lines.now ≡ filter is_link S.lines }
+        ensures { IfOk result (λ workers. map (λ worker. worker.own.thread) workers.items
+            ≡ map (λ start. start.receiver.to) starts.items) }
+    {
         let mut workers = Vec::new(alloc);
-        for own in others {
-            let end = self.take_end(own.thread);
-            if let Some(start) = self.take_start(own.thread) {
-                workers.push(Worker { own, start, end })?;
-            }
+        for start in starts {
+            let thread = start.receiver.to;
+            let links = self.connect(alloc, lines, thread)?;
+            workers.push(Worker {
+                own: OwnLinks { thread, links },
+                start,
+                end: None,
+            })?;
         }
         Ok(workers)
     }
-}
 
-// The links of all threads but thread 0.
-fn other_links<S: Text>(
-    alloc: Global,
-    threads: u32,
-    lines: &[ScriptLine],
-    unclaimed: &mut UnclaimedEnds<S>,
-) -> Result<Vec<OwnLinks<S>>, AllocError>
-    requires { lines.now ≡ filter is_link S.lines }
-{
-    let mut others = Vec::new(alloc);
-    for number in 1..threads {
-        let thread = ThreadId(number);
-        let links = unclaimed.connect(alloc, lines, thread)?;
-        others.push(OwnLinks { thread, links })?;
+    // The same workers with their ends. No clause tells that each has one that a line joins.
+    fn with_ends(
+        mut self,
+        alloc: Global,
+        workers: Vec<Worker<S>>,
+    ) -> Result<Vec<Worker<S>>, AllocError>
+        ensures { IfOk result (λ ended. map (λ worker. worker.own.thread) ended.items
+            ≡ map (λ worker. worker.own.thread) workers.items) }
+    {
+        let mut ended = Vec::new(alloc);
+        for worker in workers {
+            let Worker { own, start, end: _ } = worker;
+            let end = self.take_end(own.thread);
+            ended.push(Worker { own, start, end })?;
+        }
+        Ok(ended)
     }
-    Ok(others)
 }
 
-/// Thread 0's links, and a worker for each other thread. No clause tells that no worker is left out.
+/// Thread 0's links, and a worker for each thread that a line forks.
 pub(crate) fn all_workers<S: Text>(
     alloc: Global,
     script: &Script,
 ) -> Result<(Links<S>, Vec<Worker<S>>), AllocError>
     requires lines { script.now.lines ≡ S.lines }
     ensures main { IfOk result (λ made. Serves made.0 (lines_by main S.lines)) }
+    ensures all { IfOk result
+        (λ made. map (λ worker. worker.own.thread) made.1.items ≡ forked S.lines) }
+    ensures script { IsScript script.now }
 {
     let mut unclaimed = UnclaimedEnds {
-        starts: Vec::new(alloc),
+        forks: Vec::new(alloc),
         ends: Vec::new(alloc),
     };
     let lines = link_lines(alloc, script)?;
-    let main_links = unclaimed.connect(alloc, lines.as_slice(), ThreadId(0))?;
-    let others = other_links(alloc, script.threads(), lines.as_slice(), &mut unclaimed)?;
-    let workers = unclaimed.make_workers(alloc, others)?;
+    let lines = lines.as_slice();
+    let starts = unclaimed.make_starts(alloc, lines)?;
+    let main_links = unclaimed.connect(alloc, lines, ThreadId(0))?;
+    let workers = unclaimed.connect_all(alloc, lines, starts)?;
+    let workers = unclaimed.with_ends(alloc, workers)?;
     Ok((main_links, workers))
 }

@@ -1,7 +1,7 @@
-use Rattle.std.specs.List.{All}
-use Rattle.script_drive.specs.Faults.{IsFaultOf}
+use Rattle.std.proofs.Common.{◌≡◌, take}
+use Rattle.std.specs.List.{filter_map}
+use Rattle.script_drive.specs.Ends.{end_fault}
 use Rattle.script_drive.proofs.driving.own_faults.Given as goal
 
-abbrev pub invariant-loop-worker : goal.invariant-loop-worker
-invariant-loop-worker g l =
-    All (IsFaultOf g.S.Name.limits g.S.Text.ahead g.S.Text.lines) l.faults.items
+abbrev pub invariant-loop-end : goal.invariant-loop-end
+invariant-loop-end g l = l.faults.items ≡ filter_map end_fault (take l.end-index l.ends)

@@ -1,5 +1,5 @@
 use Rattle.script_drive.proofs.driving.start_workers.Goals as goal
 
 -- want of memory is a fault of each script
-pub returns-then-is_err : goal.returns-then-is_err
-returns-then-is_err g c = ∣ tt ∣₁
+pub returns-then-is_err-clause-fault : goal.returns-then-is_err-clause-fault
+returns-then-is_err-clause-fault g c = ∣ tt ∣₁

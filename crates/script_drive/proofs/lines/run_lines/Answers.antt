@@ -1,8 +1,9 @@
-use Rattle.std.proofs.Common.{rules, ◌≡◌, ◌+◌, sym, subst, drop}
+use Rattle.std.proofs.Common.{rules, ◌≡◌, ◌+◌, ◌∙◌, arith, sym, subst, drop, take_all}
+use Rattle.script_drive.specs.Ends.{PassedGate}
 use Rattle.script_drive.specs.Lines.{lines_by}
 use Rattle.script_drive.specs.Workers.{HasDone, Serves}
 use Rattle.script_drive.proofs.Progress.{all_done, done_at, first_done, next_line, other_left}
-use Rattle.script_drive.proofs.Progress.{other_taken}
+use Rattle.script_drive.proofs.Progress.{other_taken, passed_at}
 use Rattle.script_drive.proofs.ScriptFaults.{line_at, next_at}
 use Rattle.script_drive.proofs.lines.run_lines.Goals as goal
 
@@ -11,6 +12,7 @@ loop-line-init g c = (
   first_done c.args.pass.thread c.args.pass c.requires.first,
   subst (λ ls. Serves c.args.links.now (lines_by c.args.pass.thread ls)) (search rules) c.requires.serves,
   record { is_pass = c.thread-thread.ensures.is_pass; run = c.requires.first.run },
+  λ k d lt. absurd (omega (arith, lt)),
 )
 
 pub make_call-requires-clause-next : goal.make_call-requires-clause-next
@@ -50,6 +52,8 @@ loop-line-preserved g c =
           (next_line t lines i c.get-line.result (search rules) (search rules) (search rules)
           c.loop-line.links c.loop-line.invariant.1),
       c.in_ok-pass.ensures.saw,
+      passed_at t lines i c.get-line.result (search rules) (search rules) (search rules) g.G.Gate.admitted
+          g.G.Gate.told (search rules) (search rules) c.loop-line.invariant.3,
     )
 
 -- another thread's line is passed over
@@ -65,6 +69,9 @@ loop-line-preserved-then-not-is_of g c =
           (other_left t lines i c.line-item.result (search rules) (search rules) (search rules))
           c.loop-line.invariant.1,
       c.loop-line.invariant.2,
+      subst (λ ls. PassedGate g.G.Gate.admitted g.G.Gate.told ls)
+          (sym (other_taken t lines i c.line-item.result (search rules) (search rules) (search rules)))
+          c.loop-line.invariant.3,
     )
 
 pub returns-clause-done : goal.returns-clause-done
@@ -74,3 +81,10 @@ returns-clause-done g c =
     let same : lines ≡ script = cc in
     all_done script lines c.args.pass.thread c.loop-line.pass c.loop-line.line-index same (search rules)
     c.loop-line.invariant.0
+
+pub returns-clause-passed : goal.returns-clause-passed
+returns-clause-passed g c =
+    let lines = c.lines-line-items.result.now in
+    let same : lines ≡ g.S.Text.lines = cc in
+    subst (λ ls. PassedGate g.G.Gate.admitted g.G.Gate.told (lines_by c.args.pass.thread ls))
+    (take_all c.loop-line.line-index lines (search rules) ∙ same) c.loop-line.invariant.3

@@ -1,4 +1,5 @@
 use Rattle.std.proofs.Common.{take, drop}
+use Rattle.script_drive.specs.Ends.{PassedGate}
 use Rattle.script_drive.specs.Lines.{lines_by}
 use Rattle.script_drive.specs.Workers.{HasDone, SawRun, Serves}
 use Rattle.script_drive.proofs.lines.run_lines.Given as goal
@@ -9,3 +10,4 @@ invariant-loop-line g l =
     HasDone t l.pass (lines_by t (take l.line-index l.line-items))
     × Serves l.links (lines_by t (drop l.line-index l.line-items))
     × SawRun g.S.Name.limits g.S.Text.lines l.pass
+    × PassedGate g.G.Gate.admitted g.G.Gate.told (lines_by t (take l.line-index l.line-items))

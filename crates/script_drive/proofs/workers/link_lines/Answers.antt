@@ -3,8 +3,8 @@ use Rattle.std.specs.Prelude.{filter}
 use Rattle.script_drive.specs.Workers.{is_link}
 use Rattle.script_drive.proofs.workers.link_lines.Goals as goal
 
-pub returns : goal.returns
-returns c =
+pub returns-clause-lines : goal.returns-clause-lines
+returns-clause-lines c =
     let lines = c.lines-line-items.result.now in
     let same : lines ≡ c.args.script.now.lines = cc in
     c.loop-line.invariant

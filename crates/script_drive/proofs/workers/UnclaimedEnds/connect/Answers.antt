@@ -26,8 +26,8 @@ loop-line-preserved-then-not-is_of g c =
     (sym c.is_of.ensures ∙ c.if-not-is_of.true)))
     c.loop-line.invariant
 
-pub add_fork-requires : goal.add_fork-requires
-add_fork-requires g c =
+pub add_join-requires : goal.add_join-requires
+add_join-requires g c =
     let lines = c.args.lines.now in
     let i = c.loop-line.line-index in
     let below = c.loop-line-test.true in
