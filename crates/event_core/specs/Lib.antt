@@ -20,9 +20,6 @@ pub mod Effect
 pub mod Rows
 pub mod Closed
 pub mod Newest
--- the rule without re-entrance
-pub mod Plain
-pub mod PlainWcp
 -- what contracts see of limits, of a log and of lists that grow
 pub mod Bounds
 pub mod Recorded
@@ -36,6 +33,3 @@ pub mod StrictLaws
 pub mod LogLaws
 pub mod RunLaws
 pub mod CountLaws
-pub mod PlainLaws
--- small logs
-pub mod Examples

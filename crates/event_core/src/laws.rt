@@ -6,7 +6,6 @@
 mod counts;
 mod logs;
 mod order;
-mod plain;
 mod runs;
 mod strict;
 
@@ -23,7 +22,6 @@ pub use order::{
     below_near, ends_below, hb_goes_forward, hb_is_order, po_goes_forward, po_is_order,
     releases_are_ordered, sections_are_ordered,
 };
-pub use plain::{plain_logs_have_no_inner_acquire, plain_logs_keep_their_meaning};
 pub use runs::{
     act_outcome_is_unique, act_run_is_unique, act_runs_keep_logs_well_formed, outcome_is_unique,
     run_is_unique, runs_keep_logs_well_formed, swap_is_refused_as_its_load, swap_meets_full_log,

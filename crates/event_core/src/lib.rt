@@ -3,7 +3,6 @@
 
 mod bounds;
 mod events;
-pub mod examples;
 mod ids;
 pub mod laws;
 mod logs;

@@ -1,4 +1,3 @@
 pub mod Endings
-pub mod CommandLine
 pub mod Running
 pub mod ScriptRuns

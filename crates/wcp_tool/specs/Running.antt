@@ -5,7 +5,10 @@ use Rattle.std.specs.List.{list_any}
 use Rattle.event_core.specs.declared.bounds.Limits.{Limits}
 use Rattle.event_core.specs.declared.bounds.Roots.{Roots}
 use Rattle.event_core.specs.declared.bounds.Roots.TheVariants.{Free, OnlyMain}
-use Rattle.clap.specs.Words.{Kinds, Text}
+use Rattle.command_line.specs.declared.requests.UsageFault.{UsageFault}
+use Rattle.command_line.specs.declared.requests.UsageFault.TheVariants as faults
+use Rattle.command_line.specs.Requests.{Kinds, Request, Text, asked, check, faults_of, is_answer}
+use Rattle.command_line.specs.Requests.{is_mistake, replay, run, witness}
 use Rattle.rapid_text.specs.Turns.{IsCutShort}
 use Rattle.script_text.specs.Readings.{ReadFails}
 use Rattle.trace_report.specs.declared.faults.ReplayFault.{ReplayFault}
@@ -17,12 +20,8 @@ use Rattle.trace_report.specs.Judging.{IsTruncatedAt}
 use Rattle.trace_report.specs.Replayed.{TellsText, answer_gives_up}
 use Rattle.witness_report.specs.declared.shown.Shown.{Shown}
 use Rattle.witness_report.specs.Showing.{AnswersText}
-use Rattle.wcp_tool.specs.declared.requests.UsageFault.{UsageFault}
-use Rattle.wcp_tool.specs.declared.requests.UsageFault.TheVariants as faults
 use Rattle.wcp_tool.specs.declared.endings.Ending.{Ending}
 use Rattle.wcp_tool.specs.declared.endings.Ending.TheVariants.{Done, WrongUsage, WriteFault, OutOfMemory}
-use Rattle.wcp_tool.specs.CommandLine.{Request, asked, check, faults_of, is_answer, is_mistake, replay, run}
-use Rattle.wcp_tool.specs.CommandLine.{witness}
 use Rattle.wcp_tool.specs.Endings.{check_ending, replay_ending, status_of, witness_ending}
 use Rattle.wcp_tool.specs.ScriptRuns.{BreaksText, RunsText, RefusesText}
 

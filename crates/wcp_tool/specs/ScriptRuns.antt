@@ -12,7 +12,7 @@ use Rattle.closed_report.specs.Closed.{IsReportOf}
 use Rattle.rapid_text.specs.Faults.{fault_line}
 use Rattle.rapid_text.specs.Tables.{Tables}
 use Rattle.script_drive.specs.Faults.{HasToWait, Refuses, is_told}
-use Rattle.script_drive.specs.Lines.{Follows, IsJoinedFrom, lines_by}
+use Rattle.script_drive.specs.Lines.{AllMadeFrom, Follows, IsJoinedFrom, IsUnjoined, lines_by}
 use Rattle.script_drive.specs.Runs.{IsRunOf}
 use Rattle.script_drive.specs.declared.faults.DriveFault.{DriveFault}
 use Rattle.script_drive.specs.declared.faults.DriveFault.TheVariants.{NoWorker, Refused, Stuck}
@@ -49,14 +49,15 @@ abbrev pub first_thread : ThreadId
 first_thread = record { 0 = 0 }
 
 -- the threads of the script were run, and this is the well-formed log of what they did: each thread's events
--- are those of the first of its lines in order, and those of the first thread, and of each thread that is
--- joined from it, of all of them
+-- are those of the first of its lines in order, and those of the first thread, of each thread that no line
+-- joins, and of each thread that is joined from one of these, of all of them
 pub record IsRun (m : Limits) (script : Parsed) (log : List Event) : Type 0 where
   pub well_formed : WellFormed m log
   pub run : IsRunOf script.lines log
   pub first : Follows (own_events first_thread log) (lines_by first_thread script.lines)
   pub joined : (u : ThreadId) → IsJoinedFrom script.lines first_thread u
       → Follows (own_events u log) (lines_by u script.lines)
+  pub unjoined : (t : ThreadId) → IsUnjoined script.lines t → AllMadeFrom script.lines log t
 
 -- the threads of the script were run, and the log of what they did was reported
 pub record Ran (m : Limits) (script : Parsed) (old new : Option (List ℕ)) (status : ℕ) : Type 0 where

@@ -1,9 +1,8 @@
 //! The program over its words, a reader, and writers for standard output and standard error.
 ghost use Rattle.std.specs.Prelude.{◌≡◌, ◌≢◌, ◌⊎◌, ℕ, List, ◌≤◌, Option, IfErr, IfSome, true, false, length};
 ghost use Rattle.std.specs.Prelude.{map};
-ghost use Rattle.clap.specs.Words.{Text};
+ghost use Rattle.command_line.specs.Requests.{Text, request_of};
 ghost use Rattle.wcp_tool.specs.Endings.{is_write_fault};
-ghost use Rattle.wcp_tool.specs.CommandLine.{request_of};
 ghost use Rattle.wcp_tool.specs.Running.{Checks, Replays, Witnesses, Performs, IsTruncated, IsHindered, Runs};
 ghost use Rattle.wcp_tool.specs.Running.{
   EndsAs,
@@ -15,11 +14,10 @@ ghost use Rattle.wcp_tool.specs.Running.{
 };
 
 use crate::bounds::{TURNS, limits_of};
-use crate::command_line::settings;
 use crate::endings::{Ending, ending_of_check, ending_of_replay, ending_of_witness, finish};
-use crate::requests::{Command, Settings, UsageFault};
 use crate::script_files::ScriptFiles;
 use crate::scripts::run_file;
+use command_line::{Command, Settings, UsageFault, settings};
 use event_core::Roots;
 use rapid_text::{Input, Output, write_all};
 use std::convert::AsStr;

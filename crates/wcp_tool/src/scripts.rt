@@ -15,9 +15,9 @@ ghost use Rattle.event_core.specs.declared.bounds.Roots.TheVariants.{OnlyMain};
 
 use crate::bounds::{TURNS, limits_of};
 use crate::endings::{Ending, finish, summary_ending};
-use crate::requests::Settings;
 use crate::script_files::ScriptFiles;
 use closed_report::{ReportFault, report_closed};
+use command_line::Settings;
 use event_core::{Limits, Roots};
 use live_monitor::Closed;
 use rapid_text::{Input, Names, Output, write_fault};
@@ -168,7 +168,7 @@ fn run_text<R: AllocGlobal + Threads + Wait + Sync, I: Input, O: Output>(
 ///
 /// What the threads did depends on the schedule, and so does the status: of the log it is said only that it
 /// is well formed, that it is one that the script's threads can have made, and which events the first thread
-/// has, and each thread that is joined from it.
+/// has, each thread that no line joins, and each thread that is joined from one of these.
 pub fn run_script<R: AllocGlobal + Threads + Wait + Sync, I: Input, O: Output, E: Output>(
     rt: &R,
     script: &mut I,
@@ -182,7 +182,8 @@ pub fn run_script<R: AllocGlobal + Threads + Wait + Sync, I: Input, O: Output, E
     requires writes { O.failed writer.old ≡ false }
     // With status 0 or 1 it wrote the report of a well-formed log, and nothing else. The log is of the script
     // that the reader had left: the report has the script's names, and the log has of each thread the first
-    // of its lines in order, and of the first thread, and each that is joined from it, all of them.
+    // of its lines in order, and all of them of the first thread, of each that no line joins, and of each
+    // that is joined from one of these.
     ensures ran { (result ≡ 0) ⊎ (result ≡ 1) → RunsText (limits_with settings.now.threads OnlyMain)
         (I.left script.old) (O.written writer.old) (O.written writer.new) result }
     // With status 3 it wrote the one line that says which call of that script is refused, and why. The

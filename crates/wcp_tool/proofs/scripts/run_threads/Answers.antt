@@ -15,6 +15,7 @@ returns-in-Ok-clause-ran g c h = record {
     run = c.in-Ok.ensures.run;
     first = c.in-Ok.ensures.main;
     joined = c.in-Ok.ensures.joined;
+    unjoined = c.in-Ok.ensures.unjoined;
   };
   reports = subst (λ (t : Tables). ReportsLog t c.in-Ok.closed.log (g.O.Output.written c.args.writer.now)
       (g.O.Output.written c.tell_report-ending.new.writer) (status_of c.tell_report-ending.result))

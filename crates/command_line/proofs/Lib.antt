@@ -1,0 +1,2 @@
+pub mod CommandSettings
+pub mod CommandFaults
