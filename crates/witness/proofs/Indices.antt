@@ -1,6 +1,8 @@
 -- Lists of indices to which one is added.
 use Rattle.std.proofs.Common.{◌≡◌, ℕ, suc, ◌+◌, List, [], ◌∷◌, ◌++◌, Option, Some, None, slice_get, refl, ap}
-use Rattle.std.proofs.Common.{◌∙◌, sym, arith, get_or, if◌then◌else◌}
+use Rattle.std.proofs.Common.{◌∙◌, sym, arith, get_or, if◌then◌else◌, Bool, true, false, ◌<◌, ◌⊎◌}
+use Rattle.std.proofs.lemmas.Bool.{cases_Bool}
+use mathlib.Core.Logic.{inl, inr}
 use Rattle.event_core.specs.declared.ids.VarId.{VarId}
 use Rattle.event_core.specs.declared.events.Event.{Event}
 use Rattle.event_core.specs.Refusal.{op_stores}
@@ -60,3 +62,32 @@ store_noted log k e stores more at were noted x =
     noted x ∙ ap (λ (o : Option ℕ). if op_stores x e.op then Some k else o) (were x)
     ∙ sym (store_more log x (below k) k e at)
     ∙ ap (last_store log x) (sym (below_more k (k + 1) refl))
+
+-- no store is kept before the first event
+pub none_early : (stores : List (Option ℕ)) → stores ≡ [] → (x : VarId) (s : ℕ)
+    → get_or stores x.0 None ≡ Some s → ⊥
+none_early stores e x s is =
+    let none : get_or stores x.0 None ≡ None = rw e refl in
+    let both : None ≡ Some s = sym none ∙ is in
+    absurd (cc)
+
+-- each store that is kept is before the event at k; so it is after one more event
+pub early_more : (k : ℕ) (e : Event) (stores more : List (Option ℕ))
+    → ((x : VarId) (s : ℕ) → get_or stores x.0 None ≡ Some s → s < k)
+    → ((x : VarId) → get_or more x.0 None ≡ (if op_stores x e.op then Some k else get_or stores x.0 None))
+    → (x : VarId) (s : ℕ) → get_or more x.0 None ≡ Some s → s < k + 1
+early_more k e stores more were noted x s is = go (cases_Bool (op_stores x e.op))
+  where
+    kept : (b : Bool) → op_stores x e.op ≡ b
+        → (if b then Some k else get_or stores x.0 None) ≡ Some s
+    kept b t =
+        sym (ap (λ (c : Bool). if c then Some k else get_or stores x.0 None) t) ∙ sym (noted x) ∙ is
+
+    go : (op_stores x e.op ≡ true) ⊎ (op_stores x e.op ≡ false) → s < k + 1
+    go (inl t) =
+        let some : Some k ≡ Some s = kept true t in
+        let same : k ≡ s = cc in
+        omega arith
+    go (inr f) =
+        let less = were x s (kept false f) in
+        omega arith

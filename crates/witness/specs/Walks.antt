@@ -12,6 +12,7 @@ use Rattle.event_core.specs.Rows.{Counted}
 use Rattle.event_core.specs.Closed.{Has}
 use Rattle.witness.specs.declared.tables.Tables.{Tables}
 use Rattle.witness.specs.Indices.{below, last_store}
+use Rattle.witness.specs.Links.{back_at}
 use Rattle.witness.specs.Witness.{IsNext}
 
 -- of each event, how many events of its thread are before it
@@ -23,11 +24,11 @@ ArePlaces log places =
 abbrev pub AreTotals : List Event → List ℕ → Type 0
 AreTotals log totals = (u : ThreadId) → slice_index totals u.0 ≡ events_of log u
 
--- of each load, the last store to its variable before it
-abbrev pub AreReads : List Event → List (Option ℕ) → Type 0
-AreReads log reads =
+-- each load leads back to the last store to its variable before it
+abbrev pub AreReads : List Event → List ℕ → Type 0
+AreReads log links =
     (k : ℕ) (u : ThreadId) (x : VarId) → Does log k u (Load x)
-    → slice_index_or reads k None ≡ last_store log x (below k)
+    → back_at links k ≡ last_store log x (below k)
 
 -- of each thread, its fork
 abbrev pub AreForks : List Event → List (Option ℕ) → Type 0
@@ -58,5 +59,5 @@ pub record IsNextOf (log : List Event) (before : List ℕ) (counts : ℕ → ℕ
 pub record AreTables (log : List Event) (t : Tables) : Type 0 where
   pub places : ArePlaces log t.places.items
   pub totals : AreTotals log t.totals.items
-  pub reads : AreReads log t.reads.items
+  pub reads : AreReads log t.links.items
   pub forks : AreForks log t.forks.items

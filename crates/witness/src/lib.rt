@@ -6,13 +6,14 @@
 #![tactic(auto)]
 
 pub mod laws;
+mod links;
 mod marks;
 mod memory_step;
 mod next;
 mod search;
 mod searcher;
-mod sections;
 mod tables;
+mod thread_events;
 mod walk;
 
 pub use searcher::{Searcher, Witness};

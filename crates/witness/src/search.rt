@@ -9,10 +9,11 @@
 //! Nothing is promised of it: what it proposes is tested.
 ghost use Rattle.std.specs.Prelude.{◌≤◌, ◌^◌, length};
 
+use crate::links::{link_back, link_on};
 use crate::marks::{count_of, index_at};
-use crate::sections::{Section, Sections};
 use crate::tables::Tables;
-use event_core::{LockId, Log, Op, OutOfMemory, ThreadId};
+use crate::thread_events::ThreadEvents;
+use event_core::{LockId, Log, Op, OutOfMemory, ThreadId, grow_to};
 use std::alloc::Global;
 
 /// A thread's first events that may be taken: as many as this.
@@ -39,12 +40,12 @@ pub struct Search {
 
 impl Search {
     /// Nothing is taken.
-    pub fn new(alloc: Global, tables: &Tables, sections: &Sections) -> Result<Search, OutOfMemory> {
+    pub fn new(alloc: Global, tables: &Tables) -> Result<Search, OutOfMemory> {
         let threads = tables.totals.len();
         Ok(Search {
             taken: vec![in alloc; 0u64; threads]?,
             wanted: vec![in alloc; 0u64; threads]?,
-            newest: vec![in alloc; None; sections.locks]?,
+            newest: Vec::new(alloc),
             entered: Vec::new(alloc),
             work: Vec::new(alloc),
         })
@@ -109,23 +110,20 @@ impl Search {
         bounds: &[Bound],
         log: &Log,
         tables: &Tables,
-        sections: &Sections,
         lock: LockId,
         index: u32,
     ) -> Result<bool, OutOfMemory> {
         let at = lock.0 as usize;
-        if self.newest.len() <= at {
-            return Ok(true);
-        }
+        grow_to(&mut self.newest, at + 1, || None)?;
         let Some(other) = self.newest[at] else {
             self.newest[at] = Some(index);
             self.entered.push(lock)?;
             return Ok(true);
         };
         self.newest[at] = Some(index.max(other));
-        match sections.opened_by(index.min(other)) {
-            Section::Ends(release) => self.want_event(bounds, log, tables, Some(release)),
-            _ => Ok(false),
+        match link_on(&tables.links, index.min(other)) {
+            Some(release) => self.want_event(bounds, log, tables, Some(release)),
+            None => Ok(false),
         }
     }
 
@@ -135,18 +133,15 @@ impl Search {
         bounds: &[Bound],
         log: &Log,
         tables: &Tables,
-        sections: &Sections,
         index: u32,
     ) -> Result<bool, OutOfMemory> {
         let Some(event) = log.get(index as u64) else {
             return Ok(true);
         };
+        let back = link_back(&tables.links, index);
         match event.op {
-            Op::Load(_) => { self.want_event(bounds, log, tables, index_at(&tables.reads, index)) }
-            Op::Acquire(lock) => match sections.opened_by(index) {
-                Section::None => Ok(true),
-                _ => self.enter(bounds, log, tables, sections, lock, index),
-            },
+            Op::Load(_) => self.want_event(bounds, log, tables, back),
+            Op::Acquire(lock) if back.is_none() => self.enter(bounds, log, tables, lock, index),
             Op::Join(child) => Ok(
                 self.want_fork(bounds, log, tables, child)?
                     && self.want(bounds, child, count_of(&tables.totals, child))?,
@@ -173,7 +168,7 @@ impl Search {
         bounds: &[Bound],
         log: &Log,
         tables: &Tables,
-        sections: &Sections,
+        own: &ThreadEvents,
         thread: ThreadId,
     ) -> Result<bool, OutOfMemory> {
         if !self.want_fork(bounds, log, tables, thread)? {
@@ -187,10 +182,10 @@ impl Search {
         }
         self.taken[at] = most;
         'events: for place in (least..most).rev() {
-            let Some(index) = sections.event_of(thread, place) else {
+            let Some(index) = own.event_of(thread, place) else {
                 return Ok(false);
             };
-            if !self.want_for(bounds, log, tables, sections, index)? {
+            if !self.want_for(bounds, log, tables, index)? {
                 return Ok(false);
             }
         }
@@ -217,7 +212,7 @@ impl Search {
         bounds: &[Bound],
         log: &Log,
         tables: &Tables,
-        sections: &Sections,
+        own: &ThreadEvents,
     ) -> Result<bool, OutOfMemory> {
         for access in bounds {
             if !self.want_before(bounds, log, tables, *access)? {
@@ -228,7 +223,7 @@ impl Search {
             let Some(thread) = self.work.pop() else {
                 return Ok(true);
             };
-            if !self.take(bounds, log, tables, sections, thread)? {
+            if !self.take(bounds, log, tables, own, thread)? {
                 return Ok(false);
             }
         }
@@ -241,7 +236,7 @@ impl Search {
         alloc: Global,
         log: &Log,
         tables: &Tables,
-        sections: &Sections,
+        own: &ThreadEvents,
         i: u64,
         j: u64,
     ) -> Result<Option<Vec<u32>>, OutOfMemory>
@@ -261,11 +256,20 @@ impl Search {
                 most: tables.place_at(j),
             },
         ];
-        if !self.grow(&bounds, log, tables, sections)? {
+        if !self.grow(&bounds, log, tables, own)? {
             return Ok(None);
         }
         Ok(Some(in_order(alloc, log, tables, &self.taken)?))
     }
+}
+
+// How many events are taken.
+fn sum_of(taken: &[u64]) -> u64 {
+    let mut sum: u64 = 0;
+    for count in taken {
+        sum = sum.saturating_add(*count);
+    }
+    sum
 }
 
 // The events that are taken, in the order of the log.
@@ -278,6 +282,7 @@ fn in_order(
     requires { length log.now.events ≤ 2 ^ 32 }
 {
     let mut order = Vec::new(alloc);
+    order.reserve_exact(sum_of(taken) as usize)?;
     for index in 0..log.len() {
         if let Some(event) = log.get(index) {
             if tables.place_at(index) < count_of(taken, event.thread) {

@@ -4,8 +4,8 @@ ghost use Rattle.event_core.specs.Refusal.{WellFormed};
 ghost use Rattle.witness.specs.Witness.{IsWitness};
 
 use crate::search::Search;
-use crate::sections::Sections;
 use crate::tables::Tables;
+use crate::thread_events::ThreadEvents;
 use crate::walk::is_witness;
 use event_core::laws::slots_are_kept;
 use event_core::{Limits, Log, OutOfMemory};
@@ -20,14 +20,14 @@ pub struct Witness {
 
 /// What is kept of a log to look for witnesses of its races. Contracts see the log and its limits.
 ///
-/// It takes 24 bytes an event, and more for each thread and lock.
+/// It takes 12 bytes an event, and more for each thread and lock.
 #[derive(Drop)]
 pub struct Searcher<'a> {
     alloc: Global,
     limits: Limits,
     log: &'a Log,
     tables: Tables,
-    sections: Sections,
+    own: ThreadEvents,
     search: Search,
 }
 
@@ -53,14 +53,14 @@ impl<'a> Searcher<'a> {
         slots_are_kept();
         let _events = limits.events();
         let tables = Tables::new(alloc, log)?;
-        let sections = Sections::new(alloc, log, &tables)?;
-        let search = Search::new(alloc, &tables, &sections)?;
+        let own = ThreadEvents::new(alloc, log, &tables)?;
+        let search = Search::new(alloc, &tables)?;
         Ok(Searcher {
             alloc,
             limits,
             log,
             tables,
-            sections,
+            own,
             search,
         })
     }
@@ -74,7 +74,7 @@ impl<'a> Searcher<'a> {
     {
         let Some(events) = self
             .search
-            .propose(self.alloc, self.log, &self.tables, &self.sections, i, j)?
+            .propose(self.alloc, self.log, &self.tables, &self.own, i, j)?
         else {
             return Ok(None);
         };

@@ -1,13 +1,12 @@
 //! What is kept of a log, so that each test of a witness takes constant time.
-ghost use Rattle.std.specs.Prelude.{◌≡◌, ◌<◌, ◌≤◌, ◌^◌, length, slice_get, slice_index, slice_index_or};
-ghost use Rattle.std.specs.Prelude.{Some, None, IfOk};
-ghost use Rattle.event_core.specs.declared.events.Op.{Op as Operation};
-ghost use Rattle.event_core.specs.declared.ids.VarId.{VarId as Var};
+ghost use Rattle.std.specs.Prelude.{◌≡◌, ◌<◌, ◌≤◌, ◌^◌, length, slice_get, slice_index};
+ghost use Rattle.std.specs.Prelude.{Some, IfOk};
 ghost use Rattle.event_core.specs.declared.bounds.Limits.{Limits as Bounds};
 ghost use Rattle.event_core.specs.Refusal.{WellFormed};
 ghost use Rattle.witness.specs.Walks.{ArePlaces, AreTotals, AreReads, AreForks, AreTables};
 
-use crate::marks::{count_of, count_one, index_at, note_fork, note_store};
+use crate::links::{leave, link_for};
+use crate::marks::{count_of, count_one, note_fork, note_store};
 use event_core::{Event, Log, Op, OutOfMemory};
 use std::alloc::Global;
 
@@ -18,10 +17,12 @@ pub struct Tables {
     pub places: Vec<u32>,
     /// How many events each thread has.
     pub totals: Vec<u64>,
-    /// Of each load, the last store to its variable before it.
-    pub reads: Vec<Option<u32>>,
+    /// Of each event, what it leads to.
+    pub links: Vec<u32>,
     /// The fork of each thread.
     pub forks: Vec<Option<u32>>,
+    /// How many variables are stored to: each number is below.
+    pub vars: usize,
 }
 
 impl Tables {
@@ -32,13 +33,14 @@ impl Tables {
         ensures { IfOk result (λ t. AreTables log.now.events t) }
     {
         let (places, totals) = find_places(alloc, log)?;
-        let reads = find_reads(alloc, log)?;
+        let links = find_links(alloc, log)?;
         let forks = find_forks(alloc, log)?;
         Ok(Tables {
             places,
             totals,
-            reads,
+            links,
             forks,
+            vars: count_vars(log),
         })
     }
 
@@ -81,30 +83,23 @@ fn find_places(alloc: Global, log: &Log) -> Result<(Vec<u32>, Vec<u64>), OutOfMe
     Ok((places, counts))
 }
 
-// Of each load the store that it reads.
-fn find_reads(alloc: Global, log: &Log) -> Result<Vec<Option<u32>>, OutOfMemory>
+// Of each event what it leads to.
+fn find_links(alloc: Global, log: &Log) -> Result<Vec<u32>, OutOfMemory>
     requires { length log.now.events ≤ 2 ^ 32 }
     ensures { IfOk result (λ t. AreReads log.now.events t.items) }
 {
-    let mut reads = Vec::new(alloc);
+    let mut links = Vec::new(alloc);
     let mut stores = Vec::new(alloc);
-    reads.reserve_exact(log.len() as usize)?;
+    let mut holds = Vec::new(alloc);
+    links.reserve_exact(log.len() as usize)?;
     'events: for index in 0..log.len() {
         let event = event_at(log, index);
-        reads.push(store_before(&stores, event.op))?;
+        let link = link_for(&stores, &mut holds, event.op, index as u32)?;
+        links.push(link)?;
         note_store(&mut stores, event.op, index as u32)?;
+        leave(&mut holds, &mut links, event.op, index as u32);
     }
-    Ok(reads)
-}
-
-// The last store to the variable that the operation loads.
-fn store_before(stores: &[Option<u32>], op: Op) -> Option<u32>
-    ensures { (x : Var) → op ≡ Operation.Load x → result ≡ slice_index_or stores.now x.0 None }
-{
-    match op {
-        Op::Load(var) => index_at(stores, var.0),
-        _ => None,
-    }
+    Ok(links)
 }
 
 // The fork of each thread.
@@ -119,4 +114,17 @@ fn find_forks(alloc: Global, log: &Log) -> Result<Vec<Option<u32>>, OutOfMemory>
         note_fork(&mut forks, event.op, index as u32)?;
     }
     Ok(forks)
+}
+
+// How many variables are stored to, by the greatest number.
+fn count_vars(log: &Log) -> usize {
+    let mut vars = 0;
+    for index in 0..log.len() {
+        if let Some(event) = log.get(index) {
+            if let Op::Store(var) = event.op {
+                vars = vars.max(var.0 as usize + 1);
+            }
+        }
+    }
+    vars
 }

@@ -5,9 +5,11 @@ ghost use Rattle.event_core.specs.declared.events.Event.{Event as Entry};
 ghost use Rattle.event_core.specs.declared.events.Op.{Op as Operation};
 ghost use Rattle.event_core.specs.declared.ids.VarId.{VarId as Var};
 ghost use Rattle.witness.specs.Witness.{IsNext, ReadsAlike, IsWitness};
+ghost use Rattle.witness.specs.Links.{back_at};
 ghost use Rattle.witness.specs.Walks.{AreTables};
 ghost use Rattle.witness.specs.Standing.{IsWalk};
 
+use crate::links::link_back;
 use crate::marks::{count_one, index_at, note_store};
 use crate::memory_step::perform;
 use crate::next::is_next;
@@ -29,10 +31,10 @@ pub struct Walk {
 // Whether a load reads the store that it reads in the log.
 fn reads_alike(tables: &Tables, stores: &[Option<u32>], op: Op, index: u32) -> bool
     ensures { IsTrue result → (x : Var) → op ≡ Operation.Load x
-        → slice_index_or stores.now x.0 None ≡ slice_index_or tables.now.reads.items index None }
+        → slice_index_or stores.now x.0 None ≡ back_at tables.now.links.items index }
 {
     match op {
-        Op::Load(var) => index_at(stores, var.0) == index_at(&tables.reads, index),
+        Op::Load(var) => index_at(stores, var.0) == link_back(&tables.links, index),
         _ => true,
     }
 }
@@ -81,7 +83,7 @@ pub fn is_witness(
     let mut walk = Walk {
         memory: Memory::new(alloc, limits)?,
         counts: Vec::new(alloc),
-        stores: Vec::new(alloc),
+        stores: Vec::with_capacity(alloc, tables.vars)?,
     };
     'events: for index in order {
         if !admit(&mut walk, log, tables, *index)? {

@@ -12,7 +12,8 @@ use Rattle.witness.proofs.walk.is_witness.Goals as goal
 
 pub events-init : goal.events-init
 events-init c = record {
-  walk = begun c.args.log.now.events _ c.new-2.ensures.items c.new-3.ensures.items c.in_ok-new.ensures.stands;
+  walk = begun c.args.log.now.events _ c.new-2.ensures.items c.in_ok-with_capacity.ensures.items
+      c.in_ok-new.ensures.stands;
   limits = c.in_ok-new.ensures.limits;
   next = λ n k lt. absurd (omega arith);
   reads = λ n k lt. absurd (omega arith);
