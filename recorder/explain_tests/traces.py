@@ -101,6 +101,11 @@ def show_statuses(shown):
         done = explain(shown, words)
         shown.tell(f'status of {" ".join(map(os.path.basename, words))}',
                    done.returncode == status and said in done.stdout + done.stderr, done)
+    done = explain(shown, [bad])
+    shown.tell('a refused trace has no count of races', done.stdout == 'line 2: NotHolder\n', done)
+    done = explain(shown, [race, bad])
+    wanted = '\n1 race in 2 runs, 1 trace without a report\n'
+    shown.tell('a refused trace beside another', wanted in done.stdout, done)
     report = os.path.join(folder, 'report')
     room.write(report, 'events 2 threads 2 locks 0 variables 1 races 1\n2|T1|r(x)|2 with 1|T0|w(x)|1\n')
     done = explain(shown, ['--report', report, none])

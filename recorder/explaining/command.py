@@ -60,7 +60,7 @@ class Found:
 
     def __init__(self, is_kept):
         self.is_kept = is_kept
-        self.by_places, self.runs, self.status, self.notes = {}, {}, 0, []
+        self.by_places, self.runs, self.status, self.refused, self.notes = {}, {}, 0, 0, []
 
     def meet(self, pairs, run):
         """Counts the pairs that were met before; answers the others."""
@@ -84,6 +84,7 @@ def explain_trace(path, options, found, run):
         pairs = pairs_of(races_of(report_of(path, trace, size, options)))
     except Refused as refused:
         found.status = refused.status
+        found.refused += 1
         if refused.out:
             print(shown(text_of(refused.out.rstrip(b'\n'))))
         say(f'{path} has no report by wcp, so nothing is explained')
@@ -208,17 +209,19 @@ def explain(runs, options, is_kept=True, out=sys.stdout):
         print_json(out, printed)
     else:
         print_text(Printer(out, is_colored(options.color, out)), printed, len(entries))
-        print_sum(out, len(runs), len(entries), len(printed), suppressed, seen)
+        if found.refused < sum(map(len, runs)):
+            print_sum(out, len(runs), len(entries), len(printed), suppressed, seen, found.refused)
     out.flush()
     for note in found.notes:
         say(note)
     return found.status or (RACE if entries else 0)
 
 
-def print_sum(out, runs, races, printed, suppressed, seen):
+def print_sum(out, runs, races, printed, suppressed, seen, refused):
     text = f'{races or "no"} race{"s" * (races != 1)}' + (f' in {runs} runs' if runs > 1 else '')
     notes = [f'the first {printed} printed'] * (printed < races)
     notes += [f'{suppressed} suppressed'] * (suppressed > 0) + [f'{seen} known'] * (seen > 0)
+    notes += [f'{refused} trace{"s" * (refused != 1)} without a report'] * (refused > 0)
     out.write(', '.join([text, *notes]) + '\n')
 
 

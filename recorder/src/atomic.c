@@ -3,12 +3,22 @@
  * signal that comes within a step makes its operation without one. */
 #include "access.h"
 
+static uint64_t size_with(uint64_t bytes, int order) { return bytes + ORDERS * (uint64_t)(order & 7); }
+
 static struct stripe *enter(const volatile void *at) {
     if (is_in_step || !recording || (!self && !own_thread())) return NULL;
     struct stripe *stripe = stripe_of((uintptr_t)at);
     is_in_step = 1;
     lock_stripe(stripe);
     return stripe;
+}
+
+/* A number that an operation by which nothing changes has in common with those that it repeats. */
+static uint64_t number_of_same(struct thread *thread, enum kind kind, uintptr_t address, uint64_t size,
+                               uintptr_t place) {
+    uint64_t what = (address << 6 | kind) * 0x9e3779b97f4a7c15;
+    what ^= (place ^ (uint64_t)stack_now(thread) << 40) * 0xc2b2ae3d27d4eb4f;
+    return ((what ^ what >> 29) + size) * 0xff51afd7ed558ccd | 1;
 }
 
 /* An operation that changes nothing: a load, or an update that stores what was there and publishes nothing.
@@ -18,9 +28,7 @@ static struct stripe *enter(const volatile void *at) {
 static void record_same(struct stripe *stripe, enum kind kind, uintptr_t address, uint64_t size,
                         uintptr_t place) {
     struct thread *thread = self;
-    uint64_t what = (address << 6 | kind) * 0x9e3779b97f4a7c15;
-    what ^= (place ^ (uint64_t)stack_now(thread) << 40) * 0xc2b2ae3d27d4eb4f;
-    what = ((what ^ what >> 29) + size) * 0xff51afd7ed558ccd | 1;
+    uint64_t what = number_of_same(thread, kind, address, size, place);
     struct load *kept = &thread->loads[what >> 56];
     int is_known = kept->what == what && kept->changes == stripe->changes;
     if (is_known && kept->others == thread->others) return;
@@ -29,10 +37,23 @@ static void record_same(struct stripe *stripe, enum kind kind, uintptr_t address
     *kept = (struct load){ what, stripe->changes, thread->others };
 }
 
+/* Whether a load that was made without a step is to be left out as above, so that it needs none. A store
+ * since the load before holds the stripe, or was counted. */
+static int is_same_load(const volatile void *at, uint64_t size, uintptr_t place) {
+    struct thread *thread = self;
+    if (!thread || !recording || options.keeps_all) return 0;
+    uint64_t what = number_of_same(thread, LOAD, (uintptr_t)at, size, place);
+    const struct load *kept = &thread->loads[what >> 56];
+    if (kept->what != what || kept->others != thread->others) return 0;
+    struct stripe *stripe = stripe_of((uintptr_t)at);
+    return !__atomic_load_n(&stripe->is_locked, __ATOMIC_SEQ_CST) &&
+           __atomic_load_n(&stripe->changes, __ATOMIC_SEQ_CST) == kept->changes;
+}
+
 static void leave(struct stripe *stripe, enum kind kind, const volatile void *at, uint64_t bytes, int order,
                   uintptr_t place, int is_same) {
     if (!stripe) return;
-    uint64_t size = bytes + ORDERS * (uint64_t)(order & 7);
+    uint64_t size = size_with(bytes, order);
     renew((uintptr_t)at, bytes);
     int publishes = kind != LOAD && (order >= __ATOMIC_RELEASE || self->has_fence);
     if (is_same && !publishes && !options.keeps_all) {
@@ -49,8 +70,10 @@ static void leave(struct stripe *stripe, enum kind kind, const volatile void *at
     __atomic_compare_exchange_n(at, wanted, value, 0, __ATOMIC_SEQ_CST, __ATOMIC_SEQ_CST)
 #define LOADED(type, bits)                                                                                   \
     type __tsan_atomic##bits##_load(const volatile type *at, int order) {                                    \
-        struct stripe *stripe = enter(at);                                                                   \
         type value = __atomic_load_n(at, __ATOMIC_SEQ_CST);                                                  \
+        if (is_same_load(at, size_with(sizeof value, order), PLACE)) return value;                           \
+        struct stripe *stripe = enter(at);                                                                   \
+        value = __atomic_load_n(at, __ATOMIC_SEQ_CST);                                                       \
         leave(stripe, LOAD, at, sizeof value, order, PLACE, 1);                                              \
         return value;                                                                                        \
     }

@@ -121,5 +121,5 @@ int socketpair(int family, int type, int protocol, int pair[2]) {
     descriptors[pair[0]] = (struct descriptor){ one.st_ino, there, back };
     descriptors[pair[1]] = (struct descriptor){ other.st_ino, back, there };
     unlock();
-    return failed;
+    return got_numbers(failed, pair, PLACE);
 }

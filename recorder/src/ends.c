@@ -15,10 +15,13 @@ void again_ends(void) {
 /* The child of daemon() is the process from now on. */
 void follow_process(void) { process = getpid(); }
 
-/* The parent of daemon() ends: what it recorded is its child's. */
-void leave_to_child(void) {
+/* The parent of daemon() ends: what it recorded is its child's, which may not run yet. */
+void leave_to_child(int child) {
     static const uint64_t nothing[5];
-    if (recording) tell_status("whole", nothing);
+    if (recording) {
+        tell_status(child, "started", nothing);
+        tell_status(getpid(), "whole", nothing);
+    }
     for (;;) syscall(SYS_exit_group, 0);
 }
 
@@ -34,7 +37,7 @@ static void tell(const char *why) {
     if (info_file() >= 0 && counts.events) write_info(info_file(), status);
     if (counts.events) name_now();
     else leave_no_file();
-    tell_status(status, numbers);
+    tell_status(process, status, numbers);
 }
 
 /* While the trace is written, signals wait, but for those of faults and SIGQUIT. */

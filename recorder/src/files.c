@@ -36,7 +36,7 @@ unsigned next_own_file(unsigned first) {
 void move_own_file(int file) {
     int *own[] = { &trace, &beside, &summary, &folder };
     for (int i = 0; i < 4; i++) {
-        if (file >= 0 && *own[i] == file) *own[i] = fcntl(file, F_DUPFD_CLOEXEC, file + 1);
+        if (file >= 0 && *own[i] == file) *own[i] = (int)syscall(SYS_fcntl, file, F_DUPFD_CLOEXEC, file + 1);
     }
 }
 
@@ -178,9 +178,9 @@ void leave_no_file(void) {
 }
 
 /* One line of the summary: the process, its status, five numbers, and the trace. */
-void tell_status(const char *status, const uint64_t *numbers) {
+void tell_status(int process, const char *status, const uint64_t *numbers) {
     char words[PATH + 512];
-    int length = snprintf(words, sizeof words, "%d\t%s\t%lu\t%lu\t%lu\t%lu\t%lu\t%s\n", (int)getpid(), status,
+    int length = snprintf(words, sizeof words, "%d\t%s\t%lu\t%lu\t%lu\t%lu\t%lu\t%s\n", process, status,
                           numbers[0], numbers[1], numbers[2], numbers[3], numbers[4], path);
     if (summary < 0) return;
     if (write(summary, words, (size_t)length) < 0) complain("the summary could not be written");

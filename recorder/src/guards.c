@@ -1,14 +1,18 @@
-/* Calls by which a program closes files that it did not open, as daemons do: the recorder's own stay open. */
+/* Calls by which a program closes files, also such that it did not open, as daemons do: the recorder's own
+ * stay open. */
 #include <fcntl.h>
 #include <sys/syscall.h>
-#include "recorder.h"
+#include "channels.h"
 
 int close(int file) {
     if (is_own_file(file)) {
         errno = EBADF;
         return -1;
     }
-    return REAL(close)(file);
+    struct event *event = frees_number(file, PLACE);
+    int failed = REAL(close)(file);
+    if (failed && errno == EBADF) take_back(event);
+    return failed;
 }
 
 /* Closes the range, but for the recorder's files. */

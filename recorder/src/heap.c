@@ -1,5 +1,6 @@
 /* Memory of the heap, of mmap, and by the operators of C++. A block is as long as malloc_usable_size says,
  * since a program may use all of it. To give a block back is a store to it. */
+#include <dlfcn.h>
 #include <malloc.h>
 #include <stdarg.h>
 #include <sys/mman.h>
@@ -11,12 +12,20 @@ void *__libc_realloc(void *, size_t);
 void *__libc_memalign(size_t, size_t);
 void __libc_free(void *);
 
+/* By glibc's function: the blocks are its own, while the next of this name may be another allocator's. */
+static size_t length_of(void *at) {
+    static size_t (*found)(void *);
+    if (!found) found = (size_t (*)(void *))dlvsym(RTLD_NEXT, "malloc_usable_size", "GLIBC_2.2.5");
+    return found(at);
+}
+size_t malloc_usable_size(void *at) { return length_of(at); }
+
 static void *given(void *at, uintptr_t place) {
-    if (at && recording) record_block(BLOCK, at, malloc_usable_size(at), place);
+    if (at && recording) record_block(BLOCK, at, length_of(at), place);
     return at;
 }
 static void give_back(void *at, uintptr_t place) {
-    if (at && recording) record_freed(at, malloc_usable_size(at), place);
+    if (at && recording) record_freed(at, length_of(at), place);
     __libc_free(at);
 }
 
@@ -40,9 +49,9 @@ void cfree(void *at) { give_back(at, PLACE); }
 /* The old block ends where the new one begins, also where both lie at the same place. */
 static void *moved(void *old, size_t size, uintptr_t place) {
     if (!old || !recording) return given(__libc_realloc(old, size), place);
-    record_freed(old, malloc_usable_size(old), place);
+    record_freed(old, length_of(old), place);
     void *at = __libc_realloc(old, size);
-    if (!at && size) record_block(BLOCK, old, malloc_usable_size(old), place);
+    if (!at && size) record_block(BLOCK, old, length_of(old), place);
     return given(at, place);
 }
 void *realloc(void *old, size_t size) { return moved(old, size, PLACE); }

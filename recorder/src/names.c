@@ -46,7 +46,9 @@ static char *name_offset(char *to, uint64_t address) {
 char *name_address(char *to, uint64_t address, uint32_t number) {
     struct block *block = &blocks[number];
     if (address == 0) return name_words(to, "fence");
-    if (address >= SIGNALS && address < ADDRESSES)
+    if (address >= NUMBERS && address < ADDRESSES)
+        return name_number(name_words(to, "descriptor"), 10, address - NUMBERS);
+    if (address >= SIGNALS && address < NUMBERS)
         return name_number(name_words(to, "signal"), 10, address - SIGNALS);
     if (address < SIGNALS) return name_number(name_words(to, "channel"), 10, address - DESCRIPTORS);
     if (number && block->kind == STACK) {

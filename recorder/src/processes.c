@@ -11,14 +11,12 @@ pid_t vfork(void) { return fork(); }
 
 /* The child is the run that goes on, in the same trace; the parent ends without one. */
 int daemon(int keeps_folder, int keeps_files) {
-    static const uint64_t nothing[5];
     fork_goes_on = 1;
     pid_t child = fork();
     fork_goes_on = 0;
     if (child < 0) return -1;
-    if (child > 0) leave_to_child();
+    if (child > 0) leave_to_child(child);
     follow_process();
-    if (recording) tell_status("started", nothing);
     if (setsid() < 0) return -1;
     if (!keeps_folder && chdir("/") != 0) return -1;
     if (keeps_files) return 0;

@@ -13,8 +13,8 @@
 
 /* THREADS is the most that wcp reads. LONG is the size of an event whose size is kept by a MORE after it. */
 enum { THREADS = 1024, FRAMES = 1 << 16, RECENT = 1 << 13, LOADS = 1 << 8, LONG = 1023 };
-/* Descriptors and signals' numbers have addresses below any memory's. */
-enum { DESCRIPTORS = 1, SIGNALS = 1 << 20, ADDRESSES = SIGNALS + 256 };
+/* Channels of descriptors, signals and numbers of descriptors have addresses below any memory's. */
+enum { DESCRIPTORS = 1, SIGNALS = 1 << 20, NUMBERS = SIGNALS + 256, ADDRESSES = NUMBERS + (1 << 16) };
 
 enum kind {
     NOTHING,
@@ -213,7 +213,7 @@ void read_program(void);
 extern char program_path[4096];
 int info_file(void);
 void leave_no_file(void);
-void tell_status(const char *status, const uint64_t *numbers);
+void tell_status(int process, const char *status, const uint64_t *numbers);
 void complain(const char *why);
 
 /* callers.c */
@@ -225,7 +225,7 @@ void start_recording(int is_child);
 void finish(const char *why);
 void again_ends(void);
 void follow_process(void);
-void leave_to_child(void) __attribute__((noreturn));
+void leave_to_child(int child) __attribute__((noreturn));
 void catch_signals(void);
 
 #pragma GCC visibility pop

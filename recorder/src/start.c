@@ -22,7 +22,7 @@ void start_recording(int is_child) {
     int is_first = !is_child && !getenv("WCP_FIRST");
     if (!open_files(is_child)) {
         complain("the trace cannot be opened");
-        tell_status("cut: the trace cannot be opened", nothing);
+        tell_status(getpid(), "cut: the trace cannot be opened", nothing);
         if (is_first) _exit(125);
         return;
     }
@@ -33,7 +33,7 @@ void start_recording(int is_child) {
     if (!stacks) start_stacks();
     start_clock();
     again_ends();
-    tell_status("started", nothing);
+    tell_status(getpid(), "started", nothing);
     recording = 1;
     struct thread *thread = new_thread();
     if (thread) begin_thread(thread);

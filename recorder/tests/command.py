@@ -139,7 +139,7 @@ def show_refusals(shown, folder):
     refused('an unknown option', ['-x', 'true'], 125, 'no such option')
     app, error = build(folder, main, '-fsanitize=thread', name='sanitized')
     shown.tell('a small program builds', not error, error)
-    refused('a folder that is not there', ['-o', 'none/trace.txt', app], 125, 'none/trace.txt')
+    refused('a folder that is not there', ['-o', 'none/trace.txt', app], 125, 'there is no folder none')
     refused('a device that takes nothing', ['-o', '/dev/full', build(
         folder, 'exit_by_exit.c', '-fsanitize=thread', name='racing')[0]], 125, '/dev/full')
     if is_linked(shown, folder, 'gcc -static-libtsan', '-fsanitize=thread', '-static-libtsan'):
@@ -266,6 +266,9 @@ def show_files(shown, folder):
     found = [path for path in glob.glob(os.path.join(folder, 'by*.txt')) if re.search(r'by\d+\.txt$', path)]
     if shown.tell('%p in the name', len(found) == 1, (found, done.stderr)):
         judged('%p: the trace', found[0])
+    done = run([*RECORD, '-o', 'elsewhere.txt', 'sh', '-c', f'cd / && {app}'], cwd=folder)
+    shown.tell('in another folder: the status', done.returncode == 3, (done.returncode, done.stderr))
+    judged('in another folder: the trace', os.path.join(folder, 'elsewhere.txt'))
     done = run([*RECORD, '-o', 'suite.txt', 'sh', '-c', f'{app}; {app}; exit 7'], cwd=folder)
     found = glob.glob(os.path.join(folder, 'suite.txt*'))
     found = [path for path in found if not path.endswith('.info')]
