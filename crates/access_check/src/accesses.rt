@@ -37,7 +37,7 @@ impl Model for Accesses {
 
 impl Accesses {
     ghost use Rattle.std.specs.Prelude.{◌≡◌, ℕ, ◌<◌, ◌^◌, ◌∷◌, ◌++◌, [], length, IfOk, IsOk, List};
-    ghost use Rattle.event_core.specs.declared.events.Event.{Event as AnEvent};
+    ghost use Rattle.event_core.specs.declared.events.Event.{Event};
     ghost use Rattle.event_core.specs.Rows.{Counted};
     ghost use Rattle.event_core.specs.Wcp.{Below};
     ghost use Rattle.event_core.specs.Refusal.{WellFormed};
@@ -94,7 +94,7 @@ impl Accesses {
         requires { length (T.numbers clock.now) ≡ self.now.limits.threads }
         ensures exact { result
             ≡ verdict_of self.now.vars event.now.thread event.now.op (counts_of (T.numbers clock.now)) }
-        ensures verdict { (log : List AnEvent) → StandsFor log self.now
+        ensures verdict { (log : List Event) → StandsFor log self.now
             → Counted (log ++ event.now ∷ []) (λ i. Below (log ++ event.now ∷ []) i (length log))
             (counts_of (T.numbers clock.now))
             → IsVerdict (log ++ event.now ∷ []) (length log) result }
@@ -113,7 +113,7 @@ impl Accesses {
         requires index { index < 2 ^ 32 }
         requires few { count_at self.old.counts event.now.thread.0 < 2 ^ 32 }
         ensures exact { Notes self.old self.new event.now index verdict }
-        ensures stands { (log : List AnEvent) → StandsFor log self.old → index ≡ length log
+        ensures stands { (log : List Event) → StandsFor log self.old → index ≡ length log
             → WellFormed self.old.limits (log ++ event.now ∷ [])
             → IsVerdict (log ++ event.now ∷ []) (length log) verdict
             → StandsFor (log ++ event.now ∷ []) self.new }

@@ -53,7 +53,7 @@ fn racing_index<T: VectorTime>(last: &PackedAccess, thread: ThreadId, clock: &T)
 }
 
 // The greater of the index that was found before and that of the access, where it races.
-#[tactic(auto, using(crate::proofs::Latest::later_none))]
+#[tactic(auto, using(crate::proofs::LatestRacingProperties::later_none))]
 fn with_racing<T: VectorTime>(
     found: Option<u64>,
     last: &PackedAccess,
@@ -148,7 +148,7 @@ impl Model for LastAccesses {
 
 impl LastAccesses {
     ghost use Rattle.std.specs.Prelude.{◌≡◌, ◌+◌, ◌*◌, ◌≤◌, [], length, max, IsTrue, IsOk, OnOk};
-    ghost use Rattle.event_core.specs.declared.ids.ThreadId.{ThreadId as Thread};
+    ghost use Rattle.event_core.specs.declared.ids.ThreadId.{ThreadId};
     ghost use Rattle.hb_clocks.specs.Counts.{counts_of};
     ghost use Rattle.access_check.specs.LastAccesses.{latest, put, is_ready, no_last_accesses};
     ghost use Rattle.access_check.specs.LastAccesses.{AreNarrow, IsPackable};
@@ -166,7 +166,7 @@ impl LastAccesses {
     /// Makes room for an access by the thread.
     pub fn prepare(&mut self, thread: ThreadId) -> Result<(), OutOfMemory>
         ensures same { self.new.items ≡ self.old.items }
-        ensures more { (t : Thread) → IsTrue (is_ready t self.old) → IsTrue (is_ready t self.new) }
+        ensures more { (t : ThreadId) → IsTrue (is_ready t self.old) → IsTrue (is_ready t self.new) }
         ensures room { OnOk result (IsTrue (is_ready thread self.new)) }
         ensures most { self.new.reserved ≤ max self.old.reserved (2 * (length self.old.items + 1)) }
         ensures again { IsTrue (is_ready thread self.old) → IsOk result }
@@ -216,7 +216,7 @@ impl LastAccesses {
     #[inline(always)]
     pub fn clear(&mut self)
         ensures items { self.new.items ≡ [] }
-        ensures kept { (t : Thread) → IsTrue (is_ready t self.old) → IsTrue (is_ready t self.new) }
+        ensures kept { (t : ThreadId) → IsTrue (is_ready t self.old) → IsTrue (is_ready t self.new) }
         ensures memory { self.new.reserved ≡ self.old.reserved }
     {
         self.first = None;

@@ -1,9 +1,9 @@
 //! Work on the tables: of each thread how many events it has, and of each variable who touched it last.
 ghost use Rattle.std.specs.Prelude.{◌≡◌, ℕ, ◌+◌, ◌<◌, ◌≤◌, ◌^◌, length, OnOk, OnErr, IsOk, cond, nat_eq, max};
 ghost use Rattle.std.specs.Prelude.{◌*◌, vec_capacity};
-ghost use Rattle.event_core.specs.declared.ids.ThreadId.{ThreadId as Thread};
-ghost use Rattle.event_core.specs.declared.events.AccessKind.{AccessKind as Kind};
-ghost use Rattle.event_core.specs.declared.events.Op.{Op as Operation};
+ghost use Rattle.event_core.specs.declared.ids.ThreadId.{ThreadId};
+ghost use Rattle.event_core.specs.declared.events.AccessKind.{AccessKind};
+ghost use Rattle.event_core.specs.declared.events.Op.{Op};
 ghost use Rattle.hb_clocks.specs.Counts.{counts_of};
 ghost use Rattle.access_check.specs.LastAccesses.{AreNarrow, IsPackable};
 ghost use Rattle.access_check.specs.VariableAccesses.{kept, latest_racing, kept_after};
@@ -53,8 +53,10 @@ fn prepare_within(
     kind: AccessKind,
 ) -> Result<(), OutOfMemory>
     requires { var < length vars.old }
-    ensures same { (x : ℕ) (k : Kind) → kept k (accesses_at vars.new x) ≡ kept k (accesses_at vars.old x) }
-    ensures more { (t : Thread) (x : ℕ) (k : Kind) → IsReadyAt vars.old t x k → IsReadyAt vars.new t x k }
+    ensures same { (x : ℕ) (k : AccessKind)
+        → kept k (accesses_at vars.new x) ≡ kept k (accesses_at vars.old x) }
+    ensures more { (t : ThreadId) (x : ℕ) (k : AccessKind) → IsReadyAt vars.old t x k
+        → IsReadyAt vars.new t x k }
     ensures as_many { length vars.new ≡ length vars.old }
     ensures lasts { LastsAt var vars.old vars.new }
     ensures room { OnOk result (IsReadyAt vars.new thread var kind) }
@@ -73,9 +75,9 @@ pub(crate) fn prepare_at(
     kind: AccessKind,
 ) -> Result<(), OutOfMemory>
     requires { var < 2 ^ 32 }
-    ensures same { (x : ℕ) (k : Kind)
+    ensures same { (x : ℕ) (k : AccessKind)
         → kept k (accesses_at vars.new.items x) ≡ kept k (accesses_at vars.old.items x) }
-    ensures more { (t : Thread) (x : ℕ) (k : Kind) → IsReadyAt vars.old.items t x k
+    ensures more { (t : ThreadId) (x : ℕ) (k : AccessKind) → IsReadyAt vars.old.items t x k
         → IsReadyAt vars.new.items t x k }
     ensures most { length vars.new.items ≤ max (length vars.old.items) (var + 64) }
     ensures memory { vec_capacity vars.new ≤ max (vec_capacity vars.old) (2 * (var + 64)) }
@@ -100,9 +102,9 @@ fn note_at(
 )
     requires packable { IsPackable last }
     requires room { IsReadyAt vars.old last.thread var kind }
-    ensures room { (x : ℕ) (k : Kind) → IsReadyAt vars.old last.thread x k
+    ensures room { (x : ℕ) (k : AccessKind) → IsReadyAt vars.old last.thread x k
         → IsReadyAt vars.new last.thread x k }
-    ensures accesses { (x : ℕ) (k : Kind) → kept k (accesses_at vars.new x)
+    ensures accesses { (x : ℕ) (k : AccessKind) → kept k (accesses_at vars.new x)
         ≡ cond (nat_eq x var) (kept_after verdict kind last k (accesses_at vars.old x))
         (kept k (accesses_at vars.old x)) }
     ensures memory { SameLasts vars.old vars.new }
@@ -121,7 +123,7 @@ pub(crate) fn verdict_at_var<T: VectorTime>(
     kind: AccessKind,
     clock: &T,
 ) -> Verdict
-    requires { (x : ℕ) (k : Kind)
+    requires { (x : ℕ) (k : AccessKind)
         → AreNarrow (length (T.numbers clock.now)) (kept k (accesses_at vars.now x)) }
     ensures { result ≡ verdict_at
         (latest_racing thread kind (counts_of (T.numbers clock.now)) (accesses_at vars.now var)) }
@@ -153,7 +155,7 @@ pub(crate) fn count_event(counts: &mut [u64], thread: usize) -> u64
 
 /// The event, on which there was that verdict, is noted where it is an access.
 #[inline(always)]
-#[tactic(auto, using(crate::proofs::Room::room_for))]
+#[tactic(auto, using(crate::proofs::IsReadyForProperties::room_for))]
 pub(crate) fn note_access(
     vars: &mut [VariableAccesses],
     event: &Event,
@@ -162,12 +164,12 @@ pub(crate) fn note_access(
 )
     requires packable { IsPackable (last_of event.now.thread access) }
     requires room { IsReadyFor vars.old event.now.thread event.now.op }
-    ensures accesses { (x : ℕ) (k : Kind) → kept k (accesses_at vars.new x)
+    ensures accesses { (x : ℕ) (k : AccessKind) → kept k (accesses_at vars.new x)
         ≡ accesses_after verdict event.now.thread event.now.op access x k (accesses_at vars.old x) }
     ensures narrow { (width : ℕ) → event.now.thread.0 < width
-        → ((x : ℕ) (k : Kind) → AreNarrow width (kept k (accesses_at vars.old x)))
-        → (x : ℕ) (k : Kind) → AreNarrow width (kept k (accesses_at vars.new x)) }
-    ensures kept { (o : Operation) → IsReadyFor vars.old event.now.thread o
+        → ((x : ℕ) (k : AccessKind) → AreNarrow width (kept k (accesses_at vars.old x)))
+        → (x : ℕ) (k : AccessKind) → AreNarrow width (kept k (accesses_at vars.new x)) }
+    ensures kept { (o : Op) → IsReadyFor vars.old event.now.thread o
         → IsReadyFor vars.new event.now.thread o }
     ensures memory { SameLasts vars.old vars.new }
     ensures as_many { length vars.new ≡ length vars.old }

@@ -18,8 +18,8 @@ pub struct VariableAccesses {
 
 impl VariableAccesses {
     ghost use Rattle.std.specs.Prelude.{◌≡◌, ◌+◌, ◌*◌, ◌≤◌, length, max, IsTrue, IsOk, OnOk};
-    ghost use Rattle.event_core.specs.declared.ids.ThreadId.{ThreadId as Thread};
-    ghost use Rattle.event_core.specs.declared.events.AccessKind.{AccessKind as Kind};
+    ghost use Rattle.event_core.specs.declared.ids.ThreadId.{ThreadId};
+    ghost use Rattle.event_core.specs.declared.events.AccessKind.{AccessKind};
     ghost use Rattle.hb_clocks.specs.Counts.{counts_of};
     ghost use Rattle.access_check.specs.LastAccesses.{is_ready, AreNarrow, IsPackable};
     ghost use Rattle.access_check.specs.VariableAccesses.{no_accesses, of_kind, kept, latest_racing};
@@ -37,11 +37,11 @@ impl VariableAccesses {
 
     /// Makes room for an access of that kind by the thread.
     pub fn prepare(&mut self, thread: ThreadId, kind: AccessKind) -> Result<(), OutOfMemory>
-        ensures same { (k : Kind) → kept k self.new ≡ kept k self.old }
-        ensures more { (t : Thread) (k : Kind) → IsTrue (is_ready t (of_kind k self.old))
+        ensures same { (k : AccessKind) → kept k self.new ≡ kept k self.old }
+        ensures more { (t : ThreadId) (k : AccessKind) → IsTrue (is_ready t (of_kind k self.old))
             → IsTrue (is_ready t (of_kind k self.new)) }
         ensures room { OnOk result (IsTrue (is_ready thread (of_kind kind self.new))) }
-        ensures most { (k : Kind) → (of_kind k self.new).reserved
+        ensures most { (k : AccessKind) → (of_kind k self.new).reserved
             ≤ max (of_kind k self.old).reserved (2 * (length (kept k self.old) + 1)) }
         ensures again { IsTrue (is_ready thread (of_kind kind self.old)) → IsOk result }
     {
@@ -68,10 +68,10 @@ impl VariableAccesses {
     pub fn note(&mut self, kind: AccessKind, last: LastAccess, verdict: Verdict)
         requires packable { IsPackable last }
         requires room { IsTrue (is_ready last.thread (of_kind kind self.old)) }
-        ensures accesses { (k : Kind) → kept k self.new ≡ kept_after verdict kind last k self.old }
-        ensures room { (k : Kind) → IsTrue (is_ready last.thread (of_kind k self.old))
+        ensures accesses { (k : AccessKind) → kept k self.new ≡ kept_after verdict kind last k self.old }
+        ensures room { (k : AccessKind) → IsTrue (is_ready last.thread (of_kind k self.old))
             → IsTrue (is_ready last.thread (of_kind k self.new)) }
-        ensures memory { (k : Kind) → (of_kind k self.new).reserved ≡ (of_kind k self.old).reserved }
+        ensures memory { (k : AccessKind) → (of_kind k self.new).reserved ≡ (of_kind k self.old).reserved }
     {
         match (kind, verdict) {
             (AccessKind::Read, _) => self.loads.note(last),

@@ -10,9 +10,9 @@ use Rattle.wcp_clocks.specs.Parts.{Parts}
 use Rattle.wcp_clocks.specs.Parts.{Fits, IsWithin, SameLimits, SameNumbers, width_of, limits_of, work_of}
 use Rattle.wcp_clocks.specs.Standing.{StandsFor, IsBounded}
 use Rattle.wcp_clocks.specs.WorkWithin.{IsWorkOf}
-use Rattle.wcp_clocks.proofs.Conditions.{fits_where_legal}
+use Rattle.wcp_clocks.proofs.FitsProperties.{fits_where_legal}
 use Rattle.wcp_clocks.proofs.WithinLimits.{within_where_legal}
-use Rattle.wcp_clocks.proofs.Standing.{same_stand}
+use Rattle.wcp_clocks.proofs.StandsForProperties.{same_stand}
 use Rattle.wcp_clocks.proofs.WorkLaws.{no_work, same_work, work_step, little_work}
 use Rattle.clock_tests.specs.OneLog.{small, StandForOneLog}
 

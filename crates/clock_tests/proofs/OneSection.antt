@@ -3,7 +3,7 @@ use Rattle.std.proofs.Common.{◌≡◌, ℕ, ◌≤◌, Bool, true, false, cond
 use Rattle.std.proofs.Common.{length, nat_eq, sym, ap, subst, ◌∙◌, arith}
 use Rattle.event_core.specs.Closed.{Closed, Has, first, later, is_counted}
 use Rattle.event_core.specs.Rows.{with_row}
-use Rattle.event_core.proofs.Growing.{row_same}
+use Rattle.event_core.proofs.RowsAfterProperties.{row_same}
 use Rattle.lock_queues.specs.Searched.{CountsEarlier, IsAboveAll}
 
 -- a table that was written at a thread and a lock

@@ -4,7 +4,7 @@
 //! worked out by hand from the paper's rules. That the event is legal is learned from a memory, which permits
 //! its call.
 ghost use Rattle.std.specs.Prelude.{◌≡◌, List};
-ghost use Rattle.event_core.specs.declared.events.Event.{Event as AnEvent};
+ghost use Rattle.event_core.specs.declared.events.Event.{Event};
 ghost use Rattle.traced_mem.specs.Standing.{StandsFor as MemoryStandsFor};
 ghost use Rattle.traced_mem.specs.Room.{IsReady as MemoryIsReady};
 ghost use Rattle.traced_mem.specs.Tables.{Allows};
@@ -50,7 +50,7 @@ fn permit(rt: &impl Abort, memory: &mut Memory, call: &Call)
     ensures allowed { Allows memory.new call.now.thread call.now.op }
     ensures ready { MemoryIsReady memory.new call.now.thread call.now.op }
     ensures limits { memory.new.limits ≡ memory.old.limits }
-    ensures stands { (log : List AnEvent) → MemoryStandsFor log memory.old → MemoryStandsFor log memory.new }
+    ensures stands { (log : List Event) → MemoryStandsFor log memory.old → MemoryStandsFor log memory.new }
 {
     assert!(rt; memory.permit(call).is_ok(), "a legal event");
     assert!(rt; memory.prepare(call).is_ok(), "memory");

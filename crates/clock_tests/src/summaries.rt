@@ -1,6 +1,6 @@
 //! Sections on two locks, numbered in the order of their releases: which of them an access meets.
 ghost use Rattle.std.specs.Prelude.{◌≡◌, ℕ, false};
-ghost use Rattle.event_core.specs.declared.events.AccessKind.{AccessKind as Kind};
+ghost use Rattle.event_core.specs.declared.events.AccessKind.{AccessKind};
 ghost use Rattle.section_sum.specs.Sums.{noted_of};
 
 use crate::expected::expect;
@@ -71,7 +71,7 @@ const THREE_STORES: &[Row] = &[
 #[derive(Drop)]
 struct Sections {
     summaries: Summaries,
-    ghost ended: { (t l v : ℕ) (k : Kind) → noted_of summaries t l v k ≡ false },
+    ghost ended: { (t l v : ℕ) (k : AccessKind) → noted_of summaries t l v k ≡ false },
 }
 
 // The thread opens sections on both locks, accesses the variable, and ends the first one first. They

@@ -1,4 +1,4 @@
-mod Listing
-mod PlaceLaws
+mod NameListsProperties
+mod PlacesProperties
 mod PlaceLines
-mod Telling
+mod TellsUnnamedProperties

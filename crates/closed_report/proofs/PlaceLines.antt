@@ -4,7 +4,7 @@ use Rattle.std.specs.Prelude.{slice_get}
 use Rattle.std.proofs.lemmas.List.Folds.{find_at}
 use Rattle.event_core.specs.declared.events.Event.{Event}
 use Rattle.trace_report.proofs.Races.{races_within}
-use Rattle.trace_report.proofs.TellingLaws.{verdicts_within}
+use Rattle.trace_report.proofs.TellsTextProperties.{verdicts_within}
 use Rattle.closed_report.specs.declared.places.PlaceRaces.{PlaceRaces}
 use Rattle.closed_report.specs.Places.{is_at, ArePlaces}
 

@@ -10,18 +10,22 @@ pub access_no_acquire : (x : VarId) (k : AccessKind) (l : LockId) → access_of 
 access_no_acquire x Read l e = cc
 access_no_acquire x Write l e = cc
 
+-- an access is no release
 pub access_no_release : (x : VarId) (k : AccessKind) (l : LockId) → access_of x k ≡ Release l → ⊥
 access_no_release x Read l e = cc
 access_no_release x Write l e = cc
 
+-- an access is no fork
 pub access_no_fork : (x : VarId) (k : AccessKind) (u : ThreadId) → access_of x k ≡ Fork u → ⊥
 access_no_fork x Read u e = cc
 access_no_fork x Write u e = cc
 
+-- an access is no join
 pub access_no_join : (x : VarId) (k : AccessKind) (u : ThreadId) → access_of x k ≡ Join u → ⊥
 access_no_join x Read u e = cc
 access_no_join x Write u e = cc
 
+-- one operation is an access to one variable, of one kind
 pub access_one : (x y : VarId) (k j : AccessKind) → access_of x k ≡ access_of y j → (x ≡ y) × (k ≡ j)
 access_one x y Read Read e = (cc, refl)
 access_one x y Write Write e = (cc, refl)

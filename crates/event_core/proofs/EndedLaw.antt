@@ -7,9 +7,10 @@ use mathlib.Core.Logic.{inl, inr}
 use Rattle.event_core.proofs.Words.{ThreadId, Event, Join, Limits, Ended, SelfTarget}
 use Rattle.event_core.specs.Log.{Does, Of}
 use Rattle.event_core.specs.Refusal.{joins, op_joins, WellFormed}
-use Rattle.event_core.proofs.LogFacts.{of_does, of_one}
-use Rattle.event_core.proofs.Legality.{legal_reasons, when_none, reasons_at, at_take}
+use Rattle.event_core.proofs.LogProperties.{of_does, of_one}
+use Rattle.event_core.proofs.OrderlyProperties.{legal_reasons, when_none, reasons_at, at_take}
 
+-- each event of a thread comes before the thread's join
 pub ended_rest : (m : Limits) (log : List Event) (u w : ThreadId) (j k : ℕ) → WellFormed m log
     → Does log j w (Join u) → Of log k u → k < j
 ended_rest m log u w j k f d o = elim (cases_order k j) [

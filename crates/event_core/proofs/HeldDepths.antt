@@ -6,10 +6,10 @@ use Rattle.event_core.proofs.Words.{AccessKind, Event, Acquire, Release, LockId,
 use Rattle.event_core.specs.Log.{depth}
 use Rattle.event_core.specs.Orderly.{Orderly}
 use Rattle.event_core.specs.Effect.{Effect, Opens, Closes, access_of}
-use Rattle.event_core.proofs.Counting.{last_as}
-use Rattle.event_core.proofs.Depth.{thread_cases, lock_cases}
-use Rattle.event_core.proofs.Effects.{Fits, accesses, opens, closes, forks, joins, again, inner, depth_same}
-use Rattle.event_core.proofs.Effects.{depth_up, depth_down}
+use Rattle.event_core.proofs.CountedProperties.{last_as}
+use Rattle.event_core.proofs.DepthProperties.{thread_cases, lock_cases}
+use Rattle.event_core.proofs.EffectProperties.{Fits, accesses, opens, closes, forks, joins, again, inner}
+use Rattle.event_core.proofs.EffectProperties.{depth_same, depth_up, depth_down}
 use Rattle.event_core.proofs.Accesses.{access_no_acquire, access_no_release}
 
 -- a cell of a table is the one that is written, or another

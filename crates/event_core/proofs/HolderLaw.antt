@@ -10,9 +10,9 @@ use Rattle.event_core.proofs.Words.{ThreadId, LockId, Event, Call, Acquire, Rele
 use Rattle.event_core.proofs.Words.{NotStarted, Ended, TargetRange, NotHolder}
 use Rattle.event_core.specs.Log.{depth}
 use Rattle.event_core.specs.Refusal.{refusal, first_of, when, holder, is_holder, joins, forked, WellFormed}
-use Rattle.event_core.proofs.Depth.{Opener, opener}
-use Rattle.event_core.proofs.Legality.{Reasons, reasons_at, when_none, holder_depth}
-use Rattle.event_core.proofs.Growth.{still_forked}
+use Rattle.event_core.proofs.DepthProperties.{Opener, opener}
+use Rattle.event_core.proofs.OrderlyProperties.{Reasons, reasons_at, when_none, holder_depth}
+use Rattle.event_core.proofs.WellFormedProperties.{still_forked}
 
 -- the acquire since which the holder holds the lock
 holder_opener : (log : List Event) (l : LockId) (u : ThreadId) → holder log l ≡ Some u

@@ -11,14 +11,14 @@ use Rattle.event_core.specs.Log.{depth}
 use Rattle.event_core.specs.Orderly.{Orderly}
 use Rattle.event_core.specs.Effect.{Effect, Closes, access_of}
 use Rattle.event_core.proofs.Accesses.{access_no_release, access_one}
-use Rattle.event_core.proofs.Counting.{last_as, is_last, last_thread, last_op}
-use Rattle.event_core.proofs.Depth.{same_lock_id, same_thread_id}
-use Rattle.event_core.proofs.LogFacts.{of_does}
-use Rattle.event_core.proofs.Stable.{longer, back, does}
-use Rattle.event_core.proofs.Effects.{Fits, closes, depth_down}
+use Rattle.event_core.proofs.CountedProperties.{last_as, is_last, last_thread, last_op}
+use Rattle.event_core.proofs.DepthProperties.{same_lock_id, same_thread_id}
+use Rattle.event_core.proofs.LogProperties.{of_does}
+use Rattle.event_core.proofs.RelationsStay.{longer, back, does}
+use Rattle.event_core.proofs.EffectProperties.{Fits, closes, depth_down}
 use Rattle.event_core.proofs.HeldDepths.{cell_cases, depth_access, still_held}
 use Rattle.event_core.proofs.OpenSections.{open_old, open_new, open_held, open_within, open_by_depth}
-use Rattle.event_core.proofs.Tests.{negated, not_negated}
+use Rattle.event_core.proofs.BoolProperties.{negated, not_negated}
 
 -- the lock of what is noted is held
 pub noted_held : (xs : List Event) (t : ThreadId) (l : LockId) (x : VarId) (j : AccessKind)

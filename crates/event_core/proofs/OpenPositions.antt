@@ -8,11 +8,11 @@ use Rattle.event_core.specs.Count.{events_of}
 use Rattle.event_core.specs.Log.{depth}
 use Rattle.event_core.specs.Orderly.{Orderly}
 use Rattle.event_core.specs.Rows.{with_row}
-use Rattle.event_core.proofs.Counting.{is_last, last_thread, last_op}
-use Rattle.event_core.proofs.Depth.{same_lock_id, same_thread_id}
-use Rattle.event_core.proofs.Growing.{cell_same, cell_other}
-use Rattle.event_core.proofs.Effects.{front, depth_down}
-use Rattle.event_core.proofs.LogFacts.{of_does}
+use Rattle.event_core.proofs.CountedProperties.{is_last, last_thread, last_op}
+use Rattle.event_core.proofs.DepthProperties.{same_lock_id, same_thread_id}
+use Rattle.event_core.proofs.RowsAfterProperties.{cell_same, cell_other}
+use Rattle.event_core.proofs.EffectProperties.{front, depth_down}
+use Rattle.event_core.proofs.LogProperties.{of_does}
 use Rattle.event_core.proofs.OpenSections.{open_old, open_held}
 
 -- the table has the position of the acquire of each open section

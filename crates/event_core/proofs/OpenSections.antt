@@ -10,16 +10,17 @@ use Rattle.event_core.specs.Closed.{Open, EndsSection}
 use Rattle.event_core.specs.Log.{Does, depth, OuterRelease, Section}
 use Rattle.event_core.specs.Orderly.{Orderly}
 use Rattle.event_core.specs.Effect.{Effect, Opens, Closes, effect_of}
-use Rattle.event_core.proofs.Counting.{last_of, last_does, grown_length}
-use Rattle.event_core.proofs.Depth.{Opener, opener}
-use Rattle.event_core.proofs.LogFacts.{does_op, acquire_no_release}
-use Rattle.event_core.proofs.Stable.{longer, back, acquire}
-use Rattle.event_core.proofs.Effects.{Fits, closes, fits, effect_at, whole, front, closes_at_one}
+use Rattle.event_core.proofs.CountedProperties.{last_of, last_does, grown_length}
+use Rattle.event_core.proofs.DepthProperties.{Opener, opener}
+use Rattle.event_core.proofs.LogProperties.{does_op, acquire_no_release}
+use Rattle.event_core.proofs.RelationsStay.{longer, back, acquire}
+use Rattle.event_core.proofs.EffectProperties.{Fits, closes, fits, effect_at, whole, front, closes_at_one}
 
 -- an open section stands in the log, and its lock is held
 pub open_within : (xs : List Event) (t : ThreadId) (l : LockId) (a : ℕ) → Open xs t l a → a < length xs
 open_within xs t l a p = slice_get_within xs a p.opened.does.event p.opened.does.at
 
+-- a thread holds the lock of its open section
 pub open_held : (xs : List Event) (t : ThreadId) (l : LockId) (a : ℕ) → Open xs t l a → 0 < depth xs t l
 open_held xs t l a p =
     subst (λ ys. 0 < depth ys t l) (take-length xs)
@@ -46,6 +47,7 @@ module _ (log : List Event) (e : Event) (ord : Orderly (log ++ e ∷ [])) where
       → k ≡ Opens l
   is_opens k f l a z = effect_at log e k (Acquire l) f a ∙ cond-true _ _ _ (eq-eqb _ 0 z)
 
+  -- the effect of an outer release is that it closes the section on its lock
   pub is_closes : (k : Effect) → Fits log e k → (l : LockId)
       → OuterRelease (log ++ e ∷ []) (length log) e.thread l → k ≡ Closes l
   is_closes k f l r =

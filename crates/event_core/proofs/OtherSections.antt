@@ -15,13 +15,13 @@ use Rattle.event_core.specs.Orderly.{Orderly}
 use Rattle.event_core.specs.Effect.{access_of}
 use Rattle.event_core.specs.Wcp.{Meets}
 use Rattle.event_core.proofs.Accesses.{access_no_release}
-use Rattle.event_core.proofs.Counting.{is_last, last_of, last_does, last_as, last_thread, last_op}
-use Rattle.event_core.proofs.Depth.{Opener, opener, same_lock_id, same_thread_id}
-use Rattle.event_core.proofs.LogFacts.{of_does, of_one, does_op, does_thread}
+use Rattle.event_core.proofs.CountedProperties.{is_last, last_of, last_does, last_as, last_thread, last_op}
+use Rattle.event_core.proofs.DepthProperties.{Opener, opener, same_lock_id, same_thread_id}
+use Rattle.event_core.proofs.LogProperties.{of_does, of_one, does_op, does_thread}
 use Rattle.event_core.proofs.OpenSections.{closing_open, closing_section, ends_at}
-use Rattle.event_core.proofs.SectionSteps.{section_within}
-use Rattle.event_core.proofs.Stable.{longer, back, of, does, acquire, section_too}
-use Rattle.event_core.proofs.Tests.{negated, not_negated}
+use Rattle.event_core.proofs.ClosedProperties.{section_within}
+use Rattle.event_core.proofs.RelationsStay.{longer, back, of, does, acquire, section_too}
+use Rattle.event_core.proofs.BoolProperties.{negated, not_negated}
 
 -- what happens before the end of such a section, by the section
 pub other_of : {log : List Event} {l : LockId} {x : VarId} {k : AccessKind} {t : ThreadId} {i : ℕ}
@@ -37,6 +37,7 @@ other_of q = record {
   does = q.does;
 }
 
+-- a section of another thread whose release happens before an event is among those of the event
 pub others_by : {log : List Event} {l : LockId} {x : VarId} {k : AccessKind} {t : ThreadId} {r i : ℕ}
     → OtherSection log l x k t r → Hb log i r → Others log l x k t i
 others_by {r = r} q below = record {

@@ -11,11 +11,11 @@ use Rattle.event_core.proofs.Words.{ThreadId, LockId, Event}
 use Rattle.event_core.specs.Log.{depth, op_releases, OuterRelease}
 use Rattle.event_core.specs.Closed.{ends, ended_after, ended, number_of}
 use Rattle.event_core.specs.LogLaws.{SectionsAreNumbered}
-use Rattle.event_core.proofs.Depth.{event_at, take_event, op_releases_is}
-use Rattle.event_core.proofs.Counting.{nat_eq_same}
-use Rattle.event_core.proofs.Effects.{whole}
+use Rattle.event_core.proofs.DepthProperties.{event_at, take_event, op_releases_is}
+use Rattle.event_core.proofs.CountedProperties.{nat_eq_same}
+use Rattle.event_core.proofs.EffectProperties.{whole}
 use Rattle.event_core.proofs.Places.{get_last}
-use Rattle.event_core.proofs.Search.{Crossing, crossing, one_up}
+use Rattle.event_core.proofs.LatestIndex.{Crossing, crossing, one_up}
 
 -- what is ended by the events of two lists, one after the other
 ended-append : (past : List Event) (l : LockId) (es fs : List Event)
@@ -87,6 +87,7 @@ number_rises log l r s u o lt =
     let more = ended_mono log l (suc r) s (omega arith) in
     omega (arith, one, more)
 
+-- of two releases the one with the smaller number comes first
 pub number_order : (log : List Event) (l : LockId) (r s : ℕ) (v : ThreadId) → OuterRelease log s v l
     → number_of log l r ≤ number_of log l s → r ≤ s
 number_order log l r s v o le = elim (cases_lt s r) [
@@ -94,6 +95,7 @@ number_order log l r s v o le = elim (cases_lt s r) [
   | inl h ↦ absurd (let up = number_rises log l s r v o h in omega (arith, le, up))
 ]
 
+-- releases of a lock with one number are one
 pub number_same : (log : List Event) (l : LockId) (r s : ℕ) (u v : ThreadId) → OuterRelease log r u l
     → OuterRelease log s v l → number_of log l r ≡ number_of log l s → r ≡ s
 number_same log l r s u v o p e =
@@ -111,6 +113,7 @@ number_within log l r u o =
     let all : ended (take (length log) log) l ≡ ended log l = ap (λ xs. ended xs l) (take-length log) in
     omega (arith, one, more, all)
 
+-- before the first event no section has ended
 pub ended_none : (log : List Event) (l : LockId) → ended (take 0 log) l ≡ 0
 unfolding ended
 ended_none log l = refl
@@ -142,6 +145,7 @@ pub number_last : (log : List Event) (e : Event) (l : LockId)
     → number_of (log ++ e ∷ []) l (length log) ≡ ended log l + 1
 number_last log e l = ap (λ xs. ended xs l + 1) (take-append_seam log (e ∷ []))
 
+-- the law: the sections on a lock have the numbers from 1, in the order of their releases
 pub sections_are_numbered : SectionsAreNumbered
 sections_are_numbered log l = record {
   rising = number_rises log l;
@@ -161,6 +165,7 @@ ended_same log e l none =
     (subst (λ xs. ends xs l e ≡ true) (sym (take-append_seam log (e ∷ []))) t))))
     ∙ add-zero (ended log l)
 
+-- an outer release ends one section more
 pub ended_one : (log : List Event) (e : Event) (l : LockId)
     → OuterRelease (log ++ e ∷ []) (length log) e.thread l → ended (log ++ e ∷ []) l ≡ ended log l + 1
 ended_one log e l o =

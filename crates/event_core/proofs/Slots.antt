@@ -3,8 +3,8 @@ use Rattle.std.proofs.Common.{ℕ, ◌≤◌, ◌+◌, List, length, arith, take
 use Rattle.std.proofs.Math.Seq.{length-take-le}
 use Rattle.event_core.proofs.Words.{Event, Limits}
 use Rattle.event_core.specs.Refusal.{open_acquires, op_is_acquire, op_is_release, WellFormed}
-use Rattle.event_core.proofs.Growth.{formed_take}
-use Rattle.event_core.proofs.Holds.{balanced, depths_are_open}
+use Rattle.event_core.proofs.WellFormedProperties.{formed_take}
+use Rattle.event_core.proofs.OpenAcquiresProperties.{balanced, depths_are_open}
 
 -- the log is never so full that an open acquire could not be released
 pub slots : (m : Limits) (log : List Event) → WellFormed m log → (k : ℕ) → k ≤ length log

@@ -11,16 +11,16 @@ use Rattle.event_core.specs.Orderly.{Orderly}
 use Rattle.event_core.specs.Refusal.{WellFormed}
 use Rattle.event_core.specs.Count.{events_of, Past, LockPast}
 use Rattle.event_core.specs.Rows.{no_clock, with_row, to_child, Counted}
-use Rattle.event_core.proofs.Chains.{hb_forward, hb_trans}
-use Rattle.event_core.proofs.Counting.{counted_none, events_own, events_other}
-use Rattle.event_core.proofs.Growing.{Leads, leads_cases, led_row, other_row, rows_stand}
-use Rattle.event_core.proofs.Legality.{orderly}
-use Rattle.event_core.proofs.Stable.{longer, back, hb_too}
-use Rattle.event_core.proofs.Effects.{Fits, fits}
+use Rattle.event_core.proofs.OrderProperties.{hb_forward, hb_trans}
+use Rattle.event_core.proofs.CountedProperties.{counted_none, events_own, events_other}
+use Rattle.event_core.proofs.RowsAfterProperties.{Leads, leads_cases, led_row, other_row, rows_stand}
+use Rattle.event_core.proofs.OrderlyProperties.{orderly}
+use Rattle.event_core.proofs.RelationsStay.{longer, back, hb_too}
+use Rattle.event_core.proofs.EffectProperties.{Fits, fits}
 use Rattle.hb_clocks.specs.State.{HbState, effect, without_locks, po_row, hb_row, after}
 use Rattle.hb_clocks.specs.Standing.{StandsFor, StepStands}
-use Rattle.event_core.proofs.Brings.{clock_counted, own_row, forked_none}
-use Rattle.event_core.proofs.DepthSteps.{depths_stand}
+use Rattle.event_core.proofs.ClockAfterProperties.{clock_counted, own_row, forked_none}
+use Rattle.event_core.proofs.DepthAfterProperties.{depths_stand}
 use Rattle.event_core.proofs.HbSteps.{hb_to, hb_from}
 use Rattle.hb_clocks.proofs.PoSteps.{NoLock, po_to, po_from, led_counts, other_counts}
 
@@ -109,5 +109,6 @@ module _ (limits : Limits) (log : List Event) (e : Event) (w : WellFormed limits
     depths = depths_stand log e ord s.depth st.depths;
   }
 
+-- the law: the clocks after a legal event stand for the longer log
 pub step_stands : StepStands
 step_stands limits log e s w st = grown_stands limits log e w s st

@@ -7,10 +7,10 @@ use Rattle.std.proofs.lemmas.List.{get_or-replicate, get_or-set_same, get_or-set
 use Rattle.std.specs.Vec.{with_items}
 use Rattle.std.specs.declared.vec.Vec.{Vec}
 use Rattle.event_core.specs.Rows.{no_clock}
-use Rattle.event_core.proofs.Growing.{row_same, row_other}
+use Rattle.event_core.proofs.RowsAfterProperties.{row_same, row_other}
 use Rattle.hb_clocks.specs.Counts.{counts_of}
 use Rattle.hb_clocks.specs.Rows.{row_at, rows_of, widths_of, IsMade, AreWide}
-use Rattle.hb_clocks.proofs.RowLaws.{set_read}
+use Rattle.hb_clocks.proofs.RowsProperties.{set_read}
 
 -- a row without numbers is past the table's end, or was not made
 pub no_row : (rows : List (List ℕ)) (t : ℕ) → length rows ≤ t → row_at rows t ≡ []
@@ -41,6 +41,7 @@ pub made_kept : (w t : ℕ) (old new : List (List ℕ)) → widths_of new ≡ wi
     → IsMade w new t
 made_kept w t old new e m = record { wide = ap (λ f. f t) e ∙ m.wide }
 
+-- rows that keep their widths stay as wide as the table asks
 pub wide_kept : (w : ℕ) (old new : List (List ℕ)) → widths_of new ≡ widths_of old → AreWide w old
     → AreWide w new
 wide_kept w old new e a = record {
@@ -103,9 +104,11 @@ remade w at old rows found row same within read none is = record {
 }
 
 module _ (w at : ℕ) (old new : List (List ℕ)) (r : Remade w at old new) where
+  -- the row is made
   pub remade_made : IsMade w new at
   remade_made = record { wide = r.made }
 
+  -- each row that was made stays so
   pub remade_kept : (t : ℕ) → IsMade w old t → IsMade w new t
   remade_kept t m = go (cases_eq t at)
     where
@@ -113,6 +116,7 @@ module _ (w at : ℕ) (old new : List (List ℕ)) (r : Remade w at old new) wher
       go (inl q) = subst (IsMade w new) (sym q) remade_made
       go (inr n) = record { wide = r.others t n ∙ m.wide }
 
+  -- the rows stay as wide as the table asks
   pub remade_wide : AreWide w old → AreWide w new
   remade_wide a = record { wide = λ t some. go t some (cases_eq t at) }
     where

@@ -13,15 +13,15 @@ use Rattle.event_core.specs.declared.bounds.Limits.{Limits}
 use Rattle.event_core.specs.Count.{Past}
 use Rattle.event_core.specs.Effect.{Effect}
 use Rattle.event_core.specs.Rows.{Counted}
-use Rattle.event_core.proofs.Chains.{po_forward}
-use Rattle.event_core.proofs.LogFacts.{of_one, of_does, does_op}
-use Rattle.event_core.proofs.Stable.{longer, back, of, po_too}
-use Rattle.event_core.proofs.Counting.{counted_same, counted_longer, last_of, last_does, is_last, last_thread}
-use Rattle.event_core.proofs.Counting.{last_op}
-use Rattle.event_core.proofs.Effects.{Fits, accesses, opens, closes, forks, joins, again, inner}
-use Rattle.event_core.proofs.Growing.{Leads, fresh}
-use Rattle.event_core.proofs.Brings.{Brings, join_brings}
-use Rattle.event_core.proofs.Pasts.{Source, source_within, old_source, new_source}
+use Rattle.event_core.proofs.OrderProperties.{po_forward}
+use Rattle.event_core.proofs.LogProperties.{of_one, of_does, does_op}
+use Rattle.event_core.proofs.RelationsStay.{longer, back, of, po_too}
+use Rattle.event_core.proofs.CountedProperties.{counted_same, counted_longer, last_of, last_does, is_last}
+use Rattle.event_core.proofs.CountedProperties.{last_thread, last_op}
+use Rattle.event_core.proofs.EffectProperties.{Fits, accesses, opens, closes, forks, joins, again, inner}
+use Rattle.event_core.proofs.RowsAfterProperties.{Leads, fresh}
+use Rattle.event_core.proofs.ClockAfterProperties.{Brings, join_brings}
+use Rattle.event_core.proofs.PastProperties.{Source, source_within, old_source, new_source}
 
 module _ (log : List Event) (e : Event) where
   -- program order has no edge through a lock
@@ -81,6 +81,7 @@ module _ (log : List Event) (e : Event) where
       go (inl a) = event_to_join u e.thread lt a joins_it
       go (inr d) = fork_to_join u d.0 e.thread lt d.1 joins_it
 
+  -- the past of the event's thread, and what the event is brought, are ordered before the event
   pub po_from : (k : Effect) → Fits log e k → (i : ℕ)
       → Past log (Po log) e.thread i ⊎ Brings log (Po log) NoLock k i
       → Po (log ++ e ∷ []) i (length log)
@@ -178,6 +179,7 @@ module _ (log : List Event) (e : Event) where
         back_to i (inl p) = past_led t i l p
         back_to i (inr p) = p.1
 
+  -- a thread that the event does not lead into keeps its clock
   pub other_counts : (t : ThreadId) (g : ℕ → ℕ) → (Leads e t → ⊥) → Counted log (Past log (Po log) t) g
       → Counted (log ++ e ∷ []) (Past (log ++ e ∷ []) (Po (log ++ e ∷ [])) t) g
   other_counts t g n was =

@@ -12,7 +12,7 @@ use Rattle.event_core.specs.declared.events.Op.{Op}
 use Rattle.event_core.specs.declared.events.Op.TheVariants.{Acquire, Release, Fork, Join}
 use Rattle.event_core.specs.Rows.{clock_after, join, bump, with_row, Rows, to_child, to_lock, brought}
 use Rattle.event_core.specs.Effect.{Effect, Opens, Joins}
-use Rattle.event_core.proofs.Growing.{row_same, row_other}
+use Rattle.event_core.proofs.RowsAfterProperties.{row_same, row_other}
 use Rattle.hb_clocks.specs.declared.holds.Hold.{Hold}
 use Rattle.hb_clocks.specs.Holds.{hold_at, holds_after, is_outer, effect_by, HasHold}
 use Rattle.hb_clocks.specs.State.{HbState, effect, without_locks, after}
@@ -20,7 +20,7 @@ use Rattle.hb_clocks.specs.Standing.{IsFew, Admits, IsAlone}
 use Rattle.hb_clocks.specs.Tables.{ClockTables, hb_rows, state_from, HasThread}
 use Rattle.hb_clocks.specs.Tables.{HasClocks, KeepsRoom, SameRows, SameMemory, AreTables}
 use Rattle.hb_clocks.specs.Rows.{rows_of, widths_of}
-use Rattle.hb_clocks.proofs.HoldLaws.{AloneAt, of_holder, outer_effect, depths_after, holds_length}
+use Rattle.hb_clocks.proofs.HoldsProperties.{AloneAt, of_holder, outer_effect, depths_after, holds_length}
 use Rattle.hb_clocks.proofs.MadeRows.{made_kept, wide_kept, written_widths}
 
 -- a row that is written twice

@@ -6,10 +6,10 @@
 //! release. The log itself is not kept.
 ghost use Rattle.std.specs.Prelude.{◌≡◌, ℕ, ◌+◌, ◌<◌, ◌≤◌, ◌^◌, ◌↔◌, List, [], ◌∷◌, ◌++◌, length, IfOk};
 ghost use Rattle.std.specs.Prelude.{IsTrue, IsOk, OnOk};
-ghost use Rattle.event_core.specs.declared.events.Event.{Event as AnEvent};
-ghost use Rattle.event_core.specs.declared.events.Op.{Op as Operation};
-ghost use Rattle.event_core.specs.declared.ids.ThreadId.{ThreadId as AThread};
-ghost use Rattle.event_core.specs.declared.bounds.Limits.{Limits as Bounds};
+ghost use Rattle.event_core.specs.declared.events.Event.{Event};
+ghost use Rattle.event_core.specs.declared.events.Op.{Op};
+ghost use Rattle.event_core.specs.declared.ids.ThreadId.{ThreadId};
+ghost use Rattle.event_core.specs.declared.bounds.Limits.{Limits};
 ghost use Rattle.event_core.specs.Order.{Po, Hb};
 ghost use Rattle.event_core.specs.Refusal.{WellFormed};
 ghost use Rattle.event_core.specs.Rows.{join, Counted};
@@ -174,7 +174,7 @@ impl HbClocks {
         requires few { IsFew (state_of self.old) }
         requires work { work.old.joins < 2 ^ 62 }
         ensures exact { state_of self.new ≡ after event.now (state_of self.old) }
-        ensures stands { (limits : Bounds) (log : List AnEvent) → WellFormed limits (log ++ event.now ∷ [])
+        ensures stands { (limits : Limits) (log : List Event) → WellFormed limits (log ++ event.now ∷ [])
             → StandsFor log (state_of self.old) → StandsFor (log ++ event.now ∷ []) (state_of self.new) }
         ensures kept { KeepsRoom self.old self.new }
         ensures memory { SameMemory self.old self.new }
@@ -196,7 +196,7 @@ impl HbClocks {
         ensures width { length result.now ≡ self.now.width }
         ensures exact { counts_of result.now ≡ (state_of self.now).po thread.0 }
         ensures at { (u : ℕ) → counts_of result.now u ≡ (state_of self.now).po thread.0 u }
-        ensures latest { (limits : Bounds) (log : List AnEvent) (j : ℕ) → WellFormed limits log
+        ensures latest { (limits : Limits) (log : List Event) (j : ℕ) → WellFormed limits log
             → StandsFor log (state_of self.now) → IsLatest log thread j
             → Counted log (λ i. Po log i j) (counts_of result.now) }
     {
@@ -207,7 +207,7 @@ impl HbClocks {
     pub fn hb(&self, thread: ThreadId) -> &Clock
         ensures width { length result.now ≡ self.now.width }
         ensures exact { counts_of result.now ≡ (state_of self.now).hb.thread thread.0 }
-        ensures latest { (limits : Bounds) (log : List AnEvent) (j : ℕ) → WellFormed limits log
+        ensures latest { (limits : Limits) (log : List Event) (j : ℕ) → WellFormed limits log
             → StandsFor log (state_of self.now) → IsLatest log thread j
             → Counted log (λ i. Hb log i j) (counts_of result.now) }
     {
@@ -219,7 +219,7 @@ impl HbClocks {
         requires some { 0 < (state_of self.now).hb.thread thread.0 thread.0 }
         requires few { (state_of self.now).hb.thread thread.0 thread.0 ≤ 2 ^ 32 }
         ensures exact { result ≡ latest_mark thread (state_of self.now) }
-        ensures names { (log : List AnEvent) (j : ℕ) → StandsFor log (state_of self.now)
+        ensures names { (log : List Event) (j : ℕ) → StandsFor log (state_of self.now)
             → IsLatest log thread j → Names log result thread j }
     {
         let row = &self.hb[thread.0 as usize];
@@ -244,7 +244,7 @@ impl HbClocks {
         ensures same { state_of self.new ≡ state_of self.old }
         ensures made { OnOk result (HasThread self.new.width self.new.po self.new.hb thread.0) }
         ensures kept { KeepsRoom self.old self.new }
-        ensures grown { (t : AThread) (o : Operation) → thread.0 < threads_for t o
+        ensures grown { (t : ThreadId) (o : Op) → thread.0 < threads_for t o
             → IsThreadFor t o thread.0 → GrownFor self.old self.new t o }
         ensures width { self.new.width ≡ self.old.width }
     {
@@ -258,7 +258,7 @@ impl HbClocks {
         ensures clock { OnOk result (IsMade self.new.width self.new.lock lock.0) }
         ensures hold { OnOk result (lock.0 < length self.new.holds) }
         ensures kept { KeepsRoom self.old self.new }
-        ensures grown { (t : AThread) (o : Operation) → lock.0 < locks_for o → IsLockOf o lock.0
+        ensures grown { (t : ThreadId) (o : Op) → lock.0 < locks_for o → IsLockOf o lock.0
             → GrownFor self.old self.new t o }
         ensures width { self.new.width ≡ self.old.width }
     {

@@ -37,7 +37,7 @@ impl<'a> JoinedClocks<'a> {
     }
 
     /// The number of a thread.
-    #[tactic(auto, using(crate::proofs::JoinLaws::joined_at))]
+    #[tactic(auto, using(crate::proofs::JoinProperties::joined_at))]
     pub fn at(&self, thread: ThreadId) -> u64
         requires { thread.0 < length self.now }
         ensures { result ≡ counts_of self.now thread.0 }

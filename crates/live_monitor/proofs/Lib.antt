@@ -1,5 +1,5 @@
-pub mod Beginnings
-mod Retries
-mod RuleKept
+pub mod LogOfProperties
+mod AcquireWithinLaws
+mod RulesProperties
 mod StepsAdded
-mod SwapsFollow
+mod MayFollowProperties

@@ -1,14 +1,14 @@
-pub mod Placing
-pub mod Lookup
-pub mod Counting
-pub mod Listing
-pub mod Keeping
-pub mod Storing
-pub mod Lifting
-pub mod KeepingAll
-pub mod Searching
-pub mod Sameness
-pub mod Answering
-mod SectionLists
-mod LogSteps
-mod LogSearches
+pub mod PlaceInProperties
+pub mod SlotsProperties
+pub mod LatestCountedProperties
+pub mod EntriesProperties
+pub mod IsKeptProperties
+pub mod SectionsOfProperties
+pub mod QueueAtProperties
+pub mod AreKeptProperties
+pub mod SearchedProperties
+pub mod SameMeaningProperties
+pub mod OptionProperties
+mod AreSectionsProperties
+mod StandsForProperties
+mod LastBelowLaws

@@ -61,8 +61,8 @@ impl Queues {
     ghost use Rattle.std.specs.Prelude.{MatchOption};
     ghost use Rattle.std.specs.Borrow.{sem};
     ghost use Rattle.std.specs.Io.BufRead.{Rests};
-    ghost use Rattle.event_core.specs.declared.events.Event.{Event as AnEvent};
-    ghost use Rattle.event_core.specs.declared.bounds.Limits.{Limits as Bounds};
+    ghost use Rattle.event_core.specs.declared.events.Event.{Event};
+    ghost use Rattle.event_core.specs.declared.bounds.Limits.{Limits};
     ghost use Rattle.event_core.specs.Refusal.{WellFormed};
     ghost use Rattle.event_core.specs.Order.{Hb};
     ghost use Rattle.event_core.specs.Closed.{OpensSection, EndsSection, below_closed};
@@ -150,7 +150,7 @@ impl Queues {
             (opened_of self.old) }
         ensures closed { closed_of self.new ≡ closed_of self.old }
         ensures found { found_of self.new ≡ found_of self.old }
-        ensures stands { (limits : Bounds) (log : List AnEvent) (e : AnEvent)
+        ensures stands { (limits : Limits) (log : List Event) (e : Event)
             → WellFormed limits (log ++ e ∷ []) → OpensSection log thread lock e
             → Names (log ++ e ∷ []) mark thread (length log)
             → StandsFor log self.old → StandsFor (log ++ e ∷ []) self.new }
@@ -190,7 +190,7 @@ impl Queues {
         ensures below { MatchOption result
             (below_closed (counts_of clock.now) (closed_of self.old lock.0) ≡ no_clock)
             (λ answer. clock_of answer ≡ below_closed (counts_of clock.now) (closed_of self.old lock.0)) }
-        ensures in_log { (limits : Bounds) (log : List AnEvent) → WellFormed limits log
+        ensures in_log { (limits : Limits) (log : List Event) → WellFormed limits log
             → StandsFor log self.old → MatchOption result (CountsNone log lock (counts_of clock.now))
             (λ answer. IsLatest log lock (counts_of clock.now) (thread_of answer) (clock_of answer)) }
         ensures width { IfSome result (λ answer. length (before_of answer) ≤ self.old.limits.threads) }
@@ -228,7 +228,7 @@ impl Queues {
         ensures opened { opened_of self.new
             ≡ with_row thread.0 (with_row lock.0 0 (opened_of self.old thread.0)) (opened_of self.old) }
         ensures found { found_of self.new ≡ found_of self.old }
-        ensures stands { (limits : Bounds) (log : List AnEvent) (e : AnEvent)
+        ensures stands { (limits : Limits) (log : List Event) (e : Event)
             → WellFormed limits (log ++ e ∷ []) → EndsSection log thread lock e
             → Counted (log ++ e ∷ []) (λ i. Hb (log ++ e ∷ []) i (length log)) (counts_of clock.now)
             → StandsFor log self.old → StandsFor (log ++ e ∷ []) self.new }

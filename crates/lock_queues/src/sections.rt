@@ -65,7 +65,7 @@ impl ClosedSections {
     }
 
     // How many there are.
-    #[tactic(auto, using(crate::proofs::Listing::count_listed))]
+    #[tactic(auto, using(crate::proofs::EntriesProperties::count_listed))]
     pub(crate) fn len(&self) -> usize
         ensures { result ≡ length self.now.entries }
     {
@@ -73,7 +73,7 @@ impl ClosedSections {
     }
 
     // Makes room for so many more.
-    #[tactic(auto, using(crate::proofs::Listing::count_listed))]
+    #[tactic(auto, using(crate::proofs::EntriesProperties::count_listed))]
     pub(crate) fn prepare(&mut self, more: usize) -> Result<(), OutOfMemory>
         ensures same { self.new.entries ≡ self.old.entries }
         ensures larger { self.old.most ≤ self.new.most }
@@ -86,7 +86,7 @@ impl ClosedSections {
     }
 
     // One more, for which there is room.
-    #[tactic(auto, using(crate::proofs::Listing::count_listed))]
+    #[tactic(auto, using(crate::proofs::EntriesProperties::count_listed))]
     pub(crate) fn push(&mut self, entry: Entry)
         requires { length self.old.entries < self.old.most }
         ensures entries { self.new.entries ≡ self.old.entries ++ entry ∷ [] }
@@ -99,7 +99,7 @@ impl ClosedSections {
     }
 
     // The one at the place.
-    #[tactic(auto, using(crate::proofs::Listing::count_listed))]
+    #[tactic(auto, using(crate::proofs::EntriesProperties::count_listed))]
     pub(crate) fn at(&self, at: usize) -> Entry
         requires { at < length self.now.entries }
         ensures { result ≡ entry_at self.now.entries at }

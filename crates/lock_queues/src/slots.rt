@@ -23,7 +23,7 @@ impl Slot {
 }
 
 // Where the thread's slot stands, or how many slots there are if it has none.
-#[tactic(auto, using(crate::proofs::Placing::place_is))]
+#[tactic(auto, using(crate::proofs::PlaceInProperties::place_is))]
 pub(crate) fn find(slots: &[Slot], thread: ThreadId) -> usize
     ensures { result ≡ place_in slots.now thread.0 }
 {

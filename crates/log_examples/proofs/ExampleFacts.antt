@@ -9,7 +9,7 @@ use Rattle.event_core.specs.Log.{Does, Of, depth, Inside, Section, InSection, Co
 use Rattle.event_core.specs.Order.{Po}
 use Rattle.event_core.specs.Wcp.{Meets}
 use Rattle.log_examples.specs.Examples.{main, child, event}
-use Rattle.event_core.proofs.LogFacts.{of_does}
+use Rattle.event_core.proofs.LogProperties.{of_does}
 use Rattle.log_examples.proofs.RelationTests.{does_at, inside_at, held_for, is_left_by_none, po_stays}
 
 -- the event of a small log

@@ -23,10 +23,11 @@ use Rattle.log_examples.specs.Plain.{plain_holder, plain_holder_from, holder_aft
 use Rattle.log_examples.specs.Plain.{plain_not_holder, plain_reasons, plain_refusal, held_one}
 use Rattle.log_examples.specs.Plain.{plain_held_locks}
 use Rattle.log_examples.specs.Plain.{PlainLegal, PlainWellFormed}
-use Rattle.event_core.proofs.Depth.{same_thread_id, thread_cases, take_event, count_snoc, acquires_is}
-use Rattle.event_core.proofs.Depth.{op_acquires_is, op_releases_is}
-use Rattle.event_core.proofs.DepthLaws.{releases_is, not_both, does_release, does_acquire}
-use Rattle.event_core.proofs.Legality.{when_none, acquirer_snoc, AllNone, all_none, holder_depth, holder_is}
+use Rattle.event_core.proofs.DepthProperties.{same_thread_id, thread_cases, take_event, count_snoc}
+use Rattle.event_core.proofs.DepthProperties.{acquires_is, op_acquires_is, op_releases_is}
+use Rattle.event_core.proofs.InsideProperties.{releases_is, not_both, does_release, does_acquire}
+use Rattle.event_core.proofs.OrderlyProperties.{when_none, acquirer_snoc, AllNone, all_none, holder_depth}
+use Rattle.event_core.proofs.OrderlyProperties.{holder_is}
 
 -- who holds the lock, in the terms of both rules
 State : Option ThreadId → List Event → LockId → Type 0

@@ -19,8 +19,8 @@ use Rattle.log_examples.specs.PlainWcp.{PlainHbEdge, plain_program, plain_lock, 
 use Rattle.log_examples.specs.PlainWcp.{PlainInSection, PlainMeets, PlainStrict, plain_a, plain_b}
 use Rattle.log_examples.specs.PlainWcp.{plain_c_left}
 use Rattle.log_examples.specs.PlainWcp.{plain_c_right, PlainBelow, PlainRaces, IsPlainVerdict}
-use Rattle.event_core.proofs.DepthLaws.{inside_from, inside_to}
-use Rattle.event_core.proofs.Legality.{orderly}
+use Rattle.event_core.proofs.InsideProperties.{inside_from, inside_to}
+use Rattle.event_core.proofs.OrderlyProperties.{orderly}
 use Rattle.log_examples.proofs.PlainProperties.{well_formed_too, plain_acquire, plain_release}
 
 -- what is used of such a log

@@ -18,9 +18,9 @@ use Rattle.event_core.specs.Order.{event_to_join, Po}
 use Rattle.event_core.specs.Wcp.{Meets, Strict, Below}
 use Rattle.event_core.specs.Refusal.{op_forks, op_joins}
 use Rattle.event_core.specs.Verdict.{Races, IsVerdict}
-use Rattle.event_core.proofs.LogFacts.{does_op}
-use Rattle.event_core.proofs.Chains.{program_forward, hb_forward}
-use Rattle.event_core.proofs.Main.{strict_least}
+use Rattle.event_core.proofs.LogProperties.{does_op}
+use Rattle.event_core.proofs.OrderProperties.{program_forward, hb_forward}
+use Rattle.event_core.proofs.RecurrenceProperties.{strict_least}
 
 -- whether the test holds of all numbers below n
 abbrev pub all_below : (ℕ → Bool) → ℕ → Bool

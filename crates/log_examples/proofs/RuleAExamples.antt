@@ -11,7 +11,7 @@ use Rattle.log_examples.specs.Examples.{main, child, l, x, y, event, two_section
 use Rattle.log_examples.specs.Examples.{loading_section, early_load, ConflictingSectionsAreOrdered}
 use Rattle.log_examples.specs.Examples.{HappensBeforeIsNotEnough, OrderPassesThroughSections}
 use Rattle.log_examples.specs.Examples.{OrderBeginsAtTheAccess}
-use Rattle.event_core.proofs.Chains.{chain_one, hb_thread, hb_trans}
+use Rattle.event_core.proofs.OrderProperties.{chain_one, hb_thread, hb_trans}
 use Rattle.log_examples.proofs.RelationTests.{inside_at, clear_but, racy_with, no_strict}
 use Rattle.log_examples.proofs.ExampleFacts.{is, at_thread, section_at, conflict_at, meets_at}
 use Rattle.log_examples.proofs.ExampleFacts.{main_not_child, po_stays_in}

@@ -10,7 +10,7 @@ use Rattle.event_core.specs.Order.{lock, Hb}
 use Rattle.event_core.specs.Wcp.{Meets, Strict, rule_a, rule_b, rule_c_left, rule_c_right}
 use Rattle.log_examples.specs.Examples.{main, child, other, l, k, m, n, x, y, z, event, sections_in_turn}
 use Rattle.log_examples.specs.Examples.{sections_of_one_thread, RuleBOrdersReleases, RuleBWithinOneThread}
-use Rattle.event_core.proofs.Chains.{chain_one, hb_thread, hb_trans}
+use Rattle.event_core.proofs.OrderProperties.{chain_one, hb_thread, hb_trans}
 use Rattle.log_examples.proofs.RelationTests.{inside_at, clear_but}
 use Rattle.log_examples.proofs.ExampleFacts.{is, at_thread, section_at, in_it, meets_at}
 

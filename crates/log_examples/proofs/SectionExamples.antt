@@ -9,7 +9,7 @@ use Rattle.event_core.specs.Wcp.{Meets, rule_a, rule_c_left, Below}
 use Rattle.log_examples.specs.Examples.{main, child, other, l, k, x, overlapping_sections, inner_release}
 use Rattle.log_examples.specs.Examples.{empty_child, three_stores, ReleaseEndsItsOwnSection}
 use Rattle.log_examples.specs.Examples.{InnerReleaseEndsNoSection, ForkIsBelowJoin, LatestRaceIsTold}
-use Rattle.event_core.proofs.Chains.{chain_one, chain_trans, hb_thread, po_thread}
+use Rattle.event_core.proofs.OrderProperties.{chain_one, chain_trans, hb_thread, po_thread}
 use Rattle.log_examples.proofs.RelationTests.{inside_at, clear_but, racy_with, is_left_by_none, no_strict}
 use Rattle.log_examples.proofs.ExampleFacts.{is, at_thread, section_at, conflict_at, meets_at, main_not_child}
 use Rattle.log_examples.proofs.ExampleFacts.{po_stays_in}

@@ -1,5 +1,5 @@
 pub mod Prefixes
 pub mod Totals
-pub mod Agreeing
+pub mod AgreeProperties
 pub mod TableSteps
 pub mod Seats

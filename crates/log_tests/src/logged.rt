@@ -1,6 +1,6 @@
 //! A log whose events a memory permits.
 ghost use Rattle.std.specs.Prelude.{◌≡◌, ◌++◌, ◌∷◌, [], List, None};
-ghost use Rattle.event_core.specs.declared.events.Event.{Event as AnEvent};
+ghost use Rattle.event_core.specs.declared.events.Event.{Event};
 ghost use Rattle.event_core.specs.Refusal.{Legal};
 ghost use Rattle.event_core.specs.Steps.{forked_by, log_of};
 ghost use Rattle.event_core.specs.declared.bounds.Roots.TheVariants.{OnlyMain};
@@ -36,8 +36,8 @@ pub fn memory(alloc: Global, limits: Limits) -> Memory
 /// The event of the thread's call, which has to be permitted.
 pub fn make<R: Abort>(rt: &R, memory: &mut Memory, thread: ThreadId, op: Op, arg: u64) -> Event
     ensures limits { memory.new.limits ≡ memory.old.limits }
-    ensures legal { (log : List AnEvent) → StandsFor log memory.old → Legal memory.old.limits log result }
-    ensures stands { (log : List AnEvent) → StandsFor log memory.old
+    ensures legal { (log : List Event) → StandsFor log memory.old → Legal memory.old.limits log result }
+    ensures stands { (log : List Event) → StandsFor log memory.old
         → StandsFor (log ++ result ∷ []) memory.new }
     ensures thread { result.thread ≡ thread }
     ensures op { result.op ≡ op }

@@ -1,5 +1,5 @@
 mod Beginnings
-mod Joined
+mod IsJoinedIntoProperties
 mod Places
-mod Tables
+mod IsPublishedProperties
 mod Meetings

@@ -11,7 +11,7 @@ use Rattle.log_pass.specs.declared.views.PassView.{PassView}
 use Rattle.log_pass.specs.Kinds.{Met}
 use Rattle.log_pass.specs.Passes.{seeing, IsPass}
 use Rattle.log_pass.proofs.Prefixes.{prefix_self, prefix_trans}
-use Rattle.live_monitor.proofs.Beginnings.{log_begins}
+use Rattle.live_monitor.proofs.LogOfProperties.{log_begins}
 use Rattle.one_log.specs.Laws.{Meet, AllMeet, StandInOneLog}
 use Rattle.one_log.specs.OneLog.{StandsAmong}
 use Rattle.one_log.proofs.Beginnings.{all_both, all_at, one_list}

@@ -13,8 +13,8 @@ use Rattle.event_core.specs.Acts.{IsDone, step_of, swap_load, swap_store}
 use Rattle.event_core.specs.Refusal.{event_of}
 use Rattle.event_core.specs.Steps.{step_events, log_of}
 use Rattle.event_core.specs.Verdict.{IsVerdict}
-use Rattle.event_core.proofs.Stable.{longer, verdict_too}
-use Rattle.event_core.proofs.StepLaws.{log_of-snoc}
+use Rattle.event_core.proofs.RelationsStay.{longer, verdict_too}
+use Rattle.event_core.proofs.StepsProperties.{log_of-snoc}
 use Rattle.one_log.specs.OneLog.{HasVerdicts, HavePlaces}
 
 -- a verdict stays in a longer log

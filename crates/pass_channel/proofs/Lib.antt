@@ -1,1 +1,1 @@
-mod Posts
+mod PostsProperties

@@ -1,8 +1,8 @@
-pub mod Cuts
-pub mod Steps
-pub mod Again
-pub mod Split
-pub mod First
-pub mod Marked
-pub mod Barred
-pub mod LineLaws
+pub mod CutProperties
+pub mod ReadingProperties
+pub mod SpellingProperties
+pub mod HasFieldsProperties
+pub mod IsFirstCauseProperties
+pub mod TellProperties
+pub mod IsBarredProperties
+pub mod LinesProperties

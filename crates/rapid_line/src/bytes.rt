@@ -5,7 +5,7 @@ ghost use Rattle.rapid_line.specs.Cut.{has, cut, before_end, content, Lacks};
 use memchr::memchr;
 
 /// Whether the byte stands in the bytes.
-#[tactic(auto, using(crate::proofs::Cuts::has_found))]
+#[tactic(auto, using(crate::proofs::CutProperties::has_found))]
 pub fn contains(bytes: &[u8], byte: u8) -> bool
     ensures { result ≡ has byte bytes.now }
 {
@@ -13,7 +13,7 @@ pub fn contains(bytes: &[u8], byte: u8) -> bool
 }
 
 /// What stands before the first such byte, and what after it.
-#[tactic(auto, using(crate::proofs::Cuts::cutting))]
+#[tactic(auto, using(crate::proofs::CutProperties::cutting))]
 pub fn cut_at(bytes: &[u8], byte: u8) -> Option<(&[u8], &[u8])>
     ensures { option_map (λ p. (p.0.now, p.1.now)) result ≡ cut byte bytes.now }
 {
@@ -36,7 +36,7 @@ pub(crate) fn strip_last(bytes: &[u8], byte: u8) -> Option<&[u8]>
 }
 
 /// The content of a line, which stands without its LF: the line without the CR at its end.
-#[tactic(auto, using(crate::proofs::Cuts::before_end_lacks))]
+#[tactic(auto, using(crate::proofs::CutProperties::before_end_lacks))]
 pub fn without_cr(line: &[u8]) -> &[u8]
     ensures value { result.now ≡ content line.now }
     ensures lf { Lacks 10 line.now → Lacks 10 result.now }

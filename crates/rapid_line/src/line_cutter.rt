@@ -175,7 +175,7 @@ impl LineCutter {
     /// where no line ends in the piece, and then all of it is kept. A line that lies whole in the piece may
     /// have any length; the answers of `line` for earlier lines no longer hold after the call.
     #[inline(always)]
-    #[tactic(auto, using(crate::proofs::LineLaws::next_lines))]
+    #[tactic(auto, using(crate::proofs::LinesProperties::next_lines))]
     pub fn next_line<'a>(
         &mut self,
         piece: &'a [u8],
@@ -209,7 +209,7 @@ impl LineCutter {
     }
 
     /// The last line of the text, where that ends without an LF; none, where nothing is kept.
-    #[tactic(auto, using(crate::proofs::LineLaws::last_line))]
+    #[tactic(auto, using(crate::proofs::LinesProperties::last_line))]
     pub fn last_line(&mut self) -> Option<CutLine<'static>>
         ensures line { IfSome result (λ l. IsLastLine self.old (text_of self.new l) self.new) }
         ensures number { IfSome result (λ l. l.number ≡ self.old.unfinished) }

@@ -141,7 +141,7 @@ fn operation(field: &[u8]) -> Result<(Word, &[u8]), LineFault>
 
 /// The three fields between bars whose places are known.
 #[inline(always)]
-#[tactic(auto, using(crate::proofs::Barred::fields_barred))]
+#[tactic(auto, using(crate::proofs::IsBarredProperties::fields_barred))]
 fn fields_at(bytes: &[u8], first_bar: usize, second_bar: usize) -> (&[u8], &[u8], &[u8])
     requires { IsBarred bytes.now first_bar second_bar }
     ensures { fields_of bytes.now ≡ Ok (result.0.now, result.1.now, result.2.now) }

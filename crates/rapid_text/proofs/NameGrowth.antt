@@ -8,7 +8,7 @@ use Rattle.event_core.specs.declared.events.Event.{Event}
 use Rattle.rapid_line.specs.declared.words.Word.{Word}
 use Rattle.rapid_line.specs.declared.words.Word.TheVariants as words
 use Rattle.rapid_line.specs.Grammar.{NamedEvent}
-use Rattle.rapid_line.proofs.Steps.{and_then_ok, ok_inj}
+use Rattle.rapid_line.proofs.ReadingProperties.{and_then_ok, ok_inj}
 use Rattle.rapid_text.specs.declared.causes.Kind.{Kind}
 use Rattle.rapid_text.specs.declared.causes.Kind.TheVariants as kinds
 use Rattle.rapid_text.specs.declared.causes.NameFault.{NameFault}
@@ -16,7 +16,8 @@ use Rattle.rapid_text.specs.Numbers.{Numbered, number_of, Grows}
 use Rattle.rapid_text.specs.Tables.{Tables, space, with_space, number_in, name_at, TablesGrow}
 use Rattle.rapid_text.specs.Events.{kind_of, op_of, event_of, number_or_fault, named_event, word_of_op}
 use Rattle.rapid_text.specs.Events.{target_of, named_by, HasNames}
-use Rattle.rapid_text.proofs.NameLaws.{numbers, grows, first_number, with_each, with_space_of, put_some}
+use Rattle.rapid_text.proofs.NumberedProperties.{numbers, grows, first_number, with_each, with_space_of}
+use Rattle.rapid_text.proofs.NumberedProperties.{put_some}
 use Rattle.event_core.proofs.Places.{get_before}
 
 -- ---- names are only added

@@ -18,8 +18,8 @@ use Rattle.rapid_text.specs.declared.causes.NameFault.{NameFault}
 use Rattle.rapid_text.specs.declared.causes.NameFault.TheVariants.{TooMany, OutOfMemory}
 use Rattle.rapid_text.specs.Numbers.{Numbered, with_name, found_or, found_number, number_of}
 use Rattle.rapid_text.specs.Tables.{Tables, space, put_back, number_in}
-use Rattle.rapid_text.proofs.NameLaws.{WasNumbered, was_numbered, with_each, with_space_of, with_same}
-use Rattle.rapid_text.proofs.NameLaws.{put_some}
+use Rattle.rapid_text.proofs.NumberedProperties.{WasNumbered, was_numbered, with_each, with_space_of}
+use Rattle.rapid_text.proofs.NumberedProperties.{with_same, put_some}
 
 -- ---- a name that was put at the end
 

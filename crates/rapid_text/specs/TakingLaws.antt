@@ -2,7 +2,7 @@
 -- definitions since ghost members of types cite them, in the crates that take texts.
 use Rattle.std.proofs.Common.{ℕ, List, [], ◌++◌, length-append, refl, sym, ap, ◌∙◌}
 use Rattle.std.proofs.Common.{append_assoc, append-nil, arith}
-use Rattle.rapid_line.proofs.Cuts.{after_last-append, count-append}
+use Rattle.rapid_line.proofs.CutProperties.{after_last-append, count-append}
 use Rattle.rapid_line.specs.Cut.{after_last}
 use Rattle.rapid_text.specs.Taking.{Place, Advances}
 

@@ -9,7 +9,7 @@ ghost use Rattle.std.specs.Prelude.{◌≡◌, ◌↔◌, ◌<◌, ◌≤◌, �
 ghost use Rattle.std.specs.Prelude.{take, drop, IfSome, IsTrue, OnOk};
 ghost use Rattle.std.specs.Int.{to_le_bytes, w32, w64};
 ghost use Rattle.rapid_text.specs.NumberCache.{IsOneOf, IsEntryOf, IsFound, HoldsNone, Tell, ends_of};
-ghost use Rattle.rapid_text.specs.declared.number_cache.Entry.{Entry as AnEntry};
+ghost use Rattle.rapid_text.specs.declared.number_cache.Entry.{Entry};
 
 use std::alloc::{AllocError, Global};
 use std::marker::Model;
@@ -236,7 +236,7 @@ pub struct NumberCache {
 }
 
 impl Model for NumberCache {
-    ghost Value = { List AnEntry };
+    ghost Value = { List Entry };
 
     ghost view = { λ n. n.list.items };
 
@@ -272,7 +272,7 @@ impl NumberCache {
 
     /// Keeps the number of the name, if the name is short. An earlier entry may go for it.
     pub fn put(&mut self, name: &[u8], number: u32)
-        ensures { (entry : AnEntry) → IsOneOf self.new entry
+        ensures { (entry : Entry) → IsOneOf self.new entry
             → IsOneOf self.old entry ⊎ IsEntryOf number name.now entry }
     {
         if !fits_entry(name, self.most) {
@@ -297,7 +297,7 @@ impl NumberCache {
     /// Makes two places or more for each of so many names, all of them empty.
     pub fn reset(&mut self, alloc: Global, names: u32) -> Result<(), AllocError>
         ensures room { OnOk result (names ≤ length self.new / 2) }
-        ensures none { (entry : AnEntry) → IsOneOf self.new entry → HoldsNone entry }
+        ensures none { (entry : Entry) → IsOneOf self.new entry → HoldsNone entry }
     {
         let places = (names as usize * 4).next_power_of_two().max(FEWEST_PLACES);
         self.most = 0;

@@ -18,8 +18,8 @@ use Rattle.event_core.specs.declared.bounds.Limits.{Limits}
 use Rattle.event_core.specs.declared.events.Event.{Event}
 use Rattle.event_core.specs.declared.ids.ThreadId.{ThreadId}
 use Rattle.event_core.specs.Steps.{log_of, own_events}
-use Rattle.event_core.proofs.Depth.{same_thread_id}
-use Rattle.live_monitor.proofs.Beginnings.{log_begins}
+use Rattle.event_core.proofs.DepthProperties.{same_thread_id}
+use Rattle.live_monitor.proofs.LogOfProperties.{log_begins}
 use Rattle.log_pass.specs.declared.views.PassView.{PassView}
 use Rattle.log_pass.specs.Passes.{main, seeing, IsPass}
 use Rattle.log_pass.proofs.Prefixes.{prefix_self, prefix_trans}
@@ -38,7 +38,7 @@ use Rattle.script_drive.specs.Lines.{IsUnjoined}
 use Rattle.script_drive.specs.Runs.{IsRunOf}
 use Rattle.script_drive.specs.Workers.{Done, forked}
 use Rattle.script_drive.proofs.Joins.{joined_made}
-use Rattle.script_drive.proofs.Progress.{done_seen}
+use Rattle.script_drive.proofs.HasDoneProperties.{done_seen}
 
 -- ---- one worker
 

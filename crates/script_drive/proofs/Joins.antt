@@ -12,7 +12,7 @@ use Rattle.event_core.specs.declared.events.Op.{Op}
 use Rattle.event_core.specs.declared.events.Op.TheVariants.{Join}
 use Rattle.event_core.specs.Refusal.{joins, op_joins}
 use Rattle.event_core.specs.Steps.{own_events}
-use Rattle.event_core.proofs.StepLaws.{any_back, any_front}
+use Rattle.event_core.proofs.StepsProperties.{any_back, any_front}
 use Rattle.script_text.specs.declared.lines.ScriptLine.{ScriptLine}
 use Rattle.script_text.specs.Lines.{act_join, is_thread, joins as line_joins, op_join}
 use Rattle.script_drive.specs.Lines.{asked, asked_by, itself, lines_by, through, unread, Follows}

@@ -1,8 +1,8 @@
-mod Calls
-mod ToldRefusals
+mod ReachProperties
+mod IsToldProperties
 mod ScriptFaults
-mod Runs
+mod IsRunOfProperties
 mod Joins
 mod Ends
-mod Progress
+mod HasDoneProperties
 mod LinkLines

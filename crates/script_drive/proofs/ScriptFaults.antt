@@ -38,8 +38,8 @@ use Rattle.script_drive.specs.Faults.{HasToWait, IsNext, Refuses}
 use Rattle.script_drive.specs.Lines.{lines_by}
 use Rattle.script_drive.specs.Runs.{IsRunOf}
 use Rattle.script_drive.specs.Workers.{HasDone, SawRun}
-use Rattle.script_drive.proofs.Progress.{done_later, made_of, own_place, own_thread}
-use Rattle.script_drive.proofs.ToldRefusals.{act_told}
+use Rattle.script_drive.proofs.HasDoneProperties.{done_later, made_of, own_place, own_thread}
+use Rattle.script_drive.proofs.IsToldProperties.{act_told}
 
 -- ---- which is answered
 

@@ -3,7 +3,7 @@ ghost use Rattle.std.specs.Prelude.{◌≡◌, ◌∷◌, ◌++◌, [], All, IfE
 ghost use Rattle.std.specs.List.{filter_map};
 ghost use mathlib.Core.List.{IsPrefix};
 ghost use Rattle.event_core.specs.declared.bounds.Roots.TheVariants.{OnlyMain};
-ghost use Rattle.event_core.specs.declared.ids.ThreadId.{ThreadId as Thread};
+ghost use Rattle.event_core.specs.declared.ids.ThreadId.{ThreadId};
 ghost use Rattle.event_core.specs.Refusal.{WellFormed};
 ghost use Rattle.event_core.specs.Steps.{own_events};
 ghost use Rattle.log_pass.specs.Passes.{main, new_pass, seeing};
@@ -49,7 +49,7 @@ impl<S: Text, G: Gate> Promise<WorkerEnd<S>> for EndOf<S, G> {
 
 // Waits for the thread's pass, makes the calls of its lines, and sends the pass to who joins the thread. A
 // worker that ends before its lines do lets its ends go, which tells those that wait for it.
-#[tactic(auto, using(crate::proofs::Progress::own_first))]
+#[tactic(auto, using(crate::proofs::HasDoneProperties::own_first))]
 fn work<S: Text, G: Gate, R: Wait>(drive: &Drive<'_, S, G, R>, worker: Worker<S>) -> WorkerEnd<S>
     ensures { HasEnded S.limits S.ahead S.lines G.admitted G.told worker.own.thread result }
 {
@@ -194,7 +194,7 @@ fn finish<S: Text>(
 }
 
 // Each thread makes the calls of its lines, in a worker of its own. The pass and the links are thread 0's.
-#[tactic(auto, using(crate::proofs::Progress::main_first))]
+#[tactic(auto, using(crate::proofs::HasDoneProperties::main_first))]
 fn run_all<S: Text + Send + Sync, G: Gate + Sync, R: Threads + Wait + Sync>(
     drive: &Drive<'_, S, G, R>,
     alloc: Global,
@@ -236,7 +236,7 @@ fn run_all<S: Text + Send + Sync, G: Gate + Sync, R: Threads + Wait + Sync>(
 }
 
 // Runs the script over a monitor that has a name.
-#[tactic(auto, using(crate::proofs::Runs::nothing_ran))]
+#[tactic(auto, using(crate::proofs::IsRunOfProperties::nothing_ran))]
 fn drive_in<S: Text + Send + Sync, G: Gate + Sync, R: Threads + Wait + Sync>(
     rt: &R,
     alloc: Global,
@@ -254,10 +254,10 @@ fn drive_in<S: Text + Send + Sync, G: Gate + Sync, R: Threads + Wait + Sync>(
     ensures well_formed { IfOk result (λ closed. WellFormed S.limits closed.log) }
     ensures main { IfOk result
         (λ closed. Follows (own_events main closed.log) (lines_by main S.lines)) }
-    ensures joined { IfOk result (λ closed. (u : Thread)
+    ensures joined { IfOk result (λ closed. (u : ThreadId)
         → IsJoinedFrom S.lines main u
         → Follows (own_events u closed.log) (lines_by u S.lines)) }
-    ensures unjoined { IfOk result (λ closed. (t : Thread)
+    ensures unjoined { IfOk result (λ closed. (t : ThreadId)
         → IsUnjoined S.lines t
         → AllMadeFrom S.lines closed.log t) }
     ensures passed { IfOk result (λ _. PassedGate G.admitted G.told S.lines) }
@@ -318,10 +318,10 @@ pub fn drive<G: Gate + Sync, R: Threads + Wait + Sync>(
     ensures well_formed { IfOk result (λ closed. WellFormed limits closed.log) }
     ensures main { IfOk result
         (λ closed. Follows (own_events main closed.log) (lines_by main script.now.lines)) }
-    ensures joined { IfOk result (λ closed. (u : Thread)
+    ensures joined { IfOk result (λ closed. (u : ThreadId)
         → IsJoinedFrom script.now.lines main u
         → Follows (own_events u closed.log) (lines_by u script.now.lines)) }
-    ensures unjoined { IfOk result (λ closed. (t : Thread)
+    ensures unjoined { IfOk result (λ closed. (t : ThreadId)
         → IsUnjoined script.now.lines t
         → AllMadeFrom script.now.lines closed.log t) }
     ensures passed { IfOk result (λ _. PassedGate G.admitted G.told script.now.lines) }

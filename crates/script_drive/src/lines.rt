@@ -1,9 +1,9 @@
 //! What a worker does: the calls of its thread's lines, in order.
 ghost use Rattle.std.specs.Prelude.{◌≡◌, ◌∷◌, true, Err, List, Contains};
 ghost use Rattle.std.specs.Prelude.{IfErr, IfOk, IsErrAnd, IsFalse, IsOk, IsTrue, OnOk};
-ghost use Rattle.event_core.specs.declared.ids.ThreadId.{ThreadId as Thread};
+ghost use Rattle.event_core.specs.declared.ids.ThreadId.{ThreadId};
 ghost use Rattle.event_core.specs.declared.replies.Refusal.TheVariants.{Held};
-ghost use Rattle.script_text.specs.declared.lines.ScriptLine.{ScriptLine as Line};
+ghost use Rattle.script_text.specs.declared.lines.ScriptLine.{ScriptLine};
 ghost use Rattle.script_drive.specs.Faults.{goes_ahead, is_told, refused_at, HasToWait, IsHaltOf, IsNext};
 ghost use Rattle.script_text.specs.Lines.{thread_of};
 ghost use Rattle.script_drive.specs.Ends.{PassedGate};
@@ -74,7 +74,7 @@ fn await_end<S: Text, G: Gate, R: Wait>(
 
 // Whether the acquire was refused since another thread holds the lock.
 fn is_held(answer: &Result<Reply, Refusal>) -> bool
-    ensures held { IsTrue result → (by : Thread) × (answer.now ≡ Err (Held by)) }
+    ensures held { IsTrue result → (by : ThreadId) × (answer.now ≡ Err (Held by)) }
     ensures told { IsFalse result → IfErr answer.now (λ why. is_told why ≡ true) }
 {
     matches!(answer, Err(Refusal::Held { .. }))
@@ -104,10 +104,10 @@ fn make_call<S: Text, G: Gate, R: Wait>(
     links: &mut Links<S>,
 ) -> Result<Pass<S>, Halt>
     requires next { IsNext S.limits S.lines line.now pass }
-    requires serves { (later : List Line) × Serves links.old (line.now ∷ later) }
+    requires serves { (later : List ScriptLine) × Serves links.old (line.now ∷ later) }
     ensures does { IfOk result (Does line.now pass) }
     ensures saw { IfOk result (SawRun S.limits S.lines) }
-    ensures serves { (later : List Line) → Serves links.old (line.now ∷ later)
+    ensures serves { (later : List ScriptLine) → Serves links.old (line.now ∷ later)
         → OnOk result (Serves links.new later) }
     ensures halt { IfErr result (IsHaltOf S.limits S.ahead S.lines) }
 {

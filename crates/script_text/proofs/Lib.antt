@@ -1,8 +1,8 @@
 pub mod Digits
 pub mod NameBytes
 pub mod Locations
-pub mod Steps
-pub mod Marking
-pub mod Legal
-pub mod Faults
-pub mod Whole
+pub mod TakesProperties
+pub mod MarksProperties
+pub mod AreLegalProperties
+pub mod IsFaultProperties
+pub mod IsScriptProperties

@@ -4,7 +4,7 @@ use Rattle.std.specs.Prelude.{decimal}
 use Rattle.std.proofs.lemmas.Fmt.{decimal_by_steps, length-decimal-le}
 use Rattle.rapid_line.specs.Cut.{Lacks}
 use Rattle.rapid_line.specs.Grammar.{IsField}
-use Rattle.rapid_line.proofs.Cuts.{Lacks-append}
+use Rattle.rapid_line.proofs.CutProperties.{Lacks-append}
 
 record Plain (n : ℕ) (digits : List ℕ) : Type 0 where
   bar : Lacks 124 digits

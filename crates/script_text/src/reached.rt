@@ -3,7 +3,7 @@
 //! Thread 0 is marked, and then, until none is new, each thread that a line of a marked thread forks.
 ghost use Rattle.std.specs.Prelude.{◌≡◌, ℕ, ◌<◌, length, Some, IfOk, IfSome, IfNone, IsTrue, true, false};
 ghost use Rattle.std.specs.List.{slice_set};
-ghost use Rattle.event_core.specs.declared.ids.ThreadId.{ThreadId as Id};
+ghost use Rattle.event_core.specs.declared.ids.ThreadId.{ThreadId};
 ghost use Rattle.script_text.specs.Scripts.{Reached, names_thread};
 ghost use Rattle.script_text.specs.Marks.{is_marked, unmarked, AreBelow, MarksLine, MarksReached, IsClosed};
 ghost use Rattle.script_text.specs.Marks.{Keeps, none_or_marked, names_marked, AllMarked, IsFirstUnmarked};
@@ -78,7 +78,7 @@ pub fn reached_threads(
 }
 
 fn is_marked_or_none(thread: Option<ThreadId>, marks: &[bool]) -> bool
-    requires { (u : Id) → thread ≡ Some u → u.0 < length marks.now }
+    requires { (u : ThreadId) → thread ≡ Some u → u.0 < length marks.now }
     ensures { result ≡ none_or_marked marks.now thread }
 {
     match thread {

@@ -10,7 +10,7 @@ use Rattle.event_core.specs.Closed.{OtherSection, ended, number_of}
 use Rattle.event_core.specs.Orderly.{Orderly}
 use Rattle.event_core.proofs.OtherSections.{Leaves, other_old, other_new, other_split}
 use Rattle.event_core.proofs.SectionNumbers.{number_longer, number_last, number_within}
-use Rattle.event_core.proofs.SectionSteps.{section_within}
+use Rattle.event_core.proofs.ClosedProperties.{section_within}
 use Rattle.section_sum.specs.Standing.{IsNewest}
 
 module _ (log : List Event) (e : Event) (ord : Orderly (log ++ e ∷ [])) where

@@ -1,14 +1,14 @@
-mod Basics
-mod Changed
-mod Counts
-mod Standing
-mod Keeping
-mod Closing
-mod Says
-mod Passing
-mod Sayings
-mod Meaning
+mod ListProperties
+mod CellProperties
+mod CountToProperties
+mod CellsProperties
+mod IsKeptProperties
+mod CloseLaws
+mod EntriesProperties
+mod LocksProperties
+mod LockSumsProperties
+mod SourcesOfProperties
 mod ClosedAccesses
-mod Steps
+mod StandsForProperties
 pub mod PairedSections
-mod Growing
+mod MakeRoomLaws

@@ -15,16 +15,16 @@ use Rattle.event_core.specs.Order.{Hb, here}
 use Rattle.event_core.specs.Orderly.{Orderly}
 use Rattle.event_core.specs.Effect.{access_of}
 use Rattle.event_core.specs.Rows.{join, Counted}
-use Rattle.event_core.proofs.Chains.{hb_trans, hb_thread}
-use Rattle.event_core.proofs.Counting.{counted_none, counted_join, counted_same}
-use Rattle.event_core.proofs.Legality.{orderly}
-use Rattle.event_core.proofs.Growth.{well_formed_front}
-use Rattle.event_core.proofs.LogFacts.{of_does}
-use Rattle.event_core.proofs.Members.{none_in, has_front, has_back, has_either}
-use Rattle.event_core.proofs.MoreLaws.{sections_ordered}
+use Rattle.event_core.proofs.OrderProperties.{hb_trans, hb_thread}
+use Rattle.event_core.proofs.CountedProperties.{counted_none, counted_join, counted_same}
+use Rattle.event_core.proofs.OrderlyProperties.{orderly}
+use Rattle.event_core.proofs.WellFormedProperties.{well_formed_front}
+use Rattle.event_core.proofs.LogProperties.{of_does}
+use Rattle.event_core.proofs.HasProperties.{none_in, has_front, has_back, has_either}
+use Rattle.event_core.proofs.BelowProperties.{sections_ordered}
 use Rattle.event_core.proofs.SectionNumbers.{number_order, number_same}
 use Rattle.event_core.proofs.OtherSections.{meets_other, other_meets}
-use Rattle.event_core.proofs.Stable.{longer, back, section_too}
+use Rattle.event_core.proofs.RelationsStay.{longer, back, section_too}
 use Rattle.section_sum.specs.Laws.{SourcesCount}
 use Rattle.section_sum.specs.Newest.{section}
 use Rattle.section_sum.specs.Paired.{Pairs, AreSources, AreReleaseClocks, joined, IsBelowPaired}

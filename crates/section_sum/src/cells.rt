@@ -79,7 +79,7 @@ impl Cells {
     }
 
     /// The open section has such an access to the cell. Answers whether it is its first.
-    #[tactic(auto, using(crate::proofs::Changed::marked_at))]
+    #[tactic(auto, using(crate::proofs::CellProperties::marked_at))]
     pub fn mark(&mut self, at: usize, kind: AccessKind) -> bool
         requires within { at < length self.old.places }
         ensures first { result ≡ not (is_noted (cell_at self.old.cells at)) }
@@ -92,7 +92,7 @@ impl Cells {
     }
 
     /// The thread's section with the number ends, for the cell.
-    #[tactic(auto, using(crate::proofs::Changed::closed_at))]
+    #[tactic(auto, using(crate::proofs::CellProperties::closed_at))]
     pub fn close(&mut self, at: usize, thread: ThreadId, number: u32)
         requires within { at < length self.old.places }
         ensures places { self.new.places ≡ self.old.places }

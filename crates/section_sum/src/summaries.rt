@@ -1,9 +1,9 @@
 //! The summaries of all locks.
 ghost use Rattle.std.specs.Prelude.{◌≡◌, ℕ, ◌+◌, ◌<◌, ◌≤◌, ◌↔◌, ◌||◌, ◌&&◌, List, [], ◌∷◌, ◌++◌, length};
 ghost use Rattle.std.specs.Prelude.{nat_eq, cond, not, false, IfOk, IsOk, OnOk, OnErr, IsTrue};
-ghost use Rattle.event_core.specs.declared.events.AccessKind.{AccessKind as Kind};
+ghost use Rattle.event_core.specs.declared.events.AccessKind.{AccessKind};
 ghost use Rattle.event_core.specs.declared.events.Event.{Event};
-ghost use Rattle.event_core.specs.declared.bounds.Limits.{Limits as Bounds};
+ghost use Rattle.event_core.specs.declared.bounds.Limits.{Limits};
 ghost use Rattle.event_core.specs.Log.{depth};
 ghost use Rattle.event_core.specs.Refusal.{WellFormed};
 ghost use Rattle.event_core.specs.Closed.{EndsSection, ended};
@@ -46,8 +46,8 @@ impl Summaries {
     /// No sections. Takes no memory: its tables grow with the numbers that are used, whatever the limits.
     pub fn new(alloc: Global, limits: Limits) -> Result<Summaries, OutOfMemory>
         ensures made { IsOk result }
-        ensures nothing_noted { IfOk result (λ s. (t l v : ℕ) (k : Kind) → noted_of s t l v k ≡ false) }
-        ensures no_others { IfOk result (λ s. (l v : ℕ) (k : Kind) (t : ℕ) → others_of s l v k t ≡ 0) }
+        ensures nothing_noted { IfOk result (λ s. (t l v : ℕ) (k : AccessKind) → noted_of s t l v k ≡ false) }
+        ensures no_others { IfOk result (λ s. (l v : ℕ) (k : AccessKind) (t : ℕ) → others_of s l v k t ≡ 0) }
         ensures stands { IfOk result (λ s. StandsFor [] s) }
     {
         Ok(Summaries {
@@ -127,10 +127,10 @@ impl Summaries {
     pub fn note(&mut self, thread: ThreadId, held: &[LockId], var: VarId, kind: AccessKind)
         requires ready { IsReady self.old held.now var.0 }
         requires alone { IsAlone self.old thread.0 held.now }
-        ensures noted { (t l v : ℕ) (k : Kind) → noted_of self.new t l v k
+        ensures noted { (t l v : ℕ) (k : AccessKind) → noted_of self.new t l v k
             ≡ (noted_of self.old t l v k || is_access thread.0 held.now var.0 kind t l v k) }
         ensures others { SameOthers self.old self.new }
-        ensures stands { (limits : Bounds) (log : List Event) (e : Event) → WellFormed limits (log ++ e ∷ [])
+        ensures stands { (limits : Limits) (log : List Event) (e : Event) → WellFormed limits (log ++ e ∷ [])
             → IsAccessBy thread var kind e → AreHeld log thread held.now
             → StandsFor log self.old → StandsFor (log ++ e ∷ []) self.new }
         ensures kept { KeepsReady self.old self.new }
@@ -143,12 +143,12 @@ impl Summaries {
     /// other threads the newest with one. A lock's sections are numbered from 1 in the order of their
     /// releases. Takes no memory.
     pub fn close(&mut self, thread: ThreadId, lock: LockId, number: u32)
-        ensures noted { (t l v : ℕ) (k : Kind) → noted_of self.new t l v k
+        ensures noted { (t l v : ℕ) (k : AccessKind) → noted_of self.new t l v k
             ≡ (noted_of self.old t l v k && not (nat_eq t thread.0 && nat_eq l lock.0)) }
-        ensures others { (l v : ℕ) (k : Kind) (t : ℕ) → others_of self.new l v k t
+        ensures others { (l v : ℕ) (k : AccessKind) (t : ℕ) → others_of self.new l v k t
             ≡ cond (nat_eq l lock.0 && (not (nat_eq t thread.0) && noted_of self.old thread.0 l v k))
             number (others_of self.old l v k t) }
-        ensures stands { (limits : Bounds) (log : List Event) (e : Event) → WellFormed limits (log ++ e ∷ [])
+        ensures stands { (limits : Limits) (log : List Event) (e : Event) → WellFormed limits (log ++ e ∷ [])
             → EndsSection log thread lock e → number ≡ ended log lock + 1
             → StandsFor log self.old → StandsFor (log ++ e ∷ []) self.new }
         ensures kept { KeepsReady self.old self.new }

@@ -1,10 +1,10 @@
-pub mod JudgedMore
-pub mod Growing
+pub mod AreVerdictsProperties
+pub mod HasGrownProperties
 pub mod Releases
 pub mod ClockLaws
-pub mod Replaying
-pub mod RunMore
+pub mod IsReplayProperties
+pub mod RunAnswersProperties
 pub mod SwapReplies
 pub mod NeverMemory
-pub mod Joining
-pub mod GrowthLaws
+pub mod JoinsProperties
+pub mod GrowthProperties

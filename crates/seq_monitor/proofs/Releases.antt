@@ -15,10 +15,10 @@ use Rattle.event_core.specs.Log.{depth, op_acquires, acquires}
 use Rattle.event_core.specs.Count.{events_of}
 use Rattle.event_core.specs.Refusal.{refusal, event_of, holder, lock_depth, sum_locks, lock_at, held_depths}
 use Rattle.event_core.specs.Refusal.{open_acquires, WellFormed}
-use Rattle.event_core.proofs.Legality.{Reasons, legal_reasons, when_none, holder_depth}
-use Rattle.event_core.proofs.RunFacts.{allowed_legal}
-use Rattle.event_core.proofs.Holds.{depths_are_open, split_count}
-use Rattle.traced_mem.proofs.Allowed.{holder_here}
+use Rattle.event_core.proofs.OrderlyProperties.{Reasons, legal_reasons, when_none, holder_depth}
+use Rattle.event_core.proofs.RunProperties.{allowed_legal}
+use Rattle.event_core.proofs.OpenAcquiresProperties.{depths_are_open, split_count}
+use Rattle.traced_mem.proofs.AllowsProperties.{holder_here}
 use Rattle.traced_mem.proofs.Depths.{depth_if_held}
 use Rattle.access_check.specs.Tables.{AccessTables}
 use Rattle.access_check.specs.Standing.{StandsFor}

@@ -1,7 +1,7 @@
 //! What is made of the parts of a monitor.
 ghost use Rattle.std.specs.Prelude.{◌≡◌, ◌+◌, ◌<◌, ◌≤◌, ◌↔◌, List, [], ◌∷◌, ◌++◌, length, IsOk, IsTrue, OnOk};
-ghost use Rattle.event_core.specs.declared.bounds.Limits.{Limits as Bounds};
-ghost use Rattle.event_core.specs.declared.events.Event.{Event as AnEvent};
+ghost use Rattle.event_core.specs.declared.bounds.Limits.{Limits};
+ghost use Rattle.event_core.specs.declared.events.Event.{Event};
 ghost use Rattle.event_core.specs.Refusal.{WellFormed};
 ghost use Rattle.event_core.specs.Verdict.{IsVerdict};
 ghost use Rattle.access_check.specs.Standing.{StandsFor as AccessesStand};
@@ -62,7 +62,7 @@ pub(crate) fn count_slots(holds: u64, op: Op) -> usize
 #[inline(always)]
 fn verdict_on_last(clocks: &WcpClocks, accesses: &Accesses, event: &Event) -> Verdict
     requires { width_of clocks.now ≡ accesses.now.limits.threads }
-    ensures { (limits : Bounds) (past : List AnEvent) → WellFormed limits (past ++ event.now ∷ [])
+    ensures { (limits : Limits) (past : List Event) → WellFormed limits (past ++ event.now ∷ [])
         → ClocksStandFor (past ++ event.now ∷ []) clocks.now → AccessesStand past accesses.now
         → IsVerdict (past ++ event.now ∷ []) (length past) result }
 {
@@ -76,10 +76,10 @@ pub(crate) fn judge(clocks: &mut WcpClocks, accesses: &Accesses, event: &Event) 
     requires ready { ClocksAreReady clocks.old event.now.thread event.now.op }
     requires fits { Fits event.now clocks.old }
     requires width { width_of clocks.old ≡ accesses.now.limits.threads }
-    ensures verdict { (limits : Bounds) (past : List AnEvent) → WellFormed limits (past ++ event.now ∷ [])
+    ensures verdict { (limits : Limits) (past : List Event) → WellFormed limits (past ++ event.now ∷ [])
         → ClocksStandFor past clocks.old → AccessesStand past accesses.now
         → IsVerdict (past ++ event.now ∷ []) (length past) result }
-    ensures stands { (limits : Bounds) (past : List AnEvent) → WellFormed limits (past ++ event.now ∷ [])
+    ensures stands { (limits : Limits) (past : List Event) → WellFormed limits (past ++ event.now ∷ [])
         → ClocksStandFor past clocks.old → ClocksStandFor (past ++ event.now ∷ []) clocks.new }
     ensures work { IsWorkOf event.now clocks.old clocks.new }
     ensures kept { IsAccess event.now.op → KeepsReady clocks.old clocks.new }

@@ -10,7 +10,7 @@ use Rattle.std.proofs.lemmas.List.Elements.{filter-append}
 use Rattle.std.specs.List.{filter}
 use mathlib.Core.Logic.{inl, inr}
 use Rattle.event_core.specs.declared.events.Event.{Event}
-use Rattle.event_core.proofs.Depth.{take_event}
+use Rattle.event_core.proofs.DepthProperties.{take_event}
 use Rattle.event_core.proofs.Places.{get_before, get_last}
 
 -- where element i of the list is in the filtered list

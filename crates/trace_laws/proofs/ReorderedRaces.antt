@@ -8,13 +8,13 @@ use Rattle.event_core.specs.Log.{Does}
 use Rattle.event_core.specs.Log.{Conflict}
 use Rattle.event_core.specs.Orderly.{Orderly}
 use Rattle.event_core.specs.Verdict.{Races}
-use Rattle.event_core.proofs.Chains.{hb_forward}
-use Rattle.event_core.proofs.LogFacts.{does_thread}
+use Rattle.event_core.proofs.OrderProperties.{hb_forward}
+use Rattle.event_core.proofs.LogProperties.{does_thread}
 use Rattle.trace_laws.specs.Exchanges.{RaceWith}
-use Rattle.trace_laws.proofs.Within.{below_hb}
-use Rattle.trace_laws.proofs.Reorders.{Reorders, turned}
+use Rattle.trace_laws.proofs.StrictIsWithinHb.{below_hb}
+use Rattle.trace_laws.proofs.ReorderedLogs.{Reorders, turned}
 use Rattle.trace_laws.proofs.ReorderedRelations.{found, hb_to, conflict_to, below_from, below_le}
-use Rattle.trace_laws.proofs.Repeated.{flipped}
+use Rattle.trace_laws.proofs.RepeatsProperties.{flipped}
 
 same_conflict : {log : List Event} (i j : ℕ) → i ≡ j → Conflict log i j → ⊥
 same_conflict {log = log} i j e c =

@@ -12,13 +12,13 @@ use Rattle.event_core.specs.Order.{here, step, ProgramEdge, same_thread, fork_to
 use Rattle.event_core.specs.Order.{event_to_join, HbEdge, program, lock, Po, Hb}
 use Rattle.event_core.specs.Orderly.{Orderly}
 use Rattle.event_core.specs.Wcp.{Meets, Strict, rule_a, rule_b, rule_c_left, rule_c_right, Below}
-use Rattle.event_core.proofs.Chains.{hb_forward, po_forward}
-use Rattle.event_core.proofs.DepthLaws.{inside_from, inside_to}
-use Rattle.event_core.proofs.LogFacts.{of_does}
-use Rattle.event_core.proofs.Main.{strict_forward}
-use Rattle.trace_laws.proofs.Within.{strict_hb}
-use Rattle.trace_laws.proofs.Reorders.{Reorders, turned, does_to, of_to, thread_lt, thread_le, plain_lt}
-use Rattle.trace_laws.proofs.Reorders.{fork_lt, join_lt}
+use Rattle.event_core.proofs.OrderProperties.{hb_forward, po_forward}
+use Rattle.event_core.proofs.InsideProperties.{inside_from, inside_to}
+use Rattle.event_core.proofs.LogProperties.{of_does}
+use Rattle.event_core.proofs.RecurrenceProperties.{strict_forward}
+use Rattle.trace_laws.proofs.StrictIsWithinHb.{strict_hb}
+use Rattle.trace_laws.proofs.ReorderedLogs.{Reorders, turned, does_to, of_to, thread_lt, thread_le, plain_lt}
+use Rattle.trace_laws.proofs.ReorderedLogs.{fork_lt, join_lt}
 
 -- edges and chains
 program_to : {log other : List Event} {to from : ℕ → ℕ} {i j : ℕ} → Reorders log other to from

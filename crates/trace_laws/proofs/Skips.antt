@@ -13,8 +13,8 @@ use Rattle.event_core.specs.declared.events.Op.TheVariants.{Load, Store, Acquire
 use Rattle.event_core.specs.Log.{Does, depth, acquires, releases, op_acquires, op_releases}
 use Rattle.std.proofs.lemmas.Bool.{and_right}
 use Rattle.trace_laws.specs.Repeats.{is_access}
-use Rattle.trace_laws.proofs.LegalWithout.{count_cons}
-use Rattle.trace_laws.proofs.Moves.{Moved}
+use Rattle.trace_laws.proofs.WithoutProperties.{count_cons}
+use Rattle.trace_laws.proofs.MovedLogs.{Moved}
 
 -- where event i of a log is without event k
 pub skip : ℕ → ℕ → ℕ

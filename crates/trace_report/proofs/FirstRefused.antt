@@ -11,8 +11,8 @@ use Rattle.event_core.specs.declared.events.Event.{Event}
 use Rattle.event_core.specs.declared.events.Call.{Call}
 use Rattle.event_core.specs.declared.replies.Refusal.{Refusal}
 use Rattle.event_core.specs.Refusal.{refusal, WellFormed, event_of}
-use Rattle.event_core.proofs.Growth.{well_formed_grown}
-use Rattle.event_core.proofs.Legality.{at_take}
+use Rattle.event_core.proofs.WellFormedProperties.{well_formed_grown}
+use Rattle.event_core.proofs.OrderlyProperties.{at_take}
 use Rattle.trace_report.specs.declared.faults.TraceFault.{TraceFault}
 use Rattle.trace_report.specs.declared.faults.TraceFault.TheVariants.{Refused}
 use Rattle.trace_report.specs.Findings.{Trace, call_of, log_of, played, refused_or}

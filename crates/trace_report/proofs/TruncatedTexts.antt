@@ -20,8 +20,8 @@ use Rattle.trace_report.specs.declared.faults.TraceFault.{TraceFault}
 use Rattle.trace_report.specs.declared.faults.TraceFault.TheVariants.{Text}
 use Rattle.trace_report.specs.Findings.{Trace, call_of, finding, finding_after, refused_or}
 use Rattle.trace_report.specs.Judging.{IsTruncatedAt, Takes, line_of}
-use Rattle.rapid_text.proofs.Taking.{truncates}
-use Rattle.trace_report.proofs.Playing.{with_line}
+use Rattle.rapid_text.proofs.TakingProperties.{truncates}
+use Rattle.trace_report.proofs.FindingAfterProperties.{with_line}
 
 -- no fault before line n
 abbrev IsFrom : ℕ → Result Trace TraceFault → Type 0

@@ -1,7 +1,7 @@
 //! What judges the events of a text: the monitor, or legal memory alone, which keeps no log.
 ghost use Rattle.std.specs.Prelude.{◌≡◌, ◌++◌, ◌∷◌, [], List, None, OnOk, IfErr};
-ghost use Rattle.event_core.specs.declared.bounds.Limits.{Limits as Bounds};
-ghost use Rattle.event_core.specs.declared.events.Event.{Event as Entry};
+ghost use Rattle.event_core.specs.declared.bounds.Limits.{Limits};
+ghost use Rattle.event_core.specs.declared.events.Event.{Event};
 ghost use Rattle.event_core.specs.Refusal.{event_of, refusal};
 ghost use Rattle.trace_report.specs.Findings.{call_of};
 ghost use Rattle.trace_report.specs.Judging.{Declines};
@@ -13,15 +13,15 @@ use traced_mem::Memory;
 /// What judges the events of a text, one after another.
 pub trait Judge {
     /// It has these limits, and is as after this log.
-    ghost is_after: { Self → Bounds → List Entry → Type 0 };
+    ghost is_after: { Self → Limits → List Event → Type 0 };
 
     /// Performs the call of an event, where it is allowed.
     fn judge(&mut self, event: &Event) -> Result<(), Refusal>
-        ensures allowed { OnOk result ((m : Bounds) (log : List Entry) → is_after self.old m log
+        ensures allowed { OnOk result ((m : Limits) (log : List Event) → is_after self.old m log
             → refusal m log (call_of event.now) ≡ None) }
-        ensures after { OnOk result ((m : Bounds) (log : List Entry) → is_after self.old m log
+        ensures after { OnOk result ((m : Limits) (log : List Event) → is_after self.old m log
             → is_after self.new m (log ++ event_of log (call_of event.now) ∷ [])) }
-        ensures refused { IfErr result (λ r. (m : Bounds) (log : List Entry) → is_after self.old m log
+        ensures refused { IfErr result (λ r. (m : Limits) (log : List Event) → is_after self.old m log
             → Declines m log event.now r) };
 }
 

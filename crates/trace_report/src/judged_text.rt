@@ -1,8 +1,8 @@
 //! A text that is judged in pieces, however it is cut.
 ghost use Rattle.std.specs.Prelude.{◌≡◌, ◌≢◌, ◌+◌, ◌≤◌, List, [], ◌++◌, length, drop, true, false, Ok, Err};
 ghost use Rattle.std.specs.Prelude.{None, Some, IfErr, IfSome, IsSomeAnd, OnOk, ℕ};
-ghost use Rattle.event_core.specs.declared.bounds.Limits.{Limits as Bounds};
-ghost use Rattle.event_core.specs.declared.events.Event.{Event as Entry};
+ghost use Rattle.event_core.specs.declared.bounds.Limits.{Limits};
+ghost use Rattle.event_core.specs.declared.events.Event.{Event};
 ghost use Rattle.rapid_text.specs.Cutting.{begun, judged};
 ghost use Rattle.rapid_text.specs.declared.causes.Cause.TheVariants.{Read};
 ghost use Rattle.trace_report.specs.Judging.{Says, Takes, MeetsFault, EndsLegal, is_read_fault};
@@ -52,9 +52,9 @@ fn feed_lines<J: Judge>(cutter: &mut Cutter, judge: &mut J, piece: &[u8]) -> Res
 fn finish_lines<J: Judge>(cutter: &mut Cutter, judge: &mut J) -> Result<(), TraceFault>
     requires live { cutter.old.failed ≡ None }
     ensures live { OnOk result (cutter.new.failed ≡ None) }
-    ensures ok { OnOk result ((m : Bounds) (log : List Entry) → J.is_after judge.old m log
+    ensures ok { OnOk result ((m : Limits) (log : List Event) → J.is_after judge.old m log
         → EndsLegal m (J.is_after judge.new m) cutter.old log cutter.new.names) }
-    ensures fault { IfErr result (λ f. (m : Bounds) (log : List Entry) → J.is_after judge.old m log
+    ensures fault { IfErr result (λ f. (m : Limits) (log : List Event) → J.is_after judge.old m log
         → Says m log (judged cutter.old []) f) }
     ensures whole { IfErr result (λ f. is_read_fault f ≡ false) }
 {
@@ -131,9 +131,9 @@ impl<J: Judge> JudgedText<J> {
 
     /// Ends the text: the line whose end was not seen is the last one. With a fault it takes nothing.
     pub fn end(&mut self) -> Result<(), TraceFault>
-        ensures ok { OnOk result ((m : Bounds) (log : List Entry) → J.is_after self.old.judge m log
+        ensures ok { OnOk result ((m : Limits) (log : List Event) → J.is_after self.old.judge m log
             → EndsLegal m (J.is_after self.new.judge m) self.old.cutter log self.new.cutter.names) }
-        ensures fault { self.old.fault ≡ None → IfErr result (λ f. (m : Bounds) (log : List Entry)
+        ensures fault { self.old.fault ≡ None → IfErr result (λ f. (m : Limits) (log : List Event)
             → J.is_after self.old.judge m log → Says m log (judged self.old.cutter []) f) }
         ensures whole { IfErr result (λ f. is_read_fault f ≡ true → self.old.fault ≡ Some f) }
         ensures stands { OnOk result (self.old.fault ≡ None) }

@@ -32,7 +32,7 @@ pub fn tell_trace<W: Output>(
 
 /// Writes the one line that tells the fault, and answers it; nothing is written where it says nothing of the
 /// text.
-#[tactic(auto, using(crate::proofs::TellingLaws::same_fault))]
+#[tactic(auto, using(crate::proofs::TellsTextProperties::same_fault))]
 pub fn tell_failure<W: Output>(writer: &mut W, fault: TraceFault) -> ReplayFault
     ensures answers { (result ≡ replay_fault fault) ⊎ (result ≡ ReplayFault.Write) }
     ensures tells { says_nothing result ≡ false → (result ≡ replay_fault fault) × (gives_up fault ≡ false)

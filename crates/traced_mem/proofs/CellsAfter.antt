@@ -10,8 +10,8 @@ use Rattle.event_core.specs.Refusal.{refusal, op_stores, last_value, last_value_
 use Rattle.event_core.specs.Refusal.{WellFormed}
 use Rattle.traced_mem.specs.After.{cells_after}
 use Rattle.traced_mem.specs.Standing.{var_id, meaning_of}
-use Rattle.traced_mem.proofs.Updates.{updated_if}
-use Rattle.traced_mem.proofs.OneMore.{value_snoc}
+use Rattle.traced_mem.proofs.UpdatedProperties.{updated_if}
+use Rattle.traced_mem.proofs.LongerLogs.{value_snoc}
 
 module _ (k : Limits) (log : List Event) (c : Call) (w : WellFormed k log) (h : refusal k log c ≡ None) where
   cells_law_at : (o : Op) → c.op ≡ o → (n : ℕ)

@@ -6,7 +6,7 @@ use Rattle.event_core.specs.declared.events.Event.{Event}
 use Rattle.event_core.specs.declared.events.Op.TheVariants.{Release}
 use Rattle.event_core.specs.Log.{depth}
 use Rattle.event_core.specs.Refusal.{lock_depth, depth_by, holder}
-use Rattle.event_core.proofs.Effects.{depth_down}
+use Rattle.event_core.proofs.EffectProperties.{depth_down}
 
 pub depth_if_held : (log : List Event) (l : LockId) (u : ThreadId) → holder log l ≡ Some u
     → lock_depth log l ≡ depth log u l

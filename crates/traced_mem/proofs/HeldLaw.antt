@@ -17,19 +17,19 @@ use Rattle.event_core.specs.Effect.{Effect, Opens, Closes, access_of}
 use Rattle.event_core.specs.Log.{depth, OuterAcquire}
 use Rattle.event_core.specs.Orderly.{Orderly}
 use Rattle.event_core.specs.Refusal.{WellFormed}
-use Rattle.event_core.proofs.Counting.{grown_length}
-use Rattle.event_core.proofs.Depth.{lock_cases, same_lock_id, thread_cases, same_thread_id}
-use Rattle.event_core.proofs.Effects.{Fits, accesses, opens, closes, forks, joins, again, inner}
-use Rattle.event_core.proofs.Effects.{depth_up, depth_down, last_opens, whole}
-use Rattle.event_core.proofs.Growth.{well_formed_front}
+use Rattle.event_core.proofs.CountedProperties.{grown_length}
+use Rattle.event_core.proofs.DepthProperties.{lock_cases, same_lock_id, thread_cases, same_thread_id}
+use Rattle.event_core.proofs.EffectProperties.{Fits, accesses, opens, closes, forks, joins, again, inner}
+use Rattle.event_core.proofs.EffectProperties.{depth_up, depth_down, last_opens, whole}
+use Rattle.event_core.proofs.WellFormedProperties.{well_formed_front}
 use Rattle.event_core.proofs.HeldDepths.{held_now, held_same, still_held}
-use Rattle.event_core.proofs.Legality.{holder_depth, orderly}
-use Rattle.event_core.proofs.Members.{none_in, has_front, has_last}
+use Rattle.event_core.proofs.OrderlyProperties.{holder_depth, orderly}
+use Rattle.event_core.proofs.HasProperties.{none_in, has_front, has_last}
 use Rattle.event_core.proofs.OpenSections.{its_effect, open_held, open_new, open_within}
 use Rattle.traced_mem.specs.After.{without}
 use Rattle.traced_mem.specs.Held.{InOrder, none, more, AreHeld}
 use Rattle.traced_mem.specs.Standing.{held_after, held_from, held_in}
-use Rattle.traced_mem.proofs.Without.{without_here, without_next, has_without}
+use Rattle.traced_mem.proofs.WithoutProperties.{without_here, without_next, has_without}
 
 -- the list, as depths say it
 record Are (log : List Event) (u : ThreadId) (ls : List LockId) : Type 0 where

@@ -8,7 +8,7 @@ use Rattle.event_core.specs.declared.events.Op.{Op}
 use Rattle.event_core.specs.declared.events.Op.TheVariants.{Acquire, Release}
 use Rattle.event_core.specs.Refusal.{refusal, op_is_acquire, op_is_release, open_acquires, event_of}
 use Rattle.event_core.specs.Refusal.{WellFormed}
-use Rattle.event_core.proofs.Depth.{count_with}
+use Rattle.event_core.proofs.DepthProperties.{count_with}
 use Rattle.event_core.proofs.Slots.{no_more_releases}
 use Rattle.traced_mem.specs.After.{holds_after}
 

@@ -12,18 +12,18 @@ use Rattle.event_core.specs.declared.events.Op.TheVariants.{Acquire, Release}
 use Rattle.event_core.specs.Log.{depth, op_acquires, op_releases}
 use Rattle.event_core.specs.Refusal.{refusal, lock_depth, depth_by, holder, last_acquirer, event_of, lock_at}
 use Rattle.event_core.specs.Refusal.{WellFormed}
-use Rattle.event_core.proofs.Effects.{depth_up}
-use Rattle.event_core.proofs.Growth.{well_formed_grown, well_formed_front}
-use Rattle.event_core.proofs.Holds.{acquired, released, last_holds}
-use Rattle.event_core.proofs.Legality.{acquirer_snoc, holder_is, holder_depth, orderly}
-use Rattle.event_core.proofs.RunFacts.{allowed_legal}
+use Rattle.event_core.proofs.EffectProperties.{depth_up}
+use Rattle.event_core.proofs.WellFormedProperties.{well_formed_grown, well_formed_front}
+use Rattle.event_core.proofs.OpenAcquiresProperties.{acquired, released, last_holds}
+use Rattle.event_core.proofs.OrderlyProperties.{acquirer_snoc, holder_is, holder_depth, orderly}
+use Rattle.event_core.proofs.RunProperties.{allowed_legal}
 use Rattle.traced_mem.specs.Refusals.{not_holder_at}
 use Rattle.traced_mem.specs.After.{deeper, shallower, locks_after}
 use Rattle.traced_mem.specs.Standing.{meaning_of}
-use Rattle.traced_mem.proofs.Allowed.{Allowed, allowed, release_holder}
-use Rattle.traced_mem.proofs.SameRefusals.{same_refusal}
-use Rattle.traced_mem.proofs.Updates.{eqb_refl, is_updated}
-use Rattle.traced_mem.proofs.OneMore.{same_depth, same_holder}
+use Rattle.traced_mem.proofs.AllowsProperties.{Allowed, allowed, release_holder}
+use Rattle.traced_mem.proofs.RefusalsProperties.{same_refusal}
+use Rattle.traced_mem.proofs.UpdatedProperties.{eqb_refl, is_updated}
+use Rattle.traced_mem.proofs.LongerLogs.{same_depth, same_holder}
 use Rattle.traced_mem.proofs.Depths.{depth_left}
 
 -- a lock that the event has nothing to do with

@@ -11,12 +11,12 @@ use Rattle.event_core.specs.declared.replies.Refusal.{Refusal}
 use Rattle.event_core.specs.declared.replies.Refusal.TheVariants.{NotStarted, Ended, LogFull}
 use Rattle.event_core.specs.declared.events.Op.TheVariants.{Load, Store}
 use Rattle.event_core.specs.Refusal.{first_of, when}
-use Rattle.event_core.proofs.Legality.{AllNone, all_none, when_none}
+use Rattle.event_core.proofs.OrderlyProperties.{AllNone, all_none, when_none}
 use Rattle.traced_mem.specs.Meaning.{Meaning, Thread}
 use Rattle.traced_mem.specs.Refusals.{answer, refusal_at, swap_refusal_at, swap_reasons_at}
 use Rattle.traced_mem.specs.Refusals.{forked_at, full_at}
 use Rattle.traced_mem.specs.After.{after, mentioned_again}
-use Rattle.traced_mem.proofs.Allowed.{room}
+use Rattle.traced_mem.proofs.AllowsProperties.{room}
 
 -- there are n slots
 fits : (k : Limits) (m : Meaning) (n : ℕ) → m.length + m.holds + n ≤ k.events → full_at k m n ≡ None

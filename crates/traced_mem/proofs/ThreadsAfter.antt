@@ -13,15 +13,15 @@ use Rattle.event_core.specs.declared.events.Op.TheVariants.{Acquire, Release, Fo
 use Rattle.event_core.specs.Log.{depth}
 use Rattle.event_core.specs.Refusal.{refusal, lock_depth, held, forks, joins, mentions, op_forks, op_joins}
 use Rattle.event_core.specs.Refusal.{event_of, WellFormed}
-use Rattle.event_core.proofs.Holds.{own_depth}
+use Rattle.event_core.proofs.OpenAcquiresProperties.{own_depth}
 use Rattle.traced_mem.specs.Meaning.{Thread}
 use Rattle.traced_mem.specs.Refusals.{held_at}
 use Rattle.traced_mem.specs.After.{updated, without, gains, loses, now_forked, now_joined, mentioned_again}
 use Rattle.traced_mem.specs.After.{threads_after}
 use Rattle.traced_mem.specs.Standing.{thread_id, held_after, held_in, meaning_of}
 use Rattle.traced_mem.proofs.LocksAfter.{may, holder_now}
-use Rattle.traced_mem.proofs.Updates.{updated_if}
-use Rattle.traced_mem.proofs.OneMore.{any_snoc, held_snoc}
+use Rattle.traced_mem.proofs.UpdatedProperties.{updated_if}
+use Rattle.traced_mem.proofs.LongerLogs.{any_snoc, held_snoc}
 use Rattle.traced_mem.proofs.Depths.{depth_left}
 
 module _ (k : Limits) (log : List Event) (c : Call) (w : WellFormed k log) (h : refusal k log c ≡ None) where

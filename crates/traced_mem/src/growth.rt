@@ -121,7 +121,7 @@ pub fn grow(
 }
 
 // Makes room for what the operation needs beside rows for threads, which are there.
-#[tactic(auto, using(crate::proofs::Growing::grown_none))]
+#[tactic(auto, using(crate::proofs::GrownProperties::grown_none))]
 fn grow_for(
     threads: &mut [ThreadRow],
     locks: &mut Vec<LockRow>,

@@ -1,8 +1,8 @@
 //! The state of a traced program. Contracts see what it means, and for which calls there is room.
 ghost use Rattle.std.specs.Prelude.{◌≡◌, [], ◌∷◌, ◌++◌, false, IsOk, IfOk, List};
 ghost use Rattle.event_core.specs.declared.events.Event.{Event};
-ghost use Rattle.event_core.specs.declared.events.Op.{Op as Operation};
-ghost use Rattle.event_core.specs.declared.ids.ThreadId.{ThreadId as Thread};
+ghost use Rattle.event_core.specs.declared.events.Op.{Op};
+ghost use Rattle.event_core.specs.declared.ids.ThreadId.{ThreadId};
 ghost use Rattle.event_core.specs.Refusal.{value_of, event_of};
 ghost use Rattle.traced_mem.specs.Meaning.{nothing};
 ghost use Rattle.traced_mem.specs.After.{after, value_at, holds_after};
@@ -100,7 +100,7 @@ impl Memory {
         ensures means { meaning self.new ≡ after call.now.thread call.now.op call.now.arg (meaning self.old) }
         ensures limits { self.new.limits ≡ self.old.limits }
         // an acquire may use up the place that was made for another one by its thread
-        ensures kept { (u : Thread) (o : Operation) → takes_place call.now.thread call.now.op u o ≡ false
+        ensures kept { (u : ThreadId) (o : Op) → takes_place call.now.thread call.now.op u o ≡ false
             → IsReady self.old u o → IsReady self.new u o }
         ensures memory { SameMemory self.old self.new call.now.op }
         ensures last { (log : List Event) → StandsFor log self.old

@@ -2,7 +2,7 @@
 ghost use Rattle.std.specs.Prelude.{◌≡◌, ℕ, ◌+◌, ◌<◌, ◌≤◌, ◌^◌, length, max, nat_eq, vec_capacity};
 ghost use Rattle.std.specs.List.{position};
 ghost use Rattle.smallvec.specs.SmallVec.{HasRoomFor};
-ghost use Rattle.event_core.specs.declared.ids.LockId.{LockId as Lock};
+ghost use Rattle.event_core.specs.declared.ids.LockId.{LockId};
 ghost use Rattle.traced_mem.specs.After.{
   updated,
   mentioned_again,
@@ -126,7 +126,7 @@ fn remove_lock(held: &mut SmallVec<LockId, 4>, lock: LockId)
 
 /// Where the lock stands first.
 fn position_of(held: &[LockId], lock: LockId) -> Option<usize>
-    ensures { result ≡ position (λ (other : Lock). nat_eq other.0 lock.0) held.now }
+    ensures { result ≡ position (λ (other : LockId). nat_eq other.0 lock.0) held.now }
 {
     held.iter().position(|other| other.0 == lock.0)
 }

@@ -1,1 +1,1 @@
-mod Releases
+mod IsReleasedProperties

@@ -2,7 +2,7 @@
 ghost use Rattle.std.specs.Prelude.{◌≡◌, ◌≤◌, Some, IfOk, IfErr};
 ghost use Rattle.event_core.specs.Refusal.{refusal};
 ghost use Rattle.event_core.specs.Steps.{log_of};
-ghost use Rattle.event_core.specs.declared.ids.ThreadId.{ThreadId as Thread};
+ghost use Rattle.event_core.specs.declared.ids.ThreadId.{ThreadId};
 ghost use Rattle.event_core.specs.declared.replies.Refusal.TheVariants.{Held};
 ghost use Rattle.event_core.specs.declared.events.Act.TheVariants.{Swap as SwapAct};
 ghost use Rattle.event_core.specs.declared.replies.Done.TheVariants.{Swap as Swapped};
@@ -113,7 +113,7 @@ impl<'m, N: Name> TracedThread<'m, N> {
             (λ reply. Accepted N.limits (acquire_by self.old.thread lock site) self.old self.new reply) }
         ensures declined { IfErr result
             (λ answer. Declined N.limits (acquire_by self.old.thread lock site) self.old self.new answer) }
-        ensures used_up { (by : Thread) → IfErr result (λ answer. answer ≡ Held by → AreUsedUp tries.new) }
+        ensures used_up { (by : ThreadId) → IfErr result (λ answer. answer ≡ Held by → AreUsedUp tries.new) }
         ensures same_most { tries.new.most ≡ tries.old.most }
         ensures counts_up { (one_more tries.old).made ≤ tries.new.made }
     {

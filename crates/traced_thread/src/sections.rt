@@ -1,6 +1,6 @@
 //! Sections: a lock that is held until its guard is dropped.
 ghost use Rattle.std.specs.Prelude.{◌≡◌, ◌≤◌, IfOk, IfErr};
-ghost use Rattle.event_core.specs.declared.ids.ThreadId.{ThreadId as Thread};
+ghost use Rattle.event_core.specs.declared.ids.ThreadId.{ThreadId};
 ghost use Rattle.event_core.specs.declared.replies.Refusal.TheVariants.{Held};
 ghost use Rattle.event_core.specs.declared.events.Act.TheVariants.{Swap as SwapAct};
 ghost use Rattle.event_core.specs.declared.replies.Done.TheVariants.{Swap as Swapped};
@@ -137,7 +137,7 @@ impl<'h, 'm, N: Name, R: Wait> Section<'h, 'm, N, R> {
         ensures accepted { IfOk result (λ section.
             IsAcquired N.limits lock site (pass_of self.old) (pass_of section)) }
         ensures declined { IfErr result (WasRefused N.limits lock site (pass_of self.old)) }
-        ensures used_up { (by : Thread) → IfErr result (λ answer. answer ≡ Held by → AreUsedUp tries.new) }
+        ensures used_up { (by : ThreadId) → IfErr result (λ answer. answer ≡ Held by → AreUsedUp tries.new) }
         ensures same_most { tries.new.most ≡ tries.old.most }
         ensures counts_up { (one_more tries.old).made ≤ tries.new.made }
     {
@@ -186,7 +186,7 @@ impl<'m, N: Name> TracedThread<'m, N> {
         ensures accepted { IfOk result (λ section.
             IsAcquired N.limits lock site self.old (pass_of section)) }
         ensures declined { IfErr result (WasRefused N.limits lock site self.old) }
-        ensures used_up { (by : Thread) → IfErr result (λ answer. answer ≡ Held by → AreUsedUp tries.new) }
+        ensures used_up { (by : ThreadId) → IfErr result (λ answer. answer ≡ Held by → AreUsedUp tries.new) }
         ensures same_most { tries.new.most ≡ tries.old.most }
         ensures counts_up { (one_more tries.old).made ≤ tries.new.made }
     {

@@ -12,7 +12,7 @@ use Rattle.event_core.specs.Closed.{Closed, Has, first, later}
 use Rattle.event_core.specs.Rows.{join, brought}
 use Rattle.event_core.specs.Effect.{Accesses, Opens, Closes}
 use Rattle.hb_clocks.specs.State as hb
-use Rattle.hb_clocks.proofs.Releases.{bump_same}
+use Rattle.hb_clocks.proofs.JoinReleaseLaws.{bump_same}
 use Rattle.section_sum.specs.Cell.{is_kind}
 use Rattle.section_sum.specs.Sums.{Sums, noted_of, is_held, is_access, SameOthers}
 use Rattle.wcp_laws.specs.State.{State}

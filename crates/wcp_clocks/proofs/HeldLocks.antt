@@ -13,11 +13,11 @@ use Rattle.event_core.specs.Log.{depth}
 use Rattle.event_core.specs.Refusal.{WellFormed}
 use Rattle.event_core.specs.Rows.{with_row}
 use Rattle.event_core.specs.Effect.{Effect, Opens, Closes}
-use Rattle.event_core.proofs.Counting.{nat_eq_other}
-use Rattle.event_core.proofs.Growing.{row_same, row_other}
+use Rattle.event_core.proofs.CountedProperties.{nat_eq_other}
+use Rattle.event_core.proofs.RowsAfterProperties.{row_same, row_other}
 use Rattle.event_core.proofs.HolderLaw.{lock_within}
-use Rattle.event_core.proofs.Members.{any_has}
-use Rattle.event_core.proofs.Effects.{Fits, opens}
+use Rattle.event_core.proofs.HasProperties.{any_has}
+use Rattle.event_core.proofs.EffectProperties.{Fits, opens}
 use Rattle.wcp_laws.specs.State.{State}
 use Rattle.wcp_laws.specs.Standing.{StandsFor as StateStandsFor}
 use Rattle.wcp_laws.specs.Step.{effect, after, held_after, without}
@@ -87,6 +87,7 @@ opened_anew log e _ (opens m o zero) l is =
     let same : m ≡ l = cc in subst (λ (n : LockId). depth log e.thread n ≡ 0) same zero
 opened_anew log e _ _ l is = cc
 
+-- after a step each lock is still at most once in a list
 pub distinct_step : (log : List Event) (e : Event) (s : State) → StateStandsFor log s → AreDistinct s.held
     → AreDistinct (after e s).held
 distinct_step log e s st was =

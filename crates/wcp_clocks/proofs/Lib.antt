@@ -1,23 +1,23 @@
-mod Accessing
-mod Closing
-pub mod Conditions
+mod AccessSteps
+mod ReleaseAtProperties
+pub mod FitsProperties
 mod EffectWords
-pub mod Growth
+pub mod GrownForProperties
 pub mod HeldLocks
-mod Latest
-mod Lists
-mod Ordered
-mod Passing
+mod BelowIsLatest
+mod HeldListsProperties
+mod AreOrderedProperties
+mod OtherSteps
 mod Rows
 mod RowsGrown
 mod RowsKept
 pub mod Memory
 mod MetNumbers
 mod MetReleases
-pub mod Standing
-pub mod Stepped
+pub mod StandsForProperties
+pub mod IsStepProperties
 mod Swaps
-mod Taking
-mod Within
+mod TakeLaws
+mod PartsWithin
 pub mod WithinLimits
 pub mod WorkLaws

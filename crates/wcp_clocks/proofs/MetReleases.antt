@@ -11,7 +11,7 @@ use Rattle.event_core.specs.Count.{Counts}
 use Rattle.event_core.specs.Effect.{access_of}
 use Rattle.event_core.specs.Log.{depth, OpsConflict}
 use Rattle.event_core.specs.Rows.{Counted, join, no_clock}
-use Rattle.event_core.proofs.Counting.{counted_join, counted_same}
+use Rattle.event_core.proofs.CountedProperties.{counted_join, counted_same}
 use Rattle.lock_queues.specs.Queues.{closed_of}
 use Rattle.section_sum.specs.Paired.{IsBelowPaired}
 use Rattle.section_sum.specs.Standing.{IsAccessBy}
@@ -21,7 +21,7 @@ use Rattle.wcp_clocks.specs.Parts.{Parts}
 use Rattle.wcp_clocks.specs.Met.{joined_all, met_clocks, met_under, release_at}
 use Rattle.wcp_clocks.specs.MetReleases.{IsBelowSource, released_at, together}
 use Rattle.wcp_clocks.specs.Standing.{StandsFor}
-use Rattle.wcp_clocks.proofs.Taking.{sources_joined}
+use Rattle.wcp_clocks.proofs.TakeLaws.{sources_joined}
 
 -- the releases of sections, together
 together_is : (qs : List Closed) (f : ℕ → ℕ) (ns : List ℕ) (u : ℕ)

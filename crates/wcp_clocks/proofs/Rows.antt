@@ -6,7 +6,7 @@ use Rattle.hb_clocks.specs.Rows.{row_at, rows_of, IsMade}
 use Rattle.std.proofs.lemmas.Bool.{cases_eq}
 use Rattle.event_core.specs.Rows.{no_clock, join, with_row, to_child}
 use Rattle.event_core.specs.Effect.{Effect, Forks}
-use Rattle.event_core.proofs.Growing.{row_same, row_other}
+use Rattle.event_core.proofs.RowsAfterProperties.{row_same, row_other}
 
 -- a row that is written with what it has
 pub row_kept : {A : Type 0} (t : ℕ) (f : ℕ → A) → f ≡ with_row t (f t) f
@@ -25,6 +25,7 @@ own_row (Forks u) t g f = go (cases_eq t u.0)
     go (inr n) = row_other u.0 g (with_row t g f) t n ∙ row_same t g f
 own_row _ t g f = row_same t g f
 
+-- the clock of zeros adds nothing to a join
 pub join_nothing : (f : ℕ → ℕ) → join f no_clock ≡ f
 join_nothing f i u = go u i
   where

@@ -43,10 +43,12 @@ lock_grown t op m is made = record {
     named (inl q) = subst Named (sym q) (refl, omega arith)
     named (inr q) = subst Named (sym q) (refl, omega arith)
 
+-- a fork and a join name the other thread
 pub thread_named : {op : Op} (v : ThreadId) → (op ≡ Fork v) ⊎ (op ≡ Join v) → IsThreadOf op v.0
 thread_named v (inl q) = subst (λ (o : Op). IsThreadOf o v.0) (sym q) refl
 thread_named v (inr q) = subst (λ (o : Op). IsThreadOf o v.0) (sym q) refl
 
+-- growth after growth is growth
 pub grown_then : {T L : ℕ → Type 0} {n m : ℕ} {a b c : StrictTables} → HasMade T L n m a b
     → HasMade T L n m b c → HasMade T L n m a c
 grown_then g h = record {
@@ -56,6 +58,7 @@ grown_then g h = record {
   lock_room = omega (arith, g.lock_room, h.lock_room);
 }
 
+-- room that is kept twice is kept
 pub keeps_then : {a b c : StrictTables} → KeepsRoom a b → KeepsRoom b c → KeepsRoom a c
 keeps_then p q = record {
   width = q.width ∙ p.width;
@@ -69,6 +72,7 @@ pub lock_ready : {c : StrictTables} (t : ThreadId) (op : Op) (l : LockId)
 lock_ready {c} t op l (inl is) mine has = subst (IsReady c t) (sym is) (record { thread = mine; named = has })
 lock_ready {c} t op l (inr is) mine has = subst (IsReady c t) (sym is) (record { thread = mine; named = has })
 
+-- rows for both threads are ready for a fork and a join
 pub thread_ready : {c : StrictTables} (t : ThreadId) (op : Op) (u : ThreadId)
     → (op ≡ Fork u) ⊎ (op ≡ Join u) → HasThread c t.0 → HasThread c u.0 → IsReady c t op
 thread_ready {c} t op u (inl is) mine has =

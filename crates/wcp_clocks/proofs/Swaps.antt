@@ -52,13 +52,16 @@ module _ {load store : Event} {x : VarId} (swap : AreOfSwap load store x) where
       subst (P store.thread) (sym swap.store_op)
       (both (subst (λ (t : ThreadId). P t (Load x)) swap.thread (subst (P load.thread) swap.load_op h)))
 
+  -- parts that are ready for the load are ready for the store
   pub swap_ready : (p : Parts) → IsReady p load.thread load.op → IsReady p store.thread store.op
   swap_ready p = to_store (IsReady p) (store_ready p store.thread x)
 
+  -- growth for the load is growth for the store
   pub swap_grown : (old new : Parts) → GrownFor old new load.thread load.op
       → GrownFor old new store.thread store.op
   swap_grown old new = to_store (GrownFor old new) (store_grown old new store.thread x)
 
+  -- what was made for the load is made for the store
   pub swap_made : (old new : Parts) → MadeFor old new load.thread load.op
       → MadeFor old new store.thread store.op
   swap_made old new = to_store (MadeFor old new) (store_made old new store.thread x)

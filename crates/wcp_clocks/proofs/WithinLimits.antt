@@ -10,15 +10,16 @@ use Rattle.event_core.specs.declared.replies.Refusal.TheVariants.{ThreadRange, T
 use Rattle.event_core.specs.Bounds.{Bounds}
 use Rattle.event_core.specs.Refusal.{Legal, WellFormed, refusal, reasons, in_range}
 use Rattle.event_core.specs.Effect.{Effect, Closes}
-use Rattle.event_core.proofs.Growth.{well_formed_last}
-use Rattle.event_core.proofs.Legality.{AllNone, all_none, legal_reasons, when_none}
-use Rattle.event_core.proofs.Effects.{Fits, closes}
+use Rattle.event_core.proofs.WellFormedProperties.{well_formed_last}
+use Rattle.event_core.proofs.OrderlyProperties.{AllNone, all_none, legal_reasons, when_none}
+use Rattle.event_core.proofs.EffectProperties.{Fits, closes}
 use Rattle.wcp_laws.specs.State.{State}
 use Rattle.wcp_laws.specs.Standing.{StandsFor as StateStandsFor}
 use Rattle.wcp_laws.specs.Step.{effect}
 use Rattle.wcp_clocks.specs.Parts.{NamesWithin, width_of, limits_of, IsWithin, Parts}
 use Rattle.wcp_laws.proofs.Clocks.{effect_fits}
 
+-- the thread of a legal event is within the limits
 pub thread_within : (limits : Limits) (log : List Event) (e : Event) → WellFormed limits (log ++ e ∷ [])
     → e.thread.0 < limits.threads
 unfolding refusal AllNone

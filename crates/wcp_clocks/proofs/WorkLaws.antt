@@ -9,17 +9,17 @@ use Rattle.event_core.specs.Closed.{number_counted}
 use Rattle.event_core.specs.Refusal.{WellFormed}
 use Rattle.event_core.specs.Rows.{with_row}
 use Rattle.event_core.specs.Effect.{Effect, Accesses, Closes}
-use Rattle.event_core.proofs.Counting.{grown_length}
-use Rattle.event_core.proofs.Growing.{row_same}
-use Rattle.event_core.proofs.Growth.{well_formed_front}
+use Rattle.event_core.proofs.CountedProperties.{grown_length}
+use Rattle.event_core.proofs.RowsAfterProperties.{row_same}
+use Rattle.event_core.proofs.WellFormedProperties.{well_formed_front}
 use Rattle.hb_clocks.specs.Work.{Done}
 use Rattle.wcp_laws.specs.Conditions.{found_at}
 use Rattle.wcp_laws.specs.Found.{total_found, threads_in}
 use Rattle.wcp_laws.specs.Step.{effect}
-use Rattle.wcp_laws.proofs.FoundLaws.{found_at_close, found_at_most, threads_within}
+use Rattle.wcp_laws.proofs.FoundProperties.{found_at_close, found_at_most, threads_within}
 use Rattle.wcp_clocks.specs.Parts.{Parts, state_of, found_in, most_joins, FewComparisons}
 use Rattle.wcp_clocks.specs.WorkWithin.{NoWork, SameWork, WorkStep, LittleWork, FewComparisonsInAll}
-use Rattle.wcp_clocks.proofs.Conditions.{log_within, closed_few}
+use Rattle.wcp_clocks.proofs.FitsProperties.{log_within, closed_few}
 use Rattle.wcp_clocks.proofs.HeldLocks.{held_within}
 use Rattle.wcp_clocks.proofs.WithinLimits.{thread_within, closed_within}
 
@@ -63,12 +63,14 @@ comparisons_within m t (Closes l) old new n thread lock few found was =
     count = number_counted ((state_of old).strict.thread t.0) ((state_of old).closed l.0)
 comparisons_within m t _ old new n thread lock few found was = none_compared m old new n few found was
 
+-- the law: no work is within the bounds of the empty log
 pub no_work : NoWork
 no_work limits p none = record {
   joins = (let j = ap (λ (d : Done). d.joins) none in omega arith);
   comparisons = (let c = ap (λ (d : Done). d.comparisons) none in omega arith);
 }
 
+-- the law: the same work is within the same bounds
 pub same_work : SameWork
 same_work limits log old new same was = record {
   joins = subst (λ (d : Done). d.joins ≤ length log * (2 * limits.locks + 3)) (sym same.work) was.joins;
@@ -80,6 +82,7 @@ same_work limits log old new same was = record {
       (sym same.found) was.comparisons);
 }
 
+-- the law: a legal event keeps the work within those bounds
 pub work_step : WorkStep
 work_step limits log e old new w st was is =
     let front : WellFormed limits log = well_formed_front limits log (e ∷ []) w in
@@ -104,6 +107,7 @@ work_step limits log e old new w st was is =
     one_more : (n c : ℕ) → (n + 1) * c ≡ n * c + c
     one_more n c = let h : (n + 1) * c ≡ n * c + 1 * c = add-mul n 1 c in omega arith
 
+-- the law: n events by k threads make at most n * k + n comparisons
 pub few_comparisons : FewComparisonsInAll
 few_comparisons limits log p st within =
     let made : p.work.comparisons ≤ total_found limits.locks limits.threads (found_in p) + length log
@@ -115,6 +119,7 @@ few_comparisons limits log p st within =
     = mul_comm (threads_in limits.threads log) (length log) in
     omega arith
 
+-- the law: within those bounds there is little work at each legal event
 pub little_work : LittleWork
 little_work limits log e p bounds w st within =
     let front : WellFormed limits log = well_formed_front limits log (e ∷ []) w in

@@ -7,8 +7,8 @@
 //! its lock whose acquire is strictly below it. All else is handed on as happens-before is: by forks and
 //! joins, and from a release to a later acquire. The log itself is not kept.
 ghost use Rattle.std.specs.Prelude.{◌≡◌, ℕ, ◌<◌, ◌≤◌, ◌+◌, List, [], ◌∷◌, ◌++◌, length, max, IfOk};
-ghost use Rattle.event_core.specs.declared.events.Event.{Event as AnEvent};
-ghost use Rattle.event_core.specs.declared.bounds.Limits.{Limits as Bounds};
+ghost use Rattle.event_core.specs.declared.events.Event.{Event};
+ghost use Rattle.event_core.specs.declared.bounds.Limits.{Limits};
 ghost use Rattle.event_core.specs.Log.{depth};
 ghost use Rattle.event_core.specs.Refusal.{WellFormed};
 ghost use Rattle.event_core.specs.Count.{Counts};
@@ -107,7 +107,7 @@ impl WcpClocks {
         ensures happens_before { hb_of self.new ≡ hb_after event.now (hb_of self.old) }
         ensures found { found_in self.new ≡ found_at event.now.thread (effect event.now (state_of self.old))
             (state_of self.old) (found_in self.old) }
-        ensures stands { (limits : Bounds) (log : List AnEvent) → WellFormed limits (log ++ event.now ∷ [])
+        ensures stands { (limits : Limits) (log : List Event) → WellFormed limits (log ++ event.now ∷ [])
             → StandsFor log self.old → StandsFor (log ++ event.now ∷ []) self.new }
         ensures joins { (work_of self.new).joins ≤ (work_of self.old).joins
             + most_joins (effect event.now (state_of self.old))
@@ -138,10 +138,10 @@ impl WcpClocks {
         var: VarId,
         kind: AccessKind,
     ) -> SourceClocks<'_>
-        ensures paired { (log : List AnEvent) (e : AnEvent) → IsAccessBy thread var kind e
+        ensures paired { (log : List Event) (e : Event) → IsAccessBy thread var kind e
             → 0 < depth log thread lock → StandsFor log self.now
             → Counted log (IsBelowPaired log e lock) (together (rest result)) }
-        ensures counted { (log : List AnEvent) → StandsFor log self.now
+        ensures counted { (log : List Event) → StandsFor log self.now
             → Counted log (IsBelowSource log lock var kind thread) (together (rest result)) }
         ensures at_most { length (rest result) ≤ most_sources kind }
         ensures threads { most_threads result ≡ width_of self.now }
@@ -153,7 +153,7 @@ impl WcpClocks {
     pub fn strict(&self, thread: ThreadId, other: ThreadId) -> u64
         requires { other.0 < width_of self.now }
         ensures exact { result ≡ (state_of self.now).strict.thread thread.0 other.0 }
-        ensures latest { (limits : Bounds) (log : List AnEvent) (j : ℕ) → WellFormed limits log
+        ensures latest { (limits : Limits) (log : List Event) (j : ℕ) → WellFormed limits log
             → StandsFor log self.now → IsLatest log thread j
             → Counts log other (λ i. Strict log i j) result }
     {
@@ -166,7 +166,7 @@ impl WcpClocks {
         ensures exact { result
             ≡ max ((state_of self.now).strict.thread thread.0 other.0)
             ((hb_of self.now).po thread.0 other.0) }
-        ensures latest { (limits : Bounds) (log : List AnEvent) (j : ℕ) → WellFormed limits log
+        ensures latest { (limits : Limits) (log : List Event) (j : ℕ) → WellFormed limits log
             → StandsFor log self.now → IsLatest log thread j
             → Counts log other (λ i. Below log i j) result }
     {
@@ -180,7 +180,7 @@ impl WcpClocks {
         ensures width { length result ≡ width_of self.now }
         ensures exact { counts_of result
             ≡ join ((state_of self.now).strict.thread thread.0) ((hb_of self.now).po thread.0) }
-        ensures latest { (limits : Bounds) (log : List AnEvent) (j : ℕ) → WellFormed limits log
+        ensures latest { (limits : Limits) (log : List Event) (j : ℕ) → WellFormed limits log
             → StandsFor log self.now → IsLatest log thread j
             → Counted log (λ i. Below log i j) (counts_of result) }
     {

@@ -3,7 +3,7 @@ ghost use Rattle.wcp_clocks.specs.Standing.{SameStand, FitsWhereLegal};
 ghost use Rattle.wcp_clocks.specs.WorkWithin.{NoWork, SameWork, WorkStep, LittleWork, FewComparisonsInAll};
 
 /// Clocks with the same numbers stand for the same log.
-#[tactic(auto, using(crate::proofs::Standing::same_stand))]
+#[tactic(auto, using(crate::proofs::StandsForProperties::same_stand))]
 pub fn same_stand()
     ensures { SameStand }
 {}

@@ -13,22 +13,24 @@ use Rattle.event_core.specs.Refusal.{WellFormed}
 use Rattle.event_core.specs.Rows.{brought, Counted, RowsStand, rows_after}
 use Rattle.event_core.specs.Effect.{Effect, Accesses, Opens, Closes, Forks, Joins, Inner}
 use Rattle.event_core.specs.Wcp.{Strict, rule_c_right}
-use Rattle.event_core.proofs.Chains.{hb_forward, hb_trans}
-use Rattle.event_core.proofs.Counting.{counted_join, counted_longer, events_own, events_other}
-use Rattle.event_core.proofs.Growing.{Leads, leads_cases, rows_stand, led_row, other_row}
-use Rattle.event_core.proofs.Legality.{orderly}
-use Rattle.event_core.proofs.Main.{strict_forward}
-use Rattle.event_core.proofs.Stable.{longer, back, hb_too, strict_too}
-use Rattle.event_core.proofs.Effects.{Fits, fits}
-use Rattle.event_core.proofs.Brings.{Brings, counted_brings, clock_counted, own_row, forked_none}
+use Rattle.event_core.proofs.OrderProperties.{hb_forward, hb_trans}
+use Rattle.event_core.proofs.CountedProperties.{counted_join, counted_longer, events_own, events_other}
+use Rattle.event_core.proofs.RowsAfterProperties.{Leads, leads_cases, rows_stand, led_row, other_row}
+use Rattle.event_core.proofs.OrderlyProperties.{orderly}
+use Rattle.event_core.proofs.RecurrenceProperties.{strict_forward}
+use Rattle.event_core.proofs.RelationsStay.{longer, back, hb_too, strict_too}
+use Rattle.event_core.proofs.EffectProperties.{Fits, fits}
+use Rattle.event_core.proofs.ClockAfterProperties.{Brings, counted_brings, clock_counted, own_row}
+use Rattle.event_core.proofs.ClockAfterProperties.{forked_none}
 use Rattle.event_core.proofs.HbSteps.{hb_to, hb_from}
 use Rattle.wcp_laws.specs.Standing.{StandsFor}
 use Rattle.wcp_laws.specs.State.{State}
 use Rattle.wcp_laws.specs.Step.{effect, extra, hb_row, strict_row}
 use Rattle.wcp_laws.proofs.ClosedSections.{counted_behind}
-use Rattle.wcp_laws.proofs.Sources.{counted_under}
+use Rattle.wcp_laws.proofs.SourcesProperties.{counted_under}
 use Rattle.wcp_laws.proofs.StrictSteps.{Adds, strict_to, strict_from}
 
+-- the effect that the numbers give fits the event
 pub effect_fits : (log : List Event) (e : Event) (s : State) → StandsFor log s → Fits log e (effect e s)
 effect_fits log e s st = fits log e (s.depth e.thread.0) (λ l. st.depths e.thread l)
 
@@ -93,6 +95,7 @@ module _ (limits : Limits) (log : List Event) (e : Event) (s : State)
       (s.strict.thread e.thread.0) (extra e.thread (effect e s) s)
       (st.strict.thread e.thread) (counted_adds log s st e.thread (effect e s)))
 
+  -- the rows of happens-before after the event are those of the longer log
   pub hb_stands : RowsStand (log ++ e ∷ []) (Hb (log ++ e ∷ []))
       (rows_after e.thread (effect e s) (hb_row e s) s.hb)
   hb_stands =
@@ -100,6 +103,7 @@ module _ (limits : Limits) (log : List Event) (e : Event) (s : State)
       (λ i g j a b. hb_trans a b) (effect e s) (effect_fits log e s st) (hb_row e s) s.hb st.hb
       (hb_counted log e s st)
 
+  -- the strict rows after the event are those of the longer log
   pub strict_stands : RowsStand (log ++ e ∷ []) (Strict (log ++ e ∷ []))
       (rows_after e.thread (effect e s) (strict_row e s) s.strict)
   strict_stands =
@@ -119,6 +123,7 @@ module _ (limits : Limits) (log : List Event) (e : Event) (s : State)
     other = other_row limits log e w ord (Hb log) (Hb (log ++ e ∷ [])) same_hb (λ i j h. hb_forward h)
         (λ i g j a b. hb_trans a b) (effect e s) (effect_fits log e s st) t (hb_row e s) s.hb.thread
 
+    -- each thread's own number is the number of its events in the longer log
     pub own_stands : (rows_after e.thread (effect e s) (hb_row e s) s.hb).thread t.0 t.0
         ≡ events_of (log ++ e ∷ []) t
     unfolding Leads

@@ -11,12 +11,13 @@ use Rattle.event_core.specs.Order.{Hb}
 use Rattle.event_core.specs.Orderly.{Orderly}
 use Rattle.event_core.specs.Rows.{with_row, Counted}
 use Rattle.event_core.specs.Effect.{Effect, Accesses, Opens, Closes, Forks, Joins, Inner}
-use Rattle.event_core.proofs.Depth.{same_lock_id, lock_cases, section_of}
-use Rattle.event_core.proofs.Growing.{row_same, row_other}
-use Rattle.event_core.proofs.Members.{has_front, has_last, has_split}
-use Rattle.event_core.proofs.Effects.{Fits, accesses, opens, closes, forks, joins, again, inner, last_closes}
+use Rattle.event_core.proofs.DepthProperties.{same_lock_id, lock_cases, section_of}
+use Rattle.event_core.proofs.RowsAfterProperties.{row_same, row_other}
+use Rattle.event_core.proofs.HasProperties.{has_front, has_last, has_split}
+use Rattle.event_core.proofs.EffectProperties.{Fits, accesses, opens, closes, forks, joins, again, inner}
+use Rattle.event_core.proofs.EffectProperties.{last_closes}
 use Rattle.event_core.proofs.OpenSections.{is_closes}
-use Rattle.event_core.proofs.SectionSteps.{each_section, closed_longer, closed_now}
+use Rattle.event_core.proofs.ClosedProperties.{each_section, closed_longer, closed_now}
 use Rattle.wcp_laws.specs.Standing.{StandsFor}
 use Rattle.wcp_laws.specs.State.{State}
 use Rattle.wcp_laws.specs.Step.{closed_after}

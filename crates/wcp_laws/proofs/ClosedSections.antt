@@ -10,14 +10,14 @@ use Rattle.event_core.specs.Count.{Past}
 use Rattle.event_core.specs.Order.{Hb}
 use Rattle.event_core.specs.Rows.{join, no_clock, Counted}
 use Rattle.event_core.specs.Wcp.{Strict}
-use Rattle.event_core.proofs.CountLaws.{counts_same}
-use Rattle.event_core.proofs.Counting.{counted_none, counted_join, counted_same}
-use Rattle.event_core.proofs.Members.{none_in}
-use Rattle.event_core.proofs.SectionSteps.{counted_is, is_counted_of}
+use Rattle.event_core.proofs.CountsProperties.{counts_same}
+use Rattle.event_core.proofs.CountedProperties.{counted_none, counted_join, counted_same}
+use Rattle.event_core.proofs.HasProperties.{none_in}
+use Rattle.event_core.proofs.ClosedProperties.{counted_is, is_counted_of}
 use Rattle.wcp_laws.specs.Standing.{StandsFor}
 use Rattle.wcp_laws.specs.State.{State}
 use Rattle.wcp_laws.proofs.StrictSteps.{Behind}
-use Rattle.event_core.proofs.Tests.{not_both}
+use Rattle.event_core.proofs.BoolProperties.{not_both}
 
 -- the entry is of a section whose acquire is in the set, and i is below its release
 record Entry (log : List Event) (P : ℕ → Type 0) (l : LockId) (q : Closed) (i : ℕ) : Type 0 where

@@ -10,14 +10,14 @@ use Rattle.event_core.specs.Closed.{Closed, is_counted, number_counted}
 use Rattle.event_core.specs.Refusal.{WellFormed}
 use Rattle.event_core.specs.Rows.{with_row}
 use Rattle.event_core.specs.Effect.{Effect, Closes}
-use Rattle.event_core.proofs.Depth.{lock_cases, same_lock_id, same_thread_id}
-use Rattle.event_core.proofs.Growing.{row_same, row_other, cell_same, cell_other}
+use Rattle.event_core.proofs.DepthProperties.{lock_cases, same_lock_id, same_thread_id}
+use Rattle.event_core.proofs.RowsAfterProperties.{row_same, row_other, cell_same, cell_other}
 use Rattle.wcp_laws.specs.Conditions.{CursorsStand, found_at}
 use Rattle.wcp_laws.specs.Standing.{StandsFor}
 use Rattle.wcp_laws.specs.State.{State}
 use Rattle.wcp_laws.specs.Step.{effect, hb_row, after, closed_after}
 use Rattle.event_core.proofs.HeldDepths.{cell_cases}
-use Rattle.wcp_laws.proofs.Ordering.{strict_grows}
+use Rattle.wcp_laws.proofs.ConditionsProperties.{strict_grows}
 
 -- a higher clock counts at least as many sections
 number_up : (c d : ℕ → ℕ) (qs : List Closed) → ((u : ThreadId) → c u.0 ≤ d u.0)

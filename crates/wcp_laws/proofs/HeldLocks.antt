@@ -11,12 +11,12 @@ use Rattle.event_core.specs.Log.{depth}
 use Rattle.event_core.specs.Orderly.{Orderly}
 use Rattle.event_core.specs.Rows.{with_row}
 use Rattle.event_core.specs.Effect.{Effect, Accesses, Opens, Closes, Forks, Joins, Inner}
-use Rattle.event_core.proofs.Counting.{nat_eq_other}
-use Rattle.event_core.proofs.Depth.{same_lock_id, same_thread_id, thread_cases, lock_cases}
-use Rattle.event_core.proofs.Growing.{row_same, row_other}
-use Rattle.event_core.proofs.Members.{none_in, has_front, has_last, has_split}
-use Rattle.event_core.proofs.Effects.{Fits, accesses, opens, closes, forks, joins, again, inner, depth_up}
-use Rattle.event_core.proofs.Effects.{depth_down}
+use Rattle.event_core.proofs.CountedProperties.{nat_eq_other}
+use Rattle.event_core.proofs.DepthProperties.{same_lock_id, same_thread_id, thread_cases, lock_cases}
+use Rattle.event_core.proofs.RowsAfterProperties.{row_same, row_other}
+use Rattle.event_core.proofs.HasProperties.{none_in, has_front, has_last, has_split}
+use Rattle.event_core.proofs.EffectProperties.{Fits, accesses, opens, closes, forks, joins, again, inner}
+use Rattle.event_core.proofs.EffectProperties.{depth_up, depth_down}
 use Rattle.wcp_laws.specs.Step.{held_after, without}
 use Rattle.event_core.proofs.HeldDepths.{held_same}
 

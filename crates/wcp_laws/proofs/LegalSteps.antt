@@ -1,7 +1,7 @@
 -- An event's step keeps the meaning.
 use Rattle.std.proofs.Common.{◌∷◌, [], ◌++◌}
-use Rattle.event_core.proofs.Legality.{orderly}
-use Rattle.event_core.proofs.DepthSteps.{depths_stand}
+use Rattle.event_core.proofs.OrderlyProperties.{orderly}
+use Rattle.event_core.proofs.DepthAfterProperties.{depths_stand}
 use Rattle.wcp_laws.specs.Standing.{StepStands}
 use Rattle.wcp_laws.specs.Step.{effect, hb_row}
 use Rattle.wcp_laws.proofs.Clocks.{hb_stands, strict_stands, own_stands, own_clock, effect_fits, hb_counted}
@@ -11,6 +11,7 @@ use Rattle.wcp_laws.proofs.NotedAccesses.{noted_stand}
 use Rattle.wcp_laws.proofs.OpenSections.{opened_stand}
 use Rattle.wcp_laws.proofs.OtherSections.{others_stand}
 
+-- the law: the numbers after a legal event stand for the longer log
 pub step_stands : StepStands
 step_stands limits log e s w st =
     let ord = orderly limits (log ++ e ∷ []) w in

@@ -14,7 +14,7 @@ use Rattle.event_core.specs.Log.{depth}
 use Rattle.event_core.specs.Orderly.{Orderly}
 use Rattle.event_core.specs.Effect.{Effect, Opens, Closes, Forks, Joins, Inner, access_of}
 use Rattle.event_core.proofs.Accesses.{access_no_acquire, access_no_release, access_no_fork, access_no_join}
-use Rattle.event_core.proofs.Effects.{Fits, accesses, opens, closes, forks, joins, again, inner}
+use Rattle.event_core.proofs.EffectProperties.{Fits, accesses, opens, closes, forks, joins, again, inner}
 use Rattle.event_core.proofs.NotedAccesses.{noted_same, noted_more, noted_less}
 use Rattle.wcp_laws.specs.Step.{kind_eq, noted_after}
 

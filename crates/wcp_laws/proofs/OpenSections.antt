@@ -5,7 +5,7 @@ use Rattle.event_core.specs.declared.ids.LockId.{LockId}
 use Rattle.event_core.specs.Count.{events_of}
 use Rattle.event_core.specs.Orderly.{Orderly}
 use Rattle.event_core.specs.Effect.{Effect, Accesses, Opens, Forks, Joins, Inner}
-use Rattle.event_core.proofs.Effects.{Fits, accesses, opens, closes, forks, joins, again, inner}
+use Rattle.event_core.proofs.EffectProperties.{Fits, accesses, opens, closes, forks, joins, again, inner}
 use Rattle.event_core.proofs.OpenPositions.{ArePositions, positions_same, positions_more, positions_less}
 use Rattle.event_core.proofs.OpenSections.{is_opens}
 use Rattle.wcp_laws.specs.Step.{opened_after}

@@ -14,14 +14,15 @@ use Rattle.event_core.specs.Order.{Hb}
 use Rattle.event_core.specs.Orderly.{Orderly}
 use Rattle.event_core.specs.Rows.{join, Counted}
 use Rattle.event_core.specs.Effect.{Effect, Accesses, Opens, Closes, Forks, Joins, Inner}
-use Rattle.event_core.proofs.Counting.{counted_join, counted_same, counted_longer}
-use Rattle.event_core.proofs.Stable.{longer, back, hb_too}
-use Rattle.event_core.proofs.Effects.{Fits, accesses, opens, closes, forks, joins, again, inner, last_closes}
+use Rattle.event_core.proofs.CountedProperties.{counted_join, counted_same, counted_longer}
+use Rattle.event_core.proofs.RelationsStay.{longer, back, hb_too}
+use Rattle.event_core.proofs.EffectProperties.{Fits, accesses, opens, closes, forks, joins, again, inner}
+use Rattle.event_core.proofs.EffectProperties.{last_closes}
 use Rattle.event_core.proofs.OpenSections.{is_closes}
 use Rattle.event_core.proofs.OtherSections.{Leaves, leaves_test, other_of, others_by}
 use Rattle.event_core.proofs.OtherSections.{other_old, other_new, other_split}
-use Rattle.event_core.proofs.SectionSteps.{section_within, before_within}
-use Rattle.event_core.proofs.Tests.{not_both}
+use Rattle.event_core.proofs.ClosedProperties.{section_within, before_within}
+use Rattle.event_core.proofs.BoolProperties.{not_both}
 use Rattle.wcp_laws.specs.Standing.{StandsFor}
 use Rattle.wcp_laws.specs.State.{State}
 use Rattle.wcp_laws.specs.Step.{met_clock_after}

@@ -17,16 +17,16 @@ use Rattle.event_core.specs.Order.{Hb}
 use Rattle.event_core.specs.Orderly.{Orderly}
 use Rattle.event_core.specs.Effect.{Effect, Accesses, Closes, access_of}
 use Rattle.event_core.specs.Wcp.{Meets, Strict}
-use Rattle.event_core.proofs.Counting.{last_of, last_does}
-use Rattle.event_core.proofs.LogFacts.{of_one, does_op}
+use Rattle.event_core.proofs.CountedProperties.{last_of, last_does}
+use Rattle.event_core.proofs.LogProperties.{of_one, does_op}
 use Rattle.event_core.specs.Newest.{StrictNew, from_thread, from_join, from_lock, from_access, from_release}
-use Rattle.event_core.proofs.NewestFacts.{strict_new, new_strict}
-use Rattle.event_core.proofs.Effects.{Fits, accesses, opens, closes, forks, joins, again, inner}
+use Rattle.event_core.proofs.StrictNewProperties.{strict_new, new_strict}
+use Rattle.event_core.proofs.EffectProperties.{Fits, accesses, opens, closes, forks, joins, again, inner}
 use Rattle.event_core.proofs.Accesses.{access_no_acquire, access_no_release, access_no_fork, access_no_join}
 use Rattle.event_core.proofs.Accesses.{conflict_access}
 use Rattle.event_core.proofs.OtherSections.{meets_other, other_meets, other_of, others_by}
-use Rattle.wcp_laws.proofs.Accesses.{Met, met_by}
-use Rattle.event_core.proofs.Brings.{Brings, join_brings, acquire_brings}
+use Rattle.wcp_laws.proofs.MetAccesses.{Met, met_by}
+use Rattle.event_core.proofs.ClockAfterProperties.{Brings, join_brings, acquire_brings}
 
 -- an earlier section whose acquire is strictly below the thread
 pub record Behind (log : List Event) (t : ThreadId) (l : LockId) (i : ℕ) : Type 0 where

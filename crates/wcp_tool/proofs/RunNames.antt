@@ -8,7 +8,7 @@ use Rattle.event_core.specs.declared.events.Act.{Act}
 use Rattle.event_core.specs.declared.events.Act.TheVariants.{One, Swap}
 use Rattle.event_core.specs.declared.events.Event.{Event}
 use Rattle.event_core.specs.Steps.{own_events}
-use Rattle.event_core.proofs.Counting.{nat_eq_same}
+use Rattle.event_core.proofs.CountedProperties.{nat_eq_same}
 use Rattle.rapid_text.specs.Events.{HasNames}
 use Rattle.rapid_text.specs.Tables.{Tables}
 use Rattle.script_drive.specs.Lines.{asked, asked_by, lines_by, unread}

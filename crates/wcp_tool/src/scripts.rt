@@ -2,7 +2,7 @@
 ghost use Rattle.std.specs.Prelude.{◌≡◌, ◌≢◌, ◌⊎◌, ◌≤◌, Err, None, true, false, IfSome};
 ghost use Rattle.std.specs.Io.KnownBytes.{Appends};
 ghost use Rattle.rapid_text.specs.Faults.{fault_line};
-ghost use Rattle.script_text.specs.declared.causes.ScriptFault.{ScriptFault as Why};
+ghost use Rattle.script_text.specs.declared.causes.ScriptFault.{ScriptFault};
 ghost use Rattle.script_text.specs.Scripts.{script_of, IsScript};
 ghost use Rattle.wcp_tool.specs.Endings.{HasEnded, is_write_fault, status_of};
 ghost use Rattle.wcp_tool.specs.Running.{IsUnhindered, IsUnread, TruncatesFile, TruncatesScript};
@@ -142,7 +142,7 @@ fn run_text<R: AllocGlobal + Threads + Wait + Sync, I: Input, O: Output>(
     requires writes { O.failed writer.old ≡ false }
     ensures performs { PerformsRun (limits_with threads OnlyMain) (I.left script.old) (O.written writer.old)
         (O.written writer.new) (status_of result) }
-    ensures fault { IfSome (I.left script.old) (λ text. (f : Why)
+    ensures fault { IfSome (I.left script.old) (λ text. (f : ScriptFault)
         → script_of (limits_with threads OnlyMain) text ≡ Err f
         → TellsFault f (O.written writer.old) (O.written writer.new) (status_of result)) }
     ensures truncated { result ≡ Ending.ReadFault
@@ -198,7 +198,7 @@ pub fn run_script<R: AllocGlobal + Threads + Wait + Sync, I: Input, O: Output, E
     ensures broken { result ≡ 6 → BreaksText (limits_with settings.now.threads OnlyMain)
         (I.left script.old) (O.written writer.old) (O.written writer.new) }
     // It reports the first fault of the script's lines, unless memory ran out or a device failed.
-    ensures fault { IfSome (I.left script.old) (λ text. (f : Why)
+    ensures fault { IfSome (I.left script.old) (λ text. (f : ScriptFault)
         → script_of (limits_with settings.now.threads OnlyMain) text ≡ Err f
         → TellsFault f (O.written writer.old) (O.written writer.new) result) }
     ensures range { result ≤ 6 }

@@ -17,8 +17,8 @@ use Rattle.event_core.specs.declared.bounds.Roots.TheVariants.{OnlyMain, Free}
 use Rattle.event_core.specs.declared.replies.Refusal.TheVariants.{AlreadyStarted}
 use Rattle.event_core.specs.Log.{Does}
 use Rattle.event_core.specs.Refusal.{WellFormed, forks, mentions, op_forks, known}
-use Rattle.event_core.proofs.Depth.{same_thread_id}
-use Rattle.event_core.proofs.Legality.{reasons_at, when_none, at_take}
+use Rattle.event_core.proofs.DepthProperties.{same_thread_id}
+use Rattle.event_core.proofs.OrderlyProperties.{reasons_at, when_none, at_take}
 
 forked_again : (m : Limits) (log : List Event) (g h : ℕ) (u v w : ThreadId) → WellFormed m log
     → Does log g v (Fork u) → Does log h w (Fork u) → g < h → ⊥

@@ -1,10 +1,10 @@
-pub mod Indices
+pub mod IndicesProperties
 pub mod Ranks
-pub mod Counts
+pub mod IsCountProperties
 pub mod Forks
 pub mod Entries
-pub mod Walks
+pub mod IsWalkProperties
 pub mod Neighbors
 pub mod Weights
-pub mod Ends
-pub mod Shown
+pub mod WithEndsProperties
+pub mod RaceAtEndProperties

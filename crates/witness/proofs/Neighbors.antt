@@ -8,8 +8,8 @@ use Rattle.event_core.specs.declared.events.Op.TheVariants.{Load, Store, Acquire
 use Rattle.event_core.specs.Log.{Conflict, OpsConflict}
 use Rattle.event_core.specs.Order.{here, step, HbEdge, program, lock, Hb, same_thread, fork_to_event}
 use Rattle.event_core.specs.Order.{fork_to_join, event_to_join}
-use Rattle.event_core.proofs.Chains.{edge_forward, hb_forward}
-use Rattle.event_core.proofs.LogFacts.{of_does, of_one, does_op}
+use Rattle.event_core.proofs.OrderProperties.{edge_forward, hb_forward}
+use Rattle.event_core.proofs.LogProperties.{of_does, of_one, does_op}
 
 no_join : (o : Op) (u : ThreadId) → OpsConflict o (Join u) → ⊥
 no_join (Load x) u c = c

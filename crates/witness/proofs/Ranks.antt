@@ -11,10 +11,10 @@ use Rattle.event_core.specs.declared.events.Event.{Event}
 use Rattle.event_core.specs.Log.{Of}
 use Rattle.event_core.specs.Count.{events_of}
 use Rattle.event_core.specs.Rows.{bump}
-use Rattle.event_core.proofs.Counting.{events_grow}
-use Rattle.event_core.proofs.CountLaws.{rank_below}
-use Rattle.event_core.proofs.Depth.{take_event}
-use Rattle.event_core.proofs.Legality.{at_take}
+use Rattle.event_core.proofs.CountedProperties.{events_grow}
+use Rattle.event_core.proofs.CountsProperties.{rank_below}
+use Rattle.event_core.proofs.DepthProperties.{take_event}
+use Rattle.event_core.proofs.OrderlyProperties.{at_take}
 
 -- of two events of a thread the earlier has the lower place
 pub rank_before : (log : List Event) (u : ThreadId) (h k : ℕ) → h < k → Of log h u

@@ -11,7 +11,7 @@ use Rattle.event_core.specs.declared.events.Op.{Op}
 use Rattle.event_core.specs.declared.events.Op.TheVariants.{Load, Store, Acquire, Release, Fork, Join}
 use Rattle.event_core.specs.Closed.{Has, first, later}
 use Rattle.event_core.specs.Refusal.{op_is_acquire, op_is_release}
-use Rattle.event_core.proofs.Depth.{take_event, event_at}
+use Rattle.event_core.proofs.DepthProperties.{take_event, event_at}
 use Rattle.witness.specs.Indices.{events_at, with_event}
 
 -- an acquire takes a slot and keeps one, a release takes the one that was kept

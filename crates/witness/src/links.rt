@@ -2,8 +2,8 @@
 //! acquire on to the release that ends its section, an inner acquire back to the outer one, and an event
 //! that leads to no other to itself.
 ghost use Rattle.std.specs.Prelude.{◌≡◌, ◌<◌, ℕ, None, Some, IfOk, length, slice_index, slice_index_or};
-ghost use Rattle.event_core.specs.declared.events.Op.{Op as Operation};
-ghost use Rattle.event_core.specs.declared.ids.VarId.{VarId as Var};
+ghost use Rattle.event_core.specs.declared.events.Op.{Op};
+ghost use Rattle.event_core.specs.declared.ids.VarId.{VarId};
 ghost use Rattle.witness.specs.Links.{back, back_at};
 
 use crate::marks::index_at;
@@ -38,7 +38,7 @@ pub fn link_for(
     op: Op,
     index: u32,
 ) -> Result<u32, OutOfMemory>
-    ensures { IfOk result (λ link. (x : Var) → op ≡ Operation.Load x
+    ensures { IfOk result (λ link. (x : VarId) → op ≡ Op.Load x
         → ((s : ℕ) → slice_index_or stores.now x.0 None ≡ Some s → s < index)
         → back link index ≡ slice_index_or stores.now x.0 None) }
 {

@@ -1,8 +1,8 @@
 //! Lists of numbers and of indices, by threads and by variables, that grow with what is named.
 ghost use Rattle.std.specs.Prelude.{◌≡◌, ◌<◌, ◌^◌, ℕ, None, Some, OnOk, slice_index, slice_index_or};
 ghost use Rattle.std.specs.Prelude.{if◌then◌else◌};
-ghost use Rattle.event_core.specs.declared.ids.ThreadId.{ThreadId as Thread};
-ghost use Rattle.event_core.specs.declared.ids.VarId.{VarId as Var};
+ghost use Rattle.event_core.specs.declared.ids.ThreadId.{ThreadId};
+ghost use Rattle.event_core.specs.declared.ids.VarId.{VarId};
 ghost use Rattle.event_core.specs.Refusal.{op_stores, op_forks};
 ghost use Rattle.event_core.specs.Rows.{bump};
 ghost use Rattle.traced_mem.specs.After.{updated};
@@ -50,7 +50,7 @@ fn keep(list: &mut Vec<Option<u32>>, number: u32, index: u32) -> Result<(), OutO
 
 /// Keeps the index of a store for its variable.
 pub fn note_store(stores: &mut Vec<Option<u32>>, op: Op, index: u32) -> Result<(), OutOfMemory>
-    ensures { OnOk result ((x : Var) → slice_index_or stores.new.items x.0 None
+    ensures { OnOk result ((x : VarId) → slice_index_or stores.new.items x.0 None
         ≡ (if op_stores x op then Some index else slice_index_or stores.old.items x.0 None)) }
 {
     match op {
@@ -61,7 +61,7 @@ pub fn note_store(stores: &mut Vec<Option<u32>>, op: Op, index: u32) -> Result<(
 
 /// Keeps the index of a fork for its thread.
 pub fn note_fork(forks: &mut Vec<Option<u32>>, op: Op, index: u32) -> Result<(), OutOfMemory>
-    ensures { OnOk result ((u : Thread) → slice_index_or forks.new.items u.0 None
+    ensures { OnOk result ((u : ThreadId) → slice_index_or forks.new.items u.0 None
         ≡ (if op_forks u op then Some index else slice_index_or forks.old.items u.0 None)) }
 {
     match op {

@@ -1,8 +1,8 @@
 //! Whether an event is next after some others: they have all that precedes it in program order, and not it.
 ghost use Rattle.std.specs.Prelude.{◌≡◌, ℕ, ◌<◌, ◌^◌, List, Some, IsTrue, slice_get, slice_index};
-ghost use Rattle.event_core.specs.declared.events.Event.{Event as Entry};
-ghost use Rattle.event_core.specs.declared.events.Op.{Op as Operation};
-ghost use Rattle.event_core.specs.declared.ids.ThreadId.{ThreadId as Thread};
+ghost use Rattle.event_core.specs.declared.events.Event.{Event};
+ghost use Rattle.event_core.specs.declared.events.Op.{Op};
+ghost use Rattle.event_core.specs.declared.ids.ThreadId.{ThreadId};
 ghost use Rattle.event_core.specs.Log.{Does, Of};
 ghost use Rattle.event_core.specs.Closed.{Has};
 ghost use Rattle.witness.specs.Walks.{AreTables, IsCount, HasFork, HasAll, IsNextOf};
@@ -49,7 +49,7 @@ fn has_all(log: &Log, tables: &Tables, counts: &[u64], thread: ThreadId) -> bool
 fn may_join(log: &Log, tables: &Tables, counts: &[u64], op: Op) -> bool
     requires { AreTables log.now.events tables.now }
     ensures { IsTrue result → (before : List ℕ) → IsCount log.now.events before (slice_index counts.now)
-        → (u : Thread) → op ≡ Operation.Join u
+        → (u : ThreadId) → op ≡ Op.Join u
         → HasAll log.now.events before u × HasFork log.now.events before u }
 {
     match op {
@@ -63,7 +63,7 @@ fn may_join(log: &Log, tables: &Tables, counts: &[u64], op: Op) -> bool
 /// Whether the event is next after those that are counted.
 pub fn is_next(log: &Log, tables: &Tables, counts: &[u64], index: u64) -> bool
     requires { AreTables log.now.events tables.now }
-    ensures few { IsTrue result → (event : Entry) → slice_get log.now.events index ≡ Some event
+    ensures few { IsTrue result → (event : Event) → slice_get log.now.events index ≡ Some event
         → slice_index counts.now event.thread.0 < 2 ^ 32 }
     ensures next { IsTrue result → (before : List ℕ)
         → IsCount log.now.events before (slice_index counts.now)

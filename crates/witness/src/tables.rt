@@ -1,7 +1,7 @@
 //! What is kept of a log, so that each test of a witness takes constant time.
 ghost use Rattle.std.specs.Prelude.{◌≡◌, ◌<◌, ◌≤◌, ◌^◌, length, slice_get, slice_index};
 ghost use Rattle.std.specs.Prelude.{Some, IfOk};
-ghost use Rattle.event_core.specs.declared.bounds.Limits.{Limits as Bounds};
+ghost use Rattle.event_core.specs.declared.bounds.Limits.{Limits};
 ghost use Rattle.event_core.specs.Refusal.{WellFormed};
 ghost use Rattle.witness.specs.Walks.{ArePlaces, AreTotals, AreReads, AreForks, AreTables};
 
@@ -29,7 +29,7 @@ impl Tables {
     /// The tables of the log.
     pub fn new(alloc: Global, log: &Log) -> Result<Tables, OutOfMemory>
         requires few { length log.now.events ≤ 2 ^ 32 }
-        requires formed { (m : Bounds) × WellFormed m log.now.events }
+        requires formed { (m : Limits) × WellFormed m log.now.events }
         ensures { IfOk result (λ t. AreTables log.now.events t) }
     {
         let (places, totals) = find_places(alloc, log)?;
@@ -105,7 +105,7 @@ fn find_links(alloc: Global, log: &Log) -> Result<Vec<u32>, OutOfMemory>
 // The fork of each thread.
 fn find_forks(alloc: Global, log: &Log) -> Result<Vec<Option<u32>>, OutOfMemory>
     requires few { length log.now.events ≤ 2 ^ 32 }
-    requires formed { (m : Bounds) × WellFormed m log.now.events }
+    requires formed { (m : Limits) × WellFormed m log.now.events }
     ensures { IfOk result (λ t. AreForks log.now.events t.items) }
 {
     let mut forks = Vec::new(alloc);

@@ -1,9 +1,9 @@
 //! The walk over a list of events that tests each point of the definition of a witness.
 ghost use Rattle.std.specs.Prelude.{◌≡◌, ℕ, ◌∷◌, ◌++◌, [], List, IsTrue, IfOk, None, slice_index_or};
 ghost use Rattle.std.specs.Prelude.{slice_get, Some};
-ghost use Rattle.event_core.specs.declared.events.Event.{Event as Entry};
-ghost use Rattle.event_core.specs.declared.events.Op.{Op as Operation};
-ghost use Rattle.event_core.specs.declared.ids.VarId.{VarId as Var};
+ghost use Rattle.event_core.specs.declared.events.Event.{Event};
+ghost use Rattle.event_core.specs.declared.events.Op.{Op};
+ghost use Rattle.event_core.specs.declared.ids.VarId.{VarId};
 ghost use Rattle.witness.specs.Witness.{IsNext, ReadsAlike, IsWitness};
 ghost use Rattle.witness.specs.Links.{back_at};
 ghost use Rattle.witness.specs.Walks.{AreTables};
@@ -30,7 +30,7 @@ pub struct Walk {
 
 // Whether a load reads the store that it reads in the log.
 fn reads_alike(tables: &Tables, stores: &[Option<u32>], op: Op, index: u32) -> bool
-    ensures { IsTrue result → (x : Var) → op ≡ Operation.Load x
+    ensures { IsTrue result → (x : VarId) → op ≡ Op.Load x
         → slice_index_or stores.now x.0 None ≡ back_at tables.now.links.items index }
 {
     match op {

@@ -1,3 +1,3 @@
-pub mod PairLaws
-pub mod RowLaws
-pub mod ShowingLaws
+pub mod PairsProperties
+pub mod AreRowsProperties
+pub mod ShowingProperties

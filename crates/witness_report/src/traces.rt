@@ -46,7 +46,7 @@ fn show<W: Output>(
 ///
 /// Nothing is written where the event does not race, where the text could not be read to its end, or where a
 /// growth was refused.
-#[tactic(auto, using(crate::proofs::ShowingLaws::silent_fault))]
+#[tactic(auto, using(crate::proofs::ShowingProperties::silent_fault))]
 pub fn show_trace<I: Input, O: Output>(
     alloc: Global,
     reader: &mut I,

@@ -1,7 +1,7 @@
 //! Room: it is made before an event, and asked for.
 ghost use Rattle.std.specs.Prelude.{◌≡◌, ◌<◌, ◌↔◌, IsTrue, IsOk, OnOk};
-ghost use Rattle.event_core.specs.declared.events.Op.{Op as Operation};
-ghost use Rattle.event_core.specs.declared.ids.VarId.{VarId as Variable};
+ghost use Rattle.event_core.specs.declared.events.Op.{Op};
+ghost use Rattle.event_core.specs.declared.ids.VarId.{VarId};
 ghost use Rattle.event_core.specs.Effect.{access_of};
 ghost use Rattle.access_check.specs.Tables.{IsReady, IsReadyAt, IsReadyToSwap, Grown, GrownFor};
 
@@ -28,8 +28,8 @@ impl Accesses {
         requires load { load.now.thread.0 < self.old.limits.threads }
         requires store { store.now.thread.0 < self.old.limits.threads }
         ensures same { Grown self.old self.new }
-        ensures grown { (var : Variable) → load.now.op ≡ Operation.Load var
-            → store.now.op ≡ Operation.Store var → load.now.thread ≡ store.now.thread
+        ensures grown { (var : VarId) → load.now.op ≡ Op.Load var
+            → store.now.op ≡ Op.Store var → load.now.thread ≡ store.now.thread
             → GrownFor self.old self.new store.now.thread store.now.op }
         ensures room { OnOk result (IsReadyToSwap self.new load.now store.now) }
         ensures again { IsReadyToSwap self.old load.now store.now → IsOk result }

@@ -1,7 +1,7 @@
 //! Which calls are refused, and why: the first reason of the list that applies.
 ghost use Rattle.std.specs.Prelude.{◌≡◌, ◌≤◌, List, None, OnOk};
 ghost use Rattle.event_core.specs.declared.events.Event.{Event};
-ghost use Rattle.event_core.specs.declared.events.Op.{Op as Operation};
+ghost use Rattle.event_core.specs.declared.events.Op.{Op};
 ghost use Rattle.event_core.specs.Refusal.{refusal, in_range};
 ghost use Rattle.event_core.specs.Acts.{swap_refusal};
 ghost use Rattle.traced_mem.specs.After.{after};
@@ -40,10 +40,10 @@ impl Memory {
     pub fn permit_swap(&self, thread: ThreadId, var: VarId) -> Result<(), Refusal>
         ensures means { result ≡ answer (swap_refusal_at self.now.limits (meaning self.now) thread var) }
         ensures allowed { OnOk result (AllowsSwap self.now thread var) }
-        ensures load { OnOk result (Allows self.now thread (Operation.Load var)) }
+        ensures load { OnOk result (Allows self.now thread (Op.Load var)) }
         ensures store { OnOk result
-            (refusal_at self.now.limits (after thread (Operation.Load var) 0 (meaning self.now)) thread
-            (Operation.Store var)
+            (refusal_at self.now.limits (after thread (Op.Load var) 0 (meaning self.now)) thread
+            (Op.Store var)
             ≡ None) }
         ensures refusal { (log : List Event) → StandsFor log self.now
             → result ≡ answer (swap_refusal self.now.limits log thread var) }

@@ -1,10 +1,10 @@
 //! Room: it is made before a call, and asked for.
 ghost use Rattle.std.specs.Prelude.{◌≡◌, ℕ, ◌<◌, ◌≤◌, ◌↔◌, IsTrue, IsOk, OnOk, List, length};
-ghost use Rattle.event_core.specs.declared.events.Event.{Event as AnEvent};
-ghost use Rattle.event_core.specs.declared.events.Op.{Op as Operation};
-ghost use Rattle.event_core.specs.declared.ids.LockId.{LockId as Lock};
-ghost use Rattle.event_core.specs.declared.ids.ThreadId.{ThreadId as Thread};
-ghost use Rattle.event_core.specs.declared.ids.VarId.{VarId as Variable};
+ghost use Rattle.event_core.specs.declared.events.Event.{Event};
+ghost use Rattle.event_core.specs.declared.events.Op.{Op};
+ghost use Rattle.event_core.specs.declared.ids.LockId.{LockId};
+ghost use Rattle.event_core.specs.declared.ids.ThreadId.{ThreadId};
+ghost use Rattle.event_core.specs.declared.ids.VarId.{VarId};
 ghost use Rattle.traced_mem.specs.Tables.{meaning, Allows};
 ghost use Rattle.traced_mem.specs.Room.{HasRoom, IsReady, IsReadyToSwap, GrownFor};
 ghost use Rattle.traced_mem.specs.Standing.{StandsFor};
@@ -22,9 +22,9 @@ impl Memory {
         ensures limits { self.new.limits ≡ self.old.limits }
         ensures ready { OnOk result (IsReady self.new call.now.thread call.now.op) }
         ensures again { IsReady self.old call.now.thread call.now.op → IsOk result }
-        ensures kept { (u : Thread) (o : Operation) → IsReady self.old u o → IsReady self.new u o }
+        ensures kept { (u : ThreadId) (o : Op) → IsReady self.old u o → IsReady self.new u o }
         ensures grown { GrownFor self.old self.new call.now.thread call.now.op }
-        ensures stands { (log : List AnEvent) → StandsFor log self.old → StandsFor log self.new }
+        ensures stands { (log : List Event) → StandsFor log self.old → StandsFor log self.new }
     {
         self.prepare_for(call.thread, call.op)
     }
@@ -36,11 +36,11 @@ impl Memory {
         ensures limits { self.new.limits ≡ self.old.limits }
         ensures ready { OnOk result (IsReadyToSwap self.new load.now store.now) }
         ensures again { IsReadyToSwap self.old load.now store.now → IsOk result }
-        ensures kept { (u : Thread) (o : Operation) → IsReady self.old u o → IsReady self.new u o }
-        ensures grown { (var : Variable) → load.now.op ≡ Operation.Load var
-            → store.now.op ≡ Operation.Store var → load.now.thread ≡ store.now.thread
+        ensures kept { (u : ThreadId) (o : Op) → IsReady self.old u o → IsReady self.new u o }
+        ensures grown { (var : VarId) → load.now.op ≡ Op.Load var
+            → store.now.op ≡ Op.Store var → load.now.thread ≡ store.now.thread
             → GrownFor self.old self.new store.now.thread store.now.op }
-        ensures stands { (log : List AnEvent) → StandsFor log self.old → StandsFor log self.new }
+        ensures stands { (log : List Event) → StandsFor log self.old → StandsFor log self.new }
     {
         self.prepare_for(load.thread, load.op)?;
         self.prepare_for(store.thread, store.op)
@@ -52,9 +52,9 @@ impl Memory {
         ensures limits { self.new.limits ≡ self.old.limits }
         ensures ready { OnOk result (IsReady self.new thread op) }
         ensures again { IsReady self.old thread op → IsOk result }
-        ensures kept { (u : Thread) (o : Operation) → IsReady self.old u o → IsReady self.new u o }
+        ensures kept { (u : ThreadId) (o : Op) → IsReady self.old u o → IsReady self.new u o }
         ensures grown { GrownFor self.old self.new thread op }
-        ensures stands { (log : List AnEvent) → StandsFor log self.old → StandsFor log self.new }
+        ensures stands { (log : List Event) → StandsFor log self.old → StandsFor log self.new }
     {
         if self.ready_for(thread, op) {
             return Ok(());
@@ -73,7 +73,7 @@ impl Memory {
     #[inline(always)]
     pub fn ready(&self, call: &Call) -> bool
         ensures room { IsTrue result ↔ IsReady self.now call.now.thread call.now.op }
-        ensures release { (lock : Lock) → call.now.op ≡ Operation.Release lock
+        ensures release { (lock : LockId) → call.now.op ≡ Op.Release lock
             → Allows self.now call.now.thread call.now.op → IsTrue result }
     {
         self.ready_for(call.thread, call.op)
@@ -91,7 +91,7 @@ impl Memory {
     #[inline(always)]
     pub fn ready_for(&self, thread: ThreadId, op: Op) -> bool
         ensures room { IsTrue result ↔ IsReady self.now thread op }
-        ensures release { (lock : Lock) → op ≡ Operation.Release lock
+        ensures release { (lock : LockId) → op ≡ Op.Release lock
             → Allows self.now thread op → IsTrue result }
     {
         (thread.0 as usize) < self.threads.len() && self.has_room_for(thread, op)

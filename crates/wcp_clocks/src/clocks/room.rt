@@ -1,7 +1,7 @@
 //! Room: it is made before an event, and asked for.
 ghost use Rattle.std.specs.Prelude.{◌≡◌, ◌↔◌, IsOk, OnOk, IsTrue};
 ghost use Rattle.event_core.specs.declared.events.Op.TheVariants.{Load, Store};
-ghost use Rattle.event_core.specs.declared.ids.VarId.{VarId as Variable};
+ghost use Rattle.event_core.specs.declared.ids.VarId.{VarId};
 ghost use Rattle.hb_clocks.specs.Standing.{IsHeldRelease};
 ghost use Rattle.wcp_clocks.specs.Parts.{hb_of, IsReady, IsReadyToSwap, KeepsReady, SameLimits, SameNumbers};
 ghost use Rattle.wcp_clocks.specs.Parts.{IsWithin};
@@ -51,10 +51,10 @@ impl WcpClocks {
         ensures ready { OnOk result (IsReadyToSwap self.new load.now store.now) }
         ensures again { IsReadyToSwap self.old load.now store.now → IsOk result × (self.new ≡ self.old) }
         ensures kept { KeepsReady self.old self.new }
-        ensures grown { (var : Variable) → load.now.op ≡ Load var → store.now.op ≡ Store var
+        ensures grown { (var : VarId) → load.now.op ≡ Load var → store.now.op ≡ Store var
             → load.now.thread ≡ store.now.thread
             → GrownFor self.old self.new store.now.thread store.now.op }
-        ensures made { (var : Variable) → load.now.op ≡ Load var → store.now.op ≡ Store var
+        ensures made { (var : VarId) → load.now.op ≡ Load var → store.now.op ≡ Store var
             → load.now.thread ≡ store.now.thread
             → MadeFor self.old self.new store.now.thread store.now.op }
         ensures limits { SameLimits self.old self.new }

@@ -3,7 +3,7 @@ use Rattle.std.specs.List.{position}
 use Rattle.event_core.specs.declared.ids.ThreadId.{ThreadId}
 use Rattle.access_check.specs.declared.last_accesses.LastAccess.{LastAccess}
 use Rattle.access_check.specs.LastAccesses.{LastList, is_of}
-use Rattle.access_check.proofs.Room.{room_left}
+use Rattle.access_check.proofs.IsReadyForProperties.{room_left}
 use Rattle.access_check.proofs.last_accesses.put.Goals as goal
 
 pub push_reserved-requires : goal.push_reserved-requires

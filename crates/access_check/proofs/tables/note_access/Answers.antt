@@ -1,7 +1,7 @@
 use Rattle.std.proofs.Common.{sym, subst}
 use Rattle.event_core.specs.declared.events.Op.TheVariants.{Load, Store}
 use Rattle.access_check.specs.LastAccesses.{AreNarrow}
-use Rattle.access_check.proofs.Narrow.{narrow_after}
+use Rattle.access_check.proofs.AreNarrowProperties.{narrow_after}
 use Rattle.access_check.proofs.tables.note_access.Goals as goal
 
 pub returns-in-Load-clause-narrow : goal.returns-in-Load-clause-narrow

@@ -1,6 +1,6 @@
 use Rattle.std.proofs.Common.{arith, refl, rules}
-use Rattle.event_core.proofs.Tests.{not_both}
-use Rattle.closed_report.proofs.Listing.{name_numbered, no_more}
+use Rattle.event_core.proofs.BoolProperties.{not_both}
+use Rattle.closed_report.proofs.NameListsProperties.{name_numbered, no_more}
 use Rattle.closed_report.proofs.name_lists.add_name.Goals as goal
 
 pub returns-then-not-is_name_of-clause-fault : goal.returns-then-not-is_name_of-clause-fault

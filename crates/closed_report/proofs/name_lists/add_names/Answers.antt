@@ -2,7 +2,7 @@ use Rattle.std.proofs.Common.{◌∷◌, ◌++◌, ◌∙◌, List, ℕ, ap, map
 use Rattle.std.specs.Prelude.{get_or}
 use Rattle.std.proofs.lemmas.Option.{slice_get-get_or}
 use Rattle.rapid_text.specs.Tables.{space}
-use Rattle.closed_report.proofs.Listing.{fault_of_next, none_yet, parted}
+use Rattle.closed_report.proofs.NameListsProperties.{fault_of_next, none_yet, parted}
 use Rattle.closed_report.proofs.name_lists.add_names.Goals as goal
 
 pub loop-name-init : goal.loop-name-init

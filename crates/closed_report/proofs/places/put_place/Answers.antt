@@ -1,5 +1,5 @@
 use Rattle.std.proofs.lemmas.Result.{on_ok_weaker}
-use Rattle.rapid_text.proofs.Putting.{put_both}
+use Rattle.rapid_text.proofs.PutsProperties.{put_both}
 use Rattle.closed_report.proofs.places.put_place.Goals as goal
 
 pub returns-clause-ok : goal.returns-clause-ok

@@ -1,7 +1,7 @@
 use Rattle.std.proofs.Common.{ap, ◌∙◌}
 use Rattle.std.proofs.lemmas.List.{take_all}
 use Rattle.std.proofs.lemmas.Option.{slice_get-get_or}
-use Rattle.rapid_text.proofs.Putting.{put_both, put_same}
+use Rattle.rapid_text.proofs.PutsProperties.{put_both, put_same}
 use Rattle.trace_report.proofs.Races.{lines_at}
 use Rattle.closed_report.specs.Places.{place_line, place_lines}
 use Rattle.closed_report.proofs.PlaceLines.{first_within}

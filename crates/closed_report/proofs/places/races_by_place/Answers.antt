@@ -2,7 +2,7 @@ use Rattle.std.proofs.Common.{◌≡◌, List, [], rules, subst, arith}
 use Rattle.std.proofs.lemmas.List.{take_all}
 use Rattle.verdict_list.specs.declared.verdicts.Race.{Race}
 use Rattle.closed_report.specs.Places.{AreByPlace}
-use Rattle.closed_report.proofs.PlaceLaws.{added, few, none_yet, rises}
+use Rattle.closed_report.proofs.PlacesProperties.{added, few, none_yet, rises}
 use Rattle.closed_report.proofs.places.races_by_place.Goals as goal
 
 pub loop-race-init : goal.loop-race-init

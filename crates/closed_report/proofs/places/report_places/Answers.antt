@@ -1,6 +1,6 @@
 use Rattle.std.proofs.Common.{Ok, Err, refl, rules}
 use Rattle.closed_report.specs.declared.reporting.ReportFault.TheVariants.{Write}
-use Rattle.closed_report.proofs.Telling.{not_told}
+use Rattle.closed_report.proofs.TellsUnnamedProperties.{not_told}
 use Rattle.closed_report.proofs.places.report_places.Goals as goal
 
 pub returns-in_err-all_named-clause-unnamed : goal.returns-in_err-all_named-clause-unnamed

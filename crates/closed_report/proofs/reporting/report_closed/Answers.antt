@@ -1,7 +1,7 @@
 use Rattle.std.proofs.Common.{Ok, Err, refl, rules}
-use Rattle.trace_report.proofs.TellingLaws.{verdicts_within}
+use Rattle.trace_report.proofs.TellsTextProperties.{verdicts_within}
 use Rattle.closed_report.specs.declared.reporting.ReportFault.TheVariants.{Write}
-use Rattle.closed_report.proofs.Telling.{not_told}
+use Rattle.closed_report.proofs.TellsUnnamedProperties.{not_told}
 use Rattle.closed_report.proofs.reporting.report_closed.Goals as goal
 
 pub returns-in_err-all_named-clause-unnamed : goal.returns-in_err-all_named-clause-unnamed

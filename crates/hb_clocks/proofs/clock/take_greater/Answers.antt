@@ -1,6 +1,6 @@
 use Rattle.std.proofs.Common.{◌∙◌, length}
 use Rattle.std.proofs.lemmas.List.{length-take-le}
-use Rattle.hb_clocks.proofs.JoinLaws.{front_joined}
+use Rattle.hb_clocks.proofs.JoinProperties.{front_joined}
 use Rattle.hb_clocks.proofs.clock.take_greater.Goals as goal
 
 pub returns : goal.returns

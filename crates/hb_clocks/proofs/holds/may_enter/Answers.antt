@@ -1,7 +1,7 @@
 use Rattle.std.proofs.Common.{inl, inr}
 use Rattle.std.proofs.lemmas.Bool.{cases_eq, eq-eqb, eqb-true}
 use Rattle.hb_clocks.specs.Holds.{hold_at}
-use Rattle.hb_clocks.proofs.HoldLaws.{alone_holder, not_alone}
+use Rattle.hb_clocks.proofs.HoldsProperties.{alone_holder, not_alone}
 use Rattle.hb_clocks.proofs.holds.may_enter.Goals as goal
 
 pub returns-else-depth-eq0 : goal.returns-else-depth-eq0

@@ -1,4 +1,4 @@
-use Rattle.hb_clocks.proofs.Conditions.{admits_legal}
+use Rattle.hb_clocks.proofs.StandsForProperties.{admits_legal}
 use Rattle.hb_clocks.proofs.laws.admits_legal.Goals as goal
 
 pub returns : goal.returns

@@ -1,6 +1,6 @@
 use Rattle.std.proofs.Common.{◌<◌, length, arith}
-use Rattle.hb_clocks.proofs.RowLaws.{front_read, back_read, front_written, back_written, front_widths}
-use Rattle.hb_clocks.proofs.RowLaws.{back_widths}
+use Rattle.hb_clocks.proofs.RowsProperties.{front_read, back_read, front_written, back_written, front_widths}
+use Rattle.hb_clocks.proofs.RowsProperties.{back_widths}
 use Rattle.hb_clocks.proofs.rows.copy_rows.Goals as goal
 
 pub returns-then-from-to-clause-rows : goal.returns-then-from-to-clause-rows

@@ -3,7 +3,7 @@ use Rattle.std.proofs.lemmas.List.{get_or_default}
 use Rattle.event_core.specs.Rows.{join, with_row}
 use Rattle.hb_clocks.specs.Counts.{counts_of}
 use Rattle.hb_clocks.specs.Rows.{rows_of}
-use Rattle.hb_clocks.proofs.RowLaws.{rows_set}
+use Rattle.hb_clocks.proofs.RowsProperties.{rows_set}
 use Rattle.hb_clocks.proofs.rows.join_row.Goals as goal
 
 pub returns-clause-rows : goal.returns-clause-rows

@@ -4,7 +4,7 @@ use Rattle.event_core.specs.Rows.{join, with_row}
 use Rattle.hb_clocks.specs.Counts.{counts_of}
 use Rattle.hb_clocks.specs.Released.{clock_of}
 use Rattle.hb_clocks.specs.Rows.{rows_of}
-use Rattle.hb_clocks.proofs.RowLaws.{rows_set}
+use Rattle.hb_clocks.proofs.RowsProperties.{rows_set}
 use Rattle.hb_clocks.proofs.rows.join_row_release.Goals as goal
 
 pub returns-clause-rows : goal.returns-clause-rows

@@ -1,7 +1,7 @@
 use Rattle.std.proofs.Common.{◌<◌, [], length, ap₂, arith}
 use Rattle.event_core.specs.Rows.{join}
-use Rattle.hb_clocks.proofs.RowLaws.{front_read, back_read, front_written, back_written, front_widths}
-use Rattle.hb_clocks.proofs.RowLaws.{back_widths}
+use Rattle.hb_clocks.proofs.RowsProperties.{front_read, back_read, front_written, back_written, front_widths}
+use Rattle.hb_clocks.proofs.RowsProperties.{back_widths}
 use Rattle.hb_clocks.proofs.rows.join_rows.Goals as goal
 
 pub returns-then-from-to-clause-rows : goal.returns-then-from-to-clause-rows

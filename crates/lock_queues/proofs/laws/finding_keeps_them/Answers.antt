@@ -1,4 +1,4 @@
-use Rattle.lock_queues.proofs.LogSearches.{finding_keeps_them}
+use Rattle.lock_queues.proofs.LastBelowLaws.{finding_keeps_them}
 use Rattle.lock_queues.proofs.laws.finding_keeps_them.Goals as goal
 
 pub returns : goal.returns

@@ -1,4 +1,4 @@
-use Rattle.lock_queues.proofs.LogSteps.{holders_have_entered}
+use Rattle.lock_queues.proofs.StandsForProperties.{holders_have_entered}
 use Rattle.lock_queues.proofs.laws.holders_have_entered.Goals as goal
 
 pub returns : goal.returns

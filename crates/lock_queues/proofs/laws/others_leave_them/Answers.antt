@@ -1,4 +1,4 @@
-use Rattle.lock_queues.proofs.LogSteps.{others_leave_them}
+use Rattle.lock_queues.proofs.StandsForProperties.{others_leave_them}
 use Rattle.lock_queues.proofs.laws.others_leave_them.Goals as goal
 
 pub returns : goal.returns

@@ -1,4 +1,4 @@
-use Rattle.lock_queues.proofs.LogSearches.{strict_clocks_may_ask}
+use Rattle.lock_queues.proofs.LastBelowLaws.{strict_clocks_may_ask}
 use Rattle.lock_queues.proofs.laws.strict_clocks_may_ask.Goals as goal
 
 pub returns : goal.returns

@@ -1,7 +1,7 @@
 use Rattle.one_log.specs.Joined.{IsJoinedInto}
 use Rattle.one_log.specs.OneLog.{StandsIn}
 use Rattle.one_log.proofs.Beginnings.{all_map}
-use Rattle.one_log.proofs.Joined.{stands_in}
+use Rattle.one_log.proofs.IsJoinedIntoProperties.{stands_in}
 use Rattle.one_log.proofs.Places.{have_places}
 use Rattle.one_log.proofs.laws.joined_passes_stand_in_closed_log.Goals as goal
 

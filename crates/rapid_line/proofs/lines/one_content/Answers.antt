@@ -1,4 +1,4 @@
-use Rattle.rapid_line.proofs.Again.{one_event}
+use Rattle.rapid_line.proofs.SpellingProperties.{one_event}
 use Rattle.rapid_line.proofs.lines.one_content.Goals as goal
 
 pub returns : goal.returns

@@ -1,5 +1,5 @@
-use Rattle.rapid_line.proofs.Again.{read_again}
-use Rattle.rapid_line.proofs.First.{read_found, read_first, first_answered}
+use Rattle.rapid_line.proofs.SpellingProperties.{read_again}
+use Rattle.rapid_line.proofs.IsFirstCauseProperties.{read_found, read_first, first_answered}
 use Rattle.rapid_line.proofs.lines.one_reading.Goals as goal
 
 pub returns-clause-named : goal.returns-clause-named

@@ -1,4 +1,4 @@
-use Rattle.rapid_line.proofs.Again.{operation_ahead}
+use Rattle.rapid_line.proofs.SpellingProperties.{operation_ahead}
 use Rattle.rapid_line.proofs.lines.operation.Goals as goal
 
 pub returns-in-Some : goal.returns-in-Some

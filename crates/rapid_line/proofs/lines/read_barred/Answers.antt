@@ -1,5 +1,5 @@
-use Rattle.rapid_line.proofs.First.{found_of}
-use Rattle.rapid_line.proofs.Barred.{line_fielded}
+use Rattle.rapid_line.proofs.IsFirstCauseProperties.{found_of}
+use Rattle.rapid_line.proofs.IsBarredProperties.{line_fielded}
 use Rattle.rapid_line.proofs.lines.read_barred.Goals as goal
 
 pub returns-clause-exact : goal.returns-clause-exact

@@ -2,8 +2,8 @@ use Rattle.std.proofs.Common.{subst, Result}
 use Rattle.rapid_line.specs.declared.words.LineFault.{LineFault}
 use Rattle.rapid_line.specs.Grammar.{NamedEvent}
 use Rattle.rapid_line.specs.Reading.{named_of, Gives}
-use Rattle.rapid_line.proofs.Again.{read_again}
-use Rattle.rapid_line.proofs.First.{found_of, first_of}
+use Rattle.rapid_line.proofs.SpellingProperties.{read_again}
+use Rattle.rapid_line.proofs.IsFirstCauseProperties.{found_of, first_of}
 use Rattle.rapid_line.proofs.lines.read_line.Goals as goal
 
 pub returns-clause-found : goal.returns-clause-found

@@ -1,4 +1,4 @@
-use Rattle.rapid_line.proofs.Barred.{cut_marked, barred_marked}
+use Rattle.rapid_line.proofs.IsBarredProperties.{cut_marked, barred_marked}
 use Rattle.rapid_line.proofs.marks.first_line.Goals as goal
 
 pub returns-clause-cut : goal.returns-clause-cut

@@ -3,7 +3,7 @@ use Rattle.std.specs.Prelude.{count_ones}
 use Rattle.std.specs.Int.{bit_at, trailing_zeros}
 use Rattle.std.proofs.lemmas.Nat.{ones_le_self}
 use Rattle.std.proofs.lemmas.Nat.Bits.{bit_at-zero, bit_at-trailing_zeros}
-use Rattle.rapid_line.proofs.Marked.{only_one}
+use Rattle.rapid_line.proofs.TellProperties.{only_one}
 use Rattle.rapid_line.proofs.marks.marks_of.Goals as goal
 
 pub returns : goal.returns

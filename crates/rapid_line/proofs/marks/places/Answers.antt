@@ -2,7 +2,7 @@ use Rattle.std.proofs.Common.{eqb, subst, sym, arith, w8, ℕ}
 use Rattle.std.specs.Simd.Lanes.{chunk}
 use Rattle.std.proofs.lemmas.Simd.{bitmask_splat, length-chunk}
 use Rattle.rapid_line.specs.Marks.{Tell}
-use Rattle.rapid_line.proofs.Marked.{compared}
+use Rattle.rapid_line.proofs.TellProperties.{compared}
 use Rattle.rapid_line.proofs.marks.places.Goals as goal
 
 pub returns : goal.returns

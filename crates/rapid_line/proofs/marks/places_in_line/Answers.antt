@@ -1,4 +1,4 @@
-use Rattle.rapid_line.proofs.Marked.{told_in_line}
+use Rattle.rapid_line.proofs.TellProperties.{told_in_line}
 use Rattle.rapid_line.proofs.marks.places_in_line.Goals as goal
 
 pub returns : goal.returns

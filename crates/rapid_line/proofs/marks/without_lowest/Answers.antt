@@ -1,5 +1,5 @@
 use Rattle.std.proofs.Common.{◌<◌, arith}
-use Rattle.rapid_line.proofs.Marked.{others_kept, others_later, one_fewer}
+use Rattle.rapid_line.proofs.TellProperties.{others_kept, others_later, one_fewer}
 use Rattle.rapid_line.proofs.marks.without_lowest.Goals as goal
 
 pub returns : goal.returns

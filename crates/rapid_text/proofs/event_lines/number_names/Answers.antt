@@ -5,7 +5,7 @@ use Rattle.rapid_text.specs.declared.causes.Kind.TheVariants as kinds
 use Rattle.rapid_text.specs.Tables.{Tables, number_in}
 use Rattle.rapid_text.specs.Events.{named_event}
 use Rattle.rapid_text.proofs.NameGrowth.{numbered_ok}
-use Rattle.rapid_line.proofs.Steps.{where_err}
+use Rattle.rapid_line.proofs.ReadingProperties.{where_err}
 use Rattle.rapid_text.proofs.NewNames.{read_after_first, read_after_second}
 use Rattle.rapid_text.proofs.event_lines.number_names.Goals as goal
 

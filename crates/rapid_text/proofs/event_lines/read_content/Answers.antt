@@ -1,4 +1,4 @@
-use Rattle.rapid_text.proofs.Lines.{content_known}
+use Rattle.rapid_text.proofs.ContentProperties.{content_known}
 use Rattle.rapid_text.proofs.event_lines.read_content.Goals as goal
 
 pub returns-in-Some-clause-exact : goal.returns-in-Some-clause-exact

@@ -1,8 +1,8 @@
 use Rattle.std.proofs.Common.{ℕ, [], arith, length-append, refl, rules, take}
 use Rattle.std.proofs.KnownBytes.{Consumes-nil}
 use Rattle.std.proofs.lemmas.List.{length-replicate, length-take-le}
-use Rattle.rapid_text.proofs.FeedLaws.{pulled_more}
-use Rattle.rapid_text.proofs.TurnsLaws.{pulled_again, pulled_never, within_turns}
+use Rattle.rapid_text.proofs.PulledProperties.{pulled_more}
+use Rattle.rapid_text.proofs.TurnsProperties.{pulled_again, pulled_never, within_turns}
 use Rattle.rapid_text.proofs.feeding.feed_all.Goals as goal
 
 pub pulls-init : goal.pulls-init

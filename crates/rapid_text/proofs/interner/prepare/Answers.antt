@@ -1,7 +1,7 @@
 use Rattle.std.proofs.Common.{◌≡◌, Some, ◌∙◌, ap, sym, refl, length, arith}
 use Rattle.std.specs.Prelude.{slice_get}
 use Rattle.std.proofs.lemmas.Option.{slice_get_read}
-use Rattle.rapid_text.proofs.EntryLaws.{right_empty, right_put}
+use Rattle.rapid_text.proofs.NumberCacheProperties.{right_empty, right_put}
 use Rattle.rapid_text.proofs.interner.prepare.Goals as goal
 
 pub returns-in_err-reset : goal.returns-in_err-reset

@@ -1,4 +1,4 @@
-use Rattle.rapid_text.proofs.Begins.{begins_events, begins_fault}
+use Rattle.rapid_text.proofs.BeginsAtProperties.{begins_events, begins_fault}
 use Rattle.rapid_text.proofs.laws.nothing_before.Goals as goal
 
 pub returns : goal.returns

@@ -1,4 +1,4 @@
-use Rattle.rapid_text.proofs.Joined.{joined_ends, joined_stops, joined_closes}
+use Rattle.rapid_text.proofs.PushedProperties.{joined_ends, joined_stops, joined_closes}
 use Rattle.rapid_text.proofs.laws.pieces_are_one_text.Goals as goal
 
 pub returns : goal.returns

@@ -3,9 +3,9 @@ use Rattle.std.proofs.Math.Bool.{or-false}
 use Rattle.rapid_text.specs.Cutting.{Cutting, FailsAt}
 use Rattle.rapid_text.specs.Pulling.{pulling_of}
 use Rattle.rapid_text.proofs.NameGrowth.{TablesGrow-trans, TablesGrow-same}
-use Rattle.rapid_text.proofs.Pulling.{runs_on, no_event, grown, handed_on, after_push, push_fails}
-use Rattle.rapid_text.proofs.Pulling.{at_end, closes_text, end_fails, end_begins, takes_more}
-use Rattle.rapid_text.proofs.TurnsLaws.{one_turn}
+use Rattle.rapid_text.proofs.PullingProperties.{runs_on, no_event, grown, handed_on, after_push, push_fails}
+use Rattle.rapid_text.proofs.PullingProperties.{at_end, closes_text, end_fails, end_begins, takes_more}
+use Rattle.rapid_text.proofs.TurnsProperties.{one_turn}
 use Rattle.rapid_text.proofs.reader.next_event.Goals as goal
 
 pub returns-in_err-event-in-Ok-eq0-clause-grows : goal.returns-in_err-event-in-Ok-eq0-clause-grows

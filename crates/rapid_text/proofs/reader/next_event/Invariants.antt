@@ -2,7 +2,7 @@ use Rattle.std.proofs.Common.{◌≡◌, ◌-◌, false}
 use Rattle.rapid_text.specs.Pulling.{pulling_of, TakeBytes, TakeFew}
 use Rattle.rapid_text.specs.Turns.{PulledTimes}
 use Rattle.rapid_text.specs.Tables.{TablesGrow}
-use Rattle.rapid_text.proofs.Pulling.{Running}
+use Rattle.rapid_text.proofs.PullingProperties.{Running}
 use Rattle.rapid_text.proofs.reader.next_event.Given as goal
 
 abbrev pub invariant-pulls : goal.invariant-pulls

@@ -5,8 +5,8 @@ use Rattle.rapid_text.specs.declared.causes.Kind.{Kind}
 use Rattle.rapid_text.specs.declared.causes.Kind.TheVariants as kinds
 use Rattle.rapid_text.specs.Tables.{name_at}
 use Rattle.rapid_text.specs.Events.{named_by, kind_of}
-use Rattle.rapid_text.proofs.Putting.{put_both, put_same}
-use Rattle.rapid_text.proofs.Written.{name_found, event_parts}
+use Rattle.rapid_text.proofs.PutsProperties.{put_both, put_same}
+use Rattle.rapid_text.proofs.WriteEventLaws.{name_found, event_parts}
 use Rattle.rapid_text.proofs.writing.put_event.Goals as goal
 
 pub returns-clause-ok : goal.returns-clause-ok

@@ -1,6 +1,6 @@
 use Rattle.std.proofs.Common.{List, ℕ, [], ◌∷◌, ◌++◌, ap₂, ◌∙◌}
 use Rattle.std.specs.Prelude.{codes}
-use Rattle.rapid_text.proofs.Putting.{put_both, put_same, all_flushed}
+use Rattle.rapid_text.proofs.PutsProperties.{put_both, put_same, all_flushed}
 use Rattle.rapid_text.proofs.writing.write_fault.Goals as goal
 
 pub returns-clause-ok : goal.returns-clause-ok

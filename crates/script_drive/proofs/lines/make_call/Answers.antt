@@ -3,8 +3,8 @@ use Rattle.std.proofs.lemmas.Bool.{false≢true}
 use Rattle.event_core.specs.declared.events.Op.TheVariants.{Fork, Join}
 use Rattle.script_drive.specs.Faults.{IsFaultOf}
 use Rattle.script_drive.specs.Workers.{Done}
-use Rattle.script_drive.proofs.Calls.{next_forked, next_joined}
-use Rattle.script_drive.proofs.Runs.{call_does, may_add, may_join, may_swap}
+use Rattle.script_drive.proofs.ReachProperties.{next_forked, next_joined}
+use Rattle.script_drive.proofs.IsRunOfProperties.{call_does, may_add, may_join, may_swap}
 use Rattle.script_drive.proofs.ScriptFaults.{act_fits, act_halts, held_back, held_used_up, join_waits}
 use Rattle.script_drive.proofs.ScriptFaults.{line_refusal, swap_refusal_of}
 use Rattle.script_drive.proofs.lines.make_call.Goals as goal

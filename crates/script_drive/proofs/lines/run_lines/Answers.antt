@@ -2,8 +2,8 @@ use Rattle.std.proofs.Common.{rules, ◌≡◌, ◌+◌, ◌∙◌, arith, sym, 
 use Rattle.script_drive.specs.Ends.{PassedGate}
 use Rattle.script_drive.specs.Lines.{lines_by}
 use Rattle.script_drive.specs.Workers.{HasDone, Serves}
-use Rattle.script_drive.proofs.Progress.{all_done, done_at, first_done, next_line, other_left}
-use Rattle.script_drive.proofs.Progress.{other_taken, passed_at}
+use Rattle.script_drive.proofs.HasDoneProperties.{all_done, done_at, first_done, next_line, other_left}
+use Rattle.script_drive.proofs.HasDoneProperties.{other_taken, passed_at}
 use Rattle.script_drive.proofs.ScriptFaults.{line_at, next_at}
 use Rattle.script_drive.proofs.lines.run_lines.Goals as goal
 

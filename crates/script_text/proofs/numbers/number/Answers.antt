@@ -4,7 +4,7 @@ use Rattle.std.specs.List.{list_all}
 use Rattle.std.proofs.lemmas.Bool.{eqb-true}
 use Rattle.std.proofs.lemmas.List.{take_all}
 use Rattle.std.proofs.lemmas.List.Folds.{list_all_more}
-use Rattle.rapid_line.proofs.Steps.{positive}
+use Rattle.rapid_line.proofs.ReadingProperties.{positive}
 use Rattle.script_text.specs.Numbers.{decimal_value}
 use Rattle.script_text.proofs.Digits.{too_large, one_more, no_digit, all_digits, no_length, too_many}
 use Rattle.script_text.proofs.numbers.number.Goals as goal

@@ -1,5 +1,5 @@
 use Rattle.std.proofs.Common.{sym, ◌∙◌}
-use Rattle.script_text.proofs.Marking.{own_named, child_named, target_named}
+use Rattle.script_text.proofs.MarksProperties.{own_named, child_named, target_named}
 use Rattle.script_text.proofs.reached.are_marked.Goals as goal
 
 pub bounds-marks-thread : goal.bounds-marks-thread

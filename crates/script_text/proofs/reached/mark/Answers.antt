@@ -1,7 +1,7 @@
 use Rattle.std.proofs.Common.{◌≡◌, sym, ◌∙◌, subst, refl, inr, true}
 use Rattle.event_core.specs.declared.ids.ThreadId.{ThreadId}
 use Rattle.script_text.specs.Marks.{is_marked}
-use Rattle.script_text.proofs.Marking.{own_named, child_named, sets}
+use Rattle.script_text.proofs.MarksProperties.{own_named, child_named, sets}
 use Rattle.script_text.proofs.reached.mark.Goals as goal
 
 pub bounds-marks-thread : goal.bounds-marks-thread

@@ -1,6 +1,6 @@
 use Rattle.std.proofs.Common.{sym, ◌∙◌}
 use Rattle.std.proofs.lemmas.Bool.{eqb-true}
-use Rattle.script_text.proofs.Marking.{set_none}
+use Rattle.script_text.proofs.MarksProperties.{set_none}
 use Rattle.script_text.proofs.reached.mark_main.Goals as goal
 
 pub returns-then-is_empty : goal.returns-then-is_empty

@@ -1,7 +1,7 @@
 use Rattle.std.proofs.Common.{◌≡◌, List, Bool, true, false, sym, subst, ◌∙◌, arith, ap, rules, set}
 use Rattle.std.specs.Prelude.{replicate}
 use Rattle.script_text.specs.Marks.{is_marked}
-use Rattle.script_text.proofs.Marking.{all_marked, written, written_len, main_reached, main_marked}
+use Rattle.script_text.proofs.MarksProperties.{all_marked, written, written_len, main_reached, main_marked}
 use Rattle.script_text.proofs.reached.reached_threads.Goals as goal
 
 pub returns-clause-all : goal.returns-clause-all

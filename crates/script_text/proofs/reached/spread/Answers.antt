@@ -1,7 +1,7 @@
 use Rattle.std.proofs.Common.{◌≡◌, ◌<◌, ℕ, Bool, true, Some, ap, sym, ◌∙◌, subst}
 use Rattle.std.specs.Prelude.{if◌then◌else◌}
 use Rattle.std.proofs.lemmas.Option.{slice_get-get_or}
-use Rattle.script_text.proofs.Marking.{marks_reached, keeps_line, pass_line, pass_ends}
+use Rattle.script_text.proofs.MarksProperties.{marks_reached, keeps_line, pass_line, pass_ends}
 use Rattle.script_text.proofs.reached.spread.Goals as goal
 use Rattle.script_text.proofs.reached.spread.Goals.{then-mark, else-mark}
 

@@ -1,5 +1,5 @@
 use Rattle.script_text.specs.Marks.{MarksReached, Keeps}
-use Rattle.script_text.proofs.Marking.{Passed}
+use Rattle.script_text.proofs.MarksProperties.{Passed}
 use Rattle.script_text.proofs.reached.spread.Given as goal
 
 abbrev pub invariant-lines : goal.invariant-lines

@@ -2,7 +2,7 @@ use Rattle.std.proofs.Common.{refl, sym, subst}
 use Rattle.rapid_text.specs.Turns.{IsCutShort}
 use Rattle.script_text.specs.declared.causes.ScriptFault.{ScriptFault}
 use Rattle.script_text.specs.Readings.{IsFault, progress}
-use Rattle.script_text.proofs.Faults.{stopped_fault, read_fault, end_fault, all_draft}
+use Rattle.script_text.proofs.IsFaultProperties.{stopped_fault, read_fault, end_fault, all_draft}
 use Rattle.script_text.proofs.readings.read_lines.Goals as goal
 
 pub returns-in-Stopped-clause-fault : goal.returns-in-Stopped-clause-fault

@@ -1,10 +1,10 @@
 use Rattle.std.proofs.Common.{ap, ◌∙◌, refl, sym}
 use Rattle.std.proofs.lemmas.Bool.{false≢true}
 use Rattle.rapid_line.specs.Lines.{Lines}
-use Rattle.rapid_text.proofs.Pieces.{goes_down}
+use Rattle.rapid_text.proofs.PushesProperties.{goes_down}
 use Rattle.script_text.specs.Readings.{progress}
 use Rattle.script_text.specs.ReadingLaws.{takes_none, takes_more, stops_later}
-use Rattle.script_text.proofs.Steps.{takes_line, takes_rest, ended_stops, long_stops, no_room}
+use Rattle.script_text.proofs.TakesProperties.{takes_line, takes_rest, ended_stops, long_stops, no_room}
 use Rattle.script_text.proofs.readings.read_piece.Goals as goal
 
 pub returns-then-not-has_room-clause-fault : goal.returns-then-not-has_room-clause-fault

@@ -1,8 +1,8 @@
 use Rattle.std.proofs.Common.{◌<◌, List, Bool, refl, subst, inr, arith}
 use Rattle.script_text.specs.Scripts.{Parsed}
 use Rattle.script_text.specs.Marks.{IsFirstUnmarked, AllMarked}
-use Rattle.script_text.proofs.Marking.{first_unreached}
-use Rattle.script_text.proofs.Whole.{below, is_script, some_thread}
+use Rattle.script_text.proofs.MarksProperties.{first_unreached}
+use Rattle.script_text.proofs.IsScriptProperties.{below, is_script, some_thread}
 use Rattle.script_text.proofs.script.check_forks.Goals as goal
 
 pub reached_threads-requires : goal.reached_threads-requires

@@ -1,4 +1,4 @@
-use Rattle.section_sum.proofs.Steps.{others_leave_them}
+use Rattle.section_sum.proofs.StandsForProperties.{others_leave_them}
 use Rattle.section_sum.proofs.laws.others_leave_them.Goals as goal
 
 pub returns : goal.returns

@@ -4,11 +4,11 @@ use Rattle.std.specs.Prelude.{nat_eq}
 use Rattle.section_sum.specs.Cell.{cell_at, closed_as}
 use Rattle.section_sum.specs.Cells.{lock_at}
 use Rattle.section_sum.specs.LockSums.{LockSum, no_kept, kept_at}
-use Rattle.section_sum.proofs.Keeping.{kept_other}
+use Rattle.section_sum.proofs.IsKeptProperties.{kept_other}
 use Rattle.section_sum.specs.Entries.{HasClosed}
-use Rattle.section_sum.proofs.Passing.{one_lock, closed_none}
-use Rattle.section_sum.proofs.Sayings.{kept_set, kept_read, kept_back, says_other, says_ended}
-use Rattle.section_sum.proofs.Sayings.{ended_changed, ended_none}
+use Rattle.section_sum.proofs.LocksProperties.{one_lock, closed_none}
+use Rattle.section_sum.proofs.LockSumsProperties.{kept_set, kept_read, kept_back, says_other, says_ended}
+use Rattle.section_sum.proofs.LockSumsProperties.{ended_changed, ended_none}
 use Rattle.section_sum.proofs.locks.close_under.Goals as goal
 
 pub close-requires : goal.close-requires

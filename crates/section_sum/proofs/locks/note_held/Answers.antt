@@ -3,10 +3,10 @@ use Rattle.std.proofs.lemmas.Bool.{eq-eqb}
 use Rattle.event_core.specs.declared.ids.LockId.{LockId}
 use Rattle.section_sum.specs.Cells.{cell_place}
 use Rattle.section_sum.specs.Entries.{entries_of}
-use Rattle.section_sum.proofs.Standing.{own_place}
-use Rattle.section_sum.proofs.Keeping.{marks_changed, kept_other}
-use Rattle.section_sum.proofs.Passing.{is_held_at, alone_still, noted_step}
-use Rattle.section_sum.proofs.Sayings.{here_at, kept_read, kept_set, says_other, says_marked}
+use Rattle.section_sum.proofs.CellsProperties.{own_place}
+use Rattle.section_sum.proofs.IsKeptProperties.{marks_changed, kept_other}
+use Rattle.section_sum.proofs.LocksProperties.{is_held_at, alone_still, noted_step}
+use Rattle.section_sum.proofs.LockSumsProperties.{here_at, kept_read, kept_set, says_other, says_marked}
 use Rattle.section_sum.proofs.locks.note_held.Goals as goal
 
 pub index_mut-kept-requires : goal.index_mut-kept-requires

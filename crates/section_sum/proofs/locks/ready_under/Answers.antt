@@ -1,6 +1,6 @@
 use Rattle.std.proofs.Common.{sym, ◌∙◌}
 use Rattle.std.proofs.lemmas.Bool.{le-ltb}
-use Rattle.section_sum.proofs.Keeping.{no_lock}
+use Rattle.section_sum.proofs.IsKeptProperties.{no_lock}
 use Rattle.section_sum.proofs.locks.ready_under.Goals as goal
 
 pub returns-else-at-locks : goal.returns-else-at-locks

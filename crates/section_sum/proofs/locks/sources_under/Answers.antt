@@ -1,8 +1,8 @@
 use Rattle.std.proofs.Common.{sym, ap, ◌∙◌}
 use Rattle.section_sum.specs.declared.cell.Cell.{Cell}
 use Rattle.section_sum.specs.Cell.{sources_in}
-use Rattle.section_sum.proofs.Keeping.{no_lock}
-use Rattle.section_sum.proofs.Sayings.{none_there, none_met}
+use Rattle.section_sum.proofs.IsKeptProperties.{no_lock}
+use Rattle.section_sum.proofs.LockSumsProperties.{none_there, none_met}
 use Rattle.section_sum.proofs.locks.sources_under.Goals as goal
 
 pub returns-then-at-locks : goal.returns-then-at-locks

@@ -1,5 +1,5 @@
 use Rattle.std.proofs.Common.{length, [], ◌∷◌, ◌++◌}
-use Rattle.seq_monitor.proofs.Replaying.{last_is_latest}
+use Rattle.seq_monitor.proofs.IsReplayProperties.{last_is_latest}
 use Rattle.seq_monitor.proofs.parts.verdict_on_last.Goals as goal
 
 pub returns : goal.returns

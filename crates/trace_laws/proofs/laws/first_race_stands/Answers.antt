@@ -1,4 +1,4 @@
-use Rattle.trace_laws.proofs.Exchanges.{changed_races, kept_before, race_kept}
+use Rattle.trace_laws.proofs.IsReorderedProperties.{changed_races, kept_before, race_kept}
 use Rattle.trace_laws.proofs.laws.first_race_stands.Goals as goal
 
 pub returns : goal.returns

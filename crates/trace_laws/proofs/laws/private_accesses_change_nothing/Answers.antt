@@ -1,4 +1,4 @@
-use Rattle.trace_laws.proofs.Private.{says_the_same}
+use Rattle.trace_laws.proofs.SaysTheSameProperties.{says_the_same}
 use Rattle.trace_laws.proofs.laws.private_accesses_change_nothing.Goals as goal
 
 pub returns : goal.returns

@@ -3,8 +3,8 @@ use Rattle.rapid_text.specs.Tables.{Tables}
 use Rattle.trace_report.specs.declared.counts.Counts.{Counts}
 use Rattle.trace_report.specs.Checked.{counts_of}
 use Rattle.trace_report.specs.Judging.{RanOut, ReachesLine}
-use Rattle.trace_report.proofs.TellingLaws.{fault_checks, fault_read, found_reached, if_found}
-use Rattle.trace_report.proofs.TellingLaws.{trace_checks}
+use Rattle.trace_report.proofs.TellsTextProperties.{fault_checks, fault_read, found_reached, if_found}
+use Rattle.trace_report.proofs.TellsTextProperties.{trace_checks}
 use Rattle.trace_report.proofs.checking.check.Goals as goal
 
 pub returns-in-Ok-write-clause-checks : goal.returns-in-Ok-write-clause-checks

@@ -1,7 +1,7 @@
 use Rattle.std.proofs.Common.{◌<◌, List, ℕ, sym, subst, length}
 use Rattle.trace_report.specs.Judging.{Takes}
 use Rattle.trace_report.specs.JudgingLaws.{takes_none, takes_more, stops_later}
-use Rattle.trace_report.proofs.Feeds.{takes_event, takes_rest, fewer, text_stops, event_stops}
+use Rattle.trace_report.proofs.TakesProperties.{takes_event, takes_rest, fewer, text_stops, event_stops}
 use Rattle.trace_report.proofs.judged_text.feed_lines.Goals as goal
 
 pub lines-init : goal.lines-init

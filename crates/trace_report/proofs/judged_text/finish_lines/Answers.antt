@@ -1,8 +1,9 @@
 use Rattle.std.proofs.Common.{[], subst}
 use Rattle.rapid_text.specs.Cutting.{judged, ClosesAt}
 use Rattle.rapid_text.specs.Texts.{ended}
-use Rattle.trace_report.proofs.Playing.{declined, event_closed, close_stops, close_whole, first_reached}
-use Rattle.trace_report.proofs.Ending.{ends_event, ends_nothing}
+use Rattle.trace_report.proofs.FindingAfterProperties.{declined, event_closed, close_stops, close_whole}
+use Rattle.trace_report.proofs.FindingAfterProperties.{first_reached}
+use Rattle.trace_report.proofs.EndsLegalProperties.{ends_event, ends_nothing}
 use Rattle.trace_report.proofs.judged_text.finish_lines.Goals as goal
 
 pub returns-in-Err-clause-fault : goal.returns-in-Err-clause-fault

@@ -3,7 +3,7 @@ use Rattle.event_core.specs.declared.bounds.Limits.{Limits}
 use Rattle.rapid_text.specs.Tables.{no_names}
 use Rattle.rapid_text.specs.Texts.{judgement, lines_of}
 use Rattle.trace_report.specs.Findings.{finding, log_of}
-use Rattle.trace_report.proofs.Found.{found_legal, found_fault, found_refused}
+use Rattle.trace_report.proofs.FindingProperties.{found_legal, found_fault, found_refused}
 use Rattle.trace_report.proofs.Values.{StoreNothing, judged_nothing}
 use Rattle.trace_report.proofs.laws.finding_is_the_first.Goals as goal
 

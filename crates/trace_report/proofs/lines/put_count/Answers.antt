@@ -1,6 +1,6 @@
 use Rattle.std.proofs.Common.{ℕ, List, ◌++◌, ap₂, ◌∙◌}
 use Rattle.std.proofs.lemmas.Result.{on_ok_weaker}
-use Rattle.rapid_text.proofs.Putting.{put_both, put_same}
+use Rattle.rapid_text.proofs.PutsProperties.{put_both, put_same}
 use Rattle.trace_report.proofs.lines.put_count.Goals as goal
 
 pub returns-clause-ok : goal.returns-clause-ok

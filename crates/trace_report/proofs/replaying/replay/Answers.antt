@@ -4,8 +4,8 @@ use Rattle.rapid_text.specs.Tables.{Tables}
 use Rattle.trace_report.specs.declared.summary.Summary.{Summary}
 use Rattle.trace_report.specs.Judging.{RanOut, ReachesLine, line_of}
 use Rattle.trace_report.specs.Reports.{AreNamed}
-use Rattle.trace_report.proofs.TellingLaws.{fault_read, fault_tells, found_reached, if_found}
-use Rattle.trace_report.proofs.TellingLaws.{trace_tells}
+use Rattle.trace_report.proofs.TellsTextProperties.{fault_read, fault_tells, found_reached, if_found}
+use Rattle.trace_report.proofs.TellsTextProperties.{trace_tells}
 use Rattle.trace_report.proofs.replaying.replay.Goals as goal
 
 pub tell_trace-answer-requires : goal.tell_trace-answer-requires

@@ -1,7 +1,7 @@
 use Rattle.std.proofs.Common.{ap, ◌∙◌}
 use Rattle.std.proofs.lemmas.List.{take_all}
 use Rattle.std.proofs.lemmas.Option.{slice_get-get_or}
-use Rattle.rapid_text.proofs.Putting.{put_both, put_same}
+use Rattle.rapid_text.proofs.PutsProperties.{put_both, put_same}
 use Rattle.event_core.specs.declared.replies.Verdict.TheVariants.{Racy}
 use Rattle.verdict_list.specs.declared.verdicts.Race.{Race}
 use Rattle.trace_report.specs.Reports.{race_line}

@@ -2,7 +2,7 @@ use Rattle.std.proofs.Common.{List, ℕ, ◌++◌, ap, subst, ◌∙◌, append-
 use Rattle.trace_report.specs.declared.summary.Summary.{Summary}
 use Rattle.rapid_text.specs.Pages.{Puts}
 use Rattle.trace_report.specs.Reports.{report_of, summary_line, race_lines}
-use Rattle.rapid_text.proofs.Putting.{put_both, put_same, all_written}
+use Rattle.rapid_text.proofs.PutsProperties.{put_both, put_same, all_written}
 use Rattle.trace_report.proofs.reporting.report.Goals as goal
 
 pub returns-clause-ok : goal.returns-clause-ok

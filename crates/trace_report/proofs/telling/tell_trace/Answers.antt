@@ -2,7 +2,7 @@ use Rattle.std.proofs.Common.{List, sym, ap, subst, ◌∙◌}
 use Rattle.event_core.specs.declared.events.Event.{Event}
 use Rattle.seq_monitor.specs.Monitored.{AreVerdicts}
 use Rattle.trace_report.specs.Reports.{AreNamed, report_of, summary_of}
-use Rattle.trace_report.proofs.TellingLaws.{verdicts_within}
+use Rattle.trace_report.proofs.TellsTextProperties.{verdicts_within}
 use Rattle.trace_report.proofs.telling.tell_trace.Goals as goal
 
 pub report-requires-clause-verdicts : goal.report-requires-clause-verdicts

@@ -1,4 +1,4 @@
-use Rattle.trace_report.proofs.Whole.{trace_is_found, end_is_found}
+use Rattle.trace_report.proofs.WholeTexts.{trace_is_found, end_is_found}
 use Rattle.trace_report.proofs.whole_text.judge_text.Goals as goal
 
 pub returns-in-Err-clause-fault : goal.returns-in-Err-clause-fault

@@ -1,5 +1,5 @@
 use Rattle.std.proofs.Common.{[], sym, subst}
-use Rattle.trace_report.proofs.Whole.{cut_says_nothing, stop_found, taken_whole}
+use Rattle.trace_report.proofs.WholeTexts.{cut_says_nothing, stop_found, taken_whole}
 use Rattle.trace_report.proofs.TruncatedTexts.{truncated_text}
 use Rattle.trace_report.proofs.whole_text.read_text.Goals as goal
 

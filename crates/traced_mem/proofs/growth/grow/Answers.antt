@@ -1,8 +1,8 @@
 use Rattle.std.proofs.Common.{List, length, ap, sym, subst, arith}
 use Rattle.traced_mem.specs.declared.rows.ThreadRow.{ThreadRow}
 use Rattle.traced_mem.specs.Room.{Grown}
-use Rattle.traced_mem.proofs.Growing.{grown_more}
-use Rattle.traced_mem.proofs.Stepping.{given_back}
+use Rattle.traced_mem.proofs.GrownProperties.{grown_more}
+use Rattle.traced_mem.proofs.IsReadyProperties.{given_back}
 use Rattle.traced_mem.proofs.growth.grow.Goals as goal
 
 pub returns-clause-threads : goal.returns-clause-threads

@@ -1,5 +1,5 @@
 use Rattle.traced_mem.specs.Tables.{locks_of}
-use Rattle.traced_mem.proofs.Stepping.{threads_by}
+use Rattle.traced_mem.proofs.IsReadyProperties.{threads_by}
 use Rattle.traced_mem.proofs.step.apply_rows.Goals as goal
 
 pub returns-in-Acquire-clause-threads : goal.returns-in-Acquire-clause-threads

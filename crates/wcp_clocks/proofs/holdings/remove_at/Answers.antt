@@ -3,7 +3,7 @@ use Rattle.std.proofs.lemmas.List.{get_or_default}
 use Rattle.event_core.specs.declared.ids.LockId.{LockId}
 use Rattle.event_core.specs.Rows.{with_row}
 use Rattle.wcp_clocks.specs.HeldLists.{HeldList, nothing_held, numbers_of, held_of}
-use Rattle.wcp_clocks.proofs.Lists.{held_set, numbers_without, places_set}
+use Rattle.wcp_clocks.proofs.HeldListsProperties.{held_set, numbers_without, places_set}
 use Rattle.wcp_clocks.proofs.holdings.remove_at.Goals as goal
 
 pub returns-clause-held : goal.returns-clause-held

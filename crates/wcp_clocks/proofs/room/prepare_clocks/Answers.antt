@@ -1,4 +1,4 @@
-use Rattle.wcp_clocks.proofs.Growth.{order_grown, rows_grown}
+use Rattle.wcp_clocks.proofs.GrownForProperties.{order_grown, rows_grown}
 use Rattle.wcp_clocks.proofs.room.prepare_clocks.Goals as goal
 
 pub returns-in_err-prepare_for-clause-grown : goal.returns-in_err-prepare_for-clause-grown

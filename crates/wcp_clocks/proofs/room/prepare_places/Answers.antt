@@ -2,7 +2,7 @@ use Rattle.std.proofs.Common.{sym, subst}
 use Rattle.std.proofs.lemmas.Result.{on_ok_weaker}
 use Rattle.lock_queues.specs.Queues.{is_ready}
 use Rattle.wcp_clocks.specs.Parts.{HasPlaces}
-use Rattle.wcp_clocks.proofs.Growth.{queues_grown, queue_made}
+use Rattle.wcp_clocks.proofs.GrownForProperties.{queues_grown, queue_made}
 use Rattle.wcp_clocks.proofs.room.prepare_places.Goals as goal
 
 pub returns-in_ok-prepare-in-Acquire-clause-queues : goal.returns-in_ok-prepare-in-Acquire-clause-queues

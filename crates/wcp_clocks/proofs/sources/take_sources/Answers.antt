@@ -3,7 +3,7 @@ use Rattle.std.proofs.lemmas.List.{map_more, length-map, length-take-le}
 use Rattle.event_core.specs.declared.ids.LockId.{LockId}
 use Rattle.wcp_clocks.specs.HeldLists.{numbers_of}
 use Rattle.wcp_clocks.proofs.RowsKept.{thread_kept}
-use Rattle.wcp_clocks.proofs.Taking.{HasTaken, taken_begins, taken_on}
+use Rattle.wcp_clocks.proofs.TakeLaws.{HasTaken, taken_begins, taken_on}
 use Rattle.wcp_clocks.proofs.sources.take_sources.Goals as goal
 
 pub loop-lock-init : goal.loop-lock-init

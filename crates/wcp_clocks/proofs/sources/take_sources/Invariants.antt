@@ -1,7 +1,7 @@
 use Rattle.std.proofs.Common.{take}
 use Rattle.lock_queues.specs.Queues.{closed_of}
 use Rattle.wcp_clocks.specs.HeldLists.{numbers_of}
-use Rattle.wcp_clocks.proofs.Taking.{HasTaken}
+use Rattle.wcp_clocks.proofs.TakeLaws.{HasTaken}
 use Rattle.wcp_clocks.proofs.sources.take_sources.Given as goal
 
 abbrev pub invariant-loop-lock : goal.invariant-loop-lock

@@ -10,8 +10,7 @@ use Rattle.section_sum.specs.Sums.{sources_of}
 use Rattle.wcp_clocks.specs.declared.source_clocks.SourceClocks.{SourceClocks}
 use Rattle.wcp_clocks.specs.MetReleases.{Released, rest, most_threads}
 use Rattle.wcp_clocks.proofs.RowsKept.{thread_kept}
-use Rattle.wcp_clocks.proofs.Taking.{IsTakingAll, taking_begins, taking_on, taking_next}
-use Rattle.wcp_clocks.proofs.Taking.{taking_ends}
+use Rattle.wcp_clocks.proofs.TakeLaws.{IsTakingAll, taking_begins, taking_on, taking_next, taking_ends}
 use Rattle.wcp_clocks.proofs.sources.take_under.Goals as goal
 
 at_most_two : (k : AccessKind) → most_sources k ≤ 2

@@ -1,6 +1,6 @@
 use Rattle.lock_queues.specs.Queues.{closed_of}
 use Rattle.wcp_clocks.specs.MetReleases.{rest, most_threads}
-use Rattle.wcp_clocks.proofs.Taking.{IsTakingAll}
+use Rattle.wcp_clocks.proofs.TakeLaws.{IsTakingAll}
 use Rattle.wcp_clocks.proofs.sources.take_under.Given as goal
 
 abbrev pub invariant-loop-release : goal.invariant-loop-release

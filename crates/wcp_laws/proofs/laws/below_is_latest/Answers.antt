@@ -1,4 +1,4 @@
-use Rattle.wcp_laws.proofs.Ordering.{below_is_latest}
+use Rattle.wcp_laws.proofs.ConditionsProperties.{below_is_latest}
 use Rattle.wcp_laws.proofs.laws.below_is_latest.Goals as goal
 
 pub returns : goal.returns

@@ -1,4 +1,4 @@
-use Rattle.wcp_laws.proofs.Ordering.{counted_earlier}
+use Rattle.wcp_laws.proofs.ConditionsProperties.{counted_earlier}
 use Rattle.wcp_laws.proofs.laws.counted_earlier.Goals as goal
 
 pub returns : goal.returns

@@ -1,4 +1,4 @@
-use Rattle.wcp_laws.proofs.Ordering.{releases_above}
+use Rattle.wcp_laws.proofs.ConditionsProperties.{releases_above}
 use Rattle.wcp_laws.proofs.laws.releases_above.Goals as goal
 
 pub returns : goal.returns

@@ -1,4 +1,4 @@
-use Rattle.wcp_laws.proofs.Ordering.{strict_is_latest}
+use Rattle.wcp_laws.proofs.ConditionsProperties.{strict_is_latest}
 use Rattle.wcp_laws.proofs.laws.strict_is_latest.Goals as goal
 
 pub returns : goal.returns

@@ -3,8 +3,8 @@ use Rattle.event_core.specs.declared.events.Event.{Event}
 use Rattle.event_core.specs.Log.{Conflict}
 use Rattle.event_core.specs.Orderly.{Orderly}
 use Rattle.event_core.specs.Verdict.{Races}
-use Rattle.event_core.proofs.Legality.{orderly}
-use Rattle.trace_laws.proofs.Within.{below_hb}
+use Rattle.event_core.proofs.OrderlyProperties.{orderly}
+use Rattle.trace_laws.proofs.StrictIsWithinHb.{below_hb}
 use Rattle.witness.proofs.Neighbors.{unordered}
 use Rattle.witness.proofs.laws.neighbors_race.Goals as goal
 

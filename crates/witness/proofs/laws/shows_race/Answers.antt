@@ -1,5 +1,5 @@
-use Rattle.trace_laws.proofs.Repeated.{flipped}
-use Rattle.witness.proofs.Shown.{at_end, turned}
+use Rattle.trace_laws.proofs.RepeatsProperties.{flipped}
+use Rattle.witness.proofs.RaceAtEndProperties.{at_end, turned}
 use Rattle.witness.proofs.laws.shows_race.Goals as goal
 
 pub returns : goal.returns

@@ -1,6 +1,6 @@
 use Rattle.std.proofs.Common.{ℕ, List, ap, arith, slice_index}
 use Rattle.std.proofs.lemmas.Bool.{leb-true}
-use Rattle.witness.proofs.Counts.{all_counted}
+use Rattle.witness.proofs.IsCountProperties.{all_counted}
 use Rattle.witness.proofs.next.has_all.Goals as goal
 
 pub returns : goal.returns

@@ -1,5 +1,5 @@
 use Rattle.std.proofs.Common.{sym, ◌∙◌, refl}
-use Rattle.witness.proofs.Counts.{next_of}
+use Rattle.witness.proofs.IsCountProperties.{next_of}
 use Rattle.witness.proofs.next.is_next.Goals as goal
 
 pub returns-then-has_fork-clause-next : goal.returns-then-has_fork-clause-next

@@ -1,6 +1,6 @@
 use Rattle.std.proofs.Common.{Option, sym, subst, ◌∙◌, rules, IsSome}
 use Rattle.event_core.specs.declared.events.Event.{Event}
-use Rattle.event_core.proofs.Depth.{event_at}
+use Rattle.event_core.proofs.DepthProperties.{event_at}
 use Rattle.witness.proofs.tables.event_at.Goals as goal
 
 pub unwrap-requires : goal.unwrap-requires

@@ -6,10 +6,10 @@ use Rattle.event_core.specs.declared.ids.ThreadId.{ThreadId}
 use Rattle.event_core.specs.declared.ids.VarId.{VarId}
 use Rattle.event_core.specs.declared.events.Op.TheVariants.{Load}
 use Rattle.event_core.specs.Log.{Does}
-use Rattle.event_core.proofs.LogFacts.{does_op}
+use Rattle.event_core.proofs.LogProperties.{does_op}
 use Rattle.witness.specs.Links.{back}
 use Rattle.witness.specs.Indices.{below, last_store}
-use Rattle.witness.proofs.Indices.{none_early, early_more, none_read, store_noted}
+use Rattle.witness.proofs.IndicesProperties.{none_early, early_more, none_read, store_noted}
 use Rattle.witness.proofs.Entries.{each_more}
 use Rattle.witness.proofs.tables.find_links.Goals as goal
 

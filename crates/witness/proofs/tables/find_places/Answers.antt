@@ -6,7 +6,7 @@ use Rattle.event_core.specs.declared.ids.ThreadId.{ThreadId}
 use Rattle.event_core.specs.declared.events.Event.{Event}
 use Rattle.event_core.specs.Log.{Of}
 use Rattle.event_core.specs.Count.{events_of}
-use Rattle.event_core.proofs.LogFacts.{of_one}
+use Rattle.event_core.proofs.LogProperties.{of_one}
 use Rattle.witness.proofs.Ranks.{rank_small, counts_none, counts_more}
 use Rattle.witness.proofs.Entries.{each_more}
 use Rattle.witness.proofs.tables.find_places.Goals as goal

@@ -1,6 +1,6 @@
 use Rattle.std.proofs.Common.{ℕ, List, Option, None, ap, sym, ◌∙◌, refl, get_or}
-use Rattle.event_core.proofs.LogFacts.{does_op}
-use Rattle.witness.proofs.Walks.{next_after, walked}
+use Rattle.event_core.proofs.LogProperties.{does_op}
+use Rattle.witness.proofs.IsWalkProperties.{next_after, walked}
 use Rattle.witness.proofs.walk.admit.Goals as goal
 
 pub returns-clause-next : goal.returns-clause-next

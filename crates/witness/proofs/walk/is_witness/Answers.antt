@@ -7,7 +7,7 @@ use Rattle.event_core.specs.declared.bounds.Limits.{Limits}
 use Rattle.witness.specs.Indices.{events_at}
 use Rattle.witness.specs.Witness.{IsNext, ReadsAlike}
 use Rattle.witness.specs.Standing.{IsWalk}
-use Rattle.witness.proofs.Walks.{begun, next_after, each_place}
+use Rattle.witness.proofs.IsWalkProperties.{begun, next_after, each_place}
 use Rattle.witness.proofs.walk.is_witness.Goals as goal
 
 pub events-init : goal.events-init

@@ -1,7 +1,7 @@
 use Rattle.std.proofs.Common.{◌≡◌, ◌∙◌, ap, sym, Some}
 use Rattle.std.specs.Prelude.{slice_get}
 use Rattle.std.proofs.lemmas.Result.{on_ok_weaker}
-use Rattle.rapid_text.proofs.Putting.{put_both, put_same}
+use Rattle.rapid_text.proofs.PutsProperties.{put_both, put_same}
 use Rattle.witness_report.specs.Lines.{event_line}
 use Rattle.witness_report.proofs.lines.put_line.Goals as goal
 

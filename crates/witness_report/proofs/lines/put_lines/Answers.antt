@@ -1,6 +1,6 @@
 use Rattle.std.proofs.Common.{ap, ◌∙◌}
 use Rattle.std.proofs.lemmas.List.{take_all}
-use Rattle.rapid_text.proofs.Putting.{put_both, put_same}
+use Rattle.rapid_text.proofs.PutsProperties.{put_both, put_same}
 use Rattle.trace_report.proofs.Races as races
 use Rattle.witness_report.specs.Lines.{line_at, lines_at}
 use Rattle.witness_report.proofs.lines.put_lines.Goals as goal

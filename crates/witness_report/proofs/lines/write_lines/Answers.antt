@@ -1,4 +1,4 @@
-use Rattle.rapid_text.proofs.Putting.{put_both, all_flushed}
+use Rattle.rapid_text.proofs.PutsProperties.{put_both, all_flushed}
 use Rattle.witness_report.proofs.lines.write_lines.Goals as goal
 
 pub returns-clause-ok : goal.returns-clause-ok

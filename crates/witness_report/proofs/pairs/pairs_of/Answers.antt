@@ -2,7 +2,7 @@ use Rattle.std.proofs.Common.{◌≡◌, ◌∙◌, ◌≤◌, [], All, arith, r
 use Rattle.std.proofs.lemmas.List.Elements.{All-nil}
 use Rattle.std.proofs.lemmas.Option.{get_or_from_slice_get, slice_get_within}
 use Rattle.witness_report.specs.declared.pairs.Pair.{Pair}
-use Rattle.witness_report.proofs.PairLaws.{few_races, pairs_of_none, race_added}
+use Rattle.witness_report.proofs.PairsProperties.{few_races, pairs_of_none, race_added}
 use Rattle.witness_report.proofs.pairs.pairs_of.Goals as goal
 
 pub loop-race-init : goal.loop-race-init

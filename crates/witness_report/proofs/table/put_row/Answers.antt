@@ -1,6 +1,6 @@
 use Rattle.std.proofs.Common.{List, ℕ, ap}
 use Rattle.std.proofs.lemmas.Result.{on_ok_weaker}
-use Rattle.rapid_text.proofs.Putting.{put_both, put_same}
+use Rattle.rapid_text.proofs.PutsProperties.{put_both, put_same}
 use Rattle.trace_report.specs.Reports.{labelled}
 use Rattle.witness_report.specs.Found.{race_line_of}
 use Rattle.witness_report.proofs.table.put_row.Goals as goal

@@ -4,7 +4,7 @@ use Rattle.seq_monitor.specs.Monitored.{AreVerdicts}
 use Rattle.trace_report.specs.Reports.{AreNamed}
 use Rattle.witness_report.specs.declared.table.Row.{Row}
 use Rattle.witness_report.specs.Found.{IsWithin, race_in}
-use Rattle.witness_report.proofs.RowLaws.{rows_within}
+use Rattle.witness_report.proofs.AreRowsProperties.{rows_within}
 use Rattle.witness_report.proofs.table.show_pairs.Goals as goal
 
 pub write_rows-written-requires-clause-named : goal.write_rows-written-requires-clause-named

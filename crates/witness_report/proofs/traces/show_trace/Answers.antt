@@ -2,9 +2,9 @@ use Rattle.std.proofs.Common.{List, subst, sym}
 use Rattle.event_core.specs.declared.events.Event.{Event}
 use Rattle.rapid_text.specs.Tables.{Tables}
 use Rattle.trace_report.specs.Reports.{AreNamed}
-use Rattle.trace_report.proofs.TellingLaws.{fault_read}
+use Rattle.trace_report.proofs.TellsTextProperties.{fault_read}
 use Rattle.witness_report.specs.declared.shown.Shown.{Shown}
-use Rattle.witness_report.proofs.ShowingLaws.{fault_answered, trace_answered}
+use Rattle.witness_report.proofs.ShowingProperties.{fault_answered, trace_answered}
 use Rattle.witness_report.proofs.traces.show_trace.Goals as goal
 
 pub show-shown-requires : goal.show-shown-requires

@@ -1,7 +1,7 @@
 use Rattle.std.proofs.Common.{[], sym, subst, arith}
 use Rattle.std.proofs.lemmas.Grind.{common_steps}
 use Rattle.access_check.specs.Standing.{StandsFor}
-use Rattle.access_check.proofs.Beginning.{empty_stands}
+use Rattle.access_check.proofs.StandsForProperties.{empty_stands}
 use Rattle.access_check.proofs.accesses.Accesses.new.Goals as goal
 
 pub returns-clause-exact : goal.returns-clause-exact

@@ -5,7 +5,7 @@ use Rattle.access_check.specs.declared.variable_accesses.VariableAccesses.{Varia
 use Rattle.access_check.specs.LastAccesses.{AreNarrow}
 use Rattle.access_check.specs.VariableAccesses.{kept, of_kind}
 use Rattle.access_check.specs.Tables.{AccessTables, IsReadyFor, accesses_at, count_at, accesses_after}
-use Rattle.access_check.proofs.Stepping.{note_stands}
+use Rattle.access_check.proofs.NoteLaws.{note_stands}
 use Rattle.access_check.proofs.accesses.Accesses.note.Goals as goal
 
 -- a list that was lent whole is written back

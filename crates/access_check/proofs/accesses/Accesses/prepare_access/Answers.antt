@@ -1,5 +1,5 @@
 use Rattle.std.proofs.Common.{refl, arith}
-use Rattle.access_check.proofs.Room.{room_for}
+use Rattle.access_check.proofs.IsReadyForProperties.{room_for}
 use Rattle.access_check.proofs.accesses.Accesses.prepare_access.Goals as goal
 
 pub returns-clause-same : goal.returns-clause-same

@@ -1,7 +1,7 @@
 use Rattle.std.proofs.Common.{◌∷◌, [], ◌++◌, length, sym, subst}
 use Rattle.event_core.specs.Verdict.{IsVerdict}
 use Rattle.hb_clocks.specs.Counts.{counts_of}
-use Rattle.access_check.proofs.Judging.{verdict_stands}
+use Rattle.access_check.proofs.VerdictLaws.{verdict_stands}
 use Rattle.access_check.proofs.accesses.Accesses.verdict.Goals as goal
 
 pub returns-clause-verdict : goal.returns-clause-verdict

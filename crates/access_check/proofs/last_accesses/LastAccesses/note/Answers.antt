@@ -1,7 +1,7 @@
 use Rattle.std.proofs.Common.{ap, ◌∙◌}
 use Rattle.access_check.specs.declared.last_accesses.LastAccess.{LastAccess}
 use Rattle.access_check.specs.LastAccesses.{put}
-use Rattle.access_check.proofs.Room.{room_put}
+use Rattle.access_check.proofs.IsReadyForProperties.{room_put}
 use Rattle.access_check.proofs.last_accesses.LastAccesses.note.Goals as goal
 
 pub returns-clause-room : goal.returns-clause-room

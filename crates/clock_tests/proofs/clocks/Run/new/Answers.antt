@@ -2,7 +2,7 @@ use Rattle.std.proofs.Common.{◌≡◌, IfOk, subst, sym}
 use Rattle.hb_clocks.specs.State.{empty}
 use Rattle.hb_clocks.specs.Standing.{IsAtMost}
 use Rattle.hb_clocks.specs.Tables.{state_of}
-use Rattle.hb_clocks.proofs.Growth.{none_at_most}
+use Rattle.hb_clocks.proofs.IsAtMostProperties.{none_at_most}
 use Rattle.clock_tests.proofs.clocks.Run.new.Goals as goal
 
 pub invariant_of-result-clause-few : goal.invariant_of-result-clause-few

@@ -1,7 +1,7 @@
 use Rattle.std.proofs.Common.{◌+◌, subst, sym, arith}
 use Rattle.hb_clocks.specs.Standing.{IsAtMost}
 use Rattle.hb_clocks.specs.Tables.{state_of}
-use Rattle.hb_clocks.proofs.Growth.{at_most_more, grows_by_one}
+use Rattle.hb_clocks.proofs.IsAtMostProperties.{at_most_more, grows_by_one}
 use Rattle.clock_tests.proofs.clocks.Run.take.Goals as goal
 
 pub advance-requires-clause-few : goal.advance-requires-clause-few

@@ -1,5 +1,5 @@
 use Rattle.std.proofs.Common.{◌≤◌, arith}
-use Rattle.event_core.proofs.CountLaws.{counts_at_most}
+use Rattle.event_core.proofs.CountsProperties.{counts_at_most}
 use Rattle.event_core.proofs.laws.counts.count_is_unique.Goals as goal
 
 pub returns : goal.returns

@@ -1,4 +1,4 @@
-use Rattle.event_core.proofs.CountLaws.{counts_same}
+use Rattle.event_core.proofs.CountsProperties.{counts_same}
 use Rattle.event_core.proofs.laws.counts.equal_sets_have_equal_counts.Goals as goal
 
 pub returns : goal.returns

@@ -1,4 +1,4 @@
-use Rattle.event_core.proofs.ClockStep.{hb_new, new_hb}
+use Rattle.event_core.proofs.HbNewProperties.{hb_new, new_hb}
 use Rattle.event_core.proofs.laws.counts.hb_of_new_event.Goals as goal
 
 pub returns : goal.returns

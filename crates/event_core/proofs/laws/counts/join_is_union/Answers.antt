@@ -1,4 +1,4 @@
-use Rattle.event_core.proofs.CountLaws.{counts_union}
+use Rattle.event_core.proofs.CountsProperties.{counts_union}
 use Rattle.event_core.proofs.laws.counts.join_is_union.Goals as goal
 
 pub returns : goal.returns

@@ -1,5 +1,5 @@
 use Rattle.std.proofs.Common.{◌<◌, length, arith}
-use Rattle.event_core.proofs.CountLaws.{counts_longer}
+use Rattle.event_core.proofs.CountsProperties.{counts_longer}
 use Rattle.event_core.proofs.laws.counts.longer_log_keeps_counts.Goals as goal
 
 pub returns : goal.returns

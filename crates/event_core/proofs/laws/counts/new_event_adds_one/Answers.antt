@@ -1,4 +1,4 @@
-use Rattle.event_core.proofs.NewestFacts.{counts_new}
+use Rattle.event_core.proofs.StrictNewProperties.{counts_new}
 use Rattle.event_core.proofs.laws.counts.new_event_adds_one.Goals as goal
 
 pub returns : goal.returns

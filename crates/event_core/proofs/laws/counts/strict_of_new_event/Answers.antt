@@ -1,6 +1,6 @@
 use Rattle.std.proofs.Common.{[], ◌∷◌, ◌++◌}
-use Rattle.event_core.proofs.NewestFacts.{strict_new, new_strict}
-use Rattle.event_core.proofs.Legality.{orderly}
+use Rattle.event_core.proofs.StrictNewProperties.{strict_new, new_strict}
+use Rattle.event_core.proofs.OrderlyProperties.{orderly}
 use Rattle.event_core.proofs.laws.counts.strict_of_new_event.Goals as goal
 
 pub returns : goal.returns

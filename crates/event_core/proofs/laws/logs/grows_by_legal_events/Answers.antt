@@ -1,4 +1,4 @@
-use Rattle.event_core.proofs.Growth.{well_formed_front, well_formed_last, well_formed_grown}
+use Rattle.event_core.proofs.WellFormedProperties.{well_formed_front, well_formed_last, well_formed_grown}
 use Rattle.std.proofs.Common.{[], ◌∷◌}
 use Rattle.event_core.proofs.laws.logs.grows_by_legal_events.Goals as goal
 

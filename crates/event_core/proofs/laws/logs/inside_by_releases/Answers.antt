@@ -1,5 +1,5 @@
-use Rattle.event_core.proofs.DepthLaws.{inside_from, inside_to}
-use Rattle.event_core.proofs.Legality.{orderly}
+use Rattle.event_core.proofs.InsideProperties.{inside_from, inside_to}
+use Rattle.event_core.proofs.OrderlyProperties.{orderly}
 use Rattle.event_core.proofs.laws.logs.inside_by_releases.Goals as goal
 
 pub returns : goal.returns

@@ -1,4 +1,4 @@
-use Rattle.event_core.proofs.Holds.{depths_are_open}
+use Rattle.event_core.proofs.OpenAcquiresProperties.{depths_are_open}
 use Rattle.event_core.proofs.laws.logs.open_acquires_are_depths.Goals as goal
 
 pub returns : goal.returns

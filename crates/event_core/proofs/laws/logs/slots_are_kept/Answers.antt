@@ -1,4 +1,4 @@
-use Rattle.event_core.proofs.Holds.{balanced}
+use Rattle.event_core.proofs.OpenAcquiresProperties.{balanced}
 use Rattle.event_core.proofs.laws.logs.slots_are_kept.Goals as goal
 
 pub returns : goal.returns

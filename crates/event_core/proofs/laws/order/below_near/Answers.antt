@@ -1,7 +1,7 @@
 use Rattle.std.proofs.Common.{◌≡◌, ℕ, ◌⊎◌, List}
 use mathlib.Core.Logic.{inl, inr}
-use Rattle.event_core.proofs.NearLaw.{Through, near_law}
-use Rattle.event_core.proofs.Legality.{orderly}
+use Rattle.event_core.proofs.NearProperties.{Through, near_law}
+use Rattle.event_core.proofs.OrderlyProperties.{orderly}
 use Rattle.event_core.specs.declared.events.Event.{Event}
 use Rattle.event_core.specs.Order.{Hb}
 use Rattle.event_core.specs.Recurrence.{Near}

@@ -1,5 +1,5 @@
-use Rattle.event_core.proofs.MoreLaws.{ends_below}
-use Rattle.event_core.proofs.Legality.{orderly}
+use Rattle.event_core.proofs.BelowProperties.{ends_below}
+use Rattle.event_core.proofs.OrderlyProperties.{orderly}
 use Rattle.event_core.proofs.laws.order.ends_below.Goals as goal
 
 pub returns : goal.returns

@@ -1,4 +1,4 @@
-use Rattle.event_core.proofs.Chains.{hb_forward}
+use Rattle.event_core.proofs.OrderProperties.{hb_forward}
 use Rattle.event_core.proofs.laws.order.hb_goes_forward.Goals as goal
 
 pub returns : goal.returns

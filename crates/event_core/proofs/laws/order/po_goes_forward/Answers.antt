@@ -1,4 +1,4 @@
-use Rattle.event_core.proofs.Chains.{po_forward}
+use Rattle.event_core.proofs.OrderProperties.{po_forward}
 use Rattle.event_core.proofs.laws.order.po_goes_forward.Goals as goal
 
 pub returns : goal.returns

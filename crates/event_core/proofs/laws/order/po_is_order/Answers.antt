@@ -1,4 +1,4 @@
-use Rattle.event_core.proofs.Chains.{chain_trans}
+use Rattle.event_core.proofs.OrderProperties.{chain_trans}
 use Rattle.event_core.specs.Order.{here}
 use Rattle.event_core.proofs.laws.order.po_is_order.Goals as goal
 

@@ -1,5 +1,5 @@
-use Rattle.event_core.proofs.MoreLaws.{sections_ordered}
-use Rattle.event_core.proofs.Legality.{orderly}
+use Rattle.event_core.proofs.BelowProperties.{sections_ordered}
+use Rattle.event_core.proofs.OrderlyProperties.{orderly}
 use Rattle.event_core.proofs.laws.order.sections_are_ordered.Goals as goal
 
 pub returns : goal.returns

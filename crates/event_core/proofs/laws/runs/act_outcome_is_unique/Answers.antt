@@ -1,4 +1,4 @@
-use Rattle.event_core.proofs.RunFacts.{act_outcome_is_unique}
+use Rattle.event_core.proofs.RunProperties.{act_outcome_is_unique}
 use Rattle.event_core.proofs.laws.runs.act_outcome_is_unique.Goals as goal
 
 pub returns : goal.returns

@@ -1,4 +1,4 @@
-use Rattle.event_core.proofs.Growth.{outcome_is_unique}
+use Rattle.event_core.proofs.WellFormedProperties.{outcome_is_unique}
 use Rattle.event_core.proofs.laws.runs.outcome_is_unique.Goals as goal
 
 pub returns : goal.returns

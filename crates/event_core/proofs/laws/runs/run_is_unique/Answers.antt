@@ -1,4 +1,4 @@
-use Rattle.event_core.proofs.Growth.{run_is_unique}
+use Rattle.event_core.proofs.WellFormedProperties.{run_is_unique}
 use Rattle.event_core.proofs.laws.runs.run_is_unique.Goals as goal
 
 pub returns : goal.returns

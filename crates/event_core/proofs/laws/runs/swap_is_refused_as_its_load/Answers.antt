@@ -1,4 +1,4 @@
-use Rattle.event_core.proofs.Swaps.{swap_as_load, load_as_swap}
+use Rattle.event_core.proofs.SwapRefusalProperties.{swap_as_load, load_as_swap}
 use Rattle.event_core.proofs.laws.runs.swap_is_refused_as_its_load.Goals as goal
 
 pub returns : goal.returns

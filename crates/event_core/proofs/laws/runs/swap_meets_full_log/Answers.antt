@@ -1,4 +1,4 @@
-use Rattle.event_core.proofs.Swaps.{swap_full, swap_full_from}
+use Rattle.event_core.proofs.SwapRefusalProperties.{swap_full, swap_full_from}
 use Rattle.event_core.proofs.laws.runs.swap_meets_full_log.Goals as goal
 
 pub returns : goal.returns

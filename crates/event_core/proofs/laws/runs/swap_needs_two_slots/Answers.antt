@@ -1,4 +1,4 @@
-use Rattle.event_core.proofs.Swaps.{swap_allowed, swap_if_room}
+use Rattle.event_core.proofs.SwapRefusalProperties.{swap_allowed, swap_if_room}
 use Rattle.event_core.proofs.laws.runs.swap_needs_two_slots.Goals as goal
 
 pub returns : goal.returns

@@ -1,4 +1,4 @@
-use Rattle.event_core.proofs.Swaps.{swap_legal}
+use Rattle.event_core.proofs.SwapRefusalProperties.{swap_legal}
 use Rattle.event_core.proofs.laws.runs.swaps_are_legal.Goals as goal
 
 pub returns : goal.returns

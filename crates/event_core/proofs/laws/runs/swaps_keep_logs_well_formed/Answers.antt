@@ -1,5 +1,5 @@
-use Rattle.event_core.proofs.Swaps.{swap_legal}
-use Rattle.event_core.proofs.StepLaws.{follow_formed}
+use Rattle.event_core.proofs.SwapRefusalProperties.{swap_legal}
+use Rattle.event_core.proofs.StepsProperties.{follow_formed}
 use Rattle.event_core.proofs.laws.runs.swaps_keep_logs_well_formed.Goals as goal
 
 pub returns : goal.returns

@@ -1,4 +1,4 @@
-use Rattle.event_core.proofs.MoreLaws.{verdict_is_unique}
+use Rattle.event_core.proofs.BelowProperties.{verdict_is_unique}
 use Rattle.event_core.proofs.laws.runs.verdict_is_unique.Goals as goal
 
 pub returns : goal.returns

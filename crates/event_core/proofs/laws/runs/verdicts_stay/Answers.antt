@@ -1,4 +1,4 @@
-use Rattle.event_core.proofs.Stable.{verdict_too, longer, back}
+use Rattle.event_core.proofs.RelationsStay.{verdict_too, longer, back}
 use Rattle.event_core.proofs.laws.runs.verdicts_stay.Goals as goal
 
 pub returns : goal.returns

@@ -1,7 +1,7 @@
-use Rattle.event_core.proofs.MoreLaws.{sections_ordered}
-use Rattle.event_core.proofs.Legality.{orderly}
-use Rattle.event_core.proofs.Chains.{hb_trans, hb_thread}
-use Rattle.event_core.proofs.LogFacts.{of_does}
+use Rattle.event_core.proofs.BelowProperties.{sections_ordered}
+use Rattle.event_core.proofs.OrderlyProperties.{orderly}
+use Rattle.event_core.proofs.OrderProperties.{hb_trans, hb_thread}
+use Rattle.event_core.proofs.LogProperties.{of_does}
 use Rattle.event_core.specs.Wcp.{rule_c_left}
 use Rattle.event_core.proofs.laws.strict.earlier_sections_too.Goals as goal
 

@@ -1,4 +1,4 @@
-use Rattle.event_core.proofs.MoreLaws.{first_po, first_hb, first_strict, first_below}
+use Rattle.event_core.proofs.BelowProperties.{first_po, first_hb, first_strict, first_below}
 use Rattle.event_core.proofs.laws.strict.first_are_below.Goals as goal
 
 pub returns : goal.returns

@@ -1,4 +1,4 @@
-use Rattle.event_core.proofs.MoreLaws.{premise_from, premise_is}
+use Rattle.event_core.proofs.BelowProperties.{premise_from, premise_is}
 use Rattle.event_core.proofs.laws.strict.premise_of_b.Goals as goal
 
 pub returns : goal.returns

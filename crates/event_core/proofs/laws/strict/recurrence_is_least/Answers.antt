@@ -1,5 +1,5 @@
-use Rattle.event_core.proofs.Main.{pre_strict, strict_pre}
-use Rattle.event_core.proofs.Legality.{orderly}
+use Rattle.event_core.proofs.RecurrenceProperties.{pre_strict, strict_pre}
+use Rattle.event_core.proofs.OrderlyProperties.{orderly}
 use Rattle.event_core.proofs.laws.strict.recurrence_is_least.Goals as goal
 
 pub returns : goal.returns

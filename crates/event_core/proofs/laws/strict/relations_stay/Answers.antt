@@ -1,4 +1,4 @@
-use Rattle.event_core.proofs.Stable.{po_too, hb_too, strict_too, longer, back}
+use Rattle.event_core.proofs.RelationsStay.{po_too, hb_too, strict_too, longer, back}
 use Rattle.event_core.proofs.laws.strict.relations_stay.Goals as goal
 
 pub returns : goal.returns

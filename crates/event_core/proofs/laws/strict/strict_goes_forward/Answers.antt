@@ -1,4 +1,4 @@
-use Rattle.event_core.proofs.Main.{strict_forward}
+use Rattle.event_core.proofs.RecurrenceProperties.{strict_forward}
 use Rattle.event_core.proofs.laws.strict.strict_goes_forward.Goals as goal
 
 pub returns : goal.returns

@@ -1,4 +1,4 @@
-use Rattle.event_core.proofs.Main.{strict_least}
+use Rattle.event_core.proofs.RecurrenceProperties.{strict_least}
 use Rattle.event_core.proofs.laws.strict.strict_is_least.Goals as goal
 
 pub returns : goal.returns

@@ -2,7 +2,7 @@ use Rattle.std.proofs.Common.{ℕ, ◌+◌, List, ap, ap₂, ◌∙◌, max}
 use Rattle.event_core.specs.declared.ids.ThreadId.{ThreadId}
 use Rattle.event_core.specs.Rows.{join, with_row}
 use Rattle.hb_clocks.specs.Counts.{counts_of}
-use Rattle.hb_clocks.proofs.Releases.{release_joined}
+use Rattle.hb_clocks.proofs.JoinReleaseLaws.{release_joined}
 use Rattle.hb_clocks.proofs.clock.Clock.join_release.Goals as goal
 
 -- the release is counted

@@ -1,6 +1,6 @@
 use Rattle.std.proofs.Common.{length, ap, ◌∙◌, arith}
 use Rattle.std.proofs.lemmas.List.{with_items_is}
-use Rattle.hb_clocks.proofs.Unused.{joined_unused}
+use Rattle.hb_clocks.proofs.IsUnusedFromProperties.{joined_unused}
 use Rattle.hb_clocks.proofs.clock.Clock.raise.Goals as goal
 
 pub invariant_of-self : goal.invariant_of-self

@@ -1,5 +1,5 @@
 use Rattle.std.proofs.Common.{arith}
-use Rattle.hb_clocks.proofs.Room.{row_grown, none_grown}
+use Rattle.hb_clocks.proofs.HasGrownProperties.{row_grown, none_grown}
 use Rattle.hb_clocks.proofs.hb.HbClocks.make_lock.Goals as goal
 
 pub returns-in_err-grow_to-clause-grown : goal.returns-in_err-grow_to-clause-grown

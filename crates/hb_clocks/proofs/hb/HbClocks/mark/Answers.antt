@@ -1,6 +1,6 @@
 use Rattle.std.proofs.lemmas.Grind.{common_steps}
 use Rattle.std.proofs.Common.{arith}
-use Rattle.hb_clocks.proofs.Conditions.{names_latest}
+use Rattle.hb_clocks.proofs.StandsForProperties.{names_latest}
 use Rattle.hb_clocks.proofs.hb.HbClocks.mark.Goals as goal
 
 pub returns-clause-exact : goal.returns-clause-exact

@@ -1,7 +1,7 @@
 use Rattle.std.proofs.Common.{[], sym, subst, arith}
 use Rattle.std.proofs.lemmas.Grind.{common_steps}
 use Rattle.hb_clocks.specs.Standing.{StandsFor}
-use Rattle.hb_clocks.proofs.Conditions.{empty_stands}
+use Rattle.hb_clocks.proofs.StandsForProperties.{empty_stands}
 use Rattle.hb_clocks.proofs.hb.HbClocks.new.Goals as goal
 
 pub returns-clause-empty : goal.returns-clause-empty

@@ -3,7 +3,7 @@ use Rattle.event_core.specs.Order.{Po}
 use Rattle.event_core.specs.Rows.{Counted}
 use Rattle.hb_clocks.specs.Tables.{ClockTables}
 use Rattle.hb_clocks.specs.Rows.{rows_of}
-use Rattle.hb_clocks.proofs.Conditions.{po_latest}
+use Rattle.hb_clocks.proofs.StandsForProperties.{po_latest}
 use Rattle.hb_clocks.proofs.RowsWithin.{wide_by}
 use Rattle.hb_clocks.proofs.hb.HbClocks.po.Goals as goal
 

@@ -1,8 +1,8 @@
 use Rattle.std.proofs.Common.{◌<◌, length, inl, refl, arith}
 use Rattle.hb_clocks.specs.Tables.{HasThread, IsReady}
 use Rattle.hb_clocks.specs.Rows.{IsMade}
-use Rattle.hb_clocks.proofs.Room.{on_ok, on_both, thread_stays, ready_lock, ready_thread}
-use Rattle.hb_clocks.proofs.Room.{grown_then, lock_grown, thread_grown}
+use Rattle.hb_clocks.proofs.HasGrownProperties.{on_ok, on_both, thread_stays, ready_lock, ready_thread}
+use Rattle.hb_clocks.proofs.HasGrownProperties.{grown_then, lock_grown, thread_grown}
 use Rattle.hb_clocks.proofs.hb.HbClocks.prepare_for.Goals as goal
 
 pub returns-in-Acquire-clause-kept : goal.returns-in-Acquire-clause-kept

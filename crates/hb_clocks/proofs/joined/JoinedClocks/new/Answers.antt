@@ -1,6 +1,6 @@
 use Rattle.std.proofs.Common.{max}
 use Rattle.std.proofs.lemmas.Simd.{length-zip2}
-use Rattle.hb_clocks.proofs.JoinLaws.{joined_counts}
+use Rattle.hb_clocks.proofs.JoinProperties.{joined_counts}
 use Rattle.hb_clocks.proofs.joined.JoinedClocks.new.Goals as goal
 
 pub returns-clause-width : goal.returns-clause-width

@@ -1,7 +1,7 @@
 use Rattle.std.proofs.Common.{◌≡◌, ℕ, ◌<◌, ◌-◌, ◌++◌, ap, sym, subst, ◌∙◌, arith, length, length-set}
 use Rattle.hb_clocks.specs.Counts.{counts_of}
 use Rattle.hb_clocks.specs.Releases.{KeptNumbers, before, lowered}
-use Rattle.hb_clocks.proofs.Lowering.{counted_within, raised_lowered}
+use Rattle.hb_clocks.proofs.ReleasesProperties.{counted_within, raised_lowered}
 use Rattle.hb_clocks.proofs.release.ReleaseClocks.push.Goals as goal
 
 pub push_before-requires-clause-own : goal.push_before-requires-clause-own

@@ -5,9 +5,9 @@ use Rattle.event_core.specs.Rows.{with_row}
 use Rattle.hb_clocks.specs.Marks.{MarkedEvent, Counts}
 use Rattle.lock_queues.specs.Sections.{acquires_of}
 use Rattle.lock_queues.specs.Queue.{OneQueue}
-use Rattle.lock_queues.proofs.Listing.{mark_seen, count_seen}
-use Rattle.lock_queues.proofs.Keeping.{seen_within, found_read, kept_found}
-use Rattle.hb_clocks.proofs.Lowering.{counts_set}
+use Rattle.lock_queues.proofs.EntriesProperties.{mark_seen, count_seen}
+use Rattle.lock_queues.proofs.IsKeptProperties.{seen_within, found_read, kept_found}
+use Rattle.hb_clocks.proofs.ReleasesProperties.{counts_set}
 use Rattle.lock_queues.proofs.queue.Queue.find_counted.Goals as goal
 
 pub index-requires : goal.index-requires

@@ -3,7 +3,7 @@ use Rattle.std.proofs.lemmas.List.{get_or_read}
 use Rattle.lock_queues.specs.Sections.{section_of, entry_at}
 use Rattle.lock_queues.specs.Queue.{OneQueue}
 use Rattle.lock_queues.specs.Searched.{IsSection}
-use Rattle.lock_queues.proofs.Keeping.{seen_within, found_read}
+use Rattle.lock_queues.proofs.IsKeptProperties.{seen_within, found_read}
 use Rattle.lock_queues.proofs.queue.Queue.latest.Goals as goal
 
 pub index-number-requires : goal.index-number-requires

@@ -8,9 +8,9 @@ use Rattle.lock_queues.specs.declared.sections.Entry.{Entry}
 use Rattle.lock_queues.specs.Slots.{slot_of, has_slot, opened_at, opened_in, position_of}
 use Rattle.lock_queues.specs.Queue.{OneQueue, IsKept}
 use Rattle.std.specs.Option.{is_some}
-use Rattle.lock_queues.proofs.Lookup.{said, slot_remove}
-use Rattle.lock_queues.proofs.Placing.{placed_entered, slot_read, some_opened, mark_of}
-use Rattle.lock_queues.proofs.Keeping.{kept_left}
+use Rattle.lock_queues.proofs.SlotsProperties.{said, slot_remove}
+use Rattle.lock_queues.proofs.PlaceInProperties.{placed_entered, slot_read, some_opened, mark_of}
+use Rattle.lock_queues.proofs.IsKeptProperties.{kept_left}
 use Rattle.lock_queues.proofs.queue.Queue.leave.Goals as goal
 
 pub remove-slot-requires : goal.remove-slot-requires

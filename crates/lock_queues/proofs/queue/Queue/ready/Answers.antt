@@ -2,7 +2,7 @@ use Rattle.std.proofs.Common.{ap, sym, ◌∙◌, List}
 use Rattle.lock_queues.specs.declared.slots.Slot.{Slot}
 use Rattle.lock_queues.specs.Slots.{has_slot}
 use Rattle.lock_queues.specs.Queue.{OneQueue}
-use Rattle.lock_queues.proofs.Lookup.{has_by_place}
+use Rattle.lock_queues.proofs.SlotsProperties.{has_by_place}
 use Rattle.lock_queues.proofs.queue.Queue.ready.Goals as goal
 
 pub returns : goal.returns

@@ -1,5 +1,5 @@
 use Rattle.std.proofs.Common.{rules, refl, arith}
-use Rattle.lock_queues.proofs.Keeping.{kept_grown}
+use Rattle.lock_queues.proofs.IsKeptProperties.{kept_grown}
 use Rattle.lock_queues.proofs.queue.Queue.reserve.Goals as goal
 
 pub invariant_of-self : goal.invariant_of-self

@@ -4,11 +4,11 @@ use Rattle.lock_queues.specs.Sections.{sections_of}
 use Rattle.event_core.specs.Rows.{with_row}
 use Rattle.lock_queues.specs.Slots.{has_slot, opened_in}
 use Rattle.lock_queues.specs.Queue.{OneQueue}
-use Rattle.lock_queues.proofs.LogSteps.{enter_stands}
-use Rattle.lock_queues.proofs.Lifting.{Read, lifted_same, lifted_cell}
-use Rattle.lock_queues.proofs.Searching.{ready_read}
-use Rattle.lock_queues.proofs.KeepingAll.{kept_set}
-use Rattle.lock_queues.proofs.Sameness.{places_set}
+use Rattle.lock_queues.proofs.StandsForProperties.{enter_stands}
+use Rattle.lock_queues.proofs.QueueAtProperties.{Read, lifted_same, lifted_cell}
+use Rattle.lock_queues.proofs.SearchedProperties.{ready_read}
+use Rattle.lock_queues.proofs.AreKeptProperties.{kept_set}
+use Rattle.lock_queues.proofs.SameMeaningProperties.{places_set}
 use Rattle.lock_queues.proofs.queues.Queues.enter.Goals as goal
 
 -- the queue that is entered

@@ -6,11 +6,11 @@ use Rattle.lock_queues.specs.Slots.{has_slot, opened_in}
 use Rattle.lock_queues.specs.Queue.{OneQueue, queue_at}
 use Rattle.lock_queues.specs.Queues.{AllQueues, closed_of, opened_of, found_of, is_ready, counted_of}
 use Rattle.hb_clocks.specs.Counts.{counts_of}
-use Rattle.lock_queues.proofs.Counting.{counted_first, latest_before}
-use Rattle.lock_queues.proofs.Lifting.{Read, lifted, lifted_same}
-use Rattle.lock_queues.proofs.Searching.{AreOf, are_of, number_found, entered_read, entered_width}
-use Rattle.lock_queues.proofs.KeepingAll.{kept_set}
-use Rattle.lock_queues.proofs.Sameness.{places_set}
+use Rattle.lock_queues.proofs.LatestCountedProperties.{counted_first, latest_before}
+use Rattle.lock_queues.proofs.QueueAtProperties.{Read, lifted, lifted_same}
+use Rattle.lock_queues.proofs.SearchedProperties.{AreOf, are_of, number_found, entered_read, entered_width}
+use Rattle.lock_queues.proofs.AreKeptProperties.{kept_set}
+use Rattle.lock_queues.proofs.SameMeaningProperties.{places_set}
 use Rattle.lock_queues.proofs.queues.Queues.find_counted.Goals as goal
 
 pub find_counted-requires-clause-slot : goal.find_counted-requires-clause-slot

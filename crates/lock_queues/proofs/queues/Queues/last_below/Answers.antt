@@ -2,7 +2,7 @@ use Rattle.std.proofs.Common.{◌≡◌, ℕ, ◌-◌, ◌<◌, ◌≤◌, lengt
 use Rattle.std.specs.Prelude.{MatchOption, IsSomeAnd}
 use Rattle.event_core.specs.Closed.{Closed, number_counted, below_closed}
 use Rattle.event_core.specs.Rows.{with_row, no_clock}
-use Rattle.event_core.proofs.Growing.{row_same}
+use Rattle.event_core.proofs.RowsAfterProperties.{row_same}
 use Rattle.hb_clocks.specs.Counts.{counts_of}
 use Rattle.hb_clocks.specs.declared.release.ReleaseClock.{ReleaseClock}
 use Rattle.hb_clocks.specs.Released.{thread_of, before_of, clock_of}
@@ -10,8 +10,8 @@ use Rattle.lock_queues.specs.Sections.{closed_at, latest_counted}
 use Rattle.lock_queues.specs.Searched.{IsSection}
 use Rattle.lock_queues.specs.Queues.{AllQueues, closed_of, found_of}
 use Rattle.lock_queues.specs.Standing.{CountsNone, IsLatest}
-use Rattle.lock_queues.proofs.Answering.{match_option, if_some}
-use Rattle.lock_queues.proofs.LogSearches.{none_in_log, told_in_log}
+use Rattle.lock_queues.proofs.OptionProperties.{match_option, if_some}
+use Rattle.lock_queues.proofs.LastBelowLaws.{none_in_log, told_in_log}
 use Rattle.lock_queues.proofs.queues.Queues.last_below.Goals as goal
 
 pub latest-requires : goal.latest-requires

@@ -6,8 +6,8 @@ use Rattle.lock_queues.specs.Sections.{closed_at, section_of, sections_of, entry
 use Rattle.lock_queues.specs.Searched.{IsSection}
 use Rattle.lock_queues.specs.Queue.{OneQueue, queue_at}
 use Rattle.lock_queues.specs.Queues.{AllQueues, closed_of, found_of}
-use Rattle.lock_queues.proofs.Searching.{entered_read}
-use Rattle.lock_queues.proofs.Storing.{section_is}
+use Rattle.lock_queues.proofs.SearchedProperties.{entered_read}
+use Rattle.lock_queues.proofs.SectionsOfProperties.{section_is}
 use Rattle.lock_queues.proofs.queues.Queues.latest.Goals as goal
 
 pub latest-requires-clause-slot : goal.latest-requires-clause-slot

@@ -8,12 +8,12 @@ use Rattle.lock_queues.specs.Slots.{has_slot, opened_in}
 use Rattle.lock_queues.specs.Searched.{IsAboveAll}
 use Rattle.lock_queues.specs.Queue.{OneQueue, queue_at}
 use Rattle.lock_queues.specs.Queues.{AllQueues, closed_of, opened_of, found_of, is_ready}
-use Rattle.lock_queues.proofs.LogSteps.{leave_stands}
-use Rattle.lock_queues.proofs.Lifting.{Read, lifted, lifted_same, lifted_cell}
-use Rattle.lock_queues.proofs.Storing.{sections_grown, joined_sections}
-use Rattle.lock_queues.proofs.KeepingAll.{kept_joined, joined_at, some_made, one_fits}
-use Rattle.lock_queues.proofs.Searching.{entered_read, entered_width, entered_made}
-use Rattle.lock_queues.proofs.Sameness.{places_set}
+use Rattle.lock_queues.proofs.StandsForProperties.{leave_stands}
+use Rattle.lock_queues.proofs.QueueAtProperties.{Read, lifted, lifted_same, lifted_cell}
+use Rattle.lock_queues.proofs.SectionsOfProperties.{sections_grown, joined_sections}
+use Rattle.lock_queues.proofs.AreKeptProperties.{kept_joined, joined_at, some_made, one_fits}
+use Rattle.lock_queues.proofs.SearchedProperties.{entered_read, entered_width, entered_made}
+use Rattle.lock_queues.proofs.SameMeaningProperties.{places_set}
 use Rattle.lock_queues.proofs.queues.Queues.leave.Goals as goal
 
 pub leave-requires-clause-memory : goal.leave-requires-clause-memory

@@ -1,8 +1,8 @@
 use Rattle.std.proofs.Common.{◌+◌, ◌*◌, ◌<◌, length, refl, sym, ap, ◌∙◌, arith}
-use Rattle.lock_queues.proofs.Answering.{where_err}
-use Rattle.lock_queues.proofs.Sameness.{found_at, same_tables, slot_made, slots_same, grown_tables}
-use Rattle.lock_queues.proofs.Sameness.{grown_queues}
-use Rattle.lock_queues.proofs.KeepingAll.{kept_larger, kept_alike, kept_set, numbers_fit}
+use Rattle.lock_queues.proofs.OptionProperties.{where_err}
+use Rattle.lock_queues.proofs.SameMeaningProperties.{found_at, same_tables, slot_made, slots_same}
+use Rattle.lock_queues.proofs.SameMeaningProperties.{grown_tables, grown_queues}
+use Rattle.lock_queues.proofs.AreKeptProperties.{kept_larger, kept_alike, kept_set, numbers_fit}
 use Rattle.lock_queues.proofs.queues.Queues.make_room.Goals as goal
 
 pub grow-requires : goal.grow-requires

@@ -2,8 +2,8 @@ use Rattle.std.proofs.Common.{List, [], refl, sym, subst}
 use Rattle.lock_queues.specs.Queue.{OneQueue}
 use Rattle.lock_queues.specs.Queues.{closed_of, opened_of, found_of}
 use Rattle.lock_queues.specs.Standing.{AreOf}
-use Rattle.lock_queues.proofs.LogSteps.{nothing_stands}
-use Rattle.lock_queues.proofs.Searching.{tables}
+use Rattle.lock_queues.proofs.StandsForProperties.{nothing_stands}
+use Rattle.lock_queues.proofs.SearchedProperties.{tables}
 use Rattle.lock_queues.proofs.queues.Queues.new.Goals as goal
 
 pub returns-clause-stands : goal.returns-clause-stands

@@ -1,7 +1,7 @@
 use Rattle.std.proofs.Common.{ap, ◌∙◌}
 use Rattle.lock_queues.specs.Slots.{has_slot}
 use Rattle.lock_queues.specs.Queue.{OneQueue}
-use Rattle.lock_queues.proofs.Searching.{entered_read}
+use Rattle.lock_queues.proofs.SearchedProperties.{entered_read}
 use Rattle.lock_queues.proofs.queues.Queues.ready.Goals as goal
 
 pub returns-then-at-len-clause-entered : goal.returns-then-at-len-clause-entered

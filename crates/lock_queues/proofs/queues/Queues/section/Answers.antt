@@ -2,7 +2,7 @@ use Rattle.std.proofs.Common.{◌-◌, ap, sym, subst, ◌∙◌}
 use Rattle.event_core.specs.Closed.{Closed}
 use Rattle.lock_queues.specs.Sections.{AreReadable}
 use Rattle.lock_queues.specs.Queue.{OneQueue}
-use Rattle.lock_queues.proofs.Searching.{queue_read, section_read}
+use Rattle.lock_queues.proofs.SearchedProperties.{queue_read, section_read}
 use Rattle.lock_queues.proofs.queues.Queues.section.Goals as goal
 
 pub section-requires-clause-readable : goal.section-requires-clause-readable

@@ -1,6 +1,6 @@
 use Rattle.std.proofs.Common.{ap, sym, ◌∙◌}
 use Rattle.lock_queues.specs.Sections.{Listed, acquires_of}
-use Rattle.lock_queues.proofs.Listing.{acquires_listed}
+use Rattle.lock_queues.proofs.EntriesProperties.{acquires_listed}
 use Rattle.lock_queues.proofs.sections.ClosedSections.acquires.Goals as goal
 
 pub returns : goal.returns

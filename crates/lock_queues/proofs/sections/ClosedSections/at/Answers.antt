@@ -1,7 +1,7 @@
 use Rattle.std.proofs.Common.{◌<◌, ap, sym, ◌∙◌, length, arith}
 use Rattle.std.proofs.lemmas.List.{get_or_read}
 use Rattle.lock_queues.specs.Sections.{Listed, entry_at, no_entry}
-use Rattle.lock_queues.proofs.Listing.{count_listed, entry_listed}
+use Rattle.lock_queues.proofs.EntriesProperties.{count_listed, entry_listed}
 use Rattle.lock_queues.proofs.sections.ClosedSections.at.Goals as goal
 
 pub returns : goal.returns

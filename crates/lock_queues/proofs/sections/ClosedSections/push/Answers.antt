@@ -1,6 +1,6 @@
 use Rattle.std.proofs.Common.{◌∷◌, ◌++◌, [], ap, ap₂, ◌∙◌}
 use Rattle.lock_queues.specs.Sections.{Listed, entries_of}
-use Rattle.lock_queues.proofs.Listing.{listed_push}
+use Rattle.lock_queues.proofs.EntriesProperties.{listed_push}
 use Rattle.lock_queues.proofs.sections.ClosedSections.push.Goals as goal
 
 pub returns-clause-entries : goal.returns-clause-entries

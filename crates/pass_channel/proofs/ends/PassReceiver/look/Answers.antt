@@ -1,4 +1,4 @@
-use Rattle.pass_channel.proofs.Posts.{receives}
+use Rattle.pass_channel.proofs.PostsProperties.{receives}
 use Rattle.pass_channel.proofs.ends.PassReceiver.look.Goals as goal
 
 pub try_recv_as-requires-clause-rule : goal.try_recv_as-requires-clause-rule

@@ -1,4 +1,4 @@
-use Rattle.pass_channel.proofs.Posts.{receives}
+use Rattle.pass_channel.proofs.PostsProperties.{receives}
 use Rattle.pass_channel.proofs.ends.PassReceiver.receive.Goals as goal
 
 pub recv_as-requires-clause-rule : goal.recv_as-requires-clause-rule

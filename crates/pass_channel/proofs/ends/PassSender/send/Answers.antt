@@ -1,4 +1,4 @@
-use Rattle.pass_channel.proofs.Posts.{sends}
+use Rattle.pass_channel.proofs.PostsProperties.{sends}
 use Rattle.pass_channel.proofs.ends.PassSender.send.Goals as goal
 
 pub send_as-requires-clause-rule : goal.send_as-requires-clause-rule

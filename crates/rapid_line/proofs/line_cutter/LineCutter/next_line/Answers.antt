@@ -1,6 +1,6 @@
 use Rattle.std.proofs.Common.{refl}
-use Rattle.rapid_line.proofs.Steps.{where_err}
-use Rattle.rapid_line.proofs.LineLaws.{cuts, long_line}
+use Rattle.rapid_line.proofs.ReadingProperties.{where_err}
+use Rattle.rapid_line.proofs.LinesProperties.{cuts, long_line}
 use Rattle.rapid_line.proofs.line_cutter.LineCutter.next_line.Goals as goal
 
 pub returns-clause-line : goal.returns-clause-line

@@ -1,7 +1,7 @@
 use Rattle.std.proofs.Common.{sym, subst, ◌∙◌}
 use Rattle.rapid_text.specs.declared.causes.TextFault.{TextFault}
 use Rattle.rapid_text.specs.Cutting.{Cutting, ClosesAt}
-use Rattle.rapid_text.proofs.Pieces.{live, closes_at}
+use Rattle.rapid_text.proofs.PushesProperties.{live, closes_at}
 use Rattle.rapid_text.proofs.cutter.Cutter.finish.Goals as goal
 
 pub returns-in-Err-clause-fault : goal.returns-in-Err-clause-fault

@@ -3,8 +3,8 @@ use Rattle.rapid_line.specs.Lines.{Lines}
 use Rattle.rapid_text.specs.declared.causes.TextFault.{TextFault}
 use Rattle.rapid_text.specs.Cutting.{Cutting, FailsAt}
 use Rattle.rapid_text.proofs.NameGrowth.{TablesGrow-trans}
-use Rattle.rapid_text.proofs.Pieces.{Going, live, goes_first, goes_on, goes_down, gives, keeps}
-use Rattle.rapid_text.proofs.Pieces.{long_at, fails_at}
+use Rattle.rapid_text.proofs.PushesProperties.{Going, live, goes_first, goes_on, goes_down, gives, keeps}
+use Rattle.rapid_text.proofs.PushesProperties.{long_at, fails_at}
 use Rattle.rapid_text.proofs.cutter.Cutter.push.Goals as goal
 
 pub lines-init : goal.lines-init

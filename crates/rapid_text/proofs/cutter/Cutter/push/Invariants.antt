@@ -1,5 +1,5 @@
 use Rattle.std.proofs.Common.{◌≡◌, length, None}
-use Rattle.rapid_text.proofs.Pieces.{Going}
+use Rattle.rapid_text.proofs.PushesProperties.{Going}
 use Rattle.rapid_text.proofs.cutter.Cutter.push.Given as goal
 
 abbrev pub invariant-lines : goal.invariant-lines

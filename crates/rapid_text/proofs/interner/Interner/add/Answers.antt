@@ -4,7 +4,7 @@ use Rattle.std.proofs.lemmas.List.{length_push}
 use Rattle.rapid_text.specs.Numbers.{Numbered, found_number}
 use Rattle.rapid_text.specs.NumberCache.{AreRight}
 use Rattle.rapid_text.proofs.SpaceLaws.{numbered_new, added}
-use Rattle.rapid_text.proofs.EntryLaws.{right_put, right_more}
+use Rattle.rapid_text.proofs.NumberCacheProperties.{right_put, right_more}
 use Rattle.event_core.proofs.Places.{get_last}
 use Rattle.rapid_text.proofs.interner.Interner.add.Goals as goal
 

@@ -3,7 +3,7 @@ use Rattle.std.proofs.lemmas.Option.{IfSome_then}
 use Rattle.rapid_text.specs.Numbers.{found_number}
 use Rattle.rapid_text.specs.NumberCache.{IsFound}
 use Rattle.rapid_text.proofs.SpaceLaws.{place_of_name}
-use Rattle.rapid_text.proofs.EntryLaws.{name_held}
+use Rattle.rapid_text.proofs.NumberCacheProperties.{name_held}
 use Rattle.rapid_text.proofs.interner.Interner.find.Goals as goal
 
 pub returns : goal.returns

@@ -1,6 +1,6 @@
 use Rattle.std.proofs.Common.{sym, ◌∙◌}
-use Rattle.rapid_text.proofs.NameLaws.{found_name}
-use Rattle.rapid_text.proofs.EntryLaws.{right_put}
+use Rattle.rapid_text.proofs.NumberedProperties.{found_name}
+use Rattle.rapid_text.proofs.NumberCacheProperties.{right_put}
 use Rattle.rapid_text.proofs.interner.Interner.search.Goals as goal
 
 pub invariant_of-self : goal.invariant_of-self

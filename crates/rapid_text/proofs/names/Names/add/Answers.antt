@@ -1,4 +1,4 @@
-use Rattle.rapid_text.proofs.NameLaws.{named_after}
+use Rattle.rapid_text.proofs.NumberedProperties.{named_after}
 use Rattle.rapid_text.proofs.names.Names.add.Goals as goal
 
 pub invariant_of-self : goal.invariant_of-self

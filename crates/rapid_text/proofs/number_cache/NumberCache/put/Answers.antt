@@ -1,5 +1,5 @@
 use Rattle.std.proofs.Common.{refl, sym, arith}
-use Rattle.rapid_text.proofs.EntryLaws.{put_entry}
+use Rattle.rapid_text.proofs.NumberCacheProperties.{put_entry}
 use Rattle.rapid_text.proofs.number_cache.NumberCache.put.Goals as goal
 
 pub returns : goal.returns

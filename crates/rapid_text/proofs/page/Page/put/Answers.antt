@@ -2,7 +2,7 @@ use Rattle.std.proofs.Common.{List, ℕ, ap, subst, ◌∙◌}
 use Rattle.std.proofs.lemmas.Result.{on_ok_weaker}
 use Rattle.arrayvec.specs.ArrayVec.{ArrayVec}
 use Rattle.rapid_text.specs.Pages.{Puts}
-use Rattle.rapid_text.proofs.Putting.{put_over}
+use Rattle.rapid_text.proofs.PutsProperties.{put_over}
 use Rattle.rapid_text.proofs.page.Page.put.Goals as goal
 
 pub returns-clause-ok : goal.returns-clause-ok

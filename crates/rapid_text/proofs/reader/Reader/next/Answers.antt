@@ -2,7 +2,7 @@ use Rattle.std.proofs.Common.{◌≡◌, ◌++◌, length, subst, arith}
 use Rattle.std.proofs.lemmas.List.{length-append}
 use Rattle.rapid_text.specs.Pulling.{HasNoMore, pulling_of}
 use Rattle.rapid_text.specs.Reading.{Reading}
-use Rattle.rapid_text.proofs.Pulling.{ended_text}
+use Rattle.rapid_text.proofs.PullingProperties.{ended_text}
 use Rattle.rapid_text.proofs.reader.Reader.next.Goals as goal
 
 pub returns-then-self-clause-ok : goal.returns-then-self-clause-ok

@@ -3,7 +3,7 @@ use Rattle.std.proofs.lemmas.List.{get_or_default}
 use Rattle.script_drive.specs.Lines.{lines_by}
 use Rattle.script_drive.specs.Workers.{Serves}
 use Rattle.script_drive.proofs.LinkLines.{contains_link, serves_all}
-use Rattle.script_drive.proofs.Progress.{other_taken, served_more}
+use Rattle.script_drive.proofs.HasDoneProperties.{other_taken, served_more}
 use Rattle.script_drive.proofs.workers.UnclaimedEnds.connect.Goals as goal
 
 pub loop-line-preserved : goal.loop-line-preserved

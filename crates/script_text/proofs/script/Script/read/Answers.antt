@@ -3,7 +3,7 @@ use Rattle.rapid_text.specs.Turns.{IsCutShort}
 use Rattle.script_text.specs.declared.lines.ScriptLine.{ScriptLine}
 use Rattle.script_text.specs.Scripts.{IsScript}
 use Rattle.script_text.specs.Readings.{Incomplete}
-use Rattle.script_text.proofs.Faults.{incomplete_fault}
+use Rattle.script_text.proofs.IsFaultProperties.{incomplete_fault}
 use Rattle.script_text.proofs.script.Script.read.Goals as goal
 
 pub invariant_of-result : goal.invariant_of-result

@@ -1,7 +1,7 @@
 use Rattle.std.proofs.Common.{rules, ◌≡◌, ◌++◌, ◌∷◌, [], length, sym, ap, ◌∙◌, arith, if◌then◌else◌}
 use Rattle.std.proofs.lemmas.List.{length_push}
 use Rattle.section_sum.specs.Cells.{Stored, place, cell_place}
-use Rattle.section_sum.proofs.Standing.{absent}
+use Rattle.section_sum.proofs.CellsProperties.{absent}
 use Rattle.section_sum.proofs.cells.Cells.add.Goals as goal
 
 pub invariant_of-self-2 : goal.invariant_of-self-2

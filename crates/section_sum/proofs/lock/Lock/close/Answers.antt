@@ -1,6 +1,6 @@
 use Rattle.std.proofs.Common.{nat_eq, ap, ◌∙◌}
 use Rattle.section_sum.specs.Cell.{cell_at, closed_as}
-use Rattle.section_sum.proofs.Closing.{next, next_within}
+use Rattle.section_sum.proofs.CloseLaws.{next, next_within}
 use Rattle.section_sum.proofs.lock.Lock.close.Goals as goal
 
 pub close-requires : goal.close-requires

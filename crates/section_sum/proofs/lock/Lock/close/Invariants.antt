@@ -1,5 +1,5 @@
 use Rattle.std.proofs.Common.{◌≡◌, length, vec_capacity}
-use Rattle.section_sum.proofs.Closing.{Closing}
+use Rattle.section_sum.proofs.CloseLaws.{Closing}
 use Rattle.section_sum.proofs.lock.Lock.close.Given as goal
 
 abbrev pub invariant-closing : goal.invariant-closing

@@ -3,8 +3,8 @@ use Rattle.std.proofs.Common.{arith}
 use Rattle.std.proofs.lemmas.Bool.{eq-eqb, not-true, not-false}
 use Rattle.section_sum.specs.Cell.{cell_at, is_noted}
 use Rattle.section_sum.specs.LockSums.{LockSum, is_own, IsKept}
-use Rattle.section_sum.proofs.Standing.{own_place}
-use Rattle.section_sum.proofs.Keeping.{kept_as, kept_first, kept_again, spare}
+use Rattle.section_sum.proofs.CellsProperties.{own_place}
+use Rattle.section_sum.proofs.IsKeptProperties.{kept_as, kept_first, kept_again, spare}
 use Rattle.section_sum.proofs.lock.Lock.note.Goals as goal
 
 pub push_reserved-requires : goal.push_reserved-requires

@@ -1,8 +1,8 @@
 use Rattle.std.proofs.Common.{rules, ◌≡◌, ◌≤◌, ◌+◌, ◌*◌, length, sym, subst, inr, vec_capacity, Some, arith}
 use Rattle.section_sum.specs.Cells.{Stored, cell_place}
 use Rattle.section_sum.specs.LockSums.{LockSum, IsKept}
-use Rattle.section_sum.proofs.Standing.{place_high}
-use Rattle.section_sum.proofs.Keeping.{kept_as, kept_new, has_place}
+use Rattle.section_sum.proofs.CellsProperties.{place_high}
+use Rattle.section_sum.proofs.IsKeptProperties.{kept_as, kept_new, has_place}
 use Rattle.section_sum.proofs.lock.Lock.prepare.Goals as goal
 
 pub add-requires : goal.add-requires

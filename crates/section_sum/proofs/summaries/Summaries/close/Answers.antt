@@ -1,7 +1,7 @@
 use Rattle.section_sum.specs.Locks.{HaveClosed}
 use Rattle.section_sum.specs.Sums.{noted_of, others_of, is_ready}
-use Rattle.section_sum.proofs.Meaning.{same_memory, seen}
-use Rattle.section_sum.proofs.Steps.{close_stands}
+use Rattle.section_sum.proofs.SourcesOfProperties.{same_memory, seen}
+use Rattle.section_sum.proofs.StandsForProperties.{close_stands}
 use Rattle.section_sum.proofs.summaries.Summaries.close.Goals as goal
 
 pub returns : goal.returns

@@ -6,12 +6,12 @@ use Rattle.event_core.specs.declared.ids.LockId.{LockId}
 use Rattle.section_sum.specs.LockSums.{no_kept}
 use Rattle.section_sum.specs.Cells.{has_cell}
 use Rattle.section_sum.specs.Sums.{Sums, is_held, is_ready, IsReady}
-use Rattle.section_sum.proofs.Basics.{refused}
-use Rattle.section_sum.proofs.Keeping.{no_lock}
-use Rattle.section_sum.proofs.Meaning.{sums}
-use Rattle.section_sum.proofs.Passing.{is_held_at}
-use Rattle.section_sum.proofs.Sayings.{kept_read}
-use Rattle.section_sum.proofs.Growing.{Grown, none_grown, more_locks, at_grown, next_grown, prepared}
+use Rattle.section_sum.proofs.ListProperties.{refused}
+use Rattle.section_sum.proofs.IsKeptProperties.{no_lock}
+use Rattle.section_sum.proofs.SourcesOfProperties.{sums}
+use Rattle.section_sum.proofs.LocksProperties.{is_held_at}
+use Rattle.section_sum.proofs.LockSumsProperties.{kept_read}
+use Rattle.section_sum.proofs.MakeRoomLaws.{Grown, none_grown, more_locks, at_grown, next_grown, prepared}
 use Rattle.section_sum.proofs.summaries.Summaries.make_room_for.Goals as goal
 
 pub loop-lock-init : goal.loop-lock-init

@@ -1,5 +1,5 @@
 use Rattle.section_sum.specs.LockSums.{IsFitted}
-use Rattle.section_sum.proofs.Growing.{Grown}
+use Rattle.section_sum.proofs.MakeRoomLaws.{Grown}
 use Rattle.section_sum.proofs.summaries.Summaries.make_room_for.Given as goal
 
 abbrev pub invariant-loop-lock : goal.invariant-loop-lock

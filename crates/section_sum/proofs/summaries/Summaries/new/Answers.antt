@@ -2,9 +2,9 @@ use Rattle.std.proofs.Common.{◌≡◌, false, refl, sym, subst}
 use Rattle.section_sum.specs.Cells.{Stored, no_cells}
 use Rattle.section_sum.specs.Entries.{noted_at, others_on}
 use Rattle.section_sum.specs.Sums.{said_of, noted_of, others_of}
-use Rattle.section_sum.proofs.Meaning.{sums}
-use Rattle.section_sum.proofs.Says.{none_noted, none_others}
-use Rattle.section_sum.proofs.Steps.{nothing_stands}
+use Rattle.section_sum.proofs.SourcesOfProperties.{sums}
+use Rattle.section_sum.proofs.EntriesProperties.{none_noted, none_others}
+use Rattle.section_sum.proofs.StandsForProperties.{nothing_stands}
 use Rattle.section_sum.proofs.summaries.Summaries.new.Goals as goal
 
 pub returns-clause-nothing_noted : goal.returns-clause-nothing_noted

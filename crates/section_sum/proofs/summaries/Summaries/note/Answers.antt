@@ -2,8 +2,8 @@ use Rattle.std.proofs.Common.{ℕ, sym, subst}
 use Rattle.section_sum.specs.Entries.{Entries, IsAlone as IsAloneThere}
 use Rattle.section_sum.specs.Locks.{HaveNoted}
 use Rattle.section_sum.specs.Sums.{Sums, noted_of, others_of, is_ready, IsReady, IsAlone}
-use Rattle.section_sum.proofs.Meaning.{same_memory, said_as, seen}
-use Rattle.section_sum.proofs.Steps.{note_stands}
+use Rattle.section_sum.proofs.SourcesOfProperties.{same_memory, said_as, seen}
+use Rattle.section_sum.proofs.StandsForProperties.{note_stands}
 use Rattle.section_sum.proofs.summaries.Summaries.note.Goals as goal
 
 pub note_held-requires-clause-ready : goal.note_held-requires-clause-ready

@@ -3,7 +3,7 @@ use Rattle.std.proofs.lemmas.Bool.{false≢true}
 use Rattle.event_core.specs.declared.ids.LockId.{LockId}
 use Rattle.section_sum.specs.LockSums.{AreKept}
 use Rattle.section_sum.specs.Sums.{Sums, is_ready}
-use Rattle.section_sum.proofs.Passing.{held_each, is_held_at}
+use Rattle.section_sum.proofs.LocksProperties.{held_each, is_held_at}
 use Rattle.section_sum.proofs.summaries.Summaries.ready.Goals as goal
 
 pub ready_under-requires : goal.ready_under-requires

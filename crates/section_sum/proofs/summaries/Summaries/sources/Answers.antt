@@ -4,7 +4,7 @@ use Rattle.section_sum.specs.LockSums.{LockSum}
 use Rattle.section_sum.specs.Entries.{entries_of, sources_on}
 use Rattle.section_sum.specs.Sums.{Sums, sources_of}
 use Rattle.section_sum.specs.Sources.{left, most_sources}
-use Rattle.section_sum.proofs.Meaning.{sums, meets, few_sources}
+use Rattle.section_sum.proofs.SourcesOfProperties.{sums, meets, few_sources}
 use Rattle.section_sum.proofs.PairedSections.{sources_paired}
 use Rattle.section_sum.proofs.summaries.Summaries.sources.Goals as goal
 

@@ -3,7 +3,8 @@ use Rattle.std.proofs.lemmas.List.{take_more}
 use Rattle.std.proofs.lemmas.Option.{slice_get-get_or}
 use Rattle.event_core.specs.declared.events.Act.TheVariants.{One}
 use Rattle.event_core.specs.Verdict.{IsOutcome, IsRun, log_after}
-use Rattle.seq_monitor.proofs.RunMore.{run_more, ran_more, where_err, no_room, ran_none, ran_some, ran_all}
+use Rattle.seq_monitor.proofs.RunAnswersProperties.{run_more, ran_more, where_err, no_room, ran_none}
+use Rattle.seq_monitor.proofs.RunAnswersProperties.{ran_some, ran_all}
 use Rattle.seq_monitor.proofs.monitor.Monitor.run.Goals as goal
 
 pub loop-call-preserved : goal.loop-call-preserved

@@ -2,8 +2,8 @@ use Rattle.std.proofs.Common.{sym, ◌∙◌, refl, arith}
 use Rattle.std.proofs.lemmas.List.{take_more}
 use Rattle.std.proofs.lemmas.Option.{slice_get-get_or}
 use Rattle.event_core.specs.Acts.{IsActRun, IsDone, log_after_act}
-use Rattle.seq_monitor.proofs.RunMore.{act_run_more, ran_more, where_err, no_room}
-use Rattle.seq_monitor.proofs.RunMore.{ran_none, ran_some, ran_all}
+use Rattle.seq_monitor.proofs.RunAnswersProperties.{act_run_more, ran_more, where_err, no_room, ran_none}
+use Rattle.seq_monitor.proofs.RunAnswersProperties.{ran_some, ran_all}
 use Rattle.seq_monitor.proofs.monitor.Monitor.run_acts.Goals as goal
 
 pub loop-act-preserved : goal.loop-act-preserved

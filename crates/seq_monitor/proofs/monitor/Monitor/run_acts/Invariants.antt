@@ -1,7 +1,7 @@
 use Rattle.std.proofs.Common.{◌-◌, vec_len}
 use Rattle.std.specs.Prelude.{vec_capacity}
 use Rattle.event_core.specs.Acts.{IsActRun}
-use Rattle.seq_monitor.proofs.RunMore.{HasRun}
+use Rattle.seq_monitor.proofs.RunAnswersProperties.{HasRun}
 use Rattle.seq_monitor.proofs.monitor.Monitor.run_acts.Given as goal
 
 abbrev pub invariant-loop-act : goal.invariant-loop-act

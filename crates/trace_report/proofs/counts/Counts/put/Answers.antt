@@ -1,5 +1,5 @@
 use Rattle.std.proofs.lemmas.Result.{on_ok_weaker}
-use Rattle.rapid_text.proofs.Putting.{put_both, put_same}
+use Rattle.rapid_text.proofs.PutsProperties.{put_both, put_same}
 use Rattle.trace_report.proofs.Texts.{counts_parts}
 use Rattle.trace_report.proofs.counts.Counts.put.Goals as goal
 

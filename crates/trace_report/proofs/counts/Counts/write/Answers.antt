@@ -1,5 +1,5 @@
 use Rattle.trace_report.specs.Checked.{counts_line}
-use Rattle.rapid_text.proofs.Putting.{put_both, all_flushed}
+use Rattle.rapid_text.proofs.PutsProperties.{put_both, all_flushed}
 use Rattle.trace_report.proofs.counts.Counts.write.Goals as goal
 
 pub returns-clause-ok : goal.returns-clause-ok

@@ -4,7 +4,7 @@ use Rattle.seq_monitor.specs.declared.monitor.Monitor.{Monitor}
 use Rattle.trace_report.specs.declared.judged_text.JudgedText.{JudgedText}
 use Rattle.trace_report.specs.Reports.{AreNamed}
 use Rattle.trace_report.specs.Replaying.{Replaying, after}
-use Rattle.trace_report.proofs.FedLaws.{was_taken, fed_law, fed_reached}
+use Rattle.trace_report.proofs.FeedLaws.{was_taken, fed_law, fed_reached}
 use Rattle.trace_report.proofs.replayer.Replayer.feed.Goals as goal
 
 pub invariant_of-self : goal.invariant_of-self

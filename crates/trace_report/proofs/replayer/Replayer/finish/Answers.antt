@@ -8,7 +8,8 @@ use Rattle.trace_report.specs.Findings.{IsReached, Trace, finding_after}
 use Rattle.trace_report.specs.Judging.{RanOut, is_read_fault}
 use Rattle.trace_report.specs.Replayed.{Told}
 use Rattle.trace_report.specs.Reports.{AreNamed}
-use Rattle.trace_report.proofs.TellingLaws.{ended_fault, ended_trace, fault_told, if_found, stood_answered}
+use Rattle.trace_report.proofs.TellsTextProperties.{ended_fault, ended_trace, fault_told, if_found}
+use Rattle.trace_report.proofs.TellsTextProperties.{stood_answered}
 use Rattle.trace_report.proofs.replayer.Replayer.finish.Goals as goal
 
 pub returns-in-Err-clause-tells : goal.returns-in-Err-clause-tells

@@ -2,16 +2,16 @@ use Rattle.std.proofs.Common.{◌≡◌, ℕ, ◌+◌, ◌≤◌, max, length, L
 use Rattle.std.proofs.Common.{◌∙◌, arith}
 use Rattle.event_core.specs.declared.bounds.Limits.{Limits}
 use Rattle.event_core.specs.Refusal.{refusal, event_of, WellFormed}
-use Rattle.event_core.proofs.Growth.{well_formed_grown}
+use Rattle.event_core.proofs.WellFormedProperties.{well_formed_grown}
 use Rattle.traced_mem.specs.Meaning.{Meaning}
 use Rattle.traced_mem.specs.Refusals.{refusal_at}
 use Rattle.traced_mem.specs.After.{holds_after, after, value_at}
 use Rattle.traced_mem.specs.Tables.{MemoryTables, total, locks_of, threads_of, thread_at, meaning}
 use Rattle.traced_mem.specs.Room.{HoldsFit, IsReady, cells_for}
-use Rattle.traced_mem.proofs.AfterLaw.{after_law}
-use Rattle.traced_mem.proofs.Allowed.{fits_inside}
-use Rattle.traced_mem.proofs.SameRefusals.{same_refusal, same_value}
-use Rattle.traced_mem.proofs.Stepping.{given_back, still_ready, lent_whole}
+use Rattle.traced_mem.proofs.AfterProperties.{after_law}
+use Rattle.traced_mem.proofs.AllowsProperties.{fits_inside}
+use Rattle.traced_mem.proofs.RefusalsProperties.{same_refusal, same_value}
+use Rattle.traced_mem.proofs.IsReadyProperties.{given_back, still_ready, lent_whole}
 use Rattle.traced_mem.proofs.memory.Memory.apply.Goals as goal
 use Rattle.traced_mem.proofs.memory.Memory.apply.Goals.{in-Load, in-Store, in_default}
 

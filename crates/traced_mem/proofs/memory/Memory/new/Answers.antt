@@ -1,5 +1,5 @@
 use Rattle.std.proofs.Common.{sym}
-use Rattle.traced_mem.proofs.AfterLaw.{no_log, none_well_formed}
+use Rattle.traced_mem.proofs.AfterProperties.{no_log, none_well_formed}
 use Rattle.traced_mem.proofs.memory.Memory.new.Goals as goal
 
 pub returns-clause-stands : goal.returns-clause-stands

@@ -1,7 +1,7 @@
 use Rattle.std.proofs.Common.{ap, ◌∙◌}
 use Rattle.traced_mem.specs.Meaning.{Meaning}
 use Rattle.traced_mem.specs.Refusals.{answer, refusal_at}
-use Rattle.traced_mem.proofs.SameRefusals.{same_refusal}
+use Rattle.traced_mem.proofs.RefusalsProperties.{same_refusal}
 use Rattle.traced_mem.proofs.memory.Memory.permit.Goals as goal
 
 pub returns-clause-refusal : goal.returns-clause-refusal

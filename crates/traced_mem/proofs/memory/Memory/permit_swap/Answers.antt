@@ -2,7 +2,7 @@ use Rattle.std.proofs.Common.{ap, ◌∙◌}
 use Rattle.traced_mem.specs.Meaning.{Meaning}
 use Rattle.traced_mem.specs.Refusals.{answer, swap_refusal_at}
 use Rattle.traced_mem.specs.Tables.{meaning}
-use Rattle.traced_mem.proofs.SameRefusals.{same_swap_refusal}
+use Rattle.traced_mem.proofs.RefusalsProperties.{same_swap_refusal}
 use Rattle.traced_mem.proofs.Swaps.{load_allowed, store_allowed, on_ok}
 use Rattle.traced_mem.proofs.memory.Memory.permit_swap.Goals as goal
 

@@ -3,7 +3,7 @@ use Rattle.event_core.specs.declared.bounds.Limits.{Limits}
 use Rattle.event_core.specs.Refusal.{WellFormed}
 use Rattle.traced_mem.specs.Tables.{meaning, cells_of, lock_of, MemoryTables}
 use Rattle.traced_mem.specs.Room.{IsReady}
-use Rattle.traced_mem.proofs.Growing.{below_grown, ready_grown}
+use Rattle.traced_mem.proofs.GrownProperties.{below_grown, ready_grown}
 use Rattle.traced_mem.proofs.memory.Memory.prepare_for.Goals as goal
 
 pub invariant_of-self : goal.invariant_of-self

@@ -1,6 +1,6 @@
 use Rattle.std.proofs.Common.{length, ap, arith}
 use Rattle.traced_mem.specs.Tables.{MemoryTables}
-use Rattle.traced_mem.proofs.Allowed.{release_room}
+use Rattle.traced_mem.proofs.AllowsProperties.{release_room}
 use Rattle.traced_mem.proofs.memory.Memory.ready_for.Goals as goal
 
 pub returns-then-thread-len-clause-release : goal.returns-then-thread-len-clause-release

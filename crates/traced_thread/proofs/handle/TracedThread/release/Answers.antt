@@ -1,6 +1,6 @@
 use Rattle.std.proofs.Common.{ap, sym, ◌∙◌}
 use Rattle.traced_thread.specs.Handles.{pass_of}
-use Rattle.traced_thread.proofs.Releases.{holder_has_ended}
+use Rattle.traced_thread.proofs.IsReleasedProperties.{holder_has_ended}
 use Rattle.traced_thread.proofs.handle.TracedThread.release.Goals as goal
 
 pub returns-clause-ended : goal.returns-clause-ended

@@ -1,4 +1,4 @@
-use Rattle.traced_thread.proofs.Releases.{is_released}
+use Rattle.traced_thread.proofs.IsReleasedProperties.{is_released}
 use Rattle.traced_thread.proofs.sections.Section.drop.Goals as goal
 
 -- what the release answered

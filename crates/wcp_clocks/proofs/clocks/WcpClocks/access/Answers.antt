@@ -1,9 +1,9 @@
 use Rattle.event_core.specs.Effect.{Accesses}
 use Rattle.wcp_clocks.specs.Parts.{Parts, parts_of}
 use Rattle.wcp_clocks.specs.Stepping.{IsStepBy}
-use Rattle.wcp_clocks.proofs.Accessing.{access_step}
-use Rattle.wcp_clocks.proofs.Stepped.{kept_within, due_within, seen_step}
-use Rattle.wcp_clocks.proofs.Within.{within}
+use Rattle.wcp_clocks.proofs.AccessSteps.{access_step}
+use Rattle.wcp_clocks.proofs.IsStepProperties.{kept_within, due_within, seen_step}
+use Rattle.wcp_clocks.proofs.PartsWithin.{within}
 use Rattle.wcp_clocks.proofs.clocks.WcpClocks.access.Goals as goal
 
 -- the parts as the step leaves them

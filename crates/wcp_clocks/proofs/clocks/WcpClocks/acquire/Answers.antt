@@ -1,5 +1,5 @@
 use Rattle.std.proofs.Common.{refl}
-use Rattle.wcp_clocks.proofs.Stepped.{due_rebuilt, rebuilt, outer, inner}
+use Rattle.wcp_clocks.proofs.IsStepProperties.{due_rebuilt, rebuilt, outer, inner}
 use Rattle.wcp_clocks.proofs.clocks.WcpClocks.acquire.Goals as goal
 
 pub open-requires : goal.open-requires

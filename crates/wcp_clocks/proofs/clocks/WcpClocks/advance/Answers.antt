@@ -1,7 +1,7 @@
 use Rattle.std.proofs.Common.{refl}
-use Rattle.wcp_clocks.proofs.Standing.{step_stands}
+use Rattle.wcp_clocks.proofs.StandsForProperties.{step_stands}
 use Rattle.wcp_clocks.proofs.Memory.{closing_releases, keeps_weaker}
-use Rattle.wcp_clocks.proofs.Stepped.{exact, access_kept}
+use Rattle.wcp_clocks.proofs.IsStepProperties.{exact, access_kept}
 use Rattle.wcp_clocks.proofs.clocks.WcpClocks.advance.Goals as goal
 
 pub returns-clause-exact : goal.returns-clause-exact

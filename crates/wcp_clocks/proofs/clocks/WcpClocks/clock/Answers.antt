@@ -2,7 +2,7 @@ use Rattle.std.proofs.Common.{ap, ap₂, sym, subst, ◌∙◌}
 use Rattle.event_core.specs.Rows.{Counted, join}
 use Rattle.event_core.specs.Wcp.{Below}
 use Rattle.wcp_clocks.specs.Parts.{Parts, state_of, hb_of}
-use Rattle.wcp_clocks.proofs.Latest.{below_latest}
+use Rattle.wcp_clocks.proofs.BelowIsLatest.{below_latest}
 use Rattle.wcp_clocks.proofs.clocks.WcpClocks.clock.Goals as goal
 
 pub returns-clause-exact : goal.returns-clause-exact

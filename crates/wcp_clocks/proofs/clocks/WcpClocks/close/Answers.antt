@@ -3,7 +3,7 @@ use Rattle.std.proofs.Common.{subst, ◌∙◌, arith, rules}
 use Rattle.event_core.specs.Closed.{Closed, Has}
 use Rattle.event_core.specs.Rows.{with_row}
 use Rattle.event_core.specs.Effect.{Effect, Closes}
-use Rattle.event_core.proofs.Growing.{row_same}
+use Rattle.event_core.proofs.RowsAfterProperties.{row_same}
 use Rattle.hb_clocks.specs.Counts.{counts_of}
 use Rattle.hb_clocks.specs.Work.{Done}
 use Rattle.event_core.specs.declared.events.AccessKind.{AccessKind}
@@ -14,11 +14,12 @@ use Rattle.wcp_laws.specs.Step.{hb_row}
 use Rattle.wcp_clocks.specs.Parts.{hb_of, state_of, parts_of}
 use Rattle.wcp_clocks.proofs.RowsKept.{room_then, thread_kept, lock_kept}
 use Rattle.wcp_clocks.proofs.EffectWords.{own_happens_before, closed_noted}
-use Rattle.wcp_clocks.proofs.Closing.{closing_clocks, closing_numbers, before_closing, counts_itself}
-use Rattle.wcp_clocks.proofs.Passing.{own_written, joins_told}
+use Rattle.wcp_clocks.proofs.ReleaseAtProperties.{closing_clocks, closing_numbers, before_closing}
+use Rattle.wcp_clocks.proofs.ReleaseAtProperties.{counts_itself}
+use Rattle.wcp_clocks.proofs.OtherSteps.{own_written, joins_told}
 use Rattle.wcp_clocks.proofs.Memory.{tables_then}
-use Rattle.wcp_clocks.proofs.Stepped.{kept_within, due_within, seen_step}
-use Rattle.wcp_clocks.proofs.Within.{within}
+use Rattle.wcp_clocks.proofs.IsStepProperties.{kept_within, due_within, seen_step}
+use Rattle.wcp_clocks.proofs.PartsWithin.{within}
 use Rattle.wcp_clocks.specs.Stepping.{IsStepBy}
 use Rattle.wcp_clocks.proofs.clocks.WcpClocks.close.Goals as goal
 

@@ -2,10 +2,10 @@ use Rattle.std.proofs.Common.{ℕ, ap, ap₂, sym, ◌∙◌, arith, refl}
 use Rattle.event_core.specs.Rows.{with_row}
 use Rattle.event_core.specs.Effect.{Effect, Forks}
 use Rattle.hb_clocks.specs.Work.{Done}
-use Rattle.wcp_clocks.proofs.Passing.{plain_strict, plain_threads, joins_told}
+use Rattle.wcp_clocks.proofs.OtherSteps.{plain_strict, plain_threads, joins_told}
 use Rattle.wcp_clocks.proofs.Memory.{sums_stay, queues_stay, held_stay}
-use Rattle.wcp_clocks.proofs.Stepped.{kept_within, due_within, seen_step}
-use Rattle.wcp_clocks.proofs.Within.{within}
+use Rattle.wcp_clocks.proofs.IsStepProperties.{kept_within, due_within, seen_step}
+use Rattle.wcp_clocks.proofs.PartsWithin.{within}
 use Rattle.wcp_clocks.specs.Parts.{parts_of}
 use Rattle.wcp_clocks.specs.Stepping.{IsStepBy}
 use Rattle.wcp_clocks.proofs.clocks.WcpClocks.fork.Goals as goal

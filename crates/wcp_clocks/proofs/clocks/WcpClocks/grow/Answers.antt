@@ -1,9 +1,9 @@
 use Rattle.std.proofs.Common.{sym, subst}
 use Rattle.wcp_clocks.specs.Parts.{Parts, IsWithin}
-use Rattle.wcp_clocks.proofs.Growth.{all_grown, grown_parts, seen_ready, seen_numbers}
-use Rattle.wcp_clocks.proofs.Growth.{sums_same, queues_same, held_same}
-use Rattle.wcp_clocks.proofs.Ordered.{order_within}
-use Rattle.wcp_clocks.proofs.Within.{within}
+use Rattle.wcp_clocks.proofs.GrownForProperties.{all_grown, grown_parts, seen_ready, seen_numbers, sums_same}
+use Rattle.wcp_clocks.proofs.GrownForProperties.{queues_same, held_same}
+use Rattle.wcp_clocks.proofs.AreOrderedProperties.{order_within}
+use Rattle.wcp_clocks.proofs.PartsWithin.{within}
 use Rattle.wcp_clocks.proofs.clocks.WcpClocks.grow.Goals as goal
 
 pub prepare_clocks-requires : goal.prepare_clocks-requires

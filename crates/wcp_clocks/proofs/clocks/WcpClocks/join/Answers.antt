@@ -1,10 +1,10 @@
 use Rattle.std.proofs.Common.{ap, ◌∙◌, arith, refl}
 use Rattle.event_core.specs.Effect.{Effect, Joins}
 use Rattle.hb_clocks.specs.Work.{Done}
-use Rattle.wcp_clocks.proofs.Passing.{joins_told}
+use Rattle.wcp_clocks.proofs.OtherSteps.{joins_told}
 use Rattle.wcp_clocks.proofs.Memory.{sums_stay, queues_stay, held_stay}
-use Rattle.wcp_clocks.proofs.Stepped.{kept_within, due_within, seen_step}
-use Rattle.wcp_clocks.proofs.Within.{within}
+use Rattle.wcp_clocks.proofs.IsStepProperties.{kept_within, due_within, seen_step}
+use Rattle.wcp_clocks.proofs.PartsWithin.{within}
 use Rattle.wcp_clocks.specs.Parts.{parts_of}
 use Rattle.wcp_clocks.specs.Stepping.{IsStepBy}
 use Rattle.wcp_clocks.proofs.clocks.WcpClocks.join.Goals as goal

@@ -2,8 +2,8 @@ use Rattle.std.proofs.Common.{◌∙◌, ap, sym}
 use Rattle.event_core.specs.Bounds.{Bounds}
 use Rattle.wcp_clocks.specs.Parts.{Parts}
 use Rattle.wcp_clocks.specs.HeldLists.{held_of}
-use Rattle.wcp_clocks.proofs.Growth.{are_parts, empty_numbers}
-use Rattle.wcp_clocks.proofs.Standing.{empty_stands}
+use Rattle.wcp_clocks.proofs.GrownForProperties.{are_parts, empty_numbers}
+use Rattle.wcp_clocks.proofs.StandsForProperties.{empty_stands}
 use Rattle.wcp_clocks.proofs.clocks.WcpClocks.new.Goals as goal
 
 abbrev parts : goal.After-new-5 → Parts

@@ -6,12 +6,12 @@ use Rattle.lock_queues.specs.Queues.{opened_of}
 use Rattle.wcp_laws.specs.Step.{hb_row}
 use Rattle.wcp_clocks.specs.Met.{met_clocks, AreNumbers}
 use Rattle.wcp_clocks.specs.Parts.{hb_of, state_of, parts_of}
-use Rattle.wcp_clocks.proofs.Closing.{counts_itself}
+use Rattle.wcp_clocks.proofs.ReleaseAtProperties.{counts_itself}
 use Rattle.wcp_clocks.proofs.EffectWords.{own_happens_before, own_opened}
-use Rattle.wcp_clocks.proofs.Passing.{joins_told}
+use Rattle.wcp_clocks.proofs.OtherSteps.{joins_told}
 use Rattle.wcp_clocks.proofs.Memory.{sums_stay}
-use Rattle.wcp_clocks.proofs.Stepped.{kept_within, due_within, seen_step}
-use Rattle.wcp_clocks.proofs.Within.{within}
+use Rattle.wcp_clocks.proofs.IsStepProperties.{kept_within, due_within, seen_step}
+use Rattle.wcp_clocks.proofs.PartsWithin.{within}
 use Rattle.wcp_clocks.specs.Stepping.{IsStepBy}
 use Rattle.wcp_clocks.proofs.clocks.WcpClocks.open.Goals as goal
 

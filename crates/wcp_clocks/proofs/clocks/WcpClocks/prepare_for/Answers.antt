@@ -1,4 +1,5 @@
-use Rattle.wcp_clocks.proofs.Growth.{all_grown, grown_parts, seen_ready, seen_numbers, clocks_same}
+use Rattle.wcp_clocks.proofs.GrownForProperties.{all_grown, grown_parts, seen_ready, seen_numbers}
+use Rattle.wcp_clocks.proofs.GrownForProperties.{clocks_same}
 use Rattle.wcp_clocks.specs.Parts.{parts_of}
 use Rattle.wcp_clocks.proofs.clocks.WcpClocks.prepare_for.Goals as goal
 

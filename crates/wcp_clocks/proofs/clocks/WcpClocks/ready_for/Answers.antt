@@ -1,5 +1,5 @@
-use Rattle.wcp_clocks.proofs.Ordered.{ready_of}
-use Rattle.wcp_clocks.proofs.Within.{within}
+use Rattle.wcp_clocks.proofs.AreOrderedProperties.{ready_of}
+use Rattle.wcp_clocks.proofs.PartsWithin.{within}
 use Rattle.wcp_clocks.proofs.clocks.WcpClocks.ready_for.Goals as goal
 
 pub returns-then-ready-clause-ready : goal.returns-then-ready-clause-ready

@@ -4,7 +4,7 @@ use Rattle.section_sum.specs.Paired.{IsBelowPaired}
 use Rattle.wcp_clocks.specs.MetReleases.{together, IsBelowSource}
 use Rattle.wcp_clocks.specs.Standing.{StandsFor}
 use Rattle.wcp_clocks.proofs.MetReleases.{sources_count, sources_paired}
-use Rattle.wcp_clocks.proofs.Within.{within}
+use Rattle.wcp_clocks.proofs.PartsWithin.{within}
 use Rattle.wcp_clocks.proofs.clocks.WcpClocks.sources.Goals as goal
 
 pub returns-clause-paired : goal.returns-clause-paired

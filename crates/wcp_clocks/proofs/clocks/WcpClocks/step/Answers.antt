@@ -1,4 +1,4 @@
-use Rattle.wcp_clocks.proofs.Stepped.{due_by, done_by}
+use Rattle.wcp_clocks.proofs.IsStepProperties.{due_by, done_by}
 use Rattle.wcp_clocks.proofs.clocks.WcpClocks.step.Goals as goal
 
 pub access-requires : goal.access-requires

@@ -1,7 +1,7 @@
 use Rattle.std.proofs.Common.{ap, sym, subst, ◌∙◌}
 use Rattle.event_core.specs.Count.{Counts}
 use Rattle.event_core.specs.Wcp.{Strict}
-use Rattle.wcp_laws.proofs.Ordering.{strict_is_latest}
+use Rattle.wcp_laws.proofs.ConditionsProperties.{strict_is_latest}
 use Rattle.wcp_clocks.specs.Parts.{Parts, state_of}
 use Rattle.wcp_clocks.specs.StrictRows.{strict_of}
 use Rattle.wcp_clocks.proofs.clocks.WcpClocks.strict.Goals as goal

@@ -1,0 +1,111 @@
+-- What the steps of a cutter take of a text, and where a text stands that was not read to its end.
+use Rattle.std.proofs.Common.{◌≡◌, ℕ, ◌+◌, ◌≤◌, List, [], ◌∷◌, ◌++◌, length, length-append, Option}
+use Rattle.std.proofs.Common.{refl, sym, ap, subst, ◌∙◌, append_assoc, append-nil, arith, take, drop}
+use Rattle.std.proofs.lemmas.List.{length-take-le, take-append-drop}
+use Rattle.std.specs.Io.KnownBytes.{Consumes}
+use Rattle.rapid_line.specs.Cut.{Lacks, count, after_last}
+use Rattle.rapid_line.specs.Lines.{Lines, Cuts, Keeps}
+use Rattle.rapid_line.proofs.CutProperties.{after_last-append, after_last-end, after_last-Lacks, count-append}
+use Rattle.rapid_line.proofs.CutProperties.{count-Lacks, IsCut-at}
+use Rattle.event_core.specs.declared.events.Event.{Event}
+use Rattle.rapid_text.specs.Cutting.{Cutting, Pushes}
+use Rattle.rapid_text.specs.Taking.{Place, lines_place, cutter_place, start, AreUnended, Advances, Truncates}
+
+-- all these bytes were taken: each LF ended a line, and what follows the last one is kept
+pub record Took (old : Place) (bytes : List ℕ) (new : Place) : Type 0 where
+  pub lines : new.unfinished ≡ old.unfinished + count 10 bytes
+  pub kept : new.kept ≡ after_last 10 (old.kept ++ bytes)
+  pub taken : new.taken ≡ old.taken + length bytes
+
+-- a line that ended
+pub cuts_took : {s t : Lines} {piece line rest : List ℕ} (c : Cuts s piece line rest t)
+    → Took (lines_place s) (c.end ++ 10 ∷ []) (lines_place t)
+cuts_took {s} {piece = piece} {rest = rest} c =
+    let cut = IsCut-at 10 piece (c.end, rest) c.first in
+    let one : count 10 (10 ∷ []) ≡ 1 = refl in
+    let parts = count-append 10 c.end (10 ∷ []) in
+    let none = count-Lacks 10 c.end cut.lacks in
+    let long = length-append c.end (10 ∷ []) in
+    record {
+      lines = omega (arith, c.unfinished, parts, none, one);
+      kept = c.kept ∙ sym (ap (λ (b : List ℕ). after_last 10 b) (sym (append_assoc s.kept c.end (10 ∷ [])))
+          ∙ after_last-end 10 (s.kept ++ c.end));
+      taken = omega (arith, c.taken, long);
+    }
+
+-- no line ended
+pub keeps_took : {s t : Lines} {piece : List ℕ} → Keeps s piece t → Lacks 10 t.kept
+    → Took (lines_place s) piece (lines_place t)
+keeps_took {t = t} {piece = piece} k lf = record {
+  lines = let none = count-Lacks 10 piece k.unended in omega (arith, k.unfinished, none);
+  kept = sym (after_last-Lacks 10 t.kept lf) ∙ ap (λ (b : List ℕ). after_last 10 b) k.kept;
+  taken = k.taken;
+}
+
+-- what follows the last LF of all that was taken before the rest
+last_kept : {p q : Place} {front : List ℕ} (rest : List ℕ) → Took p front q
+    → after_last 10 (q.kept ++ rest) ≡ after_last 10 (p.kept ++ (front ++ rest))
+last_kept {p} {front = front} rest h =
+    ap (λ (b : List ℕ). after_last 10 (b ++ rest)) h.kept
+    ∙ sym (after_last-append 10 (p.kept ++ front) rest)
+    ∙ ap (λ (b : List ℕ). after_last 10 b) (append_assoc p.kept front rest)
+
+pub took_more : {p q r : Place} {front more : List ℕ} → Took p front q → Took q more r
+    → Took p (front ++ more) r
+took_more {front = front} {more = more} h k = record {
+  lines = let both = count-append 10 front more in omega (arith, h.lines, k.lines, both);
+  kept = k.kept ∙ last_kept more h;
+  taken = let both = length-append front more in omega (arith, h.taken, k.taken, both);
+}
+
+-- bytes that were taken, and the rest
+took_advances : {p q : Place} {front : List ℕ} (rest : List ℕ) → Took p front q → AreUnended q.kept
+    → Advances p (front ++ rest) rest q
+took_advances {front = front} rest h few = record {
+  lines = let both = count-append 10 front rest in omega (arith, h.lines, both);
+  kept = last_kept rest h;
+  unended = λ _. few;
+  taken = let both = length-append front rest in omega (arith, h.taken, both);
+}
+
+pub cuts_advance : (s t : Lines) (piece line rest : List ℕ) → Cuts s piece line rest t
+    → Advances (lines_place s) piece rest (lines_place t)
+cuts_advance s t piece line rest c =
+    let whole : (c.end ++ 10 ∷ []) ++ rest ≡ piece =
+    append_assoc c.end (10 ∷ []) rest ∙ sym (IsCut-at 10 piece (c.end, rest) c.first).is in
+    subst (λ (b : List ℕ). Advances (lines_place s) b rest (lines_place t)) whole
+    (took_advances rest (cuts_took c) (subst (λ (b : List ℕ). AreUnended b) (sym c.kept) (refl, omega arith)))
+
+pub keeps_advance : (s t : Lines) (piece : List ℕ) → Keeps s piece t → AreUnended t.kept
+    → Advances (lines_place s) piece [] (lines_place t)
+keeps_advance s t piece k few =
+    subst (λ (b : List ℕ). Advances (lines_place s) b [] (lines_place t)) (append-nil piece)
+    (took_advances [] (keeps_took k few.0) few)
+
+-- a push
+pub push_advances : (s t : Cutting) (piece : List ℕ) (used : ℕ) (o : Option Event) → Pushes s t piece used o
+    → AreUnended t.kept → Advances (cutter_place s) piece (drop used piece) (cutter_place t)
+push_advances s t piece used o p few =
+    let long = length-take-le used piece p.used_within in
+    let took : Took (cutter_place s) (take used piece) (cutter_place t) =
+    record { lines = p.lines; kept = p.kept; taken = omega (arith, p.taken, long) } in
+    subst (λ (b : List ℕ). Advances (cutter_place s) b (drop used piece) (cutter_place t))
+    (take-append-drop used piece) (took_advances (drop used piece) took few)
+
+-- a text of which these bytes came and were taken, where the reading stopped
+pub truncates : (left rest : Option (List ℕ)) (Why : List ℕ → Type 0) (now : Place) (So : List ℕ → Type 0)
+    (came : List ℕ) → Consumes left rest came → Why came → Advances start came [] now → So came
+    → Truncates left rest Why now.unfinished So
+truncates left rest Why now So came bytes why took so =
+    let unended = took.unended (refl, omega arith) in
+    let kept : now.kept ≡ after_last 10 came =
+    sym (after_last-Lacks 10 now.kept unended.0)
+    ∙ ap (λ (b : List ℕ). after_last 10 b) (sym (append-nil now.kept)) ∙ took.kept in
+    record {
+      came = came;
+      bytes = bytes;
+      why = why;
+      at = let lines = took.lines in omega (arith, lines);
+      short = subst (λ (b : List ℕ). length b ≤ 1025) kept unended.1;
+      so = so;
+    }
