@@ -1,26 +1,14 @@
 -- Room that is made in parts.
-use Rattle.std.proofs.Common.{◌≡◌, ℕ, ◌+◌, ◌<◌, ◌≤◌, List, length, Result, Ok, Err, OnOk, refl, sym, subst}
+use Rattle.std.proofs.Common.{◌≡◌, ℕ, ◌+◌, ◌<◌, ◌≤◌, List, length, refl, sym, subst}
 use Rattle.std.proofs.Common.{◌∙◌, inl, inr, ◌⊎◌, arith}
 use Rattle.std.specs.Prelude.{max}
 use Rattle.event_core.specs.declared.ids.ThreadId.{ThreadId}
 use Rattle.event_core.specs.declared.ids.LockId.{LockId}
 use Rattle.event_core.specs.declared.events.Op.{Op}
 use Rattle.event_core.specs.declared.events.Op.TheVariants.{Load, Acquire, Release, Fork, Join}
-use Rattle.event_core.specs.declared.replies.OutOfMemory.{OutOfMemory}
 use Rattle.hb_clocks.specs.Tables.{ClockTables, HasThread, IsReady, KeepsRoom}
 use Rattle.hb_clocks.specs.Tables.{HasGrown, GrownFor, IsThreadFor, IsLockOf, threads_for, locks_for}
 use Rattle.hb_clocks.specs.Rows.{widths_of, IsMade}
-
--- what follows from a fact follows where all went well
-pub on_ok : (r : Result (Unit {0}) OutOfMemory) (P Q : Type 0) → (P → Q) → OnOk r P → OnOk r Q
-on_ok (Ok x) P Q f p = f p
-on_ok (Err e) P Q f p = tt
-
--- the same of two facts
-pub on_both : (r : Result (Unit {0}) OutOfMemory) (P Q R : Type 0) → (P → Q → R) → OnOk r P → OnOk r Q
-    → OnOk r R
-on_both (Ok x) P Q R f p q = f p q
-on_both (Err e) P Q R f p q = tt
 
 -- a thread's room stays
 pub thread_stays : (old new : ClockTables) (t : ThreadId) → KeepsRoom old new

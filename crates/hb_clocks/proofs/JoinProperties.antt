@@ -30,7 +30,8 @@ joined_at xs ys u same = ap (λ (f : ℕ → ℕ). f u) (joined_counts xs ys sam
 -- where the first numbers of a clock are joined with those of a shorter list, the clock is joined with it
 pub front_joined : (joined mine theirs : List ℕ) → length theirs ≤ length mine
     → length joined ≡ length theirs
-    → counts_of joined ≡ join (counts_of (take (length theirs) mine)) (counts_of theirs)
+    → ((k : ℕ) → k < length theirs
+    → get_or joined k 0 ≡ max (get_or (take (length theirs) mine) k 0) (get_or theirs k 0))
     → counts_of (joined ++ drop (length theirs) mine) ≡ join (counts_of mine) (counts_of theirs)
 front_joined joined mine theirs within width counts i u = at (cases_lt u (length theirs)) i
   where
@@ -41,8 +42,7 @@ front_joined joined mine theirs within width counts i u = at (cases_lt u (length
         → get_or (joined ++ drop n mine) u 0 ≡ max (get_or mine u 0) (get_or theirs u 0)
     at (inl lt) =
         get_or_append_left joined (drop n mine) 0 u (omega arith)
-        ∙ (ap (λ (f : ℕ → ℕ). f u) counts
-        ∙ ap (λ k. max k (get_or theirs u 0)) (get_or-take n mine u 0 lt))
+        ∙ (counts u lt ∙ ap (λ k. max k (get_or theirs u 0)) (get_or-take n mine u 0 lt))
     at (inr le) =
         let place : n + (u - n) ≡ u = omega arith in
         get_or-append_right joined (drop n mine) n u 0 width le

@@ -12,3 +12,4 @@ pub mod RowsProperties
 pub mod RowsWithin
 pub mod TableSteps
 pub mod IsUnusedFromProperties
+pub mod WithRowProperties

@@ -1,6 +1,6 @@
 -- Writes to the rows of a table, and to those of a table in two parts.
-use Rattle.std.proofs.Common.{◌≡◌, ℕ, ◌-◌, ◌<◌, ◌≤◌, List, [], ◌++◌, length, get_or, set, refl, sym, ap}
-use Rattle.std.proofs.Common.{subst, ◌∙◌, inl, inr, ◌⊎◌, arith, cond, nat_eq}
+use Rattle.std.proofs.Common.{◌≡◌, ℕ, ◌+◌, ◌-◌, ◌<◌, ◌≤◌, List, [], ◌++◌, length, get_or, set, refl, sym, ap}
+use Rattle.std.proofs.Common.{ap₂, subst, ◌∙◌, inl, inr, ◌⊎◌, arith, cond, nat_eq}
 use Rattle.std.proofs.lemmas.Bool.{cases_lt, cases_eq}
 use Rattle.std.proofs.lemmas.List.{get_or-set_same, get_or-set_other, get_or_append_left, get_or_default}
 use Rattle.std.proofs.lemmas.List.{get_or-append_right}
@@ -101,13 +101,13 @@ rows_set rows t row lt i a = set_read counts_of [] rows t row a lt i
 -- a table in two parts, one of which is written
 module _ (rows front back new : List (List ℕ)) (whole : rows ≡ front ++ back) where
   -- a row of the first part is the table's row
-  pub front_read : (t : ℕ) (d : List ℕ) → t < length front → counts_of (get_or front t d) ≡ rows_of rows t
+  front_read : (t : ℕ) (d : List ℕ) → t < length front → counts_of (get_or front t d) ≡ rows_of rows t
   front_read t d lt =
       ap counts_of (get_or_default front t d [] lt) ∙ sym (read_left counts_of front back t lt)
       ∙ sym (ap (λ xs. rows_of xs t) whole)
 
   -- the first row of the second part is the table's row after the first part
-  pub back_read : (t : ℕ) (d : List ℕ) → length front ≡ t → 0 < length back
+  back_read : (t : ℕ) (d : List ℕ) → length front ≡ t → 0 < length back
       → counts_of (get_or back 0 d) ≡ rows_of rows t
   back_read t d at some =
       let z : t - t ≡ 0 = omega arith in
@@ -116,18 +116,36 @@ module _ (rows front back new : List (List ℕ)) (whole : rows ≡ front ++ back
       ∙ sym (read_right counts_of front back t t at le) ∙ sym (ap (λ xs. rows_of xs t) whole)
 
   -- a row that is written in the first part is written in the table
-  pub front_written : (t : ℕ) (f g : ℕ → ℕ) → length new ≡ length front → t < length front → f ≡ g
+  front_written : (t : ℕ) (f g : ℕ → ℕ) → length new ≡ length front → t < length front → f ≡ g
       → rows_of new ≡ with_row t f (rows_of front) → rows_of (new ++ back) ≡ with_row t g (rows_of rows)
   front_written t f g same lt is e =
       (λ i a. read_front counts_of front back new t f same lt (λ b. ap (λ r. r b) e) a i)
       ∙ ap (λ k. with_row t k (rows_of (front ++ back))) is ∙ ap (λ xs. with_row t g (rows_of xs)) (sym whole)
 
   -- a row that is written first in the second part is written in the table after the first part
-  pub back_written : (t : ℕ) (f g : ℕ → ℕ) → length front ≡ t → f ≡ g
+  back_written : (t : ℕ) (f g : ℕ → ℕ) → length front ≡ t → f ≡ g
       → rows_of new ≡ with_row 0 f (rows_of back) → rows_of (front ++ new) ≡ with_row t g (rows_of rows)
   back_written t f g at is e =
       (λ i a. read_back counts_of front back new t f at (λ b. ap (λ r. r b) e) a i)
       ∙ ap (λ k. with_row t k (rows_of (front ++ back))) is ∙ ap (λ xs. with_row t g (rows_of xs)) (sym whole)
+
+  -- a row of the first part takes what the first row of the second part has
+  pub front_takes : (take : (ℕ → ℕ) → (ℕ → ℕ) → ℕ → ℕ) (to from : ℕ) (d : List ℕ)
+      → length new ≡ length front → length front ≡ from → length back + from ≡ length rows
+      → from < length rows → to < from
+      → rows_of new ≡ with_row to (take (rows_of front to) (counts_of (get_or back 0 d))) (rows_of front)
+      → rows_of (new ++ back) ≡ with_row to (take (rows_of rows to) (rows_of rows from)) (rows_of rows)
+  front_takes take to from d same at len within lt =
+      front_written to _ _ same (omega arith)
+      (ap₂ take (front_read to [] (omega arith)) (back_read from d at (omega arith)))
+
+  -- the first row of the second part takes what a row of the first part has
+  pub back_takes : (take : (ℕ → ℕ) → (ℕ → ℕ) → ℕ → ℕ) (to from : ℕ) (d : List ℕ)
+      → length front ≡ to → length back + to ≡ length rows → to < length rows → from < to
+      → rows_of new ≡ with_row 0 (take (rows_of back 0) (counts_of (get_or front from d))) (rows_of back)
+      → rows_of (front ++ new) ≡ with_row to (take (rows_of rows to) (rows_of rows from)) (rows_of rows)
+  back_takes take to from d at len within lt =
+      back_written to _ _ at (ap₂ take (back_read to [] at (omega arith)) (front_read from d (omega arith)))
 
   -- widths that stay in the first part stay in the table
   pub front_widths : length new ≡ length front → widths_of new ≡ widths_of front

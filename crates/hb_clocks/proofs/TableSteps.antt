@@ -1,7 +1,6 @@
 -- The step of an event on the tables is the step of what they mean.
-use Rattle.std.proofs.Common.{◌≡◌, ℕ, ◌<◌, ◌≤◌, ◌+◌, ◌^◌, max, List, length, refl, sym, ap, ap₂, subst, ◌∙◌}
-use Rattle.std.proofs.Common.{arith, inl, inr, ◌⊎◌}
-use Rattle.std.proofs.lemmas.Bool.{cases_eq}
+use Rattle.std.proofs.Common.{◌≡◌, ℕ, ◌<◌, ◌≤◌, ◌+◌, ◌^◌, max, List, length, refl, sym, ap, ap₂, ◌∙◌}
+use Rattle.std.proofs.Common.{arith}
 use Rattle.std.proofs.lemmas.List.{with_items_is}
 use Rattle.std.specs.Vec.{with_items}
 use Rattle.std.specs.declared.vec.Vec.{Vec}
@@ -12,7 +11,7 @@ use Rattle.event_core.specs.declared.events.Op.{Op}
 use Rattle.event_core.specs.declared.events.Op.TheVariants.{Acquire, Release, Fork, Join}
 use Rattle.event_core.specs.Rows.{clock_after, join, bump, with_row, Rows, to_child, to_lock, brought}
 use Rattle.event_core.specs.Effect.{Effect, Opens, Joins}
-use Rattle.event_core.proofs.RowsAfterProperties.{row_same, row_other}
+use Rattle.event_core.proofs.RowsAfterProperties.{row_same}
 use Rattle.hb_clocks.specs.declared.holds.Hold.{Hold}
 use Rattle.hb_clocks.specs.Holds.{hold_at, holds_after, is_outer, effect_by, HasHold}
 use Rattle.hb_clocks.specs.State.{HbState, effect, without_locks, after}
@@ -22,15 +21,7 @@ use Rattle.hb_clocks.specs.Tables.{HasClocks, KeepsRoom, SameRows, SameMemory, A
 use Rattle.hb_clocks.specs.Rows.{rows_of, widths_of}
 use Rattle.hb_clocks.proofs.HoldsProperties.{AloneAt, of_holder, outer_effect, depths_after, holds_length}
 use Rattle.hb_clocks.proofs.MadeRows.{made_kept, wide_kept, written_widths}
-
--- a row that is written twice
-pub row_again : {A : Type 0} (t : ℕ) (g h : A) (f : ℕ → A) → with_row t g (with_row t h f) ≡ with_row t g f
-row_again t g h f i a = go (cases_eq a t) i
-  where
-    go : (a ≡ t) ⊎ (a ≡ t → ⊥) → with_row t g (with_row t h f) a ≡ with_row t g f a
-    go (inl q) = subst (λ b. with_row t g (with_row t h f) b ≡ with_row t g f b) (sym q)
-        (row_same t g (with_row t h f) ∙ sym (row_same t g f))
-    go (inr n) = row_other t g (with_row t h f) a n ∙ row_other t h f a n ∙ sym (row_other t g f a n)
+use Rattle.hb_clocks.proofs.WithRowProperties.{row_again}
 
 -- what is taken, then the event
 module _ (t : ℕ) (source : ℕ → ℕ) (f taken bumped : ℕ → ℕ → ℕ)

@@ -12,9 +12,9 @@ pub record MarkedEvent : Type 0 where
   pub thread : ℕ
   pub position : ℕ
 
--- the clock counts the event
-abbrev pub Counts : List ℕ → MarkedEvent → Type 0
-Counts clock m = m.position ≤ counts_of clock m.thread
+-- the clock covers the event: it counts it, and so all earlier ones of its thread
+abbrev pub Covers : List ℕ → MarkedEvent → Type 0
+Covers clock m = m.position ≤ counts_of clock m.thread
 
 abbrev pub no_mark : MarkedEvent
 no_mark = record { thread = 0; position = 0 }

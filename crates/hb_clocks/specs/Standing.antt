@@ -6,6 +6,7 @@ use Rattle.event_core.specs.declared.events.Event.{Event}
 use Rattle.event_core.specs.declared.events.Op.{Op}
 use Rattle.event_core.specs.declared.events.Op.TheVariants.{Acquire, Release, Fork, Join}
 use Rattle.event_core.specs.declared.bounds.Limits.{Limits}
+use Rattle.event_core.specs.declared.bounds.TheConstants.{MOST_EVENTS}
 use Rattle.event_core.specs.Log.{depth}
 use Rattle.event_core.specs.Order.{Po, Hb}
 use Rattle.event_core.specs.Refusal.{WellFormed}
@@ -52,7 +53,7 @@ pub record IsAtMost (most : ℕ) (s : HbState) : Type 0 where
 
 -- no number is above the greatest number of events
 abbrev pub IsFew : HbState → Type 0
-IsFew s = IsAtMost 4294967296 s
+IsFew s = IsAtMost MOST_EVENTS s
 
 -- the step keeps the meaning
 abbrev pub StepStands : Type 0
@@ -66,4 +67,4 @@ AdmitsLegal = (limits : Limits) (log : List Event) (e : Event) (s : HbState)
 
 -- a log within the greatest number of events has few
 abbrev pub FewInLog : Type 0
-FewInLog = (log : List Event) (s : HbState) → length log ≤ 4294967296 → StandsFor log s → IsFew s
+FewInLog = (log : List Event) (s : HbState) → length log ≤ MOST_EVENTS → StandsFor log s → IsFew s

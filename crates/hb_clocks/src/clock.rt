@@ -156,22 +156,14 @@ impl Clock {
     }
 }
 
-// The greater of both numbers, as far as the others go: beyond, they are 0.
+// The greater of both numbers, as far as the others go: beyond, they are 0. In the loop both lists are of one
+// length, so that no place is tested, and it goes over several numbers at a time. The write is unconditional:
+// a branch in its place costs five to ten times as much.
 fn take_greater(mine: &mut [u64], theirs: &[u64])
     requires within { length theirs.now ≤ length mine.old }
     ensures { counts_of mine.new ≡ join (counts_of mine.old) (counts_of theirs.now) }
 {
-    take_each_greater(&mut mine[..theirs.len()], theirs);
-}
-
-// The same of lists of one length, so that no place is tested in the loop, and it goes over several numbers
-// at a time. The write is unconditional: a branch in its place costs five to ten times as much.
-#[inline(always)]
-fn take_each_greater(mine: &mut [u64], theirs: &[u64])
-    requires widths { length mine.old ≡ length theirs.now }
-    ensures counts { counts_of mine.new ≡ join (counts_of mine.old) (counts_of theirs.now) }
-    ensures width { length mine.new ≡ length mine.old }
-{
+    let mine = &mut mine[..theirs.len()];
     for u in 0..theirs.len() {
         mine[u] = mine[u].max(theirs[u]);
     }
@@ -182,16 +174,7 @@ fn take_greater_of_short(mine: &mut [u64], theirs: &[u32])
     requires within { length theirs.now ≤ length mine.old }
     ensures { counts_of mine.new ≡ join (counts_of mine.old) (counts_of theirs.now) }
 {
-    take_each_greater_of_short(&mut mine[..theirs.len()], theirs);
-}
-
-// The same of lists of one length.
-#[inline(always)]
-fn take_each_greater_of_short(mine: &mut [u64], theirs: &[u32])
-    requires widths { length mine.old ≡ length theirs.now }
-    ensures counts { counts_of mine.new ≡ join (counts_of mine.old) (counts_of theirs.now) }
-    ensures width { length mine.new ≡ length mine.old }
-{
+    let mine = &mut mine[..theirs.len()];
     for u in 0..theirs.len() {
         mine[u] = mine[u].max(theirs[u] as u64);
     }

@@ -255,8 +255,8 @@ impl HbClocks {
     // Makes the lock's clock and its hold.
     fn make_lock(&mut self, lock: LockId) -> Result<(), OutOfMemory>
         ensures same { state_of self.new ≡ state_of self.old }
-        ensures clock { OnOk result (IsMade self.new.width self.new.lock lock.0) }
-        ensures hold { OnOk result (lock.0 < length self.new.holds) }
+        ensures made { OnOk result ((lock.0 < length self.new.holds)
+            × IsMade self.new.width self.new.lock lock.0) }
         ensures kept { KeepsRoom self.old self.new }
         ensures grown { (t : ThreadId) (o : Op) → lock.0 < locks_for o → IsLockOf o lock.0
             → GrownFor self.old self.new t o }

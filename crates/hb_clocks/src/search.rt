@@ -1,6 +1,6 @@
 //! The search among marks that lie side by side.
 ghost use Rattle.std.specs.Prelude.{◌≡◌, ℕ, ◌+◌, ◌<◌, ◌≤◌, ◌^◌, length};
-ghost use Rattle.hb_clocks.specs.Marks.{mark_at, Counts};
+ghost use Rattle.hb_clocks.specs.Marks.{mark_at, Covers};
 
 use crate::clock::Clock;
 use crate::mark::Mark;
@@ -13,9 +13,9 @@ pub fn search_marks(marks: &[Mark], known: usize, clock: &Clock, work: &mut Work
     requires within { known ≤ length marks.now }
     requires widths { (k : ℕ) → k < length marks.now → (mark_at marks.now k).thread < length clock.now }
     requires few { work.old.comparisons + length marks.now < 2 ^ 63 + known }
-    requires before { (k : ℕ) → k < known → Counts clock.now (mark_at marks.now k) }
-    ensures counted { (k : ℕ) → k < result → Counts clock.now (mark_at marks.now k) }
-    ensures stopped { result < length marks.now → Counts clock.now (mark_at marks.now result) → ⊥ }
+    requires before { (k : ℕ) → k < known → Covers clock.now (mark_at marks.now k) }
+    ensures counted { (k : ℕ) → k < result → Covers clock.now (mark_at marks.now k) }
+    ensures stopped { result < length marks.now → Covers clock.now (mark_at marks.now result) → ⊥ }
     ensures within { result ≤ length marks.now }
     ensures joins { work.new.joins ≡ work.old.joins }
     ensures most { work.new.comparisons + known ≤ work.old.comparisons + result + 1 }

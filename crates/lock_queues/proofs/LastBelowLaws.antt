@@ -27,10 +27,10 @@ use Rattle.event_core.proofs.ClosedProperties.{counted_before, release_order, be
 use Rattle.event_core.proofs.ClosedProperties.{number_most}
 use Rattle.lock_queues.specs.Sections.{closed_at, latest_counted}
 use Rattle.lock_queues.specs.Queues.{AllQueues, closed_of, opened_of, found_of}
-use Rattle.lock_queues.specs.Searched.{CountsEarlier}
+use Rattle.lock_queues.specs.Searched.{CoversEarlier}
 use Rattle.lock_queues.specs.Standing.{AreSections, AreOf, StandsFor, CountsEvent, CountsNone, IsLatest}
 use Rattle.lock_queues.specs.Laws.{StrictClocksMayAsk, FindingKeepsThem, ReleasesAreAbove}
-use Rattle.lock_queues.proofs.LatestCountedProperties.{CountsAt, number_least, counted_first, none_counted}
+use Rattle.lock_queues.proofs.LatestCountedProperties.{CoversAt, number_least, counted_first, none_counted}
 use Rattle.lock_queues.proofs.LatestCountedProperties.{IsLatestAt, latest_place}
 use Rattle.lock_queues.proofs.StandsForProperties.{same_are, holder_has_events}
 use Rattle.lock_queues.proofs.AreSectionsProperties.{Entered, entered, has_place, place_within}
@@ -39,7 +39,7 @@ module _ (log : List Event) (ord : Orderly log) (t : ThreadId) (c : ℕ → ℕ)
     (counted : Counted log (Past log (Strict log) t) c) (l : LockId) (qs : List Closed)
     (are : AreSections log l qs) where
   -- with a section the clock counts the earlier ones on its lock, place by place
-  before : (k m : ℕ) → k ≤ m → m < length qs → CountsAt c qs m → CountsAt c qs k
+  before : (k m : ℕ) → k ≤ m → m < length qs → CoversAt c qs m → CoversAt c qs k
   before k m le lt h =
       let x = entered log l qs ord are k (omega arith) in
       let y = entered log l qs ord are m lt in
@@ -49,7 +49,7 @@ module _ (log : List Event) (ord : Orderly log) (t : ThreadId) (c : ℕ → ℕ)
       (closed_at qs m) ord counted x.is y.is up h
 
   -- of two entries the one with the lower release clock is the earlier one
-  pub counts_earlier : CountsEarlier c qs
+  pub counts_earlier : CoversEarlier c qs
   counts_earlier p q hp hq le is =
       counted_before log t c x.thread y.thread l x.acquire x.release y.acquire y.release p q ord counted x.is
       y.is

@@ -8,15 +8,15 @@ use Rattle.event_core.specs.Closed.{Closed, Has, first, later, is_counted, numbe
 use Rattle.event_core.specs.Rows.{no_clock}
 use Rattle.event_core.proofs.ClosedProperties.{number_most}
 use Rattle.lock_queues.specs.Sections.{closed_at, latest_counted, AreRising}
-use Rattle.lock_queues.specs.Searched.{CountsEarlier, IsLatestBefore}
+use Rattle.lock_queues.specs.Searched.{CoversEarlier, IsLatestBefore}
 
 -- the clock counts the section at the place
-abbrev pub CountsAt : (ℕ → ℕ) → List Closed → ℕ → Type 0
-CountsAt c qs k = is_counted c (closed_at qs k) ≡ true
+abbrev pub CoversAt : (ℕ → ℕ) → List Closed → ℕ → Type 0
+CoversAt c qs k = is_counted c (closed_at qs k) ≡ true
 
 -- with a section it counts each one before it
-abbrev pub CountsBefore : (ℕ → ℕ) → List Closed → Type 0
-CountsBefore c qs = (k m : ℕ) → k ≤ m → m < length qs → CountsAt c qs m → CountsAt c qs k
+abbrev pub CoversBefore : (ℕ → ℕ) → List Closed → Type 0
+CoversBefore c qs = (k m : ℕ) → k ≤ m → m < length qs → CoversAt c qs m → CoversAt c qs k
 
 -- the section at a place is in the list
 pub has_at : (qs : List Closed) (k : ℕ) → k < length qs → Has (closed_at qs k) qs
@@ -25,14 +25,14 @@ has_at (q ∷ qs) zero lt = first q qs refl
 has_at (q ∷ qs) (suc k) lt = later q qs (has_at qs k (omega arith))
 
 -- what is asked of the clock, by place
-pub counts_before : (c : ℕ → ℕ) (qs : List Closed) → AreRising qs → CountsEarlier c qs → CountsBefore c qs
+pub counts_before : (c : ℕ → ℕ) (qs : List Closed) → AreRising qs → CoversEarlier c qs → CoversBefore c qs
 counts_before c qs rising earlier k m le lt h =
     earlier (closed_at qs k) (closed_at qs m) (has_at qs k (omega arith)) (has_at qs m lt)
     (λ u. rising k m u le lt) h
 
 -- where the first n are counted, so many are
 pub number_least : (c : ℕ → ℕ) (qs : List Closed) (n : ℕ) → n ≤ length qs
-    → ((k : ℕ) → k < n → CountsAt c qs k) → n ≤ number_counted c qs
+    → ((k : ℕ) → k < n → CoversAt c qs k) → n ≤ number_counted c qs
 number_least c qs zero le counted = omega arith
 number_least c [] (suc n) le counted = absurd (omega arith)
 number_least c (q ∷ qs) (suc n) le counted =
@@ -42,15 +42,15 @@ number_least c (q ∷ qs) (suc n) le counted =
     omega (arith, rest, head)
 
 -- where the counted ones come first, they are so many
-pub counted_first : (c : ℕ → ℕ) (qs : List Closed) → CountsBefore c qs → (k : ℕ) → k < number_counted c qs
-    → CountsAt c qs k
+pub counted_first : (c : ℕ → ℕ) (qs : List Closed) → CoversBefore c qs → (k : ℕ) → k < number_counted c qs
+    → CoversAt c qs k
 counted_first c [] before k lt = absurd (omega arith)
 counted_first c (q ∷ qs) before k lt =
     go (cases_Bool (is_counted c q)) k lt
     (counted_first c qs (λ i m le l h. before (suc i) (suc m) (omega arith) (omega arith) h))
   where
     go : (is_counted c q ≡ true) ⊎ (is_counted c q ≡ false) → (k : ℕ) → k < number_counted c (q ∷ qs)
-        → ((k : ℕ) → k < number_counted c qs → CountsAt c qs k) → CountsAt c (q ∷ qs) k
+        → ((k : ℕ) → k < number_counted c qs → CoversAt c qs k) → CoversAt c (q ∷ qs) k
     go (inl t) zero lt rest = t
     go (inl t) (suc k) lt rest =
         let head : cond {A = ℕ} (is_counted c q) 1 0 ≡ 1 = ap (λ b. cond {A = ℕ} b 1 0) t in
@@ -63,15 +63,15 @@ counted_first c (q ∷ qs) before k lt =
         absurd (let both : true ≡ false = sym t ∙ f in cc)
 
 -- a counted one is among so many
-counted_within : (c : ℕ → ℕ) (qs : List Closed) (k : ℕ) → CountsBefore c qs → k < length qs → CountsAt c qs k
+counted_within : (c : ℕ → ℕ) (qs : List Closed) (k : ℕ) → CoversBefore c qs → k < length qs → CoversAt c qs k
     → k < number_counted c qs
 counted_within c qs k before lt is =
     let le = number_least c qs (suc k) (omega arith) (λ j l. before j k (omega arith) lt is) in
     omega (arith, le)
 
 -- a search that stops at n has found the counted ones
-pub number_is : (c : ℕ → ℕ) (qs : List Closed) (n : ℕ) → n ≤ length qs → ((k : ℕ) → k < n → CountsAt c qs k)
-    → (n < length qs → CountsAt c qs n → ⊥) → CountsBefore c qs → number_counted c qs ≡ n
+pub number_is : (c : ℕ → ℕ) (qs : List Closed) (n : ℕ) → n ≤ length qs → ((k : ℕ) → k < n → CoversAt c qs k)
+    → (n < length qs → CoversAt c qs n → ⊥) → CoversBefore c qs → number_counted c qs ≡ n
 number_is c qs n le counted stopped before =
     let least = number_least c qs n le counted in
     let most = number_most c qs in
@@ -85,19 +85,19 @@ pub record IsLatestAt (c : ℕ → ℕ) (qs : List Closed) (q : Closed) : Type 0
   pub place : ℕ
   pub within : place < length qs
   pub is : closed_at qs place ≡ q
-  pub counted : CountsAt c qs place
-  pub latest : (m : ℕ) → m < length qs → CountsAt c qs m → m ≤ place
+  pub counted : CoversAt c qs place
+  pub latest : (m : ℕ) → m < length qs → CoversAt c qs m → m ≤ place
 
 -- where there is no latest counted section, none is counted
 pub none_counted : (c : ℕ → ℕ) (qs : List Closed) → latest_counted c qs ≡ None → (m : ℕ) → m < length qs
-    → CountsAt c qs m → ⊥
+    → CoversAt c qs m → ⊥
 none_counted c [] e m lt h = omega arith
 none_counted c (q ∷ qs) e m lt h =
     go (latest_counted c qs) refl (is_counted c q) refl e m lt h (none_counted c qs)
   where
     go : (o : Option Closed) → latest_counted c qs ≡ o → (b : Bool) → is_counted c q ≡ b
-        → option_or o (cond b (Some q) None) ≡ None → (m : ℕ) → m < length (q ∷ qs) → CountsAt c (q ∷ qs) m
-        → (latest_counted c qs ≡ None → (m : ℕ) → m < length qs → CountsAt c qs m → ⊥) → ⊥
+        → option_or o (cond b (Some q) None) ≡ None → (m : ℕ) → m < length (q ∷ qs) → CoversAt c (q ∷ qs) m
+        → (latest_counted c qs ≡ None → (m : ℕ) → m < length qs → CoversAt c qs m → ⊥) → ⊥
     go (Some x) oe b be e m lt h rest = cc
     go None oe true be e m lt h rest = cc
     go None oe false be e zero lt h rest = let both : true ≡ false = sym h ∙ be in cc
@@ -113,7 +113,7 @@ latest_place c (q ∷ qs) x e =
     go : (o : Option Closed) → latest_counted c qs ≡ o → (b : Bool) → is_counted c q ≡ b
         → option_or o (cond b (Some q) None) ≡ Some x
         → (latest_counted c qs ≡ Some x → IsLatestAt c qs x)
-        → (latest_counted c qs ≡ None → (m : ℕ) → m < length qs → CountsAt c qs m → ⊥)
+        → (latest_counted c qs ≡ None → (m : ℕ) → m < length qs → CoversAt c qs m → ⊥)
         → IsLatestAt c (q ∷ qs) x
     go (Some y) oe b be e rest none =
         let r = rest (oe ∙ e) in
@@ -126,7 +126,7 @@ latest_place c (q ∷ qs) x e =
           latest = later r;
         }
       where
-        later : (r : IsLatestAt c qs x) → (m : ℕ) → m < length (q ∷ qs) → CountsAt c (q ∷ qs) m
+        later : (r : IsLatestAt c qs x) → (m : ℕ) → m < length (q ∷ qs) → CoversAt c (q ∷ qs) m
             → m ≤ suc r.place
         later r zero lt h = omega arith
         later r (suc m) lt h = let le = r.latest m (omega arith) h in omega (arith, le)
@@ -138,14 +138,14 @@ latest_place c (q ∷ qs) x e =
       latest = only;
     }
       where
-        only : (m : ℕ) → m < length (q ∷ qs) → CountsAt c (q ∷ qs) m → m ≤ 0
+        only : (m : ℕ) → m < length (q ∷ qs) → CoversAt c (q ∷ qs) m → m ≤ 0
         only zero lt h = omega arith
         only (suc m) lt h = absurd (none oe m (omega arith) h)
     go None oe false be e rest none = absurd cc
 
 -- the greatest release clock is the least bound of those of the counted ones
 below_least : (c : ℕ → ℕ) (qs : List Closed) (u bound : ℕ)
-    → ((k : ℕ) → k < length qs → CountsAt c qs k → (closed_at qs k).release u ≤ bound)
+    → ((k : ℕ) → k < length qs → CoversAt c qs k → (closed_at qs k).release u ≤ bound)
     → below_closed c qs u ≤ bound
 below_least c [] u bound h = omega arith
 below_least c (q ∷ qs) u bound h =
@@ -156,7 +156,7 @@ below_least c (q ∷ qs) u bound h =
     go true is rest = let head = h 0 (omega arith) is in omega arith
     go false is rest = omega arith
 
-below_most : (c : ℕ → ℕ) (qs : List Closed) (u k : ℕ) → k < length qs → CountsAt c qs k
+below_most : (c : ℕ → ℕ) (qs : List Closed) (u k : ℕ) → k < length qs → CoversAt c qs k
     → (closed_at qs k).release u ≤ below_closed c qs u
 below_most c [] u k lt is = absurd (omega arith)
 below_most c (q ∷ qs) u zero lt is =
@@ -169,7 +169,7 @@ below_most c (q ∷ qs) u (suc k) lt is =
     ≡ max (cond (is_counted c q) q.release no_clock u) (below_closed c qs u) = refl in
     omega arith
 
-module _ (c : ℕ → ℕ) (qs : List Closed) (before : CountsBefore c qs) (rising : AreRising qs) where
+module _ (c : ℕ → ℕ) (qs : List Closed) (before : CoversBefore c qs) (rising : AreRising qs) where
   none_latest : number_counted c qs ≡ 0 → latest_counted c qs ≡ None
   none_latest none = go (latest_counted c qs) refl
     where
@@ -183,7 +183,7 @@ module _ (c : ℕ → ℕ) (qs : List Closed) (before : CountsBefore c qs) (risi
   last_latest : 0 < number_counted c qs → latest_counted c qs ≡ Some (closed_at qs (number_counted c qs - 1))
   last_latest some = go (latest_counted c qs) refl
     where
-      last : CountsAt c qs (number_counted c qs - 1)
+      last : CoversAt c qs (number_counted c qs - 1)
       last = counted_first c qs before (number_counted c qs - 1) (omega arith)
 
       go : (o : Option Closed) → latest_counted c qs ≡ o → o ≡ Some (closed_at qs (number_counted c qs - 1))

@@ -7,7 +7,8 @@ use Rattle.event_core.specs.Rows.{with_row}
 use Rattle.event_core.proofs.RowsAfterProperties.{row_other}
 use Rattle.lock_queues.specs.Slots.{has_slot, opened_in}
 use Rattle.lock_queues.specs.Queue.{OneQueue, queue_at, no_queue}
-use Rattle.lock_queues.proofs.SlotsProperties.{Whether, row_here, row_kept, entered_has}
+use Rattle.lock_queues.proofs.SlotsProperties.{Whether, entered_has}
+use Rattle.hb_clocks.proofs.WithRowProperties.{row_here, row_kept}
 
 -- a lock of which something is so that is not so without a queue has one
 pub known : (P : OneQueue → Type 0) (qs : List OneQueue) (l : ℕ) → (P no_queue → ⊥) → P (queue_at qs l)

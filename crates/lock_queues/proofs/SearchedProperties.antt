@@ -5,11 +5,11 @@ use Rattle.std.proofs.lemmas.List.{get_or_read}
 use Rattle.event_core.specs.Bounds.{Bounds}
 use Rattle.event_core.specs.Closed.{is_counted, number_counted}
 use Rattle.hb_clocks.specs.Counts.{counts_of}
-use Rattle.lock_queues.specs.Sections.{closed_at, section_of, entry_at, CountsEntry, AreRising}
-use Rattle.lock_queues.specs.Searched.{CountsEarlier}
+use Rattle.lock_queues.specs.Sections.{closed_at, section_of, entry_at, CoversEntry, AreRising}
+use Rattle.lock_queues.specs.Searched.{CoversEarlier}
 use Rattle.lock_queues.specs.Queue.{OneQueue, queue_at, no_queue}
 use Rattle.lock_queues.specs.Queues.{AllQueues, AreKept, closed_of, opened_of, is_ready}
-use Rattle.lock_queues.proofs.LatestCountedProperties.{CountsAt, CountsBefore, counts_before, number_is}
+use Rattle.lock_queues.proofs.LatestCountedProperties.{CoversAt, CoversBefore, counts_before, number_is}
 use Rattle.lock_queues.proofs.QueueAtProperties.{Read, known, read_entered, read_ready}
 use Rattle.lock_queues.proofs.AreKeptProperties.{some_made}
 use Rattle.lock_queues.proofs.SectionsOfProperties.{section_is, count_of}
@@ -21,14 +21,14 @@ tables b qs ns r m = record { limits = b; queues = qs; numbers = ns; queue_room 
 -- the lock's sections, which are those of the queue
 pub record AreOf (v : AllQueues) (l : ℕ) (clock : List ℕ) (q : OneQueue) : Type 0 where
   pub rising : AreRising (closed_of v l)
-  pub before : CountsBefore (counts_of clock) (closed_of v l)
-  pub counts : (k : ℕ) → CountsAt (counts_of clock) (closed_of v l) k ↔ CountsEntry q.entries clock k
+  pub before : CoversBefore (counts_of clock) (closed_of v l)
+  pub counts : (k : ℕ) → CoversAt (counts_of clock) (closed_of v l) k ↔ CoversEntry q.entries clock k
   pub count : length (closed_of v l) ≡ length q.entries
 
 -- the sections of a lock, for a clock that counts the earlier ones, are those of its queue
 pub are_of : {v : AllQueues} {b : Bounds} {qs : List OneQueue} {ns : List ℕ} {w made most r m : ℕ} (l : ℕ)
     (clock : List ℕ) (q : OneQueue) → tables b qs ns r m ≡ v → AreKept w qs ns made most → q ≡ queue_at qs l
-    → CountsEarlier (counts_of clock) (closed_of v l) → AreOf v l clock q
+    → CoversEarlier (counts_of clock) (closed_of v l) → AreOf v l clock q
 are_of {v = v} {qs = qs} {ns = ns} l clock q is kept read earlier =
     let rising : AreRising (closed_of v l)
     = subst (λ (u : AllQueues). AreRising (closed_of u l)) is (kept.rising l) in
@@ -53,8 +53,8 @@ are_of {v = v} {qs = qs} {ns = ns} l clock q is kept read earlier =
 
 -- a search that stops at n has found the counted ones
 pub number_found : {v : AllQueues} {l : ℕ} {clock : List ℕ} {q : OneQueue} (n : ℕ) → AreOf v l clock q
-    → n ≤ length q.entries → ((k : ℕ) → k < n → CountsEntry q.entries clock k)
-    → (n < length q.entries → CountsEntry q.entries clock n → ⊥)
+    → n ≤ length q.entries → ((k : ℕ) → k < n → CoversEntry q.entries clock k)
+    → (n < length q.entries → CoversEntry q.entries clock n → ⊥)
     → n ≡ number_counted (counts_of clock) (closed_of v l)
 number_found {v = v} {l = l} {clock = clock} n are le counted stopped =
     let count = are.count in

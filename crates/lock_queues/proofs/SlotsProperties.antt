@@ -1,6 +1,6 @@
 -- What a list of slots says of each thread, and what it says after a change.
 use Rattle.std.proofs.Common.{◌≡◌, ℕ, suc, ◌+◌, ◌<◌, ◌≤◌, true, false, not, cond, nat_eq, nat_lt, List, []}
-use Rattle.std.proofs.Common.{◌∷◌, ◌++◌, length, set, get_or, take, drop, refl, sym, ap, ap₂, subst, ◌∙◌}
+use Rattle.std.proofs.Common.{◌∷◌, ◌++◌, length, set, get_or, take, drop, refl, sym, ap, ap₂, ◌∙◌}
 use Rattle.std.proofs.Common.{arith, ◌⊎◌, Bool, Option, Some, None, length-set}
 use Rattle.std.specs.Option.{is_some, option_or}
 use Rattle.std.specs.List.{find, remove}
@@ -14,7 +14,8 @@ use Rattle.std.proofs.lemmas.List.Sums.{passes_at_first, prefix_len_passes}
 use Rattle.std.proofs.lemmas.Option.{slice_get-get_or, slice_get_past}
 use mathlib.Core.Logic.{inl, inr}
 use Rattle.event_core.specs.Rows.{with_row}
-use Rattle.event_core.proofs.RowsAfterProperties.{row_same, row_other}
+use Rattle.event_core.proofs.RowsAfterProperties.{row_other}
+use Rattle.hb_clocks.proofs.WithRowProperties.{row_here}
 use Rattle.lock_queues.specs.declared.slots.Slot.{Slot}
 use Rattle.lock_queues.specs.Slots.{is_of, slot_of, has_slot, place_in, opened_at, opened_in, no_slot}
 use Rattle.lock_queues.specs.Slots.{slot_at, IsSlot, AreSlots}
@@ -22,18 +23,6 @@ use Rattle.lock_queues.specs.Slots.{slot_at, IsSlot, AreSlots}
 -- two numbers are the same or not
 abbrev pub Whether : ℕ → ℕ → Type 0
 Whether a b = (a ≡ b) ⊎ (a ≡ b → ⊥)
-
--- the row that was written
-pub row_here : {A : Type 0} (t : ℕ) (g : A) (f : ℕ → A) (a : ℕ) → a ≡ t → with_row t g f a ≡ g
-row_here t g f a is = subst (λ b. with_row t g f b ≡ g) (sym is) (row_same t g f)
-
--- a row at what it is
-pub row_kept : {A : Type 0} (t : ℕ) (g : A) (f : ℕ → A) → f t ≡ g → with_row t g f ≡ f
-row_kept t g f e i a = go (cases_eq a t) i
-  where
-    go : Whether a t → with_row t g f a ≡ f a
-    go (inl is) = row_here t g f a is ∙ sym e ∙ ap f (sym is)
-    go (inr other) = row_other t g f a other
 
 -- what is said of each thread, where one row is another
 pub said : {A B : Type 0} {f : ℕ → A} (F : A → B) (t : ℕ) (x : A) (g : ℕ → A) → f ≡ with_row t x g

@@ -12,7 +12,7 @@ use Rattle.event_core.specs.Count.{Past}
 use Rattle.event_core.specs.Rows.{Counted}
 use Rattle.event_core.specs.Closed.{EndsSection, number_counted}
 use Rattle.lock_queues.specs.Queues.{AllQueues, closed_of, opened_of, found_of, SameMeaning}
-use Rattle.lock_queues.specs.Searched.{CountsEarlier, IsAboveAll, FindsCounted}
+use Rattle.lock_queues.specs.Searched.{CoversEarlier, IsAboveAll, FindsCounted}
 use Rattle.lock_queues.specs.Standing.{StandsFor, IsOther}
 
 -- queues that hold the same stand for the same log
@@ -36,7 +36,7 @@ abbrev pub StrictClocksMayAsk : Type 0
 StrictClocksMayAsk = (limits : Limits) (log : List Event) (v : AllQueues) (t : ThreadId) (l : LockId)
     (c : ℕ → ℕ)
     → WellFormed limits log → Counted log (Past log (Strict log) t) c → StandsFor log v
-    → (found_of v l.0 t.0 ≤ number_counted c (closed_of v l.0)) × CountsEarlier c (closed_of v l.0)
+    → (found_of v l.0 t.0 ≤ number_counted c (closed_of v l.0)) × CoversEarlier c (closed_of v l.0)
 
 -- and what is found by it keeps the meaning
 abbrev pub FindingKeepsThem : Type 0

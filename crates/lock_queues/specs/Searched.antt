@@ -8,8 +8,8 @@ use Rattle.lock_queues.specs.Sections.{closed_at, latest_counted}
 use Rattle.lock_queues.specs.Queues.{AllQueues, closed_of, opened_of, found_of, is_ready}
 
 -- of two sections the one with the lower release clock is counted where the other is
-abbrev pub CountsEarlier : (ℕ → ℕ) → List Closed → Type 0
-CountsEarlier c qs =
+abbrev pub CoversEarlier : (ℕ → ℕ) → List Closed → Type 0
+CoversEarlier c qs =
     (p q : Closed) → Has p qs → Has q qs → ((u : ℕ) → p.release u ≤ q.release u)
     → IsTrue (is_counted c q) → IsTrue (is_counted c p)
 

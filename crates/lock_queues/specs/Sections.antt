@@ -5,7 +5,7 @@ use Rattle.std.specs.Option.{option_or}
 use Rattle.std.specs.Simd.Lanes.{zip2}
 use Rattle.event_core.specs.Closed.{Closed, is_counted}
 use Rattle.hb_clocks.specs.Counts.{counts_of}
-use Rattle.hb_clocks.specs.Marks.{MarkedEvent, Counts, no_mark}
+use Rattle.hb_clocks.specs.Marks.{MarkedEvent, Covers, no_mark}
 use Rattle.hb_clocks.specs.Releases.{Place, numbers_at, raised, IsReadable, IsAdded}
 use Rattle.lock_queues.specs.declared.sections.Entry.{Entry}
 
@@ -47,19 +47,9 @@ entry_at entries k = slice_index_or entries k no_entry
 abbrev pub acquires_of : List Entry → List MarkedEvent
 acquires_of entries = map (λ e. e.acquire) entries
 
-abbrev pub first_of : List MarkedEvent → Option MarkedEvent
-first_of [] = None
-first_of (m ∷ ms) = Some m
-
 -- the entries of such marks and places
 abbrev pub entries_of : List MarkedEvent → List Place → List Entry
 entries_of marks places = zip2 (λ m p. record { acquire = m; place = p }) marks places
-
--- they are of the same sections, of which the first has this mark
-pub record AreLists (first : Option MarkedEvent) (marks : List MarkedEvent)
-    (places : List Place) : Type 0 where
-  pub same : length marks ≡ length places
-  pub begun : first ≡ first_of marks
 
 -- closed sections, for how many there is memory, and for how many none of their lists has more
 pub record Listed : Type 0 where
@@ -73,8 +63,8 @@ AreReadable numbers entries =
     (k : ℕ) → k < length entries → IsReadable numbers (entry_at entries k).place
 
 -- the clock counts the acquire of the entry at the place
-abbrev pub CountsEntry : List Entry → List ℕ → ℕ → Type 0
-CountsEntry entries clock k = Counts clock (entry_at entries k).acquire
+abbrev pub CoversEntry : List Entry → List ℕ → ℕ → Type 0
+CoversEntry entries clock k = Covers clock (entry_at entries k).acquire
 
 -- one section more, by the thread from the position of its acquire to the release with the clock: its numbers
 -- come after those of all others, and are no more than the width

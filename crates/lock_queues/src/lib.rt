@@ -5,7 +5,6 @@
 pub mod laws;
 mod queue;
 mod queues;
-mod search;
 mod sections;
 mod slots;
 

@@ -5,11 +5,10 @@
 //! is found by looking through them.
 ghost use Rattle.std.specs.Prelude.{◌≡◌, ◌≤◌, length, max, slice_index, OnOk};
 
-use crate::search::search_from;
 use crate::sections::{ClosedSections, Entry};
 use crate::slots::{Slot, find};
 use event_core::{OutOfMemory, ThreadId, grow_to, reserve};
-use hb_clocks::{Clock, Mark, ReleaseClock, ReleaseClocks, Work};
+use hb_clocks::{Clock, Mark, ReleaseClock, ReleaseClocks, Work, search_marks};
 use std::alloc::Global;
 use std::marker::Model;
 
@@ -50,7 +49,7 @@ impl Queue {
     ghost use Rattle.hb_clocks.specs.Counts.{counts_of};
     ghost use Rattle.lock_queues.specs.Slots.{has_slot, opened_in};
     ghost use Rattle.hb_clocks.specs.Releases.{before};
-    ghost use Rattle.lock_queues.specs.Sections.{entry_at, section_of, CountsEntry, AreReadable, HasJoined};
+    ghost use Rattle.lock_queues.specs.Sections.{entry_at, section_of, CoversEntry, AreReadable, HasJoined};
     ghost use Rattle.lock_queues.specs.Searched.{IsSection};
     ghost use Rattle.lock_queues.specs.Queue.{SameMeaning, no_queue, places_for};
 
@@ -156,10 +155,10 @@ impl Queue {
         requires slot { IsTrue (has_slot self.old.slots thread.0) }
         requires width { length clock.now ≡ self.old.width }
         requires before { (k : ℕ) → k < slice_index self.old.found thread.0
-            → CountsEntry self.old.entries clock.now k }
+            → CoversEntry self.old.entries clock.now k }
         requires few { work.old.comparisons + length self.old.entries < 2 ^ 63 }
-        ensures counted { (k : ℕ) → k < result → CountsEntry self.old.entries clock.now k }
-        ensures stopped { result < length self.old.entries → CountsEntry self.old.entries clock.now result
+        ensures counted { (k : ℕ) → k < result → CoversEntry self.old.entries clock.now k }
+        ensures stopped { result < length self.old.entries → CoversEntry self.old.entries clock.now result
             → ⊥ }
         ensures within { result ≤ length self.old.entries }
         ensures found { slice_index self.new.found
@@ -175,9 +174,8 @@ impl Queue {
             ≤ work.new.comparisons + slice_index self.old.found thread.0 }
     {
         let at = thread.0 as usize;
-        let first = self.entries.first();
         let acquires = self.entries.acquires();
-        let more = search_from(first, acquires, self.found[at], clock, work);
+        let more = search_marks(acquires, self.found[at], clock, work);
         self.found[at] = more;
         more
     }

@@ -74,7 +74,7 @@ impl Queues {
     ghost use Rattle.lock_queues.specs.Queues.{closed_of, opened_of, found_of, is_ready, counted_of};
     ghost use Rattle.lock_queues.specs.Queues.{SameMeaning, GrownFor, SamePlaces, SameMemory};
     ghost use Rattle.lock_queues.specs.Sections.{closed_at, latest_counted};
-    ghost use Rattle.lock_queues.specs.Searched.{CountsEarlier, FindsCounted, IsAboveAll, IsLatestBefore};
+    ghost use Rattle.lock_queues.specs.Searched.{CoversEarlier, FindsCounted, IsAboveAll, IsLatestBefore};
     ghost use Rattle.lock_queues.specs.Searched.{IsSection};
     ghost use Rattle.lock_queues.specs.Standing.{StandsFor, CountsNone, IsLatest};
     ghost use Rattle.lock_queues.specs.contracts.queues.Queues.{the_row};
@@ -177,7 +177,7 @@ impl Queues {
         requires entered { 0 < opened_of self.old thread.0 lock.0 }
         requires width { length clock.now ≡ self.old.limits.threads }
         requires before { found_of self.old lock.0 thread.0 ≤ counted_of self.old lock.0 clock.now }
-        requires earlier { CountsEarlier (counts_of clock.now) (closed_of self.old lock.0) }
+        requires earlier { CoversEarlier (counts_of clock.now) (closed_of self.old lock.0) }
         requires few { work.old.comparisons + length (closed_of self.old lock.0) < 2 ^ 63 }
 
         // The answer: the latest of the sections that the clock counts, and all that they bring.
@@ -275,7 +275,7 @@ impl Queues {
         requires entered { 0 < opened_of self.old thread.0 lock.0 }
         requires width { length clock.now ≡ self.old.limits.threads }
         requires before { found_of self.old lock.0 thread.0 ≤ counted_of self.old lock.0 clock.now }
-        requires earlier { CountsEarlier (counts_of clock.now) (closed_of self.old lock.0) }
+        requires earlier { CoversEarlier (counts_of clock.now) (closed_of self.old lock.0) }
         requires few { work.old.comparisons + length (closed_of self.old lock.0) < 2 ^ 63 }
         ensures found { FindsCounted self.old self.new thread.0 lock.0
             (counted_of self.old lock.0 clock.now) }

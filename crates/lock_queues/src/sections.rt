@@ -27,16 +27,13 @@ const _: () = prove!(size_of::<Mark>() + size_of::<ReleasePlace>() == 24);
 /// The closed sections of one lock, in the order of their releases.
 #[derive(Drop)]
 pub(crate) struct ClosedSections {
-    // The mark of the first one's acquire: a thread that has found none is often to find none, and the lists
-    // lie elsewhere in memory.
-    first: Option<Mark>,
     acquires: Vec<Mark>,
     places: Vec<ReleasePlace>,
 }
 
 impl Model for ClosedSections {
-    ghost use Rattle.std.specs.Prelude.{min, max, vec_capacity};
-    ghost use Rattle.lock_queues.specs.Sections.{Listed, AreLists, entries_of};
+    ghost use Rattle.std.specs.Prelude.{◌≡◌, length, min, max, vec_capacity};
+    ghost use Rattle.lock_queues.specs.Sections.{Listed, entries_of};
 
     ghost Value = { Listed };
 
@@ -46,19 +43,18 @@ impl Model for ClosedSections {
       reserved = max (vec_capacity s.acquires) (vec_capacity s.places);
     } };
 
-    ghost invariant = { λ s. AreLists s.first s.acquires.items s.places.items };
+    ghost invariant = { λ s. length s.acquires.items ≡ length s.places.items };
 }
 
 impl ClosedSections {
     ghost use Rattle.std.specs.Prelude.{◌≡◌, ◌+◌, ◌*◌, ◌<◌, ◌≤◌, ◌∷◌, ◌++◌, [], length, max, OnOk};
-    ghost use Rattle.lock_queues.specs.Sections.{entry_at, acquires_of, first_of};
+    ghost use Rattle.lock_queues.specs.Sections.{entry_at, acquires_of};
 
     // None. It takes no memory.
     pub(crate) fn new(alloc: Global) -> ClosedSections
         ensures { result ≡ record { entries = []; most = 0; reserved = 0 } }
     {
         ClosedSections {
-            first: None,
             acquires: Vec::new(alloc),
             places: Vec::new(alloc),
         }
@@ -93,7 +89,6 @@ impl ClosedSections {
         ensures most { self.old.most ≤ self.new.most }
         ensures reserved { self.new.reserved ≡ self.old.reserved }
     {
-        self.first = self.first.or(Some(entry.acquire));
         self.acquires.push_reserved(entry.acquire);
         self.places.push_reserved(entry.place);
     }
@@ -108,13 +103,6 @@ impl ClosedSections {
             acquire: self.acquires[at],
             place: self.places[at],
         }
-    }
-
-    // The mark of the first one's acquire.
-    pub(crate) fn first(&self) -> Option<Mark>
-        ensures { result ≡ first_of (acquires_of self.now.entries) }
-    {
-        self.first
     }
 
     // The marks of their acquires.

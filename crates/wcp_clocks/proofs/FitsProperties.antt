@@ -5,6 +5,7 @@ use Rattle.std.proofs.lemmas.Bool.{cases_Bool, cases_lt, eqb-true}
 use Rattle.std.proofs.lemmas.Option.{slice_get_within}
 use Rattle.std.proofs.Math.Seq.{take-length}
 use Rattle.event_core.specs.declared.bounds.Limits.{Limits}
+use Rattle.event_core.specs.declared.bounds.TheConstants.{MOST_EVENTS}
 use Rattle.event_core.specs.declared.events.Event.{Event}
 use Rattle.event_core.specs.declared.ids.LockId.{LockId}
 use Rattle.event_core.specs.declared.ids.ThreadId.{ThreadId}
@@ -100,9 +101,9 @@ closed_few log p l st =
     omega arith
 
 -- a section that is closed after them has a number
-few_closed : (limits : Limits) (log : List Event) (e : Event) (p : Parts) → limits.events ≤ 4294967296
+few_closed : (limits : Limits) (log : List Event) (e : Event) (p : Parts) → limits.events ≤ MOST_EVENTS
     → WellFormed limits (log ++ e ∷ []) → StandsFor log p → (l : LockId)
-    → wcp.effect e (state_of p) ≡ Closes l → length ((state_of p).closed l.0) + 1 < 4294967296
+    → wcp.effect e (state_of p) ≡ Closes l → length ((state_of p).closed l.0) + 1 < MOST_EVENTS
 few_closed limits log e p most w st l told =
     let some : 0 < length log = closes_after_first log e (state_of p) st.strict l told in
     let one : length ((state_of p).closed l.0) ≤ sum_below (λ k. length ((state_of p).closed k)) (suc l.0)
@@ -114,17 +115,17 @@ few_closed limits log e p most w st l told =
     omega arith
 
 -- there are fewer events before this one than there may be
-fewer : (limits : Limits) (log : List Event) (e : Event) → limits.events ≤ 4294967296
-    → WellFormed limits (log ++ e ∷ []) → length log < 4294967296
+fewer : (limits : Limits) (log : List Event) (e : Event) → limits.events ≤ MOST_EVENTS
+    → WellFormed limits (log ++ e ∷ []) → length log < MOST_EVENTS
 fewer limits log e most w =
     let grown : length (log ++ e ∷ []) ≡ length log + 1 = grown_length log e in
     let within : length (log ++ e ∷ []) ≤ limits.events = log_within limits (log ++ e ∷ []) w in
     omega arith
 
 -- and the thread's clock counts no more of them
-few_counts : (limits : Limits) (log : List Event) (e : Event) (p : Parts) → limits.events ≤ 4294967296
+few_counts : (limits : Limits) (log : List Event) (e : Event) (p : Parts) → limits.events ≤ MOST_EVENTS
     → WellFormed limits (log ++ e ∷ []) → StandsFor log p → (u : ℕ)
-    → (hb_of p).hb.thread e.thread.0 u < 4294967296
+    → (hb_of p).hb.thread e.thread.0 u < MOST_EVENTS
 few_counts limits log e p most w st u =
     let other : ThreadId = record { 0 = u } in
     let counted = (st.hb.hb.thread e.thread other).within in
@@ -133,9 +134,9 @@ few_counts limits log e p most w st u =
     omega arith
 
 -- nor does a lock's
-few_at_lock : (limits : Limits) (log : List Event) (e : Event) (p : Parts) → limits.events ≤ 4294967296
+few_at_lock : (limits : Limits) (log : List Event) (e : Event) (p : Parts) → limits.events ≤ MOST_EVENTS
     → WellFormed limits (log ++ e ∷ []) → StandsFor log p → (l : LockId)
-    → (hb_of p).hb.lock l.0 e.thread.0 < 4294967296
+    → (hb_of p).hb.lock l.0 e.thread.0 < MOST_EVENTS
 few_at_lock limits log e p most w st l =
     let counted = (st.hb.hb.lock l e.thread).within in
     let events = events_within log e.thread in
@@ -147,7 +148,7 @@ pub fits_where_legal : FitsWhereLegal
 fits_where_legal limits log e p bounds w st little =
     let front : WellFormed limits log = well_formed_front limits log (e ∷ []) w in
     let within : length log ≤ limits.events = log_within limits log front in
-    let most : limits.events ≤ 4294967296 = bounds.most_events in
+    let most : limits.events ≤ MOST_EVENTS = bounds.most_events in
     record {
       admits = admits_legal limits log e (hb_of p) w st.hb;
       few = few_in_log log (hb_of p) (omega arith) st.hb;

@@ -10,7 +10,7 @@ use Rattle.hb_clocks.proofs.RowsProperties.{set_read}
 use Rattle.wcp_laws.specs.Step.{without}
 use Rattle.wcp_clocks.specs.HeldLists.{HeldList, nothing_held, numbers_of, without_lock, held_of, room_at}
 use Rattle.wcp_clocks.specs.HeldLists.{places_at, SamePlaces}
-use Rattle.wcp_clocks.proofs.Rows.{row_kept}
+use Rattle.hb_clocks.proofs.WithRowProperties.{row_kept}
 
 -- where there is room there is a list
 pub room_within : (lists : List HeldList) (t : ℕ) → 0 < room_at lists t → t < length lists
@@ -33,7 +33,7 @@ places_set lists at h lt same = record {
   lists = length-set lists at h;
   places = λ t. set_read (λ (g : HeldList). length g.locks + g.room) nothing_held lists at h t lt
       ∙ ap (λ (n : ℕ). with_row at n (places_at lists) t) same
-      ∙ sym (ap (λ (f : ℕ → ℕ). f t) (row_kept at (places_at lists)));
+      ∙ ap (λ (f : ℕ → ℕ). f t) (row_kept at _ (places_at lists) refl);
 }
 
 -- a lock that is added has its number at the end

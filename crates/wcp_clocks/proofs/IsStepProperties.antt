@@ -130,6 +130,23 @@ module _ {e : Event} {k : Effect} {within now : Parts} (is : within ≡ now) whe
   pub seen_step : {new : Parts} → IsStepBy e k within new → IsStepBy e k now new
   seen_step {new} = subst (λ (p : Parts). IsStepBy e k p new) is
 
+-- an event that is rebuilt with its own operation is the same one
+rebuilt_is : (e : Event) (o : Op) → e.op ≡ o → e ≡ record e { op = o }
+rebuilt_is e o op = ap (λ (p : Op). record e { op = p }) op
+
+-- so its step is too
+module _ {e : Event} {o : Op} {k : Effect} {old : Parts} (op : e.op ≡ o)
+    (told : effect e (state_of old) ≡ k) where
+  -- an event that is built again from its parts is due
+  due_rebuilt : IsReady old e.thread e.op → Fits e old → IsDue (record e { op = o }) k old
+  due_rebuilt ready fits =
+      subst (λ (x : Event). IsDue x k old) (rebuilt_is e o op)
+      (record { effect = told; ready = ready; fits = fits })
+
+  -- the step of the event that is built again is the event's step
+  rebuilt : {new : Parts} → IsStepBy (record e { op = o }) k old new → IsStep e old new
+  rebuilt {new} by = stepped told (subst (λ (x : Event). IsStepBy x k old new) (sym (rebuilt_is e o op)) by)
+
 -- the operation o of the event is outer, and has the effect k, where its thread holds the lock to this depth
 module _ (e : Event) (l : LockId) (k : Effect) (n : ℕ) {o : Op} {depth : ℕ} {within now : Parts}
     (op : e.op ≡ o) (of : (d : ℕ → ℕ) → effect_of d o ≡ cond (nat_eq (d l.0) n) k Inner)
@@ -144,26 +161,25 @@ module _ (e : Event) (l : LockId) (k : Effect) (n : ℕ) {o : Op} {depth : ℕ} 
   seen = ap (λ (p : Parts). (hb_of p).depth e.thread.0 l.0) (sym is) ∙ sym read
 
   -- at the depth of an outer acquire or release the event has its effect
-  pub outer : depth ≡ n → effect e (state_of now) ≡ k
+  outer : depth ≡ n → effect e (state_of now) ≡ k
   outer equal = by_depth ∙ ap (λ b. cond b k Inner) (eq-eqb (depths l.0) n (seen ∙ equal))
 
   -- at any other depth the event is inner
-  pub inner : (depth ≡ n → ⊥) → effect e (state_of now) ≡ Inner
+  inner : (depth ≡ n → ⊥) → effect e (state_of now) ≡ Inner
   inner other = by_depth ∙ ap (λ b. cond b k Inner) (ne_eqb (depths l.0) n (λ q. other (sym seen ∙ q)))
 
--- an event that is rebuilt with its own operation is the same one
-rebuilt_is : (e : Event) (o : Op) → e.op ≡ o → e ≡ record e { op = o }
-rebuilt_is e o op = ap (λ (p : Op). record e { op = p }) op
+  -- an outer event, and an inner one, that is built again from its parts is due
+  pub due_outer : depth ≡ n → IsReady now e.thread e.op → Fits e now → IsDue (record e { op = o }) k now
+  due_outer equal = due_rebuilt op (outer equal)
 
--- so its step is too
-module _ {e : Event} {o : Op} {k : Effect} {old : Parts} (op : e.op ≡ o)
-    (told : effect e (state_of old) ≡ k) where
-  -- an event that is built again from its parts is due
-  pub due_rebuilt : IsReady old e.thread e.op → Fits e old → IsDue (record e { op = o }) k old
-  due_rebuilt ready fits =
-      subst (λ (x : Event). IsDue x k old) (rebuilt_is e o op)
-      (record { effect = told; ready = ready; fits = fits })
+  pub due_inner : (depth ≡ n → ⊥) → IsReady now e.thread e.op → Fits e now
+      → IsDue (record e { op = o }) Inner now
+  due_inner other = due_rebuilt op (inner other)
 
-  -- the step of the event that is built again is the event's step
-  pub rebuilt : {new : Parts} → IsStepBy (record e { op = o }) k old new → IsStep e old new
-  rebuilt {new} by = stepped told (subst (λ (x : Event). IsStepBy x k old new) (sym (rebuilt_is e o op)) by)
+  -- its step is the event's step
+  pub outer_step : {new : Parts} → depth ≡ n → IsStepBy (record e { op = o }) k now new → IsStep e now new
+  outer_step equal = rebuilt op (outer equal)
+
+  pub inner_step : {new : Parts} → (depth ≡ n → ⊥) → IsStepBy (record e { op = o }) Inner now new
+      → IsStep e now new
+  inner_step other = rebuilt op (inner other)

@@ -8,14 +8,6 @@ use Rattle.event_core.specs.Rows.{no_clock, join, with_row, to_child}
 use Rattle.event_core.specs.Effect.{Effect, Forks}
 use Rattle.event_core.proofs.RowsAfterProperties.{row_same, row_other}
 
--- a row that is written with what it has
-pub row_kept : {A : Type 0} (t : ℕ) (f : ℕ → A) → f ≡ with_row t (f t) f
-row_kept t f i a = go (cases_eq a t) i
-  where
-    go : (a ≡ t) ⊎ (a ≡ t → ⊥) → f a ≡ with_row t (f t) f a
-    go (inl q) = subst (λ b. f b ≡ with_row t (f t) f b) (sym q) (sym (row_same t (f t) f))
-    go (inr n) = sym (row_other t (f t) f a n)
-
 -- the row of the event's own thread
 pub own_row : (k : Effect) (t : ℕ) (g : ℕ → ℕ) (f : ℕ → ℕ → ℕ) → to_child k g (with_row t g f) t ≡ g
 own_row (Forks u) t g f = go (cases_eq t u.0)

@@ -39,18 +39,14 @@ store_made old new t x m = record {
 }
 
 -- the two events are those of a swap
-pub record AreOfSwap (load store : Event) (x : VarId) : Type 0 where
-  pub load_op : load.op ≡ Load x
-  pub store_op : store.op ≡ Store x
-  pub thread : load.thread ≡ store.thread
-
-module _ {load store : Event} {x : VarId} (swap : AreOfSwap load store x) where
+module _ (load store : Event) (x : VarId) (load_op : load.op ≡ Load x) (store_op : store.op ≡ Store x)
+    (thread : load.thread ≡ store.thread) where
   -- what is ready for the load, or was made for it, is ready for the store, or was made for that
   to_store : (P : ThreadId → Op → Type 0) → (P store.thread (Load x) → P store.thread (Store x))
       → P load.thread load.op → P store.thread store.op
   to_store P both h =
-      subst (P store.thread) (sym swap.store_op)
-      (both (subst (λ (t : ThreadId). P t (Load x)) swap.thread (subst (P load.thread) swap.load_op h)))
+      subst (P store.thread) (sym store_op)
+      (both (subst (λ (t : ThreadId). P t (Load x)) thread (subst (P load.thread) load_op h)))
 
   -- parts that are ready for the load are ready for the store
   pub swap_ready : (p : Parts) → IsReady p load.thread load.op → IsReady p store.thread store.op

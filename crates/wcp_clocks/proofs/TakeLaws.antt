@@ -15,8 +15,8 @@ use Rattle.section_sum.specs.Sums.{Sums, others_of, sources_of}
 use Rattle.wcp_clocks.specs.Met.{release_at, met_clocks, met_under, joined_all, joins_under}
 use Rattle.wcp_clocks.specs.MetReleases.{Released, released_at}
 use Rattle.wcp_laws.specs.Step.{join_all}
-use Rattle.hb_clocks.proofs.TableSteps.{row_again}
-use Rattle.wcp_clocks.proofs.Rows.{row_kept, join_nothing}
+use Rattle.hb_clocks.proofs.WithRowProperties.{row_kept, row_again}
+use Rattle.wcp_clocks.proofs.Rows.{join_nothing}
 use Rattle.wcp_clocks.specs.StrictRows.{StrictTables, SameRoom}
 use Rattle.wcp_clocks.proofs.RowsKept.{room_same, room_then}
 
@@ -127,7 +127,7 @@ module _ {s : Sums} {closed : ℕ → List Closed} {l x t : ℕ} {k : AccessKind
   pub taking_begins : (rest : List ℕ) → rest ≡ sources_of s l x k t → length rest ≤ 2
       → IsTaking s closed l x t k old old before before rest
   taking_begins rest is few = record {
-    shape = row_kept t (rows_of old.thread);
+    shape = sym (row_kept t _ (rows_of old.thread) refl);
     joined = λ u. ap (λ ns. joined_all (closed l) (rows_of old.thread t) ns u) is
         ∙ sources_joined s closed l x t k (rows_of old.thread t) u;
     lock = refl;
@@ -202,7 +202,7 @@ module _ {s : Sums} {closed : ℕ → List Closed} {x : ℕ} {k : AccessKind} {t
   -- before the first lock nothing has been taken
   pub taken_begins : HasTaken s closed x k t old old before before []
   taken_begins = record {
-    threads = row_kept t (rows_of old.thread)
+    threads = sym (row_kept t _ (rows_of old.thread) refl)
         ∙ ap (λ g. with_row t g (rows_of old.thread)) (sym (join_nothing (rows_of old.thread t)));
     lock = refl;
     kept = room_same old;

@@ -3,6 +3,7 @@ use Rattle.std.proofs.Common.{◌≡◌, ℕ, ◌<◌, ◌≤◌, ◌+◌, ◌*�
 use Rattle.std.proofs.Common.{arith}
 use Rattle.std.proofs.Math.Nat.{mul-le-mul_left, add-mul, mul_comm}
 use Rattle.event_core.specs.declared.bounds.Limits.{Limits}
+use Rattle.event_core.specs.declared.bounds.TheConstants.{MOST_EVENTS, MOST_LOCKS}
 use Rattle.event_core.specs.declared.ids.LockId.{LockId}
 use Rattle.event_core.specs.declared.ids.ThreadId.{ThreadId}
 use Rattle.event_core.specs.Closed.{number_counted}
@@ -123,9 +124,9 @@ few_comparisons limits log p st within =
 pub little_work : LittleWork
 little_work limits log e p bounds w st within =
     let front : WellFormed limits log = well_formed_front limits log (e ∷ []) w in
-    let n : length log ≤ 4294967296
+    let n : length log ≤ MOST_EVENTS
     = (let a = log_within limits log front in let b = bounds.most_events in omega arith) in
-    let locks : limits.locks ≤ 1048576 = bounds.most_locks in
+    let locks : limits.locks ≤ MOST_LOCKS = bounds.most_locks in
     let held : length ((state_of p).held e.thread.0) ≤ limits.locks
     = held_within limits log p e.thread front st in
     let threads : threads_in limits.threads log ≤ 1024

@@ -1,11 +1,12 @@
 -- What the parts of the clocks mean together.
-use Rattle.std.specs.Prelude.{◌≡◌, ℕ, ◌+◌, ◌*◌, ◌<◌, ◌≤◌, ◌↔◌, List, length, IsTrue}
+use Rattle.std.specs.Prelude.{◌≡◌, ℕ, ◌+◌, ◌*◌, ◌^◌, ◌<◌, ◌≤◌, ◌↔◌, List, length, IsTrue}
 use Rattle.event_core.specs.declared.ids.ThreadId.{ThreadId}
 use Rattle.event_core.specs.declared.ids.LockId.{LockId}
 use Rattle.event_core.specs.declared.events.Op.{Op}
 use Rattle.event_core.specs.declared.events.Op.TheVariants.{Load, Store, Acquire, Release, Fork, Join}
 use Rattle.event_core.specs.declared.events.Event.{Event}
 use Rattle.event_core.specs.declared.bounds.Limits.{Limits}
+use Rattle.event_core.specs.declared.bounds.TheConstants.{MOST_EVENTS}
 use Rattle.event_core.specs.Closed.{Has}
 use Rattle.event_core.specs.Effect.{Effect, Accesses, Opens, Closes, Joins}
 use Rattle.hb_clocks.specs.State.{HbState}
@@ -107,17 +108,17 @@ pub record Fits (e : Event) (p : Parts) : Type 0 where
   -- no other thread has an access in an open section on a lock that the thread holds
   pub alone : IsAlone p.sums e.thread.0 (list_at p.held e.thread.0).locks
   -- before its thread's event it counts fewer events than a log may have
-  pub few_counts : (u : ℕ) → (hb_of p).hb.thread e.thread.0 u < 4294967296
+  pub few_counts : (u : ℕ) → (hb_of p).hb.thread e.thread.0 u < MOST_EVENTS
   -- and so does a lock
-  pub few_at_lock : (l : LockId) → (hb_of p).hb.lock l.0 e.thread.0 < 4294967296
+  pub few_at_lock : (l : LockId) → (hb_of p).hb.lock l.0 e.thread.0 < MOST_EVENTS
   -- a section that is closed has a number
   pub few_closed : (l : LockId) → effect e (state_of p) ≡ Closes l
-      → length (closed_of p.queues l.0) + 1 < 4294967296
+      → length (closed_of p.queues l.0) + 1 < MOST_EVENTS
   pub held : (l : LockId) → Has l.0 (held_of p.held e.thread.0) ↔ (0 < (hb_of p).depth e.thread.0 l.0)
   pub cursors : CursorsStand (state_of p) (found_in p)
   -- the work is far below what is counted
-  pub joins : p.work.joins + 2 * length (held_of p.held e.thread.0) < 2305843009213693952
-  pub comparisons : (l : LockId) → p.work.comparisons + length (closed_of p.queues l.0) < 9223372036854775808
+  pub joins : p.work.joins + 2 * length (held_of p.held e.thread.0) < 2 ^ 61
+  pub comparisons : (l : LockId) → p.work.comparisons + length (closed_of p.queues l.0) < 2 ^ 63
 
 -- what the parts keep between them
 pub record AreParts (p : Parts) : Type 0 where

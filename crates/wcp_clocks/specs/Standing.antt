@@ -1,5 +1,5 @@
 -- When the clocks stand for a log.
-use Rattle.std.specs.Prelude.{ℕ, ◌+◌, ◌*◌, ◌<◌, List, [], ◌∷◌, ◌++◌, length, nat_eq}
+use Rattle.std.specs.Prelude.{ℕ, ◌+◌, ◌*◌, ◌^◌, ◌<◌, List, [], ◌∷◌, ◌++◌, length, nat_eq}
 use Rattle.std.specs.List.{IsDistinct}
 use Rattle.event_core.specs.declared.ids.ThreadId.{ThreadId}
 use Rattle.event_core.specs.declared.ids.LockId.{LockId}
@@ -31,9 +31,9 @@ SameStand = (log : List Event) (old new : Parts) → SameNumbers old new → Sta
 
 -- the work that has been done leaves room to count that of one event more
 pub record HasLittleWork (e : Event) (p : Parts) : Type 0 where
-  pub joins : (work_of p).joins + 2 * length ((state_of p).held e.thread.0) < 2305843009213693952
+  pub joins : (work_of p).joins + 2 * length ((state_of p).held e.thread.0) < 2 ^ 61
   pub comparisons : (l : LockId) → (work_of p).comparisons + length ((state_of p).closed l.0)
-      < 9223372036854775808
+      < 2 ^ 63
 
 -- the limits are within the greatest ones
 abbrev pub IsBounded : Limits → Type 0

@@ -9,7 +9,7 @@ ghost use Rattle.event_core.specs.Rows.{join, with_row};
 ghost use Rattle.event_core.specs.Closed.{below_closed, number_counted};
 ghost use Rattle.lock_queues.specs.Sections.{latest_counted};
 ghost use Rattle.lock_queues.specs.Queues.{closed_of, opened_of, found_of, SameMemory};
-ghost use Rattle.lock_queues.specs.Searched.{CountsEarlier, FindsCounted};
+ghost use Rattle.lock_queues.specs.Searched.{CoversEarlier, FindsCounted};
 ghost use Rattle.wcp_clocks.specs.StrictRows.{strict_of, HasThread, SameRoom};
 
 use crate::clocks::WcpClocks;
@@ -175,7 +175,7 @@ fn take_closed(
     requires wide { queues.old.limits.threads ≡ rows.old.width }
     requires before { found_of queues.old lock.0 thread.0
         ≤ number_counted ((strict_of rows.old).thread thread.0) (closed_of queues.old lock.0) }
-    requires earlier { CountsEarlier ((strict_of rows.old).thread thread.0) (closed_of queues.old lock.0) }
+    requires earlier { CoversEarlier ((strict_of rows.old).thread thread.0) (closed_of queues.old lock.0) }
     requires few { work.old.comparisons + length (closed_of queues.old lock.0) < 2 ^ 63 }
     requires few_joins { work.old.joins < 2 ^ 62 }
     ensures threads { (strict_of rows.new).thread ≡ with_row thread.0

@@ -1,36 +1,26 @@
-use Rattle.std.proofs.Common.{◌<◌, length, arith}
-use Rattle.hb_clocks.proofs.RowsProperties.{front_read, back_read, front_written, back_written, front_widths}
-use Rattle.hb_clocks.proofs.RowsProperties.{back_widths}
+use Rattle.std.proofs.Common.{arith}
+use Rattle.hb_clocks.proofs.RowsProperties.{front_takes, back_takes, front_widths, back_widths}
 use Rattle.hb_clocks.proofs.rows.copy_rows.Goals as goal
 
 pub returns-then-from-to-clause-rows : goal.returns-then-from-to-clause-rows
 returns-then-from-to-clause-rows c =
     let s = c.split_at_mut-below.ensures in
-    let within : c.args.from < length c.split_at_mut-below.result.0.now =
-    (let e = s.front_len in let l = c.if-from-to.true in omega arith) in
-    back_written c.args.rows.now _ _ c.copy_row.new.rows s.value c.args.to _ _ s.front_len
-    (front_read c.args.rows.now _ _ c.copy_row.new.rows s.value c.args.from c.index-below-from.result within)
-    c.copy_row.ensures.rows
+    back_takes c.args.rows.now _ _ _ s.value (λ mine theirs. theirs) c.args.to c.args.from _ s.front_len
+    s.back_len c.requires.to c.if-from-to.true c.copy_row.ensures.rows
 
 pub returns-then-from-to-clause-widths : goal.returns-then-from-to-clause-widths
 returns-then-from-to-clause-widths c =
-    back_widths c.args.rows.now _ _ c.copy_row.new.rows c.split_at_mut-below.ensures.value
-    c.copy_row.ensures.widths
+    back_widths c.args.rows.now _ _ _ c.split_at_mut-below.ensures.value c.copy_row.ensures.widths
 
 pub returns-else-from-to-clause-rows : goal.returns-else-from-to-clause-rows
 returns-else-from-to-clause-rows c =
     let s = c.split_at_mut-below-else-from-to.ensures in
     let w = c.copy_row-else-from-to in
-    let within : c.args.to < length c.split_at_mut-below-else-from-to.result.0.now =
-    (let e = s.front_len in let l = c.if-from-to.false in let n = c.requires.apart in omega arith) in
-    let some : 0 < length c.split_at_mut-below-else-from-to.result.1.now =
-    (let e = s.back_len in let l = c.requires.from in omega arith) in
-    front_written c.args.rows.now _ _ w.new.rows s.value c.args.to _ _ w.auto.rows within
-    (back_read c.args.rows.now _ _ w.new.rows s.value c.args.from c.index-above-0.result s.front_len some)
-    w.ensures.rows
+    front_takes c.args.rows.now _ _ _ s.value (λ mine theirs. theirs) c.args.to c.args.from _ w.auto.rows
+    s.front_len s.back_len c.requires.from (omega arith) w.ensures.rows
 
 pub returns-else-from-to-clause-widths : goal.returns-else-from-to-clause-widths
 returns-else-from-to-clause-widths c =
-    front_widths c.args.rows.now _ _ c.copy_row-else-from-to.new.rows
-    c.split_at_mut-below-else-from-to.ensures.value
-    c.copy_row-else-from-to.auto.rows c.copy_row-else-from-to.ensures.widths
+    let w = c.copy_row-else-from-to in
+    front_widths c.args.rows.now _ _ _ c.split_at_mut-below-else-from-to.ensures.value w.auto.rows
+    w.ensures.widths

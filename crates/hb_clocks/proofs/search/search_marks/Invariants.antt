@@ -1,10 +1,10 @@
 use Rattle.std.proofs.Common.{◌≡◌, ℕ, ◌+◌, ◌-◌, ◌<◌, ◌≤◌, length}
-use Rattle.hb_clocks.specs.Marks.{mark_at, Counts}
+use Rattle.hb_clocks.specs.Marks.{mark_at, Covers}
 use Rattle.hb_clocks.proofs.search.search_marks.Given as goal
 
 abbrev pub invariant-searching : goal.invariant-searching
 invariant-searching l = record {
-  counted : (k : ℕ) → k < l.more → Counts l.clock (mark_at l.marks k);
+  counted : (k : ℕ) → k < l.more → Covers l.clock (mark_at l.marks k);
   within : l.more ≤ length l.marks;
   from : l.fn.known ≤ l.more;
   joins : l.done.joins ≡ l.fn.work.joins;

@@ -1,5 +1,6 @@
 use Rattle.std.proofs.Common.{◌≡◌, ℕ, ◌<◌, ◌≤◌, ◌+◌, Bool, refl, sym, ap, subst, ◌∙◌, arith}
 use Rattle.event_core.specs.declared.ids.ThreadId.{ThreadId}
+use Rattle.event_core.specs.declared.bounds.TheConstants.{MOST_EVENTS}
 use Rattle.event_core.specs.declared.events.Op.{Op}
 use Rattle.event_core.specs.Rows.{clock_after, brought, with_row, to_child, to_lock}
 use Rattle.event_core.specs.Effect.{Effect}
@@ -33,9 +34,9 @@ bump_row-requires-clause-few c =
     let t : ThreadId = c.args.event.now.thread in
     let f : ℕ → ℕ → ℕ = rows_of c.args.po.now in
     let k : Effect = effect_by c.args.event.now.op c.count_depth-outer.result in
-    let h : rows_of c.take.new.po t.0 t.0 ≤ 4294967296 =
-    own_few t.0 4294967296 (brought k (without_locks f)) f (rows_of c.take.new.po) c.take.ensures.po
-    (c.requires.few.po t t) (brought_few 4294967296 (without_locks f) c.requires.few.po
+    let h : rows_of c.take.new.po t.0 t.0 ≤ MOST_EVENTS =
+    own_few t.0 MOST_EVENTS (brought k (without_locks f)) f (rows_of c.take.new.po) c.take.ensures.po
+    (c.requires.few.po t t) (brought_few MOST_EVENTS (without_locks f) c.requires.few.po
     (λ l u. omega arith) k t) in
     omega arith
 
@@ -56,9 +57,9 @@ bump_row-requires-2-clause-few c =
     let f : ℕ → ℕ → ℕ = rows_of c.args.hb.now in
     let r = hb_rows c.args.hb.now c.args.locks.now in
     let k : Effect = effect_by c.args.event.now.op c.count_depth-outer.result in
-    let h : rows_of c.take.new.hb t.0 t.0 ≤ 4294967296 =
-    own_few t.0 4294967296 (brought k r) f (rows_of c.take.new.hb) c.take.ensures.hb
-    (c.requires.few.hb t t) (brought_few 4294967296 r c.requires.few.hb c.requires.few.lock k t) in
+    let h : rows_of c.take.new.hb t.0 t.0 ≤ MOST_EVENTS =
+    own_few t.0 MOST_EVENTS (brought k r) f (rows_of c.take.new.hb) c.take.ensures.hb
+    (c.requires.few.hb t t) (brought_few MOST_EVENTS r c.requires.few.hb c.requires.few.lock k t) in
     omega arith
 
 pub give-requires-clause-thread : goal.give-requires-clause-thread

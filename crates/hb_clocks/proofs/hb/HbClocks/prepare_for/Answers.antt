@@ -1,7 +1,6 @@
-use Rattle.std.proofs.Common.{◌<◌, length, inl, refl, arith}
-use Rattle.hb_clocks.specs.Tables.{HasThread, IsReady}
-use Rattle.hb_clocks.specs.Rows.{IsMade}
-use Rattle.hb_clocks.proofs.HasGrownProperties.{on_ok, on_both, thread_stays, ready_lock, ready_thread}
+use Rattle.std.proofs.Common.{inl, refl, arith}
+use Rattle.std.proofs.lemmas.Result.{on_ok_weaker}
+use Rattle.hb_clocks.proofs.HasGrownProperties.{thread_stays, ready_lock, ready_thread}
 use Rattle.hb_clocks.proofs.HasGrownProperties.{grown_then, lock_grown, thread_grown}
 use Rattle.hb_clocks.proofs.hb.HbClocks.prepare_for.Goals as goal
 
@@ -15,26 +14,16 @@ returns-in-Fork-clause-kept c t op ready =
 
 pub returns-in-Acquire-clause-ready : goal.returns-in-Acquire-clause-ready
 returns-in-Acquire-clause-ready c =
-    let new = c.make_lock.new.self in
-    let t = c.args.thread in
-    let l = c.in-Acquire.lock in
-    on_both c.make_lock.result (IsMade new.width new.lock l.0) (l.0 < length new.holds)
-    (IsReady new t c.args.op)
-    (ready_lock new t c.args.op l c.in-Acquire.is
-    (thread_stays c.make_thread.new.self new t c.make_lock.ensures.kept c.in_ok-make_thread.ensures.made))
-    c.make_lock.ensures.clock c.make_lock.ensures.hold
+    on_ok_weaker c.make_lock.result (λ has. ready_lock c.make_lock.new.self c.args.thread c.args.op
+    c.in-Acquire.lock c.in-Acquire.is (thread_stays c.make_thread.new.self c.make_lock.new.self c.args.thread
+    c.make_lock.ensures.kept c.in_ok-make_thread.ensures.made) has.1 has.0) c.make_lock.ensures.made
 
 pub returns-in-Fork-clause-ready : goal.returns-in-Fork-clause-ready
 returns-in-Fork-clause-ready c =
-    let new = c.make_thread-in-Fork.new.self in
-    let t = c.args.thread in
-    let u = c.in-Fork.child in
-    on_ok c.make_thread-in-Fork.result (HasThread new.width new.po new.hb u.0)
-    (IsReady new t c.args.op)
-    (ready_thread new t c.args.op u c.in-Fork.is
-    (thread_stays c.make_thread.new.self new t c.make_thread-in-Fork.ensures.kept
-    c.in_ok-make_thread.ensures.made))
-    c.make_thread-in-Fork.ensures.made
+    let more = c.make_thread-in-Fork in
+    on_ok_weaker more.result (ready_thread more.new.self c.args.thread c.args.op c.in-Fork.child c.in-Fork.is
+    (thread_stays c.make_thread.new.self more.new.self c.args.thread more.ensures.kept
+    c.in_ok-make_thread.ensures.made)) more.ensures.made
 
 pub returns-in_err-make_thread-clause-grown : goal.returns-in_err-make_thread-clause-grown
 returns-in_err-make_thread-clause-grown c =

@@ -6,7 +6,8 @@ use Rattle.event_core.specs.Rows.{with_row}
 use Rattle.hb_clocks.specs.Marks.{MarkedEvent}
 use Rattle.lock_queues.specs.Slots.{slot_of, has_slot, position_of, opened_at, opened_in}
 use Rattle.lock_queues.specs.Queue.{OneQueue}
-use Rattle.lock_queues.proofs.SlotsProperties.{Placed, said, row_kept, slot_set}
+use Rattle.lock_queues.proofs.SlotsProperties.{Placed, said, slot_set}
+use Rattle.hb_clocks.proofs.WithRowProperties.{row_kept}
 use Rattle.lock_queues.proofs.PlaceInProperties.{placed, slot_read}
 use Rattle.lock_queues.proofs.IsKeptProperties.{kept_entered}
 use Rattle.lock_queues.proofs.queue.Queue.enter.Goals as goal

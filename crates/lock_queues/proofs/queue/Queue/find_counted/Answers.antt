@@ -2,7 +2,7 @@ use Rattle.std.proofs.Common.{ap, sym, subst, ◌∙◌, arith, length, ◌<◌}
 use Rattle.std.specs.Prelude.{slice_index}
 use Rattle.std.proofs.lemmas.List.{get_or_read}
 use Rattle.event_core.specs.Rows.{with_row}
-use Rattle.hb_clocks.specs.Marks.{MarkedEvent, Counts}
+use Rattle.hb_clocks.specs.Marks.{MarkedEvent, Covers}
 use Rattle.lock_queues.specs.Sections.{acquires_of}
 use Rattle.lock_queues.specs.Queue.{OneQueue}
 use Rattle.lock_queues.proofs.EntriesProperties.{mark_seen, count_seen}
@@ -22,23 +22,23 @@ index_mut-requires c =
     let len = c.self.inside.found.ok.0 in
     omega arith
 
-pub search_from-more-requires-clause-within : goal.search_from-more-requires-clause-within
-search_from-more-requires-clause-within c =
+pub search_marks-more-requires-clause-within : goal.search_marks-more-requires-clause-within
+search_marks-more-requires-clause-within c =
     let lt = seen_within c.args.thread.0 c.self.view_is c.self.invariant c.requires.slot in
     let is = get_or_read c.self.inside.found.items c.args.thread.0 _ lt c.index.ensures 0 in
     let le = c.self.invariant.within c.args.thread.0 in
     let seen = count_seen _ c.acquires-acquires.ensures in
     omega arith
 
-pub search_from-more-requires-clause-before : goal.search_from-more-requires-clause-before
-search_from-more-requires-clause-before c k small =
+pub search_marks-more-requires-clause-before : goal.search_marks-more-requires-clause-before
+search_marks-more-requires-clause-before c k small =
     let known = found_read c.args.thread.0 _ c.self.view_is c.self.invariant c.requires.slot
     c.index.ensures in
     let are = c.acquires-acquires.ensures ∙ ap (λ (q : OneQueue). acquires_of q.entries) c.self.view_is in
-    subst (Counts c.args.clock.now) (sym (mark_seen _ are k)) (c.requires.before k (omega arith))
+    subst (Covers c.args.clock.now) (sym (mark_seen _ are k)) (c.requires.before k (omega arith))
 
-pub search_from-more-requires-clause-widths : goal.search_from-more-requires-clause-widths
-search_from-more-requires-clause-widths c k small =
+pub search_marks-more-requires-clause-widths : goal.search_marks-more-requires-clause-widths
+search_marks-more-requires-clause-widths c k small =
     let count = count_seen _ c.acquires-acquires.ensures in
     let lt : k < length c.self.inside.entries.entries = omega (arith, count, small) in
     let own = c.self.invariant.marked k lt in
@@ -51,32 +51,32 @@ search_from-more-requires-clause-widths c k small =
 pub returns-clause-counted : goal.returns-clause-counted
 returns-clause-counted c k small =
     let are = c.acquires-acquires.ensures ∙ ap (λ (q : OneQueue). acquires_of q.entries) c.self.view_is in
-    subst (Counts c.args.clock.now) (mark_seen _ are k) (c.search_from-more.ensures.counted k small)
+    subst (Covers c.args.clock.now) (mark_seen _ are k) (c.search_marks-more.ensures.counted k small)
 
 pub returns-clause-found : goal.returns-clause-found
 returns-clause-found c =
     let lt = seen_within c.args.thread.0 c.self.view_is c.self.invariant c.requires.slot in
-    counts_set c.self.inside.found.items c.args.thread.0 c.search_from-more.result lt
-    ∙ ap (λ (k : OneQueue). with_row c.args.thread.0 c.search_from-more.result (slice_index k.found))
+    counts_set c.self.inside.found.items c.args.thread.0 c.search_marks-more.result lt
+    ∙ ap (λ (k : OneQueue). with_row c.args.thread.0 c.search_marks-more.result (slice_index k.found))
     c.self.view_is
 
 pub returns-clause-most : goal.returns-clause-most
 returns-clause-most c =
     let known = found_read c.args.thread.0 _ c.self.view_is c.self.invariant c.requires.slot
     c.index.ensures in
-    let work = c.search_from-more.ensures.most in
+    let work = c.search_marks-more.ensures.most in
     omega arith
 
 pub returns-clause-least : goal.returns-clause-least
 returns-clause-least c =
     let known = found_read c.args.thread.0 _ c.self.view_is c.self.invariant c.requires.slot
     c.index.ensures in
-    let work = c.search_from-more.ensures.least in
+    let work = c.search_marks-more.ensures.least in
     omega arith
 
 pub invariant_of-self : goal.invariant_of-self
 invariant_of-self c =
     let lt = seen_within c.args.thread.0 c.self.view_is c.self.invariant c.requires.slot in
     let seen = count_seen _ c.acquires-acquires.ensures in
-    kept_found c.args.thread.0 c.search_from-more.result c.self.invariant lt
-    (omega (arith, seen, c.search_from-more.ensures.within))
+    kept_found c.args.thread.0 c.search_marks-more.result c.self.invariant lt
+    (omega (arith, seen, c.search_marks-more.ensures.within))

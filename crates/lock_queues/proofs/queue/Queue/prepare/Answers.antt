@@ -7,7 +7,8 @@ use Rattle.lock_queues.specs.declared.slots.Slot.{Slot}
 use Rattle.lock_queues.specs.Slots.{slot_of, has_slot, opened_at, opened_in, IsSlot}
 use Rattle.lock_queues.specs.Queue.{OneQueue, IsKept}
 use Rattle.lock_queues.proofs.IsKeptProperties.{kept_pushed}
-use Rattle.lock_queues.proofs.SlotsProperties.{said, row_kept, is_none, slot_push}
+use Rattle.lock_queues.proofs.SlotsProperties.{said, is_none, slot_push}
+use Rattle.hb_clocks.proofs.WithRowProperties.{row_kept}
 use Rattle.lock_queues.proofs.queue.Queue.prepare.Goals as goal
 
 -- the slot is the last one

@@ -8,7 +8,7 @@ pub returns : goal.returns
 returns c =
     let ms = c.self.inside.acquires.items in
     let ps = c.self.inside.places.items in
-    let same = c.self.invariant.same in
+    let same = c.self.invariant in
     let count = count_listed ms ps same in
     let is = ap (λ (l : Listed). length l.entries) c.self.view_is in
     let within = c.requires in

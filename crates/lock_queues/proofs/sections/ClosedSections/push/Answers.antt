@@ -7,5 +7,5 @@ pub returns-clause-entries : goal.returns-clause-entries
 returns-clause-entries c =
     ap₂ entries_of c.push_reserved.ensures.items c.push_reserved-2.ensures.items
     ∙ listed_push c.self.inside.acquires.items c.self.inside.places.items c.args.entry.acquire
-    c.args.entry.place c.self.invariant.same
+    c.args.entry.place c.self.invariant
     ∙ ap (λ (l : Listed). l.entries ++ c.args.entry ∷ []) c.self.view_is

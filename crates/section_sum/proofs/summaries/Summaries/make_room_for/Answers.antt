@@ -58,17 +58,24 @@ loop-lock-preserved c =
       );
     }
 
-pub invariant_of-self-in_err-prepare : goal.invariant_of-self-in_err-prepare
-invariant_of-self-in_err-prepare c =
-    let l : LockId = get_or c.args.held.now c.loop-lock.lock-index (record { 0 = 0 }) in
+-- what is so of all locks where the memory for a cell is refused
+refused_after : (c : goal.After-from_residual-in_err-prepare)
+    → Grown c.args.held.now c.args.var.0 c.loop-lock.lock-index c.args.self.now c.prepare.new.cells
+    (set c.grow_to.new.list.items (get_or c.args.held.now c.loop-lock.lock-index (record { 0 = 0 })).0
+    c.prepare.new.self)
+refused_after c =
     let ok = c.in_ok-grow_to.ensures.ok in
-    let after = at_grown c.loop-lock.invariant.grown c.grow_to.new.list.items c.prepare.new.cells
+    at_grown c.loop-lock.invariant.grown c.grow_to.new.list.items c.prepare.new.cells
     (record { 0 = 0 }) c.index_mut-kept.result.now c.prepare.new.self
     (λ m. c.grow_to.ensures.same no_kept (λ lock given. search rules) m) c.grow_to.ensures.more
     c.grow_to.ensures.most c.loop-lock-test.true (omega arith)
     c.index_mut-kept.ensures.value c.prepare.ensures.grown c.prepare.ensures.kept c.prepare.ensures.by
-    c.prepare.ensures.again in (
-      after.kept,
+    c.prepare.ensures.again
+
+pub invariant_of-self-in_err-prepare : goal.invariant_of-self-in_err-prepare
+invariant_of-self-in_err-prepare c =
+    let l : LockId = get_or c.args.held.now c.loop-lock.lock-index (record { 0 = 0 }) in (
+      (refused_after c).kept,
       omega (
         arith,
         c.loop-lock.invariant.fitted,
@@ -112,14 +119,7 @@ pub returns-in_err-prepare : goal.returns-in_err-prepare
 unfolding is_ready
 returns-in_err-prepare c =
     let l : LockId = get_or c.args.held.now c.loop-lock.lock-index (record { 0 = 0 }) in
-    let ok = c.in_ok-grow_to.ensures.ok in
-    let after = at_grown c.loop-lock.invariant.grown c.grow_to.new.list.items c.prepare.new.cells
-    (record { 0 = 0 }) c.index_mut-kept.result.now c.prepare.new.self
-    (λ m. c.grow_to.ensures.same no_kept (λ lock given. search rules) m) c.grow_to.ensures.more
-    c.grow_to.ensures.most c.loop-lock-test.true (omega arith)
-    c.index_mut-kept.ensures.value c.prepare.ensures.grown c.prepare.ensures.kept c.prepare.ensures.by
-    c.prepare.ensures.again in
-    let means = prepared after in
+    let means = prepared (refused_after c) in
     let lacks : IsReady (sums c.prepare.new.cells (set c.grow_to.new.list.items l.0 c.prepare.new.self))
     c.args.held.now c.args.var.0 → ⊥
     = λ all. absurd (false≢true (c.in_err-prepare.ensures.ready ∙ all l.0

@@ -1,5 +1,6 @@
 use Rattle.std.proofs.Common.{◌≡◌, ℕ, suc, ◌≤◌, ◌<◌, ◌++◌, ◌∷◌, [], List, length, length-append, ap, ap₂, sym}
 use Rattle.std.proofs.Common.{subst, ◌∙◌, arith, rules}
+use Rattle.event_core.specs.declared.bounds.TheConstants.{MOST_EVENTS}
 use Rattle.event_core.specs.Closed.{Closed, Has}
 use Rattle.event_core.specs.Rows.{with_row}
 use Rattle.event_core.specs.Effect.{Effect, Closes}
@@ -63,7 +64,7 @@ leave-requires-clause-few c u =
     let due = due_within c.self.view_is c.requires in
     let e = c.args.event.now in
     let old = hb_of (within c.self.inside) in
-    subst (λ (f : ℕ → ℕ). before e.thread.0 f u < 4294967296)
+    subst (λ (f : ℕ → ℕ). before e.thread.0 f u < MOST_EVENTS)
     (sym (c.hb-clock.ensures.exact ∙ own_happens_before e old _ c.advance.ensures.exact))
     (let same = before_closing e old c.args.lock due.effect u in
     let few = due.fits.few_counts u in

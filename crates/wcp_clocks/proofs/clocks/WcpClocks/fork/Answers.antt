@@ -1,9 +1,7 @@
-use Rattle.std.proofs.Common.{ℕ, ap, ap₂, sym, ◌∙◌, arith, refl}
+use Rattle.std.proofs.Common.{ℕ, ap₂, sym, ◌∙◌, refl}
 use Rattle.event_core.specs.Rows.{with_row}
 use Rattle.event_core.specs.Effect.{Effect, Forks}
-use Rattle.hb_clocks.specs.Work.{Done}
-use Rattle.wcp_clocks.proofs.OtherSteps.{plain_strict, plain_threads, joins_told}
-use Rattle.wcp_clocks.proofs.Memory.{sums_stay, queues_stay, held_stay}
+use Rattle.wcp_clocks.proofs.OtherSteps.{plain_strict, plain_threads, clocks_step}
 use Rattle.wcp_clocks.proofs.IsStepProperties.{kept_within, due_within, seen_step}
 use Rattle.wcp_clocks.proofs.PartsWithin.{within}
 use Rattle.wcp_clocks.specs.Parts.{parts_of}
@@ -15,41 +13,15 @@ step : (c : goal.After-give_thread) → IsStepBy c.args.event.now (Forks c.args.
     (parts_of c.advance.new.self c.give_thread.new.self c.self.inside.sums c.self.inside.queues
     c.self.inside.held c.advance.new.work)
 step c =
-    let due = due_within c.self.view_is c.requires in
     let e = c.args.event.now in
-    let old = within c.self.inside in
     let k : Effect = Forks c.args.child in
+    let old = within c.self.inside in
+    let hb = c.advance.ensures in
     let give = c.give_thread.ensures in
-    let j = joins_told e k old old.work c.advance.new.work due.effect c.advance.ensures.work in
-    record {
-      hb = c.advance.ensures.exact;
-      order_room = c.advance.ensures.kept;
-      threads = give.threads
-          ∙ ap₂ (λ (g : ℕ → ℕ) (f : ℕ → ℕ → ℕ). with_row c.args.child.0 g f)
-          (sym (plain_strict e k old refl)) (plain_threads e k old refl);
-      locks = give.locks;
-      opened = refl;
-      held = refl;
-      noted = refl;
-      met = refl;
-      numbers = c.self.invariant.numbers;
-      closed = refl;
-      found = refl;
-      joins = omega arith;
-      joins_exact = j;
-      comparisons = ap (λ (d : Done). d.comparisons) c.advance.ensures.work;
-      no_fewer = tt;
-      memory = record {
-        order = c.advance.ensures.memory;
-        rows = give.kept;
-        sums = sums_stay old.sums;
-        queues = (queues_stay old.queues).places;
-        numbers = λ other. refl;
-        held = held_stay old.held;
-      };
-      limits = record { width = c.advance.ensures.width; limits = refl };
-      kept = tt;
-    }
+    clocks_step old.work c.self.invariant.numbers hb.exact hb.width hb.kept hb.memory hb.work give.locks
+    give.kept refl k tt (due_within c.self.view_is c.requires).effect
+    (give.threads ∙ ap₂ (λ (g : ℕ → ℕ) (f : ℕ → ℕ → ℕ). with_row c.args.child.0 g f)
+    (sym (plain_strict e k old refl)) (plain_threads e k old refl)) refl
 
 pub invariant_of-self : goal.invariant_of-self
 invariant_of-self c = kept_within (due_within c.self.view_is c.requires) (step c) c.self.invariant

@@ -1,8 +1,7 @@
-use Rattle.std.proofs.Common.{ap, ◌∙◌, arith, refl}
-use Rattle.event_core.specs.Effect.{Effect, Joins}
+use Rattle.std.proofs.Common.{ap, arith}
+use Rattle.event_core.specs.Effect.{Joins}
 use Rattle.hb_clocks.specs.Work.{Done}
-use Rattle.wcp_clocks.proofs.OtherSteps.{joins_told}
-use Rattle.wcp_clocks.proofs.Memory.{sums_stay, queues_stay, held_stay}
+use Rattle.wcp_clocks.proofs.OtherSteps.{clocks_step}
 use Rattle.wcp_clocks.proofs.IsStepProperties.{kept_within, due_within, seen_step}
 use Rattle.wcp_clocks.proofs.PartsWithin.{within}
 use Rattle.wcp_clocks.specs.Parts.{parts_of}
@@ -19,41 +18,12 @@ step : (c : goal.After-advance) → IsStepBy c.args.event.now (Joins c.args.chil
     (parts_of c.advance.new.self c.take_thread.new.self c.self.inside.sums c.self.inside.queues
     c.self.inside.held c.advance.new.work)
 step c =
-    let due = due_within c.self.view_is c.requires in
-    let e = c.args.event.now in
-    let old = within c.self.inside in
-    let k : Effect = Joins c.args.child in
-    let taken = c.take_thread in
-    let w = ap (λ (d : Done). d.joins) taken.ensures.work in
-    let j = joins_told e k old taken.new.work c.advance.new.work due.effect c.advance.ensures.work in
-    record {
-      hb = c.advance.ensures.exact;
-      order_room = c.advance.ensures.kept;
-      threads = taken.ensures.threads;
-      locks = taken.ensures.locks;
-      opened = refl;
-      held = refl;
-      noted = refl;
-      met = refl;
-      numbers = c.self.invariant.numbers;
-      closed = refl;
-      found = refl;
-      joins = omega arith;
-      joins_exact = omega arith;
-      comparisons = ap (λ (d : Done). d.comparisons) c.advance.ensures.work
-          ∙ ap (λ (d : Done). d.comparisons) taken.ensures.work;
-      no_fewer = tt;
-      memory = record {
-        order = c.advance.ensures.memory;
-        rows = taken.ensures.kept;
-        sums = sums_stay old.sums;
-        queues = (queues_stay old.queues).places;
-        numbers = λ other. refl;
-        held = held_stay old.held;
-      };
-      limits = record { width = c.advance.ensures.width; limits = refl };
-      kept = tt;
-    }
+    let hb = c.advance.ensures in
+    let taken = c.take_thread.ensures in
+    let joins = ap (λ (d : Done). d.joins) taken.work in
+    clocks_step c.take_thread.new.work c.self.invariant.numbers hb.exact hb.width hb.kept hb.memory hb.work
+    taken.locks taken.kept (ap (λ (d : Done). d.comparisons) taken.work) (Joins c.args.child) tt
+    (due_within c.self.view_is c.requires).effect taken.threads (omega arith)
 
 pub invariant_of-self : goal.invariant_of-self
 invariant_of-self c = kept_within (due_within c.self.view_is c.requires) (step c) c.self.invariant

@@ -11,14 +11,8 @@ returns-clause-kept c = seen_kept c.self.view_is (grind (arith, common_steps)) r
 
 pub copy_rows-requires-clause-to : goal.copy_rows-requires-clause-to
 copy_rows-requires-clause-to c =
-    let rows = c.deref_mut.ensures.value in
-    let own = thread_within c.self.view_is c.self.invariant rows c.requires.room in
-    let other = thread_within c.self.view_is c.self.invariant rows c.requires.child_room in
-    omega arith
+    thread_within c.self.view_is c.self.invariant c.deref_mut.ensures.value c.requires.child_room
 
 pub copy_rows-requires-clause-from : goal.copy_rows-requires-clause-from
 copy_rows-requires-clause-from c =
-    let rows = c.deref_mut.ensures.value in
-    let own = thread_within c.self.view_is c.self.invariant rows c.requires.room in
-    let other = thread_within c.self.view_is c.self.invariant rows c.requires.child_room in
-    omega arith
+    thread_within c.self.view_is c.self.invariant c.deref_mut.ensures.value c.requires.room

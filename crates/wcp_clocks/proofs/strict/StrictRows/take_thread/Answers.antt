@@ -11,14 +11,8 @@ returns-clause-kept c = seen_kept c.self.view_is (grind (arith, common_steps)) r
 
 pub join_rows-requires-clause-to : goal.join_rows-requires-clause-to
 join_rows-requires-clause-to c =
-    let rows = c.deref_mut.ensures.value in
-    let own = thread_within c.self.view_is c.self.invariant rows c.requires.room in
-    let other = thread_within c.self.view_is c.self.invariant rows c.requires.other_room in
-    omega arith
+    thread_within c.self.view_is c.self.invariant c.deref_mut.ensures.value c.requires.room
 
 pub join_rows-requires-clause-from : goal.join_rows-requires-clause-from
 join_rows-requires-clause-from c =
-    let rows = c.deref_mut.ensures.value in
-    let own = thread_within c.self.view_is c.self.invariant rows c.requires.room in
-    let other = thread_within c.self.view_is c.self.invariant rows c.requires.other_room in
-    omega arith
+    thread_within c.self.view_is c.self.invariant c.deref_mut.ensures.value c.requires.other_room
