@@ -64,6 +64,7 @@ module _ (f : LastAccess → Option ℕ) where
         above = (let x : n ≤ a.index = a.above in let y : a.index ≤ h.index = h.above in omega arith);
       })
 
+  -- the greatest index of a list is at least the index of each member
   pub fold_member : (start : Option ℕ) (n : ℕ) (p : LastAccess) (ps : List LastAccess) → Has p ps
       → f p ≡ Some n
       → AtLeast n (fold (λ (m : Option ℕ) (q : LastAccess). later m (f q)) start ps)
@@ -99,10 +100,12 @@ pub data Clashes : AccessKind → AccessKind → Type 0 where
   read_write : Clashes Read Write
   write_write : Clashes Write Write
 
+-- a store clashes with each access to its variable
 pub write_clashes : (k : AccessKind) → Clashes Write k
 write_clashes Read = write_read
 write_clashes Write = write_write
 
+-- an index that is at least n is at least each lower index
 pub lower : (i n : ℕ) (o : Option ℕ) → i ≤ n → AtLeast n o → AtLeast i o
 lower i n o le h =
     let above : n ≤ h.index = h.above in record { index = h.index; is = h.is; above = omega arith }
@@ -128,6 +131,7 @@ racing_found t c p i is = go (is_of t p) (nat_lt (c p.thread.0) p.access.positio
       above = ltb-true (c p.thread.0) p.access.position lt;
     }
 
+-- an access of another thread that the clock does not count races
 pub found_racing : (t : ThreadId) (c : ℕ → ℕ) (p : LastAccess) → (p.thread ≡ t → ⊥)
     → c p.thread.0 < p.access.position → racing t c p ≡ Some p.access.index
 found_racing t c p other lt =
@@ -174,6 +178,7 @@ read_from t k m c ts n clash is = go (fold_from (racing t c) None n (kept m ts) 
       found = racing_found t c r.0 n r.2;
     }
 
+-- the latest racing index is read from an access that is kept, and that clashes
 pub latest_from : (t : ThreadId) (k : AccessKind) (c : ℕ → ℕ) (ts : VariableAccesses) (n : ℕ)
     → latest_racing t k c ts ≡ Some n → ReadFrom t k c ts n
 latest_from t Read c ts n is = read_from t Read Write c ts n write_read is

@@ -2,7 +2,6 @@ pub mod StandsForProperties
 pub mod PutProperties
 pub mod AreNarrowProperties
 pub mod IsReadyForProperties
-pub mod BelowProperties
 pub mod LatestRacingProperties
 pub mod VerdictLaws
 pub mod VariableStandsProperties

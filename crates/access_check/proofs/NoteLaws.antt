@@ -18,21 +18,21 @@ use Rattle.event_core.specs.Effect.{access_of}
 use Rattle.event_core.specs.Refusal.{WellFormed}
 use Rattle.event_core.specs.Verdict.{IsVerdict}
 use Rattle.event_core.proofs.Accesses.{access_one}
+use Rattle.event_core.proofs.ConflictProperties.{IsAccess, access_is}
 use Rattle.event_core.proofs.CountedProperties.{nat_eq_same, nat_eq_other, events_own, events_other}
 use Rattle.event_core.proofs.DepthProperties.{thread_cases, same_thread_id}
 use Rattle.access_check.specs.declared.last_accesses.Access.{Access}
 use Rattle.access_check.specs.declared.variable_accesses.VariableAccesses.{VariableAccesses}
 use Rattle.access_check.specs.VariableAccesses.{kept, kept_after}
-use Rattle.access_check.specs.Tables.{AccessTables, count_at, last_of as its_last, accesses_after, Notes}
+use Rattle.access_check.specs.Tables.{AccessTables, count_at, last_of, accesses_after, Notes}
 use Rattle.access_check.specs.Standing.{VariableStands, StandsFor}
-use Rattle.access_check.proofs.VerdictLaws.{IsOne, is_one}
 use Rattle.access_check.proofs.VariableStandsProperties.{untouched, put_stands, alone_stands}
 
 -- the variable's accesses with the access
 touched : (log : List Event) (e : Event) (x : VarId) (k : AccessKind) (v : Verdict) (a : Access)
     → e.op ≡ access_of x k → a.index ≡ length log → a.position ≡ events_of log e.thread + 1
     → (old ts : VariableAccesses) → ((m : AccessKind)
-    → kept m ts ≡ kept_after v k (its_last e.thread a) m old)
+    → kept m ts ≡ kept_after v k (last_of e.thread a) m old)
     → IsVerdict (log ++ e ∷ []) (length log) v → VariableStands log x old
     → VariableStands (log ++ e ∷ []) x ts
 touched log e x Read v a op at position old ts is verdict s =
@@ -59,7 +59,7 @@ accesses_stand : (log : List Event) (e : Event) (o : Op) (v : Verdict) (a : Acce
 accesses_stand log e o v a x old ts op at position is verdict s = go o op is
   where
     by_var : (k : AccessKind) (y : VarId) → e.op ≡ access_of y k → (b : Bool) → nat_eq x.0 y.0 ≡ b
-        → ((m : AccessKind) → kept m ts ≡ cond b (kept_after v k (its_last e.thread a) m old) (kept m old))
+        → ((m : AccessKind) → kept m ts ≡ cond b (kept_after v k (last_of e.thread a) m old) (kept m old))
         → VariableStands (log ++ e ∷ []) x ts
     by_var k y q true same is =
         let x_is_y : x ≡ y = var_id (eqb-true x.0 y.0 same) in
@@ -80,7 +80,7 @@ accesses_stand log e o v a x old ts op at position is verdict s = go o op is
         → VariableStands (log ++ e ∷ []) x ts
     go (Load y) q is = by_var Read y q (nat_eq x.0 y.0) refl is
     go (Store y) q is = by_var Write y q (nat_eq x.0 y.0) refl is
-    go _ q is = untouched log e x old ts is (λ m r. subst IsOne (sym r ∙ q) (is_one x m)) s
+    go _ q is = untouched log e x old ts is (λ m r. subst IsAccess (sym r ∙ q) (access_is x m)) s
 
 -- a thread's count after the event
 counts_stand : (log : List Event) (e : Event) (u : ThreadId) (n m : ℕ) → n ≡ events_of log u
@@ -98,6 +98,7 @@ counts_stand log e u n m is own = go (thread_cases e.thread u)
         (same_thread_id (sym q))))
         ∙ (is ∙ sym (events_other log e u other))
 
+-- noting an event keeps the tables standing for the log
 pub note_stands : (before after : AccessTables) (log : List Event) (e : Event) (index : ℕ) (v : Verdict)
     → Notes before after e index v → StandsFor log before → index ≡ length log
     → WellFormed before.limits (log ++ e ∷ []) → IsVerdict (log ++ e ∷ []) (length log) v

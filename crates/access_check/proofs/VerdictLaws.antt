@@ -19,7 +19,7 @@ use Rattle.event_core.specs.Effect.{access_of}
 use Rattle.event_core.specs.Closed.{Has}
 use Rattle.event_core.specs.Wcp.{Below}
 use Rattle.event_core.specs.Verdict.{Races, IsVerdict}
-use Rattle.event_core.proofs.Accesses.{conflict_access}
+use Rattle.event_core.proofs.ConflictProperties.{IsAccess, access_second}
 use Rattle.event_core.proofs.OrderProperties.{po_thread}
 use Rattle.event_core.proofs.CountedProperties.{last_does, last_of}
 use Rattle.event_core.proofs.OrderlyProperties.{orderly}
@@ -36,8 +36,9 @@ use Rattle.access_check.specs.Standing.{IsOfLog, HasLast, IsCovered, VariableSta
 use Rattle.access_check.proofs.LatestRacingProperties.{AtLeast, lower, Clashes, write_read, read_write}
 use Rattle.access_check.proofs.LatestRacingProperties.{write_write, write_clashes, ReadFrom, found_racing}
 use Rattle.access_check.proofs.LatestRacingProperties.{latest_above, latest_from, fold_member}
-use Rattle.access_check.proofs.BelowProperties.{below_hb, below_trans}
+use Rattle.event_core.proofs.StrictIsWithinHb.{below_hb, below_trans}
 
+-- accesses to one variable whose kinds clash conflict
 pub clash_conflicts : (x : VarId) (m k : AccessKind) → Clashes m k
     → OpsConflict (access_of x m) (access_of x k)
 clash_conflicts x Write Read c = refl
@@ -188,22 +189,13 @@ module _ (log : List Event) (e : Event) (x : VarId) (k : AccessKind) (op : e.op 
             omega arith,
       )
 
--- the operation is an access
-abbrev pub IsOne : Op → Type 0
-IsOne (Load x) = Unit {0}
-IsOne (Store x) = Unit {0}
-IsOne _ = ⊥
-
-pub is_one : (x : VarId) (k : AccessKind) → IsOne (access_of x k)
-is_one x Read = tt
-is_one x Write = tt
-
--- where the event is none, nothing conflicts with it
-clear : (log : List Event) (e : Event) → (IsOne e.op → ⊥) → IsVerdict (log ++ e ∷ []) (length log) Clear
+-- where the event is no access, nothing conflicts with it
+clear : (log : List Event) (e : Event) → (IsAccess e.op → ⊥) → IsVerdict (log ++ e ∷ []) (length log) Clear
 clear log e none i r =
-    let a = conflict_access r.conflict.first r.conflict.second r.conflict.ops in
-    none (subst IsOne (sym (does_op (last_does log e) r.conflict.does_second ∙ a.2)) (is_one a.0 a.1))
+    none (subst IsAccess (sym (does_op (last_does log e) r.conflict.does_second))
+    (access_second r.conflict.first r.conflict.second r.conflict.ops))
 
+-- the verdict that the tables give is the verdict of the definition
 pub verdict_stands : (log : List Event) (e : Event) (t : AccessTables) (c : ℕ → ℕ) → StandsFor log t
     → Counted (log ++ e ∷ []) (λ i. Below (log ++ e ∷ []) i (length log)) c
     → IsVerdict (log ++ e ∷ []) (length log) (verdict_of t.vars e.thread e.op c)
@@ -215,4 +207,4 @@ verdict_stands log e t c s counted = go e.op refl
     go : (o : Op) → e.op ≡ o → IsVerdict (log ++ e ∷ []) (length log) (verdict_of t.vars e.thread o c)
     go (Load x) op = is_verdict log e x Read op c counted order (accesses_at t.vars x.0) (s.accesses x)
     go (Store x) op = is_verdict log e x Write op c counted order (accesses_at t.vars x.0) (s.accesses x)
-    go _ op = clear log e (subst IsOne op)
+    go _ op = clear log e (subst IsAccess op)

@@ -4,13 +4,14 @@ use Rattle.std.specs.Prelude.{◌≡◌, ℕ, ◌+◌, ◌<◌, ◌≤◌, List,
 use Rattle.std.specs.Prelude.{nat_lt, ◌||◌, fold, if◌then◌else◌, All, slice_set}
 use Rattle.std.specs.List.{list_any, position}
 use Rattle.event_core.specs.declared.ids.ThreadId.{ThreadId}
+use Rattle.event_core.specs.declared.bounds.TheConstants.{MOST_EVENTS}
 use Rattle.access_check.specs.declared.last_accesses.LastAccess.{LastAccess}
 
--- an access of a log that has at most 2^32 events, so its numbers fit 32 bits
+-- an access of a log that has at most so many events, so its numbers fit 32 bits
 pub record IsPackable (p : LastAccess) : Type 0 where
-  pub index : p.access.index < 4294967296
+  pub index : p.access.index < MOST_EVENTS
   pub some : 0 < p.access.position
-  pub position : p.access.position ≤ 4294967296
+  pub position : p.access.position ≤ MOST_EVENTS
 
 -- the first of the accesses, and those of further threads
 abbrev pub items_of : Option LastAccess → List LastAccess → List LastAccess

@@ -19,18 +19,6 @@ use std::alloc::Global;
 // So many variables get a table at once.
 const VARS_AT_ONCE: usize = 64;
 
-/// So many threads have a count.
-pub(crate) fn grow_counts(counts: &mut Vec<u64>, threads: usize) -> Result<(), OutOfMemory>
-    ensures same { (u : ℕ) → count_at counts.new.items u ≡ count_at counts.old.items u }
-    ensures more { length counts.old.items ≤ length counts.new.items }
-    ensures most { length counts.new.items ≤ max (length counts.old.items) threads }
-    ensures room { vec_capacity counts.new ≤ max (vec_capacity counts.old) (2 * threads) }
-    ensures ok { OnOk result (threads ≤ length counts.new.items) }
-    ensures lacks { OnErr result (length counts.old.items < threads) }
-{
-    grow_to(counts, threads, || 0)
-}
-
 // The variable has a table, and so have the next ones: mostly the variables that are met first have the next
 // numbers.
 #[inline(never)]
@@ -43,27 +31,6 @@ fn grow_vars(vars: &mut Vec<VariableAccesses>, alloc: Global, var: usize) -> Res
     ensures ok { OnOk result (var < length vars.new.items) }
 {
     grow_to(vars, var + VARS_AT_ONCE, || VariableAccesses::new(alloc))
-}
-
-// The variable's table has room for an access of that kind by the thread.
-fn prepare_within(
-    vars: &mut [VariableAccesses],
-    var: usize,
-    thread: ThreadId,
-    kind: AccessKind,
-) -> Result<(), OutOfMemory>
-    requires { var < length vars.old }
-    ensures same { (x : ℕ) (k : AccessKind)
-        → kept k (accesses_at vars.new x) ≡ kept k (accesses_at vars.old x) }
-    ensures more { (t : ThreadId) (x : ℕ) (k : AccessKind) → IsReadyAt vars.old t x k
-        → IsReadyAt vars.new t x k }
-    ensures as_many { length vars.new ≡ length vars.old }
-    ensures lasts { LastsAt var vars.old vars.new }
-    ensures room { OnOk result (IsReadyAt vars.new thread var kind) }
-    ensures again { IsReadyAt vars.old thread var kind → IsOk result }
-{
-    let accesses = &mut vars[var];
-    accesses.prepare(thread, kind)
 }
 
 /// The variable has a table, with room for an access of that kind by the thread.
@@ -88,7 +55,7 @@ pub(crate) fn prepare_at(
     if vars.len() <= var {
         grow_vars(vars, alloc, var)?;
     }
-    prepare_within(vars, var, thread, kind)
+    vars[var].prepare(thread, kind)
 }
 
 // An access, on which there was that verdict, is noted at its variable.

@@ -9,6 +9,7 @@ pub mod RecurrenceProperties
 pub mod OrderlyProperties
 pub mod RelationsStay
 pub mod BelowProperties
+pub mod StrictIsWithinHb
 pub mod InsideProperties
 pub mod Slots
 pub mod CountsProperties
@@ -28,6 +29,7 @@ pub mod StepsProperties
 pub mod HasProperties
 pub mod BoolProperties
 pub mod Accesses
+pub mod ConflictProperties
 pub mod HeldDepths
 pub mod DepthAfterProperties
 pub mod ClockAfterProperties

@@ -12,9 +12,11 @@ use Rattle.event_core.proofs.Places.{front_or_last}
 use Rattle.event_core.proofs.RelationsStay.{verdict_too, longer}
 use Rattle.seq_monitor.specs.Monitored.{AreVerdicts}
 
+-- the empty log has no verdicts
 pub no_verdicts : AreVerdicts [] []
 no_verdicts = record { all = refl; each = λ j v is. absurd (let q : None ≡ Some v = is in cc) }
 
+-- the verdicts on a log stay, and the verdict on one more event is added
 pub one_verdict_more : (log : List Event) (e : Event) (vs : List Verdict) (v : Verdict) → AreVerdicts log vs
     → IsVerdict (log ++ e ∷ []) (length log) v → AreVerdicts (log ++ e ∷ []) (vs ++ v ∷ [])
 one_verdict_more log e vs v are is = record {

@@ -12,6 +12,7 @@ use Rattle.event_core.specs.declared.events.Call.{Call}
 use Rattle.event_core.specs.declared.events.Op.{Op}
 use Rattle.event_core.specs.declared.events.Op.TheVariants.{Load, Store, Acquire, Release, Fork, Join}
 use Rattle.event_core.specs.declared.bounds.Limits.{Limits}
+use Rattle.event_core.specs.declared.bounds.TheConstants.{MOST_EVENTS}
 use Rattle.event_core.specs.declared.replies.Refusal.TheVariants.{ThreadRange, TargetRange}
 use Rattle.event_core.specs.declared.replies.Verdict.{Verdict}
 use Rattle.event_core.specs.Bounds.{AreBounded}
@@ -29,7 +30,7 @@ use Rattle.traced_mem.specs.Refusals.{refusal_at, reasons_at}
 use Rattle.traced_mem.specs.After.{after, holds_after}
 use Rattle.traced_mem.specs.Standing.{StandsFor}
 use Rattle.traced_mem.specs.Tables.{meaning, Allows, MemoryTables}
-use Rattle.access_check.specs.Tables.{count_at, IsReady as AccessHasRoom}
+use Rattle.access_check.specs.Tables.{count_at, IsReady}
 use Rattle.access_check.specs.Standing.{StandsFor as AccessesStand}
 use Rattle.hb_clocks.specs.Standing.{IsHeldRelease}
 use Rattle.event_core.specs.Log.{depth}
@@ -37,7 +38,7 @@ use Rattle.event_core.specs.declared.replies.Outcome.TheVariants.{Accepted}
 use Rattle.traced_mem.proofs.RefusalsProperties.{same_refusal}
 use Rattle.wcp_clocks.proofs.FitsProperties.{log_within}
 use Rattle.wcp_clocks.specs.Parts.{Parts as Clocks, hb_of, width_of, limits_of, Fits, NamesWithin, SameLimits}
-use Rattle.wcp_clocks.specs.Parts.{IsWithin as ClocksAreWithin}
+use Rattle.wcp_clocks.specs.Parts.{IsWithin}
 use Rattle.wcp_clocks.specs.Standing.{FitsWhereLegal, StandsFor as ClocksStandFor}
 use Rattle.wcp_clocks.specs.WorkWithin.{IsWorkOf, WorkStep, LittleWork}
 use Rattle.seq_monitor.specs.declared.parts.Parts.{Parts}
@@ -59,7 +60,7 @@ store_too m mem t x none = none
 
 -- a call that is not refused names numbers within the limits
 pub clocks_within : {m : Limits} {p : Parts} (t : ThreadId) (o : Op) → IsReplay m p → Allows p.memory t o
-    → ClocksAreWithin p.clocks t o
+    → IsWithin p.clocks t o
 unfolding refusal_at AllNone
 clocks_within {m} {p} t o r allowed = (subst (λ (n : ℕ). t.0 < n) (sym r.clocks.width) thread, go o target)
   where
@@ -93,6 +94,7 @@ pub record SlotTaken (open' : ℕ) (o : Op) : Type 0 where
   pub some : 0 < slots_for open' o
   pub kept : holds_after o open' + 1 ≤ slots_for open' o
 
+-- an accepted call takes one of the slots, and leaves one for each release to come
 pub slot_taken : (m : Limits) (log : List Event) (c : Call) → WellFormed m log → refusal m log c ≡ None
     → SlotTaken (open_acquires log) c.op
 slot_taken m log c well allowed = go c.op refl
@@ -117,6 +119,7 @@ pub record IsNext (m : Limits) (p : Parts) (c : Call) (e : Event) : Type 0 where
   pub is : e ≡ event_of p.log.events c
   pub longer : WellFormed m (p.log.events ++ e ∷ [])
 
+-- the event of a call that is allowed is the next event of the log
 pub is_next : {m : Limits} {p : Parts} {e : Event} {v : ℕ} (c : Call) → IsReplay m p
     → Allows p.memory c.thread c.op
     → e ≡ record { thread = c.thread; op = c.op; site = c.site; value = v }
@@ -146,7 +149,7 @@ last_is_latest log e = record {
 
 -- before an event that is accepted the log has fewer events than it may have
 pub index_fits : {m : Limits} {p : Parts} {c : Call} {e : Event} → IsReplay m p → IsNext m p c e
-    → length p.log.events < 4294967296
+    → length p.log.events < MOST_EVENTS
 index_fits {m} {p} {e = e} r next =
     omega (
       arith,
@@ -157,7 +160,7 @@ index_fits {m} {p} {e = e} r next =
 
 -- and so has each thread
 pub position_fits : {m : Limits} {p : Parts} {c : Call} {e : Event} (t : ThreadId) → IsReplay m p
-    → IsNext m p c e → count_at p.accesses.counts t.0 < 4294967296
+    → IsNext m p c e → count_at p.accesses.counts t.0 < MOST_EVENTS
 unfolding events_of
 position_fits {p = p} t r next =
     omega (
@@ -283,14 +286,14 @@ release_kept {m} {p} c l slots r allowed is at =
     let here : 0 < (hb_of p.clocks).depth c.thread.0 l.0 = omega (arith, held, same) in
     let thread : c.thread.0 < length p.accesses.counts
     = release_counted m log c l p.accesses legal is r.accesses in
-    let room : AccessHasRoom p.accesses c.thread (Release l) = record { thread = thread; access = tt } in
+    let room : IsReady p.accesses c.thread (Release l) = record { thread = thread; access = tt } in
     let kept : slots ≡ open_acquires log = at ∙ ap (slots_for (open_acquires log)) is in
     record {
       lock = l;
       is = is;
       allowed = allowed;
       held = subst (IsHeldRelease (hb_of p.clocks) c.thread) (sym is) here;
-      accesses = subst (AccessHasRoom p.accesses c.thread) (sym is) room;
+      accesses = subst (IsReady p.accesses c.thread) (sym is) room;
       events = omega (arith, kept, r.event_slots);
       verdicts = omega (arith, kept, r.verdict_slots);
     }

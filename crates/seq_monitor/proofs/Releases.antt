@@ -33,6 +33,7 @@ is_held : (m : Limits) (log : List Event) (c : Call) (l : LockId) → refusal m 
 is_held m log c l allowed is =
     holder_here (holder log l) c.thread (when_none _ NotHolder (reasons m log c l allowed is).holds)
 
+-- the thread of an accepted release is in a section on the lock
 pub release_held : (m : Limits) (log : List Event) (c : Call) (l : LockId) → refusal m log c ≡ None
     → c.op ≡ Release l → 0 < depth log c.thread l
 release_held m log c l allowed is = holder_depth log l c.thread (is_held m log c l allowed is)
@@ -45,6 +46,7 @@ one_of_sum f (suc n) i lt = elim (cases_lt i n) [
   | inr more ↦ (let same : i ≡ n = omega arith in omega (arith, ap (λ k. f (lock_at k)) same))
 ]
 
+-- before an accepted release some acquire is open
 pub release_open : (m : Limits) (log : List Event) (c : Call) (l : LockId) → WellFormed m log
     → refusal m log c ≡ None → c.op ≡ Release l → 0 < open_acquires log
 unfolding held_depths

@@ -6,8 +6,8 @@ ghost use Rattle.event_core.specs.Refusal.{WellFormed};
 ghost use Rattle.event_core.specs.Verdict.{IsVerdict};
 ghost use Rattle.access_check.specs.Standing.{StandsFor as AccessesStand};
 ghost use Rattle.wcp_clocks.specs.Parts.{width_of, SameLimits, IsAccess, KeepsReady, Fits};
-ghost use Rattle.wcp_clocks.specs.Parts.{IsWithin as ClocksAreWithin, IsReady as ClocksAreReady};
-ghost use Rattle.wcp_clocks.specs.Growth.{SameMemory as InClocks};
+ghost use Rattle.wcp_clocks.specs.Parts.{IsWithin, IsReady};
+ghost use Rattle.wcp_clocks.specs.Growth.{SameMemory};
 ghost use Rattle.wcp_clocks.specs.Standing.{StandsFor as ClocksStandFor};
 ghost use Rattle.wcp_clocks.specs.WorkWithin.{IsWorkOf};
 ghost use Rattle.seq_monitor.specs.Monitored.{slots_for, HasRoomFor};
@@ -15,7 +15,7 @@ ghost use Rattle.seq_monitor.specs.Grown.{HasGrown, HasOtherRoom, IsKeptRelease}
 ghost use Rattle.seq_monitor.specs.Growth.{GrownFor, TablesGrownFor};
 
 use access_check::Accesses;
-use event_core::{Event, Log, Op, OutOfMemory, Reply, ThreadId, Verdict};
+use event_core::{Event, Log, MOST_EVENTS, Op, OutOfMemory, Reply, ThreadId, Verdict};
 use traced_mem::Memory;
 use verdict_list::Verdicts;
 use wcp_clocks::WcpClocks;
@@ -45,7 +45,7 @@ pub(crate) fn reply_with(index: u64, event: &Event, verdict: Verdict) -> Reply
 /// How many slots are to be there for the operation and for all releases to come.
 #[inline(always)]
 pub(crate) fn count_slots(holds: u64, op: Op) -> usize
-    requires { holds ≤ 4294967296 }
+    requires { holds ≤ MOST_EVENTS }
     ensures exact { result ≡ slots_for holds op }
     ensures few { result ≤ holds + 2 }
 {
@@ -73,7 +73,7 @@ fn verdict_on_last(clocks: &WcpClocks, accesses: &Accesses, event: &Event) -> Ve
 /// and the verdict is by its thread's clock after that.
 #[inline(always)]
 pub(crate) fn judge(clocks: &mut WcpClocks, accesses: &Accesses, event: &Event) -> Verdict
-    requires ready { ClocksAreReady clocks.old event.now.thread event.now.op }
+    requires ready { IsReady clocks.old event.now.thread event.now.op }
     requires fits { Fits event.now clocks.old }
     requires width { width_of clocks.old ≡ accesses.now.limits.threads }
     ensures verdict { (limits : Limits) (past : List Event) → WellFormed limits (past ++ event.now ∷ [])
@@ -83,7 +83,7 @@ pub(crate) fn judge(clocks: &mut WcpClocks, accesses: &Accesses, event: &Event) 
         → ClocksStandFor past clocks.old → ClocksStandFor (past ++ event.now ∷ []) clocks.new }
     ensures work { IsWorkOf event.now clocks.old clocks.new }
     ensures kept { IsAccess event.now.op → KeepsReady clocks.old clocks.new }
-    ensures memory { InClocks clocks.old clocks.new event.now.op }
+    ensures memory { SameMemory clocks.old clocks.new event.now.op }
     ensures limits { SameLimits clocks.old clocks.new }
 {
     clocks.advance(event);
@@ -139,7 +139,7 @@ pub(crate) fn prepare(
     op: Op,
     slots: usize,
 ) -> Result<(), OutOfMemory>
-    requires clocks { ClocksAreWithin parts.old.clocks thread op }
+    requires clocks { IsWithin parts.old.clocks thread op }
     requires width { width_of parts.old.clocks ≡ parts.old.accesses.limits.threads }
     ensures grown { HasGrown parts.old parts.new }
     ensures within { GrownFor parts.old parts.new thread op slots }

@@ -1,6 +1,6 @@
 //! Runs: lists of calls, and lists of acts, one after another.
 ghost use Rattle.std.specs.Prelude.{◌≡◌, ◌-◌, OnOk, OnErr, IfOk, vec_capacity, vec_len};
-ghost use Rattle.event_core.specs.declared.events.Act.TheVariants.{One as OneAct};
+ghost use Rattle.event_core.specs.declared.events.Act.TheVariants.{One};
 ghost use Rattle.event_core.specs.Verdict.{IsOutcome, IsRun, log_after};
 ghost use Rattle.event_core.specs.Acts.{IsActRun, IsDone, log_after_act};
 ghost use Rattle.seq_monitor.specs.Monitored.{HasBoundedWork};
@@ -17,7 +17,7 @@ impl Monitor {
     pub fn run(&mut self, calls: &[Call], outcomes: &mut Vec<Outcome>) -> Result<(), OutOfMemory>
         ensures all { OnOk result (Ran (IsRun self.old.limits self.old.log) calls.now
             outcomes.old.items outcomes.new.items self.new.log) }
-        ensures some { OnErr result (RanSome (IsRun self.old.limits self.old.log) self.old.limits OneAct
+        ensures some { OnErr result (RanSome (IsRun self.old.limits self.old.log) self.old.limits One
             calls.now (vec_capacity outcomes.old - vec_len outcomes.old)
             outcomes.old.items outcomes.new.items self.new.log) }
         ensures limits { self.new.limits ≡ self.old.limits }
@@ -39,7 +39,7 @@ impl Monitor {
     fn take(&mut self, call: Call) -> Result<Outcome, OutOfMemory>
         ensures outcome { IfOk result (λ outcome. IsOutcome self.old.limits self.old.log call outcome) }
         ensures log { IfOk result (λ outcome. self.new.log ≡ log_after self.old.log call outcome) }
-        ensures memory { OnErr result (MayWantMemory self.old.limits self.old.log (OneAct call)) }
+        ensures memory { OnErr result (MayWantMemory self.old.limits self.old.log (One call)) }
         ensures same { OnErr result (self.new.log ≡ self.old.log) }
         ensures limits { self.new.limits ≡ self.old.limits }
         ensures work { HasBoundedWork self.new }

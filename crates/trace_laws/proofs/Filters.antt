@@ -17,10 +17,12 @@ use Rattle.event_core.proofs.Places.{get_before, get_last}
 abbrev pub place : (Event → Bool) → List Event → ℕ → ℕ
 place p xs i = length (filter p (take i xs))
 
+-- an event that passes the test stays at the front
 pub filter_in : (p : Event → Bool) (x : Event) (xs : List Event) → p x ≡ true
     → filter p (x ∷ xs) ≡ x ∷ filter p xs
 filter_in p x xs t = cond-true (p x) (x ∷ filter p xs) (filter p xs) t
 
+-- an event that does not pass the test is left out
 pub filter_out : (p : Event → Bool) (x : Event) (xs : List Event) → p x ≡ false
     → filter p (x ∷ xs) ≡ filter p xs
 filter_out p x xs f = cond-false (p x) (x ∷ filter p xs) (filter p xs) f
@@ -29,12 +31,14 @@ split : (p : Event → Bool) (xs : List Event) (i : ℕ)
     → filter p (take i xs) ++ filter p (drop i xs) ≡ filter p xs
 split p xs i = sym (filter-append p (take i xs) (drop i xs)) ∙ ap (filter p) (take-append-drop i xs)
 
+-- the events that stay before event i are those of the first i that pass the test
 pub front : (p : Event → Bool) (xs : List Event) (i : ℕ)
     → take (place p xs i) (filter p xs) ≡ filter p (take i xs)
 front p xs i =
     ap (take (place p xs i)) (sym (split p xs i))
     ∙ take-append_seam (filter p (take i xs)) (filter p (drop i xs))
 
+-- a later event has no lower place
 pub rises : (p : Event → Bool) (xs : List Event) (i j : ℕ) → i ≤ j → place p xs i ≤ place p xs j
 rises p xs i j le =
     let same : filter p (take i (take j xs)) ≡ filter p (take i xs) = ap (filter p) (take-take i j xs le) in
@@ -51,6 +55,7 @@ last p xs i x at t =
     ∙ filter-append p (take i xs) (x ∷ [])
     ∙ ap (λ ys. filter p (take i xs) ++ ys) (filter_in p x [] t)
 
+-- the place after an event that stays is one higher
 pub next : (p : Event → Bool) (xs : List Event) (i : ℕ) (x : Event) → slice_get xs i ≡ Some x → p x ≡ true
     → place p xs (suc i) ≡ suc (place p xs i)
 next p xs i x at t =
@@ -59,6 +64,7 @@ next p xs i x at t =
     let one : length (x ∷ []) ≡ 1 = refl in
     omega (arith, sum, one)
 
+-- an event that stays is at its place in the filtered list
 pub stands : (p : Event → Bool) (xs : List Event) (i : ℕ) (x : Event) → slice_get xs i ≡ Some x → p x ≡ true
     → slice_get (filter p xs) (place p xs i) ≡ Some x
 stands p xs i x at t =
@@ -98,6 +104,7 @@ origin_out p y ys n x f o = record {
   to = ap length (filter_out p y (take o.index ys) f) ∙ o.to;
 }
 
+-- each event of the filtered list comes from one that stays
 pub origin : (p : Event → Bool) (xs : List Event) (k : ℕ) (x : Event) → slice_get (filter p xs) k ≡ Some x
     → Origin p xs k x
 origin p [] k x at = absurd (cc)

@@ -1,18 +1,17 @@
 -- Logs that come from one another by exchanges.
 use Rattle.std.proofs.Common.{◌≡◌, ℕ, ◌<◌, List, [], ◌∷◌, ◌++◌, true, length}
-use Rattle.std.proofs.Common.{refl, sym, ap, subst, ◌∙◌, arith, take, Some}
-use Rattle.std.proofs.Common.{append_assoc}
+use Rattle.std.proofs.Common.{refl, sym, ap, subst, ◌∙◌, arith}
+use Rattle.std.proofs.Common.{take, append_assoc}
 use mathlib.Core.Logic.{inl, inr}
 use Rattle.event_core.specs.declared.ids.ThreadId.{ThreadId}
 use Rattle.event_core.specs.declared.ids.LockId.{LockId}
 use Rattle.event_core.specs.declared.events.Event.{Event}
-use Rattle.event_core.specs.declared.events.Op.TheVariants.{Fork, Join}
 use Rattle.event_core.specs.Log.{depth, Conflict}
 use Rattle.event_core.specs.Verdict.{Races}
 use Rattle.trace_laws.specs.Exchanges.{MayExchange, exchanged, IsReordered, same, exchange, RaceWith}
 use Rattle.trace_laws.specs.Exchanges.{HasSameRaces}
 use Rattle.trace_laws.specs.Repeats.{is_access, Ordered}
-use Rattle.trace_laws.proofs.ReorderedLogs.{Reorders, twice, does_from, of_from}
+use Rattle.trace_laws.proofs.ReorderedLogs.{Reorders, twice, does_from, of_from, fork_lt, join_lt}
 use Rattle.trace_laws.proofs.ReorderedRelations.{same_po, same_hb, same_strict}
 use Rattle.trace_laws.proofs.ReorderedRaces.{race_to, same_races, changed_race, order_kept}
 use Rattle.trace_laws.proofs.Skips.{skip, skipped, onto}
@@ -68,31 +67,19 @@ ordered_too {log = log} {other = other} {to = to} {from = from} r fronts w = rec
         let there = does_from r d in
         let event = of_from r o in
         let lt = w.orderly.fork_first (from g) (from k) u v there event in
-        elim (r.order (from g) (from k) lt) [
-          | inl up ↦ let p = r.to_from g in let q = r.to_from k in omega (arith, up, p, q)
-          | inr a ↦
-              let x : Some there.event ≡ Some a.first = sym there.at ∙ a.at_first in
-              let y : Some event.event ≡ Some a.second = sym event.at ∙ a.at_second in
-              let x' : a.first ≡ there.event = cc in
-              let y' : a.second ≡ event.event = cc in
-              absurd (a.may.first (inl (ap (λ (z : Event). z.op) x' ∙ there.does
-              ∙ ap Fork (sym (ap (λ (z : Event). z.thread) y' ∙ event.thread)))))
-        ]);
+        let up = fork_lt r there event lt in
+        let p = r.to_from g in
+        let q = r.to_from k in
+        omega (arith, up, p, q));
   };
   rest = λ j k u v d o. (
       let there = does_from r d in
       let event = of_from r o in
       let lt = w.rest (from j) (from k) u v there event in
-      elim (r.order (from k) (from j) lt) [
-        | inl up ↦ let p = r.to_from j in let q = r.to_from k in omega (arith, up, p, q)
-        | inr a ↦
-            let x : Some event.event ≡ Some a.first = sym event.at ∙ a.at_first in
-            let y : Some there.event ≡ Some a.second = sym there.at ∙ a.at_second in
-            let x' : a.first ≡ event.event = cc in
-            let y' : a.second ≡ there.event = cc in
-            absurd (a.may.second (inr (ap (λ (z : Event). z.op) y' ∙ there.does
-            ∙ ap Join (sym (ap (λ (z : Event). z.thread) x' ∙ event.thread)))))
-      ]);
+      let up = join_lt r event there lt in
+      let p = r.to_from j in
+      let q = r.to_from k in
+      omega (arith, up, p, q));
 }
 
 -- what many exchanges come to
@@ -123,6 +110,7 @@ exchanges w (exchange before after e f may more) =
       ordered = ordered_too one (one_fronts before after e f may) x.ordered;
     }
 
+-- a reordered log has the same races
 pub same_races_too : (log other : List Event) (to : ℕ → ℕ) → Ordered log → IsReordered log other to
     → HasSameRaces log other to
 same_races_too log other to w h =
@@ -136,15 +124,18 @@ same_races_too log other to w h =
       races = λ i j. same_races i j r w.orderly x.ordered.orderly;
     }
 
+-- two conflicting accesses whose order is changed race
 pub changed_races : (log other : List Event) (to : ℕ → ℕ) → Ordered log → IsReordered log other to
     → (i k : ℕ) → Conflict log i k → i < k → to k < to i → Races log i k
 changed_races log other to w h i k c lt down = changed_race i k (exchanges w h).reorders w.orderly c lt down
 
+-- conflicting accesses before the first race keep their order
 pub kept_before : (log other : List Event) (to : ℕ → ℕ) → Ordered log → IsReordered log other to → (j : ℕ)
     → ((i k : ℕ) → k < j → Races log i k → ⊥) → (i k : ℕ) → Conflict log i k → i < k → k < j → to i < to k
 kept_before log other to w h j first i k c lt before =
     order_kept i k (exchanges w h).reorders w.orderly c lt (first i k before)
 
+-- two events that race do so in the reordered log, in one order or the other
 pub race_kept : (log other : List Event) (to : ℕ → ℕ) → Ordered log → IsReordered log other to → (i j : ℕ)
     → Races log i j → RaceWith other (to i) (to j)
 race_kept log other to w h i j race =

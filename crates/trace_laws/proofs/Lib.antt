@@ -1,4 +1,3 @@
-pub mod StrictIsWithinHb
 pub mod Filters
 pub mod MovedLogs
 pub mod MovedRelations

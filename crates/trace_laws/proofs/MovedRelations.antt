@@ -21,42 +21,38 @@ use Rattle.trace_laws.proofs.MovedLogs.{in_section_from, meets_from}
 
 -- edges
 
-program_to : {log other : List Event} {Kept : ℕ → Type 0} {to : ℕ → ℕ} {i j : ℕ} → Moved log other Kept to
-    → Kept i → Kept j → ProgramEdge log i j → ProgramEdge other (to i) (to j)
-program_to a ki kj (same_thread u lt x y) = same_thread u (lt_to a ki lt) (of_to a ki x) (of_to a kj y)
-program_to a ki kj (fork_to_event u v lt x y) =
-    fork_to_event u v (lt_to a ki lt) (does_to a ki x) (of_to a kj y)
-program_to a ki kj (fork_to_join u v w lt x y) =
-    fork_to_join u v w (lt_to a ki lt) (does_to a ki x) (does_to a kj y)
-program_to a ki kj (event_to_join u w lt x y) =
-    event_to_join u w (lt_to a ki lt) (of_to a ki x) (does_to a kj y)
+module _ {log other : List Event} {Kept : ℕ → Type 0} {to : ℕ → ℕ} (a : Moved log other Kept to) where
+  program_to : {i j : ℕ} → Kept i → Kept j → ProgramEdge log i j → ProgramEdge other (to i) (to j)
+  program_to ki kj (same_thread u lt x y) = same_thread u (lt_to a ki lt) (of_to a ki x) (of_to a kj y)
+  program_to ki kj (fork_to_event u v lt x y) =
+      fork_to_event u v (lt_to a ki lt) (does_to a ki x) (of_to a kj y)
+  program_to ki kj (fork_to_join u v w lt x y) =
+      fork_to_join u v w (lt_to a ki lt) (does_to a ki x) (does_to a kj y)
+  program_to ki kj (event_to_join u w lt x y) =
+      event_to_join u w (lt_to a ki lt) (of_to a ki x) (does_to a kj y)
 
-edge_to : {log other : List Event} {Kept : ℕ → Type 0} {to : ℕ → ℕ} {i j : ℕ} → Moved log other Kept to
-    → Kept i → Kept j → HbEdge log i j → HbEdge other (to i) (to j)
-edge_to a ki kj (program e) = program (program_to a ki kj e)
-edge_to a ki kj (lock u v l lt x y) = lock u v l (lt_to a ki lt) (release_to a ki x) (acquire_to a kj y)
+  edge_to : {i j : ℕ} → Kept i → Kept j → HbEdge log i j → HbEdge other (to i) (to j)
+  edge_to ki kj (program e) = program (program_to ki kj e)
+  edge_to ki kj (lock u v l lt x y) = lock u v l (lt_to a ki lt) (release_to a ki x) (acquire_to a kj y)
 
-earlier : {log other : List Event} {Kept : ℕ → Type 0} {to : ℕ → ℕ} {i j x y : ℕ} → Moved log other Kept to
-    → to i ≡ x → to j ≡ y → x < y → i < j
-earlier a e f lt = lt_from a (omega (arith, e, f, lt))
+  earlier : {i j x y : ℕ} → to i ≡ x → to j ≡ y → x < y → i < j
+  earlier e f lt = lt_from a (omega (arith, e, f, lt))
 
-program_from : {log other : List Event} {Kept : ℕ → Type 0} {to : ℕ → ℕ} {i j x y : ℕ}
-    → Moved log other Kept to → Kept i → Kept j → to i ≡ x → to j ≡ y → ProgramEdge other x y
-    → ProgramEdge log i j
-program_from a ki kj e f (same_thread u lt p q) =
-    same_thread u (earlier a e f lt) (of_from a ki e p) (of_from a kj f q)
-program_from a ki kj e f (fork_to_event u v lt p q) =
-    fork_to_event u v (earlier a e f lt) (does_from a ki e p) (of_from a kj f q)
-program_from a ki kj e f (fork_to_join u v w lt p q) =
-    fork_to_join u v w (earlier a e f lt) (does_from a ki e p) (does_from a kj f q)
-program_from a ki kj e f (event_to_join u w lt p q) =
-    event_to_join u w (earlier a e f lt) (of_from a ki e p) (does_from a kj f q)
+  program_from : {i j x y : ℕ} → Kept i → Kept j → to i ≡ x → to j ≡ y → ProgramEdge other x y
+      → ProgramEdge log i j
+  program_from ki kj e f (same_thread u lt p q) =
+      same_thread u (earlier e f lt) (of_from a ki e p) (of_from a kj f q)
+  program_from ki kj e f (fork_to_event u v lt p q) =
+      fork_to_event u v (earlier e f lt) (does_from a ki e p) (of_from a kj f q)
+  program_from ki kj e f (fork_to_join u v w lt p q) =
+      fork_to_join u v w (earlier e f lt) (does_from a ki e p) (does_from a kj f q)
+  program_from ki kj e f (event_to_join u w lt p q) =
+      event_to_join u w (earlier e f lt) (of_from a ki e p) (does_from a kj f q)
 
-edge_from : {log other : List Event} {Kept : ℕ → Type 0} {to : ℕ → ℕ} {i j x y : ℕ}
-    → Moved log other Kept to → Kept i → Kept j → to i ≡ x → to j ≡ y → HbEdge other x y → HbEdge log i j
-edge_from a ki kj e f (program p) = program (program_from a ki kj e f p)
-edge_from a ki kj e f (lock u v l lt p q) =
-    lock u v l (earlier a e f lt) (release_from a ki e p) (acquire_from a kj f q)
+  edge_from : {i j x y : ℕ} → Kept i → Kept j → to i ≡ x → to j ≡ y → HbEdge other x y → HbEdge log i j
+  edge_from ki kj e f (program p) = program (program_from ki kj e f p)
+  edge_from ki kj e f (lock u v l lt p q) =
+      lock u v l (earlier e f lt) (release_from a ki e p) (acquire_from a kj f q)
 
 -- the two events of an edge
 record Event2 (log : List Event) (i : ℕ) : Type 0 where
@@ -184,43 +180,42 @@ chain_from {to = to} {F = F} {y = y} s (step {g = g} c p) i j ki kj e f =
     step (chain_from s c i o.0 ki o.1 e o.2)
     (s.back o.0 j o.1 kj (subst (λ (k : ℕ). F k (to j)) (sym o.2) (subst (λ (k : ℕ). F g k) (sym f) p)))
 
-of_program : {log other : List Event} {Kept : ℕ → Type 0} {to : ℕ → ℕ} → Moved log other Kept to
-    → Edges log other Kept to (ProgramEdge log) (ProgramEdge other)
-of_program a = record {
-  moved = a;
-  ends = program_ends;
-  source = program_ends;
-  forth = λ i j ki kj e. program_to a ki kj e;
-  back = λ i j ki kj e. program_from a ki kj refl refl e;
-  short = program_short;
-}
+module _ {log other : List Event} {Kept : ℕ → Type 0} {to : ℕ → ℕ} (a : Moved log other Kept to) where
+  of_program : Edges log other Kept to (ProgramEdge log) (ProgramEdge other)
+  of_program = record {
+    moved = a;
+    ends = program_ends;
+    source = program_ends;
+    forth = λ i j ki kj e. program_to a ki kj e;
+    back = λ i j ki kj e. program_from a ki kj refl refl e;
+    short = program_short;
+  }
 
-of_hb : {log other : List Event} {Kept : ℕ → Type 0} {to : ℕ → ℕ} → Moved log other Kept to
-    → Edges log other Kept to (HbEdge log) (HbEdge other)
-of_hb a = record {
-  moved = a;
-  ends = edge_ends;
-  source = edge_ends;
-  forth = λ i j ki kj e. edge_to a ki kj e;
-  back = λ i j ki kj e. edge_from a ki kj refl refl e;
-  short = edge_short;
-}
+  of_hb : Edges log other Kept to (HbEdge log) (HbEdge other)
+  of_hb = record {
+    moved = a;
+    ends = edge_ends;
+    source = edge_ends;
+    forth = λ i j ki kj e. edge_to a ki kj e;
+    back = λ i j ki kj e. edge_from a ki kj refl refl e;
+    short = edge_short;
+  }
 
-pub po_to : {log other : List Event} {Kept : ℕ → Type 0} {to : ℕ → ℕ} {i j : ℕ} → Moved log other Kept to
-    → Kept i → Kept j → Po log i j → Po other (to i) (to j)
-po_to a ki kj c = chain_to (of_program a) ki kj c
+  -- kept events in program order are so in the other log
+  pub po_to : {i j : ℕ} → Kept i → Kept j → Po log i j → Po other (to i) (to j)
+  po_to ki kj c = chain_to (of_program) ki kj c
 
-pub po_from : {log other : List Event} {Kept : ℕ → Type 0} {to : ℕ → ℕ} {i j : ℕ} → Moved log other Kept to
-    → Kept i → Kept j → Po other (to i) (to j) → Po log i j
-po_from {i = i} {j = j} a ki kj c = chain_from (of_program a) c i j ki kj refl refl
+  -- kept events in program order in the other log are so in this one
+  pub po_from : {i j : ℕ} → Kept i → Kept j → Po other (to i) (to j) → Po log i j
+  po_from {i = i} {j = j} ki kj c = chain_from (of_program) c i j ki kj refl refl
 
-pub hb_to : {log other : List Event} {Kept : ℕ → Type 0} {to : ℕ → ℕ} {i j : ℕ} → Moved log other Kept to
-    → Kept i → Kept j → Hb log i j → Hb other (to i) (to j)
-hb_to a ki kj c = chain_to (of_hb a) ki kj c
+  -- a kept event that happens before another does so in the other log
+  pub hb_to : {i j : ℕ} → Kept i → Kept j → Hb log i j → Hb other (to i) (to j)
+  hb_to ki kj c = chain_to (of_hb) ki kj c
 
-pub hb_back : {log other : List Event} {Kept : ℕ → Type 0} {to : ℕ → ℕ} {i j x y : ℕ}
-    → Moved log other Kept to → Kept i → Kept j → to i ≡ x → to j ≡ y → Hb other x y → Hb log i j
-hb_back {i = i} {j = j} a ki kj e f c = chain_from (of_hb a) c i j ki kj e f
+  -- a kept event that happens before another in the other log does so in this one
+  pub hb_back : {i j x y : ℕ} → Kept i → Kept j → to i ≡ x → to j ≡ y → Hb other x y → Hb log i j
+  hb_back {i = i} {j = j} ki kj e f c = chain_from (of_hb) c i j ki kj e f
 
 -- the strict relation
 
@@ -231,6 +226,7 @@ pub record Premise (log other : List Event) (Kept : ℕ → Type 0) (to : ℕ �
   pub below : Hb log access j
   pub meets : Meets other (to r) (to access)
 
+-- each premise of rule (a) below a kept event has one in the other log
 abbrev pub KeepsPremises : List Event → List Event → (ℕ → Type 0) → (ℕ → ℕ) → Type 0
 KeepsPremises log other Kept to =
     (r i j : ℕ) → Meets log r i → Kept j → Hb log i j → Premise log other Kept to r j
@@ -258,61 +254,58 @@ at_release s = record {
 }
 
 -- the events of a pair that is strictly ordered
-hb_source : {log other : List Event} {Kept : ℕ → Type 0} {to : ℕ → ℕ} {x y : ℕ} → Moved log other Kept to
-    → Hb other x y → ((i : ℕ) × Kept i × (to i ≡ y)) → (i : ℕ) × Kept i × (to i ≡ x)
-hb_source a here k = k
-hb_source {y = y} a (step {g = g} c e) k = hb_source a c (from_does a ((edge_ends g y e).0).does)
+module _ {log other : List Event} {Kept : ℕ → Type 0} {to : ℕ → ℕ} (a : Moved log other Kept to) where
+  hb_source : {x y : ℕ} → Hb other x y → ((i : ℕ) × Kept i × (to i ≡ y)) → (i : ℕ) × Kept i × (to i ≡ x)
+  hb_source here k = k
+  hb_source {y = y} (step {g = g} c e) k = hb_source c (from_does a ((edge_ends g y e).0).does)
 
-hb_target : {log other : List Event} {Kept : ℕ → Type 0} {to : ℕ → ℕ} {x y : ℕ} → Moved log other Kept to
-    → Hb other x y → ((i : ℕ) × Kept i × (to i ≡ x)) → (i : ℕ) × Kept i × (to i ≡ y)
-hb_target a here k = k
-hb_target {y = y} a (step {g = g} c e) k = from_does a ((edge_ends g y e).1).does
+  hb_target : {x y : ℕ} → Hb other x y → ((i : ℕ) × Kept i × (to i ≡ x)) → (i : ℕ) × Kept i × (to i ≡ y)
+  hb_target here k = k
+  hb_target {y = y} (step {g = g} c e) k = from_does a ((edge_ends g y e).1).does
 
-strict_source : {log other : List Event} {Kept : ℕ → Type 0} {to : ℕ → ℕ} {x y : ℕ} → Moved log other Kept to
-    → Strict other x y → (i : ℕ) × Kept i × (to i ≡ x)
-strict_source a (rule_a m) = from_does a m.in_section.section.closed.does
-strict_source a (rule_b l lt p q d) = from_does a p.section.closed.does
-strict_source a (rule_c_left h d) = hb_source a h (strict_source a d)
-strict_source a (rule_c_right d h) = strict_source a d
+  strict_source : {x y : ℕ} → Strict other x y → (i : ℕ) × Kept i × (to i ≡ x)
+  strict_source (rule_a m) = from_does a m.in_section.section.closed.does
+  strict_source (rule_b l lt p q d) = from_does a p.section.closed.does
+  strict_source (rule_c_left h d) = hb_source h (strict_source d)
+  strict_source (rule_c_right d h) = strict_source d
 
-strict_target : {log other : List Event} {Kept : ℕ → Type 0} {to : ℕ → ℕ} {x y : ℕ} → Moved log other Kept to
-    → Strict other x y → (i : ℕ) × Kept i × (to i ≡ y)
-strict_target a (rule_a m) = from_of a m.inside.of
-strict_target a (rule_b l lt p q d) = from_does a q.section.closed.does
-strict_target a (rule_c_left h d) = strict_target a d
-strict_target a (rule_c_right d h) = hb_target a h (strict_target a d)
+  strict_target : {x y : ℕ} → Strict other x y → (i : ℕ) × Kept i × (to i ≡ y)
+  strict_target (rule_a m) = from_of a m.inside.of
+  strict_target (rule_b l lt p q d) = from_does a q.section.closed.does
+  strict_target (rule_c_left h d) = strict_target d
+  strict_target (rule_c_right d h) = hb_target h (strict_target d)
 
-pub strict_to : {log other : List Event} {Kept : ℕ → Type 0} {to : ℕ → ℕ} {i j : ℕ}
-    → Moved log other Kept to → KeepsPremises log other Kept to → Strict log i j → (b f : ℕ) → Kept b → Kept f
-    → Hb log b i → Hb log j f → Strict other (to b) (to f)
-strict_to a keeps (rule_a {r = r} {j = j} m) b f kb kf h h2 =
-    let p = keeps r j f m kf h2 in
-    rule_c_left (hb_to a kb (kept_release a m.in_section.section.closed.does) h)
-    (rule_c_right (rule_a p.meets) (hb_to a p.kept kf p.below))
-strict_to a keeps (rule_b {r = r} {s = s} l lt p q d) b f kb kf h h2 =
-    let kr = kept_release a p.section.closed.does in
-    let ks = kept_release a q.section.closed.does in
-    let kp = kept_acquire a p.section.inside.opened.does in
-    let mid = strict_to a keeps d p.acquire s kp ks (acquire_below p) (below_release q) in
-    rule_c_left (hb_to a kb kr h)
-    (rule_c_right
-    (rule_b l (lt_to a kr lt) (in_section_to a kp (at_acquire p)) (in_section_to a ks (at_release q)) mid)
-    (hb_to a ks kf h2))
-strict_to a keeps (rule_c_left g d) b f kb kf h h2 = strict_to a keeps d b f kb kf (hb_trans h g) h2
-strict_to a keeps (rule_c_right d g) b f kb kf h h2 = strict_to a keeps d b f kb kf h (hb_trans g h2)
+  -- kept events before and after a strict precedence are strictly ordered in the other log
+  pub strict_to : {i j : ℕ} → KeepsPremises log other Kept to → Strict log i j → (b f : ℕ) → Kept b → Kept f
+      → Hb log b i → Hb log j f → Strict other (to b) (to f)
+  strict_to keeps (rule_a {r = r} {j = j} m) b f kb kf h h2 =
+      let p = keeps r j f m kf h2 in
+      rule_c_left (hb_to a kb (kept_release a m.in_section.section.closed.does) h)
+      (rule_c_right (rule_a p.meets) (hb_to a p.kept kf p.below))
+  strict_to keeps (rule_b {r = r} {s = s} l lt p q d) b f kb kf h h2 =
+      let kr = kept_release a p.section.closed.does in
+      let ks = kept_release a q.section.closed.does in
+      let kp = kept_acquire a p.section.inside.opened.does in
+      let mid = strict_to keeps d p.acquire s kp ks (acquire_below p) (below_release q) in
+      rule_c_left (hb_to a kb kr h)
+      (rule_c_right
+      (rule_b l (lt_to a kr lt) (in_section_to a kp (at_acquire p)) (in_section_to a ks (at_release q)) mid)
+      (hb_to a ks kf h2))
+  strict_to keeps (rule_c_left g d) b f kb kf h h2 = strict_to keeps d b f kb kf (hb_trans h g) h2
+  strict_to keeps (rule_c_right d g) b f kb kf h h2 = strict_to keeps d b f kb kf h (hb_trans g h2)
 
-pub strict_from : {log other : List Event} {Kept : ℕ → Type 0} {to : ℕ → ℕ} {x y : ℕ}
-    → Moved log other Kept to → Strict other x y → (i j : ℕ) → Kept i → Kept j → to i ≡ x → to j ≡ y
-    → Strict log i j
-strict_from a (rule_a m) i j ki kj e f = rule_a (meets_from a ki kj e f m)
-strict_from a (rule_b l lt p q d) i j ki kj e f =
-    let b = from_of a p.of in
-    let c = from_of a q.of in
-    rule_b l (lt_from a (omega (arith, lt, e, f))) (in_section_from a ki b.1 e b.2 p)
-    (in_section_from a kj c.1 f c.2 q) (strict_from a d b.0 c.0 b.1 c.1 b.2 c.2)
-strict_from a (rule_c_left h d) i j ki kj e f =
-    let g = strict_source a d in
-    rule_c_left (hb_back a ki g.1 e g.2 h) (strict_from a d g.0 j g.1 kj g.2 f)
-strict_from a (rule_c_right d h) i j ki kj e f =
-    let g = strict_target a d in
-    rule_c_right (strict_from a d i g.0 ki g.1 e g.2) (hb_back a g.1 kj g.2 f h)
+  -- a kept event that strictly precedes another in the other log does so in this one
+  pub strict_from : {x y : ℕ} → Strict other x y → (i j : ℕ) → Kept i → Kept j → to i ≡ x → to j ≡ y
+      → Strict log i j
+  strict_from (rule_a m) i j ki kj e f = rule_a (meets_from a ki kj e f m)
+  strict_from (rule_b l lt p q d) i j ki kj e f =
+      let b = from_of a p.of in
+      let c = from_of a q.of in
+      rule_b l (lt_from a (omega (arith, lt, e, f))) (in_section_from a ki b.1 e b.2 p)
+      (in_section_from a kj c.1 f c.2 q) (strict_from d b.0 c.0 b.1 c.1 b.2 c.2)
+  strict_from (rule_c_left h d) i j ki kj e f =
+      let g = strict_source d in
+      rule_c_left (hb_back a ki g.1 e g.2 h) (strict_from d g.0 j g.1 kj g.2 f)
+  strict_from (rule_c_right d h) i j ki kj e f =
+      let g = strict_target d in
+      rule_c_right (strict_from d i g.0 ki g.1 e g.2) (hb_back a g.1 kj g.2 f h)

@@ -183,13 +183,13 @@ pair_to {log = log} {other = other} {to = to} {p = p} {k = k} {u = u} {v = v} {o
     moved i j ki kj race (inl d) = record {
       first = to i;
       second = to j;
-      races = races_to i j s ki kj race;
+      races = races_to s i j ki kj race;
       are = inl (does_to s.moved ki d.0, does_to s.moved kj d.1);
     }
     moved i j ki kj race (inr d) = record {
       first = to i;
       second = to j;
-      races = races_to i j s ki kj race;
+      races = races_to s i j ki kj race;
       are = inr (does_to s.moved ki d.0, does_to s.moved kj d.1);
     }
 
@@ -218,7 +218,7 @@ pair_from {log = log} {other = other} {to = to} {u = u} {v = v} {o = o} {q = q} 
     record {
       first = i.0;
       second = j.0;
-      races = races_from i.0 j.0 s i.1 j.1 race;
+      races = races_from s i.0 j.0 i.1 j.1 race;
       are = elim b.are [
         | inl d ↦ inl (does_from s.moved i.1 i.2 d.0, does_from s.moved j.1 j.2 d.1)
         | inr d ↦ inr (does_from s.moved i.1 i.2 d.0, does_from s.moved j.1 j.2 d.1)
@@ -267,12 +267,14 @@ ordered_too xs ys e a w = record {
         (subst (λ (c : ℕ). 0 < depth (take c (xs ++ ys)) t l) (sym n.2) h) in
         w.orderly.one_holder n.0 u v l (back u p) (back v q)
 
+-- a well-formed log is ordered
 pub ordered_log : (m : Limits) (log : List Event) → WellFormed m log → Ordered log
 ordered_log m log w = record {
   orderly = orderly m log w;
   rest = λ j k u v d o. ended_rest m log u v j k w d o;
 }
 
+-- a repeated access can be left out: the same pairs of threads and operations race
 pub same_pairs : (before after : List Event) (e : Event) (p : ℕ) → Ordered (before ++ e ∷ after)
     → Repeats (before ++ e ∷ after) p (length before)
     → Ordered (before ++ after)

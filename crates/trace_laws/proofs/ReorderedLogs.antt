@@ -41,36 +41,35 @@ may_flip m = record {
   second = m.first;
 }
 
--- the events, and what they do
-from_at : {log other : List Event} {to from : ℕ → ℕ} → Reorders log other to from → (k : ℕ)
-    → slice_get log (from k) ≡ slice_get other k
-from_at {other = other} {from = from} r k = sym (r.events (from k)) ∙ ap (slice_get other) (r.to_from k)
+module _ {log other : List Event} {to from : ℕ → ℕ} (r : Reorders log other to from) where
+  -- the events, and what they do
+  from_at : (k : ℕ) → slice_get log (from k) ≡ slice_get other k
+  from_at k = sym (r.events (from k)) ∙ ap (slice_get other) (r.to_from k)
 
-pub does_to : {log other : List Event} {to from : ℕ → ℕ} {i : ℕ} {u : ThreadId} {o : Op}
-    → Reorders log other to from → Does log i u o → Does other (to i) u o
-does_to {i = i} r d = record { event = d.event; at = r.events i ∙ d.at; thread = d.thread; does = d.does }
+  -- what an event does, it does at its new index
+  pub does_to : {i : ℕ} {u : ThreadId} {o : Op} → Does log i u o → Does other (to i) u o
+  does_to {i = i} d = record { event = d.event; at = r.events i ∙ d.at; thread = d.thread; does = d.does }
 
-pub of_to : {log other : List Event} {to from : ℕ → ℕ} {i : ℕ} {u : ThreadId} → Reorders log other to from
-    → Of log i u → Of other (to i) u
-of_to {i = i} r d = record { event = d.event; at = r.events i ∙ d.at; thread = d.thread }
+  -- an event is of the same thread at its new index
+  pub of_to : {i : ℕ} {u : ThreadId} → Of log i u → Of other (to i) u
+  of_to {i = i} d = record { event = d.event; at = r.events i ∙ d.at; thread = d.thread }
 
-pub does_from : {log other : List Event} {to from : ℕ → ℕ} {k : ℕ} {u : ThreadId} {o : Op}
-    → Reorders log other to from → Does other k u o → Does log (from k) u o
-does_from {k = k} r d = record { event = d.event; at = from_at r k ∙ d.at; thread = d.thread; does = d.does }
+  -- what an event of the reordered log does, it does at its old index
+  pub does_from : {k : ℕ} {u : ThreadId} {o : Op} → Does other k u o → Does log (from k) u o
+  does_from {k = k} d = record { event = d.event; at = from_at k ∙ d.at; thread = d.thread; does = d.does }
 
-pub of_from : {log other : List Event} {to from : ℕ → ℕ} {k : ℕ} {u : ThreadId} → Reorders log other to from
-    → Of other k u → Of log (from k) u
-of_from {k = k} r d = record { event = d.event; at = from_at r k ∙ d.at; thread = d.thread }
+  -- an event of the reordered log is of the same thread at its old index
+  pub of_from : {k : ℕ} {u : ThreadId} → Of other k u → Of log (from k) u
+  of_from {k = k} d = record { event = d.event; at = from_at k ∙ d.at; thread = d.thread }
 
-apart_to : {log other : List Event} {to from : ℕ → ℕ} {i j : ℕ} → Reorders log other to from → Apart log i j
-    → Apart other (to i) (to j)
-apart_to {i = i} {j = j} r a = record {
-  first = a.first;
-  second = a.second;
-  at_first = r.events i ∙ a.at_first;
-  at_second = r.events j ∙ a.at_second;
-  may = a.may;
-}
+  apart_to : {i j : ℕ} → Apart log i j → Apart other (to i) (to j)
+  apart_to {i = i} {j = j} a = record {
+    first = a.first;
+    second = a.second;
+    at_first = r.events i ∙ a.at_first;
+    at_second = r.events j ∙ a.at_second;
+    may = a.may;
+  }
 
 -- the log has the other's events
 pub turned : {log other : List Event} {to from : ℕ → ℕ} → Reorders log other to from
@@ -138,11 +137,7 @@ twice {log = log} {middle = middle} {to = to} {from = from} {to2 = to2} {from2 =
       | inl up ↦ elim (s.order (to i) (to j) up) [ inl h ↦ inl h | inr a ↦ inr (back i j a) ]
     ]
 
--- the order of the indices
-lt_to : {log other : List Event} {to from : ℕ → ℕ} {i j : ℕ} → Reorders log other to from
-    → (Apart log i j → ⊥) → i < j → to i < to j
-lt_to {i = i} {j = j} r never lt = elim (r.order i j lt) [ inl h ↦ h | inr a ↦ absurd (never a) ]
-
+-- two events of one thread are not exchanged
 threads_apart : {log : List Event} {i j : ℕ} {u : ThreadId} → Of log i u → Of log j u → Apart log i j → ⊥
 threads_apart d e a =
     let p : Some d.event ≡ Some a.first = sym d.at ∙ a.at_first in
@@ -151,18 +146,6 @@ threads_apart d e a =
     let y : e.event ≡ a.second = cc in
     a.may.threads (ap (λ (v : Event). v.thread) (sym x) ∙ d.thread ∙ sym e.thread
     ∙ ap (λ (v : Event). v.thread) y)
-
-pub thread_lt : {log other : List Event} {to from : ℕ → ℕ} {i j : ℕ} {u : ThreadId}
-    → Reorders log other to from → Of log i u → Of log j u → i < j → to i < to j
-thread_lt r d e lt = lt_to r (threads_apart d e) lt
-
-pub thread_le : {log other : List Event} {to from : ℕ → ℕ} {i j : ℕ} {u : ThreadId}
-    → Reorders log other to from → Of log i u → Of log j u → i ≤ j → to i ≤ to j
-thread_le {to = to} {i = i} {j = j} r d e le = elim (cases_lt i j) [
-  | inl lt ↦ let up = thread_lt r d e lt in omega (arith, up)
-  | inr ge ↦ let same : i ≡ j = omega (arith, le, ge) in
-      let at : to i ≡ to j = ap to same in omega (arith, at)
-]
 
 -- what two events of the log do, that may be exchanged
 ops_apart : {log : List Event} {i j : ℕ} {u v : ThreadId} {o q : Op} → Does log i u o → Does log j v q
@@ -186,22 +169,38 @@ ops_apart {u = u} {v = v} {o = o} {q = q} d e a =
           (λ i. (sym first_by i, sym second_op i)) n)),
     )
 
-pub plain_lt : {log other : List Event} {to from : ℕ → ℕ} {i j : ℕ} {u v : ThreadId} {o q : Op}
-    → Reorders log other to from → Does log i u o → Does log j v q → is_access o ≡ false
-    → is_access q ≡ false → i < j → to i < to j
-plain_lt r d e f g lt = lt_to r (λ a. elim (ops_apart d e a).0 [ inl t ↦ cc | inr t ↦ cc ]) lt
+module _ {log other : List Event} {to from : ℕ → ℕ} (r : Reorders log other to from) where
+  -- the order of the indices
+  lt_to : {i j : ℕ} → (Apart log i j → ⊥) → i < j → to i < to j
+  lt_to {i = i} {j = j} never lt = elim (r.order i j lt) [ inl h ↦ h | inr a ↦ absurd (never a) ]
 
--- a fork of a thread, or a join, and an event of the thread
-pub fork_lt : {log other : List Event} {to from : ℕ → ℕ} {i j : ℕ} {u v : ThreadId}
-    → Reorders log other to from → Does log i v (Fork u) → Of log j u → i < j → to i < to j
-fork_lt {log = log} {j = j} {u = u} r d e lt =
-    let does : Does log j u e.event.op
-    = record { event = e.event; at = e.at; thread = e.thread; does = refl } in
-    lt_to r (λ a. (ops_apart d does a).1 (inl refl)) lt
+  -- the events of one thread keep their order
+  pub thread_lt : {i j : ℕ} {u : ThreadId} → Of log i u → Of log j u → i < j → to i < to j
+  thread_lt d e lt = lt_to (threads_apart d e) lt
 
-pub join_lt : {log other : List Event} {to from : ℕ → ℕ} {i j : ℕ} {u w : ThreadId}
-    → Reorders log other to from → Of log i u → Does log j w (Join u) → i < j → to i < to j
-join_lt {log = log} {i = i} {u = u} r d e lt =
-    let does : Does log i u d.event.op
-    = record { event = d.event; at = d.at; thread = d.thread; does = refl } in
-    lt_to r (λ a. (ops_apart does e a).2 (inr refl)) lt
+  -- an event of a thread that is no later than another stays no later
+  pub thread_le : {i j : ℕ} {u : ThreadId} → Of log i u → Of log j u → i ≤ j → to i ≤ to j
+  thread_le {i = i} {j = j} d e le = elim (cases_lt i j) [
+    | inl lt ↦ let up = thread_lt d e lt in omega (arith, up)
+    | inr ge ↦ let same : i ≡ j = omega (arith, le, ge) in
+        let at : to i ≡ to j = ap to same in omega (arith, at)
+  ]
+
+  -- two events that are no accesses keep their order
+  pub plain_lt : {i j : ℕ} {u v : ThreadId} {o q : Op} → Does log i u o → Does log j v q → is_access o ≡ false
+      → is_access q ≡ false → i < j → to i < to j
+  plain_lt d e f g lt = lt_to (λ a. elim (ops_apart d e a).0 [ inl t ↦ cc | inr t ↦ cc ]) lt
+
+  -- a fork of a thread, or a join, and an event of the thread
+  pub fork_lt : {i j : ℕ} {u v : ThreadId} → Does log i v (Fork u) → Of log j u → i < j → to i < to j
+  fork_lt {j = j} {u = u} d e lt =
+      let does : Does log j u e.event.op
+      = record { event = e.event; at = e.at; thread = e.thread; does = refl } in
+      lt_to (λ a. (ops_apart d does a).1 (inl refl)) lt
+
+  -- an event of a thread stays before the join of the thread
+  pub join_lt : {i j : ℕ} {u w : ThreadId} → Of log i u → Does log j w (Join u) → i < j → to i < to j
+  join_lt {i = i} {u = u} d e lt =
+      let does : Does log i u d.event.op
+      = record { event = d.event; at = d.at; thread = d.thread; does = refl } in
+      lt_to (λ a. (ops_apart does e a).2 (inr refl)) lt

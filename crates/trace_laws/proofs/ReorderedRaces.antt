@@ -11,10 +11,10 @@ use Rattle.event_core.specs.Verdict.{Races}
 use Rattle.event_core.proofs.OrderProperties.{hb_forward}
 use Rattle.event_core.proofs.LogProperties.{does_thread}
 use Rattle.trace_laws.specs.Exchanges.{RaceWith}
-use Rattle.trace_laws.proofs.StrictIsWithinHb.{below_hb}
+use Rattle.event_core.proofs.StrictIsWithinHb.{below_hb}
 use Rattle.trace_laws.proofs.ReorderedLogs.{Reorders, turned}
 use Rattle.trace_laws.proofs.ReorderedRelations.{found, hb_to, conflict_to, below_from, below_le}
-use Rattle.trace_laws.proofs.RepeatsProperties.{flipped}
+use Rattle.event_core.proofs.ConflictProperties.{flipped}
 
 same_conflict : {log : List Event} (i j : ℕ) → i ≡ j → Conflict log i j → ⊥
 same_conflict {log = log} i j e c =
@@ -53,6 +53,7 @@ race_with_to i j r w w' (inl race) = race_to i j r w w' race
 race_with_to i j r w w' (inr race) =
     elim (race_to j i r w w' race) [ inl h ↦ inr h | inr h ↦ inl h ]
 
+-- two events race in both logs or in neither
 pub same_races : {log other : List Event} {to from : ℕ → ℕ} (i j : ℕ) → Reorders log other to from
     → Orderly log → Orderly other → RaceWith log i j ↔ RaceWith other (to i) (to j)
 same_races {log = log} i j r w w' = (

@@ -1,18 +1,17 @@
 -- What an access that its thread made before changes: nothing that follows from the first does not.
-use Rattle.std.proofs.Common.{◌≡◌, ℕ, ◌<◌, ◌≤◌, List, true}
-use Rattle.std.proofs.Common.{sym}
-use Rattle.std.proofs.Common.{subst, ◌∙◌, arith, ◌⊎◌}
+use Rattle.std.proofs.Common.{◌≡◌, ℕ, ◌<◌, ◌≤◌, List, true, sym, subst, ◌∙◌, arith, ◌⊎◌}
 use Rattle.std.proofs.lemmas.Bool.{cases_lt, cases_order}
 use mathlib.Core.Logic.{inl, inr}
 use Rattle.event_core.specs.declared.ids.ThreadId.{ThreadId}
 use Rattle.event_core.specs.declared.events.Event.{Event}
 use Rattle.event_core.specs.declared.events.Op.{Op}
-use Rattle.event_core.specs.declared.events.Op.TheVariants.{Load, Store, Join}
+use Rattle.event_core.specs.declared.events.Op.TheVariants.{Join}
 use Rattle.event_core.specs.Log.{Does, Of, Conflict, OpsConflict}
 use Rattle.event_core.specs.Order.{here, step, ProgramEdge, same_thread, fork_to_event, fork_to_join}
 use Rattle.event_core.specs.Order.{event_to_join, HbEdge, program, lock, Po, Hb}
 use Rattle.event_core.specs.Verdict.{Races}
 use Rattle.event_core.specs.Wcp.{Strict, rule_a, rule_b, rule_c_left, rule_c_right, Below}
+use Rattle.event_core.proofs.ConflictProperties.{flipped}
 use Rattle.event_core.proofs.OrderProperties.{chain_one, chain_trans, hb_trans, hb_thread, po_thread}
 use Rattle.event_core.proofs.OrderProperties.{po_forward}
 use Rattle.event_core.proofs.LogProperties.{of_does, of_one, does_op, does_thread}
@@ -136,36 +135,10 @@ first_conflict r c = record {
   threads = λ e. c.threads (does_thread c.does_first r.again ∙ e);
 }
 
+-- what conflicts with the second access conflicts with the first
 pub second_conflict : {log : List Event} {p k i : ℕ} → (r : Repeats log p k) → Conflict log i k
     → Conflict log i p
-second_conflict r c = record {
-  first = c.first;
-  second = r.op;
-  by = c.by;
-  other = r.thread;
-  does_first = c.does_first;
-  does_second = r.first;
-  ops = subst (λ (o : Op). OpsConflict c.first o) (does_op c.does_second r.again) c.ops;
-  threads = λ e. c.threads (e ∙ does_thread r.again c.does_second);
-}
-
-flipped_ops : (o p : Op) → OpsConflict o p → OpsConflict p o
-flipped_ops (Load x) (Store y) c = sym c
-flipped_ops (Store x) (Load y) c = sym c
-flipped_ops (Store x) (Store y) c = sym c
-flipped_ops _ _ c = absurd c
-
-pub flipped : {log : List Event} {i j : ℕ} → Conflict log i j → Conflict log j i
-flipped c = record {
-  first = c.second;
-  second = c.first;
-  by = c.other;
-  other = c.by;
-  does_first = c.does_second;
-  does_second = c.does_first;
-  ops = flipped_ops c.first c.second c.ops;
-  threads = λ e. c.threads (sym e);
-}
+second_conflict r c = flipped (first_conflict r (flipped c))
 
 -- what races with the second access races with the first
 pub later_races : {log : List Event} {p k j : ℕ} → Ordered log → (r : Repeats log p k)
@@ -179,6 +152,7 @@ later_races {p = p} {k = k} {j = j} w r s = record {
       ∙ of_one o (of_does s.conflict.does_second))) b);
 }
 
+-- what races with the second access, and is before it, races with the first
 pub earlier_races : {log : List Event} {p k i : ℕ} → Ordered log → (r : Repeats log p k)
     → Races log i k → Races log i p ⊎ Races log p i
 earlier_races {log = log} {p = p} {k = k} {i = i} w r s = elim (cases_order i p) [

@@ -7,7 +7,7 @@ use Rattle.event_core.specs.declared.ids.ThreadId.{ThreadId}
 use Rattle.event_core.specs.declared.ids.VarId.{VarId}
 use Rattle.event_core.specs.declared.events.Event.{Event}
 use Rattle.event_core.specs.declared.events.Op.{Op}
-use Rattle.event_core.specs.declared.events.Op.TheVariants.{Load, Store, Acquire, Release, Fork, Join}
+use Rattle.event_core.specs.declared.events.Op.TheVariants.{Load, Store}
 use Rattle.event_core.specs.declared.bounds.Limits.{Limits}
 use Rattle.event_core.specs.declared.replies.Verdict.{Verdict}
 use Rattle.event_core.specs.declared.replies.Verdict.TheVariants.{Clear, Racy}
@@ -27,10 +27,7 @@ use Rattle.trace_laws.proofs.MovedVerdicts.{clear_to, racy_to, clear_from, racy_
 only_accesses : (vars : VarId → Bool) (o : Op) → op_accesses vars o ≡ true → is_access o ≡ true
 only_accesses vars (Load x) t = refl
 only_accesses vars (Store x) t = refl
-only_accesses vars (Acquire x) t = absurd (cc)
-only_accesses vars (Release x) t = absurd (cc)
-only_accesses vars (Fork x) t = absurd (cc)
-only_accesses vars (Join x) t = absurd (cc)
+only_accesses vars _ t = absurd (cc)
 
 -- whether an event stays
 stays_or_not : (vars : VarId → Bool) (log : List Event) (i : ℕ) (u : ThreadId) (o : Op) → Does log i u o
@@ -72,38 +69,14 @@ one_var : (vars : VarId → Bool) (o p : Op) → OpsConflict o p → op_accesses
 one_var vars (Load x) (Store y) c t = (x, t, refl, sym c)
 one_var vars (Store x) (Load y) c t = (x, t, refl, sym c)
 one_var vars (Store x) (Store y) c t = (x, t, refl, sym c)
-one_var vars (Load x) (Load y) c t = absurd c
-one_var vars (Load x) (Acquire y) c t = absurd c
-one_var vars (Load x) (Release y) c t = absurd c
-one_var vars (Load x) (Fork y) c t = absurd c
-one_var vars (Load x) (Join y) c t = absurd c
-one_var vars (Store x) (Acquire y) c t = absurd c
-one_var vars (Store x) (Release y) c t = absurd c
-one_var vars (Store x) (Fork y) c t = absurd c
-one_var vars (Store x) (Join y) c t = absurd c
-one_var vars (Acquire x) p c t = absurd (cc)
-one_var vars (Release x) p c t = absurd (cc)
-one_var vars (Fork x) p c t = absurd (cc)
-one_var vars (Join x) p c t = absurd (cc)
+one_var vars _ _ c t = absurd c
 
 same_access : (vars : VarId → Bool) (o p : Op) → OpsConflict o p → op_accesses vars p ≡ true
     → op_accesses vars o ≡ true
 same_access vars (Load x) (Store y) c t = ap vars c ∙ t
 same_access vars (Store x) (Load y) c t = ap vars c ∙ t
 same_access vars (Store x) (Store y) c t = ap vars c ∙ t
-same_access vars o (Acquire y) c t = absurd (cc)
-same_access vars o (Release y) c t = absurd (cc)
-same_access vars o (Fork y) c t = absurd (cc)
-same_access vars o (Join y) c t = absurd (cc)
-same_access vars (Load x) (Load y) c t = absurd c
-same_access vars (Acquire x) (Load y) c t = absurd c
-same_access vars (Release x) (Load y) c t = absurd c
-same_access vars (Fork x) (Load y) c t = absurd c
-same_access vars (Join x) (Load y) c t = absurd c
-same_access vars (Acquire x) (Store y) c t = absurd c
-same_access vars (Release x) (Store y) c t = absurd c
-same_access vars (Fork x) (Store y) c t = absurd c
-same_access vars (Join x) (Store y) c t = absurd c
+same_access vars _ _ c t = absurd c
 
 -- conflicting accesses are by two threads, so both stay
 conflicts : (vars : VarId → Bool) (log : List Event) → ((x : VarId) → vars x ≡ true → HasOneThread log x)
@@ -130,13 +103,14 @@ same vars log own = record {
       record { access = i; kept = k.1; below = h; meets = meets_to (moved vars log) k.1 m k.0 });
 }
 
+-- a log without variables that one thread alone accesses has the same verdicts
 pub says_the_same : (m : Limits) (vars : VarId → Bool) (log : List Event) → WellFormed m log
     → ((x : VarId) → vars x ≡ true → HasOneThread log x) → SaysTheSame m log vars
 says_the_same m vars log w own = record {
   well_formed = well_formed_too m vars log w;
-  order = λ i j ki kj. (same_po i j s ki kj, same_hb i j s ki kj, same_strict i j s ki kj);
+  order = λ i j ki kj. (same_po s i j ki kj, same_hb s i j ki kj, same_strict s i j ki kj);
   racing = λ i j r. conflicts vars log own i j r.conflict;
-  races = λ i j ki kj. (races_to i j s ki kj, races_from i j s ki kj);
+  races = λ i j ki kj. (races_to s i j ki kj, races_from s i j ki kj);
   verdict = verdict;
   verdict_here = verdict_here;
 }
@@ -146,12 +120,12 @@ says_the_same m vars log w own = record {
 
     verdict : (j : ℕ) (v : Verdict) → Stays vars log j → IsVerdict log j v
         → IsVerdict (without vars log) (new_index vars log j) (new_verdict vars log v)
-    verdict j Clear k v = clear_to j s (conflicts vars log own) k v
-    verdict j (Racy i) k v = racy_to j i s (conflicts vars log own) k v
+    verdict j Clear k v = clear_to s j (conflicts vars log own) k v
+    verdict j (Racy i) k v = racy_to s j i (conflicts vars log own) k v
 
     verdict_here : (j : ℕ) (v : Verdict) → Stays vars log j
         → IsVerdict (without vars log) (new_index vars log j) v
         → (w : Verdict) × (new_verdict vars log w ≡ v) × IsVerdict log j w
-    verdict_here j Clear k v = (Clear, refl, clear_from j s (conflicts vars log own) k v)
+    verdict_here j Clear k v = (Clear, refl, clear_from s j (conflicts vars log own) k v)
     verdict_here j (Racy x) k v =
-        let p = racy_from j x s (conflicts vars log own) k v in (Racy p.0, ap Racy p.1, p.2)
+        let p = racy_from s j x (conflicts vars log own) k v in (Racy p.0, ap Racy p.1, p.2)

@@ -9,7 +9,7 @@ use Rattle.event_core.specs.declared.ids.ThreadId.{ThreadId}
 use Rattle.event_core.specs.declared.ids.LockId.{LockId}
 use Rattle.event_core.specs.declared.events.Event.{Event}
 use Rattle.event_core.specs.declared.events.Op.{Op}
-use Rattle.event_core.specs.declared.events.Op.TheVariants.{Load, Store, Acquire, Release, Fork, Join}
+use Rattle.event_core.specs.declared.events.Op.TheVariants.{Load, Store}
 use Rattle.event_core.specs.Log.{Does, depth, acquires, releases, op_acquires, op_releases}
 use Rattle.std.proofs.lemmas.Bool.{and_right}
 use Rattle.trace_laws.specs.Repeats.{is_access}
@@ -62,6 +62,7 @@ next (suc zero) zero n = refl
 next (suc (suc k)) zero n = refl
 next (suc k) (suc i) n = ap suc (next k i (λ h. n (ap suc h)))
 
+-- each index is reached but for the one that is skipped
 pub onto : (k x : ℕ) → (i : ℕ) × (i ≡ k → ⊥) × (skip k i ≡ x)
 unfolding skip
 onto zero x = (suc x, (λ h. omega (arith, h)), refl)
@@ -72,18 +73,12 @@ onto (suc k) (suc x) =
 no_acquire : (l : LockId) (o : Op) → is_access o ≡ true → op_acquires l o ≡ false
 no_acquire l (Load x) t = refl
 no_acquire l (Store x) t = refl
-no_acquire l (Acquire x) t = absurd (cc)
-no_acquire l (Release x) t = absurd (cc)
-no_acquire l (Fork x) t = absurd (cc)
-no_acquire l (Join x) t = absurd (cc)
+no_acquire l _ t = absurd (cc)
 
 no_release : (l : LockId) (o : Op) → is_access o ≡ true → op_releases l o ≡ false
 no_release l (Load x) t = refl
 no_release l (Store x) t = refl
-no_release l (Acquire x) t = absurd (cc)
-no_release l (Release x) t = absurd (cc)
-no_release l (Fork x) t = absurd (cc)
-no_release l (Join x) t = absurd (cc)
+no_release l _ t = absurd (cc)
 
 depths : (xs ys : List Event) (e : Event) (k : ℕ) (u : ThreadId) (l : LockId) → is_access e.op ≡ true
     → depth (take (skip (length xs) k) (xs ++ ys)) u l ≡ depth (take k (xs ++ e ∷ ys)) u l
@@ -93,6 +88,7 @@ depths xs ys e k u l t =
     (counts (acquires u l) xs ys e k (and_right _ _ (no_acquire l e.op t)))
     (counts (releases u l) xs ys e k (and_right _ _ (no_release l e.op t)))
 
+-- the event between two lists is at the length of the first
 pub at_seam : (xs ys : List Event) (e : Event) → slice_get (xs ++ e ∷ ys) (length xs) ≡ Some e
 at_seam [] ys e = refl
 at_seam (x ∷ xs) ys e = at_seam xs ys e

@@ -83,10 +83,7 @@ accesses_only : (vars : VarId → Bool) (q : Op → Bool) → ((x : VarId) → q
     → ((x : VarId) → q (Store x) ≡ false) → (o : Op) → not (op_accesses vars o) ≡ false → q o ≡ false
 accesses_only vars q loads stores (Load x) f = loads x
 accesses_only vars q loads stores (Store x) f = stores x
-accesses_only vars q loads stores (Acquire l) f = absurd (cc)
-accesses_only vars q loads stores (Release l) f = absurd (cc)
-accesses_only vars q loads stores (Fork l) f = absurd (cc)
-accesses_only vars q loads stores (Join l) f = absurd (cc)
+accesses_only vars q loads stores _ f = absurd (cc)
 
 no_acquire : (vars : VarId → Bool) (u : ThreadId) (l : LockId) (e : Event) → stays vars e ≡ false
     → acquires u l e ≡ false
@@ -192,11 +189,7 @@ same_value : (vars : VarId → Bool) (xs : List Event) (o : Op) (arg : ℕ) → 
     → value_of (without vars xs) o arg ≡ value_of xs o arg
 unfolding last_value
 same_value vars xs (Load x) arg t = same_value_from vars 0 xs x (not-true (vars x) t)
-same_value vars xs (Store x) arg t = refl
-same_value vars xs (Acquire x) arg t = refl
-same_value vars xs (Release x) arg t = refl
-same_value vars xs (Fork x) arg t = refl
-same_value vars xs (Join x) arg t = refl
+same_value vars xs _ arg t = refl
 
 -- no reason to refuse a call is added
 none_all : (os : List (Option Refusal)) → AllNone os → first_of os ≡ None
@@ -233,42 +226,26 @@ when_false b r f = cond-false b (Some r) None f
 held_too : (vars : VarId → Bool) (xs : List Event) (u : ThreadId) (o : Op) → held xs u o ≡ None
     → held (without vars xs) u o ≡ None
 held_too vars xs u (Acquire l) h = ap (λ o. held_by o u) (same_holder vars xs l) ∙ h
-held_too vars xs u (Load x) h = refl
-held_too vars xs u (Store x) h = refl
-held_too vars xs u (Release x) h = refl
-held_too vars xs u (Fork x) h = refl
-held_too vars xs u (Join x) h = refl
+held_too vars xs u _ h = refl
 
 holds_too : (vars : VarId → Bool) (xs : List Event) (u : ThreadId) (o : Op) → not_holder xs u o ≡ None
     → not_holder (without vars xs) u o ≡ None
 holds_too vars xs u (Release l) h =
     ap (λ o. when (not (is_holder o u)) NotHolder) (same_holder vars xs l) ∙ h
-holds_too vars xs u (Load x) h = refl
-holds_too vars xs u (Store x) h = refl
-holds_too vars xs u (Acquire x) h = refl
-holds_too vars xs u (Fork x) h = refl
-holds_too vars xs u (Join x) h = refl
+holds_too vars xs u _ h = refl
 
 new_too : (m : Limits) (vars : VarId → Bool) (xs : List Event) (o : Op) → already_started m xs o ≡ None
     → already_started m (without vars xs) o ≡ None
 new_too m vars xs (Fork u) h =
     when_false (known m.roots (without vars xs) u) AlreadyStarted
     (not_known vars m.roots xs u (when_none (known m.roots xs u) AlreadyStarted h))
-new_too m vars xs (Load x) h = refl
-new_too m vars xs (Store x) h = refl
-new_too m vars xs (Acquire x) h = refl
-new_too m vars xs (Release x) h = refl
-new_too m vars xs (Join x) h = refl
+new_too m vars xs _ h = refl
 
 started_too : (m : Limits) (vars : VarId → Bool) (xs : List Event) (o : Op) → target_not_started m xs o ≡ None
     → target_not_started m (without vars xs) o ≡ None
 started_too m vars xs (Join u) h =
     ap (λ b. when (not b) TargetNotStarted) (same_forked vars m.roots xs u) ∙ h
-started_too m vars xs (Load x) h = refl
-started_too m vars xs (Store x) h = refl
-started_too m vars xs (Acquire x) h = refl
-started_too m vars xs (Release x) h = refl
-started_too m vars xs (Fork x) h = refl
+started_too m vars xs _ h = refl
 
 fits_too : (a b n : ℕ) → a ≤ b → when (not (nat_le b n)) LogFull ≡ None
     → when (not (nat_le a n)) LogFull ≡ None
@@ -293,10 +270,7 @@ room_too m vars xs o h = go o h
     go : (o : Op) → log_full m xs o ≡ None → log_full m (without vars xs) o ≡ None
     go (Release l) h = refl
     go (Acquire l) h = fits_too _ _ m.events (plus 2) h
-    go (Load x) h = fits_too _ _ m.events (plus 1) h
-    go (Store x) h = fits_too _ _ m.events (plus 1) h
-    go (Fork x) h = fits_too _ _ m.events (plus 1) h
-    go (Join x) h = fits_too _ _ m.events (plus 1) h
+    go _ h = fits_too _ _ m.events (plus 1) h
 
 -- the event of a call, with this value
 abbrev with_value : Call → ℕ → Event
@@ -348,6 +322,7 @@ legal_too m vars xs e t legal =
           (sym (same_value vars xs c.op c.arg kept));
     }
 
+-- a well-formed log without some variables is well formed
 pub well_formed_too : (m : Limits) (vars : VarId → Bool) (log : List Event) → WellFormed m log
     → WellFormed m (without vars log)
 well_formed_too m vars log w = record { legal = legal }

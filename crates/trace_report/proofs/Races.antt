@@ -2,13 +2,15 @@
 use Rattle.std.proofs.Common.{◌≡◌, ℕ, ◌+◌, ◌<◌, ◌≤◌, zero, suc, List, [], ◌∷◌, ◌++◌, length, take, get_or}
 use Rattle.std.proofs.Common.{Option, Some, unwrap_or, count_by, refl, ap, sym, subst, ◌∙◌, arith}
 use Rattle.std.specs.List.{flat_map}
-use Rattle.std.proofs.lemmas.List.{flat_map_more, take_more}
+use Rattle.std.proofs.lemmas.List.{flat_map_more, take_more, take_all}
 use Rattle.std.proofs.lemmas.List.Sums.{sum_by-cons}
 use Rattle.std.specs.Prelude.{cond, slice_get}
 use Rattle.event_core.specs.declared.events.Event.{Event}
 use Rattle.event_core.specs.declared.replies.Verdict.{Verdict}
 use Rattle.event_core.specs.declared.replies.Verdict.TheVariants.{Clear, Racy}
 use Rattle.rapid_text.specs.Tables.{Tables}
+use Rattle.rapid_text.specs.Pages.{Puts}
+use Rattle.rapid_text.proofs.PutsProperties.{put_both, put_same}
 use Rattle.verdict_list.specs.declared.verdicts.Race.{Race}
 use Rattle.verdict_list.specs.Judged.{races_from}
 use Rattle.trace_report.specs.Races.{is_race}
@@ -70,3 +72,14 @@ pub lines_at : {X : Type 0} (line : X → List ℕ) (xs : List X) (k : ℕ) (d :
     → flat_map line (take k xs) ++ line (get_or xs k d) ≡ flat_map line (take (k + 1) xs)
 lines_at line xs k d lt =
     flat_map_more line [] (take k xs) (get_or xs k d) ∙ ap (flat_map line) (sym (take_more xs k d lt))
+
+-- the lines of the first k elements were put, and then the line of one more
+pub put_more : {X : Type 0} (line : X → List ℕ) (xs : List X) (k : ℕ) (d : X) {a b c : Option (List ℕ)}
+    {p q r : List ℕ} → k < length xs → Puts a p b q (flat_map line (take k xs))
+    → Puts b q c r (line (get_or xs k d)) → Puts a p c r (flat_map line (take (k + 1) xs))
+put_more line xs k d lt before more = put_same (lines_at line xs k d lt) (put_both before more)
+
+-- the lines of all elements were put
+pub put_all : {X : Type 0} (line : X → List ℕ) (xs : List X) (k : ℕ) {a b : Option (List ℕ)} {p q : List ℕ}
+    → length xs ≤ k → Puts a p b q (flat_map line (take k xs)) → Puts a p b q (flat_map line xs)
+put_all line xs k past h = put_same (ap (flat_map line) (take_all k xs past)) h

@@ -21,6 +21,7 @@ none_well_formed k = record {
   legal = λ i e at. absurd (let within : i < 0 = slice_get_within [] i e at in omega arith);
 }
 
+-- the empty log has the meaning of a memory before any event
 pub no_log : meaning_of [] ≡ nothing
 unfolding open_acquires last_value holder last_acquirer held_in lock_depth
 no_log = refl

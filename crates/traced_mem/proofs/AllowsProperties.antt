@@ -9,6 +9,7 @@ use mathlib.Core.Logic.{inl, inr}
 use Rattle.event_core.specs.declared.ids.ThreadId.{ThreadId}
 use Rattle.event_core.specs.declared.ids.LockId.{LockId}
 use Rattle.event_core.specs.declared.bounds.Limits.{Limits}
+use Rattle.event_core.specs.declared.bounds.TheConstants.{MOST_EVENTS}
 use Rattle.event_core.specs.declared.replies.Refusal.TheVariants.{LogFull, NotHolder}
 use Rattle.event_core.specs.declared.events.Op.{Op}
 use Rattle.event_core.specs.declared.events.Op.TheVariants.{Acquire, Release}
@@ -23,17 +24,20 @@ use Rattle.traced_mem.specs.Tables.{MemoryTables, AreTables, Allows, lock_of, lo
 use Rattle.traced_mem.specs.Tables.{blank_lock, total, meaning}
 use Rattle.traced_mem.specs.Room.{DepthFits, HoldsFit, IsReady}
 
+-- the reasons that do not apply to an operation that is allowed
 pub record Allowed (k : Limits) (m : Meaning) (u : ThreadId) (o : Op) : Type 0 where
   pub no_holder : held_at m u o ≡ None
   pub holds : not_holder_at m u o ≡ None
   pub fits : log_full_at k m o ≡ None
 
+-- no reason applies to an operation that is allowed
 pub allowed : (k : Limits) (m : Meaning) (u : ThreadId) (o : Op) → refusal_at k m u o ≡ None → Allowed k m u o
 unfolding refusal_at AllNone
 allowed k m u o h =
     let r : AllNone (reasons_at k m u o) = all_none (reasons_at k m u o) h in
     record { no_holder = r.1.1.1.1.0; holds = r.1.1.1.1.1.0; fits = r.1.1.1.1.1.1.1.1.1.0 }
 
+-- a number that is not found greater is at most the other
 pub room : (n m : ℕ) → not (nat_le n m) ≡ false → n ≤ m
 room n m e = leb-true n m (not-false (nat_le n m) e)
 
@@ -42,6 +46,7 @@ pub holder_here : (o : Option ThreadId) (u : ThreadId) → not (is_holder o u) �
 holder_here None u e = absurd (cc)
 holder_here (Some v) u e = ap Some (same_thread_id (eqb-true v.0 u.0 (not-false (nat_eq v.0 u.0) e)))
 
+-- a release that is not refused is by the holder
 pub release_holder : (m : Meaning) (u : ThreadId) (l : LockId) → not_holder_at m u (Release l) ≡ None
     → (m.lock l.0).holder ≡ Some u
 release_holder m u l h = holder_here (m.lock l.0).holder u (when_none _ NotHolder h)
@@ -84,8 +89,9 @@ pub record StepFits (t : MemoryTables) (o : Op) : Type 0 where
   pub fits_holds : HoldsFit t.holds o
   pub kept : t.length + 1 + holds_after o t.holds ≤ t.limits.events
 
+-- an allowed step keeps depths and the number of holds within their types, and the slots of releases
 pub fits_inside : {t s : MemoryTables} (u : ThreadId) (o : Op) → t ≡ s
-    → AreTables t.limits t.length t.holds t.threads t.locks → t.limits.events ≤ 4294967296
+    → AreTables t.limits t.length t.holds t.threads t.locks → t.limits.events ≤ MOST_EVENTS
     → Allows s u o → StepFits t o
 fits_inside {t = t} u o same inv small h = record {
   depth = depth o a;

@@ -27,6 +27,7 @@ module _ (k : Limits) (log : List Event) (c : Call) (w : WellFormed k log) (h : 
   cells_law_at _ q = λ n. value_snoc 0 log (event_of log c) (var_id n)
       ∙ cond-false _ _ _ (ap (op_stores (var_id n)) q)
 
+  -- the values of all variables after an accepted call
   pub cells_law : (meaning_of (log ++ event_of log c ∷ [])).cell
       ≡ cells_after c.op c.arg (meaning_of log).cell
   cells_law i n = cells_law_at c.op refl n i

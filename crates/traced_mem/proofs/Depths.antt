@@ -8,6 +8,7 @@ use Rattle.event_core.specs.Log.{depth}
 use Rattle.event_core.specs.Refusal.{lock_depth, depth_by, holder}
 use Rattle.event_core.proofs.EffectProperties.{depth_down}
 
+-- the depth of a lock is the depth of its holder in it
 pub depth_if_held : (log : List Event) (l : LockId) (u : ThreadId) → holder log l ≡ Some u
     → lock_depth log l ≡ depth log u l
 unfolding lock_depth

@@ -10,6 +10,7 @@ use Rattle.traced_mem.specs.Meaning.{Thread}
 use Rattle.traced_mem.specs.Tables.{MemoryTables, lock_at, HeldBelow, thread_at}
 use Rattle.traced_mem.specs.Room.{HasRoom, IsReady, Grown}
 
+-- a list has grown by nothing into itself
 pub grown_none : (xs : List ThreadRow) → Grown xs xs
 grown_none xs = record { rows = refl; more = omega arith; capacity = λ u. omega arith }
 
@@ -21,6 +22,7 @@ grown_more a b = record {
   capacity = λ u. omega (arith, a.capacity u, b.capacity u);
 }
 
+-- holders stay below a number that grows
 pub below_grown : {n m : ℕ} (old new : List LockRow) → n ≤ m → lock_at new ≡ lock_at old → HeldBelow n old
     → HeldBelow m new
 below_grown {n = n} old new le same h l d =
@@ -29,6 +31,7 @@ below_grown {n = n} old new le same h l d =
     let e : (lock_at new l).by.0 ≡ (lock_at old l).by.0 = ap (λ (x : LockRow). x.by.0) here in
     omega arith
 
+-- what was ready stays ready where all tables have grown
 pub ready_grown : {old new : MemoryTables} → Grown old.threads new.threads
     → length old.locks ≤ length new.locks → old.room ≤ new.room
     → (u : ThreadId) (o : Op) → IsReady old u o → IsReady new u o

@@ -231,6 +231,7 @@ list_from m before (e ∷ es) u ls w are =
     (list_from m (before ++ e ∷ []) es u (held_after before u e e.op ls) longer
     (next_list before e u ord ls are k.0 k.1))
 
+-- the list of the locks that a thread holds has each of them once, in the order of their outer acquires
 pub held_in_order : (m : Limits) (log : List Event) (u : ThreadId) → WellFormed m log
     → AreHeld log u (held_in log u)
 unfolding held_in depth

@@ -41,5 +41,6 @@ module _ (k : Limits) (log : List Event) (c : Call) (w : WellFormed k log) (h : 
         counted op_is_release false (ap op_is_release q),
       )
 
+  -- the number of open acquires after an accepted call
   pub holds_law : open_acquires (log ++ event_of log c ∷ []) ≡ holds_after c.op (open_acquires log)
   holds_law = holds_law_at c.op refl

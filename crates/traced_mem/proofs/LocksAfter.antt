@@ -72,9 +72,11 @@ released_lock k log e l w o held_now i = record { holder = is i; depth = less i 
         (depth_left log e l o held_now) (sym held_now)
 
 module _ (k : Limits) (log : List Event) (c : Call) (w : WellFormed k log) (h : refusal k log c ≡ None) where
+  -- no reason to refuse the call applies
   pub may : Allowed k (meaning_of log) c.thread c.op
   may = allowed k (meaning_of log) c.thread c.op (same_refusal k log c w ∙ h)
 
+  -- the thread of an accepted release holds the lock
   pub holder_now : (l : LockId) → c.op ≡ Release l → holder log l ≡ Some c.thread
   holder_now l q =
       release_holder (meaning_of log) c.thread l
@@ -100,6 +102,7 @@ module _ (k : Limits) (log : List Event) (c : Call) (w : WellFormed k log) (h : 
       λ n. same_lock log (event_of log c) (lock_at n) (ap (op_acquires (lock_at n)) q)
       (ap (op_releases (lock_at n)) q)
 
+  -- the holder and the depth of each lock after an accepted call
   pub locks_law : (meaning_of (log ++ event_of log c ∷ [])).lock
       ≡ locks_after c.thread c.op (meaning_of log).lock
   locks_law i n = locks_law_at c.op refl n i

@@ -16,15 +16,18 @@ use Rattle.event_core.proofs.OrderlyProperties.{acquirer_snoc}
 use Rattle.traced_mem.specs.Standing.{held_after, held_from}
 use Rattle.traced_mem.proofs.UpdatedProperties.{eqb_refl}
 
+-- a test passes somewhere in a longer list if it passed before, or passes at its last event
 pub any_snoc : (p : Event → Bool) (xs : List Event) (e : Event)
     → list_any p (xs ++ e ∷ []) ≡ (list_any p xs || p e)
 any_snoc p xs e = list_any-append p xs (e ∷ []) ∙ ap (λ b. list_any p xs || b) (or-false (p e))
 
+-- the last value of a variable is that of the last event, if it stores the variable
 pub value_snoc : (n : ℕ) (xs : List Event) (e : Event) (x : VarId)
     → last_value_from n (xs ++ e ∷ []) x ≡ (if op_stores x e.op then e.value else last_value_from n xs x)
 value_snoc n [] e x = refl
 value_snoc n (y ∷ ys) e x = value_snoc (if op_stores x y.op then y.value else n) ys e x
 
+-- the last event changes the list of the locks that a thread held before it
 pub held_snoc : (before xs : List Event) (e : Event) (u : ThreadId) (held : List LockId)
     → held_from before (xs ++ e ∷ []) u held ≡ held_after (before ++ xs) u e e.op (held_from before xs u held)
 held_snoc before [] e u held = ap (λ b. held_after b u e e.op held) (sym (append-nil before))
@@ -40,6 +43,7 @@ same_depth log e u l a r =
     depth_same log e u l (λ t o. (let is = ap (op_acquires l) o ∙ eqb_refl l.0 in absurd cc))
     (λ t o. (let is = ap (op_releases l) o ∙ eqb_refl l.0 in absurd cc))
 
+-- an event that neither acquires nor releases a lock keeps its holder
 pub same_holder : (log : List Event) (e : Event) (l : LockId) → op_acquires l e.op ≡ false
     → op_releases l e.op ≡ false → holder (log ++ e ∷ []) l ≡ holder log l
 unfolding holder

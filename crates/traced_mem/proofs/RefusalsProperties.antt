@@ -55,6 +55,7 @@ same_full k log (Acquire l) = refl
 same_full k log (Release l) = refl
 same_full k log _ = refl
 
+-- a refusal read from the meaning of a log is the refusal after the log
 pub same_refusal : (k : Limits) (log : List Event) (c : Call) → WellFormed k log
     → refusal_at k (meaning_of log) c.thread c.op ≡ refusal k log c
 unfolding refusal_at refusal
@@ -73,6 +74,7 @@ same_refusal k log c w i =
     ∷ []
     )
 
+-- a refusal of a swap read from the meaning of a log is the refusal after the log
 pub same_swap_refusal : (k : Limits) (log : List Event) (u : ThreadId) (x : VarId) → WellFormed k log
     → swap_refusal_at k (meaning_of log) u x ≡ swap_refusal k log u x
 unfolding swap_refusal_at swap_refusal
@@ -86,6 +88,7 @@ same_swap_refusal k log u x w i =
     ∷ []
     )
 
+-- a value read from the meaning of a log is the value after the log
 pub same_value : (log : List Event) (o : Op) (arg : ℕ) → value_at (meaning_of log) o arg ≡ value_of log o arg
 same_value log (Load x) arg = refl
 same_value log _ arg = refl

@@ -34,6 +34,7 @@ forked_again OnlyMain m u x arg =
     ap (λ (t : Thread). nat_eq u.0 0 || t.forked) (mentioned_if (u.0 == u.0) (m.thread u.0))
 forked_again Free m u x arg = refl
 
+-- the load of a swap that is allowed is allowed
 pub load_allowed : (k : Limits) (m : Meaning) (u : ThreadId) (x : VarId) → swap_refusal_at k m u x ≡ None
     → refusal_at k m u (Load x) ≡ None
 unfolding swap_refusal_at refusal_at AllNone
@@ -46,6 +47,7 @@ load_allowed k m u x h =
     ∷ fits k m 1 (omega arith) i ∷ []
     )
 
+-- the store of a swap that is allowed is allowed after its load
 pub store_allowed : (k : Limits) (m : Meaning) (u : ThreadId) (x : VarId) → swap_refusal_at k m u x ≡ None
     → refusal_at k (after u (Load x) 0 m) u (Store x) ≡ None
 unfolding swap_refusal_at refusal_at AllNone

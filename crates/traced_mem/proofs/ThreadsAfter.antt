@@ -95,6 +95,7 @@ module _ (k : Limits) (log : List Event) (c : Call) (w : WellFormed k log) (h : 
       plain
   threads_at _ q = plain
 
+  -- what was done to each thread, and which locks it holds, after an accepted call
   pub threads_law : (meaning_of (log ++ event_of log c ∷ [])).thread
       ≡ threads_after c.thread c.op (meaning_of log).lock F
   threads_law i n = (row_now n ∙ threads_at c.op refl n) i

@@ -4,12 +4,15 @@ use Rattle.std.proofs.lemmas.Bool.{cases_eq, eq-eqb, ne_eqb}
 use mathlib.Core.Logic.{inl, inr}
 use Rattle.traced_mem.specs.After.{updated}
 
+-- a number is found equal to itself
 pub eqb_refl : (a : ℕ) → nat_eq a a ≡ true
 eqb_refl a = eq-eqb a a refl
 
+-- a changed function has the new value at its place
 pub updated_same : {A : Type 0} (k : ℕ) (x : A) (f : ℕ → A) → updated k x f k ≡ x
 updated_same k x f = ap (λ b. cond b x (f k)) (eqb_refl k)
 
+-- a changed function has its old values elsewhere
 pub updated_other : {A : Type 0} (k : ℕ) (x : A) (f : ℕ → A) (a : ℕ) → (a ≡ k → ⊥) → updated k x f a ≡ f a
 updated_other k x f a n = ap (λ b. cond b x (f a)) (ne_eqb a k n)
 

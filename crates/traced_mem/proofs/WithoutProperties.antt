@@ -10,6 +10,7 @@ use Rattle.event_core.proofs.DepthProperties.{same_lock_id}
 use Rattle.event_core.proofs.HasProperties.{none_in}
 use Rattle.traced_mem.specs.After.{without, without_at}
 
+-- the lock at the front is the one that is left out
 pub without_here : (l x : LockId) (xs : List LockId) → nat_eq x.0 l.0 ≡ true → without l (x ∷ xs) ≡ xs
 without_here l x xs t =
     ap (λ b. without_at (cond
@@ -36,6 +37,7 @@ next n len x xs =
     pick true = refl
     pick false = refl
 
+-- another lock at the front stays
 pub without_next : (l x : LockId) (xs : List LockId) → nat_eq x.0 l.0 ≡ false
     → without l (x ∷ xs) ≡ x ∷ without l xs
 without_next l x xs f =

@@ -53,16 +53,6 @@ pub fn more_locks(locks: &mut Vec<LockRow>, count: usize) -> Result<(), OutOfMem
     grow_to(locks, count, || blank)
 }
 
-/// Makes room for so many cells. Room for up to twice as many is made, so that few stores find none.
-pub fn more_cells(cells: &mut Vec<u64>, count: usize) -> Result<(), OutOfMemory>
-    ensures same { cells.new.items ≡ cells.old.items }
-    ensures more { vec_capacity cells.old ≤ vec_capacity cells.new }
-    ensures room { vec_capacity cells.new ≤ max (vec_capacity cells.old) (2 * count) }
-    ensures ok { OnOk result (count ≤ vec_capacity cells.new) }
-{
-    reserve_to(cells, count)
-}
-
 /// Makes place for one more lock that the thread holds.
 pub fn more_held(threads: &mut [ThreadRow], thread: usize) -> Result<(), OutOfMemory>
     requires { thread < length threads.old }
@@ -145,7 +135,8 @@ fn grow_for(
         (HasRoom threads.new (length locks.new.items) (vec_capacity cells.new) caller op) }
 {
     match op {
-        Op::Store(var) => more_cells(cells, var.0 as usize + 1),
+        // For at most twice as many cells, so that few stores find no room.
+        Op::Store(var) => reserve_to(cells, var.0 as usize + 1),
         Op::Release(lock) => more_locks(locks, lock.0 as usize + 1),
         Op::Acquire(lock) => {
             more_locks(locks, lock.0 as usize + 1)?;

@@ -1,13 +1,11 @@
 //! The rows of the tables, and what one event changes in one row.
-ghost use Rattle.std.specs.Prelude.{◌≡◌, ℕ, ◌+◌, ◌<◌, ◌≤◌, ◌^◌, length, max, nat_eq, vec_capacity};
+ghost use Rattle.std.specs.Prelude.{◌≡◌, ℕ, ◌+◌, ◌<◌, ◌≤◌, ◌^◌, length, max, nat_eq, vec_capacity, true};
+ghost use Rattle.std.specs.Prelude.{◌||◌};
 ghost use Rattle.std.specs.List.{position};
 ghost use Rattle.smallvec.specs.SmallVec.{HasRoomFor};
 ghost use Rattle.event_core.specs.declared.ids.LockId.{LockId};
 ghost use Rattle.traced_mem.specs.After.{
   updated,
-  mentioned_again,
-  now_forked,
-  now_joined,
   gains,
   loses,
   without,
@@ -45,41 +43,21 @@ pub struct LockRow {
     pub depth: u32,
 }
 
-/// The thread has to do with an event.
-pub fn mention(threads: &mut [ThreadRow], thread: usize)
+/// The thread has to do with an event, which forks it or joins it where these say so.
+#[inline(always)]
+pub fn mention(threads: &mut [ThreadRow], thread: usize, forked: bool, joined: bool)
     requires { thread < length threads.old }
-    ensures rows { threads_of threads.new
-        ≡ updated thread (mentioned_again (threads_of threads.old thread)) (threads_of threads.old) }
+    ensures rows { threads_of threads.new ≡ updated thread (record (threads_of threads.old thread) {
+      forked = forked || (threads_of threads.old thread).forked;
+      joined = joined || (threads_of threads.old thread).joined;
+      mentioned = true;
+    }) (threads_of threads.old) }
     ensures same { length threads.new ≡ length threads.old }
     ensures room { (u : ℕ) → (thread_at threads.new u).held ≡ (thread_at threads.old u).held }
 {
     let row = &mut threads[thread];
-    row.mentioned = true;
-}
-
-/// The thread is forked.
-pub fn fork(threads: &mut [ThreadRow], thread: usize)
-    requires { thread < length threads.old }
-    ensures rows { threads_of threads.new
-        ≡ updated thread (now_forked (threads_of threads.old thread)) (threads_of threads.old) }
-    ensures same { length threads.new ≡ length threads.old }
-    ensures room { (u : ℕ) → (thread_at threads.new u).held ≡ (thread_at threads.old u).held }
-{
-    let row = &mut threads[thread];
-    row.forked = true;
-    row.mentioned = true;
-}
-
-/// The thread is joined.
-pub fn join(threads: &mut [ThreadRow], thread: usize)
-    requires { thread < length threads.old }
-    ensures rows { threads_of threads.new
-        ≡ updated thread (now_joined (threads_of threads.old thread)) (threads_of threads.old) }
-    ensures same { length threads.new ≡ length threads.old }
-    ensures room { (u : ℕ) → (thread_at threads.new u).held ≡ (thread_at threads.old u).held }
-{
-    let row = &mut threads[thread];
-    row.joined = true;
+    row.forked = forked || row.forked;
+    row.joined = joined || row.joined;
     row.mentioned = true;
 }
 

@@ -11,7 +11,7 @@ ghost use Rattle.traced_mem.specs.After.{
 ghost use Rattle.traced_mem.specs.Tables.{threads_of, locks_of, cells_of, thread_at, total, HeldBelow};
 ghost use Rattle.traced_mem.specs.Room.{HasRoom, DepthFits, cells_for};
 
-use crate::rows::{LockRow, ThreadRow, deepen, fork, gain, join, lessen, lose, mention, write};
+use crate::rows::{LockRow, ThreadRow, deepen, gain, lessen, lose, mention, write};
 use event_core::{Call, Op};
 
 /// The call's step, on the tables. They have room for it.
@@ -43,7 +43,7 @@ pub fn apply_rows(
     ensures below { HeldBelow (length threads.old) locks.old → HeldBelow (length threads.new) locks.new }
 {
     let thread = call.thread.0 as usize;
-    mention(threads, thread);
+    mention(threads, thread, false, false);
     match call.op {
         Op::Load(_) => {}
         Op::Store(var) => write(cells, var.0 as usize, call.arg),
@@ -59,7 +59,7 @@ pub fn apply_rows(
             lose(threads, thread, lock, left);
             lessen(locks, at);
         }
-        Op::Fork(child) => fork(threads, child.0 as usize),
-        Op::Join(child) => join(threads, child.0 as usize),
+        Op::Fork(child) => mention(threads, child.0 as usize, true, false),
+        Op::Join(child) => mention(threads, child.0 as usize, false, true),
     }
 }

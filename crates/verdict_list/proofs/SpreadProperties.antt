@@ -19,6 +19,7 @@ pub later : (j n : ℕ) (r : Race) (rs : List Race) → (r.event ≡ j → ⊥)
     → spread j (suc n) (r ∷ rs) ≡ Clear ∷ spread (j + 1) n (r ∷ rs)
 later j n r rs other = grind (arith, nat_tests)
 
+-- there are as many verdicts as asked for
 pub length_spread : (j n : ℕ) (rs : List Race) → length (spread j n rs) ≡ n
 length_spread j zero rs = refl
 length_spread j (suc n) [] = ap suc (length_spread (j + 1) n [])

@@ -7,6 +7,7 @@ use Rattle.verdict_list.specs.Spread.{Rise, verdicts_of}
 use Rattle.verdict_list.proofs.RiseProperties.{rise_longer, rise_pushed}
 use Rattle.verdict_list.proofs.SpreadProperties.{length_spread, spread_clear, spread_racy, races_of_spread}
 
+-- there are as many verdicts as events
 pub length_verdicts : (n : ℕ) (rs : List Race) → length (verdicts_of n rs) ≡ n
 length_verdicts n rs = length_spread 0 n rs
 

@@ -12,6 +12,7 @@ pub below_more : (n m : ℕ) → m ≡ n + 1 → below m ≡ below n ++ n ∷ []
 unfolding below
 below_more n m e = let is : m ≡ suc n = omega arith in ap below is
 
+-- one index more adds its event
 pub events_more : (log : List Event) (ks : List ℕ) (k : ℕ) (e : Event) → slice_get log k ≡ Some e
     → events_at log (ks ++ k ∷ []) ≡ events_at log ks ++ e ∷ []
 unfolding events_at
@@ -30,11 +31,13 @@ from_more log x k e at b [] = ap (λ (o : Option Event). if stores_to x o then S
 from_more log x k e at b (j ∷ js) =
     from_more log x k e at (if stores_to x (slice_get log j) then Some j else b) js
 
+-- the last store of a variable is that of the last index, if its event stores the variable
 pub store_more : (log : List Event) (x : VarId) (ks : List ℕ) (k : ℕ) (e : Event) → slice_get log k ≡ Some e
     → last_store log x (ks ++ k ∷ []) ≡ (if op_stores x e.op then Some k else last_store log x ks)
 unfolding last_store
 store_more log x ks k e at = from_more log x k e at None ks
 
+-- before any event a variable has no last store
 pub no_store : (log : List Event) (x : VarId) → last_store log x [] ≡ None
 unfolding last_store
 no_store log x = refl
@@ -43,6 +46,7 @@ pub none_below : below 0 ≡ []
 unfolding below
 none_below = refl
 
+-- an empty list of indices has no events
 pub no_events : (log : List Event) → events_at log [] ≡ []
 unfolding events_at
 no_events log = refl

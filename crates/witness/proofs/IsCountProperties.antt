@@ -21,6 +21,7 @@ use Rattle.event_core.proofs.HasProperties.{has_front, has_last, has_split, none
 use Rattle.witness.specs.Walks.{IsCount, HasFork, HasAll, IsNextOf}
 use Rattle.witness.proofs.Ranks.{rank_before, rank_once}
 
+-- before any event all counts are 0
 pub nothing_counted : (log : List Event) (counts : ℕ → ℕ) → ((n : ℕ) → counts n ≡ 0) → IsCount log [] counts
 nothing_counted log counts zeros = record {
   counted = λ u. record {
@@ -30,6 +31,7 @@ nothing_counted log counts zeros = record {
   closed = λ h k e has. absurd (none_in has);
 }
 
+-- where the count of a thread is its number of events, it has made each of them
 pub all_counted : {log : List Event} {before : List ℕ} {counts : ℕ → ℕ} (u : ThreadId)
     → IsCount log before counts → events_of log u ≤ counts u.0 → HasAll log before u
 all_counted {log = log} u c le h o =
@@ -41,6 +43,7 @@ chain_closed : {log : List Event} {before : List ℕ} {counts : ℕ → ℕ} {h 
 chain_closed c here has = has
 chain_closed c (step {g = g} {j = j} p e) has = chain_closed c p (c.closed g j e has)
 
+-- an event is next if its thread has made its earlier events, is forked, and has what it joins
 pub next_of : {log : List Event} {before : List ℕ} {counts : ℕ → ℕ} (k : ℕ) (e : Event)
     → slice_get log k ≡ Some e
     → IsCount log before counts → counts e.thread.0 ≡ events_of (take k log) e.thread
@@ -78,6 +81,7 @@ next_of {log = log} {before = before} {counts = counts} k e at count place fork 
     preceded here ne = absurd (ne refl)
     preceded (step {g = g} p last) ne = chain_closed count p (edge g last)
 
+-- the counts after one event more
 pub count_more : {log : List Event} {before : List ℕ} {counts more : ℕ → ℕ} (k : ℕ) (u : ThreadId)
     → Of log k u → IsCount log before counts → IsNextOf log before counts k
     → ((n : ℕ) → more n ≡ bump u.0 counts n) → IsCount log (before ++ k ∷ []) more

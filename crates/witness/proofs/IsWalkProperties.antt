@@ -16,6 +16,7 @@ use Rattle.witness.specs.Standing.{IsWalk}
 use Rattle.witness.proofs.IndicesProperties.{events_more, store_more, no_store, no_events}
 use Rattle.witness.proofs.IsCountProperties.{nothing_counted, count_more}
 
+-- a walk before any event
 pub begun : (log : List Event) (w : Walk) → w.counts.items ≡ [] → w.stores.items ≡ [] → StandsFor [] w.memory
     → IsWalk log [] w
 begun log w counts stores stands = record {
@@ -34,6 +35,7 @@ next_after {log = log} {before = before} {k = k} lent is walk next =
     let Q : List ℕ → Type 0 = λ xs. IsNextOf log before (λ n. get_or xs n 0) k in
     subst Q is (next (subst P (sym is) walk.count))
 
+-- a walk, one event longer
 pub walked : {log : List Event} {before : List ℕ} {w v : Walk} (k : ℕ) (e : Event) → slice_get log k ≡ Some e
     → IsWalk log before w → IsNextOf log before (λ n. get_or w.counts.items n 0) k
     → ((n : ℕ) → get_or v.counts.items n 0 ≡ bump e.thread.0 (λ i. get_or w.counts.items i 0) n)

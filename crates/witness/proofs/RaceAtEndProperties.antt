@@ -7,16 +7,18 @@ use Rattle.event_core.specs.declared.bounds.Limits.{Limits}
 use Rattle.event_core.specs.Log.{Of, Conflict, OpsConflict}
 use Rattle.event_core.specs.Refusal.{WellFormed}
 use Rattle.event_core.specs.Verdict.{Races}
+use Rattle.event_core.proofs.ConflictProperties.{access_first, access_second}
 use Rattle.event_core.proofs.OrderlyProperties.{orderly}
 use Rattle.event_core.proofs.LogProperties.{of_does, of_one}
 use Rattle.event_core.proofs.Places.{get_last, get_before}
+use Rattle.event_core.proofs.StrictIsWithinHb.{below_hb}
 use Rattle.witness.specs.Indices.{events_at}
 use Rattle.witness.specs.Witness.{IsWitness}
 use Rattle.witness.specs.EndLaws.{next_event, with_ends, RaceAtEnd}
-use Rattle.witness.proofs.WithEndsProperties.{access_first, access_second, ends_formed}
+use Rattle.witness.proofs.WithEndsProperties.{ends_formed}
 use Rattle.witness.proofs.Neighbors.{unordered}
-use Rattle.trace_laws.proofs.StrictIsWithinHb.{below_hb}
 
+-- a witness for two accesses is one for them in the other order
 pub turned : {m : Limits} {log : List Event} {i j : ℕ} {s : List ℕ} → IsWitness m log i j s
     → IsWitness m log j i s
 turned w = record {
@@ -61,6 +63,7 @@ ends_conflict before e f ops apart = record {
         let is : length one ≡ suc (length before) = omega arith in
         subst (λ (n : ℕ). slice_get (one ++ last ∷ []) n ≡ Some last) is (get_last one last)
 
+-- two conflicting accesses race at the end of their witness
 pub at_end : (m : Limits) (log : List Event) (i j : ℕ) (s : List ℕ) (e f : Event) → WellFormed m log
     → slice_get log i ≡ Some e → slice_get log j ≡ Some f → Conflict log i j → IsWitness m log i j s
     → RaceAtEnd m (events_at log s) e f

@@ -36,6 +36,7 @@ rank_once log u h k a b same = elim (cases_order h k) [
   ]
 ]
 
+-- a thread has at most k of the first k events
 pub rank_small : (log : List Event) (u : ThreadId) (k : ℕ) → events_of (take k log) u ≤ k
 unfolding events_of
 rank_small log u k =
@@ -64,6 +65,7 @@ counts_more log k e counts more at were are u =
         rw (ne_eqb u.0 e.thread.0 other, ne_eqb e.thread.0 u.0 (λ q. other (sym q)))
         (let w = were u in omega arith)
 
+-- an empty list counts no event
 pub counts_none : (counts : List ℕ) → counts ≡ [] → (u : ThreadId) → slice_index counts u.0 ≡ events_of [] u
 unfolding events_of
 counts_none counts e u = rw e refl

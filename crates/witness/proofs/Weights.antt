@@ -8,32 +8,33 @@ use Rattle.std.specs.List.{sum_by}
 use mathlib.Core.Logic.{inl, inr}
 use Rattle.event_core.specs.declared.events.Event.{Event}
 use Rattle.event_core.specs.declared.events.Op.{Op}
-use Rattle.event_core.specs.declared.events.Op.TheVariants.{Load, Store, Acquire, Release, Fork, Join}
+use Rattle.event_core.specs.declared.events.Op.TheVariants.{Acquire, Release}
 use Rattle.event_core.specs.Closed.{Has, first, later}
 use Rattle.event_core.specs.Refusal.{op_is_acquire, op_is_release}
 use Rattle.event_core.proofs.DepthProperties.{take_event, event_at}
 use Rattle.witness.specs.Indices.{events_at, with_event}
 
--- an acquire takes a slot and keeps one, a release takes the one that was kept
+-- an acquire takes a slot and keeps one, a release takes the one that was kept, and another event takes one
 abbrev pub weight : Op → ℕ
 weight (Acquire l) = 2
 weight (Release l) = 0
-weight (Load x) = 1
-weight (Store x) = 1
-weight (Fork u) = 1
-weight (Join u) = 1
+weight _ = 1
 
+-- the slots that the events of a list take, and keep for releases
 abbrev pub weigh : List Event → ℕ
 weigh es = sum_by (λ (e : Event). weight e.op) es
 
+-- the weight of an event, if there is one
 abbrev pub weight_at : Option Event → ℕ
 weight_at None = 0
 weight_at (Some e) = weight e.op
 
+-- the sum of a function below a number
 abbrev pub sum_below : (ℕ → ℕ) → ℕ → ℕ
 sum_below f zero = 0
 sum_below f (suc n) = sum_below f n + f n
 
+-- the sum of a function over a list of numbers
 abbrev pub sum_of : (ℕ → ℕ) → List ℕ → ℕ
 sum_of f [] = 0
 sum_of f (k ∷ ks) = f k + sum_of f ks
@@ -41,6 +42,7 @@ sum_of f (k ∷ ks) = f k + sum_of f ks
 abbrev pub but : ℕ → (ℕ → ℕ) → ℕ → ℕ
 but k f n = cond (nat_eq n k) 0 (f n)
 
+-- no number is in the list twice
 abbrev pub Distinct : List ℕ → Type 0
 Distinct [] = Unit {0}
 Distinct (k ∷ ks) = (Has k ks → ⊥) × Distinct ks
@@ -79,6 +81,7 @@ sum_but k f (x ∷ xs) none =
     let o = but_other k x f (λ e. none (first x xs (sym e))) in
     omega arith
 
+-- a sum over different numbers is at most the sum over all numbers below their bound
 pub sum_distinct : (f : ℕ → ℕ) (n : ℕ) (s : List ℕ) → Distinct s → ((k : ℕ) → Has k s → k < n)
     → sum_of f s ≤ sum_below f n
 sum_distinct f n [] d lt = omega arith
@@ -88,6 +91,7 @@ sum_distinct f n (k ∷ ks) d lt =
     let b = below_but k n f (lt k (first k ks refl)) in
     omega arith
 
+-- the weights at the first n indices sum to the weight of the first n events
 pub sum_log : (log : List Event) (n : ℕ) → n ≤ length log
     → sum_below (λ k. weight_at (slice_get log k)) n ≡ weigh (take n log)
 sum_log log zero le = refl
@@ -99,6 +103,7 @@ sum_log log (suc n) le =
     = ap weigh (take_event log n x.0 x.1) ∙ sum_by_push (λ (e : Event). weight e.op) (take n log) x.0 in
     omega arith
 
+-- the weights at the indices of a list sum to the weight of their events
 pub sum_events : (log : List Event) (s : List ℕ)
     → sum_of (λ k. weight_at (slice_get log k)) s ≡ weigh (events_at log s)
 unfolding events_at
@@ -112,13 +117,10 @@ sum_events log (k ∷ ks) =
     out (Some e) es = sym (sum_by-cons (λ (x : Event). weight x.op) e es)
 
 point : (o : Op) → weight o + cond {A = ℕ} (op_is_release o) 1 0 ≡ 1 + cond {A = ℕ} (op_is_acquire o) 1 0
-point (Load x) = refl
-point (Store x) = refl
 point (Acquire l) = refl
-point (Release l) = refl
-point (Fork u) = refl
-point (Join u) = refl
+point _ = refl
 
+-- the weight of events is their number plus the number of acquires minus the number of releases
 pub balance : (es : List Event) → weigh es + count_by (λ (e : Event). op_is_release e.op) es
     ≡ length es + count_by (λ (e : Event). op_is_acquire e.op) es
 balance [] = refl
@@ -134,10 +136,12 @@ balance (e ∷ es) =
     = sum_by-cons (λ (x : Event). cond {A = ℕ} (op_is_acquire x.op) 1 0) e es in
     omega arith
 
+-- a member of a list has an index
 pub position : (k : ℕ) (s : List ℕ) → Has k s → (n : ℕ) × (slice_get s n ≡ Some k)
 position k _ (first b bs e) = (0, ap Some (sym e))
 position k _ (later b bs h) = let r = position k bs h in (suc r.0, r.1)
 
+-- the numbers of a list are distinct where none is among those before it
 pub distinct_of : (s : List ℕ) → ((n k : ℕ) → slice_get s n ≡ Some k → Has k (take n s) → ⊥) → Distinct s
 distinct_of [] apart = tt
 distinct_of (k ∷ ks) apart = (

@@ -14,16 +14,17 @@ use Rattle.event_core.specs.declared.ids.SiteId.{SiteId}
 use Rattle.event_core.specs.declared.events.Event.{Event}
 use Rattle.event_core.specs.declared.events.Call.{Call}
 use Rattle.event_core.specs.declared.events.Op.{Op}
-use Rattle.event_core.specs.declared.events.Op.TheVariants.{Load, Store, Acquire, Release, Fork, Join}
+use Rattle.event_core.specs.declared.events.Op.TheVariants.{Load, Store, Fork, Join}
 use Rattle.event_core.specs.declared.bounds.Limits.{Limits}
 use Rattle.event_core.specs.declared.bounds.Roots.{Roots}
 use Rattle.event_core.specs.declared.bounds.Roots.TheVariants.{OnlyMain, Free}
 use Rattle.event_core.specs.declared.replies.Refusal.TheVariants.{ThreadRange, NotStarted, TargetRange}
-use Rattle.event_core.specs.Log.{Does, Of, OpsConflict}
+use Rattle.event_core.specs.Log.{Does, Of}
 use Rattle.event_core.specs.Order.{fork_to_event, event_to_join}
 use Rattle.event_core.specs.Closed.{Has, first, later}
 use Rattle.event_core.specs.Refusal.{WellFormed, Legal, refusal, forked, forks, joins, op_forks, op_joins}
 use Rattle.event_core.specs.Refusal.{in_range, held_depths, op_is_acquire, op_is_release}
+use Rattle.event_core.proofs.ConflictProperties.{IsAccess}
 use Rattle.event_core.proofs.OrderProperties.{chain_one}
 use Rattle.event_core.proofs.DepthProperties.{same_thread_id, count_with}
 use Rattle.event_core.proofs.EndedLaw.{ended_rest}
@@ -38,39 +39,6 @@ use Rattle.witness.proofs.Weights.{weigh, weight, weight_at, sum_of, sum_below, 
 use Rattle.witness.proofs.Weights.{sum_log, sum_events, balance}
 use Rattle.witness.proofs.Weights.{distinct_of, Distinct}
 
--- the operation is a load or a store
-abbrev pub IsAccess : Op → Type 0
-IsAccess (Load x) = Unit {0}
-IsAccess (Store x) = Unit {0}
-IsAccess (Acquire l) = ⊥
-IsAccess (Release l) = ⊥
-IsAccess (Fork u) = ⊥
-IsAccess (Join u) = ⊥
-
-pub access_first : (o p : Op) → OpsConflict o p → IsAccess o
-access_first (Load x) p c = tt
-access_first (Store x) p c = tt
-access_first (Acquire l) p c = c
-access_first (Release l) p c = c
-access_first (Fork u) p c = c
-access_first (Join u) p c = c
-
-pub access_second : (o p : Op) → OpsConflict o p → IsAccess p
-access_second o (Load x) c = tt
-access_second o (Store x) c = tt
-access_second (Load x) (Acquire l) c = c
-access_second (Load x) (Release l) c = c
-access_second (Load x) (Fork u) c = c
-access_second (Load x) (Join u) c = c
-access_second (Store x) (Acquire l) c = c
-access_second (Store x) (Release l) c = c
-access_second (Store x) (Fork u) c = c
-access_second (Store x) (Join u) c = c
-access_second (Acquire k) p c = absurd c
-access_second (Release k) p c = absurd c
-access_second (Fork v) p c = absurd c
-access_second (Join v) p c = absurd c
-
 -- an access weighs 1, and is neither an acquire nor a release nor a join
 record Plain (o : Op) : Type 0 where
   weighs : weight o ≡ 1
@@ -81,10 +49,7 @@ record Plain (o : Op) : Type 0 where
 plain : (o : Op) → IsAccess o → Plain o
 plain (Load x) a = record { weighs = refl; acquires = refl; releases = refl; joins_none = λ u. refl }
 plain (Store x) a = record { weighs = refl; acquires = refl; releases = refl; joins_none = λ u. refl }
-plain (Acquire l) a = absurd a
-plain (Release l) a = absurd a
-plain (Fork u) a = absurd a
-plain (Join u) a = absurd a
+plain _ a = absurd a
 
 -- an access is legal where its thread has started, is not joined, and there is a slot
 allowed : (m : Limits) (log : List Event) (u : ThreadId) (o : Op) (site : SiteId) (arg : ℕ) → IsAccess o
@@ -94,10 +59,7 @@ allowed : (m : Limits) (log : List Event) (u : ThreadId) (o : Op) (site : SiteId
 unfolding refusal
 allowed m log u (Load x) site arg a p q r s t = rw (p, q, r, s, t) refl
 allowed m log u (Store x) site arg a p q r s t = rw (p, q, r, s, t) refl
-allowed m log u (Acquire l) site arg a p q r s t = absurd a
-allowed m log u (Release l) site arg a p q r s t = absurd a
-allowed m log u (Fork v) site arg a p q r s t = absurd a
-allowed m log u (Join v) site arg a p q r s t = absurd a
+allowed m log u _ site arg a p q r s t = absurd a
 
 -- what of an event's legality does not depend on the log
 record Stays (m : Limits) (log : List Event) (e : Event) : Type 0 where
@@ -288,6 +250,7 @@ room m log i j s e f formed at_i at_j a b ne w =
 neither : (b c : Bool) → b ≡ false → c ≡ false → (b || (c || false)) ≡ false
 neither b c p q = rw (p, q) refl
 
+-- the events of a witness, followed by its two accesses, are a well-formed log
 pub ends_formed : (m : Limits) (log : List Event) (i j : ℕ) (s : List ℕ) (e f : Event) → WellFormed m log
     → slice_get log i ≡ Some e → slice_get log j ≡ Some f → IsAccess e.op → IsAccess f.op → (i ≡ j → ⊥)
     → IsWitness m log i j s → WellFormed m (with_ends (events_at log s) e f)

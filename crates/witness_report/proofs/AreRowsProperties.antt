@@ -43,6 +43,7 @@ each_within m log races (row ∷ rows) all firsts each =
     (All-tail (λ (p : Pair). IsWithin log p.first) row.pair (pairs_in rows) firsts)
     (All-tail (IsRow m log races) row rows each))
 
+-- the race of each row is between events of the log
 pub rows_within : (m : Limits) (log : List Event) (verdicts : List Verdict) (races : List Race)
     (rows : List Row) → AreVerdicts log verdicts → races ≡ races_from 0 verdicts → AreRows m log races rows
     → All (λ (row : Row). IsWithin log (race_in row)) rows

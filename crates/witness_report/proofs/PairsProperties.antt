@@ -16,6 +16,7 @@ use Rattle.witness_report.specs.Pairs.{with_race}
 abbrev step : List Event → List Pair → Race → List Pair
 step log pairs r = with_race (sites_of log r) r pairs
 
+-- no races have no pairs
 pub pairs_of_none : (log : List Event) → pairs_of log [] ≡ []
 unfolding pairs_of
 pairs_of_none log = refl
@@ -26,6 +27,7 @@ pub pairs_of_more : (log : List Event) (rs : List Race) (n : ℕ) (d : Race) →
 unfolding pairs_of
 pairs_of_more log rs n d lt = sym (fold_more (step log) [] rs n d lt)
 
+-- the pairs of the races, one race more
 pub race_added : (log : List Event) (rs : List Race) (n : ℕ) (d : Race) {s : Sites} {old new : List Pair}
     → n < length rs → old ≡ pairs_of log (take n rs) → s ≡ sites_of log (get_or rs n d)
     → new ≡ with_race s (get_or rs n d) old → new ≡ pairs_of log (take (n + 1) rs)
@@ -53,6 +55,7 @@ with_race_all P Q s r ps keep more new all = go (position (λ p. same_sites p.si
 abbrev AtMost : ℕ → Pair → Type 0
 AtMost n p = p.races ≤ n
 
+-- no pair has more races than were counted
 pub few_races : (log : List Event) (rs : List Race) (n : ℕ) → n < length rs
     → All (AtMost n) (pairs_of log (take n rs)) → All (AtMost (n + 1)) (pairs_of log (take (n + 1) rs))
 few_races log rs n lt all =

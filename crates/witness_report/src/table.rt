@@ -1,13 +1,10 @@
 //! A line for each pair of locations of a report.
-ghost use Rattle.std.specs.Prelude.{◌≡◌, ◌≢◌, ◌++◌, Ok, Err, All, IfErr, IfOk, IfSome, IsTrue, OnErr};
-ghost use Rattle.std.specs.Prelude.{None, OnOk, true, false};
-ghost use Rattle.std.specs.Io.KnownBytes.{Appends};
+ghost use Rattle.std.specs.Prelude.{◌≡◌, ◌≢◌, Ok, Err, All, IfErr, IfOk, IfSome, IsTrue, None, true, false};
 ghost use Rattle.event_core.specs.Refusal.{WellFormed};
-ghost use Rattle.rapid_text.specs.Pages.{Puts};
-ghost use Rattle.trace_report.specs.Reports.{AreNamed, summary_line};
+ghost use Rattle.trace_report.specs.Reports.{AreNamed};
 ghost use Rattle.trace_report.specs.Replayed.{answer_gives_up};
 ghost use Rattle.witness_report.specs.Found.{AreRows, HasWitness, IsRow, IsShown, IsWithin, pairs_in};
-ghost use Rattle.witness_report.specs.Found.{race_in, row_line, row_lines, row_word};
+ghost use Rattle.witness_report.specs.Found.{race_in, row_line, row_word};
 ghost use Rattle.witness_report.specs.Showing.{HasAnswered, is_silent};
 
 use crate::pairs::{Pair, is_same, pairs_of, sites_of};
@@ -16,7 +13,7 @@ use event_core::{Limits, Log, OutOfMemory};
 use rapid_text::{Names, Output, Page, WriteFault};
 use seq_monitor::{Monitor, Race};
 use std::alloc::Global;
-use trace_report::{ReplayFault, Summary, put_count, put_race, put_summary};
+use trace_report::{Line, ReplayFault, Summary, put_count, put_race, write_lines};
 use witness::Searcher;
 
 /// At how many races of a pair of locations a witness is looked for.
@@ -117,72 +114,28 @@ fn find_rows(
     rows_of(alloc, &mut searcher, log, races, &pairs)
 }
 
-/// Puts the line of a row.
-fn put_row<W: Output>(
-    page: &mut Page,
-    writer: &mut W,
-    log: &Log,
-    names: &Names,
-    row: Row,
-) -> Result<(), WriteFault>
-    requires within { IsWithin log.now.events (race_in row) }
-    requires named { AreNamed names.now log.now.events }
-    ensures ok { OnOk result (Puts (W.written writer.old) page.old (W.written writer.new) page.new
-        (row_line names.now log.now.events row)) }
-    ensures healthy { OnOk result (W.failed writer.new ≡ W.failed writer.old) }
-    ensures failed { OnErr result (W.failed writer.new ≡ true) }
-{
-    put_count(page, writer, word_for(row.shown), row.pair.races)?;
-    page.put(writer, b" ")?;
-    put_race(
-        page,
-        writer,
-        log,
-        names,
-        row.shown.unwrap_or(row.pair.first),
-    )
-}
+impl<W: Output> Line<W> for Row {
+    ghost line = { row_line };
 
-/// Puts a line for each row.
-fn put_rows<W: Output>(
-    page: &mut Page,
-    writer: &mut W,
-    log: &Log,
-    names: &Names,
-    rows: &[Row],
-) -> Result<(), WriteFault>
-    requires within { All (λ row. IsWithin log.now.events (race_in row)) rows.now }
-    requires named { AreNamed names.now log.now.events }
-    ensures ok { OnOk result (Puts (W.written writer.old) page.old (W.written writer.new) page.new
-        (row_lines names.now log.now.events rows.now)) }
-    ensures healthy { OnOk result (W.failed writer.new ≡ W.failed writer.old) }
-    ensures failed { OnErr result (W.failed writer.new ≡ true) }
-{
-    for row in rows {
-        put_row(page, writer, log, names, *row)?;
+    ghost is_within = { λ log row. IsWithin log (race_in row) };
+
+    fn put(
+        &self,
+        page: &mut Page,
+        writer: &mut W,
+        log: &Log,
+        names: &Names,
+    ) -> Result<(), WriteFault> {
+        put_count(page, writer, word_for(self.shown), self.pair.races)?;
+        page.put(writer, b" ")?;
+        put_race(
+            page,
+            writer,
+            log,
+            names,
+            self.shown.unwrap_or(self.pair.first),
+        )
     }
-    Ok(())
-}
-
-/// Writes the line of counts and the rows.
-fn write_rows<W: Output>(
-    writer: &mut W,
-    log: &Log,
-    names: &Names,
-    summary: &Summary,
-    rows: &[Row],
-) -> Result<(), WriteFault>
-    requires within { All (λ row. IsWithin log.now.events (race_in row)) rows.now }
-    requires named { AreNamed names.now log.now.events }
-    ensures ok { OnOk result (Appends (W.written writer.old) (W.written writer.new)
-        (summary_line summary.now ++ row_lines names.now log.now.events rows.now)) }
-    ensures healthy { OnOk result (W.failed writer.new ≡ W.failed writer.old) }
-    ensures failed { OnErr result (W.failed writer.new ≡ true) }
-{
-    let mut page = Page::new();
-    put_summary(&mut page, writer, summary)?;
-    put_rows(&mut page, writer, log, names, rows)?;
-    page.flush(writer)
 }
 
 /// Writes the line of counts, and a line for each pair of locations of the report. Nothing is written where
@@ -209,7 +162,7 @@ pub fn show_pairs<W: Output>(
         return Ok(Shown::OutOfMemory);
     };
     let summary = Summary::of(log, verdicts, names);
-    let written = write_rows(writer, log, names, &summary, &rows);
+    let written = write_lines(writer, log, names, &summary, &rows);
     drop(rows);
     let Ok(()) = written else {
         return Err(ReplayFault::Write);

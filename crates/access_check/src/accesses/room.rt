@@ -6,8 +6,8 @@ ghost use Rattle.event_core.specs.Effect.{access_of};
 ghost use Rattle.access_check.specs.Tables.{IsReady, IsReadyAt, IsReadyToSwap, Grown, GrownFor};
 
 use crate::accesses::Accesses;
-use crate::tables::{grow_counts, prepare_at};
-use event_core::{AccessKind, Event, Op, OutOfMemory, ThreadId, VarId};
+use crate::tables::prepare_at;
+use event_core::{AccessKind, Event, Op, OutOfMemory, ThreadId, VarId, grow_to};
 
 impl Accesses {
     /// Makes room for the event, whose thread's number is within the limits. Nothing else changes.
@@ -49,7 +49,7 @@ impl Accesses {
         match op {
             Op::Load(var) => self.prepare_access(thread, var, AccessKind::Read),
             Op::Store(var) => self.prepare_access(thread, var, AccessKind::Write),
-            _ => grow_counts(&mut self.counts, thread.0 as usize + 1),
+            _ => grow_to(&mut self.counts, thread.0 as usize + 1, || 0),
         }
     }
 
@@ -65,7 +65,7 @@ impl Accesses {
         ensures room { OnOk result (IsReady self.new thread (access_of var kind)) }
         ensures again { IsReady self.old thread (access_of var kind) → IsOk result }
     {
-        grow_counts(&mut self.counts, thread.0 as usize + 1)?;
+        grow_to(&mut self.counts, thread.0 as usize + 1, || 0)?;
         prepare_at(&mut self.vars, self.alloc, var.0 as usize, thread, kind)
     }
 

@@ -1,5 +1,5 @@
 use Rattle.event_core.proofs.OrderlyProperties.{orderly}
-use Rattle.trace_laws.proofs.StrictIsWithinHb.{below_hb}
+use Rattle.event_core.proofs.StrictIsWithinHb.{below_hb}
 use Rattle.trace_laws.proofs.laws.hb_races_are_races.Goals as goal
 
 pub returns : goal.returns

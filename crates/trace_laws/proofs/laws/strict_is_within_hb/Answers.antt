@@ -1,5 +1,5 @@
 use Rattle.event_core.proofs.OrderlyProperties.{orderly}
-use Rattle.trace_laws.proofs.StrictIsWithinHb.{strict_hb}
+use Rattle.event_core.proofs.StrictIsWithinHb.{strict_hb}
 use Rattle.trace_laws.proofs.laws.strict_is_within_hb.Goals as goal
 
 pub returns : goal.returns

@@ -1,11 +1,11 @@
 use Rattle.std.proofs.Common.{ap, ◌∙◌}
 use Rattle.std.proofs.lemmas.List.{take_all}
 use Rattle.std.proofs.lemmas.Option.{slice_get-get_or}
-use Rattle.rapid_text.proofs.PutsProperties.{put_both, put_same}
+use Rattle.rapid_text.proofs.PutsProperties.{put_same}
 use Rattle.event_core.specs.declared.replies.Verdict.TheVariants.{Racy}
 use Rattle.verdict_list.specs.declared.verdicts.Race.{Race}
 use Rattle.trace_report.specs.Reports.{race_line}
-use Rattle.trace_report.proofs.Races.{lines_of, lines_at, races_lines, races_within}
+use Rattle.trace_report.proofs.Races.{lines_of, put_more, races_lines, races_within}
 use Rattle.trace_report.proofs.reporting.put_races.Goals as goal
 
 pub put_race-requires : goal.put_race-requires
@@ -16,10 +16,10 @@ put_race-requires g c =
 
 pub loop-race-preserved : goal.loop-race-preserved
 loop-race-preserved g c = record {
-  lines = put_same
-      (lines_at (λ (r : Race). race_line c.args.names.now c.args.log.now.events r.event (Racy r.with))
-      c.races-race-items.result.now c.loop-race.race-index _ c.loop-race-test.true)
-      (put_both c.loop-race.invariant.lines c.in_ok-put_race.ensures.ok);
+  lines =
+      put_more (λ (r : Race). race_line c.args.names.now c.args.log.now.events r.event (Racy r.with))
+      c.races-race-items.result.now c.loop-race.race-index _ c.loop-race-test.true
+      c.loop-race.invariant.lines c.in_ok-put_race.ensures.ok;
   healthy = c.in_ok-put_race.ensures.healthy ∙ c.loop-race.invariant.healthy;
 }
 

@@ -14,12 +14,12 @@ returns-in-Release-clause-threads c =
 
 pub returns-in-Fork-clause-threads : goal.returns-in-Fork-clause-threads
 returns-in-Fork-clause-threads c =
-    threads_by c.args.call.now.thread (locks_of c.args.locks.now) c.in-Fork.is c.fork.ensures.rows
+    threads_by c.args.call.now.thread (locks_of c.args.locks.now) c.in-Fork.is c.mention-in-Fork.ensures.rows
     c.mention.ensures.rows
 
 pub returns-in-Join-clause-threads : goal.returns-in-Join-clause-threads
 returns-in-Join-clause-threads c =
-    threads_by c.args.call.now.thread (locks_of c.args.locks.now) c.in-Join.is c.join.ensures.rows
+    threads_by c.args.call.now.thread (locks_of c.args.locks.now) c.in-Join.is c.mention-in-Join.ensures.rows
     c.mention.ensures.rows
 
 -- no thread's row was added or taken away
@@ -32,7 +32,7 @@ returns-in-Release-clause-below c below =
     rw (c.lose.ensures.same, c.mention.ensures.same) (c.lessen.ensures.below _ below)
 
 pub returns-in-Fork-clause-below : goal.returns-in-Fork-clause-below
-returns-in-Fork-clause-below c below = rw (c.fork.ensures.same, c.mention.ensures.same) below
+returns-in-Fork-clause-below c below = rw (c.mention-in-Fork.ensures.same, c.mention.ensures.same) below
 
 pub returns-in-Join-clause-below : goal.returns-in-Join-clause-below
-returns-in-Join-clause-below c below = rw (c.join.ensures.same, c.mention.ensures.same) below
+returns-in-Join-clause-below c below = rw (c.mention-in-Join.ensures.same, c.mention.ensures.same) below

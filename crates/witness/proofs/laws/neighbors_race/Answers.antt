@@ -4,7 +4,7 @@ use Rattle.event_core.specs.Log.{Conflict}
 use Rattle.event_core.specs.Orderly.{Orderly}
 use Rattle.event_core.specs.Verdict.{Races}
 use Rattle.event_core.proofs.OrderlyProperties.{orderly}
-use Rattle.trace_laws.proofs.StrictIsWithinHb.{below_hb}
+use Rattle.event_core.proofs.StrictIsWithinHb.{below_hb}
 use Rattle.witness.proofs.Neighbors.{unordered}
 use Rattle.witness.proofs.laws.neighbors_race.Goals as goal
 

@@ -1,4 +1,4 @@
-use Rattle.trace_laws.proofs.RepeatsProperties.{flipped}
+use Rattle.event_core.proofs.ConflictProperties.{flipped}
 use Rattle.witness.proofs.RaceAtEndProperties.{at_end, turned}
 use Rattle.witness.proofs.laws.shows_race.Goals as goal
 

@@ -7,12 +7,12 @@ use Rattle.witness_report.specs.Found.{IsWithin, race_in}
 use Rattle.witness_report.proofs.AreRowsProperties.{rows_within}
 use Rattle.witness_report.proofs.table.show_pairs.Goals as goal
 
-pub write_rows-written-requires-clause-named : goal.write_rows-written-requires-clause-named
-write_rows-written-requires-clause-named g c =
+pub write_lines-written-requires-clause-named : goal.write_lines-written-requires-clause-named
+write_lines-written-requires-clause-named g c =
     subst (λ (log : List Event). AreNamed c.args.names.now log) (sym c.log-log.ensures.log) c.requires.named
 
-pub write_rows-written-requires-clause-within : goal.write_rows-written-requires-clause-within
-write_rows-written-requires-clause-within g c =
+pub write_lines-written-requires-clause-within : goal.write_lines-written-requires-clause-within
+write_lines-written-requires-clause-within g c =
     let log = c.log-log.result.now.events in
     subst (All (λ (row : Row). IsWithin log (race_in row))) (sym c.deref.ensures.value)
     (rows_within c.limits.result log c.verdicts-verdicts.result.now.verdicts c.races.result.now

@@ -2,13 +2,12 @@
 use Rattle.std.proofs.Common.{◌≡◌, ℕ, ◌<◌, List, ◌⊎◌, subst, ◌∙◌, arith, take}
 use Rattle.std.proofs.lemmas.Bool.{cases_order}
 use mathlib.Core.Logic.{inl, inr}
-use Rattle.event_core.specs.declared.events.Event.{Event}
-use Rattle.event_core.specs.declared.events.Op.TheVariants.{Release}
+use Rattle.event_core.proofs.Words.{Event, Release}
 use Rattle.event_core.specs.Log.{Does, depth}
 use Rattle.event_core.specs.Order.{lock, Hb}
 use Rattle.event_core.specs.Orderly.{Orderly}
 use Rattle.event_core.specs.Wcp.{Meets, Strict, rule_a, rule_b, rule_c_left, rule_c_right, Below}
-use Rattle.event_core.proofs.OrderProperties.{chain_one, hb_trans, hb_of_po, hb_thread}
+use Rattle.event_core.proofs.OrderProperties.{chain_trans, chain_one, hb_trans, hb_of_po, hb_thread}
 use Rattle.event_core.proofs.LogProperties.{of_does, of_one, acquire_no_release, inside_opener}
 use Rattle.event_core.proofs.BelowProperties.{sections_ordered}
 
@@ -36,6 +35,7 @@ meets_hb {log = log} {r = r} {j = j} w m = go (cases_order r m.acquire)
         = w.held_at_release r m.in_section.thread m.lock m.in_section.section.closed.does in
         absurd (apart (w.one_holder r m.in_section.thread m.thread m.lock theirs mine))
 
+-- what strictly precedes an event happens before it
 pub strict_hb : {log : List Event} {i j : ℕ} → Orderly log → Strict log i j → Hb log i j
 strict_hb w (rule_a m) = meets_hb w m
 strict_hb w (rule_b l lt p q d) =
@@ -44,6 +44,13 @@ strict_hb w (rule_b l lt p q d) =
 strict_hb w (rule_c_left h d) = hb_trans h (strict_hb w d)
 strict_hb w (rule_c_right d h) = hb_trans (strict_hb w d) h
 
+-- what is below an event happens before it
 pub below_hb : {log : List Event} {i j : ℕ} → Orderly log → Below log i j → Hb log i j
 below_hb w (inl s) = strict_hb w s
 below_hb w (inr p) = hb_of_po p
+
+-- what is below an event, and happens before it, is below all that the event is below
+pub below_trans : {log : List Event} {i g j : ℕ} → Hb log i g → Below log i g → Below log g j → Below log i j
+below_trans h (inl s) (inr p) = inl (rule_c_right s (hb_of_po p))
+below_trans h (inr q) (inr p) = inr (chain_trans q p)
+below_trans h _ (inl d) = inl (rule_c_left h d)
