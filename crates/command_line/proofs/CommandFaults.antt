@@ -22,6 +22,7 @@ among p k (x ∷ xs) (inl is) h =
     rw here refl
 among p k (x ∷ xs) (inr a) h = rw (among p k xs a h) (or-true (p x))
 
+-- the fault is one that the words have where its kind is
 pub fault_is : (words : List Text) (e : Error) (f : UsageFault) → HasKind (faults_of words) e
     → TellsKind (kind_of e) f → IsFaultAt words f
 fault_is words e (faults.Help text) h k = elim h [
@@ -42,6 +43,7 @@ pub simple : is_simple wcp ≡ true
 unfolding wcp
 simple = refl
 
+-- the program wants a command
 pub needs_command : wcp.top.subcommand_required ≡ true
 unfolding wcp
 needs_command = refl
@@ -55,12 +57,14 @@ unfolding faults_of
 has_no_fault a words is h =
     sym (ap (λ (x : App). fault_of x words) is) ∙ h (ap is_simple_and_free is ∙ simple_and_free)
 
+-- the error of a parse is a fault of the words
 pub has_fault : (a : App) (words : List Text) (e : Error) → a ≡ wcp
     → (is_simple_and_free a ≡ true → HasKind (fault_of a words) e) → HasKind (faults_of words) e
 unfolding faults_of
 has_fault a words e is h =
     subst (λ (x : App). HasKind (fault_of x words) e) is (h (ap is_simple_and_free is ∙ simple_and_free))
 
+-- a parse met the command that the words name
 pub has_command : (a : App) (words : List Text) (m : ArgMatches) → a ≡ wcp → HasMatchesOf a words m
     → subcommand_rows_of m ≡ subcommand_of wcp words
 has_command a words m is has =

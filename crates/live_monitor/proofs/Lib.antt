@@ -1,5 +1,5 @@
 pub mod LogOfProperties
-mod AcquireWithinLaws
+mod RetryLaws
 mod RulesProperties
 mod StepsAdded
 mod MayFollowProperties

@@ -77,6 +77,7 @@ joined_among m all passes child formed fits j =
     let of : Fits all j.pass = all_at (Fits all) passes j.index j.pass fits j.at in
     stands_among m all child j.pass formed of.begins j.joined
 
+-- so all passes stand in one log
 pub one_log : (m : Limits) (s : State (Unit {0}) SeatView) (joined : List PassView) → IsPublished m s
     → AllByRecursion (IsJoinedIntoOne (passes_at s.views)) joined → IsOneLog m s joined
 one_log m s joined r into =

@@ -92,6 +92,7 @@ longest m p (q ∷ qs) is meet = go (longest m q qs is.1 meet.1)
           }
         ]
 
+-- so they stand in one log
 pub met_passes : (m : Limits) (passes : List PassView) → AllByRecursion (IsPass m) passes → AllMeet m passes
     → StandInOneLog m passes
 met_passes m [] is meet = record {

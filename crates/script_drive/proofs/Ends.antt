@@ -117,6 +117,7 @@ module _ {H : Type 0} (m : Limits) (ahead : Bool) (script : List ScriptLine)
     (len : length ends ≡ length handles)
     (kept : (i : ℕ) (d : WorkerEnd) → i < length handles → (h : H) × (h ≡ get_or handles i h)
     × HasEnded m ahead script admitted told (thread h) (get_or ends i d)) where
+  -- each halt is one of the script
   pub all_halts : All (λ end. IfErr end (IsHaltOf m ahead script)) ends
   all_halts k d lt = (kept k d (omega (arith, lt, len))).2.halt
 

@@ -130,9 +130,11 @@ module _ (t : ThreadId) (lines : List ScriptLine) (i : ℕ) (line : ScriptLine)
     pub own_left : lines_by t (drop i lines) ≡ line ∷ lines_by t (drop (i + 1) lines)
     own_left = left ∙ rw own refl
 
+    -- it is one of the thread
     pub own_thread : thread_of line ≡ t
     own_thread = same_thread_id (eqb-true (thread_of line).0 t.0 own)
 
+    -- its place among the thread's lines
     pub own_place : lines_by (thread_of line) lines
         ≡ lines_by t (take i lines) ++ line ∷ lines_by t (drop (i + 1) lines)
     own_place = ap (λ (u : ThreadId). lines_by u lines) own_thread
@@ -140,6 +142,7 @@ module _ (t : ThreadId) (lines : List ScriptLine) (i : ℕ) (line : ScriptLine)
         ∙ (filter-append (is_of t.0) (take i lines) (drop i lines)
         ∙ ap (λ (r : List ScriptLine). lines_by t (take i lines) ++ r) own_left))
 
+    -- once its call is accepted, one more line is done
     pub done_at : (p q : PassView) → HasDone t p (lines_by t (take i lines)) → Does line p q
         → HasDone t q (lines_by t (take (i + 1) lines))
     done_at p q h does = subst (HasDone t q) (sym own_taken)
@@ -154,6 +157,7 @@ module _ (t : ThreadId) (lines : List ScriptLine) (i : ℕ) (line : ScriptLine)
         (All-push (λ (l : ScriptLine). admitted (thread_of l) l.line × told (thread_of l) l.line)
         (lines_by t (take i lines)) line before (entered, done))
 
+    -- the links serve it and the lines after it
     pub next_line : (reach : Reach) → Serves reach (lines_by t (drop i lines))
         → Serves reach (line ∷ lines_by t (drop (i + 1) lines))
     next_line reach serves = subst (Serves reach) own_left serves
@@ -173,9 +177,11 @@ module _ (t : ThreadId) (lines : List ScriptLine) (i : ℕ) (line : ScriptLine)
 
   -- another thread's is passed over
   module _ (other : is_of t.0 line ≡ false) where
+    -- the lines before are the same
     pub other_taken : lines_by t (take (i + 1) lines) ≡ lines_by t (take i lines)
     other_taken = taken ∙ (rw other (append-nil (lines_by t (take i lines))))
 
+    -- the lines that are left are the same
     pub other_left : lines_by t (drop i lines) ≡ lines_by t (drop (i + 1) lines)
     other_left = left ∙ rw other refl
 

@@ -16,7 +16,7 @@ use Rattle.event_core.specs.declared.events.Act.TheVariants.{One, Swap}
 use Rattle.event_core.specs.declared.events.Call.{Call}
 use Rattle.event_core.specs.declared.events.Event.{Event}
 use Rattle.event_core.specs.declared.events.Op.{Op}
-use Rattle.event_core.specs.declared.events.Op.TheVariants.{Load, Join}
+use Rattle.event_core.specs.declared.events.Op.TheVariants.{Load, Fork, Join}
 use Rattle.event_core.specs.declared.bounds.Limits.{Limits}
 use Rattle.event_core.specs.declared.replies.Reply.{Reply}
 use Rattle.event_core.specs.declared.steps.Step.TheVariants.{One as OneStep}
@@ -25,7 +25,7 @@ use Rattle.event_core.specs.Refusal.{event_of, joins, op_joins, value_of}
 use Rattle.event_core.specs.Steps.{log_of, own_events}
 use Rattle.event_core.proofs.DepthProperties.{same_thread_id}
 use Rattle.event_core.proofs.StepsProperties.{log_of-snoc, not_both}
-use Rattle.live_monitor.specs.Calls.{call_by, join_by, Accepted, HasComeTo}
+use Rattle.live_monitor.specs.Calls.{call_by, join_by, names_thread, Accepted, HasComeTo}
 use Rattle.live_monitor.specs.Rules.{HasOwn, MayAdd, MayJoin, MaySwap}
 use Rattle.log_pass.specs.declared.views.PassView.{PassView}
 use Rattle.script_text.specs.declared.lines.ScriptLine.{ScriptLine}
@@ -42,6 +42,7 @@ nothing_ran script = record {
   whole = λ t test. absurd (cc test);
 }
 
+-- one more line asks for its events at the end
 pub asked-snoc : (lines : List ScriptLine) (l : ScriptLine)
     → asked (lines ++ l ∷ []) ≡ asked lines ++ asked_by l.act
 asked-snoc lines l = flat_map-append (λ (x : ScriptLine). asked_by x.act) lines (l ∷ [])
@@ -169,6 +170,18 @@ event_asked log l call t op arg act thread is same =
     (let e : Event = record { thread = own i; op = its i; site = call.site; value = value i } in e) ∷ [] in
     events ∙ sym (ap asked_by act)
 
+-- an operation that is no fork and no join names no thread
+pub names_none : (op : Op) → ((u : ThreadId) → op ≡ Fork u → ⊥) → ((u : ThreadId) → op ≡ Join u → ⊥)
+    → names_thread op ≡ false
+names_none (Fork u) fork join = absurd (fork u refl)
+names_none (Join u) fork join = absurd (join u refl)
+names_none _ fork join = refl
+
+-- one that is no join joins no thread
+pub joins_none : (op : Op) → ((u : ThreadId) → op ≡ Join u → ⊥) → (u : ThreadId) → op_joins u op ≡ false
+joins_none (Join v) join u = absurd (join v refl)
+joins_none _ join u = refl
+
 -- the one who is joined made all its lines
 joined_all : (script : List ScriptLine) (log : List Event) (u v : ThreadId) (child : PassView)
     → Done script u child → HasOwn child log → (nat_eq child.thread.0 v.0 || false) ≡ true
@@ -190,6 +203,7 @@ module _ {m : Limits} {script : List ScriptLine} {l : ScriptLine} {p : PassView}
     thread : thread_of l ≡ p.thread
     thread = sym next.done.thread
 
+    -- a line's call that joins nobody adds to a run of the script
     pub may_add : {call : Call} {op : Op} (arg : ℕ) → l.act ≡ One call → call.op ≡ op
         → given op call.arg ≡ given op arg → ((u : ThreadId) → op_joins u op ≡ false)
         → MayAdd (IsRunOf script) p (call_by p.thread op call.site arg)
@@ -198,6 +212,7 @@ module _ {m : Limits} {script : List ScriptLine} {l : ScriptLine} {p : PassView}
         (refl, tt) (event_asked log l call p.thread op arg act thread is same)
         (λ u test. absurd (not_both _ test (ap (λ (b : Bool). b || false) (none u))))
 
+    -- so does its swap
     pub may_swap : {t : ThreadId} {x : VarId} {site : SiteId} {arg : ℕ} → l.act ≡ Swap t x site arg
         → MaySwap (IsRunOf script) p x site arg
     may_swap {x = x} {site = site} {arg = arg} act log own run =
@@ -208,6 +223,7 @@ module _ {m : Limits} {script : List ScriptLine} {l : ScriptLine} {p : PassView}
         (swap_load log p.thread x site ∷ swap_store p.thread x site arg ∷ []) own run (refl, (refl, tt)) asks
         (λ u test. absurd (cc test))
 
+    -- so does its join, by a pass of the child that made all its lines
     pub may_join : {call : Call} {u : ThreadId} {child : PassView} → l.act ≡ One call → call.op ≡ Join u
         → Done script u child → MayJoin (IsRunOf script) p child (join_by p.thread child.thread call.site)
     may_join {call} {u} {child} act op done log own its run =

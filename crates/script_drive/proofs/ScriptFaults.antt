@@ -1,7 +1,7 @@
 -- The faults of workers are those of lines of the script.
 use Rattle.std.proofs.Common.{◌≡◌, ℕ, ◌+◌, ◌<◌, ◌≤◌, List, ◌∷◌, Some, refl, sym, ap, ◌∙◌, subst, length}
 use Rattle.std.proofs.Common.{get_or, take, drop, arith}
-use Rattle.std.specs.Prelude.{[], Bool, true, Option, None, IfErr, IfSome, IsErrAnd, Result, Ok, Err}
+use Rattle.std.specs.Prelude.{[], Bool, true, false, Option, None, IfErr, IfSome, IsErrAnd, Result, Ok, Err}
 use Rattle.std.specs.List.{All, Contains}
 use Rattle.std.proofs.lemmas.Bool.{false≢true}
 use Rattle.std.proofs.lemmas.List.Elements.{All-contains, All-more, All-weaker, Contains-get_or}
@@ -167,6 +167,11 @@ module _ {m : Limits} {script : List ScriptLine} {l : ScriptLine} {p q : PassVie
         );
       }
 
+-- an operation that is no acquire
+pub acquires_none : (op : Op) → ((l : LockId) → op ≡ Acquire l → ⊥) → op_is_acquire op ≡ false
+acquires_none (Acquire l) acquire = absurd (acquire l refl)
+acquires_none _ acquire = refl
+
 -- a line that joins has to wait after what its pass has seen
 pub join_waits : {m : Limits} {script : List ScriptLine} {l : ScriptLine} {p : PassView} {call : Call}
     {u : ThreadId} → IsNext m script l p → l.act ≡ One call → call.op ≡ Join u → HasToWait m script l
@@ -223,12 +228,14 @@ answer_fits m ahead script (NotForked n) None f is fits answer =
 
 -- ---- the lines of a thread
 
+-- each line that is met is one of the script
 pub line_at : (script lines : List ScriptLine) (i : ℕ) (line : ScriptLine) → line ≡ get_or lines i line
     → lines ≡ script → i < length lines → Contains script line
 line_at script lines i line is same lt =
     subst (λ (s : List ScriptLine). Contains s line) same
     (subst (Contains lines) (sym is) (Contains-get_or lines i line lt))
 
+-- a line of the pass's thread is its next
 pub next_at : {m : Limits} (script lines : List ScriptLine) (t : ThreadId) (p : PassView) (i : ℕ)
     (line : ScriptLine)
     → line ≡ get_or lines i line → lines ≡ script → i < length lines → is_of t.0 line ≡ true

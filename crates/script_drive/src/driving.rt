@@ -13,11 +13,11 @@ ghost use Rattle.script_drive.specs.Lines.{lines_by, AllMadeFrom, Follows, IsJoi
 ghost use Rattle.script_drive.specs.Runs.{IsRunOf};
 ghost use Rattle.script_drive.specs.Workers.{Done, Serves};
 
+use crate::drive_names::{DriveName, RunsScript};
 use crate::faults::{DriveFault, Halt, first_fault};
 use crate::gate::Gate;
 use crate::lines::{Drive, run_lines};
 use crate::links::Links;
-use crate::text::{RunsScript, Text};
 use crate::workers::{OwnLinks, Worker, all_workers};
 use event_core::{Limits, ThreadId};
 use live_monitor::{Closed, Shared, Unnamed, start_under};
@@ -35,12 +35,12 @@ type WorkerEnd<S> = Result<Option<Pass<S>>, Halt>;
 
 // What a worker of the thread promises of its end: all its lines are done, or this is why it ended before.
 #[derive(Drop)]
-struct EndOf<S: Text, G: Gate> {
+struct EndOf<S: DriveName, G: Gate> {
     thread: ThreadId,
     of: PhantomData<(S, G)>,
 }
 
-impl<S: Text, G: Gate> Promise<WorkerEnd<S>> for EndOf<S, G> {
+impl<S: DriveName, G: Gate> Promise<WorkerEnd<S>> for EndOf<S, G> {
     ghost use Rattle.script_drive.specs.Ends.{HasEnded};
 
     ghost kept_by = { λ of end.
@@ -50,7 +50,10 @@ impl<S: Text, G: Gate> Promise<WorkerEnd<S>> for EndOf<S, G> {
 // Waits for the thread's pass, makes the calls of its lines, and sends the pass to who joins the thread. A
 // worker that ends before its lines do lets its ends go, which tells those that wait for it.
 #[tactic(auto, using(crate::proofs::HasDoneProperties::own_first))]
-fn work<S: Text, G: Gate, R: Wait>(drive: &Drive<'_, S, G, R>, worker: Worker<S>) -> WorkerEnd<S>
+fn work<S: DriveName, G: Gate, R: Wait>(
+    drive: &Drive<'_, S, G, R>,
+    worker: Worker<S>,
+) -> WorkerEnd<S>
     ensures { HasEnded S.limits S.ahead S.lines G.admitted G.told worker.own.thread result }
 {
     let Worker {
@@ -75,7 +78,7 @@ fn work<S: Text, G: Gate, R: Wait>(drive: &Drive<'_, S, G, R>, worker: Worker<S>
 }
 
 // Starts the workers, if all can be started.
-fn start_workers<'s, 'e, S: Text + Send + Sync, G: Gate + Sync, R: Threads + Wait + Sync>(
+fn start_workers<'s, 'e, S: DriveName + Send + Sync, G: Gate + Sync, R: Threads + Wait + Sync>(
     scope: &'s Scope<'s, &'e ()>,
     drive: &'s Drive<'s, S, G, R>,
     alloc: Global,
@@ -103,7 +106,10 @@ fn start_workers<'s, 'e, S: Text + Send + Sync, G: Gate + Sync, R: Threads + Wai
 }
 
 // Adds the worker's own fault, if it ended by one.
-fn add_fault<S: Text>(faults: &mut Vec<DriveFault>, end: &WorkerEnd<S>) -> Result<(), AllocError>
+fn add_fault<S: DriveName>(
+    faults: &mut Vec<DriveFault>,
+    end: &WorkerEnd<S>,
+) -> Result<(), AllocError>
     ensures { OnOk result
         (faults.new.items ≡ faults.old.items ++ filter_map end_fault (end.now ∷ [])) }
 {
@@ -116,7 +122,10 @@ fn add_fault<S: Text>(faults: &mut Vec<DriveFault>, end: &WorkerEnd<S>) -> Resul
 }
 
 // The workers' own faults.
-fn own_faults<S: Text>(alloc: Global, ends: &[WorkerEnd<S>]) -> Result<Vec<DriveFault>, AllocError>
+fn own_faults<S: DriveName>(
+    alloc: Global,
+    ends: &[WorkerEnd<S>],
+) -> Result<Vec<DriveFault>, AllocError>
     ensures { IfOk result (λ faults. faults.items ≡ filter_map end_fault ends.now) }
 {
     let mut faults = Vec::new(alloc);
@@ -128,7 +137,7 @@ fn own_faults<S: Text>(alloc: Global, ends: &[WorkerEnd<S>]) -> Result<Vec<Drive
 
 // Thread 0's last pass, or the fault that is answered, where the other workers have these faults.
 #[tactic(auto, using(crate::proofs::ScriptFaults::answered_by))]
-fn outcome<S: Text>(
+fn outcome<S: DriveName>(
     main: Result<Pass<S>, Halt>,
     faults: &[DriveFault],
 ) -> Result<Pass<S>, DriveFault>
@@ -148,7 +157,7 @@ fn outcome<S: Text>(
 
 // Thread 0's pass once it has met the last passes of the other workers. Where none of them has a fault of its
 // own, none ended by a halt, so no fault is answered here. No clause tells so.
-fn meet_all<S: Text>(
+fn meet_all<S: DriveName>(
     shared: &Shared<S, RunsScript<S>>,
     pass: Pass<S>,
     ends: Vec<WorkerEnd<S>>,
@@ -172,7 +181,7 @@ fn meet_all<S: Text>(
 
 // Thread 0's last pass, which has met those of the other workers, or the fault that is answered.
 #[tactic(auto, using(crate::proofs::Ends::finished))]
-fn finish<S: Text>(
+fn finish<S: DriveName>(
     shared: &Shared<S, RunsScript<S>>,
     alloc: Global,
     main_end: Result<Pass<S>, Halt>,
@@ -195,7 +204,7 @@ fn finish<S: Text>(
 
 // Each thread makes the calls of its lines, in a worker of its own. The pass and the links are thread 0's.
 #[tactic(auto, using(crate::proofs::HasDoneProperties::main_first))]
-fn run_all<S: Text + Send + Sync, G: Gate + Sync, R: Threads + Wait + Sync>(
+fn run_all<S: DriveName + Send + Sync, G: Gate + Sync, R: Threads + Wait + Sync>(
     drive: &Drive<'_, S, G, R>,
     alloc: Global,
     pass: Pass<S>,
@@ -237,7 +246,7 @@ fn run_all<S: Text + Send + Sync, G: Gate + Sync, R: Threads + Wait + Sync>(
 
 // Runs the script over a monitor that has a name.
 #[tactic(auto, using(crate::proofs::IsRunOfProperties::nothing_ran))]
-fn drive_in<S: Text + Send + Sync, G: Gate + Sync, R: Threads + Wait + Sync>(
+fn drive_in<S: DriveName + Send + Sync, G: Gate + Sync, R: Threads + Wait + Sync>(
     rt: &R,
     alloc: Global,
     script: &Script,

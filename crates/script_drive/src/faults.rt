@@ -4,7 +4,7 @@ ghost use Rattle.live_monitor.specs.Tries.{AreUsedUp};
 ghost use Rattle.script_drive.specs.Faults.{own_fault, rank, refused_at, stuck_at, HasToWait};
 ghost use Rattle.script_drive.specs.Faults.{IsAnswer, IsEarlier, IsFirst, IsHaltOf};
 
-use crate::text::Text;
+use crate::drive_names::DriveName;
 use event_core::{Refusal, ThreadId};
 use live_monitor::Tries;
 use log_pass::Name;
@@ -103,7 +103,7 @@ pub(crate) enum Halt {
 
 impl Halt {
     /// The line was tried as often as patience allows, as its tries show.
-    pub(crate) fn stuck<S: Text>(line: &ScriptLine, tries: &Tries) -> Halt
+    pub(crate) fn stuck<S: DriveName>(line: &ScriptLine, tries: &Tries) -> Halt
         requires line { Contains S.lines line.now }
         requires patience { tries.now.most ≡ S.patience }
         requires used_up { AreUsedUp tries.now }

@@ -13,12 +13,12 @@
 //! It is not proved that a drive returns, nor which of the script's faults it meets.
 #![tactic(auto)]
 
+mod drive_names;
 mod driving;
 mod faults;
 mod gate;
 mod lines;
 mod links;
-mod text;
 mod workers;
 
 pub use driving::drive;

@@ -10,10 +10,10 @@ ghost use Rattle.script_drive.specs.Ends.{PassedGate};
 ghost use Rattle.script_drive.specs.Lines.{lines_by};
 ghost use Rattle.script_drive.specs.Workers.{Does, Done, IsFirst, SawRun, Serves};
 
+use crate::drive_names::{DriveName, LastPasses, RunsScript};
 use crate::faults::{DriveFault, Halt};
 use crate::gate::Gate;
 use crate::links::Links;
-use crate::text::{LastPasses, RunsScript, Text};
 use event_core::{Act, Op, Refusal, Reply};
 use live_monitor::{Shared, Tries};
 use log_pass::{Name, Pass};
@@ -23,7 +23,7 @@ use std::sync::Wait;
 
 /// What the workers of a drive share.
 #[derive(Drop)]
-pub(crate) struct Drive<'a, S: Text, G: Gate, R> {
+pub(crate) struct Drive<'a, S: DriveName, G: Gate, R> {
     pub rt: &'a R,
     pub shared: &'a Shared<S, RunsScript<S>>,
     pub script: &'a Script,
@@ -35,7 +35,10 @@ pub(crate) struct Drive<'a, S: Text, G: Gate, R> {
 }
 
 // Asks the gate for the line, as often as patience allows.
-fn enter<S: Text, G: Gate, R>(drive: &Drive<'_, S, G, R>, line: &ScriptLine) -> Result<(), Halt>
+fn enter<S: DriveName, G: Gate, R>(
+    drive: &Drive<'_, S, G, R>,
+    line: &ScriptLine,
+) -> Result<(), Halt>
     requires line { Contains S.lines line.now }
     ensures admitted { IfOk result (λ _. G.admitted (thread_of line.now) line.now.line) }
     ensures halt { IfErr result (IsHaltOf S.limits S.ahead S.lines) }
@@ -50,7 +53,7 @@ fn enter<S: Text, G: Gate, R>(drive: &Drive<'_, S, G, R>, line: &ScriptLine) -> 
 }
 
 // Looks for the pass of the thread that the line joins, as often as patience allows.
-fn await_end<S: Text, G: Gate, R: Wait>(
+fn await_end<S: DriveName, G: Gate, R: Wait>(
     drive: &Drive<'_, S, G, R>,
     receiver: PassReceiver<S, LastPasses<S>>,
     line: &ScriptLine,
@@ -97,7 +100,7 @@ fn answered<N: Name, T: Drop>(
 }
 
 // The call of one line.
-fn make_call<S: Text, G: Gate, R: Wait>(
+fn make_call<S: DriveName, G: Gate, R: Wait>(
     drive: &Drive<'_, S, G, R>,
     pass: Pass<S>,
     line: &ScriptLine,
@@ -114,8 +117,6 @@ fn make_call<S: Text, G: Gate, R: Wait>(
     let Drive { rt, shared, .. } = *drive;
     match line.act {
         Act::One(call) => match call.op {
-            Op::Load(var) => answered(line, shared.load(rt, pass, var, call.site)),
-            Op::Store(var) => answered(line, shared.store(rt, pass, var, call.arg, call.site)),
             Op::Acquire(lock) => {
                 let mut tries = Tries::of(drive.patience);
                 let (pass, answer) = shared.acquire_within(rt, pass, lock, call.site, &mut tries);
@@ -124,7 +125,6 @@ fn make_call<S: Text, G: Gate, R: Wait>(
                 }
                 answered(line, (pass, answer))
             }
-            Op::Release(lock) => answered(line, shared.release(rt, pass, lock, call.site)),
             Op::Fork(_) => {
                 let sender = links.next_fork();
                 match shared.fork(rt, pass, sender.to, call.site) {
@@ -145,13 +145,14 @@ fn make_call<S: Text, G: Gate, R: Wait>(
                     }
                 }
             }
+            op => answered(line, shared.perform(rt, pass, op, call.arg, call.site)),
         },
         Act::Swap { var, site, arg, .. } => answered(line, shared.swap(rt, pass, var, arg, site)),
     }
 }
 
 /// Makes the calls of the pass's thread, in the order of its lines.
-pub(crate) fn run_lines<S: Text, G: Gate, R: Wait>(
+pub(crate) fn run_lines<S: DriveName, G: Gate, R: Wait>(
     drive: &Drive<'_, S, G, R>,
     pass: Pass<S>,
     links: &mut Links<S>,

@@ -1,7 +1,7 @@
 //! The ends of channels by which a worker reaches the threads that it forks and joins.
 ghost use Rattle.std.specs.Prelude.{◌≡◌, ◌<◌, ◌∷◌, ◌++◌, [], length, OnErr, OnOk};
 
-use crate::text::{FirstPasses, LastPasses, Text};
+use crate::drive_names::{DriveName, FirstPasses, LastPasses};
 use event_core::ThreadId;
 use log_pass::Name;
 use pass_channel::{PassReceiver, PassSender};
@@ -9,19 +9,19 @@ use std::alloc::{AllocError, Global};
 use std::marker::Model;
 
 /// A worker's ends, in the order of its lines. Contracts see whom it is still to fork, and whom to join.
-pub(crate) struct Links<S: Text> {
+pub(crate) struct Links<S: DriveName> {
     forks: Vec<PassSender<S, FirstPasses<S>>>,
     joins: Vec<PassReceiver<S, LastPasses<S>>>,
 }
 
 // By hand, so that each function that drops one does not drop both queues.
-impl<S: Text> Drop for Links<S> {
+impl<S: DriveName> Drop for Links<S> {
     fn drop(self) {
         let Links { forks: _, joins: _ } = self;
     }
 }
 
-impl<S: Text> Model for Links<S> {
+impl<S: DriveName> Model for Links<S> {
     ghost use Rattle.std.specs.Prelude.{map};
     ghost use Rattle.script_drive.specs.Workers.{Reach};
 
@@ -33,7 +33,7 @@ impl<S: Text> Model for Links<S> {
     } };
 }
 
-impl<S: Text> Links<S> {
+impl<S: DriveName> Links<S> {
     pub(crate) fn new(alloc: Global) -> Links<S>
         ensures forks { result.forks ≡ [] }
         ensures joins { result.joins ≡ [] }

@@ -7,8 +7,8 @@ ghost use Rattle.script_drive.specs.Faults.{IsForkLine};
 ghost use Rattle.script_drive.specs.Lines.{lines_by, IsJoined};
 ghost use Rattle.script_drive.specs.Workers.{forked, is_link, joined, Serves};
 
+use crate::drive_names::{DriveName, FirstPasses, LastPasses};
 use crate::links::Links;
-use crate::text::{FirstPasses, LastPasses, Text};
 use event_core::ThreadId;
 use log_pass::Name;
 use pass_channel::{PassReceiver, PassSender, pass_channel};
@@ -19,12 +19,12 @@ use std::marker::{Model, PhantomData};
 /// A thread and its links before its first line. Contracts see the thread, and whom the links reach: just
 /// those whom the thread's lines fork and join.
 #[derive(Drop)]
-pub(crate) struct OwnLinks<S: Text> {
+pub(crate) struct OwnLinks<S: DriveName> {
     pub thread: ThreadId,
     pub links: Links<S>,
 }
 
-impl<S: Text> Model for OwnLinks<S> {
+impl<S: DriveName> Model for OwnLinks<S> {
     ghost use Rattle.script_drive.specs.Lines.{lines_by, IsJoined};
     ghost use Rattle.script_drive.specs.Workers.{OwnReach, Serves};
 
@@ -37,7 +37,7 @@ impl<S: Text> Model for OwnLinks<S> {
 
 /// The number of a line of the script that forks a thread.
 #[derive(Drop)]
-pub(crate) struct ForkLine<S: Text> {
+pub(crate) struct ForkLine<S: DriveName> {
     pub number: u64,
     script: PhantomData<S>,
     ghost forks: { IsForkLine S.lines number },
@@ -45,14 +45,14 @@ pub(crate) struct ForkLine<S: Text> {
 
 /// Where a worker's first pass comes from, and the line that forks its thread.
 #[derive(Drop)]
-pub(crate) struct Start<S: Text> {
+pub(crate) struct Start<S: DriveName> {
     pub receiver: PassReceiver<S, FirstPasses<S>>,
     pub line: ForkLine<S>,
 }
 
 /// A thread that a line of the script joins.
 #[derive(Drop)]
-pub(crate) struct JoinTarget<S: Text> {
+pub(crate) struct JoinTarget<S: DriveName> {
     pub thread: ThreadId,
     script: PhantomData<S>,
     ghost joins: { IsJoined S.lines thread },
@@ -60,7 +60,7 @@ pub(crate) struct JoinTarget<S: Text> {
 
 /// Where the last pass of a thread goes that a line joins.
 #[derive(Drop)]
-pub(crate) struct End<S: Text> {
+pub(crate) struct End<S: DriveName> {
     pub sender: PassSender<S, LastPasses<S>>,
     pub target: JoinTarget<S>,
     ghost same: { sender.to ≡ target.thread },
@@ -68,7 +68,7 @@ pub(crate) struct End<S: Text> {
 
 /// A worker that is not started yet. Its last pass goes to the worker that joins it, if one does.
 #[derive(Drop)]
-pub(crate) struct Worker<S: Text> {
+pub(crate) struct Worker<S: DriveName> {
     pub own: OwnLinks<S>,
     pub start: Start<S>,
     pub end: Option<End<S>>,
@@ -93,12 +93,12 @@ fn link_lines(alloc: Global, script: &Script) -> Result<Vec<ScriptLine>, AllocEr
 
 // The ends of channels that no worker has yet.
 #[derive(Drop)]
-struct UnclaimedEnds<S: Text> {
+struct UnclaimedEnds<S: DriveName> {
     forks: Vec<PassSender<S, FirstPasses<S>>>,
     ends: Vec<End<S>>,
 }
 
-impl<S: Text> UnclaimedEnds<S> {
+impl<S: DriveName> UnclaimedEnds<S> {
     // Makes the channel for the thread that the line forks, if it forks one.
     fn add_start(
         &mut self,
@@ -274,7 +274,7 @@ impl<S: Text> UnclaimedEnds<S> {
 }
 
 /// Thread 0's links, and a worker for each thread that a line forks.
-pub(crate) fn all_workers<S: Text>(
+pub(crate) fn all_workers<S: DriveName>(
     alloc: Global,
     script: &Script,
 ) -> Result<(Links<S>, Vec<Worker<S>>), AllocError>

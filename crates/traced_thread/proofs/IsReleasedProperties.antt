@@ -1,7 +1,7 @@
 -- A thread that holds a lock holds it still where its pass has no step more, and may release it.
 use Rattle.std.proofs.Common.{◌≡◌, ℕ, ◌<◌, ◌-◌, List, [], ◌∷◌, Bool, true, false, Some, ◌&&◌}
 use Rattle.std.proofs.Common.{refl, sym, ap, ap₂, subst, ◌∙◌, arith, take, length, cond, nat_eq, count_by}
-use Rattle.std.proofs.Common.{if◌then◌else◌, Result, Ok, Err, IfOk, IfErr}
+use Rattle.std.proofs.Common.{if◌then◌else◌, Result, Ok, Err, IfErr}
 use mathlib.Core.Logic.{inl, inr}
 use Rattle.std.proofs.lemmas.Bool.{cond-false}
 use Rattle.std.proofs.lemmas.List.Sums.{sum_by-cons}
@@ -21,7 +21,7 @@ use Rattle.event_core.specs.Steps.{log_of, own_events}
 use Rattle.event_core.proofs.HolderLaw.{holder_refusal}
 use Rattle.event_core.proofs.OrderlyProperties.{held_last, holder_depth, holder_is}
 use Rattle.log_pass.specs.declared.views.PassView.{PassView}
-use Rattle.live_monitor.specs.Calls.{release_by, Accepted, Declined, HasComeTo}
+use Rattle.live_monitor.specs.Calls.{release_by, Answers, HasComeTo}
 use Rattle.traced_thread.specs.Sections.{HoldsLock, HasEnded, IsReleased}
 
 -- what is counted of a thread's events alone is counted in its own
@@ -91,22 +91,21 @@ only_ended {m} {before} {after} l site answer later mine why holds =
     go true joined is = record { answer = cc; joined = joined }
     go false joined is = absurd (cc)
 
+-- the same of what a release answers
 pub holder_has_ended : {m : Limits} {before after : PassView} (l : LockId) (site : SiteId)
-    (r : Result Reply Refusal) → HasComeTo m before after
-    → IfErr r (λ answer. Declined m (release_by before.thread l site) before after answer)
+    (r : Result Reply Refusal) → Answers m (release_by before.thread l site) before after r
     → IfErr r (λ answer. refusal m (log_of after.seen) (release_by before.thread l site) ≡ Some answer)
     → IfErr r (λ answer. HoldsLock m l before → HasEnded before.thread after answer)
-holder_has_ended l site (Ok reply) later declined why = tt
-holder_has_ended l site (Err answer) later declined why = only_ended l site answer later declined.mine why
+holder_has_ended l site (Ok reply) answers why = tt
+holder_has_ended l site (Err answer) answers why =
+    only_ended l site answer answers.later answers.declined.mine why
 
 -- what a release answers is the end of a section
 pub is_released : {m : Limits} {before after : PassView} (l : LockId) (site : SiteId)
-    (r : Result Reply Refusal)
-    → IfOk r (λ reply. Accepted m (release_by before.thread l site) before after reply)
-    → IfErr r (λ answer. Declined m (release_by before.thread l site) before after answer)
+    (r : Result Reply Refusal) → Answers m (release_by before.thread l site) before after r
     → IfErr r (λ answer. refusal m (log_of after.seen) (release_by before.thread l site) ≡ Some answer)
     → IfErr r (λ answer. HoldsLock m l before → HasEnded before.thread after answer)
     → IsReleased m l site before after
-is_released l site (Ok reply) accepted declined why ended = inl (reply, accepted)
-is_released l site (Err answer) accepted declined why ended =
-    inr (record { mine = declined.mine; answer = answer; why = why; ended = ended })
+is_released l site (Ok reply) answers why ended = inl (reply, answers.accepted)
+is_released l site (Err answer) answers why ended =
+    inr (record { mine = answers.declined.mine; answer = answer; why = why; ended = ended })

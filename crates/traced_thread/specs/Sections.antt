@@ -41,14 +41,17 @@ module _ {N R : Type 0} where
   abbrev pub IsSectionOf : LockId → SiteId → Section N R → Type 0
   IsSectionOf l site s = (lock_of s ≡ l) × (site_of s ≡ site)
 
+  -- the pass's thread began it as a section of the lock: the acquire at the site was accepted
+  pub record HasBegun (m : Limits) (l : LockId) (site : SiteId) (before : PassView) (s : Section N R)
+      : Type 0 where
+    pub is : IsSectionOf l site s
+    pub later : HasComeTo m before (pass_of s)
+    pub reply : Reply
+    pub accepted : Accepted m (acquire_by before.thread l site) before (pass_of s) reply
+
 -- what a section that ended leaves of its handle
 abbrev pub left_of : {A B : Type 0} → A × (MutBor PassView × B) → PassView
 left_of x = x.1.0.now
-
--- the acquire of the lock was accepted
-abbrev pub IsAcquired : Limits → LockId → SiteId → PassView → PassView → Type 0
-IsAcquired m l site before after =
-    (reply : Reply) × Accepted m (acquire_by before.thread l site) before after reply
 
 -- the pass has come to what it then was, and the acquire of the lock was not accepted
 pub record IsRefused (m : Limits) (l : LockId) (site : SiteId) (before after : PassView) (answer : Refusal)

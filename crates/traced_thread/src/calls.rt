@@ -1,9 +1,7 @@
 //! Accesses and locks.
-ghost use Rattle.std.specs.Prelude.{◌≡◌, ◌≤◌, Some, IfOk, IfErr};
+ghost use Rattle.std.specs.Prelude.{◌≡◌, Some, IfErr};
 ghost use Rattle.event_core.specs.Refusal.{refusal};
 ghost use Rattle.event_core.specs.Steps.{log_of};
-ghost use Rattle.event_core.specs.declared.ids.ThreadId.{ThreadId};
-ghost use Rattle.event_core.specs.declared.replies.Refusal.TheVariants.{Held};
 ghost use Rattle.event_core.specs.declared.events.Act.TheVariants.{Swap as SwapAct};
 ghost use Rattle.event_core.specs.declared.replies.Done.TheVariants.{Swap as Swapped};
 ghost use Rattle.live_monitor.specs.Calls.{
@@ -11,13 +9,10 @@ ghost use Rattle.live_monitor.specs.Calls.{
   store_by,
   acquire_by,
   release_by,
-  Accepted,
-  AcceptedAct,
-  Declined,
-  DeclinedAct,
-  HasComeTo,
+  Answers,
+  AnswersAct,
 };
-ghost use Rattle.live_monitor.specs.Tries.{one_more, AreUsedUp};
+ghost use Rattle.live_monitor.specs.Tries.{CountsTries};
 ghost use Rattle.traced_thread.specs.Sections.{HoldsLock, HasEnded};
 
 use crate::handle::{TracedThread, take};
@@ -30,11 +25,7 @@ impl<'m, N: Name> TracedThread<'m, N> {
     /// Loads the variable: the reply has the last value that was stored to it, or 0.
     #[inline(always)]
     pub fn load<R: Wait>(&mut self, rt: &R, var: VarId, site: SiteId) -> Result<Reply, Refusal>
-        ensures later { HasComeTo N.limits self.old self.new }
-        ensures accepted { IfOk result
-            (λ reply. Accepted N.limits (load_by self.old.thread var site) self.old self.new reply) }
-        ensures declined { IfErr result
-            (λ answer. Declined N.limits (load_by self.old.thread var site) self.old self.new answer) }
+        ensures { Answers N.limits (load_by self.old.thread var site) self.old self.new result }
     {
         let (pass, answer) = self.monitor.load(rt, take(&mut self.pass), var, site);
         self.pass = Some(pass);
@@ -50,11 +41,7 @@ impl<'m, N: Name> TracedThread<'m, N> {
         value: u64,
         site: SiteId,
     ) -> Result<Reply, Refusal>
-        ensures later { HasComeTo N.limits self.old self.new }
-        ensures accepted { IfOk result (λ reply.
-            Accepted N.limits (store_by self.old.thread var value site) self.old self.new reply) }
-        ensures declined { IfErr result (λ answer.
-            Declined N.limits (store_by self.old.thread var value site) self.old self.new answer) }
+        ensures { Answers N.limits (store_by self.old.thread var value site) self.old self.new result }
     {
         let (pass, answer) = self
             .monitor
@@ -71,11 +58,8 @@ impl<'m, N: Name> TracedThread<'m, N> {
         value: u64,
         site: SiteId,
     ) -> Result<SwapReply, Refusal>
-        ensures later { HasComeTo N.limits self.old self.new }
-        ensures accepted { IfOk result (λ reply.
-            AcceptedAct N.limits (SwapAct self.old.thread var site value) self.old self.new (Swapped reply)) }
-        ensures declined { IfErr result (λ answer.
-            DeclinedAct N.limits (SwapAct self.old.thread var site value) self.old self.new answer) }
+        ensures { AnswersAct N.limits (SwapAct self.old.thread var site value) Swapped
+            self.old self.new result }
     {
         let (pass, answer) = self
             .monitor
@@ -87,11 +71,7 @@ impl<'m, N: Name> TracedThread<'m, N> {
     /// Acquires the lock. It is refused while another thread holds it.
     #[inline(always)]
     pub fn acquire<R: Wait>(&mut self, rt: &R, lock: LockId, site: SiteId) -> Result<Reply, Refusal>
-        ensures later { HasComeTo N.limits self.old self.new }
-        ensures accepted { IfOk result
-            (λ reply. Accepted N.limits (acquire_by self.old.thread lock site) self.old self.new reply) }
-        ensures declined { IfErr result
-            (λ answer. Declined N.limits (acquire_by self.old.thread lock site) self.old self.new answer) }
+        ensures { Answers N.limits (acquire_by self.old.thread lock site) self.old self.new result }
     {
         let (pass, answer) = self.monitor.acquire(rt, take(&mut self.pass), lock, site);
         self.pass = Some(pass);
@@ -108,14 +88,8 @@ impl<'m, N: Name> TracedThread<'m, N> {
         site: SiteId,
         tries: &mut Tries,
     ) -> Result<Reply, Refusal>
-        ensures later { HasComeTo N.limits self.old self.new }
-        ensures accepted { IfOk result
-            (λ reply. Accepted N.limits (acquire_by self.old.thread lock site) self.old self.new reply) }
-        ensures declined { IfErr result
-            (λ answer. Declined N.limits (acquire_by self.old.thread lock site) self.old self.new answer) }
-        ensures used_up { (by : ThreadId) → IfErr result (λ answer. answer ≡ Held by → AreUsedUp tries.new) }
-        ensures same_most { tries.new.most ≡ tries.old.most }
-        ensures counts_up { (one_more tries.old).made ≤ tries.new.made }
+        ensures answers { Answers N.limits (acquire_by self.old.thread lock site) self.old self.new result }
+        ensures tries { CountsTries tries.old tries.new result }
     {
         let pass = take(&mut self.pass);
         let (pass, answer) = self.monitor.acquire_within(rt, pass, lock, site, tries);
@@ -127,11 +101,7 @@ impl<'m, N: Name> TracedThread<'m, N> {
     /// once that was joined.
     #[inline(always)]
     pub fn release<R: Wait>(&mut self, rt: &R, lock: LockId, site: SiteId) -> Result<Reply, Refusal>
-        ensures later { HasComeTo N.limits self.old self.new }
-        ensures accepted { IfOk result
-            (λ reply. Accepted N.limits (release_by self.old.thread lock site) self.old self.new reply) }
-        ensures declined { IfErr result
-            (λ answer. Declined N.limits (release_by self.old.thread lock site) self.old self.new answer) }
+        ensures answers { Answers N.limits (release_by self.old.thread lock site) self.old self.new result }
         ensures refused { IfErr result (λ answer.
             refusal N.limits (log_of self.new.seen) (release_by self.old.thread lock site) ≡ Some answer) }
         ensures ended { IfErr result (λ answer.

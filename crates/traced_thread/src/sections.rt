@@ -1,14 +1,11 @@
 //! Sections: a lock that is held until its guard is dropped.
-ghost use Rattle.std.specs.Prelude.{◌≡◌, ◌≤◌, IfOk, IfErr};
-ghost use Rattle.event_core.specs.declared.ids.ThreadId.{ThreadId};
-ghost use Rattle.event_core.specs.declared.replies.Refusal.TheVariants.{Held};
+ghost use Rattle.std.specs.Prelude.{◌≡◌, IfOk, IfErr};
 ghost use Rattle.event_core.specs.declared.events.Act.TheVariants.{Swap as SwapAct};
 ghost use Rattle.event_core.specs.declared.replies.Done.TheVariants.{Swap as Swapped};
-ghost use Rattle.live_monitor.specs.Calls.{load_by, store_by, Accepted, AcceptedAct, Declined, DeclinedAct};
-ghost use Rattle.live_monitor.specs.Calls.{HasComeTo};
-ghost use Rattle.live_monitor.specs.Tries.{one_more, AreUsedUp};
+ghost use Rattle.live_monitor.specs.Calls.{load_by, store_by, Answers, AnswersAct, HasComeTo};
+ghost use Rattle.live_monitor.specs.Tries.{CountsTries};
 ghost use Rattle.traced_thread.specs.Sections.{handle_of, left_of, lock_of, pass_of, site_of, thread_of};
-ghost use Rattle.traced_thread.specs.Sections.{IsAcquired, IsReleased, IsSectionOf, WasRefused};
+ghost use Rattle.traced_thread.specs.Sections.{HasBegun, IsReleased, IsSectionOf, WasRefused};
 
 use crate::handle::TracedThread;
 use event_core::{LockId, Refusal, Reply, SiteId, SwapReply, ThreadId, VarId};
@@ -69,11 +66,8 @@ impl<'h, 'm, N: Name, R: Wait> Section<'h, 'm, N, R> {
     pub fn load(&mut self, var: VarId, site: SiteId) -> Result<Reply, Refusal>
         ensures same_reference { handle_of self.new ≡ handle_of self.old }
         ensures same_lock { IsSectionOf (lock_of self.old) (site_of self.old) self.new }
-        ensures later { HasComeTo N.limits (pass_of self.old) (pass_of self.new) }
-        ensures accepted { IfOk result (λ reply. Accepted N.limits
-            (load_by (thread_of self.old) var site) (pass_of self.old) (pass_of self.new) reply) }
-        ensures declined { IfErr result (λ answer. Declined N.limits
-            (load_by (thread_of self.old) var site) (pass_of self.old) (pass_of self.new) answer) }
+        ensures answers { Answers N.limits (load_by (thread_of self.old) var site)
+            (pass_of self.old) (pass_of self.new) result }
     {
         self.thread.load(self.rt, var, site)
     }
@@ -83,13 +77,8 @@ impl<'h, 'm, N: Name, R: Wait> Section<'h, 'm, N, R> {
     pub fn store(&mut self, var: VarId, value: u64, site: SiteId) -> Result<Reply, Refusal>
         ensures same_reference { handle_of self.new ≡ handle_of self.old }
         ensures same_lock { IsSectionOf (lock_of self.old) (site_of self.old) self.new }
-        ensures later { HasComeTo N.limits (pass_of self.old) (pass_of self.new) }
-        ensures accepted { IfOk result (λ reply. Accepted N.limits
-            (store_by (thread_of self.old) var value site)
-            (pass_of self.old) (pass_of self.new) reply) }
-        ensures declined { IfErr result (λ answer. Declined N.limits
-            (store_by (thread_of self.old) var value site)
-            (pass_of self.old) (pass_of self.new) answer) }
+        ensures answers { Answers N.limits (store_by (thread_of self.old) var value site)
+            (pass_of self.old) (pass_of self.new) result }
     {
         self.thread.store(self.rt, var, value, site)
     }
@@ -98,13 +87,8 @@ impl<'h, 'm, N: Name, R: Wait> Section<'h, 'm, N, R> {
     pub fn swap(&mut self, var: VarId, value: u64, site: SiteId) -> Result<SwapReply, Refusal>
         ensures same_reference { handle_of self.new ≡ handle_of self.old }
         ensures same_lock { IsSectionOf (lock_of self.old) (site_of self.old) self.new }
-        ensures later { HasComeTo N.limits (pass_of self.old) (pass_of self.new) }
-        ensures accepted { IfOk result (λ reply. AcceptedAct N.limits
-            (SwapAct (thread_of self.old) var site value)
-            (pass_of self.old) (pass_of self.new) (Swapped reply)) }
-        ensures declined { IfErr result (λ answer. DeclinedAct N.limits
-            (SwapAct (thread_of self.old) var site value)
-            (pass_of self.old) (pass_of self.new) answer) }
+        ensures answers { AnswersAct N.limits (SwapAct (thread_of self.old) var site value) Swapped
+            (pass_of self.old) (pass_of self.new) result }
     {
         self.thread.swap(self.rt, var, value, site)
     }
@@ -112,10 +96,7 @@ impl<'h, 'm, N: Name, R: Wait> Section<'h, 'm, N, R> {
     /// Begins a section within this one, and waits for no lock.
     #[inline(always)]
     pub fn lock(&mut self, lock: LockId, site: SiteId) -> Result<Section<'_, 'm, N, R>, Refusal>
-        ensures same_lock { IfOk result (λ section. IsSectionOf lock site section) }
-        ensures later { IfOk result (λ section. HasComeTo N.limits (pass_of self.old) (pass_of section)) }
-        ensures accepted { IfOk result (λ section.
-            IsAcquired N.limits lock site (pass_of self.old) (pass_of section)) }
+        ensures begun { IfOk result (HasBegun N.limits lock site (pass_of self.old)) }
         ensures declined { IfErr result (WasRefused N.limits lock site (pass_of self.old)) }
     {
         match self.thread.acquire(self.rt, lock, site) {
@@ -132,14 +113,9 @@ impl<'h, 'm, N: Name, R: Wait> Section<'h, 'm, N, R> {
         site: SiteId,
         tries: &mut Tries,
     ) -> Result<Section<'_, 'm, N, R>, Refusal>
-        ensures same_lock { IfOk result (λ section. IsSectionOf lock site section) }
-        ensures later { IfOk result (λ section. HasComeTo N.limits (pass_of self.old) (pass_of section)) }
-        ensures accepted { IfOk result (λ section.
-            IsAcquired N.limits lock site (pass_of self.old) (pass_of section)) }
+        ensures begun { IfOk result (HasBegun N.limits lock site (pass_of self.old)) }
         ensures declined { IfErr result (WasRefused N.limits lock site (pass_of self.old)) }
-        ensures used_up { (by : ThreadId) → IfErr result (λ answer. answer ≡ Held by → AreUsedUp tries.new) }
-        ensures same_most { tries.new.most ≡ tries.old.most }
-        ensures counts_up { (one_more tries.old).made ≤ tries.new.made }
+        ensures tries { CountsTries tries.old tries.new result }
     {
         match self.thread.acquire_within(self.rt, lock, site, tries) {
             Ok(_) => Ok(Section::new(self.rt, self.thread, lock, site)),
@@ -159,10 +135,7 @@ impl<'m, N: Name> TracedThread<'m, N> {
         site: SiteId,
     ) -> Result<Section<'h, 'm, N, R>, Refusal>
         ensures same_reference { IfOk result (λ section. handle_of section ≡ self.entry.ghost_name) }
-        ensures same_lock { IfOk result (λ section. IsSectionOf lock site section) }
-        ensures later { IfOk result (λ section. HasComeTo N.limits self.old (pass_of section)) }
-        ensures accepted { IfOk result (λ section.
-            IsAcquired N.limits lock site self.old (pass_of section)) }
+        ensures begun { IfOk result (HasBegun N.limits lock site self.old) }
         ensures declined { IfErr result (WasRefused N.limits lock site self.old) }
     {
         match self.acquire(rt, lock, site) {
@@ -181,14 +154,9 @@ impl<'m, N: Name> TracedThread<'m, N> {
         tries: &mut Tries,
     ) -> Result<Section<'h, 'm, N, R>, Refusal>
         ensures same_reference { IfOk result (λ section. handle_of section ≡ self.entry.ghost_name) }
-        ensures same_lock { IfOk result (λ section. IsSectionOf lock site section) }
-        ensures later { IfOk result (λ section. HasComeTo N.limits self.old (pass_of section)) }
-        ensures accepted { IfOk result (λ section.
-            IsAcquired N.limits lock site self.old (pass_of section)) }
+        ensures begun { IfOk result (HasBegun N.limits lock site self.old) }
         ensures declined { IfErr result (WasRefused N.limits lock site self.old) }
-        ensures used_up { (by : ThreadId) → IfErr result (λ answer. answer ≡ Held by → AreUsedUp tries.new) }
-        ensures same_most { tries.new.most ≡ tries.old.most }
-        ensures counts_up { (one_more tries.old).made ≤ tries.new.made }
+        ensures tries { CountsTries tries.old tries.new result }
     {
         match self.acquire_within(rt, lock, site, tries) {
             Ok(_) => Ok(Section::new(rt, self, lock, site)),

@@ -11,14 +11,14 @@ use Rattle.script_drive.proofs.driving.drive_in.Goals as goal
 
 pub returns-in-Ok-run_all-clause-joined : goal.returns-in-Ok-run_all-clause-joined
 returns-in-Ok-run_all-clause-joined g c =
-    let script = g.S.Text.lines in
+    let script = g.S.DriveName.lines in
     let log = c.close.result.log in
     let made : Follows (own_events main log) (lines_by main script) = search rules in
     λ u from. joined_made script log c.close.ensures.keeps main u made from
 
 pub returns-in-Ok-run_all-clause-unjoined : goal.returns-in-Ok-run_all-clause-unjoined
 returns-in-Ok-run_all-clause-unjoined g c =
-    let script = g.S.Text.lines in
+    let script = g.S.DriveName.lines in
     let log = c.close.result.log in
     let last = c.in-Ok-run_all.last in
     let made : Follows (own_events main log) (lines_by main script) = search rules in
@@ -31,7 +31,7 @@ returns-in-Ok-run_all-clause-unjoined g c =
 
 pub returns-in-Ok-run_all-clause-passed : goal.returns-in-Ok-run_all-clause-passed
 returns-in-Ok-run_all-clause-passed g c =
-    let script = g.S.Text.lines in
+    let script = g.S.DriveName.lines in
     let last = c.in-Ok-run_all.last in
     let reached : AllReached script
     = subst AllReached c.requires.lines c.all_workers.ensures.script.reached in

@@ -8,5 +8,5 @@ use Rattle.script_drive.proofs.driving.finish.Goals as goal
 pub outcome-requires-clause-faults : goal.outcome-requires-clause-faults
 outcome-requires-clause-faults g c =
     let same : c.as_slice-2.result.now ≡ filter_map end_fault c.args.ends.items = search rules in
-    subst (All (IsFaultOf g.S.Name.limits g.S.Text.ahead g.S.Text.lines)) (sym same)
-    (faults_fit g.S.Name.limits g.S.Text.ahead g.S.Text.lines c.args.ends.items c.requires.halts)
+    subst (All (IsFaultOf g.S.Name.limits g.S.DriveName.ahead g.S.DriveName.lines)) (sym same)
+    (faults_fit g.S.Name.limits g.S.DriveName.ahead g.S.DriveName.lines c.args.ends.items c.requires.halts)

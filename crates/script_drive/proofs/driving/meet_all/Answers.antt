@@ -42,8 +42,8 @@ loop-end-preserved g c =
 pub returns-in-Err-clause-fault : goal.returns-in-Err-clause-fault
 returns-in-Err-clause-fault g c =
     let m = g.S.Name.limits in
-    let ahead = g.S.Text.ahead in
-    let script = g.S.Text.lines in
+    let ahead = g.S.DriveName.ahead in
+    let script = g.S.DriveName.lines in
     let turn = YieldsList-turn (YieldsList-from_vec {s = c.into_iter-end-iterator.result} c.args.ends.items
     (search rules) (search rules)) c.loop-end.yielded c.loop-end.end-iterator c.loop-end.yielded_by
     c.next.result c.next.new.self c.in-Some.end c.in-Some.is c.next.ensures.steps in

@@ -7,8 +7,8 @@ use Rattle.script_drive.proofs.driving.outcome.Goals as goal
 pub returns-in-Err-default-clause-fault : goal.returns-in-Err-default-clause-fault
 returns-in-Err-default-clause-fault g c =
     let m = g.S.Name.limits in
-    let ahead = g.S.Text.ahead in
-    let script = g.S.Text.lines in
+    let ahead = g.S.DriveName.ahead in
+    let script = g.S.DriveName.lines in
     let halt = c.in-Err-default.halt in
     let is : c.args.main ≡ Err halt = search rules in
     answer_fits m ahead script halt c.first_fault.result c.answer.result

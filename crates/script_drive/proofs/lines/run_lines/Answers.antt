@@ -17,8 +17,8 @@ loop-line-init g c = (
 
 pub make_call-requires-clause-next : goal.make_call-requires-clause-next
 make_call-requires-clause-next g c =
-    let same : c.lines-line-items.result.now ≡ g.S.Text.lines = cc in
-    next_at g.S.Text.lines c.lines-line-items.result.now c.args.pass.thread c.loop-line.pass
+    let same : c.lines-line-items.result.now ≡ g.S.DriveName.lines = cc in
+    next_at g.S.DriveName.lines c.lines-line-items.result.now c.args.pass.thread c.loop-line.pass
     c.loop-line.line-index c.get-line.result (search rules) same (search rules) (search rules)
     c.loop-line.invariant.0 c.loop-line.invariant.2
 
@@ -34,7 +34,7 @@ make_call-requires-clause-serves g c =
 
 pub enter-requires : goal.enter-requires
 enter-requires g c =
-    let script = g.S.Text.lines in
+    let script = g.S.DriveName.lines in
     let lines = c.lines-line-items.result.now in
     let same : lines ≡ script = cc in record {
       line = line_at script lines c.loop-line.line-index c.get-line.result (search rules) same (search rules);
@@ -76,7 +76,7 @@ loop-line-preserved-then-not-is_of g c =
 
 pub returns-clause-done : goal.returns-clause-done
 returns-clause-done g c =
-    let script = g.S.Text.lines in
+    let script = g.S.DriveName.lines in
     let lines = c.lines-line-items.result.now in
     let same : lines ≡ script = cc in
     all_done script lines c.args.pass.thread c.loop-line.pass c.loop-line.line-index same (search rules)
@@ -85,6 +85,6 @@ returns-clause-done g c =
 pub returns-clause-passed : goal.returns-clause-passed
 returns-clause-passed g c =
     let lines = c.lines-line-items.result.now in
-    let same : lines ≡ g.S.Text.lines = cc in
+    let same : lines ≡ g.S.DriveName.lines = cc in
     subst (λ ls. PassedGate g.G.Gate.admitted g.G.Gate.told (lines_by c.args.pass.thread ls))
     (take_all c.loop-line.line-index lines (search rules) ∙ same) c.loop-line.invariant.3

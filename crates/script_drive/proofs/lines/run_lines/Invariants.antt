@@ -9,5 +9,5 @@ invariant-loop-line g l =
     let t = l.fn.pass.thread in
     HasDone t l.pass (lines_by t (take l.line-index l.line-items))
     × Serves l.links (lines_by t (drop l.line-index l.line-items))
-    × SawRun g.S.Name.limits g.S.Text.lines l.pass
+    × SawRun g.S.Name.limits g.S.DriveName.lines l.pass
     × PassedGate g.G.Gate.admitted g.G.Gate.told (lines_by t (take l.line-index l.line-items))

@@ -1,6 +1,6 @@
 use Rattle.std.proofs.Common.{◌≡◌, ◌≤◌, ◌-◌}
 use Rattle.live_monitor.specs.Tries.{one_more}
-use Rattle.live_monitor.proofs.AcquireWithinLaws.{HasTried}
+use Rattle.live_monitor.proofs.RetryLaws.{HasTried}
 use Rattle.live_monitor.proofs.shared.Shared.acquire_within.Given as goal
 
 abbrev pub invariant-tries : goal.invariant-tries

@@ -31,11 +31,11 @@ add_join-requires g c =
     let lines = c.args.lines.now in
     let i = c.loop-line.line-index in
     let below = c.loop-line-test.true in
-    contains_link g.S.Text.lines lines i _ c.requires (get_or_default lines i _ _ below) below
+    contains_link g.S.DriveName.lines lines i _ c.requires (get_or_default lines i _ _ below) below
 
 pub returns : goal.returns
 returns g c =
     let whole = take_all c.loop-line.line-index c.args.lines.now c.loop-line-test.false in
-    serves_all c.args.thread g.S.Text.lines c.loop-line.links
+    serves_all c.args.thread g.S.DriveName.lines c.loop-line.links
     (subst (λ ls. Serves c.loop-line.links (lines_by c.args.thread ls)) (whole ∙ c.requires)
     c.loop-line.invariant)

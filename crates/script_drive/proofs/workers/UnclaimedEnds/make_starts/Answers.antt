@@ -9,7 +9,7 @@ add_start-requires g c =
     let lines = c.args.lines.now in
     let i = c.loop-line.line-index in
     let below = c.loop-line-test.true in
-    contains_link g.S.Text.lines lines i _ c.requires (get_or_default lines i _ _ below) below
+    contains_link g.S.DriveName.lines lines i _ c.requires (get_or_default lines i _ _ below) below
 
 pub loop-line-preserved : goal.loop-line-preserved
 loop-line-preserved g c =

@@ -8,4 +8,4 @@ returns-clause-ended g c =
     let is = sym (ap pass_of c.take.ensures) ∙ c.self.view_is in
     let does = c.release-pass.ensures in
     rw (← is)
-    (holder_has_ended c.args.lock c.args.site c.release-pass.result.1 does.later does.declined does.refused)
+    (holder_has_ended c.args.lock c.args.site c.release-pass.result.1 does.answers does.refused)

@@ -5,4 +5,4 @@ use Rattle.traced_thread.proofs.sections.Section.drop.Goals as goal
 pub returns-clause-released : goal.returns-clause-released
 returns-clause-released g c =
     let a = c.release-answer in let does = a.ensures in
-    is_released c.args.self.lock c.args.self.site a.result does.accepted does.declined does.refused does.ended
+    is_released c.args.self.lock c.args.self.site a.result does.answers does.refused does.ended

@@ -15,13 +15,13 @@ returns-in_default g c = record { done = tt; passed = tt; through = tt; fault = 
 
 pub finish-requires : goal.finish-requires
 finish-requires g c =
-    let script = g.S.Text.lines in
+    let script = g.S.DriveName.lines in
     let thread = ap (λ (p : PassView). p.thread) c.requires.pass in
     record {
       done = subst (λ (t : ThreadId). IfOk c.run_lines-main_end.result (Done script t)) thread
           c.run_lines-main_end.ensures.done;
       halt = c.run_lines-main_end.ensures.halt;
-      halts = all_halts g.S.Name.limits g.S.Text.ahead script g.G.Gate.admitted g.G.Gate.told
+      halts = all_halts g.S.Name.limits g.S.DriveName.ahead script g.G.Gate.admitted g.G.Gate.told
           c.in_ok-started.started.items c.in-Ok.ends.items (λ handle. handle.promise.thread) (search rules)
           (λ i d lt. let kept = (c.in-Ok.ensures.each i d (search rules)).1 in
           (kept.handle, kept.handle_is, kept.kept));
@@ -29,7 +29,7 @@ finish-requires g c =
 
 pub returns : goal.returns
 returns g c =
-    let script = g.S.Text.lines in
+    let script = g.S.DriveName.lines in
     let admitted = g.G.Gate.admitted in
     let told = g.G.Gate.told in
     let thread = ap (λ (p : PassView). p.thread) c.requires.pass in
@@ -40,8 +40,8 @@ returns g c =
           (subst (λ (t : ThreadId). IfOk c.run_lines-main_end.result
           (λ _. PassedGate admitted told (lines_by t script)))
           thread c.run_lines-main_end.ensures.passed);
-      through = through_ok g.S.Name.limits g.S.Text.ahead script admitted told c.in_ok-started.started.items
-          c.in-Ok.ends.items (λ handle. handle.promise.thread) (search rules)
+      through = through_ok g.S.Name.limits g.S.DriveName.ahead script admitted told
+          c.in_ok-started.started.items c.in-Ok.ends.items (λ handle. handle.promise.thread) (search rules)
           (λ i d lt. let kept = (c.in-Ok.ensures.each i d (search rules)).1 in
           (kept.handle, kept.handle_is, kept.kept))
           _ c.finish.result c.in_ok-started.ensures.all c.finish.ensures.met;
