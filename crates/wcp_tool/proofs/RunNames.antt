@@ -77,6 +77,7 @@ own_named script is t events run =
     (subst (AreAllNamed names) (sym run.follows)
     (asked_named names run.first (front _ run.first run.begins.0 some)))
 
+-- each number of a run of the script has a name
 pub run_named : (script : Parsed) (log : List Event) → IsScript script → IsRunOf script.lines log
     → AreNamed script.names log
 run_named script log is run j e at =
